@@ -1,0 +1,2 @@
+pub mod BySides
+pub mod TurnLaws

@@ -1,0 +1,57 @@
+ghost use Rattle.std.specs.Prelude.{pos, negsuc, ◌≤ℤ◌, ◌<ℤ◌, ◌<◌};
+
+/// A unit square of the grid: from `(i, j)` to `(i + 1, j + 1)`, in database units.
+#[derive(Clone, Copy, Debug, PartialEq, Eq)]
+pub struct Cell {
+    pub i: i32,
+    pub j: i32,
+}
+
+/// A quarter of a cell: from `(u / 2, v / 2)` to `((u + 1) / 2, (v + 1) / 2)`, in database units.
+#[derive(Clone, Copy, Debug, PartialEq, Eq)]
+pub struct Half {
+    pub u: i64,
+    pub v: i64,
+}
+
+/// A corner of the grid, in database units.
+#[derive(Clone, Copy, Debug, PartialEq, Eq)]
+pub struct Point {
+    pub x: i32,
+    pub y: i32,
+}
+
+/// The cells `(i, j)` with `x0 <= i < x1` and `y0 <= j < y1`, of which there is at least one. Each side lies within
+/// 1,001,000,000 of 0: a layout's rectangles lie within 1,000,000,000, and growing by a reach of at most 1,000,000
+/// stays within.
+#[derive(Clone, Copy, Debug, PartialEq, Eq)]
+pub struct Rect {
+    pub x0: i32,
+    pub y0: i32,
+    pub x1: i32,
+    pub y1: i32,
+    pub ghost wide: { x0 <ℤ x1 },
+    pub ghost high: { y0 <ℤ y1 },
+    pub ghost left: { negsuc 1000999999 ≤ℤ x0 },
+    pub ghost bottom: { negsuc 1000999999 ≤ℤ y0 },
+    pub ghost right: { x1 ≤ℤ pos 1001000000 },
+    pub ghost top: { y1 ≤ℤ pos 1001000000 },
+}
+
+/// A rectangle with the number of what it belongs to, such as its net.
+#[derive(Clone, Copy, Debug, PartialEq, Eq)]
+pub struct Labelled {
+    pub rect: Rect,
+    pub label: usize,
+}
+
+/// What a placement does to the points of a structure before it shifts them: it mirrors them in the x axis where
+/// `reflect`, and then turns them by `quarters` quarters of a circle, counterclockwise about the origin. This is the
+/// order of STRANS and ANGLE in GDSII Release 6.
+#[derive(Clone, Copy, Debug, PartialEq, Eq)]
+pub struct Turn {
+    pub reflect: bool,
+    /// From 0 to 3.
+    pub quarters: u8,
+    pub ghost whole: { quarters < 4 },
+}
