@@ -1,0 +1,13 @@
+pub mod WalkLaws
+pub mod TallyLaws
+pub mod OrderLaws
+pub mod ChainLaws
+pub mod FootprintLaws
+pub mod SizeLaws
+pub mod CellLaws
+pub mod CornerLaws
+pub mod NetLaws
+pub mod FaultLaws
+pub mod WindowLaws
+pub mod TerminalLaws
+pub mod ListWalkLaws

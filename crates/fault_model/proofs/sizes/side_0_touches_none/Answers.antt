@@ -1,0 +1,6 @@
+use Rattle.std.proofs.Common.{arith}
+use Rattle.std.proofs.lemmas.Int.{ints}
+use Rattle.fault_model.proofs.sizes.side_0_touches_none.Goals as goal
+
+pub returns : goal.returns
+returns c at d touch = absurd (omega (arith, ints))

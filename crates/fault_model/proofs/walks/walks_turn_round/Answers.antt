@@ -1,0 +1,5 @@
+use Rattle.fault_model.proofs.WalkLaws.{Walk-reverse}
+use Rattle.fault_model.proofs.walks.walks_turn_round.Goals as goal
+
+pub returns : goal.returns
+returns g c p q = Walk-reverse

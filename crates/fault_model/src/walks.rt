@@ -1,0 +1,58 @@
+//! Laws of walks and islands.
+
+ghost use Rattle.std.specs.Prelude.{ℕ, List, ◌≡◌, ◌⊎◌, ◌↔◌};
+ghost use Rattle.geo_core.specs.Cells.{ShareEdge};
+ghost use Rattle.geo_core.specs.declared.plane.Cell.{Cell};
+ghost use Rattle.geo_core.specs.declared.plane.Half.{Half};
+ghost use Rattle.geo_core.specs.declared.plane.Rect.{Rect};
+ghost use Rattle.fault_model.specs.Halves.{LiesIn, IsOn, MeetAtCorner};
+ghost use Rattle.fault_model.specs.Walks.{Walk, IsSameIsland};
+ghost use Rattle.fault_model.specs.Chains.{IsInUnion, IsAt, AreChained};
+ghost use Rattle.fault_model.specs.Laws.{IsEquivalenceOn, IsListWalk};
+
+use super::sets::{HalfSet, Property};
+
+/// Walks turn round.
+pub fn walks_turn_round<S: HalfSet>()
+    ensures { (p q : Half) → Walk S.has p q → Walk S.has q p }
+{}
+
+/// A walk goes on from where another ends.
+pub fn walks_join<S: HalfSet>()
+    ensures { (p q r : Half) → Walk S.has p q → Walk S.has q r → Walk S.has p r }
+{}
+
+/// A walk is a list of half squares of the set, each sharing an edge with the next.
+pub fn walks_are_lists<S: HalfSet>()
+    ensures { (p q : Half) → Walk S.has p q ↔ IsListWalk S.has p q }
+{}
+
+/// The half squares of a layer fall into islands.
+pub fn islands_are_classes<P: Property>()
+    ensures { IsEquivalenceOn (IsOn P.holds) (IsSameIsland P.holds) }
+{}
+
+/// A half square lies in exactly one cell, and is on a layer exactly where the layer covers that cell.
+pub fn half_squares_have_one_cell<P: Property>()
+    ensures some { (h : Half) → (c : Cell) × LiesIn h c }
+    ensures alone { (h : Half) (c d : Cell) → LiesIn h c → LiesIn h d → c ≡ d }
+    ensures on { (h : Half) (c : Cell) → LiesIn h c → IsOn P.holds h ↔ P.holds c }
+{}
+
+/// Two cells that meet at a corner alone are two islands.
+pub fn corners_do_not_join()
+    ensures { (c d : Cell) (p q : Half) →
+        MeetAtCorner c d → LiesIn p c → LiesIn q d → IsSameIsland (λ x. (x ≡ c) ⊎ (x ≡ d)) p q → ⊥ }
+{}
+
+/// Two cells that share an edge are one island.
+pub fn edges_join()
+    ensures { (c d : Cell) (p q : Half) →
+        ShareEdge c d → LiesIn p c → LiesIn q d → IsSameIsland (λ x. (x ≡ c) ⊎ (x ≡ d)) p q }
+{}
+
+/// A walk within the rectangles of a list joins two half squares exactly where rectangles that hold them are chained.
+pub fn walks_are_chains()
+    ensures { (rects : List Rect) (i k : ℕ) (p q : Half) →
+        IsAt rects i p → IsAt rects k q → Walk (IsOn (IsInUnion rects)) p q ↔ AreChained rects i k }
+{}
