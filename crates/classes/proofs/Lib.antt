@@ -1,0 +1,5 @@
+pub mod DegreeLaws
+pub mod FillSteps
+pub mod IndexLaws
+pub mod SpreadSteps
+pub mod ClassLaws

@@ -1,0 +1,68 @@
+-- classes of the touching pairs are labels, and tell islands apart
+use Rattle.std.proofs.Common.{ℕ, ◌≡◌, sym, List, length, get_or, arith, inl, inr, ◌⊎◌}
+use Rattle.std.proofs.lemmas.Bool.Decides.{leb_tells, eqb_tells}
+use Rattle.std.proofs.lemmas.List.Elements.{Contains-get_or}
+use Rattle.std.proofs.lemmas.Option.{slice_get_within}
+use Rattle.geo_core.specs.Cells.{Touch, ShareEdge}
+use Rattle.geo_core.specs.declared.plane.Cell.{Cell}
+use Rattle.geo_core.specs.declared.plane.Rect.{Rect}
+use Rattle.fault_model.specs.Chains.{TouchAt, AreChained, IsLabelling}
+use Rattle.fault_model.proofs.ChainLaws.{chain_from_walk, walk_from_chain}
+use Rattle.fault_model.proofs.WalkLaws.{retold}
+use Rattle.classes.specs.Classes.{AreBelow, IsPair, AreJoined, IsClasses}
+use Rattle.classes.specs.Laws.{EqualWhereJoined}
+use Rattle.islands.specs.Islands.{LabelsAreIslands}
+use Rattle.islands.specs.Touching.{AreTouching}
+
+ShareEdge-sym : (c d : Cell) → ShareEdge c d → ShareEdge d c
+ShareEdge-sym c d (inl (e, inl f)) = inl (sym e, inr f)
+ShareEdge-sym c d (inl (e, inr f)) = inl (sym e, inl f)
+ShareEdge-sym c d (inr (e, inl f)) = inr (sym e, inr f)
+ShareEdge-sym c d (inr (e, inr f)) = inr (sym e, inl f)
+
+Touch-sym : (a b : Rect) → Touch a b → Touch b a
+Touch-sym a b (c, d, h, k, inl e) = (d, c, k, h, inl (sym e))
+Touch-sym a b (c, d, h, k, inr s) = (d, c, k, h, inr (ShareEdge-sym c d s))
+
+pub TouchAt-sym : (rects : List Rect) (i j : ℕ) → TouchAt rects i j → TouchAt rects j i
+TouchAt-sym rects i j t = record { one = t.other; other = t.one; one_at = t.other_at; other_at = t.one_at; touch = Touch-sym t.one t.other t.touch }
+
+pub pairs_below : (rects : List Rect) (pairs : List (ℕ × ℕ)) → AreTouching rects pairs → AreBelow (length rects) pairs
+pairs_below rects pairs t k d small =
+    let h = (t.exact (get_or pairs k d).0 (get_or pairs k d).1).0 (Contains-get_or pairs k d small) in
+    (slice_get_within rects _ h.1.one h.1.one_at, slice_get_within rects _ h.1.other h.1.other_at)
+
+pair_touches : (rects : List Rect) (pairs : List (ℕ × ℕ)) → AreTouching rects pairs → (a b : ℕ) → IsPair pairs a b → TouchAt rects a b
+pair_touches rects pairs t a b (inl c) = ((t.exact a b).0 c).1
+pair_touches rects pairs t a b (inr c) = TouchAt-sym rects b a ((t.exact b a).0 c).1
+
+touching_pair : (rects : List Rect) (pairs : List (ℕ × ℕ)) → AreTouching rects pairs → (a b : ℕ) → TouchAt rects a b → (a ≡ b) ⊎ IsPair pairs a b
+touching_pair rects pairs t a b h = elim (eqb_tells a b) [
+  | inl e ↦ inl e.1
+  | inr n ↦ let apart = n.1 in
+      elim (leb_tells a b) [
+        | inl y ↦ let y' = y.1 in inr (inl ((t.exact a b).1 (omega arith, h)))
+        | inr y ↦ inr (inr ((t.exact b a).1 (y.1, TouchAt-sym rects a b h)))
+      ]
+]
+
+module _ (rects : List Rect) (pairs : List (ℕ × ℕ)) (t : AreTouching rects pairs) where
+  -- rectangles are chained exactly where their numbers are joined
+  joined_chained : {a b : ℕ} → AreJoined (length rects) pairs a b → AreChained rects a b
+  joined_chained path = retold (λ a b h i p. inr (pair_touches rects pairs t a b p)) path
+
+  chained_joined : {a b : ℕ} → AreChained rects a b → AreJoined (length rects) pairs a b
+  chained_joined path = retold (λ a b h i p. touching_pair rects pairs t a b p) path
+
+  pub labelling : (labels : List ℕ) → IsClasses (length rects) pairs labels → IsLabelling rects labels
+  labelling labels c = record {
+    one_each = c.one_each;
+    chained = λ k m e. joined_chained (c.joined k m e);
+    least = λ k m j e path. c.least k m j e (chained_joined path);
+  }
+
+  pub labels_are_islands : (labels : List ℕ) → EqualWhereJoined (length rects) pairs labels → LabelsAreIslands rects labels
+  labels_are_islands labels equal i k m m' p q at_i at_k in_i in_k = (
+    λ same. walk_from_chain rects i k p q in_i in_k (joined_chained ((equal i k m m' at_i at_k).0 same)),
+    λ walk. (equal i k m m' at_i at_k).1 (chained_joined (chain_from_walk rects i k p q in_i in_k walk)),
+  )

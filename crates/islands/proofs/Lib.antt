@@ -1,0 +1,2 @@
+pub mod TouchSteps
+pub mod LabelLaws

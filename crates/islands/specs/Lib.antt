@@ -1,0 +1,2 @@
+pub mod Islands
+pub mod Touching
