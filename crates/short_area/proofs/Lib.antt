@@ -1,0 +1,4 @@
+pub mod RangeLaws
+pub mod NearLaws
+pub mod AreaLaws
+pub mod BlockLaws

@@ -1,0 +1,24 @@
+-- pieces with labels, and where a defect touches two of different labels
+use Rattle.std.specs.Prelude.{ℕ, List, Contains, ◌+◌, ◌≢◌, ◌≡◌}
+use Rattle.geo_core.specs.Cells.{Has}
+use Rattle.geo_core.specs.declared.plane.Cell.{Cell}
+use Rattle.geo_core.specs.declared.plane.Half.{Half}
+use Rattle.geo_core.specs.declared.plane.Labelled.{Labelled}
+use Rattle.fault_model.specs.Halves.{IsOn, IsInFootprint}
+
+-- a piece with this label has a half square in the footprint of the defect of half-side `r` at the cell
+pub record Reaches (pieces : List Labelled) (r : ℕ) (c : Cell) (label : ℕ) : Type 0 where
+  pub piece : Labelled
+  pub among : Contains pieces piece
+  pub labelled : piece.label ≡ label
+  pub half : Half
+  pub on : IsOn (Has piece.rect) half
+  pub hit : IsInFootprint c (r + r) half
+
+-- the defect touches pieces of two labels
+pub record TouchesTwo (pieces : List Labelled) (r : ℕ) (c : Cell) : Type 0 where
+  pub one : ℕ
+  pub other : ℕ
+  pub one_reaches : Reaches pieces r c one
+  pub other_reaches : Reaches pieces r c other
+  pub different : one ≢ other
