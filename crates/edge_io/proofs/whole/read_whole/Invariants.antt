@@ -1,0 +1,17 @@
+use Rattle.std.proofs.Common.{◌≡◌, ◌≤◌, ◌+◌, ◌-◌, List, ℕ, vec_len}
+use Rattle.edge_io.proofs.Reading.{HasRead}
+use Rattle.edge_io.proofs.whole.read_whole.Given as goal
+
+abbrev pub invariant-loop-buf : goal.invariant-loop-buf
+invariant-loop-buf g l =
+    let source = g.F.Files in
+    record {
+      holds : (n : List ℕ) → source.holds l.files n ≡ source.holds l.fn.files n;
+      started : source.started l.files;
+      calm : source.faults l.files ≡ source.faults l.fn.files;
+      within : vec_len l.whole ≤ l.limit + 1;
+      read : HasRead (source.holds l.fn.files l.fn.name) (source.rest l.files) l.whole.items (vec_len l.whole);
+    }
+
+abbrev pub decreases-loop-buf : goal.decreases-loop-buf
+decreases-loop-buf g l = l.limit + 1 - vec_len l.whole

@@ -1,0 +1,29 @@
+ghost use Rattle.std.specs.Prelude.{◌≡◌, ◌≤◌, ◌↔◌, IsTrue, Contains};
+ghost use Rattle.edge_io.specs.Faults.{Rose, one_more};
+
+use super::files::Failed;
+
+/// Whether the call of this number is listed.
+pub(super) fn is_listed(calls: &[u64], call: u64) -> bool
+    ensures { IsTrue result ↔ Contains calls.now call }
+{
+    calls.contains(&call)
+}
+
+/// Counts one more, and stays at the last value.
+pub(super) fn count_up(count: &mut u64)
+    ensures counted { count.new ≡ one_more count.old }
+    ensures never_falls { count.old ≤ count.new }
+{
+    *count = count.saturating_add(1);
+}
+
+/// Counts a failure.
+pub(super) fn fault(faults: &mut u64) -> Failed
+    ensures counted { faults.new ≡ one_more faults.old }
+    ensures rose { Rose faults.old faults.new }
+    ensures never_falls { faults.old ≤ faults.new }
+{
+    count_up(faults);
+    Failed
+}

@@ -1,0 +1,164 @@
+ghost use Rattle.std.specs.Prelude.{◌≡◌, ◌≤◌, ◌<◌, ◌↔◌, ◌⊎◌, [], Some, None, IsSome, IsNone, IfOk, IfSome, OnOk, OnErr, Contains, length, take, min, ◌+◌, ◌^◌, position, OnSome, IfNone};
+ghost use Rattle.std.specs.Str.{bytes_eq};
+ghost use Rattle.edge_io.specs.Bytes.{Drops};
+ghost use Rattle.edge_io.specs.Faults.{one_more};
+ghost use Rattle.edge_io.specs.Held.{contents_of, place_after, rest_at, beginning_of, unread_of, IsPlaced, IsStarted};
+
+use super::counts::{count_up, fault, is_listed};
+use super::files::{Failed, Files};
+use geo_core::Name;
+
+/// Files in memory. Where two have one name, the first is meant.
+#[derive(Debug, Drop)]
+pub struct MemFiles {
+    pub files: Vec<(Name, Vec<u8>)>,
+    /// The numbers of the calls that fail, counted from 0.
+    pub fails: Vec<u64>,
+    /// How many calls there were. The count stays at the last value of `u64`.
+    pub calls: u64,
+    /// How many calls failed. The count stays at the last value of `u64`.
+    pub faults: u64,
+    /// The number of the started file, and how many of its bytes were read.
+    pub place: Option<(usize, usize)>,
+}
+
+/// The number of the first file with this name.
+fn number_of(files: &[(Name, Vec<u8>)], name: &[u8]) -> Option<usize>
+    ensures { result ≡ position (λ file. bytes_eq file.0 name.now) files.now }
+{
+    files.iter().position(|file| file.0.as_slice() == name)
+}
+
+/// The start of the first file with this name: its number, and that no byte of it was read.
+fn place_of(files: &[(Name, Vec<u8>)], name: &[u8]) -> Option<(usize, usize)>
+    ensures begins { result ≡ beginning_of files.now name.now }
+    ensures placed { IfSome result (λ place. IsPlaced files.now (Some place)) }
+    ensures unread { IfSome result (λ place. rest_at files.now (Some place) ≡ contents_of files.now name.now) }
+    ensures found { OnSome result (IsSome (contents_of files.now name.now)) }
+    ensures missing { IfNone result (IsNone (contents_of files.now name.now)) }
+{
+    match number_of(files, name) {
+        Some(number) => Some((number, 0)),
+        None => None,
+    }
+}
+
+/// Copies as many bytes as there is room for, and answers how many.
+fn copy_front(bytes: &[u8], buf: &mut [u8]) -> usize
+    ensures count { result ≡ min (length bytes.now) (length buf.new) }
+    ensures copied { take result buf.new ≡ take result bytes.now }
+{
+    let count = bytes.len().min(buf.len());
+    buf[..count].copy_from_slice(&bytes[..count]);
+    count
+}
+
+/// Copies the next bytes of a file, of which the first `at` were read, and answers how many.
+fn copy_next(files: &[(Name, Vec<u8>)], number: usize, at: usize, buf: &mut [u8]) -> usize
+    requires placed { IsPlaced files.now (Some (number, at)) }
+    requires room { 0 < length buf.old }
+    ensures within { result ≤ length buf.new }
+    ensures fits { at + result < 2 ^ 64 }
+    ensures placed { IsPlaced files.now (Some (number, at + result)) }
+    ensures bytes { IfSome (rest_at files.now (Some (number, at)))
+        (λ bytes. take result buf.new ≡ take result bytes) }
+    ensures there { IfSome (rest_at files.now (Some (number, at))) (λ bytes. result ≤ length bytes) }
+    ensures rest { Drops (rest_at files.now (Some (number, at)))
+        (rest_at files.now (Some (number, at + result))) result }
+    ensures at_end { IfSome (rest_at files.now (Some (number, at)))
+        (λ bytes. (result ≡ 0) ↔ (bytes ≡ [])) }
+{
+    let bytes = files[number].1.as_slice();
+    copy_front(&bytes[at..], buf)
+}
+
+impl MemFiles {
+    /// The files of these names and contents. The calls of `start` and `read` whose numbers are listed fail.
+    pub fn new(files: Vec<(Name, Vec<u8>)>, fails: Vec<u64>) -> MemFiles
+        ensures files { result.files ≡ files }
+        ensures fails { result.fails ≡ fails }
+        ensures calls { result.calls ≡ 0 }
+        ensures faults { result.faults ≡ 0 }
+        ensures place { result.place ≡ None }
+    {
+        MemFiles {
+            files,
+            fails,
+            calls: 0,
+            faults: 0,
+            place: None,
+        }
+    }
+}
+
+impl Files for MemFiles {
+    ghost holds = { λ s name. contents_of s.files.items name };
+
+    ghost rest = { unread_of };
+
+    ghost started = { IsStarted };
+
+    ghost faults = { λ s. s.faults };
+
+    fn start(&mut self, name: &[u8]) -> Result<(), Failed>
+        ensures files { self.new.files ≡ self.old.files }
+        ensures fails { self.new.fails ≡ self.old.fails }
+        ensures calls { self.new.calls ≡ one_more self.old.calls }
+        ensures unlisted { OnOk result (¬ Contains self.old.fails.items self.old.calls) }
+        ensures found { OnOk result (IsSome (contents_of self.old.files.items name.now)) }
+        ensures place { OnOk result (self.new.place ≡ beginning_of self.old.files.items name.now) }
+        ensures started { OnOk result (IsStarted self.new) }
+        ensures rest { OnOk result (unread_of self.new ≡ contents_of self.old.files.items name.now) }
+        ensures calm { OnOk result (self.new.faults ≡ self.old.faults) }
+        ensures failed { OnErr result (Contains self.old.fails.items self.old.calls
+            ⊎ IsNone (contents_of self.old.files.items name.now)) }
+        ensures counted { OnErr result (self.new.faults ≡ one_more self.old.faults) }
+        ensures never_falls { self.old.faults ≤ self.new.faults }
+        ensures stopped { OnErr result (self.new.place ≡ None) }
+    {
+        let listed = is_listed(&self.fails, self.calls);
+        count_up(&mut self.calls);
+        self.place = place_of(&self.files, name);
+        if listed || self.place.is_none() {
+            self.place = None;
+            return Err(fault(&mut self.faults));
+        }
+        Ok(())
+    }
+
+    fn read(&mut self, buf: &mut [u8]) -> Result<usize, Failed>
+        requires started { IsStarted self.old }
+        requires room { 0 < length buf.old }
+        ensures files { self.new.files ≡ self.old.files }
+        ensures fails { self.new.fails ≡ self.old.fails }
+        ensures calls { self.new.calls ≡ one_more self.old.calls }
+        ensures unlisted { OnOk result (¬ Contains self.old.fails.items self.old.calls) }
+        ensures within { IfOk result (λ count. count ≤ length buf.new) }
+        ensures bytes { IfOk result (λ count. IfSome (unread_of self.old)
+            (λ bytes. take count buf.new ≡ take count bytes)) }
+        ensures there { IfOk result (λ count. IfSome (unread_of self.old) (λ bytes. count ≤ length bytes)) }
+        ensures rest { IfOk result (λ count. Drops (unread_of self.old) (unread_of self.new) count) }
+        ensures at_end { IfOk result (λ count. IfSome (unread_of self.old)
+            (λ bytes. (count ≡ 0) ↔ (bytes ≡ []))) }
+        ensures place { IfOk result (λ count. self.new.place ≡ place_after self.old.place count) }
+        ensures started { OnOk result (IsStarted self.new) }
+        ensures calm { OnOk result (self.new.faults ≡ self.old.faults) }
+        ensures failed { OnErr result (Contains self.old.fails.items self.old.calls) }
+        ensures counted { OnErr result (self.new.faults ≡ one_more self.old.faults) }
+        ensures never_falls { self.old.faults ≤ self.new.faults }
+        ensures stopped { OnErr result (self.new.place ≡ None) }
+    {
+        let listed = is_listed(&self.fails, self.calls);
+        count_up(&mut self.calls);
+        let Some((number, at)) = self.place else {
+            unreachable!()
+        };
+        if listed {
+            self.place = None;
+            return Err(fault(&mut self.faults));
+        }
+        let count = copy_next(&self.files, number, at, buf);
+        self.place = Some((number, at + count));
+        Ok(count)
+    }
+}

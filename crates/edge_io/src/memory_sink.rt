@@ -1,0 +1,79 @@
+ghost use Rattle.std.specs.Prelude.{◌≡◌, ◌≤◌, ◌<◌, ◌+◌, ◌++◌, ◌⊎◌, [], IfOk, OnOk, OnErr, Contains, length, vec_len, vec_capacity};
+
+use super::counts::{count_up, fault, is_listed};
+use super::files::Failed;
+use super::sink::Sink;
+use geo_core::NoMemory;
+use std::alloc::Global;
+
+/// A sink in memory. It takes its room when it is made, so that a write takes no memory.
+#[derive(Debug, Drop)]
+pub struct MemSink {
+    pub written: Vec<u8>,
+    /// How many bytes it takes in all.
+    pub room: usize,
+    /// The numbers of the calls that fail, counted from 0.
+    pub fails: Vec<u64>,
+    /// How many calls there were. The count stays at the last value of `u64`.
+    pub calls: u64,
+    /// How many calls failed. The count stays at the last value of `u64`.
+    pub faults: u64,
+    pub ghost within: { vec_len written ≤ room },
+    pub ghost room_taken: { room ≤ vec_capacity written },
+}
+
+impl MemSink {
+    /// A sink with room for so many bytes. The calls of `write` whose numbers are listed fail.
+    pub fn with(alloc: Global, room: usize, fails: Vec<u64>) -> Result<MemSink, NoMemory>
+        ensures written { IfOk result (λ sink. sink.written.items ≡ []) }
+        ensures room { IfOk result (λ sink. sink.room ≡ room) }
+        ensures fails { IfOk result (λ sink. sink.fails ≡ fails) }
+        ensures calls { IfOk result (λ sink. sink.calls ≡ 0) }
+        ensures faults { IfOk result (λ sink. sink.faults ≡ 0) }
+    {
+        Ok(MemSink {
+            written: Vec::with_capacity(alloc, room)?,
+            room,
+            fails,
+            calls: 0,
+            faults: 0,
+        })
+    }
+}
+
+impl Sink for MemSink {
+    ghost use Rattle.std.specs.Prelude.{Some};
+    ghost use Rattle.edge_io.specs.Faults.{one_more};
+
+    ghost written = { λ s. Some s.written.items };
+
+    ghost faults = { λ s. s.faults };
+
+    /// Takes the whole piece where the rest of the room holds it, and fails else.
+    fn write(&mut self, piece: &[u8]) -> Result<usize, Failed>
+        requires { 0 < length piece.now }
+        ensures room { self.new.room ≡ self.old.room }
+        ensures fails { self.new.fails ≡ self.old.fails }
+        ensures calls { self.new.calls ≡ one_more self.old.calls }
+        ensures unlisted { OnOk result (¬ Contains self.old.fails.items self.old.calls) }
+        ensures held { OnOk result (vec_len self.old.written + length piece.now ≤ self.old.room) }
+        ensures whole { IfOk result (λ count. count ≡ length piece.now) }
+        ensures written { OnOk result (self.new.written.items ≡ self.old.written.items ++ piece.now) }
+        ensures calm { OnOk result (self.new.faults ≡ self.old.faults) }
+        ensures failed { OnErr result (Contains self.old.fails.items self.old.calls
+            ⊎ (self.old.room < vec_len self.old.written + length piece.now)) }
+        ensures counted { OnErr result (self.new.faults ≡ one_more self.old.faults) }
+        ensures never_falls { self.old.faults ≤ self.new.faults }
+        ensures unchanged { OnErr result (self.new.written.items ≡ self.old.written.items) }
+    {
+        let listed = is_listed(&self.fails, self.calls);
+        count_up(&mut self.calls);
+        if listed || self.room - self.written.len() < piece.len() {
+            return Err(fault(&mut self.faults));
+        }
+        match self.written.extend_from_slice(piece) {
+            Ok(()) => Ok(piece.len()),
+            Err(_) => unreachable!(),
+        }
+    }
+}

@@ -1,0 +1,83 @@
+ghost use Rattle.std.specs.Prelude.{◌≡◌, ◌≤◌, None, IsSome, OnSome, OnOk, OnErr, IsUtf8};
+ghost use Rattle.edge_io.specs.Faults.{Rose};
+
+use super::counts::fault;
+use super::files::{Failed, Files};
+use std::io::Read;
+use std::{fs, rt};
+
+/// Files of the operating system. What they contain is not told. Each refusal of the system is a failure, and so is a
+/// name that is no UTF-8 text.
+#[derive(Drop)]
+pub struct OsFiles<'a, R: rt::Files> {
+    rt: &'a R,
+    started: Option<R::File>,
+    faults: u64,
+}
+
+impl<'a, R: rt::Files> OsFiles<'a, R> {
+    /// The files that the runtime reaches. None is started, and no call has failed.
+    pub fn new(rt: &'a R) -> OsFiles<'a, R>
+        ensures faults { ⟦<OsFiles<'a, R> as Files>⟧.faults result ≡ 0 }
+        ensures stopped { ⟦<OsFiles<'a, R> as Files>⟧.started result → ⊥ }
+    {
+        OsFiles {
+            rt,
+            started: None,
+            faults: 0,
+        }
+    }
+}
+
+/// Opens the file of this name, where the name is a text and the system lets it.
+fn open<R: rt::Files>(rt: &R, name: &[u8]) -> Option<R::File>
+    ensures { OnSome result (IsUtf8 name.now) }
+{
+    match str::from_utf8(name) {
+        Ok(path) => fs::open(rt, path).ok(),
+        Err(_) => None,
+    }
+}
+
+impl<'a, R: rt::Files> Files for OsFiles<'a, R> {
+    ghost holds = { λ _ _. None };
+
+    ghost rest = { λ _. None };
+
+    ghost started = { λ s. IsSome s.started };
+
+    ghost faults = { λ s. s.faults };
+
+    fn start(&mut self, name: &[u8]) -> Result<(), Failed>
+        ensures text { OnOk result (IsUtf8 name.now) }
+        ensures started { OnOk result (⟦<Self as Files>⟧.started self.new) }
+        ensures rest { OnOk result
+            (⟦<Self as Files>⟧.rest self.new ≡ ⟦<Self as Files>⟧.holds self.old name.now) }
+        ensures calm { OnOk result
+            (⟦<Self as Files>⟧.faults self.new ≡ ⟦<Self as Files>⟧.faults self.old) }
+        ensures never_falls { ⟦<Self as Files>⟧.faults self.old ≤ ⟦<Self as Files>⟧.faults self.new }
+        ensures rose { OnErr result
+            (Rose (⟦<Self as Files>⟧.faults self.old) (⟦<Self as Files>⟧.faults self.new)) }
+        ensures stopped { OnErr result (⟦<Self as Files>⟧.started self.new → ⊥) }
+        ensures untold { OnErr result (⟦<Self as Files>⟧.rest self.new ≡ None) }
+    {
+        // The file before is closed first.
+        self.started = None;
+        self.started = open(self.rt, name);
+        if self.started.is_none() {
+            return Err(fault(&mut self.faults));
+        }
+        Ok(())
+    }
+
+    fn read(&mut self, buf: &mut [u8]) -> Result<usize, Failed> {
+        let Some(file) = &mut self.started else {
+            unreachable!()
+        };
+        let Ok(count) = file.read(buf) else {
+            self.started = None;
+            return Err(fault(&mut self.faults));
+        };
+        Ok(count)
+    }
+}
