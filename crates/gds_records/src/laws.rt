@@ -1,0 +1,34 @@
+//! Facts about the split of bytes into records, each the contract of a function that does nothing.
+
+ghost use Rattle.std.specs.Prelude.{◌≡◌, ◌≢◌, ℕ, List, [], ◌++◌};
+ghost use Rattle.gds_records.specs.Spelling.{AreBytes, Entry, spellings};
+ghost use Rattle.gds_records.specs.Split.{End, HasSplit, Splits, SplitsAgree, whole};
+ghost use Rattle.gds_records.specs.Fields.{TextsAgree};
+
+/// A string of bytes splits in at most one way.
+pub fn splits_agree()
+    ensures { (offset : ℕ) (bytes : List ℕ) → SplitsAgree offset bytes }
+{}
+
+/// Every string of bytes splits.
+pub fn all_bytes_split()
+    ensures { (offset : ℕ) (bytes : List ℕ) → AreBytes bytes → HasSplit offset bytes }
+{}
+
+/// Bytes behind ENDLIB, as tapes have them, change nothing.
+pub fn padding_is_ignored()
+    ensures { (offset : ℕ) (bytes padding : List ℕ) (entries : List Entry) →
+        Splits offset bytes entries whole → Splits offset (bytes ++ padding) entries whole }
+{}
+
+/// The records of a whole stream without its last bytes are no whole stream.
+pub fn cut_streams_are_not_whole()
+    ensures { (offset : ℕ) (front lost : List ℕ) (entries others : List Entry) → lost ≢ [] →
+        front ++ lost ≡ spellings entries → Splits offset (front ++ lost) entries whole →
+        Splits offset front others whole → ⊥ }
+{}
+
+/// A body has one text.
+pub fn texts_agree()
+    ensures { (body : List ℕ) → TextsAgree body }
+{}

@@ -1,0 +1,17 @@
+//! The records of a GDSII stream: how bytes split into them, and the numbers and texts in their bodies.
+#![tactic(auto)]
+
+pub mod fault;
+pub mod fields;
+pub mod kinds;
+pub mod laws;
+pub mod record;
+pub mod records;
+
+pub use fault::RecordFault;
+pub use fields::{i16_at, i32_at, text, u16_at};
+pub use record::Record;
+pub use records::Records;
+
+#[cfg(test)]
+mod tests;

@@ -1,0 +1,115 @@
+ghost use Rattle.std.specs.Prelude.{◌≡◌, ◌+◌, ◌^◌, ◌<◌, ◌≤◌, ◌↔◌, ◌++◌, ℕ, false, List, length, drop, IsTrue, IfOk, IfErr, IfSome, IfNone, OnSome, OnErr, Ok, Err, Some, None};
+ghost use Rattle.gds_records.specs.declared.fault.RecordFault.{RecordFault};
+ghost use Rattle.gds_records.specs.Spelling.{Entry, IsEndlib, HasSpelling, spelling};
+ghost use Rattle.gds_records.specs.Split.{End, IsFaultOf};
+ghost use Rattle.gds_records.specs.Reading.{IsGivenOrLeft, IsLeft, left_in, said_by, start_of};
+
+use crate::fault::RecordFault;
+use crate::kinds::ENDLIB;
+use crate::record::Record;
+use byteorder::{BigEndian, ByteOrder};
+use std::marker::Model;
+
+/// How many bytes a record's head has: two of length, one of kind, one of form.
+const HEAD: usize = 4;
+
+/// The record that begins at `at`, the offset of the first of these bytes.
+fn record_at<'a>(rest: &'a [u8], at: u32) -> Result<Record<'a>, RecordFault>
+    ensures place { IfOk result (λ r. r.at ≡ at) }
+    ensures entry { IfOk result (λ r. HasSpelling (said_by r)) }
+    ensures spelled { IfOk result (λ r.
+        rest.now ≡ spelling (said_by r) ++ drop (4 + length r.body.now) rest.now) }
+    ensures room { IfOk result (λ r. 4 + length r.body.now ≤ length rest.now) }
+    ensures fault { IfErr result (λ f. IsFaultOf at rest.now f) }
+{
+    if rest.len() < HEAD {
+        return Err(RecordFault::Truncated { at });
+    }
+    let len = BigEndian::read_u16(rest);
+    if len < 4 || len % 2 == 1 {
+        return Err(RecordFault::BadLength { at, len });
+    }
+    let end = len as usize;
+    if rest.len() < end {
+        return Err(RecordFault::Truncated { at });
+    }
+    Ok(Record {
+        at,
+        kind: rest[2],
+        form: rest[3],
+        body: &rest[HEAD..end],
+    })
+}
+
+/// A reader of the records of a stream, one after the other up to ENDLIB (GDSII Stream Format Manual, Release 6.0,
+/// 'Record Description'). Contracts see its bytes, the offset of the next record, and whether ENDLIB was given.
+#[derive(Debug, Drop)]
+pub struct Records<'a> {
+    bytes: &'a [u8],
+    at: u32,
+    ended: bool,
+}
+
+impl<'a> Model for Records<'a> {
+    ghost use Rattle.std.specs.Prelude.{◌^◌, ◌<◌, ◌≤◌, length};
+    ghost use Rattle.gds_records.specs.Reading.{Reading};
+
+    ghost Value = { Reading };
+
+    ghost view = { λ r. record { bytes = r.bytes.now; at = r.at; ended = r.ended } };
+
+    ghost invariant = { λ r. (r.at ≤ length r.bytes.now) × (length r.bytes.now < 2 ^ 32) };
+}
+
+impl<'a> Records<'a> {
+    /// A reader of these bytes, fewer than 2^32, from their first byte on.
+    pub fn new(bytes: &'a [u8]) -> Records<'a>
+        requires { length bytes.now < 2 ^ 32 }
+        ensures { result ≡ start_of bytes.now }
+    {
+        Records {
+            bytes,
+            at: 0,
+            ended: false,
+        }
+    }
+
+    /// The next record, `None` exactly after ENDLIB, or what is wrong with the bytes that are left: `Truncated` where
+    /// they are fewer than a head has, or than a good length says, and `BadLength` where the length is below 4 or odd.
+    /// Bytes behind ENDLIB are not looked at. After `None` and after a fault each further call answers the same again.
+    pub fn next(&mut self) -> Result<Option<Record<'a>>, RecordFault>
+        // What was still to come is what the call gave, and then what is still to come.
+        ensures split { (entries : List Entry) (end : End) →
+            IsLeft self.old entries end ↔ IsGivenOrLeft result self.new entries end }
+
+        // When there is no record.
+        ensures finished { (result ≡ Ok None) ↔ IsTrue self.old.ended }
+        ensures fault { (f : RecordFault) →
+            (result ≡ Err f) ↔ ((self.old.ended ≡ false) × IsFaultOf self.old.at (left_in self.old) f) }
+
+        // Where a record lies, and where the next one begins.
+        ensures place { IfOk result (λ o. IfSome o (λ r. r.at ≡ self.old.at)) }
+        ensures moves { IfOk result (λ o. IfSome o (λ r. self.new.at ≡ self.old.at + length (spelling (said_by r)))) }
+        ensures within { IfOk result (λ o. OnSome o (self.new.at ≤ length self.new.bytes)) }
+        ensures endlib { IfOk result (λ o. IfSome o (λ r. IsTrue self.new.ended ↔ IsEndlib (said_by r))) }
+
+        // What stays.
+        ensures bytes { self.new.bytes ≡ self.old.bytes }
+        ensures none { IfOk result (λ o. IfNone o (self.new ≡ self.old)) }
+        ensures err { OnErr result (self.new ≡ self.old) }
+    {
+        if self.ended {
+            return Ok(None);
+        }
+        let bytes = self.bytes;
+        let at = self.at;
+        match record_at(&bytes[at as usize..], at) {
+            Err(fault) => Err(fault),
+            Ok(found) => {
+                self.at = at + (HEAD + found.body.len()) as u32;
+                self.ended = found.kind == ENDLIB;
+                Ok(Some(found))
+            }
+        }
+    }
+}
