@@ -1,0 +1,14 @@
+pub mod Words
+pub mod Report
+pub mod Views
+pub mod Outline
+pub mod Sides
+pub mod Patterns
+pub mod Layout
+pub mod Taking
+pub mod Rows
+pub mod Verdict
+pub mod Window
+pub mod Area
+pub mod Run
+pub mod Stops

@@ -1,0 +1,44 @@
+ghost use Rattle.std.specs.Prelude.{◌≡◌, ◌*◌, ◌^◌, ◌<◌, ◌≤◌, Some};
+ghost use Rattle.critarea_core.specs.Report.{kind_text};
+
+use std::fmt;
+
+/// What a defect does to the wires and vias under it.
+#[derive(Clone, Copy, Debug, PartialEq, Eq)]
+pub enum Kind {
+    /// It touches two nets of a metal.
+    Short,
+    /// It parts two terminals that a metal joins.
+    Open,
+    /// It covers a whole cluster of contacts.
+    Via,
+}
+
+impl fmt::Display for Kind {
+    ghost output = { λ kind. Some (kind_text kind) };
+
+    fn fmt<W: fmt::Write>(&self, f: &mut fmt::Formatter<W>) -> fmt::Result {
+        match self {
+            Kind::Short => write!(f, "short"),
+            Kind::Open => write!(f, "open"),
+            Kind::Via => write!(f, "via"),
+        }
+    }
+}
+
+/// One line of the report: the area of one kind of fault, on one layer, for one size of defect.
+#[derive(Clone, Copy, Debug)]
+pub struct Row<'a> {
+    /// The kind of fault.
+    pub kind: Kind,
+    /// The name of the metal or cut.
+    pub layer: &'a str,
+    /// The half-side of the defect, in database units.
+    pub size: u32,
+    /// How many cells of the window have the fault. A window has at most 2,002,000,000 cells a side.
+    pub area: u64,
+    /// By what the area counts in the totals: at most 1,000,000,000.
+    pub weight: u64,
+    pub ghost small_area: { area < 2 ^ 63 },
+    pub ghost small_weight: { weight ≤ 1000000000 },
+}

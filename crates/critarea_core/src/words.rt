@@ -1,0 +1,75 @@
+ghost use Rattle.std.specs.Prelude.{ℕ, ◌≡◌, ◌↔◌, codes, IsTrue, IfSome, IfNone};
+ghost use Rattle.critarea_core.specs.Views.{asked_by};
+ghost use Rattle.critarea_core.specs.Words.{Asks, IsFileWord, IsNumberFrom, OneMetal};
+
+use super::request::Request;
+use super::word::Word;
+
+/// The number that a text of 1 to 10 digits stands for, where it lies within the bounds.
+fn number(text: &str, least: u32, most: u32) -> Option<u32>
+    ensures some { IfSome result (λ n. IsNumberFrom least most text.now n) }
+    ensures none { IfNone result ((n : ℕ) → IsNumberFrom least most text.now n → ⊥) }
+{
+    if text.len() > 10 || text.starts_with('+') {
+        return None;
+    }
+    let Ok(value) = text.parse::<u32>() else {
+        return None;
+    };
+    if value < least || value > most {
+        return None;
+    }
+    Some(value)
+}
+
+/// Whether a word can name a file.
+fn is_file_word(word: &[u8]) -> bool
+    ensures { IsTrue result ↔ IsFileWord word.now }
+{
+    match word.first() {
+        None => false,
+        Some(first) => *first != b'-',
+    }
+}
+
+/// What the words ask for, where they fit: a file and three options in the one order.
+pub fn read_words(words: &[Word]) -> Option<Request<'_>>
+    ensures some { IfSome result (λ r. Asks words.now (asked_by r)) }
+    ensures none { IfNone result ((request : OneMetal) → Asks words.now request → ⊥) }
+{
+    let [
+        layout,
+        layer_option,
+        layer,
+        datatype_option,
+        datatype,
+        radius_option,
+        radius,
+    ] = words
+    else {
+        return None;
+    };
+    let layout = layout.as_str().as_bytes();
+    if !is_file_word(layout)
+        || layer_option.as_str() != "--layer"
+        || datatype_option.as_str() != "--datatype"
+        || radius_option.as_str() != "--radius"
+    {
+        return None;
+    }
+    let Some(layer) = number(layer.as_str(), 0, 65_535) else {
+        return None;
+    };
+    let Some(datatype) = number(datatype.as_str(), 0, 65_535) else {
+        return None;
+    };
+    let Some(radius) = number(radius.as_str(), 1, 1_000_000) else {
+        return None;
+    };
+    Some(Request {
+        layout,
+        layer: layer as u16,
+        datatype: datatype as u16,
+        radius,
+    })
+}
