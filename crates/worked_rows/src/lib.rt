@@ -1,0 +1,17 @@
+//! Worked layouts and words, from the call of `run` down to the bytes that it writes. The crate has tests alone.
+#![tactic(auto)]
+
+#[cfg(test)]
+mod devices;
+#[cfg(test)]
+mod layouts;
+#[cfg(test)]
+mod outlines;
+#[cfg(test)]
+mod records;
+#[cfg(test)]
+mod rows;
+#[cfg(test)]
+mod runs;
+#[cfg(test)]
+mod words;
