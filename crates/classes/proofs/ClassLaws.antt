@@ -2,7 +2,7 @@
 use Rattle.std.proofs.Common.{ℕ, ◌≤◌, ◌<◌, ◌≡◌, sym, subst, ◌∙◌, List, length, arith, inl, inr}
 use Rattle.std.proofs.lemmas.Grind.{same_number_lists}
 use Rattle.std.proofs.lemmas.Option.{slice_get-get_or}
-use Rattle.fault_model.proofs.WalkLaws.{append, reverse}
+use Rattle.paths.proofs.PathLaws.{append, reverse}
 use Rattle.classes.specs.Classes.{IsPair, AreJoined, IsClasses}
 use Rattle.classes.specs.Laws.{EqualWhereJoined, ClassesAgree}
 

@@ -1,8 +1,9 @@
 -- degrees, counted pair by pair
-use Rattle.std.proofs.Common.{ℕ, ◌+◌, ◌<◌, ◌≡◌, ◌≢◌, refl, sym, ap, subst, ◌∙◌, List, length, sum, arith, inl, inr, ◌⊎◌, get_or, set, get_or-set_same, get_or-set_other, length-set, drop, drop-cons, add-one}
+use Rattle.std.proofs.Common.{ℕ, ◌+◌, ◌<◌, ◌≡◌, ◌≢◌, refl, sym, ap, subst, ◌∙◌, List, length, sum, arith, inl, inr, get_or, set, get_or-set_same, get_or-set_other, length-set, drop, drop-cons, add-one}
 use Rattle.std.specs.Prelude.{Contains}
 use Rattle.std.proofs.lemmas.List.Sums.{sum_by-set}
 use Rattle.std.proofs.lemmas.Bool.Decides.{eqb_tells}
+use Rattle.paths.proofs.ListLaws.{equal_or_not}
 use Rattle.classes.specs.Classes.{AreBelow}
 use Rattle.classes.specs.Degrees.{match_count, degree_of}
 
@@ -17,9 +18,6 @@ in_range n pairs i below h = below i (0, 0) h
 pub pair_below : (n : ℕ) (pairs : List (ℕ × ℕ)) → AreBelow n pairs → (a b : ℕ) → Contains pairs (a, b) → (a < n) × (b < n)
 pair_below n pairs below a b (k, h, e) = subst (λ (p : ℕ × ℕ). (p.0 < n) × (p.1 < n)) e (below k (a, b) h)
 
-pub same_or_not : (a b : ℕ) → (a ≡ b) ⊎ (a ≢ b)
-same_or_not a b = elim (eqb_tells a b) [ inl h ↦ inl h.1 | inr h ↦ inr h.1 ]
-
 pub match_count_same : (k a : ℕ) → k ≡ a → match_count k a ≡ 1
 match_count_same k a e = elim (eqb_tells k a) [ inl h ↦ rw h.0 | inr h ↦ absurd (h.1 e) ]
 
@@ -31,7 +29,7 @@ abbrev pub raise : List ℕ → ℕ → List ℕ
 raise xs a = set xs a (get_or xs a 0 + 1)
 
 pub get_or-raise : (xs : List ℕ) (a k : ℕ) → a < length xs → get_or (raise xs a) k 0 ≡ get_or xs k 0 + match_count k a
-get_or-raise xs a k h = elim (same_or_not k a) [
+get_or-raise xs a k h = elim (equal_or_not k a) [
   | inl e ↦ rw (e, get_or-set_same xs a (get_or xs a 0 + 1) 0 h, match_count_same a a refl)
   | inr n ↦ let o = match_count_other k a n in get_or-set_other xs a k (get_or xs a 0 + 1) 0 n ∙ (rw o (omega arith))
 ]

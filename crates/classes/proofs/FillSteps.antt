@@ -4,10 +4,11 @@ use Rattle.std.proofs.lemmas.Bool.Decides.{leb_tells}
 use Rattle.std.specs.Prelude.{Contains}
 use Rattle.std.proofs.lemmas.List.{take_more, take_all, drop_all}
 use Rattle.std.proofs.lemmas.List.Elements.{Contains-get_or, Contains-append_left, Contains-push, Contains-push_cases}
+use Rattle.paths.proofs.ListLaws.{equal_or_not}
 use Rattle.classes.specs.Classes.{IsPair}
 use Rattle.classes.specs.Degrees.{match_count, degree_of}
 use Rattle.classes.specs.Index.{IsLaidOut, IsIndexOf}
-use Rattle.classes.proofs.DegreeLaws.{raise, get_or-raise, match_count_same, match_count_other, same_or_not, pair_at, degree_of-drop}
+use Rattle.classes.proofs.DegreeLaws.{raise, get_or-raise, match_count_same, match_count_other, pair_at, degree_of-drop}
 
 -- a later number does not start before an earlier one
 pub rise : (pairs : List (ℕ × ℕ)) (starts : List ℕ) (size : ℕ) → IsLaidOut pairs starts size → (i n : ℕ) → i + n < length starts → get_or starts i 0 ≤ get_or starts (i + n) 0
@@ -40,7 +41,7 @@ pub record IsFilling (Done : ℕ → ℕ → Type 0) (left : ℕ → ℕ) (start
 module _ {Done : ℕ → ℕ → Type 0} (left : ℕ → ℕ) (starts next flat : List ℕ) (k x : ℕ) (rises : (i j : ℕ) → i ≤ j → j < length starts → get_or starts i 0 ≤ get_or starts j 0) (s : IsFilling Done left starts next flat) (small : suc k < length starts) where
   -- k's first free place is filled for no number
   not_next : (j p : ℕ) → 1 ≤ left k → suc j < length starts → get_or starts j 0 ≤ p → p < get_or next j 0 → p ≢ get_or next k 0
-  not_next j p more b h l e = elim (same_or_not j k) [
+  not_next j p more b h l e = elim (equal_or_not j k) [
     | inl f ↦ let g = ap (λ y. get_or next y 0) f in omega arith
     | inr n ↦
         let rj = s.room j b in
@@ -65,8 +66,8 @@ module _ {Done : ℕ → ℕ → Type 0} (left : ℕ → ℕ) (starts next flat 
         one_each = length-set next k (get_or next k 0 + 1) ∙ long;
         from = λ j b. let f = s.from j b in let e = next_of j in omega arith;
         room = λ j b. let r = s.room j b in let e = next_of j in let f = fewer j in omega arith;
-        sound = λ j p b h l. elim (same_or_not j k) [
-          | inl e ↦ elim (same_or_not p (get_or next k 0)) [
+        sound = λ j p b h l. elim (equal_or_not j k) [
+          | inl e ↦ elim (equal_or_not p (get_or next k 0)) [
             | inl f ↦ inr (e, ap (λ y. get_or (set flat (get_or next k 0) x) y 0) f ∙ here)
             | inr n ↦
                 let o = next_of j in

@@ -1,32 +1,21 @@
 -- the steps of the search for classes, and what each keeps
-use Rattle.std.proofs.Common.{ℕ, zero, suc, ◌+◌, ◌≤◌, ◌<◌, ◌≡◌, ◌≢◌, refl, sym, ap, subst, ◌∙◌, List, [], ◌∷◌, ◌++◌, length, arith, inl, inr, ◌⊎◌, get_or, set, get_or-set_same, get_or-set_other, length-set, take, drop, take_all, sum, length-append}
+use Rattle.std.proofs.Common.{ℕ, suc, ◌+◌, ◌≤◌, ◌<◌, ◌≡◌, ◌≢◌, refl, sym, ap, subst, ◌∙◌, List, [], ◌∷◌, ◌++◌, length, arith, inl, inr, ◌⊎◌, get_or, set, get_or-set_same, get_or-set_other, length-set, take, drop, take_all, sum, length-append}
 use Rattle.std.specs.Prelude.{Contains}
 use Rattle.std.proofs.lemmas.Option.{slice_get_within, get_or_from_slice_get, slice_get_read}
 use Rattle.std.proofs.lemmas.List.{take-append-le}
 use Rattle.std.proofs.lemmas.List.Elements.{Contains-append_left, Contains-push, Contains-push_cases}
-use Rattle.fault_model.specs.Paths.{Path, stay, step}
-use Rattle.fault_model.proofs.WalkLaws.{append, kept, first, retold}
+use Rattle.paths.specs.Paths.{Path, stay, step}
+use Rattle.paths.proofs.PathLaws.{append, kept, first, retold}
 use Rattle.classes.specs.Classes.{IsClasses}
 use Rattle.classes.specs.Index.{HasNeighbour, IsIndexOf}
 use Rattle.classes.specs.Spreading.{IsPlaceOf, IsGraph, HasClass, IsSound, IsSettled, IsSpreading, IsMarked}
-use Rattle.classes.proofs.DegreeLaws.{same_or_not}
+use Rattle.paths.proofs.ListLaws.{equal_or_not, Contains-first, Contains-rest, Contains-cases}
 use Rattle.std.proofs.lemmas.Bool.Decides.{leb_tells}
 use Rattle.std.proofs.lemmas.List.Sums.{sum_by-set}
 use Rattle.classes.proofs.IndexLaws.{in_starts}
 
 pub listed : (starts neighbours : List ℕ) (a place : ℕ) → IsPlaceOf starts a place → HasNeighbour starts neighbours a (get_or neighbours place 0)
 listed starts neighbours a place h = record { place = place; from = h.0; to = h.1; is = refl }
-
--- what the list contains with one more in front
-Contains-head : (x : ℕ) (xs : List ℕ) → Contains (x ∷ xs) x
-Contains-head x xs = (0, omega arith, refl)
-
-Contains-tail : (x : ℕ) (xs : List ℕ) (a : ℕ) → Contains xs a → Contains (x ∷ xs) a
-Contains-tail x xs a c = (suc c.0, let h = c.1 in omega arith, c.2)
-
-Contains-cons_cases : (x : ℕ) (xs : List ℕ) (a : ℕ) → Contains (x ∷ xs) a → Contains xs a ⊎ (x ≡ a)
-Contains-cons_cases x xs a (zero, h, e) = inr e
-Contains-cons_cases x xs a (suc k, h, e) = inl (k, omega arith, e)
 
 module _ (starts neighbours classes : List ℕ) (graph : IsGraph (length classes) starts neighbours) where
   -- j, which had no class, gets the class `start`
@@ -56,11 +45,11 @@ module _ (starts neighbours classes : List ℕ) (graph : IsGraph (length classes
 
     sound_more : Path (λ k. k < length classes) (HasNeighbour starts neighbours) start j → start ≤ j → IsSound starts neighbours (set classes j start)
     sound_more path low = record {
-      joined = λ k b h. elim (same_or_not k j) [
+      joined = λ k b h. elim (equal_or_not k j) [
         | inl e ↦ subst (λ x. Path (λ y. y < length (set classes j start)) (HasNeighbour starts neighbours) (get_or (set classes j start) x 0) x) (sym e) (rw at_j (widen path))
         | inr n ↦ let l = long in rw (off_j k n) (widen (sound.joined k (omega arith) (had_one k n h)))
       ];
-      low = λ k b h. elim (same_or_not k j) [
+      low = λ k b h. elim (equal_or_not k j) [
         | inl e ↦ subst (λ x. get_or (set classes j start) x 0 ≤ x) (sym e) (rw at_j low)
         | inr n ↦ let l = long in rw (off_j k n) (sound.low k (omega arith) (had_one k n h))
       ];
@@ -79,7 +68,7 @@ module _ (starts neighbours classes : List ℕ) (graph : IsGraph (length classes
       let mine = at_j start start s.sound small small free in
       record {
         sound = sound_more start start s.sound small small free (stay small) (omega arith);
-        closed = λ a place t h. elim (same_or_not a start) [
+        closed = λ a place t h. elim (equal_or_not a start) [
           | inl e ↦ inl (inl (subst (Contains (start ∷ [])) (sym e) (Contains-push [] start)))
           | inr n ↦
               let h' : HasClass classes a = had_one start start s.sound small small free a n h in
@@ -97,17 +86,17 @@ module _ (starts neighbours classes : List ℕ) (graph : IsGraph (length classes
   take_one todo rest start i any e s = record {
     sound = s.sound;
     closed = λ a place t h. elim (s.closed a place t h) [
-      | inl (inl k) ↦ elim (Contains-cons_cases i rest a (subst (λ x. Contains x a) e k)) [ inl m ↦ inl (inl m) | inr m ↦ inr (sym m, subst (λ x. get_or starts x 0 ≤ place) (sym m) t.0) ]
+      | inl (inl k) ↦ elim (Contains-cases i rest a (subst (λ x. Contains x a) e k)) [ inl m ↦ inr (sym m, subst (λ x. get_or starts x 0 ≤ place) (sym m) t.0) | inr m ↦ inl (inl m) ]
       | inl (inr k) ↦ inl (inr k)
       | inr k ↦ absurd (let b = t.1 in let f = ap (λ x. get_or starts (suc x) 0) k.0 in omega arith)
     ];
-    pending = λ a h. s.pending a (subst (λ x. Contains x a) (sym e) (Contains-tail i rest a h));
+    pending = λ a h. s.pending a (subst (λ x. Contains x a) (sym e) (Contains-rest i rest a h));
     earlier = s.earlier;
     begun = s.begun;
   }
 
   pub taken : (todo rest : List ℕ) (start i any : ℕ) → todo ≡ i ∷ rest → IsSpreading starts neighbours classes todo start any (get_or starts (suc any) 0) → (i < length classes) × (get_or classes i 0 ≡ start)
-  taken todo rest start i any e s = s.pending i (subst (λ x. Contains x i) (sym e) (Contains-head i rest))
+  taken todo rest start i any e s = s.pending i (subst (λ x. Contains x i) (sym e) (Contains-first i rest))
 
   -- the neighbour at the place `here` is seen
   module _ (todo : List ℕ) (start i here : ℕ) (s : IsSpreading starts neighbours classes todo start i here) (place_of : IsPlaceOf starts i here) where
@@ -119,7 +108,7 @@ module _ (starts neighbours classes : List ℕ) (graph : IsGraph (length classes
       sound = s.sound;
       closed = λ a place t h. elim (s.closed a place t h) [
         | inl k ↦ inl k
-        | inr k ↦ elim (same_or_not place here) [
+        | inr k ↦ elim (equal_or_not place here) [
           | inl e ↦ inl (subst (λ x. Contains todo x ⊎ (get_or classes (get_or neighbours place 0) 0 ≡ get_or classes x 0)) (sym k.0) (subst (λ y. Contains todo i ⊎ (get_or classes (get_or neighbours y 0) 0 ≡ get_or classes i 0)) (sym e)
               (fine (subst (HasClass classes) k.0 h))))
           | inr n ↦ inr (k.0, omega arith)
@@ -149,14 +138,14 @@ module _ (starts neighbours classes : List ℕ) (graph : IsGraph (length classes
         let path : Path (λ k. k < length classes) (HasNeighbour starts neighbours) start i = subst (λ x. Path (λ k. k < length classes) (HasNeighbour starts neighbours) x i) mine (s.sound.joined i from i_has) in
         record {
           sound = sound_more start j s.sound small to free (append path (step from (listed starts neighbours i here place_of) (stay to))) (fresh_is_late start j s.earlier free);
-          closed = λ a place t h. elim (same_or_not a j) [
+          closed = λ a place t h. elim (equal_or_not a j) [
             | inl e ↦ inl (inl (subst (Contains (todo ++ j ∷ [])) (sym e) (Contains-push todo j)))
             | inr n ↦
                 let h' : HasClass classes a = had_one start j s.sound small to free a n h in
                 elim (s.closed a place t h') [
                   | inl (inl k) ↦ inl (inl (Contains-append_left todo (j ∷ []) a k))
                   | inl (inr k) ↦ let b_has : HasClass classes (get_or neighbours place 0) = omega arith in inl (inr (was (get_or neighbours place 0) b_has ∙ k ∙ sym (off a n)))
-                  | inr k ↦ elim (same_or_not place here) [
+                  | inr k ↦ elim (equal_or_not place here) [
                     | inl e ↦ inl (inr (ap (λ x. get_or (set classes j start) (get_or neighbours x 0) 0) e ∙ set_to ∙ sym mine ∙ ap (λ x. get_or classes x 0) (sym k.0) ∙ sym (off a n)))
                     | inr m ↦ inr (k.0, omega arith)
                   ]
@@ -179,7 +168,7 @@ module _ (starts neighbours classes : List ℕ) (graph : IsGraph (length classes
       | inl (inr k) ↦ k
       | inr k ↦ absurd (let b = t.1 in let f = ap (λ x. get_or starts (suc x) 0) k.0 in omega arith)
     ];
-    earlier = λ k h. elim (same_or_not k start) [
+    earlier = λ k h. elim (equal_or_not k start) [
       | inl e' ↦ subst (HasClass classes) (sym e') (let b = s.begun in omega arith)
       | inr n ↦ s.earlier k (omega arith)
     ];
@@ -189,7 +178,7 @@ module _ (starts neighbours classes : List ℕ) (graph : IsGraph (length classes
   has_one start has s = record {
     sound = s.sound;
     closed = s.closed;
-    earlier = λ k h. elim (same_or_not k start) [ inl e ↦ subst (HasClass classes) (sym e) has | inr n ↦ s.earlier k (omega arith) ];
+    earlier = λ k h. elim (equal_or_not k start) [ inl e ↦ subst (HasClass classes) (sym e) has | inr n ↦ s.earlier k (omega arith) ];
   }
 
   -- where every number has a class, these are the classes of the pairs

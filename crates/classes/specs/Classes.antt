@@ -1,6 +1,6 @@
 -- pairs of numbers, the chains that they make, and the least number of each class
 use Rattle.std.specs.Prelude.{ℕ, List, All, Contains, Some, length, slice_get, ◌≡◌, ◌<◌, ◌≤◌, ◌⊎◌}
-use Rattle.fault_model.specs.Paths.{Path}
+use Rattle.paths.specs.Paths.{Path}
 
 -- the pairs are of numbers below n
 abbrev pub AreBelow : ℕ → List (ℕ × ℕ) → Type 0

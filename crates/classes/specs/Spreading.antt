@@ -1,6 +1,6 @@
 -- the search for classes, at any moment
 use Rattle.std.specs.Prelude.{ℕ, suc, List, [], ◌∷◌, ◌++◌, Contains, length, slice_index, slice_set, ◌≡◌, ◌≤◌, ◌<◌, ◌⊎◌}
-use Rattle.fault_model.specs.Paths.{Path}
+use Rattle.paths.specs.Paths.{Path}
 use Rattle.classes.specs.Index.{HasNeighbour}
 
 -- the place lies between k's start and the next number's

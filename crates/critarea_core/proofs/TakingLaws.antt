@@ -1,26 +1,27 @@
 -- records that were taken, one by one
-use Rattle.std.proofs.Common.{ℕ, zero, suc, ◌+◌, ◌<◌, List, [], ◌∷◌, ◌++◌, ◌≡◌, refl, sym, ap, subst, ◌∙◌, length, take, get_or, arith, append_assoc}
+use Rattle.std.proofs.Common.{ℕ, zero, suc, ◌+◌, ◌<◌, List, [], ◌∷◌, ◌++◌, ◌≡◌, refl, sym, ap, subst, ◌∙◌, length, take, get_or, arith, append_assoc, length-append}
+use Rattle.byteorder.specs.Endian.{big_bytes}
 use Rattle.gds_records.specs.Spelling.{Entry}
 use Rattle.gds_records.specs.Split.{End, Splits, whole}
 use Rattle.std.specs.Prelude.{◌↔◌, IsTrue, Some, Ok}
 use Rattle.std.proofs.lemmas.List.{take_more}
 use Rattle.gds_records.specs.Spelling.{IsEndlib}
 use Rattle.gds_records.specs.declared.record.Record.{Record}
-use Rattle.gds_records.specs.Reading.{Reading, IsLeft, IsGivenOrLeft, said_by, start_of}
+use Rattle.gds_records.specs.Reading.{MovesPast, Reading, IsLeft, IsGivenOrLeft, entry_of, start_of}
 use Rattle.critarea_core.specs.Layout.{IsLayout, Match, none, next, AreBoundaries, no_more, one_more}
-use Rattle.critarea_core.specs.Taking.{Takes, TakesAll, TakesShape, LacksNext, LacksAll, LacksShape, HasBoundaries, YieldsShape}
+use Rattle.critarea_core.specs.Taking.{MovesOn, TakesRecords, TakesAll, TakesShape, DoesNotFollow, NotAllFollow, NoShapeFollows, HasBoundaries, YieldsShape}
 use Rattle.critarea_core.specs.declared.pattern.Pattern.{Pattern}
 use Rattle.critarea_core.specs.Patterns.{Fits, head_patterns, boundary_pattern, endstr_pattern, endlib_pattern}
 use Rattle.critarea_core.specs.declared.shape.Shape.{Shape}
 
 -- a record that was taken is the first of those that were left
-pub after : {old new : Reading} {x y : Entry} (ys : List Entry) (end : End) → Takes old new (x ∷ []) → IsLeft old (y ∷ ys) end → (y ≡ x) × IsLeft new ys end
+pub after : {old new : Reading} {x y : Entry} (ys : List Entry) (end : End) → TakesRecords old new (x ∷ []) → IsLeft old (y ∷ ys) end → (y ≡ x) × IsLeft new ys end
 after {new = new} {x = x} {y = y} ys end t h =
     let p = t.parts (y ∷ ys) end h in
     let e : ys ≡ p.0 = cc (p.1) in
     (cc (p.1), subst (λ o. IsLeft new o end) (sym e) p.2)
 
-pub takes-append : {a b c : Reading} {xs ys : List Entry} → Takes a b xs → Takes b c ys → Takes a c (xs ++ ys)
+pub takes-append : {a b c : Reading} {xs ys : List Entry} → TakesRecords a b xs → TakesRecords b c ys → TakesRecords a c (xs ++ ys)
 takes-append {a} {b} {c} {xs} {ys} s t = record {
   parts = λ entries end h.
       let p = s.parts entries end h in
@@ -29,7 +30,7 @@ takes-append {a} {b} {c} {xs} {ys} s t = record {
   back = λ others end h. subst (λ o. IsLeft a o end) (sym (append_assoc xs ys others)) (s.back (ys ++ others) end (t.back others end h));
 }
 
-pub takes-none : (a : Reading) → Takes a a []
+pub takes-none : (a : Reading) → TakesRecords a a []
 takes-none a = record { parts = λ entries end h. (entries, refl, h); back = λ others end h. h }
 
 Match-append : {fs : List Pattern} {es : List Entry} {f : Pattern} {e : Entry} → Match fs es → Fits f e → Match (fs ++ f ∷ []) (es ++ e ∷ [])
@@ -37,7 +38,7 @@ Match-append none h = next h none
 Match-append (next g m) h = next g (Match-append m h)
 
 -- one record more that fits
-pub one_pattern_more : {old mid new : Reading} (patterns : List Pattern) (k : ℕ) (d : Pattern) (entry : Entry) → k < length patterns → TakesAll old mid (take k patterns) → Fits (get_or patterns k d) entry → Takes mid new (entry ∷ []) → TakesAll old new (take (k + 1) patterns)
+pub one_pattern_more : {old mid new : Reading} (patterns : List Pattern) (k : ℕ) (d : Pattern) (entry : Entry) → k < length patterns → TakesAll old mid (take k patterns) → Fits (get_or patterns k d) entry → TakesRecords mid new (entry ∷ []) → TakesAll old new (take (k + 1) patterns)
 one_pattern_more {old} {mid} {new} patterns k d entry h t f s =
     let m : Match (take k patterns ++ get_or patterns k d ∷ []) (t.front ++ entry ∷ []) = Match-append t.matching f in
     record { front = t.front ++ entry ∷ []; matching = rw (take_more patterns k d h) m; taken = takes-append t.taken s }
@@ -52,22 +53,32 @@ differs (f ∷ fs) (suc k) d (a ∷ front) [] others rest m t h eq = elim t [ ]
 differs (f ∷ fs) zero d (a ∷ front) [] others rest (next g m) t h eq = (a, front ++ others, sym eq, g)
 differs (f ∷ fs) (suc k) d (a ∷ front) (b ∷ taken) others rest (next g m) (next i t) h eq = differs fs k d front taken others rest m t (omega arith) (cc eq)
 
-pub lacks_all : {old mid : Reading} (patterns : List Pattern) (k : ℕ) (d : Pattern) → k < length patterns → TakesAll old mid (take k patterns) → LacksNext mid (get_or patterns k d) → LacksAll old patterns
-lacks_all {old} {mid} patterns k d h t no_next front others end left m =
+pub not_all_follow : {old mid : Reading} (patterns : List Pattern) (k : ℕ) (d : Pattern) → k < length patterns → TakesAll old mid (take k patterns) → DoesNotFollow mid (get_or patterns k d) → NotAllFollow old patterns
+not_all_follow {old} {mid} patterns k d h t no_next front others end left m =
     let p = t.taken.parts (front ++ others) end left in
     let x = differs patterns k d front t.front others p.0 m t.matching h p.1 in
     no_next x.0 x.1 end (subst (λ o. IsLeft mid o end) x.2 p.2) x.3
 
+-- a reader that moved past a record went on, and so does one that goes on twice
+pub moves_past : {old new : Reading} (r : Record) → MovesPast old new r → MovesOn old new
+moves_past r m =
+    let at = m.moves in
+    let inside = m.within in
+    record { bytes = m.bytes; further = omega (arith, length-append (big_bytes 2 (length (entry_of r).body + 4)) (r.kind ∷ r.form ∷ r.body.now)); within = inside }
+
+pub moves_twice : {a b c : Reading} → MovesOn a b → MovesOn b c → MovesOn a c
+moves_twice p q = let f = p.further in let g = q.further in record { bytes = q.bytes ∙ p.bytes; further = omega arith; within = q.within }
+
 -- what a call of `next` gave was taken
-pub given : {old new : Reading} (r : Record) → ((entries : List Entry) (end : End) → IsLeft old entries end ↔ IsGivenOrLeft (Ok (Some r)) new entries end) → Takes old new (said_by r ∷ [])
-given r split = record { parts = λ entries end h. (split entries end).0 h; back = λ others end h. (split (said_by r ∷ others) end).1 (others, refl, h) }
+pub given : {old new : Reading} (r : Record) → ((entries : List Entry) (end : End) → IsLeft old entries end ↔ IsGivenOrLeft (Ok (Some r)) new entries end) → TakesRecords old new (entry_of r ∷ [])
+given r split = record { parts = λ entries end h. (split entries end).0 h; back = λ others end h. (split (entry_of r ∷ others) end).1 (others, refl, h) }
 
 pub no_both : (e : Entry) → Fits boundary_pattern e → Fits endstr_pattern e → ⊥
 no_both e f g = let h = f.kind in let k = g.kind in omega arith
 
 -- a boundary was taken, and the records of its shape
-pub yields : {old mid new : Reading} (first : Entry) (shape : Shape) → Takes old mid (first ∷ []) → Fits boundary_pattern first → TakesShape mid new shape → YieldsShape old new shape
-yields {old} {mid} {new} first shape t f s = record { onward = onward; back = back } where
+pub yields : {old mid new : Reading} (first : Entry) (shape : Shape) → TakesRecords old mid (first ∷ []) → MovesOn old mid → Fits boundary_pattern first → TakesShape mid new shape → YieldsShape old new shape
+yields {old} {mid} {new} first shape t moves f s = record { onward = onward; back = back; moves = moves_twice moves s.moves } where
   onward : (all : List Shape) → HasBoundaries old all → (more : List Shape) × HasBoundaries new more
   onward all h = go h.entries all h.left h.boundaries where
     go : (entries : List Entry) (all : List Shape) → IsLeft old entries whole → AreBoundaries entries all → (more : List Shape) × HasBoundaries new more
@@ -84,11 +95,11 @@ yields {old} {mid} {new} first shape t f s = record { onward = onward; back = ba
   back more h = record {
     entries = first ∷ s.layer ∷ s.datatype ∷ s.points ∷ s.last ∷ h.entries;
     left = t.back (s.layer ∷ s.datatype ∷ s.points ∷ s.last ∷ h.entries) whole (s.taken.back h.entries whole h.left);
-    boundaries = one_more f s.says h.boundaries;
+    boundaries = one_more f s.reads_as h.boundaries;
   }
 
 -- what is next is neither a boundary nor the ends
-pub neither : {old mid : Reading} (first : Entry) → Takes old mid (first ∷ []) → (Fits boundary_pattern first → LacksShape mid) → (Fits endstr_pattern first → LacksNext mid endlib_pattern) → (all : List Shape) → HasBoundaries old all → ⊥
+pub neither : {old mid : Reading} (first : Entry) → TakesRecords old mid (first ∷ []) → (Fits boundary_pattern first → NoShapeFollows mid) → (Fits endstr_pattern first → DoesNotFollow mid endlib_pattern) → (all : List Shape) → HasBoundaries old all → ⊥
 neither {old} {mid} first t no_shape no_end all h = go h.entries all h.left h.boundaries where
   go : (entries : List Entry) (all : List Shape) → IsLeft old entries whole → AreBoundaries entries all → ⊥
   go entries all left (no_more {last = last} {end = end} fl fe) =
@@ -99,7 +110,7 @@ neither {old} {mid} first t no_shape no_end all h = go h.entries all h.left h.bo
       no_shape (subst (Fits boundary_pattern) a.0 fb) l d p e others whole shape a.1 says
 
 -- the ends were taken
-pub ends : {old mid new : Reading} (first second : Entry) → Takes old mid (first ∷ []) → Fits endstr_pattern first → Takes mid new (second ∷ []) → Fits endlib_pattern second → IsTrue new.ended ↔ IsEndlib second → HasBoundaries old []
+pub ends : {old mid new : Reading} (first second : Entry) → TakesRecords old mid (first ∷ []) → Fits endstr_pattern first → TakesRecords mid new (second ∷ []) → Fits endlib_pattern second → IsTrue new.ended ↔ IsEndlib second → HasBoundaries old []
 ends {old} {mid} {new} first second t f s g e = record {
   entries = first ∷ second ∷ [];
   left = t.back (second ∷ []) whole (s.back [] whole (over new (e.1 g.kind)));
@@ -128,7 +139,7 @@ layout_read {start} bytes shapes e t h = record {
   library = record { head = t.front; boundaries = h.entries; joined = refl; is_head = t.matching; are_boundaries = h.boundaries };
 }
 
-pub no_layout : {start : Reading} (bytes : List ℕ) (shapes : List Shape) → start ≡ start_of bytes → LacksAll start head_patterns → IsLayout bytes shapes → ⊥
+pub no_layout : {start : Reading} (bytes : List ℕ) (shapes : List Shape) → start ≡ start_of bytes → NotAllFollow start head_patterns → IsLayout bytes shapes → ⊥
 no_layout {start} bytes shapes e lacks l =
     let b = l.library in
     lacks b.head b.boundaries whole (subst (λ x. IsLeft start x whole) b.joined (at_start start bytes l.entries e l.split)) b.is_head

@@ -1,159 +1,106 @@
--- verdicts exclude one another
-use Rattle.std.proofs.Common.{ℕ, zero, suc, ◌≡◌, ◌<◌, ◌≤◌, List, ◌∷◌, [], refl, sym, ap, subst, length, arith, codes, inl, inr, ◌⊎◌}
-use Rattle.std.specs.Prelude.{max, Option, Some, None, IfSome, Contains}
-use Rattle.std.proofs.lemmas.Bool.Decides.{leb_tells}
-use Rattle.fault_model.proofs.TallyLaws.{Tally-none}
-use Rattle.fault_model.proofs.TerminalLaws.{no_terminal}
-use Rattle.fault_model.specs.Areas.{cells_of_window}
-use Rattle.critarea_core.specs.Area.{IsShortArea}
-use Rattle.critarea_core.specs.Layout.{IsLayout}
-use Rattle.critarea_core.specs.Report.{Line, report_text}
-use Rattle.critarea_core.specs.Rows.{none, next}
-use Rattle.critarea_core.specs.Run.{IsTold, TellNoOther, IsDue, IsRefusal}
-use Rattle.critarea_core.specs.Verdict.{layout_limit, Verdict, refused, good, IsVerdict, no_request, too_long, not_built, all_good, IsReportOf, status_of}
-use Rattle.critarea_core.specs.Words.{Asks, OneMetal}
-use Rattle.edge_io.specs.declared.whole.ReadError.{ReadError}
-use Rattle.edge_io.specs.declared.whole.ReadError.TheVariants as of_read
-use Rattle.critarea_core.specs.Stops.{stop_of_layout, stop_of_read}
-use Rattle.critarea_core.specs.declared.fault.LayoutFault.{LayoutFault}
-use Rattle.critarea_core.specs.declared.fault.LayoutFault.TheVariants as of_layout
-use Rattle.critarea_core.specs.declared.stop.Stop.{Stop}
-use Rattle.critarea_core.specs.declared.stop.Stop.TheVariants.{Refused}
+-- the verdict, stage by stage: each has one outcome at most, and none can lack one
+use Rattle.std.proofs.Common.{ℕ, ◌≡◌, ◌<◌, ◌≤◌, List, length, refl, sym, ap, subst, ◌∙◌, arith}
+use Rattle.std.specs.Prelude.{Option, Some, None, IsSome, IsSomeAnd}
+use Rattle.first_refusal.specs.Outcomes.{Outcome, value, refused, Reads, reads, lacks, kept, retold, stops, goes_on}
+use Rattle.first_refusal.specs.Laws.{IsUnique, CannotLack}
+use Rattle.first_refusal.proofs.StageLaws.{readings_agree, reading_cannot_lack, retold_agree, retold_cannot_lack, stages_agree, stages_cannot_lack, texts_agree}
+use Rattle.critarea_core.specs.Input.{Input}
+use Rattle.critarea_core.specs.LayerMap.{LayerMap}
+use Rattle.critarea_core.specs.Refusals.{usage, layout_limit, layout_too_long, of_layout_fault}
+use Rattle.critarea_core.specs.Verdict.{Subject, IsShortEnough, IsSubject, WordsComeTo, LayoutComesTo, IsVerdict, LookAtLayout, HasTexts}
+use Rattle.critarea_core.specs.Words.{Task, one_metal, Ask}
+use Rattle.critarea_core.specs.declared.fault.LayoutFault.TheVariants.{OtherForm}
 use Rattle.critarea_core.specs.declared.refusal.Refusal.{Refusal}
-use Rattle.critarea_core.specs.declared.refusal.Refusal.TheVariants.{Usage, TooLong, NotBuilt}
-use Rattle.critarea_core.specs.declared.row.Kind.TheVariants.{Short, Open}
 use Rattle.critarea_core.specs.declared.shape.Shape.{Shape}
+use Rattle.critarea_core.proofs.WordLaws.{tasks_agree}
+use Rattle.critarea_core.proofs.LayoutLaws.{layouts_agree}
 
--- the lines of the one metal
-abbrev pub one_metal_lines : ℕ → ℕ → List Line
-one_metal_lines radius area = record { kind = Short; layer = codes "m"; size = radius; area = area; weight = 1 } ∷ record { kind = Open; layer = codes "m"; size = radius; area = 0; weight = 1 } ∷ []
+-- ---- one outcome at most, a lemma a stage
 
--- the area of shorts makes the report
-pub reported : (request : OneMetal) (shapes : List Shape) (area : ℕ) (text : List ℕ) → IsShortArea request shapes area → text ≡ report_text (one_metal_lines request.radius area) → IsReportOf request shapes text
-reported request shapes area text a e = record {
-  window = a.window;
-  lines = one_metal_lines request.radius area;
-  is_window = rw (max-zero request.radius) a.is_window;
-  are_rows =
-      next (record { kind = refl; name = refl; size = refl; weight = refl; area = a.tally })
-      (next (record { kind = refl; name = refl; size = refl; weight = refl; area = Tally-none (cells_of_window a.window) (λ c among is_open. no_terminal _ _ _ c (λ d h. nothing h) is_open) }) none);
-  is_text = e;
-} where
-  max-zero : (n : ℕ) → max 0 n ≡ n
-  max-zero n = omega arith
+words_agree : (words : List (List ℕ)) → IsUnique (WordsComeTo words)
+words_agree words = readings_agree (Ask words) usage (tasks_agree words)
 
-  nothing : {X : Type 0} {x : X} → Contains [] x → ⊥
-  nothing h = let small = h.1 in absurd (omega arith)
+lengths_agree : (limit : ℕ) (text : List ℕ) → IsUnique (IsShortEnough limit text)
+lengths_agree limit text one other a b = a.is_text ∙ sym b.is_text
 
--- the words name one layout
-same_layout : (words : List (List ℕ)) (one other : OneMetal) → Asks words one → Asks words other → one.layout ≡ other.layout
-same_layout words one other a b = cc (a.words_are, b.words_are)
+subjects_agree : (task : Task) (layout : List ℕ) → IsUnique (IsSubject task layout)
+subjects_agree task layout one other a b =
+    let subject : LayerMap → List Shape → Subject = λ m s. record { layer_map = m; shapes = s } in
+    ap (λ m. subject m one.shapes) (a.mapped ∙ sym b.mapped) ∙ ap (subject other.layer_map) (layouts_agree layout one.shapes other.shapes a.shaped b.shaped)
 
--- two layouts are one where the words name any
-abbrev pub AreSame : List (List ℕ) → List ℕ → List ℕ → Type 0
-AreSame words layout other = (request : OneMetal) → Asks words request → layout ≡ other
+layout_outcomes_agree : (task : Task) (layout : List ℕ) → IsUnique (LayoutComesTo task layout)
+layout_outcomes_agree task layout = stages_agree _ _ (readings_agree (IsShortEnough layout_limit layout) layout_too_long (lengths_agree layout_limit layout))
+    (λ text. retold_agree of_layout_fault (Reads (IsSubject task text) OtherForm) (readings_agree (IsSubject task text) OtherForm (subjects_agree task text)))
 
-pub told_is : (words : List (List ℕ)) (told : List ℕ → Option (List ℕ)) (layout other : List ℕ) → IsTold words told layout → TellNoOther words told other → AreSame words layout other
-told_is words told layout other t n request asks = subst (λ o. IfSome o (λ bytes. bytes ≡ other)) (t request asks) (n request asks)
+pub verdicts_agree : (words : List (List ℕ)) (input : Input) → IsUnique (IsVerdict words input)
+verdicts_agree words input = stages_agree (WordsComeTo words) _ (words_agree words) (λ task. texts_agree (LayoutComesTo task) (layout_outcomes_agree task) input.layout)
 
--- two refusals of one input are one
-pub refusals_agree : (words : List (List ℕ)) (layout layout' : List ℕ) (one other : Refusal) → AreSame words layout layout' → IsVerdict words layout (refused one) → IsVerdict words layout' (refused other) → one ≡ other
-refusals_agree words layout layout' Usage Usage same a b = refl
-refusals_agree words layout layout' TooLong TooLong same a b = refl
-refusals_agree words layout layout' NotBuilt NotBuilt same a b = refl
-refusals_agree words layout layout' Usage TooLong same (no_request no_one) (too_long asks long) = absurd (no_one _ asks)
-refusals_agree words layout layout' Usage NotBuilt same (no_request no_one) (not_built asks short no_shapes) = absurd (no_one _ asks)
-refusals_agree words layout layout' TooLong Usage same (too_long asks long) (no_request no_one) = absurd (no_one _ asks)
-refusals_agree words layout layout' NotBuilt Usage same (not_built asks short no_shapes) (no_request no_one) = absurd (no_one _ asks)
-refusals_agree words layout layout' TooLong NotBuilt same (too_long asks long) (not_built other short no_shapes) = let e = ap length (same _ asks) in absurd (omega arith)
-refusals_agree words layout layout' NotBuilt TooLong same (not_built asks short no_shapes) (too_long other long) = let e = ap length (same _ asks) in absurd (omega arith)
+-- ---- none can lack an outcome
 
--- an input is good or refused
-pub not_both : (words : List (List ℕ)) (layout layout' : List ℕ) (request : OneMetal) (shapes : List Shape) (refusal : Refusal) → AreSame words layout layout' → IsVerdict words layout (good request shapes) → IsVerdict words layout' (refused refusal) → ⊥
-not_both words layout layout' request shapes Usage same (all_good asks short is_layout) (no_request no_one) = no_one _ asks
-not_both words layout layout' request shapes TooLong same (all_good asks short is_layout) (too_long other long) = let e = ap length (same _ asks) in omega arith
-not_both words layout layout' request shapes NotBuilt same (all_good asks short is_layout) (not_built other also no_shapes) = no_shapes shapes (subst (λ b. IsLayout b shapes) (same _ asks) is_layout)
+layout_cannot_lack : (task : Task) (layout : List ℕ) → CannotLack (LayoutComesTo task layout)
+layout_cannot_lack task layout = stages_cannot_lack _ _ (reading_cannot_lack (IsShortEnough layout_limit layout) layout_too_long)
+    (λ text _. retold_cannot_lack of_layout_fault (Reads (IsSubject task text) OtherForm) (reading_cannot_lack (IsSubject task text) OtherForm))
 
-back : (words : List (List ℕ)) (layout other : List ℕ) → AreSame words layout other → AreSame words other layout
-back words layout other same request asks = sym (same request asks)
+asked_for : (words : List (List ℕ)) (task : Task) → WordsComeTo words (value task) → Ask words task
+asked_for words task (reads asked) = asked
 
--- what a run found, against the verdict on the layout that the files tell
-module _ (words : List (List ℕ)) (told : List ℕ → Option (List ℕ)) (layout : List ℕ) (t : IsTold words told layout) where
-  pub due_or_refused : (text : List ℕ) (refusal : Refusal) → IsDue words told text → IsVerdict words layout (refused refusal) → ⊥
-  due_or_refused text refusal d v = not_both words d.layout layout d.request d.shapes refusal (back words layout d.layout (told_is words told layout d.layout t d.no_other)) d.verdict v
+at_text : (text : Option (List ℕ)) (Stage : List ℕ → Outcome Subject Refusal → Type 0) → IsSome text → ((layout : List ℕ) → CannotLack (Stage layout)) → CannotLack (λ outcome. IsSomeAnd text (λ layout. Stage layout outcome))
+at_text (Some layout) Stage there each = each layout
+at_text None Stage there each = cc there
 
-  pub good_or_refused : (request : OneMetal) (shapes : List Shape) (refusal : Refusal) → IsVerdict words layout (good request shapes) → IsRefusal words told refusal → ⊥
-  good_or_refused request shapes refusal v r = not_both words layout r.layout request shapes refusal (told_is words told layout r.layout t r.no_other) v r.verdict
+layout_there : (words : List (List ℕ)) (input : Input) (task : Task) → Ask words task → HasTexts words input → LookAtLayout words input → IsSome input.layout
+layout_there words input (one_metal areas) asked texts looks = (texts (one_metal areas) asked).1 looks
 
-  pub refusal_is : (one other : Refusal) → IsVerdict words layout (refused one) → IsRefusal words told other → one ≡ other
-  refusal_is one other v r = refusals_agree words layout r.layout one other (told_is words told layout r.layout t r.no_other) v r.verdict
+-- where no layout is there and nothing is a verdict, no refusal is one, so the layout is looked at
+pub inputs_have_verdicts : (words : List (List ℕ)) (input : Input) → HasTexts words input → CannotLack (IsVerdict words input)
+inputs_have_verdicts words input texts none = go input.layout refl where
+  go : (layout : Option (List ℕ)) → input.layout ≡ layout → ⊥
+  go (Some layout) e = stages_cannot_lack (WordsComeTo words) _ (reading_cannot_lack (Ask words) usage)
+      (λ task asked. at_text input.layout (LayoutComesTo task) (rw e refl) (layout_cannot_lack task)) none
+  go None e = reading_cannot_lack (Ask words) usage no_words where
+    looks : LookAtLayout words input
+    looks refusal v = none (refused refusal) (subst (λ o. IsVerdict words (record input { layout = o }) (refused refusal)) (sym e) v)
 
--- an input has a verdict, since it is impossible that it has none
-pub has_verdict : (words : List (List ℕ)) (layout : List ℕ) → ((verdict : Verdict) → IsVerdict words layout verdict → ⊥) → ⊥
-has_verdict words layout none_is = none_is (refused Usage) (no_request (λ request asks. elim (leb_tells (length layout) layout_limit) [
-  | inl short ↦ none_is (refused NotBuilt) (not_built asks short.1 (λ shapes is_layout. none_is (good request shapes) (all_good asks short.1 is_layout)))
-  | inr long ↦ none_is (refused TooLong) (too_long asks (let l = long.1 in omega arith))
-]))
+    no_words : (outcome : Outcome Task Refusal) → WordsComeTo words outcome → ⊥
+    no_words (value task) w = let there = layout_there words input task (asked_for words task w) texts looks in cc (e, there)
+    no_words (refused refusal) w = none (refused refusal) (stops w)
 
--- what a file that was not read says of the input
-pub read_refused : (error : ReadError) (stop : Stop) (refusal : Refusal) → stop ≡ stop_of_read error → stop ≡ Refused refusal → (error ≡ of_read.TooLong) × (refusal ≡ TooLong)
-read_refused of_read.Fault stop refusal e f = cc (e, f)
-read_refused of_read.TooLong stop refusal e f = (refl, cc (e, f))
-read_refused of_read.Memory stop refusal e f = cc (e, f)
+-- ---- the verdicts that there are
 
-pub layout_refused : (fault : LayoutFault) (stop : Stop) (refusal : Refusal) → stop ≡ stop_of_layout fault → stop ≡ Refused refusal → (fault ≡ of_layout.Refused) × (refusal ≡ NotBuilt)
-layout_refused of_layout.Refused stop refusal e f = (refl, cc (e, f))
-layout_refused of_layout.Memory stop refusal e f = cc (e, f)
+-- words that ask for nothing
+pub refused_words : (words : List (List ℕ)) (input : Input) → ((task : Task) → Ask words task → ⊥) → IsVerdict words input (refused usage)
+refused_words words input none = stops (lacks none)
 
--- a list longer than a number
-longer : (n : ℕ) → (xs : List ℕ) × (n < length xs)
-longer zero = (0 ∷ [], omega arith)
-longer (suc n) = let xs = longer n in let h = xs.1 in (0 ∷ xs.0, omega arith)
+-- the input of words that name this layout
+abbrev pub with_layout : List ℕ → Input
+with_layout layout = record { map = None; layout = Some layout }
 
-pub refused_usage : (words : List (List ℕ)) (told : List ℕ → Option (List ℕ)) → ((request : OneMetal) → Asks words request → ⊥) → IsRefusal words told Usage
-refused_usage words told no_one = record { layout = []; no_other = λ request asks. absurd (no_one request asks); verdict = no_request no_one }
+module _ (words : List (List ℕ)) (task : Task) (asked : Ask words task) where
+  -- without the layout words that ask for something are not refused
+  pub look_at_layout : (input : Input) → LookAtLayout words input
+  look_at_layout input refusal (stops (lacks none)) = none task asked
+  look_at_layout input refusal (goes_on w next) = next
 
-module _ (words : List (List ℕ)) (told : List ℕ → Option (List ℕ)) (request : OneMetal) (asks : Asks words request) where
-  -- what is told of the one layout that the words name
-  no_other_at : (layout : List ℕ) → IfSome (told request.layout) (λ bytes. bytes ≡ layout) → TellNoOther words told layout
-  no_other_at layout h other also = subst (λ name. IfSome (told name) (λ bytes. bytes ≡ layout)) (same_layout words request other asks also) h
+  module _ (layout : List ℕ) where
+    pub refused_length : layout_limit < length layout → IsVerdict words (with_layout layout) (refused layout_too_long)
+    refused_length long = goes_on (reads asked) (stops (lacks (λ text t. let s = t.short in absurd (omega arith))))
 
-  turned_round : (o : Option (List ℕ)) (bytes : List ℕ) → IfSome o (λ all. bytes ≡ all) → IfSome o (λ all. all ≡ bytes)
-  turned_round None bytes h = tt
-  turned_round (Some all) bytes h = sym h
+    pub refused_form : length layout ≤ layout_limit → ((subject : Subject) → IsSubject task layout subject → ⊥) → IsVerdict words (with_layout layout) (refused (of_layout_fault OtherForm))
+    refused_form short none = goes_on (reads asked) (goes_on {v = layout} (reads (record { is_text = refl; short = short })) (retold (lacks none)))
 
-  pub is_too_long : IfSome (told request.layout) (λ all. layout_limit < length all) → IsRefusal words told TooLong
-  is_too_long h = go (told request.layout) refl h where
-    go : (o : Option (List ℕ)) → told request.layout ≡ o → IfSome o (λ all. layout_limit < length all) → IsRefusal words told TooLong
-    go None e long = let xs = longer layout_limit in record { layout = xs.0; no_other = no_other_at xs.0 (rw e tt); verdict = too_long asks xs.1 }
-    go (Some all) e long = record { layout = all; no_other = no_other_at all (rw e refl); verdict = too_long asks long }
+    pub good_layout : length layout ≤ layout_limit → (subject : Subject) → IsSubject task layout subject → IsVerdict words (with_layout layout) (value subject)
+    good_layout short subject is = goes_on (reads asked) (goes_on {v = layout} (reads (record { is_text = refl; short = short })) (kept (reads is)))
 
-  pub is_not_built : (bytes : List ℕ) → length bytes ≤ layout_limit → IfSome (told request.layout) (λ all. bytes ≡ all) → ((shapes : List Shape) → IsLayout bytes shapes → ⊥) → IsRefusal words told NotBuilt
-  is_not_built bytes short h no_shapes = record { layout = bytes; no_other = no_other_at bytes (turned_round _ bytes h); verdict = not_built asks short no_shapes }
+-- ---- a text more changes no verdict
 
-  pub is_due : (bytes text : List ℕ) (shapes : List Shape) → length bytes ≤ layout_limit → IfSome (told request.layout) (λ all. bytes ≡ all) → IsLayout bytes shapes → IsReportOf request shapes text → IsDue words told text
-  is_due bytes text shapes short h is_layout report = record {
-    layout = bytes;
-    no_other = no_other_at bytes (turned_round _ bytes h);
-    request = request;
-    shapes = shapes;
-    verdict = all_good asks short is_layout;
-    report = report;
-  }
+-- the one input has each text that the other has
+abbrev pub HasTextsOf : List (List ℕ) → Input → Input → Type 0
+HasTextsOf words input more = (task : Task) → Ask words task → (layout : List ℕ) → input.layout ≡ Some layout → more.layout ≡ Some layout
 
--- the statuses of a run
-abbrev pub statuses : List ℕ
-statuses = 0 ∷ 2 ∷ 4 ∷ 5 ∷ 6 ∷ []
+more_text : (text more : Option (List ℕ)) (P : List ℕ → Type 0) → ((layout : List ℕ) → text ≡ Some layout → more ≡ Some layout) → IsSomeAnd text P → IsSomeAnd more P
+more_text None more P same h = absurd h
+more_text (Some layout) more P same h = let e = same layout refl in rw e h
 
-pub fault_is_status : Contains statuses 5
-fault_is_status = (3, omega arith, refl)
-
-pub memory_is_status : Contains statuses 6
-memory_is_status = (4, omega arith, refl)
-
-pub is_status : (refusal : Refusal) (status : ℕ) → (status ≡ status_of refusal) ⊎ ((status ≡ 5) ⊎ (status ≡ 6)) → Contains statuses status
-is_status Usage status (inl e) = (1, omega arith, sym e)
-is_status TooLong status (inl e) = (2, omega arith, sym e)
-is_status NotBuilt status (inl e) = (2, omega arith, sym e)
-is_status refusal status (inr (inl e)) = (3, omega arith, sym e)
-is_status refusal status (inr (inr e)) = (4, omega arith, sym e)
+pub more_input : (words : List (List ℕ)) (input more : Input) (outcome : Outcome Subject Refusal) → HasTextsOf words input more → IsVerdict words input outcome → IsVerdict words more outcome
+more_input words input more outcome same (stops w) = stops w
+more_input words input more outcome same (goes_on {v = task} w next) = goes_on w (more_text input.layout more.layout _ (same task (asked_for words task w)) next)

@@ -1,12 +1,13 @@
 -- the layouts that are read so far: one structure of rectangles
 use Rattle.std.specs.Prelude.{ℕ, List, [], ◌∷◌, ◌++◌, map, ◌≡◌, ◌+◌, ◌*◌}
 use Rattle.std.specs.Int.{w32, cast_signed}
+use Rattle.geo_core.specs.Cells.{IsInLayout}
 use Rattle.geo_core.specs.declared.plane.Point.{Point}
 use Rattle.geo_core.specs.declared.plane.Rect.{Rect}
 use Rattle.gds_records.specs.Spelling.{Entry}
 use Rattle.gds_records.specs.Split.{Splits, whole}
 use Rattle.gds_records.specs.Fields.{item}
-use Rattle.critarea_core.specs.Outline.{GoesRound, IsInLayout}
+use Rattle.critarea_core.specs.Outline.{GoesRound}
 use Rattle.critarea_core.specs.Patterns.{Fits, head_patterns, boundary_pattern, layer_pattern, datatype_pattern, five_points_pattern, endel_pattern, endstr_pattern, endlib_pattern}
 use Rattle.critarea_core.specs.declared.pattern.Pattern.{Pattern}
 use Rattle.critarea_core.specs.declared.shape.Shape.{Shape}
@@ -23,8 +24,8 @@ points_in body = map (point_in body) (0 ∷ 1 ∷ 2 ∷ 3 ∷ 4 ∷ [])
 abbrev pub Outlines : Rect → List ℕ → Type 0
 Outlines rect body = GoesRound rect (points_in body)
 
--- the records behind BOUNDARY say this shape
-pub record Says (layer datatype points last : Entry) (shape : Shape) : Type 0 where
+-- the records behind BOUNDARY read as this shape
+pub record ReadAsShape (layer datatype points last : Entry) (shape : Shape) : Type 0 where
   pub is_layer : Fits layer_pattern layer
   pub is_datatype : Fits datatype_pattern datatype
   pub is_points : Fits five_points_pattern points
@@ -38,7 +39,7 @@ pub record Says (layer datatype points last : Entry) (shape : Shape) : Type 0 wh
 pub data AreBoundaries : List Entry → List Shape → Type 0 where
   no_more : {last end : Entry} → Fits endstr_pattern last → Fits endlib_pattern end → AreBoundaries (last ∷ end ∷ []) []
   one_more : {first layer datatype points last : Entry} {entries : List Entry} {shape : Shape} {shapes : List Shape}
-      → Fits boundary_pattern first → Says layer datatype points last shape → AreBoundaries entries shapes
+      → Fits boundary_pattern first → ReadAsShape layer datatype points last shape → AreBoundaries entries shapes
       → AreBoundaries (first ∷ layer ∷ datatype ∷ points ∷ last ∷ entries) (shape ∷ shapes)
 
 -- the records fit these patterns, one each, in order

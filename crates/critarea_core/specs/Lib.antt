@@ -1,14 +1,25 @@
+-- the words, and the texts that they name
 pub mod Words
-pub mod Report
-pub mod Views
+pub mod Input
+-- the layouts that are read
 pub mod Outline
-pub mod Sides
 pub mod Patterns
 pub mod Layout
-pub mod Taking
+-- what a report is to say, and its text
+pub mod LayerMap
+pub mod Questions
+pub mod FaultKinds
+pub mod Coverage
+pub mod Report
 pub mod Rows
+-- what an input comes to, and a run
+pub mod LayoutFaults
+pub mod Refusals
 pub mod Verdict
-pub mod Window
-pub mod Area
 pub mod Run
-pub mod Stops
+-- what parts of the code alone cite
+pub mod Views
+pub mod Edges
+pub mod Taking
+pub mod Area
+pub mod Finding

@@ -1,5 +1,5 @@
 -- the points of a rectangle's outline
-use Rattle.std.specs.Prelude.{ℕ, List, [], ◌∷◌, ◌++◌, take, drop, reverse, pos, negsuc, ◌<◌, ◌≤ℤ◌, ◌≡◌}
+use Rattle.std.specs.Prelude.{ℕ, List, [], ◌∷◌, ◌++◌, take, drop, reverse, ◌<◌, ◌≡◌}
 use Rattle.geo_core.specs.declared.plane.Point.{Point}
 use Rattle.geo_core.specs.declared.plane.Rect.{Rect}
 
@@ -20,10 +20,3 @@ circuit points = points ++ take 1 points
 pub data GoesRound (rect : Rect) (points : List Point) : Type 0 where
   counterclockwise : (start : ℕ) → start < 4 → points ≡ circuit (rotation start (corners_of rect)) → GoesRound rect points
   clockwise : (start : ℕ) → start < 4 → points ≡ circuit (rotation start (reverse (corners_of rect))) → GoesRound rect points
-
--- each side lies within 1,000,000,000 of 0
-pub record IsInLayout (rect : Rect) : Type 0 where
-  pub left : negsuc 999999999 ≤ℤ rect.x0
-  pub bottom : negsuc 999999999 ≤ℤ rect.y0
-  pub right : rect.x1 ≤ℤ pos 1000000000
-  pub top : rect.y1 ≤ℤ pos 1000000000

@@ -1,86 +1,121 @@
 -- what a run comes to
-use Rattle.std.specs.Prelude.{ℕ, List, ◌≡◌, Option, Some, IfSome}
+use Rattle.std.specs.Prelude.{ℕ, List, [], ◌≡◌, ◌⊎◌, Contains, Option}
+use Rattle.first_refusal.specs.Outcomes as outcome
 use Rattle.edge_io.specs.Bytes.{Appends, AppendsPrefix}
-use Rattle.edge_io.specs.Faults.{Rose}
-use Rattle.critarea_core.specs.Words.{OneMetal, Asks}
-use Rattle.critarea_core.specs.Verdict.{IsVerdict, IsReportOf, refused, good, refusal_text, status_of}
+use Rattle.edge_io.specs.FailureCounts.{Rose}
+use Rattle.critarea_core.specs.Words.{Task, Ask}
+use Rattle.critarea_core.specs.Input.{Input, sources_of, name_of, file_names, IsToldInput, MayBeInput}
+use Rattle.critarea_core.specs.Refusals.{refusal_text}
+use Rattle.critarea_core.specs.Verdict.{Subject, IsVerdict, IsReportOn, LookAtLayout}
 use Rattle.critarea_core.specs.declared.refusal.Refusal.{Refusal}
-use Rattle.critarea_core.specs.declared.shape.Shape.{Shape}
 
--- the files tell that the layout which the words name has these bytes; where the words name none, any bytes serve
-abbrev pub IsTold : List (List ℕ) → (List ℕ → Option (List ℕ)) → List ℕ → Type 0
-IsTold words told layout = (request : OneMetal) → Asks words request → told request.layout ≡ Some layout
+-- Below, `words` are the words of the command line, and `told` gives what a file holds, by its name, where that is told.
 
--- the files tell no other bytes of it: these, or nothing
-abbrev pub TellNoOther : List (List ℕ) → (List ℕ → Option (List ℕ)) → List ℕ → Type 0
-TellNoOther words told layout = (request : OneMetal) → Asks words request → IfSome (told request.layout) (λ bytes. bytes ≡ layout)
+-- the text is the report on the subject that is the verdict on an input which the words may name
+pub record IsReportFor (words : List (List ℕ)) (told : List ℕ → Option (List ℕ)) (text : List ℕ) : Type 0 where
+  pub input : Input
+  pub may_be : MayBeInput words told input
+  pub subject : Subject
+  pub verdict : IsVerdict words input (outcome.value subject)
+  pub report : IsReportOn subject text
 
--- the text is the report that is due: of what the words ask for, on the layout that they name
-pub record IsDue (words : List (List ℕ)) (told : List ℕ → Option (List ℕ)) (text : List ℕ) : Type 0 where
-  pub layout : List ℕ
-  pub no_other : TellNoOther words told layout
-  pub request : OneMetal
-  pub shapes : List Shape
-  pub verdict : IsVerdict words layout (good request shapes)
-  pub report : IsReportOf request shapes text
+-- the refusal is the verdict on an input which the words may name
+pub record IsRefusalFor (words : List (List ℕ)) (told : List ℕ → Option (List ℕ)) (refusal : Refusal) : Type 0 where
+  pub input : Input
+  pub may_be : MayBeInput words told input
+  pub verdict : IsVerdict words input (outcome.refused refusal)
 
--- the refusal is that of the words, or of the layout that they name
-pub record IsRefusal (words : List (List ℕ)) (told : List ℕ → Option (List ℕ)) (refusal : Refusal) : Type 0 where
-  pub layout : List ℕ
-  pub no_other : TellNoOther words told layout
-  pub verdict : IsVerdict words layout (refused refusal)
-
--- the report went out
-pub record Reports (words : List (List ℕ)) (told : List ℕ → Option (List ℕ)) (old new : Option (List ℕ)) : Type 0 where
-  pub text : List ℕ
-  pub due : IsDue words told text
-  pub gained : Appends old new text
-
--- the line of the refusal went out, and the status is that of the refusal
-pub record Refuses (words : List (List ℕ)) (told : List ℕ → Option (List ℕ)) (status : ℕ) (old new : Option (List ℕ)) : Type 0 where
-  pub refusal : Refusal
-  pub applies : IsRefusal words told refusal
-  pub status_is : status_of refusal ≡ status
-  pub gained : Appends old new (refusal_text refusal)
-
--- a count of faults, before and after
-pub record Count : Type 0 where
+-- the count of a device's failures, before the run and after it
+pub record Failures : Type 0 where
   pub before : ℕ
   pub after : ℕ
 
--- the two counts as one
-abbrev pub count : ℕ → ℕ → Count
-count before after = record { before = before; after = after }
+-- both as one
+abbrev pub failures : ℕ → ℕ → Failures
+failures before after = record { before = before; after = after }
 
--- what a sink took, where it tells it, and its count of faults, before and after
-pub record Change : Type 0 where
+-- what an output took, where it tells it, before the run and after it, and its failures
+pub record Output : Type 0 where
   pub before : Option (List ℕ)
   pub after : Option (List ℕ)
-  pub faults : Count
+  pub failures : Failures
 
--- what a sink took and its counts, as one
-abbrev pub change : Option (List ℕ) → Option (List ℕ) → ℕ → ℕ → Change
-change before after faults faults' = record { before = before; after = after; faults = count faults faults' }
+-- all of it as one
+abbrev pub output : Option (List ℕ) → Option (List ℕ) → ℕ → ℕ → Output
+output before after failed_before failed_after = record { before = before; after = after; failures = failures failed_before failed_after }
 
--- the device failed
-abbrev pub HasRisen : Count → Type 0
-HasRisen faults = Rose faults.before faults.after
+-- the device failed: its count rose
+abbrev pub HasRisen : Failures → Type 0
+HasRisen failures = Rose failures.before failures.after
 
 -- the device did not fail
-abbrev pub IsSteady : Count → Type 0
-IsSteady faults = faults.after ≡ faults.before
+abbrev pub IsCalm : Failures → Type 0
+IsCalm failures = failures.after ≡ failures.before
 
--- nothing was written, and nothing failed
-abbrev pub IsIdle : Change → Type 0
-IsIdle sink = (sink.after ≡ sink.before) × IsSteady sink.faults
+-- the output took nothing, and did not fail
+abbrev pub IsIdle : Output → Type 0
+IsIdle out = (out.after ≡ out.before) × IsCalm out.failures
 
--- the sink failed, and a front of the text was written
-abbrev pub FailsIn : Change → List ℕ → Type 0
-FailsIn sink text = HasRisen sink.faults × AppendsPrefix sink.before sink.after text
+-- the output took the text, and did not fail
+abbrev pub Takes : Output → List ℕ → Type 0
+Takes out text = Appends out.before out.after text × IsCalm out.failures
 
--- One device failed, and that was the end: the files before anything was written, or the sink of the report within the
--- report, or that of refusals within the line of the refusal.
-pub data Fails (words : List (List ℕ)) (told : List ℕ → Option (List ℕ)) (files : Count) (out err : Change) : Type 0 where
-  by_files : HasRisen files → IsIdle out → IsIdle err → Fails words told files out err
-  by_out : (text : List ℕ) → IsDue words told text → IsSteady files → FailsIn out text → IsIdle err → Fails words told files out err
-  by_err : (refusal : Refusal) → IsRefusal words told refusal → IsSteady files → FailsIn err (refusal_text refusal) → IsIdle out → Fails words told files out err
+-- the output failed, and took the first part of the text
+abbrev pub FailsWithin : Output → List ℕ → Type 0
+FailsWithin out text = HasRisen out.failures × AppendsPrefix out.before out.after text
+
+-- the words name some file
+abbrev pub NameSomeFile : List (List ℕ) → Type 0
+NameSomeFile words = (task : Task) × (name : List ℕ) × Ask words task × Contains (file_names (sources_of task)) name
+
+-- The run ends with this status. Each case is a line of the table of statuses.
+pub data EndsWith (words : List (List ℕ)) (told : List ℕ → Option (List ℕ)) (files : Failures) (out err : Output) : ℕ → Type 0 where
+  -- the report went out
+  reported : {text : List ℕ} → IsReportFor words told text
+      → IsCalm files → Takes out text → IsIdle err → EndsWith words told files out err 0
+  -- the input is refused, and the line of its first refusal went out
+  refused : {refusal : Refusal} → IsRefusalFor words told refusal
+      → IsCalm files → IsIdle out → Takes err (refusal_text refusal) → EndsWith words told files out err refusal.status
+  -- the files failed
+  files_failed : NameSomeFile words
+      → HasRisen files → IsIdle out → IsIdle err → EndsWith words told files out err 5
+  -- the output of the report failed
+  report_cut_short : {text : List ℕ} → IsReportFor words told text
+      → IsCalm files → FailsWithin out text → IsIdle err → EndsWith words told files out err 5
+  -- the output of the refusal failed
+  refusal_cut_short : {refusal : Refusal} → IsRefusalFor words told refusal
+      → IsCalm files → IsIdle out → FailsWithin err (refusal_text refusal) → EndsWith words told files out err 5
+  -- no memory was left
+  out_of_memory : IsCalm files → IsIdle out → IsIdle err → EndsWith words told files out err 6
+
+-- a report is due: the input that the files tell is good
+pub record IsReportDue (words : List (List ℕ)) (told : List ℕ → Option (List ℕ)) : Type 0 where
+  pub input : Input
+  pub is_told : IsToldInput words told input
+  pub subject : Subject
+  pub verdict : IsVerdict words input (outcome.value subject)
+
+-- this refusal is due: it is that of the input that the files tell
+pub record IsRefusalDue (words : List (List ℕ)) (told : List ℕ → Option (List ℕ)) (refusal : Refusal) : Type 0 where
+  pub input : Input
+  pub is_told : IsToldInput words told input
+  pub verdict : IsVerdict words input (outcome.refused refusal)
+
+-- what is due comes out, or no memory was left, unless a device failed on the way
+pub record IsComplete (words : List (List ℕ)) (told : List ℕ → Option (List ℕ)) (files : Failures) (out err : Output) (status : ℕ) : Type 0 where
+  pub report : IsReportDue words told → (HasRisen files → ⊥) → (HasRisen out.failures → ⊥) → (status ≡ 0) ⊎ (status ≡ 6)
+  pub refusal : (refusal : Refusal) → IsRefusalDue words told refusal → (HasRisen files → ⊥) → (HasRisen err.failures → ⊥) → (status ≡ refusal.status) ⊎ (status ≡ 6)
+
+-- the names of files that a run starts, in order: none; the map's, where there is one; or the layout's behind it, where
+-- an input which the words may name is not refused before its layout is looked at
+pub data MayBeStarted (words : List (List ℕ)) (told : List ℕ → Option (List ℕ)) : List (List ℕ) → Type 0 where
+  no_file : MayBeStarted words told []
+  map_file : (task : Task) → Ask words task → MayBeStarted words told (name_of (sources_of task).map)
+  both_files : (task : Task) (input : Input) → Ask words task → MayBeInput words told input → LookAtLayout words input
+      → MayBeStarted words told (file_names (sources_of task))
+
+-- such names were started, and no others
+pub record StartsNamed (words : List (List ℕ)) (told : List ℕ → Option (List ℕ)) (before after : Option (List (List ℕ))) : Type 0 where
+  pub names : List (List ℕ)
+  pub may_be : MayBeStarted words told names
+  pub started : Appends before after names

@@ -1,70 +1,58 @@
--- the verdict on words and on the layout that they name
-use Rattle.std.specs.Prelude.{ℕ, suc, zero, List, [], ◌∷◌, ◌≡◌, ◌≤◌, ◌<◌, length, Contains, codes}
-use Rattle.std.specs.Fmt.{decimal}
-use Rattle.std.specs.List.{concat}
-use Rattle.geo_core.specs.Cells.{Has}
-use Rattle.geo_core.specs.declared.plane.Cell.{Cell}
-use Rattle.critarea_core.specs.Words.{OneMetal, Asks}
+-- the verdict on words and on the input that they name: the first refusal, or what a report is on
+use Rattle.std.specs.Prelude.{ℕ, List, ◌≡◌, ◌≤◌, length, None, IsSomeAnd}
+use Rattle.first_refusal.specs.Outcomes.{Outcome, refused, Reads, Retold, Then}
+use Rattle.critarea_core.specs.Words.{Task, one_metal, Ask}
+use Rattle.critarea_core.specs.Input.{Input, IsThere, sources_of}
 use Rattle.critarea_core.specs.Layout.{IsLayout}
-use Rattle.critarea_core.specs.Rows.{IsReport, one_metal}
-use Rattle.critarea_core.specs.declared.shape.Shape.{Shape}
+use Rattle.critarea_core.specs.LayerMap.{LayerMap, one_metal_map}
+use Rattle.critarea_core.specs.Coverage.{coverage_of}
+use Rattle.critarea_core.specs.Rows.{IsReport}
+use Rattle.critarea_core.specs.Refusals.{usage, layout_limit, layout_too_long, of_layout_fault}
+use Rattle.critarea_core.specs.declared.fault.LayoutFault.TheVariants.{OtherForm}
 use Rattle.critarea_core.specs.declared.refusal.Refusal.{Refusal}
-use Rattle.critarea_core.specs.declared.refusal.Refusal.TheVariants.{Usage, TooLong, NotBuilt}
+use Rattle.critarea_core.specs.declared.shape.Shape.{Shape}
 
--- the most bytes that a layout may have
-abbrev pub layout_limit : ℕ
-layout_limit = 268435456
+-- what a report is on: the layer map, and the shapes of the layout
+pub record Subject : Type 0 where
+  pub layer_map : LayerMap
+  pub shapes : List Shape
 
--- the number of a refusal
-abbrev pub number_of : Refusal → ℕ
-number_of Usage = 2
-number_of TooLong = 9
-number_of NotBuilt = 60
+-- the layer map of the task: for the areas of one metal it needs no text
+abbrev pub map_of : Task → LayerMap
+map_of (one_metal areas) = one_metal_map areas
 
--- where the input shows it
-abbrev pub place_of : Refusal → ℕ
-place_of Usage = 0
-place_of TooLong = layout_limit
-place_of NotBuilt = 0
+-- the text is good so far, since it has at most so many bytes
+pub record IsShortEnough (limit : ℕ) (text same : List ℕ) : Type 0 where
+  pub is_text : same ≡ text
+  pub short : length text ≤ limit
 
--- the exit status that goes with it
-abbrev pub status_of : Refusal → ℕ
-status_of Usage = 2
-status_of TooLong = 4
-status_of NotBuilt = 4
+-- the subject has the layer map of the task, and the shapes of the layout
+pub record IsSubject (task : Task) (layout : List ℕ) (subject : Subject) : Type 0 where
+  pub mapped : subject.layer_map ≡ map_of task
+  pub shaped : IsLayout layout subject.shapes
 
--- the line that is printed for it
-abbrev pub refusal_text : Refusal → List ℕ
-refusal_text refusal = concat (codes "error " ∷ decimal (number_of refusal) ∷ codes " at " ∷ decimal (place_of refusal) ∷ codes "\n" ∷ [])
+-- the words: a task, or they ask for nothing
+abbrev pub WordsComeTo : List (List ℕ) → Outcome Task Refusal → Type 0
+WordsComeTo words = Reads (Ask words) usage
 
--- a shape of the layer and datatype that are asked for has the cell
-pub record CoversOn (request : OneMetal) (shapes : List Shape) (c : Cell) : Type 0 where
-  pub shape : Shape
-  pub among : Contains shapes shape
-  pub layer : shape.layer ≡ request.layer
-  pub datatype : shape.datatype ≡ request.datatype
-  pub has : Has shape.rect c
+-- the layout: first its length, and then its form
+abbrev pub LayoutComesTo : Task → List ℕ → Outcome Subject Refusal → Type 0
+LayoutComesTo task layout =
+    Then (Reads (IsShortEnough layout_limit layout) layout_too_long) (λ text. Retold of_layout_fault (Reads (IsSubject task text) OtherForm))
 
--- what each layer covers: the one metal has number 0, and there is no other
-abbrev pub layers_of : OneMetal → List Shape → ℕ → Cell → Type 0
-layers_of request shapes zero c = CoversOn request shapes c
-layers_of request shapes (suc number) c = ⊥
+-- the verdict: first the words, and then the layout, which is looked at only where the words are good
+abbrev pub IsVerdict : List (List ℕ) → Input → Outcome Subject Refusal → Type 0
+IsVerdict words input = Then (WordsComeTo words) (λ task outcome. IsSomeAnd input.layout (λ layout. LayoutComesTo task layout outcome))
 
--- what words and a layout come to: a refusal, or what is asked for and the shapes that are there
-pub data Verdict : Type 0 where
-  refused : Refusal → Verdict
-  good : OneMetal → List Shape → Verdict
+-- the layout is looked at: whatever is refused, the layout is at fault
+abbrev pub LookAtLayout : List (List ℕ) → Input → Type 0
+LookAtLayout words input = (refusal : Refusal) → IsVerdict words (record input { layout = None }) (refused refusal) → ⊥
 
--- The verdict on words and on the bytes of the layout that they name. Of the refusals it is the first that applies, in
--- the order in which they stand here.
-pub data IsVerdict (words : List (List ℕ)) (layout : List ℕ) : Verdict → Type 0 where
-  no_request : ((request : OneMetal) → Asks words request → ⊥) → IsVerdict words layout (refused Usage)
-  too_long : {request : OneMetal} → Asks words request → layout_limit < length layout → IsVerdict words layout (refused TooLong)
-  not_built : {request : OneMetal} → Asks words request → length layout ≤ layout_limit → ((shapes : List Shape) → IsLayout layout shapes → ⊥)
-      → IsVerdict words layout (refused NotBuilt)
-  all_good : {request : OneMetal} {shapes : List Shape} → Asks words request → length layout ≤ layout_limit → IsLayout layout shapes
-      → IsVerdict words layout (good request shapes)
+-- the input has each text that the words name and that is looked at
+abbrev pub HasTexts : List (List ℕ) → Input → Type 0
+HasTexts words input =
+    (task : Task) → Ask words task → IsThere (sources_of task).map input.map × (LookAtLayout words input → IsThere (sources_of task).layout input.layout)
 
--- the report of these shapes, as they were asked for
-abbrev pub IsReportOf : OneMetal → List Shape → List ℕ → Type 0
-IsReportOf request shapes = IsReport (one_metal request.radius) (layers_of request shapes)
+-- the text is the report on the subject
+abbrev pub IsReportOn : Subject → List ℕ → Type 0
+IsReportOn subject = IsReport subject.layer_map (coverage_of subject.layer_map subject.shapes)

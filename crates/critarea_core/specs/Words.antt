@@ -1,6 +1,7 @@
 -- what the words of a command line ask for
 use Rattle.std.specs.Prelude.{ℕ, List, [], ◌∷◌, ◌≡◌, ◌≢◌, ◌≤◌, ◌<◌, length, codes, slice_get, Some}
 use Rattle.std.specs.Str.Parse.{IsNumeral, digits_value}
+use Rattle.geo_core.specs.Bounds.{IsRadius}
 
 -- the text is 1 to 10 decimal digits, and this is their number
 pub record IsNumber (text : List ℕ) (n : ℕ) : Type 0 where
@@ -19,7 +20,7 @@ pub record IsFileWord (word : List ℕ) : Type 0 where
   pub some : 0 < length word
   pub no_dash : slice_get word 0 ≢ Some 45
 
--- the areas of one metal, which is all shapes of one layer and datatype, for defects of one half-side
+-- the areas of one metal, which is all shapes of one layer and datatype, for defects of one radius
 pub record OneMetal : Type 0 where
   pub layout : List ℕ
   pub layer : ℕ
@@ -27,12 +28,21 @@ pub record OneMetal : Type 0 where
   pub radius : ℕ
 
 -- the words ask for the areas of one metal: a file, and three options in this order
-pub record Asks (words : List (List ℕ)) (request : OneMetal) : Type 0 where
+pub record AskOneMetal (words : List (List ℕ)) (areas : OneMetal) : Type 0 where
   pub layer_text : List ℕ
   pub datatype_text : List ℕ
   pub radius_text : List ℕ
-  pub words_are : words ≡ request.layout ∷ codes "--layer" ∷ layer_text ∷ codes "--datatype" ∷ datatype_text ∷ codes "--radius" ∷ radius_text ∷ []
-  pub layout : IsFileWord request.layout
-  pub layer : IsNumberFrom 0 65535 layer_text request.layer
-  pub datatype : IsNumberFrom 0 65535 datatype_text request.datatype
-  pub radius : IsNumberFrom 1 1000000 radius_text request.radius
+  pub words_are : words ≡ areas.layout ∷ codes "--layer" ∷ layer_text ∷ codes "--datatype" ∷ datatype_text ∷ codes "--radius" ∷ radius_text ∷ []
+  pub layout : IsFileWord areas.layout
+  pub layer : IsNumberFrom 0 65535 layer_text areas.layer
+  pub datatype : IsNumberFrom 0 65535 datatype_text areas.datatype
+  pub radius : IsNumber radius_text areas.radius
+  pub is_radius : IsRadius areas.radius
+
+-- what words can ask for
+pub data Task : Type 0 where
+  one_metal : OneMetal → Task
+
+-- the words ask for this
+abbrev pub Ask : List (List ℕ) → Task → Type 0
+Ask words (one_metal areas) = AskOneMetal words areas

@@ -1,23 +1,28 @@
-ghost use Rattle.std.specs.Prelude.{◌≡◌, ◌+◌, ◌<◌, ◌≤◌, ◌^◌, ◌==◌, ◌&&◌, [], All, IfOk, length, map, filter};
+ghost use Rattle.std.specs.Prelude.{◌≡◌, ◌+◌, ◌<◌, ◌≤◌, ◌^◌, [], All, IfOk, map, filter};
 ghost use Rattle.std.specs.List.{zip};
-ghost use Rattle.fault_model.specs.Areas.{Tally, cells_of};
+ghost use Rattle.geo_core.specs.Bounds.{IsRadius};
+ghost use Rattle.geo_core.specs.Cells.{IsInLayout};
+ghost use Rattle.fault_model.specs.Areas.{Tally, cells_of, cells_of_window};
 ghost use Rattle.fault_model.specs.Chains.{IsInUnion};
 ghost use Rattle.fault_model.specs.Faults.{IsShort};
-ghost use Rattle.critarea_core.specs.Area.{IsShortArea, piece_of, rect_of, is_asked};
-ghost use Rattle.critarea_core.specs.Outline.{IsInLayout};
+ghost use Rattle.critarea_core.specs.Area.{is_asked, piece_of, shape_rect};
 ghost use Rattle.critarea_core.specs.Views.{asked_by};
 
 use super::request::Request;
 use super::shape::Shape;
-use super::window::bounds;
-use geo_core::{Labelled, NoMemory, Rect, grow};
+use geo_core::{Labelled, NoMemory, Rect};
 use islands::label;
 use short_area::short_area;
 use std::alloc::Global;
 
 /// The rectangles on the layer and datatype that are asked for.
-fn rects_on(alloc: Global, shapes: &[Shape], request: &Request<'_>) -> Result<Vec<Rect>, NoMemory>
-    ensures { IfOk result (λ rects. rects.items ≡ map rect_of (filter (is_asked (asked_by request.now)) shapes.now)) }
+pub fn rects_on(
+    alloc: Global,
+    shapes: &[Shape],
+    request: &Request<'_>,
+) -> Result<Vec<Rect>, NoMemory>
+    ensures asked { IfOk result (λ rects. rects.items ≡ map shape_rect (filter (is_asked (asked_by request.now)) shapes.now)) }
+    ensures within { IfOk result (λ rects. All IsInLayout rects.items) }
 {
     let layer = request.layer;
     let datatype = request.datatype;
@@ -48,8 +53,7 @@ fn with_labels(alloc: Global, rects: &[Rect], labels: &[usize]) -> Result<Vec<La
 
 /// How many cells of the window are the centre of a defect that touches two islands of the rectangles.
 fn shorts(alloc: Global, rects: &[Rect], window: Rect, radius: u32) -> Result<u64, NoMemory>
-    requires low { 1 ≤ radius }
-    requires high { radius ≤ 1000000 }
+    requires { IsRadius radius }
     ensures tally { IfOk result (λ n. Tally (IsShort (λ _. IsInUnion rects.now) [] 0 (radius + radius)) (cells_of window) n) }
     ensures small { IfOk result (λ n. n < 2 ^ 63) }
 {
@@ -58,19 +62,21 @@ fn shorts(alloc: Global, rects: &[Rect], window: Rect, radius: u32) -> Result<u6
     short_area(alloc, pieces.as_slice(), window, radius)
 }
 
-/// The area of shorts of the shapes that are asked for.
+/// The area of shorts of the rectangles, as one metal: how many cells of the window, where there is one, are the centre
+/// of a defect that touches two islands.
 pub fn area_of_shorts(
     alloc: Global,
-    shapes: &[Shape],
-    request: &Request<'_>,
+    rects: &[Rect],
+    window: Option<Rect>,
+    radius: u32,
 ) -> Result<u64, NoMemory>
-    ensures area { IfOk result (λ n. IsShortArea (asked_by request.now) shapes.now n) }
+    requires { IsRadius radius }
+    ensures tally { IfOk result (λ n.
+        Tally (IsShort (λ _. IsInUnion rects.now) [] 0 (radius + radius)) (cells_of_window window) n) }
     ensures small { IfOk result (λ n. n < 2 ^ 63) }
 {
-    let rects = rects_on(alloc, shapes, request)?;
-    let Some(bounds) = bounds(rects.as_slice()) else {
-        return Ok(0);
-    };
-    let window = grow(bounds, request.radius as i32);
-    shorts(alloc, rects.as_slice(), window, request.radius)
+    match window {
+        None => Ok(0),
+        Some(window) => shorts(alloc, rects, window, radius),
+    }
 }

@@ -1,15 +1,14 @@
-ghost use Rattle.std.specs.Prelude.{◌≡◌, ◌↔◌, IsTrue, ◌^◌, ◌<◌, ◌≤◌, List, [], ◌∷◌, length, IfOk, IfSome, IfNone, Err, OnSome, MatchBool, MatchOption};
-ghost use Rattle.gds_records.specs.Reading.{said_by};
-ghost use Rattle.gds_records.specs.Spelling.{IsEndlib};
+ghost use Rattle.std.specs.Prelude.{◌≡◌, ◌^◌, ◌<◌, List, length, IfOk, IfSome, IfNone, Err, MatchBool, MatchOption};
+ghost use Rattle.geo_core.specs.Cells.{IsInLayout};
+ghost use Rattle.geo_core.specs.declared.plane.Rect.{Rect};
+ghost use Rattle.gds_records.specs.Reading.{entry_of};
 ghost use Rattle.critarea_core.specs.Patterns.{Fits, five_points_pattern, head_patterns};
 ghost use Rattle.critarea_core.specs.Layout.{IsLayout, Outlines, point_in};
-ghost use Rattle.critarea_core.specs.Outline.{IsInLayout};
-ghost use Rattle.geo_core.specs.declared.plane.Rect.{Rect};
-ghost use Rattle.critarea_core.specs.Taking.{HasBoundaries, LacksAll, LacksNext, LacksShape, StepsOver, Takes, TakesAll, TakesShape};
-ghost use Rattle.critarea_core.specs.declared.fault.LayoutFault.TheVariants.{Refused};
+ghost use Rattle.critarea_core.specs.Taking.{DoesNotFollow, HasBoundaries, NoShapeFollows, NotAllFollow, StepsOver, TakesAll, TakesRecord, TakesShape};
+ghost use Rattle.critarea_core.specs.declared.fault.LayoutFault.TheVariants.{OtherForm};
 ghost use Rattle.critarea_core.specs.declared.shape.Shape.{Shape};
 
-use super::fault::{LayoutFault, NotBuilt};
+use super::fault::{LayoutFault, Misfit};
 use super::outline::outlined;
 use super::pattern::{
     BOUNDARY, DATATYPE, ENDEL, ENDLIB, ENDSTR, FIVE_POINTS, HEAD, LAYER, Pattern,
@@ -19,15 +18,10 @@ use gds_records::{Record, Records, i32_at, u16_at};
 use geo_core::{Point, Rect};
 use std::alloc::Global;
 
-/// Takes the next record, and gives it where it fits the pattern. Where it does not, the reader may have moved on.
+/// TakesRecords the next record, and gives it where it fits the pattern. Where it does not, the reader may have moved on.
 fn take<'a>(records: &mut Records<'a>, pattern: &Pattern) -> Option<Record<'a>>
-    ensures some { IfSome result (λ r. Fits pattern.now (said_by r)) }
-    ensures taken { IfSome result (λ r. Takes records.old records.new (said_by r ∷ [])) }
-    ensures none { IfNone result (LacksNext records.old pattern.now) }
-    ensures ends { IfSome result (λ r. IsTrue records.new.ended ↔ IsEndlib (said_by r)) }
-    ensures bytes { records.new.bytes ≡ records.old.bytes }
-    ensures onward { IfSome result (λ r. records.old.at ≤ records.new.at) }
-    ensures within { IfSome result (λ r. records.new.at ≤ length records.new.bytes) }
+    ensures some { IfSome result (TakesRecord records.old records.new pattern.now) }
+    ensures none { IfNone result (DoesNotFollow records.old pattern.now) }
 {
     let Ok(Some(found)) = records.next() else {
         return None;
@@ -38,9 +32,9 @@ fn take<'a>(records: &mut Records<'a>, pattern: &Pattern) -> Option<Record<'a>>
     Some(found)
 }
 
-/// Takes the head of the library and of its structure, and answers whether it was there.
+/// TakesRecords the head of the library and of its structure, and answers whether it was there.
 fn take_head(records: &mut Records<'_>) -> bool
-    ensures { MatchBool result (TakesAll records.old records.new head_patterns) (LacksAll records.old head_patterns) }
+    ensures { MatchBool result (TakesAll records.old records.new head_patterns) (NotAllFollow records.old head_patterns) }
 {
     for pattern in &HEAD {
         let Some(_taken) = take(records, pattern) else {
@@ -52,7 +46,7 @@ fn take_head(records: &mut Records<'_>) -> bool
 
 /// Point `k` of a body of points.
 fn point(points: &Record<'_>, k: usize) -> Point
-    requires points { Fits five_points_pattern (said_by points.now) }
+    requires points { Fits five_points_pattern (entry_of points.now) }
     requires few { k < 5 }
     ensures { result ≡ point_in points.now.body.now k }
 {
@@ -62,9 +56,9 @@ fn point(points: &Record<'_>, k: usize) -> Point
     }
 }
 
-/// The rectangle that five points go round, where there is one within a layout.
-fn rect_of(points: &Record<'_>) -> Option<Rect>
-    requires { Fits five_points_pattern (said_by points.now) }
+/// The rectangle that the five points of a body go round, where there is one within a layout.
+fn outlined_by(points: &Record<'_>) -> Option<Rect>
+    requires { Fits five_points_pattern (entry_of points.now) }
     ensures some { IfSome result (λ r. Outlines r points.now.body.now) }
     ensures within { IfSome result IsInLayout }
     ensures none { IfNone result ((r : Rect) → Outlines r points.now.body.now → IsInLayout r → ⊥) }
@@ -78,28 +72,15 @@ fn rect_of(points: &Record<'_>) -> Option<Rect>
     )
 }
 
-/// Takes the records of a rectangle behind BOUNDARY.
+/// TakesRecords the records of a rectangle behind BOUNDARY.
 fn take_shape(records: &mut Records<'_>) -> Option<Shape>
-    ensures shape { MatchOption result (LacksShape records.old) (λ shape. TakesShape records.old records.new shape) }
-    ensures bytes { records.new.bytes ≡ records.old.bytes }
-    ensures onward { OnSome result (records.old.at ≤ records.new.at) }
-    ensures within { OnSome result (records.new.at ≤ length records.new.bytes) }
+    ensures { MatchOption result (NoShapeFollows records.old) (TakesShape records.old records.new) }
 {
-    let Some(layer) = take(records, &LAYER) else {
-        return None;
-    };
-    let Some(datatype) = take(records, &DATATYPE) else {
-        return None;
-    };
-    let Some(points) = take(records, &FIVE_POINTS) else {
-        return None;
-    };
-    let Some(_last) = take(records, &ENDEL) else {
-        return None;
-    };
-    let Some(rect) = rect_of(&points) else {
-        return None;
-    };
+    let layer = take(records, &LAYER)?;
+    let datatype = take(records, &DATATYPE)?;
+    let points = take(records, &FIVE_POINTS)?;
+    let _last = take(records, &ENDEL)?;
+    let rect = outlined_by(&points)?;
     Some(Shape {
         layer: u16_at(&layer, 0),
         datatype: u16_at(&datatype, 0),
@@ -109,26 +90,23 @@ fn take_shape(records: &mut Records<'_>) -> Option<Shape>
 
 /// Whether the records that follow are boundaries of rectangles and then the ends, one step at a time: the next
 /// rectangle, or `None` where the ends were taken.
-fn next_shape(records: &mut Records<'_>) -> Result<Option<Shape>, NotBuilt>
-    ensures step { StepsOver records.old records.new result }
-    ensures bytes { records.new.bytes ≡ records.old.bytes }
-    ensures onward { IfOk result (λ o. OnSome o (records.old.at < records.new.at)) }
-    ensures within { IfOk result (λ o. OnSome o (records.new.at ≤ length records.new.bytes)) }
+fn next_shape(records: &mut Records<'_>) -> Result<Option<Shape>, Misfit>
+    ensures { StepsOver records.old records.new result }
 {
     let Ok(Some(found)) = records.next() else {
-        return Err(NotBuilt);
+        return Err(Misfit);
     };
     if BOUNDARY.fits(&found) {
         let Some(shape) = take_shape(records) else {
-            return Err(NotBuilt);
+            return Err(Misfit);
         };
         return Ok(Some(shape));
     }
     if !ENDSTR.fits(&found) {
-        return Err(NotBuilt);
+        return Err(Misfit);
     }
     let Some(_end) = take(records, &ENDLIB) else {
-        return Err(NotBuilt);
+        return Err(Misfit);
     };
     Ok(None)
 }
@@ -136,7 +114,7 @@ fn next_shape(records: &mut Records<'_>) -> Result<Option<Shape>, NotBuilt>
 /// The shapes of the boundaries that follow, up to the ends of the structure and of the library.
 fn shapes_of(alloc: Global, records: &mut Records<'_>) -> Result<Vec<Shape>, LayoutFault>
     ensures shapes { IfOk result (λ shapes. HasBoundaries records.old shapes.items) }
-    ensures refused { result ≡ Err Refused → (shapes : List Shape) → HasBoundaries records.old shapes → ⊥ }
+    ensures refused { result ≡ Err OtherForm → (shapes : List Shape) → HasBoundaries records.old shapes → ⊥ }
 {
     let mut shapes = Vec::new(alloc);
     while let Some(shape) = next_shape(records)? {
@@ -149,11 +127,11 @@ fn shapes_of(alloc: Global, records: &mut Records<'_>) -> Result<Vec<Shape>, Lay
 pub fn read_layout(alloc: Global, bytes: &[u8]) -> Result<Vec<Shape>, LayoutFault>
     requires { length bytes.now < 2 ^ 32 }
     ensures shapes { IfOk result (λ shapes. IsLayout bytes.now shapes.items) }
-    ensures refused { result ≡ Err Refused → (shapes : List Shape) → IsLayout bytes.now shapes → ⊥ }
+    ensures refused { result ≡ Err OtherForm → (shapes : List Shape) → IsLayout bytes.now shapes → ⊥ }
 {
     let mut records = Records::new(bytes);
     if !take_head(&mut records) {
-        return Err(LayoutFault::Refused);
+        return Err(LayoutFault::OtherForm);
     }
     shapes_of(alloc, &mut records)
 }

@@ -1,16 +1,14 @@
 ghost use Rattle.std.specs.Prelude.{◌≡◌, ◌↔◌, [], ◌∷◌, IsTrue, IfSome, IfNone};
-ghost use Rattle.critarea_core.specs.Outline.{GoesRound, IsInLayout};
-ghost use Rattle.critarea_core.specs.Sides.{FollowSides};
+ghost use Rattle.geo_core.specs.Cells.{IsInLayout};
+ghost use Rattle.critarea_core.specs.Outline.{GoesRound};
+ghost use Rattle.critarea_core.specs.Edges.{FollowEdges};
 ghost use Rattle.geo_core.specs.declared.plane.Rect.{Rect};
 
-use geo_core::{Point, Rect};
-
-/// The greatest amount that a coordinate of a layout may have.
-const FARTHEST: i32 = 1_000_000_000;
+use geo_core::{FARTHEST, Point, Rect};
 
 /// Whether neighbours among the points have one coordinate in common, in turns.
-fn follow_sides(a: Point, b: Point, c: Point, d: Point) -> bool
-    ensures { IsTrue result ↔ FollowSides a b c d }
+fn follow_edges(a: Point, b: Point, c: Point, d: Point) -> bool
+    ensures { IsTrue result ↔ FollowEdges a b c d }
 {
     let along_x_first = a.y == b.y && b.x == c.x && c.y == d.y && d.x == a.x;
     let along_y_first = a.x == b.x && b.y == c.y && c.x == d.x && d.y == a.y;
@@ -44,7 +42,7 @@ pub fn outlined(a: Point, b: Point, c: Point, d: Point, e: Point) -> Option<Rect
     if e.x != a.x || e.y != a.y {
         return None;
     }
-    if !follow_sides(a, b, c, d) {
+    if !follow_edges(a, b, c, d) {
         return None;
     }
     rect_within(a.x.min(c.x), a.y.min(c.y), a.x.max(c.x), a.y.max(c.y))

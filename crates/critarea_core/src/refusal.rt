@@ -1,54 +1,49 @@
-ghost use Rattle.std.specs.Prelude.{◌≡◌, IfOk, string_bytes};
-
 use geo_core::NoMemory;
 use std::alloc::Global;
 
 /// The most bytes that a layout may have.
 pub const LAYOUT_LIMIT: usize = 268_435_456;
 
-/// Why the input is refused.
+/// The number of words that ask for nothing.
+pub const USAGE: u8 = 2;
+
+/// The number of a layout that has more bytes.
+pub const TOO_LONG: u8 = 9;
+
+/// Why the input is refused, as it is printed, with the exit status that goes with it.
 #[derive(Clone, Copy, Debug, PartialEq, Eq)]
-pub enum Refusal {
-    /// The words do not fit.
-    Usage,
-    /// The layout has more than `LAYOUT_LIMIT` bytes.
-    TooLong,
-    /// The layout is of a form that is not read yet.
-    NotBuilt,
+pub struct Refusal {
+    /// 2 for words, 4 for layouts.
+    pub status: u8,
+    /// Which rule the input breaks.
+    pub number: u8,
+    /// Where the input shows it: an offset in bytes, or a limit on a length, or 0.
+    pub place: u64,
 }
 
 impl Refusal {
     ghost use Rattle.std.specs.Prelude.{◌≡◌, IfOk, string_bytes};
-    ghost use Rattle.critarea_core.specs.Verdict.{number_of, place_of, refusal_text, status_of};
+    ghost use Rattle.critarea_core.specs.Refusals.{of_layout, of_words, refusal_text};
 
-    /// Its number.
-    pub fn number(&self) -> u8
-        ensures { result ≡ number_of self.now }
+    /// A refusal of the words.
+    pub fn of_words(number: u8, place: u64) -> Refusal
+        ensures { result ≡ of_words number place }
     {
-        match self {
-            Refusal::Usage => 2,
-            Refusal::TooLong => 9,
-            Refusal::NotBuilt => 60,
+        Refusal {
+            status: 2,
+            number,
+            place,
         }
     }
 
-    /// Where the input shows it: a limit on its length, or 0.
-    pub fn place(&self) -> usize
-        ensures { result ≡ place_of self.now }
+    /// A refusal of the layout.
+    pub fn of_layout(number: u8, place: u64) -> Refusal
+        ensures { result ≡ of_layout number place }
     {
-        match self {
-            Refusal::Usage | Refusal::NotBuilt => 0,
-            Refusal::TooLong => LAYOUT_LIMIT,
-        }
-    }
-
-    /// The exit status that goes with it: 2 for words, 4 for layouts.
-    pub fn status(&self) -> u8
-        ensures { result ≡ status_of self.now }
-    {
-        match self {
-            Refusal::Usage => 2,
-            Refusal::TooLong | Refusal::NotBuilt => 4,
+        Refusal {
+            status: 4,
+            number,
+            place,
         }
     }
 
@@ -56,6 +51,8 @@ impl Refusal {
     pub fn line(&self, alloc: Global) -> Result<String, NoMemory>
         ensures { IfOk result (λ text. string_bytes text ≡ refusal_text self.now) }
     {
-        Ok(format!(in alloc; "error {} at {}\n", self.number(), self.place())?)
+        let number = self.number;
+        let place = self.place;
+        Ok(format!(in alloc; "error {number} at {place}\n")?)
     }
 }

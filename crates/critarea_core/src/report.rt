@@ -1,7 +1,7 @@
-ghost use Rattle.std.specs.Prelude.{◌≡◌, Some, ◌*◌, ◌^◌, ◌<◌, ◌≤◌, IfOk, OnOk, ◌++◌, map, length, string_bytes};
+ghost use Rattle.std.specs.Prelude.{◌≡◌, codes, Some, ◌*◌, ◌^◌, ◌<◌, ◌≤◌, IfOk, OnOk, ◌++◌, map, length, string_bytes};
 ghost use Rattle.std.specs.List.{flat_map};
 ghost use Rattle.critarea_core.specs.Report.{report_text, line_text, product, total, total_of, total_text, totals_text};
-ghost use Rattle.critarea_core.specs.Views.{line_of, lines_of};
+ghost use Rattle.critarea_core.specs.Views.{row_of, rows_of};
 
 use super::row::{Kind, Row};
 use geo_core::NoMemory;
@@ -11,7 +11,7 @@ use std::fmt;
 impl Row<'_> {
     /// Area times weight.
     fn product(&self) -> u128
-        ensures exact { result ≡ product (line_of self.now) }
+        ensures exact { result ≡ product (row_of self.now) }
         ensures small { result < 2 ^ 93 }
     {
         u128::from(self.area) * u128::from(self.weight)
@@ -20,7 +20,7 @@ impl Row<'_> {
 
 /// One line of the report, with its newline.
 impl fmt::Display for Row<'_> {
-    ghost output = { λ row. Some (line_text (line_of row)) };
+    ghost output = { λ row. Some (line_text (codes "r") (row_of row)) };
 
     fn fmt<W: fmt::Write>(&self, f: &mut fmt::Formatter<W>) -> fmt::Result {
         let product = self.product();
@@ -35,7 +35,7 @@ impl fmt::Display for Row<'_> {
 /// The products of the rows of one kind, added up.
 fn total_of_kind(rows: &[Row<'_>], kind: Kind) -> u128
     requires few { length rows.now ≤ 2000 }
-    ensures { result ≡ total_of kind (lines_of rows.now) }
+    ensures { result ≡ total_of kind (rows_of rows.now) }
 {
     let mut total = 0u128;
     for row in rows {
@@ -49,7 +49,7 @@ fn total_of_kind(rows: &[Row<'_>], kind: Kind) -> u128
 /// The products of all rows, added up.
 fn total_of_all(rows: &[Row<'_>]) -> u128
     requires few { length rows.now ≤ 2000 }
-    ensures { result ≡ total (lines_of rows.now) }
+    ensures { result ≡ total (rows_of rows.now) }
 {
     let mut total = 0u128;
     for row in rows {
@@ -60,7 +60,7 @@ fn total_of_all(rows: &[Row<'_>]) -> u128
 
 /// Appends the line of each row.
 fn write_lines(text: &mut String, rows: &[Row<'_>]) -> Result<(), NoMemory>
-    ensures { OnOk result (string_bytes text.new ≡ string_bytes text.old ++ flat_map line_text (lines_of rows.now)) }
+    ensures { OnOk result (string_bytes text.new ≡ string_bytes text.old ++ flat_map (line_text (codes "r")) (rows_of rows.now)) }
 {
     for row in rows {
         write!(text, "{row}")?;
@@ -79,7 +79,7 @@ fn write_total(text: &mut String, label: &str, total: u128) -> Result<(), NoMemo
 /// Appends the totals of each kind and of all.
 fn write_totals(text: &mut String, rows: &[Row<'_>]) -> Result<(), NoMemory>
     requires { length rows.now ≤ 2000 }
-    ensures { OnOk result (string_bytes text.new ≡ string_bytes text.old ++ totals_text (lines_of rows.now)) }
+    ensures { OnOk result (string_bytes text.new ≡ string_bytes text.old ++ totals_text (rows_of rows.now)) }
 {
     write_total(text, "total short ", total_of_kind(rows, Kind::Short))?;
     write_total(text, "total open ", total_of_kind(rows, Kind::Open))?;
@@ -91,7 +91,7 @@ fn write_totals(text: &mut String, rows: &[Row<'_>]) -> Result<(), NoMemory>
 /// The report's text: a line for each row, and then the totals of each kind and of all.
 pub fn report(alloc: Global, rows: &[Row<'_>]) -> Result<String, NoMemory>
     requires { length rows.now ≤ 2000 }
-    ensures { IfOk result (λ text. string_bytes text ≡ report_text (lines_of rows.now)) }
+    ensures { IfOk result (λ text. string_bytes text ≡ report_text (codes "r") (rows_of rows.now)) }
 {
     let mut text = String::new(alloc);
     write_lines(&mut text, rows)?;

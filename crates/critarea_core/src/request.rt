@@ -1,6 +1,6 @@
-ghost use Rattle.std.specs.Prelude.{◌≤◌};
+ghost use Rattle.geo_core.specs.Bounds.{IsRadius};
 
-/// The areas of one metal for defects of one half-side, as words ask for them.
+/// The areas of one metal for defects of one radius, as words ask for them.
 #[derive(Clone, Copy, Debug)]
 pub struct Request<'a> {
     /// The name of the layout's file.
@@ -9,8 +9,7 @@ pub struct Request<'a> {
     pub layer: u16,
     /// The datatype of the metal's shapes.
     pub datatype: u16,
-    /// The half-side of the defect, in database units: from 1 to 1,000,000.
+    /// The radius of the defects, in database units: from 1 to 1,000,000.
     pub radius: u32,
-    pub ghost least: { 1 ≤ radius },
-    pub ghost most: { radius ≤ 1000000 },
+    pub ghost is_radius: { IsRadius radius },
 }

@@ -18,22 +18,22 @@ impl fmt::Display for Kind {
     ghost output = { λ kind. Some (kind_text kind) };
 
     fn fmt<W: fmt::Write>(&self, f: &mut fmt::Formatter<W>) -> fmt::Result {
-        match self {
-            Kind::Short => write!(f, "short"),
-            Kind::Open => write!(f, "open"),
-            Kind::Via => write!(f, "via"),
-        }
+        f.write_str(match self {
+            Kind::Short => "short",
+            Kind::Open => "open",
+            Kind::Via => "via",
+        })
     }
 }
 
-/// One line of the report: the area of one kind of fault, on one layer, for one size of defect.
+/// One line of the report: the area of one kind of fault, on one metal or at one cut, for one size of defect.
 #[derive(Clone, Copy, Debug)]
 pub struct Row<'a> {
     /// The kind of fault.
     pub kind: Kind,
     /// The name of the metal or cut.
     pub layer: &'a str,
-    /// The half-side of the defect, in database units.
+    /// The size of the defect as it is listed: its radius, in database units.
     pub size: u32,
     /// How many cells of the window have the fault. A window has at most 2,002,000,000 cells a side.
     pub area: u64,

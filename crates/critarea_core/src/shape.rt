@@ -1,8 +1,8 @@
-ghost use Rattle.std.specs.Prelude.{pos, negsuc, ◌≤ℤ◌};
+ghost use Rattle.geo_core.specs.Cells.{IsInLayout};
 
 use geo_core::Rect;
 
-/// A rectangle on a layer of a layout. Each side lies within 1,000,000,000 of 0.
+/// A rectangle on a layer of a layout. Each edge lies within 1,000,000,000 of 0.
 #[derive(Clone, Copy, Debug)]
 pub struct Shape {
     /// Its number of layer.
@@ -11,8 +11,5 @@ pub struct Shape {
     pub datatype: u16,
     /// The cells that it covers.
     pub rect: Rect,
-    pub ghost left: { negsuc 999999999 ≤ℤ rect.x0 },
-    pub ghost bottom: { negsuc 999999999 ≤ℤ rect.y0 },
-    pub ghost right: { rect.x1 ≤ℤ pos 1000000000 },
-    pub ghost top: { rect.y1 ≤ℤ pos 1000000000 },
+    pub ghost within: { IsInLayout rect },
 }

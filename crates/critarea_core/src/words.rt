@@ -1,9 +1,10 @@
 ghost use Rattle.std.specs.Prelude.{ℕ, ◌≡◌, ◌↔◌, codes, IsTrue, IfSome, IfNone};
 ghost use Rattle.critarea_core.specs.Views.{asked_by};
-ghost use Rattle.critarea_core.specs.Words.{Asks, IsFileWord, IsNumberFrom, OneMetal};
+ghost use Rattle.critarea_core.specs.Words.{AskOneMetal, IsFileWord, IsNumberFrom, OneMetal};
 
 use super::request::Request;
 use super::word::Word;
+use geo_core::GREATEST_REACH;
 
 /// The number that a text of 1 to 10 digits stands for, where it lies within the bounds.
 fn number(text: &str, least: u32, most: u32) -> Option<u32>
@@ -34,8 +35,8 @@ fn is_file_word(word: &[u8]) -> bool
 
 /// What the words ask for, where they fit: a file and three options in the one order.
 pub fn read_words(words: &[Word]) -> Option<Request<'_>>
-    ensures some { IfSome result (λ r. Asks words.now (asked_by r)) }
-    ensures none { IfNone result ((request : OneMetal) → Asks words.now request → ⊥) }
+    ensures some { IfSome result (λ r. AskOneMetal words.now (asked_by r)) }
+    ensures none { IfNone result ((areas : OneMetal) → AskOneMetal words.now areas → ⊥) }
 {
     let [
         layout,
@@ -57,15 +58,9 @@ pub fn read_words(words: &[Word]) -> Option<Request<'_>>
     {
         return None;
     }
-    let Some(layer) = number(layer.as_str(), 0, 65_535) else {
-        return None;
-    };
-    let Some(datatype) = number(datatype.as_str(), 0, 65_535) else {
-        return None;
-    };
-    let Some(radius) = number(radius.as_str(), 1, 1_000_000) else {
-        return None;
-    };
+    let layer = number(layer.as_str(), 0, 65_535)?;
+    let datatype = number(datatype.as_str(), 0, 65_535)?;
+    let radius = number(radius.as_str(), 1, GREATEST_REACH as u32)?;
     Some(Request {
         layout,
         layer: layer as u16,

@@ -5,7 +5,7 @@ use Rattle.std.proofs.lemmas.Option.{cond_some, slice_get_cases, slice_get_past}
 use Rattle.std.specs.List.{position_or_len, prefix_len, find, position, slice_get}
 use Rattle.std.specs.Prelude.{Some, None, IsSome, IsNone, not, cond, nat_lt}
 use Rattle.std.specs.Str.{bytes_eq}
-use Rattle.edge_io.specs.Held.{Named, contents_of, rest_at, IsPlaced}
+use Rattle.edge_io.specs.Held.{HeldFile, contents_of, rest_at, IsPlaced}
 
 -- what stands at the first place is the first found
 found_at : {X : Type 0} (p : X → Bool) (xs : List X) → slice_get xs (position_or_len p xs) ≡ find p xs
@@ -39,15 +39,15 @@ not_found p xs e =
     sym (found_at p xs) ∙ slice_get_past xs (position_or_len p xs) past
 
 -- a file that has the name, by its number
-pub record IsHeld (files : List Named) (name : List ℕ) (number : ℕ) : Type 0 where
+pub record IsHeld (files : List HeldFile) (name : List ℕ) (number : ℕ) : Type 0 where
   pub placed : IsPlaced files (Some (number, 0))
   pub unread : rest_at files (Some (number, 0)) ≡ contents_of files name
   pub found : IsSome (contents_of files name)
 
-pub held : (files : List Named) (name : List ℕ) (number : ℕ) → Some number ≡ position (λ file. bytes_eq file.0 name) files → IsHeld files name number
+pub held : (files : List HeldFile) (name : List ℕ) (number : ℕ) → Some number ≡ position (λ file. bytes_eq file.0 name) files → IsHeld files name number
 held files name number e =
-    let at = found_position (λ (file : Named). bytes_eq file.0 name) files number e in
+    let at = found_position (λ (file : HeldFile). bytes_eq file.0 name) files number e in
     record { placed = rw at.1 (omega arith); unread = rw (at.1, at.2); found = rw at.2 refl }
 
-pub not_held : (files : List Named) (name : List ℕ) → None ≡ position (λ file. bytes_eq file.0 name) files → IsNone (contents_of files name)
-not_held files name e = rw (not_found (λ (file : Named). bytes_eq file.0 name) files e) refl
+pub not_held : (files : List HeldFile) (name : List ℕ) → None ≡ position (λ file. bytes_eq file.0 name) files → IsNone (contents_of files name)
+not_held files name e = rw (not_found (λ (file : HeldFile). bytes_eq file.0 name) files e) refl

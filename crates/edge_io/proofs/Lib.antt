@@ -1,2 +1,3 @@
-pub mod Reading
+pub mod ByteLaws
+pub mod FailureCountLaws
 pub mod HeldLaws

@@ -1,5 +1,5 @@
-ghost use Rattle.std.specs.Prelude.{◌≡◌, ◌≤◌, ◌↔◌, IsTrue, Contains};
-ghost use Rattle.edge_io.specs.Faults.{Rose, one_more};
+ghost use Rattle.std.specs.Prelude.{◌≡◌, ◌↔◌, IsTrue, Contains};
+ghost use Rattle.edge_io.specs.FailureCounts.{Rose, one_more};
 
 use super::files::Failed;
 
@@ -13,17 +13,16 @@ pub(super) fn is_listed(calls: &[u64], call: u64) -> bool
 /// Counts one more, and stays at the last value.
 pub(super) fn count_up(count: &mut u64)
     ensures counted { count.new ≡ one_more count.old }
-    ensures never_falls { count.old ≤ count.new }
+    ensures rose { Rose count.old count.new }
 {
     *count = count.saturating_add(1);
 }
 
 /// Counts a failure.
-pub(super) fn fault(faults: &mut u64) -> Failed
-    ensures counted { faults.new ≡ one_more faults.old }
-    ensures rose { Rose faults.old faults.new }
-    ensures never_falls { faults.old ≤ faults.new }
+pub(super) fn failure(count: &mut u64) -> Failed
+    ensures counted { count.new ≡ one_more count.old }
+    ensures rose { Rose count.old count.new }
 {
-    count_up(faults);
+    count_up(count);
     Failed
 }

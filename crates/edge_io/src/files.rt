@@ -1,6 +1,6 @@
-ghost use Rattle.std.specs.Prelude.{◌≡◌, ◌≤◌, ◌<◌, ◌↔◌, List, [], ℕ, Option, None, length, take, OnOk, OnErr, IfOk, IfSome};
-ghost use Rattle.edge_io.specs.Bytes.{Drops};
-ghost use Rattle.edge_io.specs.Faults.{Rose};
+ghost use Rattle.std.specs.Prelude.{◌≡◌, ◌≤◌, ◌<◌, List, [], ◌∷◌, ℕ, Option, length, take, OnOk, OnErr, IfOk};
+ghost use Rattle.edge_io.specs.Bytes.{Appends, Gives};
+ghost use Rattle.edge_io.specs.ReadAnswers.{HasFailed};
 
 use thiserror::Error;
 
@@ -11,29 +11,34 @@ pub struct Failed;
 
 /// A source of files, which are read one at a time, each from its start.
 pub trait Files {
-    /// What the file of a name contains, where the source tells it.
+    /// What the file of a name contains, where the source tells it. No call changes it.
     ghost holds: { Self → List ℕ → Option (List ℕ) };
 
     /// What is unread of the started file, where the source tells it.
     ghost rest: { Self → Option (List ℕ) };
 
-    /// Whether a file is started and may be read.
+    /// True from a good start to the next failure: only then may a call read.
     ghost started: { Self → Type 0 };
 
-    /// How many calls failed. The count never falls. At each failure it rises, or stands at the last value of `u64`.
+    /// The names whose start was asked for, in order and whatever was answered, where the source tells them. No source
+    /// of this crate does, since such a list takes memory. A caller is proved for every source, so what it says of the
+    /// names that it starts holds as if they were told.
+    ghost starts: { Self → Option (List (List ℕ)) };
+
+    /// How many calls failed. The count never falls: a call that answers `Ok` leaves it as it was, and at a failure it
+    /// rises, or stands still where it stood at the last value of `u64`.
     ghost faults: { Self → ℕ };
 
     /// Starts the file of this name, which is unread then. A name that is not there is a failure. After a failure no
     /// file is started.
     fn start(&mut self, name: &[u8]) -> Result<(), Failed>
         ensures holds { (n : List ℕ) → holds self.new n ≡ holds self.old n }
+        ensures starts { Appends (starts self.old) (starts self.new) (name.now ∷ []) }
         ensures started { OnOk result (started self.new) }
         ensures rest { OnOk result (rest self.new ≡ holds self.old name.now) }
         ensures calm { OnOk result (faults self.new ≡ faults self.old) }
-        ensures never_falls { faults self.old ≤ faults self.new }
-        ensures rose { OnErr result (Rose (faults self.old) (faults self.new)) }
-        ensures stopped { OnErr result (started self.new → ⊥) }
-        ensures untold { OnErr result (rest self.new ≡ None) };
+        ensures failed { OnErr result
+            (HasFailed (faults self.old) (faults self.new) (started self.new) (rest self.new)) };
 
     /// Reads the next bytes of the started file into the front of `buf`, and answers how many: 0 only at the end.
     /// After a failure no file is started.
@@ -41,17 +46,11 @@ pub trait Files {
         requires started { started self.old }
         requires room { 0 < length buf.old }
         ensures holds { (n : List ℕ) → holds self.new n ≡ holds self.old n }
-        ensures within { IfOk result (λ count. count ≤ length buf.new) }
-        ensures bytes { IfOk result (λ count. IfSome (rest self.old)
-            (λ bytes. take count buf.new ≡ take count bytes)) }
-        ensures there { IfOk result (λ count. IfSome (rest self.old) (λ bytes. count ≤ length bytes)) }
-        ensures rest { IfOk result (λ count. Drops (rest self.old) (rest self.new) count) }
-        ensures at_end { IfOk result (λ count. IfSome (rest self.old)
-            (λ bytes. (count ≡ 0) ↔ (bytes ≡ []))) }
+        ensures starts { starts self.new ≡ starts self.old }
         ensures started { OnOk result (started self.new) }
+        ensures within { IfOk result (λ count. count ≤ length buf.new) }
+        ensures gives { IfOk result (λ count. Gives (rest self.old) (rest self.new) (take count buf.new)) }
         ensures calm { OnOk result (faults self.new ≡ faults self.old) }
-        ensures never_falls { faults self.old ≤ faults self.new }
-        ensures rose { OnErr result (Rose (faults self.old) (faults self.new)) }
-        ensures stopped { OnErr result (started self.new → ⊥) }
-        ensures untold { OnErr result (rest self.new ≡ None) };
+        ensures failed { OnErr result
+            (HasFailed (faults self.old) (faults self.new) (started self.new) (rest self.new)) };
 }

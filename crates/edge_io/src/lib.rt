@@ -1,5 +1,5 @@
-//! The only door to the outside: files that are read and sinks that are written, each with a count of what went
-//! wrong, and both in memory and by the operating system.
+//! The only door to the outside: files that are read and sinks that are written, each with a count of its failures,
+//! and both in memory and by the operating system.
 #![tactic(auto)]
 
 mod counts;
@@ -18,6 +18,3 @@ pub use sink::Sink;
 pub use system_files::OsFiles;
 pub use system_sink::OsSink;
 pub use whole::{ReadError, read_whole, write_all};
-
-#[cfg(test)]
-mod tests;

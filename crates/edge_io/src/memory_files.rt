@@ -1,10 +1,10 @@
-ghost use Rattle.std.specs.Prelude.{◌≡◌, ◌≤◌, ◌<◌, ◌↔◌, ◌⊎◌, [], Some, None, IsSome, IsNone, IfOk, IfSome, OnOk, OnErr, Contains, length, take, min, ◌+◌, ◌^◌, position, OnSome, IfNone};
+ghost use Rattle.std.specs.Prelude.{◌≡◌, ◌≤◌, ◌<◌, ◌↔◌, ◌⊎◌, Some, None, IsSome, IsNone, IsErr, IfOk, IfSome, OnOk, OnErr, Contains, length, take, drop, ◌+◌, ◌^◌, position, OnSome, IfNone};
 ghost use Rattle.std.specs.Str.{bytes_eq};
-ghost use Rattle.edge_io.specs.Bytes.{Drops};
-ghost use Rattle.edge_io.specs.Faults.{one_more};
-ghost use Rattle.edge_io.specs.Held.{contents_of, place_after, rest_at, beginning_of, unread_of, IsPlaced, IsStarted};
+ghost use Rattle.edge_io.specs.Bytes.{Gives};
+ghost use Rattle.edge_io.specs.FailureCounts.{Rose};
+ghost use Rattle.edge_io.specs.Held.{contents_of, beginning_of, place_after, rest_at, unread_of, moved_to, after_failure, IsPlaced, IsStarted};
 
-use super::counts::{count_up, fault, is_listed};
+use super::counts::{count_up, failure, is_listed};
 use super::files::{Failed, Files};
 use geo_core::Name;
 
@@ -43,10 +43,11 @@ fn place_of(files: &[(Name, Vec<u8>)], name: &[u8]) -> Option<(usize, usize)>
     }
 }
 
-/// Copies as many bytes as there is room for, and answers how many.
+/// Copies bytes from the front into `buf`, as many as it has room for, and answers how many.
 fn copy_front(bytes: &[u8], buf: &mut [u8]) -> usize
-    ensures count { result ≡ min (length bytes.now) (length buf.new) }
-    ensures copied { take result buf.new ≡ take result bytes.now }
+    requires { 0 < length buf.old }
+    ensures within { result ≤ length buf.new }
+    ensures gives { Gives (Some bytes.now) (Some (drop result bytes.now)) (take result buf.new) }
 {
     let count = bytes.len().min(buf.len());
     buf[..count].copy_from_slice(&bytes[..count]);
@@ -60,13 +61,8 @@ fn copy_next(files: &[(Name, Vec<u8>)], number: usize, at: usize, buf: &mut [u8]
     ensures within { result ≤ length buf.new }
     ensures fits { at + result < 2 ^ 64 }
     ensures placed { IsPlaced files.now (Some (number, at + result)) }
-    ensures bytes { IfSome (rest_at files.now (Some (number, at)))
-        (λ bytes. take result buf.new ≡ take result bytes) }
-    ensures there { IfSome (rest_at files.now (Some (number, at))) (λ bytes. result ≤ length bytes) }
-    ensures rest { Drops (rest_at files.now (Some (number, at)))
-        (rest_at files.now (Some (number, at + result))) result }
-    ensures at_end { IfSome (rest_at files.now (Some (number, at)))
-        (λ bytes. (result ≡ 0) ↔ (bytes ≡ [])) }
+    ensures gives { Gives (rest_at files.now (Some (number, at)))
+        (rest_at files.now (Some (number, at + result))) (take result buf.new) }
 {
     let bytes = files[number].1.as_slice();
     copy_front(&bytes[at..], buf)
@@ -98,30 +94,25 @@ impl Files for MemFiles {
 
     ghost started = { IsStarted };
 
+    ghost starts = { λ _. None };
+
     ghost faults = { λ s. s.faults };
 
     fn start(&mut self, name: &[u8]) -> Result<(), Failed>
-        ensures files { self.new.files ≡ self.old.files }
-        ensures fails { self.new.fails ≡ self.old.fails }
-        ensures calls { self.new.calls ≡ one_more self.old.calls }
-        ensures unlisted { OnOk result (¬ Contains self.old.fails.items self.old.calls) }
-        ensures found { OnOk result (IsSome (contents_of self.old.files.items name.now)) }
-        ensures place { OnOk result (self.new.place ≡ beginning_of self.old.files.items name.now) }
+        ensures fails { IsErr result ↔ (Contains self.old.fails.items self.old.calls
+            ⊎ IsNone (contents_of self.old.files.items name.now)) }
+        ensures ok { OnOk result (self.new ≡ moved_to self.old (beginning_of self.old.files.items name.now)) }
+        ensures err { OnErr result (self.new ≡ after_failure self.old) }
         ensures started { OnOk result (IsStarted self.new) }
         ensures rest { OnOk result (unread_of self.new ≡ contents_of self.old.files.items name.now) }
-        ensures calm { OnOk result (self.new.faults ≡ self.old.faults) }
-        ensures failed { OnErr result (Contains self.old.fails.items self.old.calls
-            ⊎ IsNone (contents_of self.old.files.items name.now)) }
-        ensures counted { OnErr result (self.new.faults ≡ one_more self.old.faults) }
-        ensures never_falls { self.old.faults ≤ self.new.faults }
-        ensures stopped { OnErr result (self.new.place ≡ None) }
+        ensures rose { OnErr result (Rose self.old.faults self.new.faults) }
     {
         let listed = is_listed(&self.fails, self.calls);
         count_up(&mut self.calls);
         self.place = place_of(&self.files, name);
         if listed || self.place.is_none() {
             self.place = None;
-            return Err(fault(&mut self.faults));
+            return Err(failure(&mut self.faults));
         }
         Ok(())
     }
@@ -129,24 +120,13 @@ impl Files for MemFiles {
     fn read(&mut self, buf: &mut [u8]) -> Result<usize, Failed>
         requires started { IsStarted self.old }
         requires room { 0 < length buf.old }
-        ensures files { self.new.files ≡ self.old.files }
-        ensures fails { self.new.fails ≡ self.old.fails }
-        ensures calls { self.new.calls ≡ one_more self.old.calls }
-        ensures unlisted { OnOk result (¬ Contains self.old.fails.items self.old.calls) }
-        ensures within { IfOk result (λ count. count ≤ length buf.new) }
-        ensures bytes { IfOk result (λ count. IfSome (unread_of self.old)
-            (λ bytes. take count buf.new ≡ take count bytes)) }
-        ensures there { IfOk result (λ count. IfSome (unread_of self.old) (λ bytes. count ≤ length bytes)) }
-        ensures rest { IfOk result (λ count. Drops (unread_of self.old) (unread_of self.new) count) }
-        ensures at_end { IfOk result (λ count. IfSome (unread_of self.old)
-            (λ bytes. (count ≡ 0) ↔ (bytes ≡ []))) }
-        ensures place { IfOk result (λ count. self.new.place ≡ place_after self.old.place count) }
+        ensures fails { IsErr result ↔ Contains self.old.fails.items self.old.calls }
+        ensures ok { IfOk result (λ count. self.new ≡ moved_to self.old (place_after self.old.place count)) }
+        ensures err { OnErr result (self.new ≡ after_failure self.old) }
         ensures started { OnOk result (IsStarted self.new) }
-        ensures calm { OnOk result (self.new.faults ≡ self.old.faults) }
-        ensures failed { OnErr result (Contains self.old.fails.items self.old.calls) }
-        ensures counted { OnErr result (self.new.faults ≡ one_more self.old.faults) }
-        ensures never_falls { self.old.faults ≤ self.new.faults }
-        ensures stopped { OnErr result (self.new.place ≡ None) }
+        ensures within { IfOk result (λ count. count ≤ length buf.new) }
+        ensures gives { IfOk result (λ count. Gives (unread_of self.old) (unread_of self.new) (take count buf.new)) }
+        ensures rose { OnErr result (Rose self.old.faults self.new.faults) }
     {
         let listed = is_listed(&self.fails, self.calls);
         count_up(&mut self.calls);
@@ -155,7 +135,7 @@ impl Files for MemFiles {
         };
         if listed {
             self.place = None;
-            return Err(fault(&mut self.faults));
+            return Err(failure(&mut self.faults));
         }
         let count = copy_next(&self.files, number, at, buf);
         self.place = Some((number, at + count));

@@ -1,12 +1,12 @@
-ghost use Rattle.std.specs.Prelude.{◌≡◌, ◌≤◌, ◌<◌, ◌+◌, ◌++◌, ◌⊎◌, [], IfOk, OnOk, OnErr, Contains, length, vec_len, vec_capacity};
+ghost use Rattle.std.specs.Prelude.{◌≡◌, ◌≤◌, ◌<◌, ◌↔◌, ◌+◌, ◌++◌, ◌⊎◌, [], IsErr, IfOk, OnOk, OnErr, Contains, length, vec_len, vec_capacity};
 
-use super::counts::{count_up, fault, is_listed};
+use super::counts::{count_up, failure, is_listed};
 use super::files::Failed;
 use super::sink::Sink;
 use geo_core::NoMemory;
 use std::alloc::Global;
 
-/// A sink in memory. It takes its room when it is made, so that a write takes no memory.
+/// A sink in memory, of a fixed size: `with` takes all the memory that it will ever use.
 #[derive(Debug, Drop)]
 pub struct MemSink {
     pub written: Vec<u8>,
@@ -43,33 +43,37 @@ impl MemSink {
 
 impl Sink for MemSink {
     ghost use Rattle.std.specs.Prelude.{Some};
-    ghost use Rattle.edge_io.specs.Faults.{one_more};
+    ghost use Rattle.edge_io.specs.FailureCounts.{Rose, one_more};
 
     ghost written = { λ s. Some s.written.items };
 
     ghost faults = { λ s. s.faults };
 
-    /// Takes the whole piece where the rest of the room holds it, and fails else.
+    /// A piece that fits into what is left of the room is taken whole. Of one that does not, nothing is taken, and the
+    /// call fails.
     fn write(&mut self, piece: &[u8]) -> Result<usize, Failed>
         requires { 0 < length piece.now }
-        ensures room { self.new.room ≡ self.old.room }
-        ensures fails { self.new.fails ≡ self.old.fails }
-        ensures calls { self.new.calls ≡ one_more self.old.calls }
-        ensures unlisted { OnOk result (¬ Contains self.old.fails.items self.old.calls) }
-        ensures held { OnOk result (vec_len self.old.written + length piece.now ≤ self.old.room) }
+        ensures fails { IsErr result ↔ (Contains self.old.fails.items self.old.calls
+            ⊎ (self.old.room < vec_len self.old.written + length piece.now)) }
+
+        // A failure is counted, and leaves the rest.
+        ensures err { OnErr result (self.new ≡ record self.old {
+          calls = one_more self.old.calls;
+          faults = one_more self.old.faults;
+        }) }
+        ensures rose { OnErr result (Rose self.old.faults self.new.faults) }
+
         ensures whole { IfOk result (λ count. count ≡ length piece.now) }
         ensures written { OnOk result (self.new.written.items ≡ self.old.written.items ++ piece.now) }
+        ensures room_kept { OnOk result (self.new.room ≡ self.old.room) }
+        ensures fails_kept { OnOk result (self.new.fails ≡ self.old.fails) }
+        ensures calls { OnOk result (self.new.calls ≡ one_more self.old.calls) }
         ensures calm { OnOk result (self.new.faults ≡ self.old.faults) }
-        ensures failed { OnErr result (Contains self.old.fails.items self.old.calls
-            ⊎ (self.old.room < vec_len self.old.written + length piece.now)) }
-        ensures counted { OnErr result (self.new.faults ≡ one_more self.old.faults) }
-        ensures never_falls { self.old.faults ≤ self.new.faults }
-        ensures unchanged { OnErr result (self.new.written.items ≡ self.old.written.items) }
     {
         let listed = is_listed(&self.fails, self.calls);
         count_up(&mut self.calls);
         if listed || self.room - self.written.len() < piece.len() {
-            return Err(fault(&mut self.faults));
+            return Err(failure(&mut self.faults));
         }
         match self.written.extend_from_slice(piece) {
             Ok(()) => Ok(piece.len()),

@@ -1,15 +1,16 @@
 ghost use Rattle.std.specs.Prelude.{◌≡◌, ◌≤◌, ◌<◌, List, ℕ, Option, length, take, OnOk, OnErr, IfOk};
 ghost use Rattle.edge_io.specs.Bytes.{Appends};
-ghost use Rattle.edge_io.specs.Faults.{Rose};
+ghost use Rattle.edge_io.specs.FailureCounts.{Rose};
 
 use super::files::Failed;
 
 /// A device that takes bytes.
 pub trait Sink {
-    /// All bytes taken so far, where the sink tells them.
+    /// What was written to the sink, in order, if it is one that tells.
     ghost written: { Self → Option (List ℕ) };
 
-    /// How many calls failed. The count never falls. At each failure it rises, or stands at the last value of `u64`.
+    /// How many calls failed. The count never falls: a call that answers `Ok` leaves it as it was, and at a failure it
+    /// rises, or stands still where it stood at the last value of `u64`.
     ghost faults: { Self → ℕ };
 
     /// Takes bytes from the front of `piece`, and answers how many. A device that takes none has failed. A failure
@@ -20,7 +21,6 @@ pub trait Sink {
         ensures within { IfOk result (λ count. count ≤ length piece.now) }
         ensures written { IfOk result (λ count. Appends (written self.old) (written self.new) (take count piece.now)) }
         ensures calm { OnOk result (faults self.new ≡ faults self.old) }
-        ensures never_falls { faults self.old ≤ faults self.new }
         ensures rose { OnErr result (Rose (faults self.old) (faults self.new)) }
         ensures unchanged { OnErr result (written self.new ≡ written self.old) };
 }

@@ -1,7 +1,8 @@
-ghost use Rattle.std.specs.Prelude.{◌≡◌, ◌≤◌, None, IsSome, OnSome, OnOk, OnErr, IsUtf8};
-ghost use Rattle.edge_io.specs.Faults.{Rose};
+ghost use Rattle.std.specs.Prelude.{◌≡◌, ◌≤◌, ◌<◌, None, IsSome, OnSome, IfSome, OnOk, OnErr, IsUtf8, length, take};
+ghost use Rattle.std.specs.Io.KnownBytes.{Consumes, IsAtEnd};
+ghost use Rattle.edge_io.specs.ReadAnswers.{HasFailed};
 
-use super::counts::fault;
+use super::counts::failure;
 use super::files::{Failed, Files};
 use std::io::Read;
 use std::{fs, rt};
@@ -19,7 +20,7 @@ impl<'a, R: rt::Files> OsFiles<'a, R> {
     /// The files that the runtime reaches. None is started, and no call has failed.
     pub fn new(rt: &'a R) -> OsFiles<'a, R>
         ensures faults { ⟦<OsFiles<'a, R> as Files>⟧.faults result ≡ 0 }
-        ensures stopped { ⟦<OsFiles<'a, R> as Files>⟧.started result → ⊥ }
+        ensures none_started { ⟦<OsFiles<'a, R> as Files>⟧.started result → ⊥ }
     {
         OsFiles {
             rt,
@@ -39,12 +40,25 @@ fn open<R: rt::Files>(rt: &R, name: &[u8]) -> Option<R::File>
     }
 }
 
+/// Reads the next bytes into the front of `buf`, and answers how many: 0 only at the end. `None` where it is refused.
+fn read_next<T: Read>(reader: &mut T, buf: &mut [u8]) -> Option<usize>
+    requires { 0 < length buf.old }
+    ensures within { IfSome result (λ count. count ≤ length buf.new) }
+    ensures given { IfSome result (λ count.
+        Consumes (T.remaining reader.old) (T.remaining reader.new) (take count buf.new)) }
+    ensures at_end { IfSome result (λ count. count ≡ 0 → IsAtEnd (T.remaining reader.new)) }
+{
+    reader.read(buf).ok()
+}
+
 impl<'a, R: rt::Files> Files for OsFiles<'a, R> {
     ghost holds = { λ _ _. None };
 
     ghost rest = { λ _. None };
 
     ghost started = { λ s. IsSome s.started };
+
+    ghost starts = { λ _. None };
 
     ghost faults = { λ s. s.faults };
 
@@ -55,17 +69,15 @@ impl<'a, R: rt::Files> Files for OsFiles<'a, R> {
             (⟦<Self as Files>⟧.rest self.new ≡ ⟦<Self as Files>⟧.holds self.old name.now) }
         ensures calm { OnOk result
             (⟦<Self as Files>⟧.faults self.new ≡ ⟦<Self as Files>⟧.faults self.old) }
-        ensures never_falls { ⟦<Self as Files>⟧.faults self.old ≤ ⟦<Self as Files>⟧.faults self.new }
-        ensures rose { OnErr result
-            (Rose (⟦<Self as Files>⟧.faults self.old) (⟦<Self as Files>⟧.faults self.new)) }
-        ensures stopped { OnErr result (⟦<Self as Files>⟧.started self.new → ⊥) }
-        ensures untold { OnErr result (⟦<Self as Files>⟧.rest self.new ≡ None) }
+        ensures failed { OnErr result
+            (HasFailed (⟦<Self as Files>⟧.faults self.old) (⟦<Self as Files>⟧.faults self.new)
+            (⟦<Self as Files>⟧.started self.new) (⟦<Self as Files>⟧.rest self.new)) }
     {
         // The file before is closed first.
         self.started = None;
         self.started = open(self.rt, name);
         if self.started.is_none() {
-            return Err(fault(&mut self.faults));
+            return Err(failure(&mut self.faults));
         }
         Ok(())
     }
@@ -74,9 +86,9 @@ impl<'a, R: rt::Files> Files for OsFiles<'a, R> {
         let Some(file) = &mut self.started else {
             unreachable!()
         };
-        let Ok(count) = file.read(buf) else {
+        let Some(count) = read_next(file, buf) else {
             self.started = None;
-            return Err(fault(&mut self.faults));
+            return Err(failure(&mut self.faults));
         };
         Ok(count)
     }

@@ -1,14 +1,16 @@
 -- the cells of a rectangle are listed once each, and no other is
-use Rattle.std.proofs.Common.{ℕ, zero, suc, ◌≤◌, ◌≡◌, refl, ap, subst, arith}
-use Rattle.std.specs.Prelude.{ℤ, pos, negsuc, ◌+ℤ◌, ◌-ℤ◌, ◌≤ℤ◌, ◌<ℤ◌, ◌↔◌, Contains, map}
+use Rattle.std.proofs.Common.{ℕ, zero, suc, ◌≤◌, ◌≡◌, refl, ap, subst, arith, inl, inr}
+use Rattle.std.specs.Prelude.{ℤ, pos, ◌+ℤ◌, ◌-ℤ◌, ◌≤ℤ◌, ◌<ℤ◌, ◌↔◌, Contains, map}
 use Rattle.std.specs.List.{flat_map}
 use Rattle.std.proofs.lemmas.Int.{ints, by_lt_z}
 use Rattle.geo_core.specs.Cells.{Has}
 use Rattle.geo_core.specs.declared.plane.Cell.{Cell}
 use Rattle.geo_core.specs.declared.plane.Rect.{Rect}
 use Rattle.fault_model.specs.Areas.{Tally, none, hit, miss, from, or_zero, row, cells_of}
+use Rattle.fault_model.proofs.RangeLaws.{or_zero_is}
 use Rattle.fault_model.proofs.TallyLaws.{Tally-append, Tally-some, Tally-counts}
-use Rattle.fault_model.proofs.ChainLaws.{same_cell}
+use Rattle.geo_core.proofs.IntervalLaws.{in_or_not}
+use Rattle.geo_core.proofs.RectLaws.{same_cell}
 
 abbrev Is : Cell → Cell → Type 0
 Is c = λ d. d ≡ c
@@ -43,37 +45,35 @@ rows_1 c rect y (suc n) a b p q = by_lt_z y c.j
     (subst (λ j. Tally (Is c) (row rect j) 1) here (row_1 c rect.x0 (or_zero (rect.x1 -ℤ rect.x0)) a b))
     (rows_0 c rect (y +ℤ pos 1) n (λ i j r s v w e. let f = ap (λ (d : Cell). d.j) e in absurd (omega (arith, ints, f)))))
 
-or_zero_is : (low high : ℤ) → low <ℤ high → low +ℤ pos (or_zero (high -ℤ low)) ≡ high
-or_zero_is low high h = go (high -ℤ low) refl where
-  go : (z : ℤ) → z ≡ high -ℤ low → low +ℤ pos (or_zero z) ≡ high
-  go (pos n) e = omega (arith, ints)
-  go (negsuc n) e = absurd (omega (arith, ints))
+-- a range ends before its high end
+ends_at : (low high : ℤ) → low <ℤ high → low +ℤ pos (or_zero (high -ℤ low)) ≡ high
+ends_at low high h = let n = or_zero_is (high -ℤ low) (omega (arith, ints)) in omega (arith, ints)
 
 pub once : (rect : Rect) (c : Cell) → Has rect c → Tally (Is c) (cells_of rect) 1
 once rect c h =
-    let x = or_zero_is rect.x0 rect.x1 rect.wide in
-    let y = or_zero_is rect.y0 rect.y1 rect.high in
-    rows_1 c rect rect.y0 (or_zero (rect.y1 -ℤ rect.y0)) h.from_left (rw x h.to_right) h.from_bottom (rw y h.to_top)
+    let x = ends_at rect.x0 rect.x1 rect.across.some in
+    let y = ends_at rect.y0 rect.y1 rect.up.some in
+    rows_1 c rect rect.y0 (or_zero (rect.y1 -ℤ rect.y0)) h.across.from (rw x h.across.before) h.up.from (rw y h.up.before)
 
 pub never : (rect : Rect) (c : Cell) → (Has rect c → ⊥) → Tally (Is c) (cells_of rect) 0
 never rect c no_cell =
-    let x = or_zero_is rect.x0 rect.x1 rect.wide in
-    let y = or_zero_is rect.y0 rect.y1 rect.high in
+    let x = ends_at rect.x0 rect.x1 rect.across.some in
+    let y = ends_at rect.y0 rect.y1 rect.up.some in
     rows_0 c rect rect.y0 (or_zero (rect.y1 -ℤ rect.y0))
-    (λ i j p q r s e. no_cell (subst (Has rect) e (record { from_left = r; to_right = rw x at s; from_bottom = p; to_top = rw y at q })))
+    (λ i j p q r s e. no_cell (subst (Has rect) e (record { across = record { from = r; before = rw x at s }; up = record { from = p; before = rw y at q } })))
 
 -- a listed cell lies in the rectangle
 not_never : (rect : Rect) (c : Cell) → Contains (cells_of rect) c → (Has rect c → ⊥) → ⊥
 not_never rect c listed outside = let some : 1 ≤ 0 = Tally-counts (cells_of rect) 0 c listed refl (never rect c outside) in omega arith
 
 pub has_from_listed : (rect : Rect) (c : Cell) → Contains (cells_of rect) c → Has rect c
-has_from_listed rect c listed = by_lt_z c.i rect.x0 (λ l. absurd (not_never rect c listed (λ h. let a = h.from_left in omega (arith, ints))))
-    (λ left. by_lt_z c.i rect.x1
-    (λ right. by_lt_z c.j rect.y0 (λ l. absurd (not_never rect c listed (λ h. let a = h.from_bottom in omega (arith, ints))))
-    (λ bottom. by_lt_z c.j rect.y1
-    (λ top. record { from_left = left; to_right = right; from_bottom = bottom; to_top = top })
-    (λ l. absurd (not_never rect c listed (λ h. let a = h.to_top in omega (arith, ints))))))
-    (λ l. absurd (not_never rect c listed (λ h. let a = h.to_right in omega (arith, ints)))))
+has_from_listed rect c listed = elim (in_or_not rect.x0 rect.x1 c.i) [
+  | inl across ↦ elim (in_or_not rect.y0 rect.y1 c.j) [
+    | inl up ↦ record { across = across; up = up }
+    | inr n ↦ absurd (not_never rect c listed (λ h. n h.up))
+  ]
+  | inr n ↦ absurd (not_never rect c listed (λ h. n h.across))
+]
 
 pub listed_from_has : (rect : Rect) (c : Cell) → Has rect c → Contains (cells_of rect) c
 listed_from_has rect c h = let some = Tally-some (cells_of rect) 1 (omega arith) (once rect c h) in subst (Contains (cells_of rect)) some.2 some.1

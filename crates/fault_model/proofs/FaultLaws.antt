@@ -1,22 +1,23 @@
 -- faults of two defects at one cell: a larger one makes each that a smaller one does, and one that touches or covers
 -- the same cells makes the same
-use Rattle.std.proofs.Common.{ℕ, ◌+◌, ◌-◌, ◌/◌, ◌≤◌, ◌≡◌, subst, List, arith}
+use Rattle.std.proofs.Common.{ℕ, ◌+◌, ◌-◌, ◌/◌, ◌≤◌, ◌≡◌, subst, List, [], arith}
 use Rattle.std.specs.Prelude.{◌↔◌}
 use Rattle.std.proofs.lemmas.Int.{ints}
 use Rattle.geo_core.specs.declared.plane.Cell.{Cell}
 use Rattle.geo_core.specs.declared.plane.Half.{Half}
-use Rattle.fault_model.specs.Halves.{LiesIn, IsTouched, IsSwallowed}
+use Rattle.fault_model.specs.Halves.{LiesIn, IsOn, IsTouched, IsSwallowed}
 use Rattle.fault_model.specs.Nets.{Cut, IsContact}
 use Rattle.fault_model.specs.Faults.{IsShort, IsOpen, IsViaBlock, IsSameCluster}
 use Rattle.fault_model.specs.Laws.{IsNearTwoNets, IsNearCluster}
-use Rattle.fault_model.proofs.WalkLaws.{append, within}
-use Rattle.fault_model.proofs.ChainLaws.{same_cell}
-use Rattle.fault_model.proofs.CornerLaws.{cell_on, in_cell}
-use Rattle.fault_model.proofs.NetLaws.{in_one_cell}
+use Rattle.paths.proofs.PathLaws.{append, within}
+use Rattle.geo_core.proofs.RectLaws.{same_cell}
+use Rattle.fault_model.proofs.HalfLaws.{cell_on}
+use Rattle.fault_model.proofs.LineLaws.{in_cell}
+use Rattle.fault_model.proofs.NetLaws.{in_one_cell, net_is_island}
 use Rattle.fault_model.proofs.SizeLaws.{touched, swallowed, footprint_grows}
 
-module _ (layer : ℕ → Cell → Type 0) (s t : ℕ) (c : Cell) (larger : s ≤ t) where
-  pub short_grows : (cuts : List Cut) (m : ℕ) → IsShort layer cuts m s c → IsShort layer cuts m t c
+module _ (covers : ℕ → Cell → Type 0) (s t : ℕ) (c : Cell) (larger : s ≤ t) where
+  pub short_grows : (cuts : List Cut) (m : ℕ) → IsShort covers cuts m s c → IsShort covers cuts m t c
   short_grows cuts m h = record {
     one = h.one;
     other = h.other;
@@ -27,7 +28,7 @@ module _ (layer : ℕ → Cell → Type 0) (s t : ℕ) (c : Cell) (larger : s �
     apart = h.apart;
   }
 
-  pub block_grows : (cut : Cut) → IsViaBlock layer cut s c → IsViaBlock layer cut t c
+  pub block_grows : (cut : Cut) → IsViaBlock covers cut s c → IsViaBlock covers cut t c
   block_grows cut b = record {
     contact = b.contact;
     is_contact = b.is_contact;
@@ -44,9 +45,9 @@ open_grows covered Differ terminal s t c larger o = record {
   parted = λ p q in_one in_other w. o.parted p q in_one in_other (within (λ h spared. (spared.0, λ hit. spared.1 (footprint_grows c s t h larger hit))) w);
 }
 
-module _ (layer : ℕ → Cell → Type 0) (cuts : List Cut) where
+module _ (covers : ℕ → Cell → Type 0) (cuts : List Cut) where
   -- what touches the same cells makes the same shorts
-  pub short_from : (m s t : ℕ) (c : Cell) → ((d : Cell) → IsTouched c s d → IsTouched c t d) → IsShort layer cuts m s c → IsShort layer cuts m t c
+  pub short_from : (m s t : ℕ) (c : Cell) → ((d : Cell) → IsTouched c s d → IsTouched c t d) → IsShort covers cuts m s c → IsShort covers cuts m t c
   short_from m s t c f h =
       let a = h.one_on in
       let b = h.other_on in
@@ -59,11 +60,11 @@ module _ (layer : ℕ → Cell → Type 0) (cuts : List Cut) where
         other_on = (b.0, q.1, b.2);
         one_hit = p.2;
         other_hit = q.2;
-        apart = λ w. h.apart (append (in_one_cell layer cuts m a.0 h.one p.0 a.2 a.1 p.1) (append w (in_one_cell layer cuts m b.0 q.0 h.other b.2 q.1 b.1)));
+        apart = λ w. h.apart (append (in_one_cell covers cuts m a.0 h.one p.0 a.2 a.1 p.1) (append w (in_one_cell covers cuts m b.0 q.0 h.other b.2 q.1 b.1)));
       }
 
   -- a short by the distances of cells
-  pub short_near : (m r : ℕ) (c : Cell) → 1 ≤ r → IsShort layer cuts m (r + r) c ↔ IsNearTwoNets layer cuts m r c
+  pub short_near : (m r : ℕ) (c : Cell) → 1 ≤ r → IsShort covers cuts m (r + r) c ↔ IsNearTwoNets covers cuts m r c
   short_near m r c big =
       let near = touched (r + r) r (omega arith) (omega arith) (omega arith) c in (
         λ h. let a = h.one_on in let b = h.other_on in
@@ -74,7 +75,7 @@ module _ (layer : ℕ → Cell → Type 0) (cuts : List Cut) where
               other_on = b.2;
               one_near = (near a.0).0 (h.one, a.1, h.one_hit);
               other_near = (near b.0).0 (h.other, b.1, h.other_hit);
-              apart = λ p q in_p in_q w. h.apart (append (in_one_cell layer cuts m a.0 h.one p a.2 a.1 in_p) (append w (in_one_cell layer cuts m b.0 q h.other b.2 in_q b.1)));
+              apart = λ p q in_p in_q w. h.apart (append (in_one_cell covers cuts m a.0 h.one p a.2 a.1 in_p) (append w (in_one_cell covers cuts m b.0 q h.other b.2 in_q b.1)));
             },
         λ n. let p = (near n.one).1 n.one_near in let q = (near n.other).1 n.other_near in
             record {
@@ -88,14 +89,14 @@ module _ (layer : ℕ → Cell → Type 0) (cuts : List Cut) where
             },
       )
 
-  pub short_at : (s : ℕ) → 2 ≤ s → (m : ℕ) (c : Cell) → IsShort layer cuts m s c ↔ IsShort layer cuts m (s / 2 + s / 2) c
+  pub short_at : (s : ℕ) → 2 ≤ s → (m : ℕ) (c : Cell) → IsShort covers cuts m s c ↔ IsShort covers cuts m (s / 2 + s / 2) c
   short_at s h m c =
       let n = s / 2 in
       let one = touched s n (omega arith) (omega arith) (omega arith) c in
       let two = touched (n + n) n (omega arith) (omega arith) (omega arith) c in
       (short_from m s (n + n) c (λ d t. (two d).1 ((one d).0 t)), short_from m (n + n) s c (λ d t. (one d).1 ((two d).0 t)))
 
-  pub none_at : (s m : ℕ) (c : Cell) → s ≡ 1 → IsShort layer cuts m s c → ⊥
+  pub none_at : (s m : ℕ) (c : Cell) → s ≡ 1 → IsShort covers cuts m s c → ⊥
   none_at s m c e h =
       let near = touched s 0 (omega arith) (omega arith) (omega arith) c in
       let a = h.one_on in
@@ -103,11 +104,11 @@ module _ (layer : ℕ → Cell → Type 0) (cuts : List Cut) where
       let p = (near a.0).0 (h.one, a.1, h.one_hit) in
       let q = (near b.0).0 (h.other, b.1, h.other_hit) in
       let same : b.0 ≡ a.0 = same_cell b.0 a.0 (omega (arith, ints)) (omega (arith, ints)) in
-      h.apart (in_one_cell layer cuts m a.0 h.one h.other a.2 a.1 (subst (LiesIn h.other) same b.1))
+      h.apart (in_one_cell covers cuts m a.0 h.one h.other a.2 a.1 (subst (LiesIn h.other) same b.1))
 
-module _ (layer : ℕ → Cell → Type 0) where
+module _ (covers : ℕ → Cell → Type 0) where
   -- a contact's cell has contacts of one cluster alone
-  contacts_in_cell : (cut : Cut) (h g : Half) (d : Cell) → LiesIn h d → LiesIn g d → IsContact layer cut h → IsContact layer cut g × IsSameCluster layer cut h g
+  contacts_in_cell : (cut : Cut) (h g : Half) (d : Cell) → LiesIn h d → LiesIn g d → IsContact covers cut h → IsContact covers cut g × IsSameCluster covers cut h g
   contacts_in_cell cut h g d k l on =
       let a = cell_on h d k on.0 in
       let b = cell_on h d k on.1 in
@@ -115,7 +116,7 @@ module _ (layer : ℕ → Cell → Type 0) where
       (((d, l, a), (d, l, b), (d, l, c)), (in_cell d h g (λ x m. (d, m, b)) k l, in_cell d h g (λ x m. (d, m, c)) k l))
 
   -- what covers the same cells makes the same blocks
-  pub block_from : (cut : Cut) (s t : ℕ) (c : Cell) → ((d : Cell) → IsSwallowed c s d → IsSwallowed c t d) → IsViaBlock layer cut s c → IsViaBlock layer cut t c
+  pub block_from : (cut : Cut) (s t : ℕ) (c : Cell) → ((d : Cell) → IsSwallowed c s d → IsSwallowed c t d) → IsViaBlock covers cut s c → IsViaBlock covers cut t c
   block_from cut s t c f b = record {
     contact = b.contact;
     is_contact = b.is_contact;
@@ -125,7 +126,7 @@ module _ (layer : ℕ → Cell → Type 0) where
   }
 
   -- a via block by the distances of cells
-  pub block_near : (cut : Cut) (r : ℕ) (c : Cell) → 1 ≤ r → IsViaBlock layer cut (r + r) c ↔ IsNearCluster layer cut r c
+  pub block_near : (cut : Cut) (r : ℕ) (c : Cell) → 1 ≤ r → IsViaBlock covers cut (r + r) c ↔ IsNearCluster covers cut r c
   block_near cut r c big =
       let near = swallowed (r + r) (r - 1) (omega arith) (omega arith) c in (
         λ b. record {
@@ -140,10 +141,27 @@ module _ (layer : ℕ → Cell → Type 0) where
         },
       )
 
-  pub block_at : (s : ℕ) → 1 ≤ s → (cut : Cut) (c : Cell) → IsViaBlock layer cut s c ↔ IsViaBlock layer cut ((s + 1) / 2 + (s + 1) / 2) c
+  pub block_at : (s : ℕ) → 1 ≤ s → (cut : Cut) (c : Cell) → IsViaBlock covers cut s c ↔ IsViaBlock covers cut ((s + 1) / 2 + (s + 1) / 2) c
   block_at s h cut c =
       let n = (s - 1) / 2 in
       let t = (s + 1) / 2 in
       let one = swallowed s n (omega arith) (omega arith) c in
       let two = swallowed (t + t) n (omega arith) (omega arith) c in
       (block_from cut s (t + t) c (λ d k. (two d).1 ((one d).0 k)), block_from cut (t + t) s c (λ d k. (one d).1 ((two d).0 k)))
+
+-- what is covered alike has the same half squares, and without cuts the same shorts
+IsOn-same : {one other : Cell → Type 0} → ((c : Cell) → one c → other c) → (h : Half) → IsOn one h → IsOn other h
+IsOn-same f h on = (on.0, on.1, f on.0 on.2)
+
+pub short_same : (one other : ℕ → Cell → Type 0) (m s : ℕ) (c : Cell) → ((d : Cell) → one m d ↔ other m d) → IsShort one [] m s c → IsShort other [] m s c
+short_same one other m s c same short = record {
+  one = short.one;
+  other = short.other;
+  one_on = IsOn-same (λ d h. (same d).0 h) short.one short.one_on;
+  other_on = IsOn-same (λ d h. (same d).0 h) short.other short.other_on;
+  one_hit = short.one_hit;
+  other_hit = short.other_hit;
+  apart = λ net.
+      let island = (net_is_island other m short.one short.other).0 net in
+      short.apart ((net_is_island one m short.one short.other).1 (within (IsOn-same (λ d h. (same d).1 h)) island));
+}

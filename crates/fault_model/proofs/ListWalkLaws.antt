@@ -1,17 +1,11 @@
--- walks as lists, and the one cell of a half square
+-- walks as lists
 use Rattle.std.proofs.Common.{ℕ, zero, suc, ◌≡◌, refl, sym, ap, ◌∙◌, subst, List, [], ◌∷◌, length, arith}
 use Rattle.std.specs.Prelude.{Some, slice_get}
-use Rattle.geo_core.specs.declared.plane.Cell.{Cell}
 use Rattle.geo_core.specs.declared.plane.Half.{Half}
-use Rattle.fault_model.specs.Halves.{LiesIn, Neighbours}
-use Rattle.fault_model.specs.Paths.{stay, step}
+use Rattle.fault_model.specs.Halves.{Neighbours}
+use Rattle.paths.specs.Paths.{stay, step}
 use Rattle.fault_model.specs.Walks.{Walk}
 use Rattle.fault_model.specs.Laws.{IsListWalk}
-use Rattle.fault_model.proofs.ChainLaws.{whole_of}
-
--- each half square lies in a cell
-pub some_cell : (h : Half) → (c : Cell) × LiesIn h c
-some_cell h = let x = whole_of h.u in let y = whole_of h.v in (record { i = x.0; j = y.0 }, (x.1, y.1))
 
 some_is : (a b : Half) → Some a ≡ Some b → a ≡ b
 some_is a b e = cc e

@@ -1,27 +1,19 @@
 -- two lists that have each cell equally often have the same tally
-use Rattle.std.proofs.Common.{ℕ, suc, ◌≤◌, ◌≡◌, refl, ap, subst, List, [], ◌∷◌, arith, inl, inr, ◌⊎◌}
+use Rattle.std.proofs.Common.{ℕ, suc, ◌≤◌, ◌≡◌, refl, subst, List, [], ◌∷◌, arith, inl, inr}
 use Rattle.std.specs.Prelude.{Contains}
-use Rattle.std.proofs.lemmas.Int.{ints, by_lt_z}
 use Rattle.geo_core.specs.declared.plane.Cell.{Cell}
 use Rattle.fault_model.specs.Areas.{Tally, none, hit, miss}
-use Rattle.fault_model.proofs.ChainLaws.{same_cell}
-use Rattle.fault_model.proofs.TallyLaws.{Tally-unique, Tally-some, Tally-counts, Contains-first, Contains-cases}
+use Rattle.paths.proofs.ListLaws.{Contains-first, Contains-cases}
+use Rattle.geo_core.proofs.RectLaws.{cells_equal_or_not}
+use Rattle.fault_model.proofs.TallyLaws.{Tally-unique, Tally-some, Tally-counts}
 
 abbrev Is : Cell → Cell → Type 0
 Is c = λ d. d ≡ c
 
--- two cells are one, or not
-pub same_or_not : (c d : Cell) → (c ≡ d) ⊎ (c ≡ d → ⊥)
-same_or_not c d = by_lt_z c.i d.i (λ l. inr (λ e. let f = ap (λ (x : Cell). x.i) e in absurd (omega (arith, ints, f))))
-    (λ l. by_lt_z d.i c.i (λ m. inr (λ e. let f = ap (λ (x : Cell). x.i) e in absurd (omega (arith, ints, f))))
-    (λ m. by_lt_z c.j d.j (λ n. inr (λ e. let f = ap (λ (x : Cell). x.j) e in absurd (omega (arith, ints, f))))
-    (λ n. by_lt_z d.j c.j (λ o. inr (λ e. let f = ap (λ (x : Cell). x.j) e in absurd (omega (arith, ints, f))))
-    (λ o. inl (same_cell c d (omega (arith, ints)) (omega (arith, ints)))))))
-
 -- how often a list has a cell
 times : (c : Cell) (ds : List Cell) → (k : ℕ) × Tally (Is c) ds k
 times c [] = (0, none)
-times c (d ∷ ds) = let rest = times c ds in elim (same_or_not d c) [ inl e ↦ (suc rest.0, hit e rest.1) | inr e ↦ (rest.0, miss e rest.1) ]
+times c (d ∷ ds) = let rest = times c ds in elim (cells_equal_or_not d c) [ inl e ↦ (suc rest.0, hit e rest.1) | inr e ↦ (rest.0, miss e rest.1) ]
 
 -- the second list is the first with `c` put in somewhere
 data IsInserted (c : Cell) : List Cell → List Cell → Type 0 where
@@ -60,7 +52,7 @@ out c cs ds same =
     taken c ds (subst (Contains ds) some.2 some.1)
 
 rest_as_often : (c : Cell) (cs ds es : List Cell) → IsInserted c ds es → HasAsOften (c ∷ cs) es → HasAsOften cs ds
-rest_as_often c cs ds es i same d k t = let found = times d ds in elim (same_or_not c d) [
+rest_as_often c cs ds es i same d k t = let found = times d ds in elim (cells_equal_or_not c d) [
   | inl e ↦ let f : suc found.0 ≡ suc k = Tally-unique es (suc found.0) (suc k) (counted found.0 i e found.1) (same d (suc k) (hit e t)) in
       let g : found.0 ≡ k = omega (arith, f) in subst (Tally (Is d) ds) g found.1
   | inr e ↦ let f : found.0 ≡ k = Tally-unique es found.0 k (passed found.0 i e found.1) (same d k (miss e t)) in subst (Tally (Is d) ds) f found.1

@@ -1,8 +1,8 @@
 -- tallies: they agree, add up, and follow the truth of the property
-use Rattle.std.proofs.Common.{ℕ, zero, suc, ◌+◌, ◌≤◌, ◌≡◌, refl, sym, ap, subst, List, [], ◌∷◌, ◌++◌, length, Bool, true, false, cond, zero-add, arith, inl, inr, ◌⊎◌}
+use Rattle.std.proofs.Common.{ℕ, suc, ◌+◌, ◌≤◌, ◌≡◌, refl, sym, ap, subst, List, [], ◌∷◌, ◌++◌, length, Bool, true, false, cond, zero-add, arith, inl, inr}
 use Rattle.std.specs.Prelude.{Contains, IsTrue, count_by, ◌↔◌}
 use Rattle.std.proofs.lemmas.List.Sums.{sum_by-cons}
-use Rattle.std.proofs.lemmas.List.Elements.{Contains-push, Contains-append_left, Contains-append_right, Contains-append_cases}
+use Rattle.paths.proofs.ListLaws.{Contains-first, Contains-rest, Contains-cases}
 use Rattle.geo_core.specs.declared.plane.Cell.{Cell}
 use Rattle.fault_model.specs.Areas.{Tally, none, hit, miss}
 
@@ -17,21 +17,6 @@ pub Tally-append : {P : Cell → Type 0} (cs ds : List Cell) (m n : ℕ) → Tal
 Tally-append [] ds m n none t = rw zero-add t
 Tally-append (c ∷ cs) ds m n (hit {n = k} h s) t = let e : suc k + n ≡ suc (k + n) = omega arith in rw e (hit h (Tally-append cs ds k n s t))
 Tally-append (c ∷ cs) ds m n (miss h s) t = miss h (Tally-append cs ds m n s t)
-
--- the first cell of a list is in it, and so is each of the rest
-pub Contains-first : (c : Cell) (cs : List Cell) → Contains (c ∷ cs) c
-Contains-first c cs = Contains-append_left (c ∷ []) cs c (Contains-push [] c)
-
-pub Contains-rest : (c : Cell) (cs : List Cell) (d : Cell) → Contains cs d → Contains (c ∷ cs) d
-Contains-rest c cs d h = Contains-append_right (c ∷ []) cs d h
-
-only_one : (c d : Cell) → Contains (c ∷ []) d → c ≡ d
-only_one c d (zero, small, e) = e
-only_one c d (suc k, small, e) = absurd (omega arith)
-
--- a cell of a list is the first, or one of the rest
-pub Contains-cases : (c : Cell) (cs : List Cell) (d : Cell) → Contains (c ∷ cs) d → (c ≡ d) ⊎ Contains cs d
-Contains-cases c cs d h = elim (Contains-append_cases (c ∷ []) cs d h) [ inl one ↦ inl (only_one c d one) | inr rest ↦ inr rest ]
 
 -- the tally of a property that holds of no cell of the list
 pub Tally-none : {P : Cell → Type 0} (cells : List Cell) → ((c : Cell) → Contains cells c → P c → ⊥) → Tally P cells 0

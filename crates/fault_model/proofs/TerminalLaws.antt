@@ -1,16 +1,17 @@
 -- terminals: those that are covered, those of cells, and those with vias among them
-use Rattle.std.proofs.Common.{ℕ, [], ◌≡◌, arith}
-use Rattle.std.specs.Prelude.{◌+ℤ◌, ◌≢◌, ◌↔◌}
+use Rattle.std.proofs.Common.{ℕ, [], ◌≡◌}
+use Rattle.std.specs.Prelude.{◌≢◌, ◌↔◌}
 use Rattle.geo_core.specs.declared.plane.Cell.{Cell}
 use Rattle.geo_core.specs.declared.plane.Half.{Half}
 use Rattle.fault_model.specs.Halves.{LiesIn, IsSwallowed}
 use Rattle.fault_model.specs.Walks.{IsSameIsland}
 use Rattle.fault_model.specs.Nets.{Cut}
 use Rattle.fault_model.specs.Faults.{AreTied, AreParted, IsCellsOpen}
-use Rattle.fault_model.specs.Vias.{Name, named_cell, via, IsInTerminal, Differ, IsViasOpen}
-use Rattle.fault_model.proofs.WalkLaws.{first, append}
-use Rattle.fault_model.proofs.CornerLaws.{in_cell}
-use Rattle.fault_model.proofs.SizeLaws.{first_half}
+use Rattle.fault_model.specs.Vias.{TerminalName, named_cell, via, IsInTerminal, Differ, IsViasOpen}
+use Rattle.paths.proofs.PathLaws.{first, append}
+use Rattle.paths.proofs.ListLaws.{Contains-none}
+use Rattle.fault_model.proofs.LineLaws.{in_cell}
+use Rattle.fault_model.proofs.HalfLaws.{some_half}
 
 -- a terminal that the defect covers wholly has nothing left
 pub covered_is_parted : (covered : Cell → Type 0) (s : ℕ) (c d e : Cell) → IsSwallowed c s d → AreParted covered c s (λ h. LiesIn h d) (λ h. LiesIn h e)
@@ -37,23 +38,21 @@ tied_as_whole covered d e on_d on_e = (
   λ t p q in_d in_e.
       append (in_cell d p t.0 (λ h l. (d, l, on_d)) in_d t.2) (append t.4 (in_cell e t.1 q (λ h l. (e, l, on_e)) t.3 in_e)),
   λ all.
-      let p : Half = record { u = d.i +ℤ d.i; v = d.j +ℤ d.j } in
-      let q : Half = record { u = e.i +ℤ e.i; v = e.j +ℤ e.j } in
-      let in_d : LiesIn p d = (first_half d.i, first_half d.j) in
-      let in_e : LiesIn q e = (first_half e.i, first_half e.j) in
-      (p, q, in_d, in_e, all p q in_d in_e),
+      let p = some_half d in
+      let q = some_half e in
+      (p.0, q.0, p.1, q.1, all p.0 q.0 p.1 q.1),
 )
 
-no_cut : (layer : ℕ → Cell → Type 0) (named : Cell → Type 0) (m : ℕ) (k : Cut) (p h : Half) → IsInTerminal layer [] named m (via k p) h → ⊥
-no_cut layer named m k p h i = let has = i.0.0 in let b = has.1 in omega arith
+no_cut : (covers : ℕ → Cell → Type 0) (named : Cell → Type 0) (m : ℕ) (k : Cut) (p h : Half) → IsInTerminal covers [] named m (via k p) h → ⊥
+no_cut covers named m k p h i = Contains-none i.0.0
 
-pub no_vias : (layer : ℕ → Cell → Type 0) (named : Cell → Type 0) (m s : ℕ) (c : Cell) → IsViasOpen layer [] named m s c ↔ IsCellsOpen (layer m) named s c
-no_vias layer named m s c = (from_vias, λ o. record { one = named_cell o.one; other = named_cell o.other; different = o.different; tied = o.tied; parted = o.parted }) where
-  back : (one other : Name) → Differ layer one other → AreTied (layer m) (IsInTerminal layer [] named m one) (IsInTerminal layer [] named m other) → AreParted (layer m) c s (IsInTerminal layer [] named m one) (IsInTerminal layer [] named m other) → IsCellsOpen (layer m) named s c
+pub no_vias : (covers : ℕ → Cell → Type 0) (named : Cell → Type 0) (m s : ℕ) (c : Cell) → IsViasOpen covers [] named m s c ↔ IsCellsOpen (covers m) named s c
+no_vias covers named m s c = (from_vias, λ o. record { one = named_cell o.one; other = named_cell o.other; different = o.different; tied = o.tied; parted = o.parted }) where
+  back : (one other : TerminalName) → Differ covers one other → AreTied (covers m) (IsInTerminal covers [] named m one) (IsInTerminal covers [] named m other) → AreParted (covers m) c s (IsInTerminal covers [] named m one) (IsInTerminal covers [] named m other) → IsCellsOpen (covers m) named s c
   back (named_cell i) (named_cell k) d t p = record { one = i; other = k; different = d; tied = t; parted = p }
-  back (named_cell i) (via k h) d t p = absurd (no_cut layer named m k h t.1 t.3)
-  back (via k h) (named_cell i) d t p = absurd (no_cut layer named m k h t.0 t.2)
-  back (via k h) (via i g) d t p = absurd (no_cut layer named m k h t.0 t.2)
+  back (named_cell i) (via k h) d t p = absurd (no_cut covers named m k h t.1 t.3)
+  back (via k h) (named_cell i) d t p = absurd (no_cut covers named m k h t.0 t.2)
+  back (via k h) (via i g) d t p = absurd (no_cut covers named m k h t.0 t.2)
 
-  from_vias : IsViasOpen layer [] named m s c → IsCellsOpen (layer m) named s c
+  from_vias : IsViasOpen covers [] named m s c → IsCellsOpen (covers m) named s c
   from_vias o = back o.one o.other o.different o.tied o.parted

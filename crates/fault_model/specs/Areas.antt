@@ -33,7 +33,11 @@ row rect j = map (λ i. record { i = i; j = j }) (range rect.x0 rect.x1)
 abbrev pub cells_of : Rect → List Cell
 cells_of rect = flat_map (row rect) (range rect.y0 rect.y1)
 
--- the least rectangle that has all covered cells: it has them, and lies in each rectangle that does
+-- some number covers the cell
+abbrev pub IsCovered : (ℕ → Cell → Type 0) → Cell → Type 0
+IsCovered covers c = (number : ℕ) × covers number c
+
+-- a rectangle round all covered cells, which every other such rectangle contains
 pub record IsBoundsOf (covered : Cell → Type 0) (box : Rect) : Type 0 where
   pub all_in : (c : Cell) → covered c → Has box c
   pub least : (other : Rect) → ((c : Cell) → covered c → Has other c) → (c : Cell) → Has box c → Has other c

@@ -1,11 +1,11 @@
--- chains: rectangles of a list, each touching the next
+-- chains: how rectangles of a list are connected
 use Rattle.std.specs.Prelude.{ℕ, List, Some, ◌≡◌, ◌≤◌, ◌<◌, length, slice_get}
 use Rattle.geo_core.specs.Cells.{Has, Touch}
 use Rattle.geo_core.specs.declared.plane.Cell.{Cell}
 use Rattle.geo_core.specs.declared.plane.Half.{Half}
 use Rattle.geo_core.specs.declared.plane.Rect.{Rect}
 use Rattle.fault_model.specs.Halves.{IsOn}
-use Rattle.fault_model.specs.Paths.{Path}
+use Rattle.paths.specs.Paths.{Path}
 
 -- the rectangle stands in the list under the number `k`, counted from 0
 abbrev pub HasNumber : List Rect → ℕ → Rect → Type 0
@@ -32,7 +32,7 @@ pub record TouchAt (rects : List Rect) (i j : ℕ) : Type 0 where
   pub other_at : HasNumber rects j other
   pub touch : Touch one other
 
--- rectangles of the list lead from the one number to the other, each touching the next
+-- a path of numbers in the list on which rectangles in a row touch
 abbrev pub AreChained : List Rect → ℕ → ℕ → Type 0
 AreChained rects = Path (λ k. k < length rects) (TouchAt rects)
 

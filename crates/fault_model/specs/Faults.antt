@@ -4,19 +4,19 @@ use Rattle.geo_core.specs.declared.plane.Cell.{Cell}
 use Rattle.geo_core.specs.declared.plane.Half.{Half}
 use Rattle.fault_model.specs.Halves.{LiesIn, IsOn, IsInFootprint}
 use Rattle.fault_model.specs.Walks.{Walk, IsSameIsland}
-use Rattle.fault_model.specs.Nets.{Cut, IsContact, IsSameNet}
+use Rattle.fault_model.specs.Nets.{Cut, IsContact, IsSameNetOn}
 
--- the defect touches two nets of the metal `m`
-pub record IsShort (layer : ℕ → Cell → Type 0) (cuts : List Cut) (m s : ℕ) (c : Cell) : Type 0 where
+-- two half squares of the metal `m` that the defect has are not of one net
+pub record IsShort (covers : ℕ → Cell → Type 0) (cuts : List Cut) (m s : ℕ) (c : Cell) : Type 0 where
   pub one : Half
   pub other : Half
-  pub one_on : IsOn (layer m) one
-  pub other_on : IsOn (layer m) other
+  pub one_on : IsOn (covers m) one
+  pub other_on : IsOn (covers m) other
   pub one_hit : IsInFootprint c s one
   pub other_hit : IsInFootprint c s other
-  pub apart : IsSameNet layer cuts m one other → ⊥
+  pub apart : IsSameNetOn covers cuts m one other → ⊥
 
--- the half square is on the layer and outside the defect
+-- the half square is covered and outside the defect
 abbrev pub IsSpared : (Cell → Type 0) → Cell → ℕ → Half → Type 0
 IsSpared covered c s h = IsOn covered h × (IsInFootprint c s h → ⊥)
 
@@ -48,10 +48,10 @@ IsCellsOpen covered named = IsOpen covered (λ d e. d ≢ e) (IsInNamed named)
 
 -- two contacts of the cut are of one cluster: on one island of the lower metal, and on one of the upper
 abbrev pub IsSameCluster : (ℕ → Cell → Type 0) → Cut → Half → Half → Type 0
-IsSameCluster layer cut p q = IsSameIsland (layer cut.lower) p q × IsSameIsland (layer cut.upper) p q
+IsSameCluster covers cut p q = IsSameIsland (covers cut.lower) p q × IsSameIsland (covers cut.upper) p q
 
--- the defect covers all contacts of one cluster
-pub record IsViaBlock (layer : ℕ → Cell → Type 0) (cut : Cut) (s : ℕ) (c : Cell) : Type 0 where
+-- some cluster has no contact outside the defect
+pub record IsViaBlock (covers : ℕ → Cell → Type 0) (cut : Cut) (s : ℕ) (c : Cell) : Type 0 where
   pub contact : Half
-  pub is_contact : IsContact layer cut contact
-  pub covered : (h : Half) → IsContact layer cut h → IsSameCluster layer cut contact h → IsInFootprint c s h
+  pub is_contact : IsContact covers cut contact
+  pub covered : (h : Half) → IsContact covers cut h → IsSameCluster covers cut contact h → IsInFootprint c s h

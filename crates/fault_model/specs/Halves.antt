@@ -1,35 +1,32 @@
--- half squares: four to a cell, and which of them a layer and a defect have
-use Rattle.std.specs.Prelude.{ℤ, pos, ℕ, ◌+ℤ◌, ◌≤ℤ◌, ◌<ℤ◌, ◌≡◌, ◌⊎◌}
+-- half squares: four to a cell, and which of them are covered, and which a defect has
+use Rattle.std.specs.Prelude.{ℤ, pos, ℕ, ◌+ℤ◌, ◌-ℤ◌, ◌≡◌, ◌⊎◌}
+use Rattle.geo_core.specs.Intervals.{IsIn, Adjoins}
 use Rattle.geo_core.specs.declared.plane.Cell.{Cell}
 use Rattle.geo_core.specs.declared.plane.Half.{Half}
 
 -- `u` is 2i or 2i+1: one of the two half units of the unit `i`
 abbrev pub IsHalfOf : ℤ → ℤ → Type 0
-IsHalfOf u i = ((i +ℤ i) ≤ℤ u) × (u <ℤ (i +ℤ i +ℤ pos 2))
+IsHalfOf u i = IsIn (i +ℤ i) (i +ℤ i +ℤ pos 2) u
 
 -- the half square lies in the cell
 abbrev pub LiesIn : Half → Cell → Type 0
 LiesIn h c = IsHalfOf h.u c.i × IsHalfOf h.v c.j
 
--- the half square lies in a cell that the layer covers
+-- the half square lies in a covered cell
 abbrev pub IsOn : (Cell → Type 0) → Half → Type 0
 IsOn covered h = (c : Cell) × LiesIn h c × covered c
-
--- one of the two numbers follows the other
-abbrev pub Adjoins : ℤ → ℤ → Type 0
-Adjoins a b = (a +ℤ pos 1 ≡ b) ⊎ (b +ℤ pos 1 ≡ a)
 
 -- the half squares share an edge
 abbrev pub Neighbours : Half → Half → Type 0
 Neighbours p q = ((p.v ≡ q.v) × Adjoins p.u q.u) ⊎ ((p.u ≡ q.u) × Adjoins p.v q.v)
 
--- 2i+1-s ≤ u < 2i+1+s: the half unit `u` lies in the range of length `s` round the middle of the unit `i`
-abbrev pub IsReached : ℤ → ℕ → ℤ → Type 0
-IsReached i s u = ((i +ℤ i +ℤ pos 1) ≤ℤ (u +ℤ pos s)) × (u <ℤ (i +ℤ i +ℤ pos 1 +ℤ pos s))
+-- 2i+1-s ≤ u < 2i+1+s: the half unit `u` lies under a defect of side `s` round the middle of the unit `i`
+abbrev pub IsUnder : ℤ → ℕ → ℤ → Type 0
+IsUnder i s u = IsIn (i +ℤ i +ℤ pos 1 -ℤ pos s) (i +ℤ i +ℤ pos 1 +ℤ pos s) u
 
--- the half square lies in the open square of side `s` round the cell's centre; a half-side `r` is the side `r + r`
+-- the half square lies in the open square of side `s` round the cell's centre; a radius `r` is the side `r + r`
 abbrev pub IsInFootprint : Cell → ℕ → Half → Type 0
-IsInFootprint c s h = IsReached c.i s h.u × IsReached c.j s h.v
+IsInFootprint c s h = IsUnder c.i s h.u × IsUnder c.j s h.v
 
 -- the footprint at `c` has a half square of the cell `d`
 abbrev pub IsTouched : Cell → ℕ → Cell → Type 0

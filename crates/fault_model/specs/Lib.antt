@@ -1,11 +1,10 @@
 -- what contracts of other crates cite
-pub mod Paths
 pub mod Halves
 pub mod Walks
 pub mod Nets
 pub mod Faults
+pub mod Vias
 pub mod Areas
 pub mod Chains
 -- what the laws of this crate alone cite
-pub mod Vias
 pub mod Laws

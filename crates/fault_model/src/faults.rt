@@ -9,14 +9,14 @@ ghost use Rattle.fault_model.specs.Laws.{IsNearTwoNets, IsNearCluster};
 
 use super::sets::{Layout, Property};
 
-/// A defect of half-side `r` makes a short exactly where two cells at most `r` away are of two nets: the second
+/// A defect of radius `r` makes a short exactly where two cells at most `r` away are of two nets: the second
 /// nearest net is no further away.
 pub fn shorts_are_near_two_nets<L: Layout>()
     ensures { (cuts : List Cut) (m r : ℕ) (c : Cell) → 1 ≤ r →
         IsShort L.covers cuts m (r + r) c ↔ IsNearTwoNets L.covers cuts m r c }
 {}
 
-/// A defect of half-side `r` blocks a cluster exactly where all cells of its contacts are at most `r - 1` away.
+/// A defect of radius `r` blocks a cluster exactly where all cells of its contacts are at most `r - 1` away.
 pub fn blocks_are_near_whole_clusters<L: Layout>()
     ensures { (cut : Cut) (r : ℕ) (c : Cell) → 1 ≤ r →
         IsViaBlock L.covers cut (r + r) c ↔ IsNearCluster L.covers cut r c }
@@ -34,8 +34,8 @@ pub fn larger_sides_keep_faults<L: Layout, T: Property>()
         IsViaBlock L.covers cut s c → IsViaBlock L.covers cut t c }
 {}
 
-/// From side 2 on, a side makes the shorts of the half-side `s / 2`, and side 1 makes none. From side 1 on, it makes
-/// the via blocks of the half-side `(s + 1) / 2`. Both are whole parts.
+/// From side 2 on, a side makes the shorts of the radius `s / 2`, and side 1 makes none. From side 1 on, it makes
+/// the via blocks of the radius `(s + 1) / 2`. Both are whole parts.
 pub fn sides_as_halves<L: Layout>()
     ensures shorts { (cuts : List Cut) (m s : ℕ) (c : Cell) → 2 ≤ s →
         IsShort L.covers cuts m s c ↔ IsShort L.covers cuts m (s / 2 + s / 2) c }

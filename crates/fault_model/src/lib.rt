@@ -21,7 +21,7 @@ pub use nets::{
     nets_keep_to_metals, nets_without_cuts_are_islands,
 };
 pub use sets::{HalfSet, Layout, Property};
-pub use sizes::{footprints_come_near, half_sides_reach, side_0_touches_none, sides_reach};
+pub use sizes::{footprints_come_near, radii_reach, side_0_touches_none, sides_reach};
 pub use tallies::{
     tallies_add, tallies_agree, tallies_are_bounded, tallies_follow_truth, tallies_grow,
     tallies_ignore_order, tallies_of_nothing, tests_have_tallies,
@@ -34,4 +34,6 @@ pub use walks::{
     corners_do_not_join, edges_join, half_squares_have_one_cell, islands_are_classes,
     walks_are_chains, walks_are_lists, walks_join, walks_turn_round,
 };
-pub use windows::{cells_are_listed_once, touches_stay_in_windows, windows_agree};
+pub use windows::{
+    cells_are_listed_once, faults_stay_in_windows, touches_stay_in_windows, windows_agree,
+};

@@ -27,12 +27,12 @@ pub fn walks_are_lists<S: HalfSet>()
     ensures { (p q : Half) → Walk S.has p q ↔ IsListWalk S.has p q }
 {}
 
-/// The half squares of a layer fall into islands.
+/// The covered half squares fall into islands.
 pub fn islands_are_classes<P: Property>()
     ensures { IsEquivalenceOn (IsOn P.holds) (IsSameIsland P.holds) }
 {}
 
-/// A half square lies in exactly one cell, and is on a layer exactly where the layer covers that cell.
+/// A half square lies in exactly one cell, and is covered exactly where that cell is.
 pub fn half_squares_have_one_cell<P: Property>()
     ensures some { (h : Half) → (c : Cell) × LiesIn h c }
     ensures alone { (h : Half) (c d : Cell) → LiesIn h c → LiesIn h d → c ≡ d }

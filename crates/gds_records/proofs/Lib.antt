@@ -1,5 +1,5 @@
 pub mod Heads
+pub mod RecordCheckLaws
 pub mod SplitLaws
 pub mod ReadingLaws
 pub mod TextLaws
-pub mod Runs

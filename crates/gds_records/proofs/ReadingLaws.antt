@@ -1,10 +1,13 @@
 -- What is left in a reader where it meets a fault, and where it gives a record.
-use Rattle.std.proofs.Common.{◌≡◌, ℕ, ◌+◌, Bool, false, eqb, List, [], ◌∷◌, ◌++◌, length, drop, take, ◌-◌, sym, ap, subst, ◌∙◌}
-use Rattle.std.proofs.lemmas.List.{drop-drop, take_rest}
+use Rattle.std.proofs.Common.{◌≡◌, ◌↔◌, ℕ, ◌+◌, Bool, false, eqb, List, [], ◌∷◌, ◌++◌, length, drop, refl, sym, ap, subst, ◌∙◌}
+use Rattle.std.proofs.lemmas.List.{drop-drop, drop_at}
 use Rattle.gds_records.specs.declared.fault.RecordFault.{RecordFault}
-use Rattle.gds_records.specs.Spelling.{Entry, HasSpelling, spelling}
-use Rattle.gds_records.specs.Split.{End, stops, IsFaultOf, Splits}
+use Rattle.gds_records.specs.Spelling.{Entry, spelling}
+use Rattle.gds_records.specs.Profile.{IsInProfile}
+use Rattle.gds_records.specs.RecordChecks.{IsFaultOf}
+use Rattle.gds_records.specs.Split.{End, stops, Splits}
 use Rattle.gds_records.specs.Reading.{Reading, left_in, IsLeft}
+use Rattle.gds_records.proofs.RecordCheckLaws.{faults_agree}
 use Rattle.gds_records.proofs.SplitLaws.{GoesOn, fault_splits, splits_agree, splits_from, first_is}
 
 -- before ENDLIB what is left is the split
@@ -14,14 +17,6 @@ split_of_left r entries end h s = rw h at s
 left_of_split : (r : Reading) (entries : List Entry) (end : End) → r.ended ≡ false → Splits r.at (left_in r) entries end → IsLeft r entries end
 left_of_split r entries end h s = rw h s
 
--- the bytes behind a record that stands at an offset
-pub behind : (bytes : List ℕ) (at n : ℕ) (e : Entry) → take (length bytes - at) (drop at bytes) ≡ spelling e ++ drop n (take (length bytes - at) (drop at bytes))
-    → drop at bytes ≡ spelling e ++ drop (at + n) bytes
-behind bytes at n e h =
-    let all = take_rest bytes at in
-    let here : drop at bytes ≡ spelling e ++ drop n (drop at bytes) = rw all at h in
-    here ∙ ap (λ (xs : List ℕ). spelling e ++ xs) (drop-drop n at bytes)
-
 -- where a fault is, it is all that is left
 pub left_at_fault : (r : Reading) (f : RecordFault) → r.ended ≡ false → IsFaultOf r.at (left_in r) f → (entries : List Entry) (end : End)
     → (IsLeft r entries end → (entries ≡ []) × (end ≡ stops f)) × ((entries ≡ []) × (end ≡ stops f) → IsLeft r entries end)
@@ -30,6 +25,13 @@ left_at_fault r f running fault entries end =
       λ s. splits_agree entries r.at (left_in r) [] end (stops f) (split_of_left r entries end running s) here,
       λ (none, stopped). rw (none, stopped) (left_of_split r [] (stops f) running here),
     )
+
+-- and it is the only fault
+pub only_fault : (r : Reading) (f : RecordFault) → r.ended ≡ false → IsFaultOf r.at (left_in r) f → (g : RecordFault) → f ≡ g ↔ ((r.ended ≡ false) × IsFaultOf r.at (left_in r) g)
+only_fault r f running fault g = (
+  λ same. (running, subst (IsFaultOf r.at (left_in r)) same fault),
+  λ (runs, other). faults_agree r.at (left_in r) f g fault other,
+)
 
 -- what is left behind a record
 goes_on : (new : Reading) (at : ℕ) (is_last : Bool) (others : List Entry) (end : End) → new.at ≡ at → new.ended ≡ is_last → GoesOn at (left_in new) is_last others end → IsLeft new others end
@@ -42,16 +44,25 @@ went_on new at is_last others end place last s =
     let here : GoesOn new.at (left_in new) is_last others end = rw last at s in
     subst (λ (a : ℕ). GoesOn a (left_in new) is_last others end) place here
 
+-- the bytes behind a record are those that are left when the reader has moved past it
+left_behind : (old new : Reading) (e : Entry) (after : List ℕ) → left_in old ≡ spelling e ++ after → new.bytes ≡ old.bytes → new.at ≡ old.at + length (spelling e) → left_in old ≡ spelling e ++ left_in new
+left_behind old new e after parts bytes place =
+    let n : ℕ = length (spelling e) in
+    let left : left_in new ≡ drop (old.at + n) old.bytes = rw (place, bytes) refl in
+    let behind : left_in new ≡ after = left ∙ sym (drop-drop n old.at old.bytes) ∙ ap (drop n) parts ∙ drop_at (spelling e) after n refl in
+    parts ∙ ap (λ (xs : List ℕ). spelling e ++ xs) (sym behind)
+
 -- where a record is, it is the first of what is left
-pub left_at_record : (old new : Reading) (e : Entry) → old.ended ≡ false → HasSpelling e → left_in old ≡ spelling e ++ left_in new
-    → new.at ≡ old.at + length (spelling e) → new.ended ≡ eqb e.kind 4 → (entries : List Entry) (end : End)
+pub left_at_record : (old new : Reading) (e : Entry) (after : List ℕ) → old.ended ≡ false → IsInProfile e → left_in old ≡ spelling e ++ after
+    → new.bytes ≡ old.bytes → new.at ≡ old.at + length (spelling e) → new.ended ≡ eqb e.kind 4 → (entries : List Entry) (end : End)
     → (IsLeft old entries end → (others : List Entry) × (entries ≡ e ∷ others) × IsLeft new others end)
     × ((others : List Entry) × (entries ≡ e ∷ others) × IsLeft new others end → IsLeft old entries end)
-left_at_record old new e running has_spelling begins place last entries end = (
-  λ s.
-      let first = first_is old.at (left_in old) e (left_in new) entries end has_spelling begins (split_of_left old entries end running s) in
-      (first.0, first.1, goes_on new (old.at + length (spelling e)) (eqb e.kind 4) first.0 end place last first.2),
-  λ (others, parts, s).
-      rw parts (left_of_split old (e ∷ others) end running
-      (splits_from old.at (left_in old) e (left_in new) others end has_spelling begins (went_on new (old.at + length (spelling e)) (eqb e.kind 4) others end place last s))),
-)
+left_at_record old new e after running in_profile parts bytes place last entries end =
+    let begins = left_behind old new e after parts bytes place in (
+      λ s.
+          let first = first_is old.at (left_in old) e (left_in new) entries end in_profile begins (split_of_left old entries end running s) in
+          (first.0, first.1, goes_on new (old.at + length (spelling e)) (eqb e.kind 4) first.0 end place last first.2),
+      λ (others, same, s).
+          rw same (left_of_split old (e ∷ others) end running
+          (splits_from old.at (left_in old) e (left_in new) others end in_profile begins (went_on new (old.at + length (spelling e)) (eqb e.kind 4) others end place last s))),
+    )

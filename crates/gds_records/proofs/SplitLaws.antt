@@ -1,14 +1,16 @@
 -- A split goes on behind its first record, is the only one, and is there for every string of bytes.
-use Rattle.std.proofs.Common.{◌≡◌, ◌≢◌, ℕ, zero, suc, ◌+◌, ◌%◌, ◌<◌, ◌⊎◌, inl, inr, Bool, true, false, eqb, List, [], ◌∷◌, ◌++◌, length, drop, All, refl, sym, ap, subst, ◌∙◌, add-zero, arith}
+use Rattle.std.proofs.Common.{◌≡◌, ◌≢◌, ℕ, zero, suc, ◌+◌, ◌<◌, ◌⊎◌, inl, inr, Bool, true, false, eqb, List, [], ◌∷◌, ◌++◌, length, drop, All, refl, sym, ap, subst, ◌∙◌, add-zero, arith}
 use Rattle.std.specs.Prelude.{MatchBool}
-use Rattle.std.proofs.lemmas.Bool.{cases_lt, eqb-true, eqb-false, eq-eqb, ne_eqb}
-use Rattle.std.proofs.lemmas.List.{append_assoc, append_cancel_left, length-append, length-drop}
+use Rattle.std.proofs.lemmas.Bool.{eqb-true, eqb-false, eq-eqb, ne_eqb}
+use Rattle.std.proofs.lemmas.List.{append_assoc, append_cancel_left, length-append}
 use Rattle.std.proofs.lemmas.List.Elements.{All-nil, All-cons, All-head, All-tail, All-drop}
 use Rattle.gds_records.specs.declared.fault.RecordFault.{RecordFault}
-use Rattle.gds_records.specs.declared.fault.RecordFault.TheVariants.{Truncated, BadLength}
-use Rattle.gds_records.specs.Spelling.{Entry, IsByte, HasSpelling, IsEndlib, IsNoEndlib, AreBytes, spelling, spellings}
-use Rattle.gds_records.specs.Split.{End, whole, stops, said_length, IsFaultOf, EndsWithEndlib, Splits, HasSplit}
-use Rattle.gds_records.proofs.Heads.{spelling_is_no_fault, faults_agree, spellings_agree, entry_at, HasSpelling-entry_at, spelling-entry_at}
+use Rattle.gds_records.specs.Spelling.{Entry, IsByte, IsEndlib, IsNoEndlib, AreBytes, spelling, spellings}
+use Rattle.gds_records.specs.Profile.{IsInProfile}
+use Rattle.gds_records.specs.RecordChecks.{IsFaultOf}
+use Rattle.gds_records.specs.Split.{End, whole, stops, EndsWithEndlib, Splits, HasSplit}
+use Rattle.gds_records.proofs.Heads.{spellings_agree}
+use Rattle.gds_records.proofs.RecordCheckLaws.{faults_agree, records_have_no_fault, record_or_fault}
 
 -- ENDLIB is the last of some records
 nothing_ends : EndsWithEndlib [] → ⊥
@@ -24,7 +26,7 @@ nothing_splits offset bytes (stops f) s =
 -- bytes with a fault split into no records
 pub fault_splits : (offset : ℕ) (bytes : List ℕ) (f : RecordFault) → IsFaultOf offset bytes f → Splits offset bytes [] (stops f)
 fault_splits offset bytes f fault =
-    record { rest = bytes; joined = refl; each = All-nil HasSpelling; ends = (All-nil IsNoEndlib, subst (λ (o : ℕ). IsFaultOf o bytes f) (sym (add-zero offset)) fault) }
+    record { rest = bytes; joined = refl; each = All-nil IsInProfile; ends = (All-nil IsNoEndlib, subst (λ (o : ℕ). IsFaultOf o bytes f) (sym (add-zero offset)) fault) }
 
 -- what comes behind a first record: nothing behind ENDLIB, and else the split of the bytes behind it
 abbrev pub GoesOn : ℕ → List ℕ → Bool → List Entry → End → Type 0
@@ -56,66 +58,66 @@ splits_on offset bytes e after others whole begins s =
     let joined = behind bytes e after others s.rest begins s.joined in
     elim (ends_on e others s.ends.before s.ends.last s.ends.parts s.ends.none_before s.ends.is_endlib) [
       | inl is_last ↦ rw (eq-eqb e.kind 4 is_last.0) (is_last.1, refl)
-      | inr goes ↦ rw (ne_eqb e.kind 4 goes.0) (record { rest = s.rest; joined = joined; each = All-tail HasSpelling e others s.each; ends = goes.1 })
+      | inr goes ↦ rw (ne_eqb e.kind 4 goes.0) (record { rest = s.rest; joined = joined; each = All-tail IsInProfile e others s.each; ends = goes.1 })
     ]
 splits_on offset bytes e after others (stops f) begins s =
     let joined = behind bytes e after others s.rest begins s.joined in
     let is_none : IsNoEndlib e = All-head IsNoEndlib e others s.ends.0 in
     rw (ne_eqb e.kind 4 is_none)
-    (record { rest = s.rest; joined = joined; each = All-tail HasSpelling e others s.each; ends = (All-tail IsNoEndlib e others s.ends.0, subst (λ (o : ℕ). IsFaultOf o s.rest f) (offset_on offset e others) s.ends.1) })
+    (record { rest = s.rest; joined = joined; each = All-tail IsInProfile e others s.each; ends = (All-tail IsNoEndlib e others s.ends.0, subst (λ (o : ℕ). IsFaultOf o s.rest f) (offset_on offset e others) s.ends.1) })
 
 -- a record before a split
 joined_on : (bytes : List ℕ) (e : Entry) (after : List ℕ) (others : List Entry) (rest : List ℕ) → bytes ≡ spelling e ++ after → after ≡ spellings others ++ rest → bytes ≡ spellings (e ∷ others) ++ rest
 joined_on bytes e after others rest begins joined =
     begins ∙ ap (λ (x : List ℕ). spelling e ++ x) joined ∙ sym (append_assoc (spelling e) (spellings others) rest)
 
-more_splits : (offset : ℕ) (bytes : List ℕ) (e : Entry) (after : List ℕ) (others : List Entry) (end : End) → HasSpelling e → IsNoEndlib e → bytes ≡ spelling e ++ after
+more_splits : (offset : ℕ) (bytes : List ℕ) (e : Entry) (after : List ℕ) (others : List Entry) (end : End) → IsInProfile e → IsNoEndlib e → bytes ≡ spelling e ++ after
     → Splits (offset + length (spelling e)) after others end → Splits offset bytes (e ∷ others) end
-more_splits offset bytes e after others whole has_spelling is_none begins s =
+more_splits offset bytes e after others whole in_profile is_none begins s =
     record {
       rest = s.rest;
       joined = joined_on bytes e after others s.rest begins s.joined;
-      each = All-cons HasSpelling e others has_spelling s.each;
+      each = All-cons IsInProfile e others in_profile s.each;
       ends = record { before = e ∷ s.ends.before; last = s.ends.last; parts = ap (λ (x : List Entry). e ∷ x) s.ends.parts; none_before = All-cons IsNoEndlib e s.ends.before is_none s.ends.none_before; is_endlib = s.ends.is_endlib };
     }
-more_splits offset bytes e after others (stops f) has_spelling is_none begins s =
+more_splits offset bytes e after others (stops f) in_profile is_none begins s =
     record {
       rest = s.rest;
       joined = joined_on bytes e after others s.rest begins s.joined;
-      each = All-cons HasSpelling e others has_spelling s.each;
+      each = All-cons IsInProfile e others in_profile s.each;
       ends = (All-cons IsNoEndlib e others is_none s.ends.0, subst (λ (o : ℕ). IsFaultOf o s.rest f) (sym (offset_on offset e others)) s.ends.1);
     }
 
-endlib_splits : (offset : ℕ) (bytes : List ℕ) (e : Entry) (after : List ℕ) → HasSpelling e → IsEndlib e → bytes ≡ spelling e ++ after → Splits offset bytes (e ∷ []) whole
-endlib_splits offset bytes e after has_spelling is_last begins =
+endlib_splits : (offset : ℕ) (bytes : List ℕ) (e : Entry) (after : List ℕ) → IsInProfile e → IsEndlib e → bytes ≡ spelling e ++ after → Splits offset bytes (e ∷ []) whole
+endlib_splits offset bytes e after in_profile is_last begins =
     record {
       rest = after;
       joined = joined_on bytes e after [] after begins refl;
-      each = All-cons HasSpelling e [] has_spelling (All-nil HasSpelling);
+      each = All-cons IsInProfile e [] in_profile (All-nil IsInProfile);
       ends = record { before = []; last = e; parts = refl; none_before = All-nil IsNoEndlib; is_endlib = is_last };
     }
 
-from_goes_on : (offset : ℕ) (bytes : List ℕ) (e : Entry) (after : List ℕ) (others : List Entry) (end : End) (is_last : Bool) → eqb e.kind 4 ≡ is_last → HasSpelling e → bytes ≡ spelling e ++ after
+from_goes_on : (offset : ℕ) (bytes : List ℕ) (e : Entry) (after : List ℕ) (others : List Entry) (end : End) (is_last : Bool) → eqb e.kind 4 ≡ is_last → IsInProfile e → bytes ≡ spelling e ++ after
     → GoesOn (offset + length (spelling e)) after is_last others end → Splits offset bytes (e ∷ others) end
-from_goes_on offset bytes e after others end true test has_spelling begins (none, is_whole) =
-    rw (none, is_whole) (endlib_splits offset bytes e after has_spelling (eqb-true e.kind 4 test) begins)
-from_goes_on offset bytes e after others end false test has_spelling begins s =
-    more_splits offset bytes e after others end has_spelling (eqb-false e.kind 4 test) begins s
+from_goes_on offset bytes e after others end true test in_profile begins (none, is_whole) =
+    rw (none, is_whole) (endlib_splits offset bytes e after in_profile (eqb-true e.kind 4 test) begins)
+from_goes_on offset bytes e after others end false test in_profile begins s =
+    more_splits offset bytes e after others end in_profile (eqb-false e.kind 4 test) begins s
 
 -- the split of bytes that begin with a record, in both directions
-pub splits_from : (offset : ℕ) (bytes : List ℕ) (e : Entry) (after : List ℕ) (others : List Entry) (end : End) → HasSpelling e → bytes ≡ spelling e ++ after
+pub splits_from : (offset : ℕ) (bytes : List ℕ) (e : Entry) (after : List ℕ) (others : List Entry) (end : End) → IsInProfile e → bytes ≡ spelling e ++ after
     → GoesOn (offset + length (spelling e)) after (eqb e.kind 4) others end → Splits offset bytes (e ∷ others) end
-splits_from offset bytes e after others end has_spelling begins goes =
-    from_goes_on offset bytes e after others end (eqb e.kind 4) refl has_spelling begins goes
+splits_from offset bytes e after others end in_profile begins goes =
+    from_goes_on offset bytes e after others end (eqb e.kind 4) refl in_profile begins goes
 
-pub first_is : (offset : ℕ) (bytes : List ℕ) (e : Entry) (after : List ℕ) (entries : List Entry) (end : End) → HasSpelling e → bytes ≡ spelling e ++ after
+pub first_is : (offset : ℕ) (bytes : List ℕ) (e : Entry) (after : List ℕ) (entries : List Entry) (end : End) → IsInProfile e → bytes ≡ spelling e ++ after
     → Splits offset bytes entries end → (others : List Entry) × (entries ≡ e ∷ others) × GoesOn (offset + length (spelling e)) after (eqb e.kind 4) others end
-first_is offset bytes e after [] end has_spelling begins s =
+first_is offset bytes e after [] end in_profile begins s =
     let fault = nothing_splits offset bytes end s in
-    absurd (spelling_is_no_fault offset e after fault.0 has_spelling (subst (λ (b : List ℕ). IsFaultOf offset b fault.0) begins fault.2))
-first_is offset bytes e after (o ∷ others) end has_spelling begins s =
+    absurd (records_have_no_fault offset e after fault.0 in_profile (subst (λ (b : List ℕ). IsFaultOf offset b fault.0) begins fault.2))
+first_is offset bytes e after (o ∷ others) end in_profile begins s =
     let joined : spelling e ++ after ≡ spelling o ++ (spellings others ++ s.rest) = sym begins ∙ s.joined ∙ append_assoc (spelling o) (spellings others) s.rest in
-    let same : e ≡ o = (spellings_agree e o after (spellings others ++ s.rest) has_spelling (All-head HasSpelling o others s.each) joined).0 in
+    let same : e ≡ o = (spellings_agree e o after (spellings others ++ s.rest) in_profile.spelled (All-head IsInProfile o others s.each).spelled joined).0 in
     (others, ap (λ (x : Entry). x ∷ others) (sym same), splits_on offset bytes e after others end begins (subst (λ (x : Entry). Splits offset bytes (x ∷ others) end) (sym same) s))
 
 -- ---- one split at most
@@ -134,44 +136,30 @@ splits_agree [] offset bytes [] end other s t =
 splits_agree [] offset bytes (o ∷ others) end other s t =
     let f = nothing_splits offset bytes end s in
     let begins : bytes ≡ spelling o ++ (spellings others ++ t.rest) = t.joined ∙ append_assoc (spelling o) (spellings others) t.rest in
-    absurd (spelling_is_no_fault offset o (spellings others ++ t.rest) f.0 (All-head HasSpelling o others t.each) (subst (λ (b : List ℕ). IsFaultOf offset b f.0) begins f.2))
+    absurd (records_have_no_fault offset o (spellings others ++ t.rest) f.0 (All-head IsInProfile o others t.each) (subst (λ (b : List ℕ). IsFaultOf offset b f.0) begins f.2))
 splits_agree (e ∷ entries) offset bytes others end other s t =
     let begins : bytes ≡ spelling e ++ (spellings entries ++ s.rest) = s.joined ∙ append_assoc (spelling e) (spellings entries) s.rest in
-    let first = first_is offset bytes e (spellings entries ++ s.rest) others other (All-head HasSpelling e entries s.each) begins t in
+    let first = first_is offset bytes e (spellings entries ++ s.rest) others other (All-head IsInProfile e entries s.each) begins t in
     let step = λ (p : Splits (offset + length (spelling e)) (spellings entries ++ s.rest) entries end) (q : Splits (offset + length (spelling e)) (spellings entries ++ s.rest) first.0 other). splits_agree entries (offset + length (spelling e)) (spellings entries ++ s.rest) first.0 end other p q in
     let both = agree_on (eqb e.kind 4) (offset + length (spelling e)) (spellings entries ++ s.rest) e entries first.0 end other step (splits_on offset bytes e (spellings entries ++ s.rest) entries end begins s) first.2 in
     (both.0 ∙ sym first.1, both.1)
 
 -- ---- one split at least
 
-split_at_record : (offset : ℕ) (bytes : List ℕ) (e : Entry) (after : List ℕ) (is_last : Bool) → eqb e.kind 4 ≡ is_last → HasSpelling e → bytes ≡ spelling e ++ after
+split_at_record : (offset : ℕ) (bytes : List ℕ) (e : Entry) (after : List ℕ) (is_last : Bool) → eqb e.kind 4 ≡ is_last → IsInProfile e → bytes ≡ spelling e ++ after
     → HasSplit (offset + length (spelling e)) after → HasSplit offset bytes
-split_at_record offset bytes e after true test has_spelling begins rest = (e ∷ [], whole, endlib_splits offset bytes e after has_spelling (eqb-true e.kind 4 test) begins)
-split_at_record offset bytes e after false test has_spelling begins rest =
-    (e ∷ rest.0, rest.1, more_splits offset bytes e after rest.0 rest.1 has_spelling (eqb-false e.kind 4 test) begins rest.2)
-
-stops_here : (offset : ℕ) (bytes : List ℕ) (f : RecordFault) → IsFaultOf offset bytes f → HasSplit offset bytes
-stops_here offset bytes f fault = ([], stops f, fault_splits offset bytes f fault)
+split_at_record offset bytes e after true test in_profile begins rest = (e ∷ [], whole, endlib_splits offset bytes e after in_profile (eqb-true e.kind 4 test) begins)
+split_at_record offset bytes e after false test in_profile begins rest =
+    (e ∷ rest.0, rest.1, more_splits offset bytes e after rest.0 rest.1 in_profile (eqb-false e.kind 4 test) begins rest.2)
 
 pub has_split : (fuel offset : ℕ) (bytes : List ℕ) → length bytes < fuel → AreBytes bytes → HasSplit offset bytes
 has_split zero offset bytes lt h = absurd (omega arith)
 has_split (suc fuel) offset bytes lt h =
-    elim (cases_lt (length bytes) 4) [
-      | inl short ↦ stops_here offset bytes (Truncated offset) (refl, inl short)
-      | inr head ↦ elim (cases_lt (said_length bytes) 4) [
-        | inl low ↦ stops_here offset bytes (BadLength offset (said_length bytes)) (refl, refl, (head, inl low))
-        | inr counts ↦ elim (cases_lt 0 (said_length bytes % 2)) [
-          | inl odd ↦ let is_odd : said_length bytes % 2 ≡ 1 = omega arith in stops_here offset bytes (BadLength offset (said_length bytes)) (refl, refl, (head, inr is_odd))
-          | inr even ↦ let is_even : said_length bytes % 2 ≡ 0 = omega arith in elim (cases_lt (length bytes) (said_length bytes)) [
-            | inl cut ↦ stops_here offset bytes (Truncated offset) (refl, inr (head, counts, is_even, cut))
-            | inr room ↦
-                split_at_record offset bytes (entry_at bytes (said_length bytes)) (drop (4 + length (entry_at bytes (said_length bytes)).body) bytes) (eqb (entry_at bytes (said_length bytes)).kind 4) refl
-                (HasSpelling-entry_at bytes (said_length bytes) h refl counts is_even room)
-                (spelling-entry_at bytes (said_length bytes) h refl counts room)
-                (has_split fuel (offset + length (spelling (entry_at bytes (said_length bytes)))) (drop (4 + length (entry_at bytes (said_length bytes)).body) bytes) (omega (arith, length-drop (4 + length (entry_at bytes (said_length bytes)).body) bytes)) (All-drop IsByte (4 + length (entry_at bytes (said_length bytes)).body) bytes h))
-          ]
-        ]
-      ]
+    elim (record_or_fault offset bytes h) [
+      | inl (n, e, in_profile, begins) ↦
+          let shorter : length (drop n bytes) < fuel = omega (arith, ap length begins, length-append (spelling e) (drop n bytes)) in
+          split_at_record offset bytes e (drop n bytes) (eqb e.kind 4) refl in_profile begins (has_split fuel (offset + length (spelling e)) (drop n bytes) shorter (All-drop IsByte n bytes h))
+      | inr (f, fault) ↦ ([], stops f, fault_splits offset bytes f fault)
     ]
 
 -- ---- bytes behind ENDLIB

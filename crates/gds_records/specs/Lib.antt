@@ -1,5 +1,7 @@
 pub mod Spelling
+pub mod Profile
+pub mod RecordFaults
+pub mod RecordChecks
 pub mod Split
-pub mod Faults
 pub mod Reading
 pub mod Fields

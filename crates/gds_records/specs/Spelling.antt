@@ -1,9 +1,9 @@
--- What a record says, and its one spelling in a stream.
+-- What a record contains, and its one spelling in a stream.
 use Rattle.std.specs.Prelude.{◌≡◌, ◌≢◌, ℕ, ◌+◌, ◌%◌, ◌^◌, ◌<◌, List, ◌∷◌, ◌++◌, length, All}
 use Rattle.std.specs.List.{flat_map}
 use Rattle.byteorder.specs.Endian.{big_bytes}
 
--- a record, without the place where it lies: its kind, the form of its data, and its body
+-- the contents of a record, wherever it lies: its kind, the form of its data, and its body
 pub record Entry : Type 0 where
   pub kind : ℕ
   pub form : ℕ
@@ -26,7 +26,7 @@ spelling e = big_bytes 2 (length e.body + 4) ++ e.kind ∷ e.form ∷ e.body
 abbrev pub spellings : List Entry → List ℕ
 spellings entries = flat_map spelling entries
 
--- the record has a spelling: it is of bytes, of which the body has an even number, and two bytes can say the length
+-- the record has a spelling: it is of bytes, of which the body has an even number, and two bytes can hold its length
 pub record HasSpelling (e : Entry) : Type 0 where
   pub kind : IsByte e.kind
   pub form : IsByte e.form

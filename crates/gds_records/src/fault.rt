@@ -5,7 +5,7 @@ use thiserror::Error;
 /// Why the bytes at an offset are no record.
 #[derive(Clone, Copy, Debug, PartialEq, Eq, Error)]
 pub enum RecordFault {
-    /// Fewer bytes are left than a record's head has, or than its length says.
+    /// Fewer bytes are left than a record's head has, or than its length counts.
     #[error("the stream ends within the record at byte {at}")]
     Truncated {
         /// The record's offset.
@@ -22,7 +22,7 @@ pub enum RecordFault {
 }
 
 impl RecordFault {
-    ghost use Rattle.gds_records.specs.Faults.{number_of, place_of};
+    ghost use Rattle.gds_records.specs.RecordFaults.{number_of, place_of};
 
     /// The fault's number: 10 for a stream that ends within a record, 11 for a bad length.
     pub fn number(&self) -> u8

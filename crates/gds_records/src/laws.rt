@@ -1,4 +1,5 @@
-//! Facts about the split of bytes into records, each the contract of a function that does nothing.
+//! Laws of the split of bytes into records, and of texts. Each is a function with an empty body, and its contract says
+//! what holds of the definitions.
 
 ghost use Rattle.std.specs.Prelude.{◌≡◌, ◌≢◌, ℕ, List, [], ◌++◌};
 ghost use Rattle.gds_records.specs.Spelling.{AreBytes, Entry, spellings};

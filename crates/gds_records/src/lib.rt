@@ -3,6 +3,7 @@
 
 pub mod fault;
 pub mod fields;
+pub mod forms;
 pub mod kinds;
 pub mod laws;
 pub mod record;
@@ -12,6 +13,3 @@ pub use fault::RecordFault;
 pub use fields::{i16_at, i32_at, text, u16_at};
 pub use record::Record;
 pub use records::Records;
-
-#[cfg(test)]
-mod tests;

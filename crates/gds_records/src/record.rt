@@ -4,9 +4,9 @@
 pub struct Record<'a> {
     /// The offset of its first byte.
     pub at: u32,
-    /// What it is, as one of the numbers of `kinds`.
+    /// What it is. The known numbers have names in `kinds`.
     pub kind: u8,
-    /// The type of its data: 0 none, 1 bits, 2 and 3 numbers of two and of four bytes, 5 reals of eight bytes, 6 text.
+    /// What its body holds. The known numbers have names in `forms`.
     pub form: u8,
     /// The bytes after the head.
     pub body: &'a [u8],

@@ -1,8 +1,9 @@
-ghost use Rattle.std.specs.Prelude.{◌≡◌, ◌+◌, ◌^◌, ◌<◌, ◌≤◌, ◌↔◌, ◌++◌, ℕ, false, List, length, drop, IsTrue, IfOk, IfErr, IfSome, IfNone, OnSome, OnErr, Ok, Err, Some, None};
+ghost use Rattle.std.specs.Prelude.{◌≡◌, ◌^◌, ◌<◌, ◌↔◌, false, List, length, IsTrue, IfOk, IfErr, IfSome, IfNone, OnErr};
 ghost use Rattle.gds_records.specs.declared.fault.RecordFault.{RecordFault};
-ghost use Rattle.gds_records.specs.Spelling.{Entry, IsEndlib, HasSpelling, spelling};
-ghost use Rattle.gds_records.specs.Split.{End, IsFaultOf};
-ghost use Rattle.gds_records.specs.Reading.{IsGivenOrLeft, IsLeft, left_in, said_by, start_of};
+ghost use Rattle.gds_records.specs.Spelling.{Entry};
+ghost use Rattle.gds_records.specs.RecordChecks.{IsFaultOf};
+ghost use Rattle.gds_records.specs.Split.{End};
+ghost use Rattle.gds_records.specs.Reading.{BeginsWith, IsGivenOrLeft, IsLeft, MovesPast, left_in, start_of};
 
 use crate::fault::RecordFault;
 use crate::kinds::ENDLIB;
@@ -15,12 +16,8 @@ const HEAD: usize = 4;
 
 /// The record that begins at `at`, the offset of the first of these bytes.
 fn record_at<'a>(rest: &'a [u8], at: u32) -> Result<Record<'a>, RecordFault>
-    ensures place { IfOk result (λ r. r.at ≡ at) }
-    ensures entry { IfOk result (λ r. HasSpelling (said_by r)) }
-    ensures spelled { IfOk result (λ r.
-        rest.now ≡ spelling (said_by r) ++ drop (4 + length r.body.now) rest.now) }
-    ensures room { IfOk result (λ r. 4 + length r.body.now ≤ length rest.now) }
-    ensures fault { IfErr result (λ f. IsFaultOf at rest.now f) }
+    ensures found { IfOk result (BeginsWith at rest.now) }
+    ensures fault { IfErr result (IsFaultOf at rest.now) }
 {
     if rest.len() < HEAD {
         return Err(RecordFault::Truncated { at });
@@ -74,9 +71,10 @@ impl<'a> Records<'a> {
         }
     }
 
-    /// The next record, `None` exactly after ENDLIB, or what is wrong with the bytes that are left: `Truncated` where
-    /// they are fewer than a head has, or than a good length says, and `BadLength` where the length is below 4 or odd.
-    /// Bytes behind ENDLIB are not looked at. After `None` and after a fault each further call answers the same again.
+    /// The next record, or `None` once ENDLIB was given, whatever the bytes behind it are. An error says why the bytes
+    /// that are left do not begin with a record: the first check of `record_checks` that fails gives `BadLength` for
+    /// a length of less than the head or an odd one, and `Truncated` for a head or a body that is cut. What is no
+    /// record is not passed over: `None` and an error are given at each further call, too.
     pub fn next(&mut self) -> Result<Option<Record<'a>>, RecordFault>
         // What was still to come is what the call gave, and then what is still to come.
         ensures split { (entries : List Entry) (end : End) →
@@ -87,16 +85,10 @@ impl<'a> Records<'a> {
         ensures fault { (f : RecordFault) →
             (result ≡ Err f) ↔ ((self.old.ended ≡ false) × IsFaultOf self.old.at (left_in self.old) f) }
 
-        // Where a record lies, and where the next one begins.
-        ensures place { IfOk result (λ o. IfSome o (λ r. r.at ≡ self.old.at)) }
-        ensures moves { IfOk result (λ o. IfSome o (λ r. self.new.at ≡ self.old.at + length (spelling (said_by r)))) }
-        ensures within { IfOk result (λ o. OnSome o (self.new.at ≤ length self.new.bytes)) }
-        ensures endlib { IfOk result (λ o. IfSome o (λ r. IsTrue self.new.ended ↔ IsEndlib (said_by r))) }
-
-        // What stays.
-        ensures bytes { self.new.bytes ≡ self.old.bytes }
-        ensures none { IfOk result (λ o. IfNone o (self.new ≡ self.old)) }
-        ensures err { OnErr result (self.new ≡ self.old) }
+        // Where the reader stands afterwards.
+        ensures moves_past { IfOk result (λ o. IfSome o (MovesPast self.old self.new)) }
+        ensures stays_at_end { IfOk result (λ o. IfNone o (self.new ≡ self.old)) }
+        ensures stays_at_fault { OnErr result (self.new ≡ self.old) }
     {
         if self.ended {
             return Ok(None);

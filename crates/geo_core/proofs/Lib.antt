@@ -1,2 +1,3 @@
-pub mod BySides
+pub mod IntervalLaws
+pub mod RectLaws
 pub mod TurnLaws

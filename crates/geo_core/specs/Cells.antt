@@ -1,18 +1,19 @@
 -- the cells of a rectangle
-use Rattle.std.specs.Prelude.{ℤ, pos, ◌+ℤ◌, ◌≤ℤ◌, ◌<ℤ◌, ◌≡◌, ◌⊎◌}
+use Rattle.std.specs.Prelude.{ℤ, ◌≡◌, ◌⊎◌}
+use Rattle.geo_core.specs.Intervals.{IsIn, IsInterval, IsWithin, Adjoins}
+use Rattle.geo_core.specs.declared.bounds.TheConstants.{FARTHEST}
 use Rattle.geo_core.specs.declared.plane.Cell.{Cell}
 use Rattle.geo_core.specs.declared.plane.Rect.{Rect}
 
 -- the cell lies in the rectangle
 pub record Has (rect : Rect) (c : Cell) : Type 0 where
-  pub from_left : rect.x0 ≤ℤ c.i
-  pub to_right : c.i <ℤ rect.x1
-  pub from_bottom : rect.y0 ≤ℤ c.j
-  pub to_top : c.j <ℤ rect.y1
+  pub across : IsIn rect.x0 rect.x1 c.i
+  pub up : IsIn rect.y0 rect.y1 c.j
 
--- the two numbers are at most `by` apart
-abbrev pub IsWithin : ℤ → ℤ → ℤ → Type 0
-IsWithin a b by = (a ≤ℤ (b +ℤ by)) × (b ≤ℤ (a +ℤ by))
+-- each edge of the rectangle lies at a coordinate that a layout may have
+pub record IsInLayout (rect : Rect) : Type 0 where
+  pub across : IsInterval FARTHEST rect.x0 rect.x1
+  pub up : IsInterval FARTHEST rect.y0 rect.y1
 
 -- the cells are at most `by` apart in both directions
 abbrev pub IsNear : Cell → Cell → ℤ → Type 0
@@ -28,9 +29,15 @@ Overlap a b = (c : Cell) × Has a c × Has b c
 
 -- the cells share an edge
 abbrev pub ShareEdge : Cell → Cell → Type 0
-ShareEdge c d =
-    ((c.j ≡ d.j) × ((c.i +ℤ pos 1 ≡ d.i) ⊎ (d.i +ℤ pos 1 ≡ c.i))) ⊎ ((c.i ≡ d.i) × ((c.j +ℤ pos 1 ≡ d.j) ⊎ (d.j +ℤ pos 1 ≡ c.j)))
+ShareEdge c d = ((c.j ≡ d.j) × Adjoins c.i d.i) ⊎ ((c.i ≡ d.i) × Adjoins c.j d.j)
 
 -- the rectangles have a cell in common, or one cell each that share an edge
 abbrev pub Touch : Rect → Rect → Type 0
 Touch a b = (c d : Cell) × Has a c × Has b d × ((c ≡ d) ⊎ ShareEdge c d)
+
+-- the least rectangle that has the cells of both
+pub record IsJoin (a b joined : Rect) : Type 0 where
+  pub first : (c : Cell) → Has a c → Has joined c
+  pub second : (c : Cell) → Has b c → Has joined c
+  pub least : (other : Rect) → ((c : Cell) → Has a c → Has other c) → ((c : Cell) → Has b c → Has other c) →
+      (c : Cell) → Has joined c → Has other c

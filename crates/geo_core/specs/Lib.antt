@@ -1,2 +1,5 @@
+pub mod Intervals
+pub mod Bounds
 pub mod Cells
+pub mod Axes
 pub mod Turns

@@ -2,17 +2,20 @@
 //! these that contracts see as lists.
 #![tactic(auto)]
 
+pub mod axis;
+pub mod bounds;
 pub mod boxes;
+pub mod interval;
 pub mod items;
 pub mod memory;
 pub mod plane;
 pub mod turns;
 
-pub use boxes::{clip, grow, overlaps, touches};
+pub use axis::Axis;
+pub use bounds::{FARTHEST, FARTHEST_GROWN, GREATEST_REACH};
+pub use boxes::{clip, grow, join, overlaps, touches};
+pub use interval::Interval;
 pub use items::{CellList, Items, Name, Points, RectList};
 pub use memory::NoMemory;
 pub use plane::{Cell, Half, Labelled, Point, Rect, Turn};
 pub use turns::{after, turn_point};
-
-#[cfg(test)]
-mod tests;

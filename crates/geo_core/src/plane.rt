@@ -1,4 +1,6 @@
-ghost use Rattle.std.specs.Prelude.{pos, negsuc, ◌≤ℤ◌, ◌<ℤ◌, ◌<◌};
+ghost use Rattle.std.specs.Prelude.{◌<◌};
+ghost use Rattle.geo_core.specs.Intervals.{IsInterval};
+ghost use Rattle.geo_core.specs.declared.bounds.TheConstants.{FARTHEST_GROWN};
 
 /// A unit square of the grid: from `(i, j)` to `(i + 1, j + 1)`, in database units.
 #[derive(Clone, Copy, Debug, PartialEq, Eq)]
@@ -21,21 +23,16 @@ pub struct Point {
     pub y: i32,
 }
 
-/// The cells `(i, j)` with `x0 <= i < x1` and `y0 <= j < y1`, of which there is at least one. Each side lies within
-/// 1,001,000,000 of 0: a layout's rectangles lie within 1,000,000,000, and growing by a reach of at most 1,000,000
-/// stays within.
+/// The cells `(i, j)` with `x0 <= i < x1` and `y0 <= j < y1`, of which there is at least one. Each edge lies within
+/// 1,001,000,000 of 0: a layout's rectangles lie within 1,000,000,000, and none is grown by more than 1,000,000.
 #[derive(Clone, Copy, Debug, PartialEq, Eq)]
 pub struct Rect {
     pub x0: i32,
     pub y0: i32,
     pub x1: i32,
     pub y1: i32,
-    pub ghost wide: { x0 <ℤ x1 },
-    pub ghost high: { y0 <ℤ y1 },
-    pub ghost left: { negsuc 1000999999 ≤ℤ x0 },
-    pub ghost bottom: { negsuc 1000999999 ≤ℤ y0 },
-    pub ghost right: { x1 ≤ℤ pos 1001000000 },
-    pub ghost top: { y1 ≤ℤ pos 1001000000 },
+    pub ghost across: { IsInterval FARTHEST_GROWN x0 x1 },
+    pub ghost up: { IsInterval FARTHEST_GROWN y0 y1 },
 }
 
 /// A rectangle with the number of what it belongs to, such as its net.

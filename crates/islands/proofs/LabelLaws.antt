@@ -1,31 +1,19 @@
 -- classes of the touching pairs are labels, and tell islands apart
 use Rattle.std.proofs.Common.{ℕ, ◌≡◌, sym, List, length, get_or, arith, inl, inr, ◌⊎◌}
-use Rattle.std.proofs.lemmas.Bool.Decides.{leb_tells, eqb_tells}
+use Rattle.std.proofs.lemmas.Bool.Decides.{leb_tells}
 use Rattle.std.proofs.lemmas.List.Elements.{Contains-get_or}
 use Rattle.std.proofs.lemmas.Option.{slice_get_within}
 use Rattle.geo_core.specs.Cells.{Touch, ShareEdge}
 use Rattle.geo_core.specs.declared.plane.Cell.{Cell}
 use Rattle.geo_core.specs.declared.plane.Rect.{Rect}
 use Rattle.fault_model.specs.Chains.{TouchAt, AreChained, IsLabelling}
-use Rattle.fault_model.proofs.ChainLaws.{chain_from_walk, walk_from_chain}
-use Rattle.fault_model.proofs.WalkLaws.{retold}
+use Rattle.fault_model.proofs.ChainLaws.{chain_from_walk, walk_from_chain, TouchAt-sym}
+use Rattle.paths.proofs.PathLaws.{retold}
+use Rattle.paths.proofs.ListLaws.{equal_or_not}
 use Rattle.classes.specs.Classes.{AreBelow, IsPair, AreJoined, IsClasses}
 use Rattle.classes.specs.Laws.{EqualWhereJoined}
 use Rattle.islands.specs.Islands.{LabelsAreIslands}
 use Rattle.islands.specs.Touching.{AreTouching}
-
-ShareEdge-sym : (c d : Cell) → ShareEdge c d → ShareEdge d c
-ShareEdge-sym c d (inl (e, inl f)) = inl (sym e, inr f)
-ShareEdge-sym c d (inl (e, inr f)) = inl (sym e, inl f)
-ShareEdge-sym c d (inr (e, inl f)) = inr (sym e, inr f)
-ShareEdge-sym c d (inr (e, inr f)) = inr (sym e, inl f)
-
-Touch-sym : (a b : Rect) → Touch a b → Touch b a
-Touch-sym a b (c, d, h, k, inl e) = (d, c, k, h, inl (sym e))
-Touch-sym a b (c, d, h, k, inr s) = (d, c, k, h, inr (ShareEdge-sym c d s))
-
-pub TouchAt-sym : (rects : List Rect) (i j : ℕ) → TouchAt rects i j → TouchAt rects j i
-TouchAt-sym rects i j t = record { one = t.other; other = t.one; one_at = t.other_at; other_at = t.one_at; touch = Touch-sym t.one t.other t.touch }
 
 pub pairs_below : (rects : List Rect) (pairs : List (ℕ × ℕ)) → AreTouching rects pairs → AreBelow (length rects) pairs
 pairs_below rects pairs t k d small =
@@ -37,9 +25,9 @@ pair_touches rects pairs t a b (inl c) = ((t.exact a b).0 c).1
 pair_touches rects pairs t a b (inr c) = TouchAt-sym rects b a ((t.exact b a).0 c).1
 
 touching_pair : (rects : List Rect) (pairs : List (ℕ × ℕ)) → AreTouching rects pairs → (a b : ℕ) → TouchAt rects a b → (a ≡ b) ⊎ IsPair pairs a b
-touching_pair rects pairs t a b h = elim (eqb_tells a b) [
-  | inl e ↦ inl e.1
-  | inr n ↦ let apart = n.1 in
+touching_pair rects pairs t a b h = elim (equal_or_not a b) [
+  | inl e ↦ inl e
+  | inr apart ↦
       elim (leb_tells a b) [
         | inl y ↦ let y' = y.1 in inr (inl ((t.exact a b).1 (omega arith, h)))
         | inr y ↦ inr (inr ((t.exact b a).1 (y.1, TouchAt-sym rects a b h)))

@@ -1,123 +1,90 @@
--- tallies of runs of a row and of bands of rows
-use Rattle.std.proofs.Common.{ℕ, zero, suc, ◌+◌, ◌*◌, ◌≡◌, refl, sym, ap, subst, ◌∙◌, List, [], ◌∷◌, ◌++◌, zero-add, arith}
-use Rattle.std.specs.Prelude.{ℤ, pos, negsuc, ◌+ℤ◌, ◌-ℤ◌, ◌≤ℤ◌, ◌<ℤ◌, ◌↔◌, map}
-use Rattle.std.specs.List.{flat_map}
+-- blocks of columns, and bands of rows
+use Rattle.std.proofs.Common.{ℕ, ◌+◌, ◌*◌, ◌≤◌, ◌≡◌, subst, List, arith}
+use Rattle.std.specs.Prelude.{ℤ, pos, ◌-ℤ◌, ◌<ℤ◌, ◌↔◌}
 use Rattle.std.proofs.lemmas.Int.{ints}
-use Rattle.std.proofs.lemmas.List.{map-append}
-use Rattle.std.proofs.lemmas.Grind.{flat_map-append}
+use Rattle.geo_core.specs.Intervals.{IsIn}
+use Rattle.geo_core.specs.Cells.{Has}
+use Rattle.geo_core.specs.declared.axis.Axis.{Axis}
+use Rattle.geo_core.specs.declared.axis.Axis.TheVariants.{X, Y}
 use Rattle.geo_core.specs.declared.plane.Cell.{Cell}
+use Rattle.geo_core.specs.declared.plane.Half.{Half}
+use Rattle.geo_core.specs.declared.plane.Labelled.{Labelled}
 use Rattle.geo_core.specs.declared.plane.Rect.{Rect}
-use Rattle.fault_model.specs.Areas.{Tally, none, hit, miss, from, or_zero, range, row, cells_of}
-use Rattle.fault_model.proofs.TallyLaws.{Tally-append}
-use Rattle.short_area.specs.Columns.{cells_of_rows}
+use Rattle.fault_model.specs.Areas.{Tally, range, row}
+use Rattle.fault_model.specs.Halves.{IsOn, IsInFootprint}
+use Rattle.fault_model.proofs.SizeLaws.{footprint_near}
+use Rattle.short_area.specs.Labels.{Reaches, TouchesTwoLabels}
+use Rattle.short_area.specs.Places.{IsNearAlong, ArePlacesAlike, ArePiecesNear, HasLabelNear, HasTwoLabelsNear, cells_of_columns, cells_of_rows}
+use Rattle.fault_model.proofs.RangeLaws.{length-range, Contains-range, Tally-all, Tally-never, Tally-alike, Tally-times}
+use Rattle.geo_core.proofs.RectLaws.{comes_near}
+use Rattle.short_area.proofs.RectLaws.{cell}
+use Rattle.short_area.proofs.PlaceLaws.{near_at}
 
--- ---- ranges of numbers
+-- ---- what a defect touches, by columns and rows
 
-abs_is : (z : ℤ) → pos 0 ≤ℤ z → pos (or_zero z) ≡ z
-abs_is (pos n) h = refl
-abs_is (negsuc n) h = absurd (omega (arith, ints))
+-- a defect touches a rectangle exactly where the rectangle is near the column and the row of the defect's cell
+touched : (rect : Rect) (radius : ℕ) (c : Cell) → 1 ≤ radius → (IsNearAlong rect X radius c.i × IsNearAlong rect Y radius c.j) ↔ (h : Half) × IsOn (Has rect) h × IsInFootprint c (radius + radius) h
+touched rect radius c positive =
+    let near = comes_near rect (pos radius) c (omega (arith, ints)) in
+    let hit = footprint_near rect (radius + radius) radius (omega arith) (omega arith) (omega arith) c in
+    (λ n. hit.0 (near.1 n), λ h. near.0 (hit.1 h))
 
-from-add : (x : ℤ) (m n : ℕ) → from x (m + n) ≡ from x m ++ from (x +ℤ pos m) n
-from-add x zero n = let e : x ≡ x +ℤ pos 0 = omega (arith, ints) in rw zero-add (ap (λ y. from y n) e)
-from-add x (suc m) n =
-    let e : suc m + n ≡ suc (m + n) = omega arith in
-    let f : x +ℤ pos 1 +ℤ pos m ≡ x +ℤ pos (suc m) = omega (arith, ints) in
-    ap (from x) e ∙ ap (λ xs. x ∷ xs) (from-add (x +ℤ pos 1) m n ∙ ap (λ y. from (x +ℤ pos 1) m ++ from y n) f)
+-- in a band of rows that are alike, the pieces that are near the first row decide each
+module _ (pieces near : List Labelled) (radius : ℕ) (start end : ℤ) (positive : 1 ≤ radius) (first : IsIn start end start) (alike : ArePlacesAlike pieces Y radius start end) (those : ArePiecesNear pieces Y radius start near) (j : ℤ) (in_band : IsIn start end j) where
+  to_column : (i : ℤ) (label : ℕ) → Reaches pieces radius (cell j i) label → HasLabelNear near X radius i label
+  to_column i label s =
+      let n = (touched s.piece.rect radius (cell j i) positive).1 (s.half, s.on, s.hit) in
+      let at_start = near_at pieces Y radius start end alike s.piece s.among j start in_band first n.1 in
+      record { piece = s.piece; among = (those s.piece).1 (s.among, at_start); labelled = s.labelled; near = n.0 }
 
-range-join : (low mid high : ℤ) → low ≤ℤ mid → mid ≤ℤ high → range low high ≡ range low mid ++ range mid high
-range-join low mid high h k =
-    let a = abs_is (mid -ℤ low) (omega (arith, ints)) in
-    let b = abs_is (high -ℤ mid) (omega (arith, ints)) in
-    let c = abs_is (high -ℤ low) (omega (arith, ints)) in
-    let m : or_zero (high -ℤ low) ≡ or_zero (mid -ℤ low) + or_zero (high -ℤ mid) = omega (arith, ints) in
-    let e : low +ℤ pos (or_zero (mid -ℤ low)) ≡ mid = omega (arith, ints) in
-    ap (from low) m ∙ from-add low (or_zero (mid -ℤ low)) (or_zero (high -ℤ mid)) ∙ ap (λ x. range low mid ++ from x (or_zero (high -ℤ mid))) e
+  from_column : (i : ℤ) (label : ℕ) → HasLabelNear near X radius i label → Reaches pieces radius (cell j i) label
+  from_column i label s =
+      let m = (those s.piece).0 s.among in
+      let at_row = near_at pieces Y radius start end alike s.piece m.0 start j first in_band m.1 in
+      let hit = (touched s.piece.rect radius (cell j i) positive).0 (s.near, at_row) in
+      record { piece = s.piece; among = m.0; labelled = s.labelled; half = hit.0; on = hit.1; hit = hit.2 }
 
-range-none : (low : ℤ) → range low low ≡ []
-range-none low = let a = abs_is (low -ℤ low) (omega (arith, ints)) in let m : or_zero (low -ℤ low) ≡ 0 = omega (arith, ints) in ap (from low) m
+  decided : (i : ℤ) → HasTwoLabelsNear near X radius i ↔ TouchesTwoLabels pieces radius (cell j i)
+  decided i = (
+    λ t. record { one = t.one; other = t.other; one_reaches = from_column i t.one t.one_near; other_reaches = from_column i t.other t.other_near; different = t.different },
+    λ t. record { one = t.one; other = t.other; one_near = to_column i t.one t.one_reaches; other_near = to_column i t.other t.other_reaches; different = t.different },
+  )
 
--- ---- runs of a row
+-- ---- blocks of columns
 
-abbrev cell : ℤ → ℤ → Cell
-cell j i = record { i = i; j = j }
+-- in a block of columns that are alike, what is near one column is near each
+module _ (pieces : List Labelled) (axis : Axis) (radius : ℕ) (start end : ℤ) (alike : ArePlacesAlike pieces axis radius start end) (x y : ℤ) (h : IsIn start end x) (k : IsIn start end y) where
+  label_at : (label : ℕ) → HasLabelNear pieces axis radius x label → HasLabelNear pieces axis radius y label
+  label_at label s = record { piece = s.piece; among = s.among; labelled = s.labelled; near = near_at pieces axis radius start end alike s.piece s.among x y h k s.near }
 
--- the cells of a row from `low` to before `high`
-abbrev pub run : ℤ → ℤ → ℤ → List Cell
-run j low high = map (cell j) (range low high)
+  two_labels_at : HasTwoLabelsNear pieces axis radius x → HasTwoLabelsNear pieces axis radius y
+  two_labels_at t = record { one = t.one; other = t.other; one_near = label_at t.one t.one_near; other_near = label_at t.other t.other_near; different = t.different }
 
--- the tally of a run, as a record so that lemmas find its arguments
-pub record RunTally (P : Cell → Type 0) (j low high : ℤ) (n : ℕ) : Type 0 where
-  pub tally : Tally P (run j low high) n
+-- whether pieces of two labels are near the cell's column
+abbrev pub HasTwoInColumn : List Labelled → ℕ → Cell → Type 0
+HasTwoInColumn pieces radius c = HasTwoLabelsNear pieces X radius c.i
 
-all_from : (P : Cell → Type 0) (j x : ℤ) (n : ℕ) → ((i : ℤ) → x ≤ℤ i → i <ℤ (x +ℤ pos n) → P (cell j i)) → Tally P (map (cell j) (from x n)) n
-all_from P j x zero f = none
-all_from P j x (suc n) f = hit (f x (omega (arith, ints)) (omega (arith, ints))) (all_from P j (x +ℤ pos 1) n (λ i p q. f i (omega (arith, ints)) (omega (arith, ints))))
+module _ (pieces : List Labelled) (radius : ℕ) (start end : ℤ) (alike : ArePlacesAlike pieces X radius start end) (some : start <ℤ end) (j : ℤ) where
+  at_start : IsIn start end start
+  at_start = record { from = omega (arith, ints); before = some }
 
-none_from : (P : Cell → Type 0) (j x : ℤ) (n : ℕ) → ((i : ℤ) → x ≤ℤ i → i <ℤ (x +ℤ pos n) → P (cell j i) → ⊥) → Tally P (map (cell j) (from x n)) 0
-none_from P j x zero f = none
-none_from P j x (suc n) f = miss (f x (omega (arith, ints)) (omega (arith, ints))) (none_from P j (x +ℤ pos 1) n (λ i p q. f i (omega (arith, ints)) (omega (arith, ints))))
+  pub block_all : (n : ℕ) → pos n ≡ end -ℤ start → HasTwoLabelsNear pieces X radius start → Tally (HasTwoInColumn pieces radius) (cells_of_columns j start end) n
+  block_all n e two =
+      subst (Tally (HasTwoInColumn pieces radius) (cells_of_columns j start end)) (length-range start end n e)
+      (Tally-all (HasTwoInColumn pieces radius) (cell j) (range start end) (λ x m. two_labels_at pieces X radius start end alike start x at_start (Contains-range start end (omega (arith, ints)) x m) two))
 
--- where all cells of a run have the property, their number is the run's length
-pub run_all : (P : Cell → Type 0) (j low high : ℤ) (n : ℕ) → low ≤ℤ high → pos n ≡ high -ℤ low → ((i : ℤ) → low ≤ℤ i → i <ℤ high → P (record { i = i; j = j })) → RunTally P j low high n
-run_all P j low high n h e f =
-    let a = abs_is (high -ℤ low) (omega (arith, ints)) in
-    let m : or_zero (high -ℤ low) ≡ n = omega (arith, ints) in
-    let t = all_from P j low (or_zero (high -ℤ low)) (λ i p q. f i p (omega (arith, ints))) in
-    record { tally = subst (Tally P (run j low high)) m t }
-
--- where none has it, it is 0
-pub run_none : (P : Cell → Type 0) (j low high : ℤ) → low ≤ℤ high → ((i : ℤ) → low ≤ℤ i → i <ℤ high → P (record { i = i; j = j }) → ⊥) → RunTally P j low high 0
-run_none P j low high h f =
-    let a = abs_is (high -ℤ low) (omega (arith, ints)) in
-    record { tally = none_from P j low (or_zero (high -ℤ low)) (λ i p q. f i p (omega (arith, ints))) }
-
-pub run_start : (P : Cell → Type 0) (j low low' : ℤ) → low' ≡ low → RunTally P j low low' 0
-run_start P j low low' e = record { tally = subst (λ x. Tally P (run j low x) 0) (sym e) (rw (range-none low) none) }
-
-pub run_join : (P : Cell → Type 0) (j low mid high : ℤ) (m n : ℕ) → low ≤ℤ mid → mid ≤ℤ high → RunTally P j low mid m → RunTally P j mid high n → RunTally P j low high (m + n)
-run_join P j low mid high m n h k s t =
-    let e = ap (map (cell j)) (range-join low mid high h k) ∙ map-append (cell j) (range low mid) (range mid high) in
-    record { tally = rw e (Tally-append _ _ m n s.tally t.tally) }
-
-pub run_end : (P : Cell → Type 0) (rect : Rect) (j high : ℤ) (n : ℕ) → high ≡ rect.x1 → RunTally P j rect.x0 high n → Tally P (row rect j) n
-run_end P rect j high n e t = subst (λ x. Tally P (run j rect.x0 x) n) e t.tally
+  pub block_none : (HasTwoLabelsNear pieces X radius start → ⊥) → Tally (HasTwoInColumn pieces radius) (cells_of_columns j start end) 0
+  block_none not_two =
+      Tally-never (HasTwoInColumn pieces radius) (cell j) (range start end) (λ x m two. not_two (two_labels_at pieces X radius start end alike x start (Contains-range start end (omega (arith, ints)) x m) at_start two))
 
 -- ---- bands of rows
 
--- a property that cells of a row share with their columns has the tally of these
-alike_from : (P : Cell → Type 0) (Q : ℤ → Type 0) (j : ℤ) (is : List ℤ) (n : ℕ) → ((i : ℤ) → Q i ↔ P (cell j i)) → Tally (λ c. Q c.i) (map (cell j) is) n → Tally P (map (cell j) is) n
-alike_from P Q j [] n f none = none
-alike_from P Q j (i ∷ is) n f (hit {n = m} h t) = hit ((f i).0 h) (alike_from P Q j is m f t)
-alike_from P Q j (i ∷ is) n f (miss h t) = miss (λ p. h ((f i).1 p)) (alike_from P Q j is n f t)
-
-pub row_alike : (P : Cell → Type 0) (Q : ℤ → Type 0) (rect : Rect) (j : ℤ) (n : ℕ) → ((i : ℤ) → Q i ↔ P (record { i = i; j = j })) → Tally (λ c. Q c.i) (row rect j) n → Tally P (row rect j) n
-row_alike P Q rect j n f t = alike_from P Q j (range rect.x0 rect.x1) n f t
-
-rows_from : (P : Cell → Type 0) (rect : Rect) (x : ℤ) (height n : ℕ) → ((j : ℤ) → x ≤ℤ j → j <ℤ (x +ℤ pos height) → Tally P (row rect j) n) → Tally P (flat_map (row rect) (from x height)) (height * n)
-rows_from P rect x zero n f = let e : zero * n ≡ 0 = omega arith in rw e none
-rows_from P rect x (suc height) n f =
-    let e : suc height * n ≡ n + height * n = omega arith in
-    let t = rows_from P rect (x +ℤ pos 1) height n (λ j p q. f j (omega (arith, ints)) (omega (arith, ints))) in
-    rw e (Tally-append _ _ n (height * n) (f x (omega (arith, ints)) (omega (arith, ints))) t)
-
--- where each row of a band has the same tally, the band has that many times its height
-pub band_tally : (P : Cell → Type 0) (rect : Rect) (start end : ℤ) (height n : ℕ) → start ≤ℤ end → pos height ≡ end -ℤ start → ((j : ℤ) → start ≤ℤ j → j <ℤ end → Tally P (row rect j) n) → Tally P (cells_of_rows rect start end) (height * n)
-band_tally P rect start end height n h e f =
-    let a = abs_is (end -ℤ start) (omega (arith, ints)) in
-    let m : or_zero (end -ℤ start) ≡ height = omega (arith, ints) in
-    subst (λ k. Tally P (flat_map (row rect) (from start k)) (height * n)) (sym m) (rows_from P rect start height n (λ j p q. f j p (omega (arith, ints))))
-
--- the tally of the rows of a rectangle from its lowest to before `high`
-pub record RowsTally (P : Cell → Type 0) (rect : Rect) (high : ℤ) (n : ℕ) : Type 0 where
-  pub tally : Tally P (cells_of_rows rect rect.y0 high) n
-
-pub rows_start : (P : Cell → Type 0) (rect : Rect) (low : ℤ) → low ≡ rect.y0 → RowsTally P rect low 0
-rows_start P rect low e = record { tally = subst (λ x. Tally P (flat_map (row rect) (range rect.y0 x)) 0) (sym e) (rw (range-none rect.y0) none) }
-
-pub rows_join : (P : Cell → Type 0) (rect : Rect) (mid high : ℤ) (m n : ℕ) → rect.y0 ≤ℤ mid → mid ≤ℤ high → RowsTally P rect mid m → Tally P (cells_of_rows rect mid high) n → RowsTally P rect high (m + n)
-rows_join P rect mid high m n h k s t =
-    let e = ap (flat_map (row rect)) (range-join rect.y0 mid high h k) ∙ flat_map-append (row rect) (range rect.y0 mid) (range mid high) in
-    record { tally = rw e (Tally-append _ _ m n s.tally t) }
-
-pub rows_end : (P : Cell → Type 0) (rect : Rect) (high : ℤ) (n : ℕ) → high ≡ rect.y1 → RowsTally P rect high n → Tally P (cells_of rect) n
-rows_end P rect high n e t = subst (λ x. Tally P (flat_map (row rect) (range rect.y0 x)) n) e t.tally
+-- a band of which the near pieces have this tally in each row
+pub band_tally : (pieces near : List Labelled) (radius : ℕ) (window : Rect) (start end : ℤ) (height n : ℕ) → 1 ≤ radius → start <ℤ end → ArePlacesAlike pieces Y radius start end → ArePiecesNear pieces Y radius start near
+    → ((j : ℤ) → Tally (HasTwoInColumn near radius) (row window j) n) → pos height ≡ end -ℤ start → Tally (TouchesTwoLabels pieces radius) (cells_of_rows window start end) (height * n)
+band_tally pieces near radius window start end height n positive some alike those tally e =
+    let first : IsIn start end start = record { from = omega (arith, ints); before = some } in
+    subst (λ k. Tally (TouchesTwoLabels pieces radius) (cells_of_rows window start end) (k * n)) (length-range start end height e)
+    (Tally-times (TouchesTwoLabels pieces radius) (row window) (range start end) n (λ j m.
+    Tally-alike (HasTwoInColumn near radius) (TouchesTwoLabels pieces radius) (cell j) (range window.x0 window.x1) n
+    (decided pieces near radius start end positive first alike those j (Contains-range start end (omega (arith, ints)) j m)) (tally j)))

@@ -1,4 +1,5 @@
-pub mod RangeLaws
-pub mod NearLaws
+pub mod MeasureLaws
+pub mod PlaceLaws
+pub mod LabelLaws
+pub mod RectLaws
 pub mod AreaLaws
-pub mod BlockLaws

@@ -6,19 +6,19 @@ use Rattle.geo_core.specs.declared.plane.Half.{Half}
 use Rattle.geo_core.specs.declared.plane.Labelled.{Labelled}
 use Rattle.fault_model.specs.Halves.{IsOn, IsInFootprint}
 
--- a piece with this label has a half square in the footprint of the defect of half-side `r` at the cell
-pub record Reaches (pieces : List Labelled) (r : ℕ) (c : Cell) (label : ℕ) : Type 0 where
+-- a piece with this label has a half square in the footprint of the defect of this radius at the cell
+pub record Reaches (pieces : List Labelled) (radius : ℕ) (c : Cell) (label : ℕ) : Type 0 where
   pub piece : Labelled
   pub among : Contains pieces piece
   pub labelled : piece.label ≡ label
   pub half : Half
   pub on : IsOn (Has piece.rect) half
-  pub hit : IsInFootprint c (r + r) half
+  pub hit : IsInFootprint c (radius + radius) half
 
 -- the defect touches pieces of two labels
-pub record TouchesTwo (pieces : List Labelled) (r : ℕ) (c : Cell) : Type 0 where
+pub record TouchesTwoLabels (pieces : List Labelled) (radius : ℕ) (c : Cell) : Type 0 where
   pub one : ℕ
   pub other : ℕ
-  pub one_reaches : Reaches pieces r c one
-  pub other_reaches : Reaches pieces r c other
+  pub one_reaches : Reaches pieces radius c one
+  pub other_reaches : Reaches pieces radius c other
   pub different : one ≢ other

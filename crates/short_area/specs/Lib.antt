@@ -1,2 +1,4 @@
+-- what contracts of other crates cite
 pub mod Labels
-pub mod Columns
+-- what this crate alone cites
+pub mod Places

@@ -52,7 +52,7 @@ fn reports_are_written_out(rt: HostRuntime) -> Result<(), Fail> {
     Ok(())
 }
 
-/// A defect is near a shape where its centre lies in the shape grown by the half-side on each side. So of two nets of
+/// A defect is near a shape where its centre lies in the shape grown by the radius on each side. So of two nets of
 /// one rectangle each the area is the cells that both grown rectangles have.
 #[test]
 fn areas_are_those_counted_by_hand(rt: HostRuntime) -> Result<(), Fail> {

@@ -7,7 +7,7 @@ use std::process::Abort;
 use std::test::Fail;
 use std::thread::Threads;
 
-/// The words that ask for the areas of layer 1 and datatype 0 at the half-side 3.
+/// The words that ask for the areas of layer 1 and datatype 0 at the radius 3.
 pub const RADIUS_3: &str = "a --layer 1 --datatype 0 --radius 3";
 
 /// What they are answered for the two bars.
@@ -91,7 +91,7 @@ pub struct Answer {
 /// What is wanted of a run.
 #[derive(Clone, Copy)]
 pub enum Want {
-    /// The report of this area of shorts at this half-side of defects.
+    /// The report of this area of shorts at this radius of defects.
     Short { radius: u32, area: u64 },
     /// The words are refused.
     BadWords,

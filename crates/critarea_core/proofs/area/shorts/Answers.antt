@@ -4,7 +4,7 @@ use Rattle.std.specs.List.{zip}
 use Rattle.std.proofs.lemmas.Result.{IfOk-weaker}
 use Rattle.fault_model.specs.Areas.{Tally, cells_of}
 use Rattle.fault_model.proofs.TallyLaws.{Tally-same_all}
-use Rattle.short_area.specs.Labels.{TouchesTwo}
+use Rattle.short_area.specs.Labels.{TouchesTwoLabels}
 use Rattle.critarea_core.specs.Area.{piece_of}
 use Rattle.critarea_core.proofs.AreaLaws.{short_of_pieces, pieces_of_short}
 use Rattle.critarea_core.proofs.area.shorts.Goals as goal
@@ -17,5 +17,5 @@ returns-clause-tally c =
     let r = c.args.radius in
     let pieces = c.as_slice-2.ensures.value ∙ c.in_ok-pieces.ensures ∙ ap (λ (x : List ℕ). map piece_of (zip rects x)) c.as_slice.ensures.value in
     IfOk-weaker _ _ _ (λ (n : ℕ) tally.
-    let t = subst (λ x. Tally (TouchesTwo x r) (cells_of c.args.window) n) pieces tally in
+    let t = subst (λ x. Tally (TouchesTwoLabels x r) (cells_of c.args.window) n) pieces tally in
     Tally-same_all (cells_of c.args.window) n (λ d. (short_of_pieces rects labels found.least.one_each found.islands r d, pieces_of_short rects labels found.least.one_each found.islands r d)) t) c.short_area.ensures.tally

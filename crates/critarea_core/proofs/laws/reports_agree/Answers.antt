@@ -1,7 +1,6 @@
-use Rattle.critarea_core.specs.Rows.{one_metal}
-use Rattle.critarea_core.specs.Verdict.{layers_of}
-use Rattle.critarea_core.proofs.AgreeLaws.{reports_agree}
+use Rattle.critarea_core.specs.Coverage.{coverage_of}
+use Rattle.critarea_core.proofs.RowLaws.{reports_agree}
 use Rattle.critarea_core.proofs.laws.reports_agree.Goals as goal
 
 pub returns : goal.returns
-returns c request shapes = reports_agree (one_metal request.radius) (layers_of request shapes)
+returns c subject = reports_agree subject.layer_map (coverage_of subject.layer_map subject.shapes)

@@ -1,7 +1,8 @@
 use Rattle.std.proofs.Common.{refl, sym}
 use Rattle.std.proofs.lemmas.Option.{slice_get_read}
-use Rattle.critarea_core.specs.Outline.{IsInLayout}
-use Rattle.critarea_core.proofs.WindowLaws.{at_number, bounds_start, bounds_more, bounds_end, join_in_layout}
+use Rattle.geo_core.specs.Cells.{IsInLayout}
+use Rattle.geo_core.proofs.RectLaws.{join_in_layout}
+use Rattle.critarea_core.proofs.WindowLaws.{at_number, bounds_start, bounds_more, bounds_end}
 use Rattle.critarea_core.proofs.window.bounds.Goals as goal
 
 pub loop-rect-init : goal.loop-rect-init

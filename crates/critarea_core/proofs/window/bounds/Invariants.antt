@@ -1,5 +1,5 @@
 use Rattle.std.proofs.Common.{All}
-use Rattle.critarea_core.specs.Outline.{IsInLayout}
+use Rattle.geo_core.specs.Cells.{IsInLayout}
 use Rattle.critarea_core.proofs.WindowLaws.{AreBoundsUpTo}
 use Rattle.critarea_core.proofs.window.bounds.Given as goal
 

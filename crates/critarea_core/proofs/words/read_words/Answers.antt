@@ -1,5 +1,5 @@
-use Rattle.std.proofs.Common.{refl, sym, ◌∙◌, subst}
-use Rattle.critarea_core.specs.Words.{IsNumberFrom}
+use Rattle.std.proofs.Common.{rules, refl, sym, ◌∙◌, subst}
+use Rattle.critarea_core.specs.Words.{IsNumber, IsNumberFrom}
 use Rattle.critarea_core.proofs.WordLaws.{seven, same_text, asks}
 use Rattle.critarea_core.proofs.words.read_words.Goals as goal
 
@@ -11,6 +11,7 @@ returns-clause-some c =
     (sym c.as_str-else-not-is_file_word.ensures ∙ same_text _ _ c.if-ne.ensures)
     (sym c.as_str-else-ne.ensures ∙ same_text _ _ c.if-ne-2.ensures)
     (sym c.as_str-else-ne-2.ensures ∙ same_text _ _ c.if-ne-3.ensures)
-    (subst (λ t. IsNumberFrom 0 65535 t c.in-Some.layer) c.as_str-2.ensures c.in-Some.ensures.some)
-    (subst (λ t. IsNumberFrom 0 65535 t c.in-Some-number.datatype) c.as_str-3.ensures c.in-Some-number.ensures.some)
-    (subst (λ t. IsNumberFrom 1 1000000 t c.in-Some-number-2.radius) c.as_str-4.ensures c.in-Some-number-2.ensures.some)
+    (subst (λ t. IsNumberFrom 0 65535 t c.in_ok-layer.layer) c.as_str-2.ensures c.in_ok-layer.ensures.some)
+    (subst (λ t. IsNumberFrom 0 65535 t c.in_ok-datatype.datatype) c.as_str-3.ensures c.in_ok-datatype.ensures.some)
+    (subst (λ t. IsNumber t c.in_ok-radius.radius) c.as_str-4.ensures c.in_ok-radius.ensures.some.number)
+    (record { least = c.in_ok-radius.ensures.some.least; most = search rules })

@@ -1,5 +1,6 @@
-use Rattle.std.proofs.Common.{◌≡◌, ◌≤◌, ◌+◌, ◌-◌, List, ℕ, vec_len}
-use Rattle.edge_io.proofs.Reading.{HasRead}
+use Rattle.std.proofs.Common.{◌≡◌, ◌≤◌, ◌+◌, ◌-◌, List, [], ◌∷◌, ℕ, vec_len}
+use Rattle.edge_io.specs.Bytes.{Appends}
+use Rattle.edge_io.proofs.ByteLaws.{HasRead}
 use Rattle.edge_io.proofs.whole.read_whole.Given as goal
 
 abbrev pub invariant-loop-buf : goal.invariant-loop-buf
@@ -7,10 +8,11 @@ invariant-loop-buf g l =
     let source = g.F.Files in
     record {
       holds : (n : List ℕ) → source.holds l.files n ≡ source.holds l.fn.files n;
+      starts : Appends (source.starts l.fn.files) (source.starts l.files) (l.fn.name ∷ []);
       started : source.started l.files;
       calm : source.faults l.files ≡ source.faults l.fn.files;
       within : vec_len l.whole ≤ l.limit + 1;
-      read : HasRead (source.holds l.fn.files l.fn.name) (source.rest l.files) l.whole.items (vec_len l.whole);
+      read : HasRead (source.holds l.fn.files l.fn.name) (source.rest l.files) l.whole.items;
     }
 
 abbrev pub decreases-loop-buf : goal.decreases-loop-buf

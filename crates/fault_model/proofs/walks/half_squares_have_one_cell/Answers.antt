@@ -1,5 +1,4 @@
-use Rattle.fault_model.proofs.ListWalkLaws.{some_cell}
-use Rattle.fault_model.proofs.CornerLaws.{one_cell, cell_on}
+use Rattle.fault_model.proofs.HalfLaws.{some_cell, one_cell, cell_on}
 use Rattle.fault_model.proofs.walks.half_squares_have_one_cell.Goals as goal
 
 pub returns-clause-some : goal.returns-clause-some

@@ -1,4 +1,4 @@
-use Rattle.fault_model.proofs.WalkLaws.{append}
+use Rattle.paths.proofs.PathLaws.{append}
 use Rattle.fault_model.proofs.walks.walks_join.Goals as goal
 
 pub returns : goal.returns

@@ -1,4 +1,4 @@
-use Rattle.fault_model.proofs.WalkLaws.{Walk-reverse}
+use Rattle.fault_model.proofs.LineLaws.{Walk-reverse}
 use Rattle.fault_model.proofs.walks.walks_turn_round.Goals as goal
 
 pub returns : goal.returns

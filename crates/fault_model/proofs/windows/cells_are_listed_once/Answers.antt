@@ -7,5 +7,5 @@ returns-clause-same_cells c = Contains-cells_of
 pub returns-clause-once : goal.returns-clause-once
 returns-clause-once c = once
 
-pub returns-clause-never : goal.returns-clause-never
-returns-clause-never c = never
+pub returns-clause-no_others : goal.returns-clause-no_others
+returns-clause-no_others c = never

@@ -1,0 +1,35 @@
+-- refusals: each is its number and its place, and the status that the stage gives it
+use Rattle.std.specs.Prelude.{ℕ, List, [], ◌∷◌, codes}
+use Rattle.std.specs.Fmt.{decimal}
+use Rattle.std.specs.List.{concat}
+use Rattle.critarea_core.specs.LayoutFaults.{number_of, place_of}
+use Rattle.critarea_core.specs.declared.fault.LayoutFault.{LayoutFault}
+use Rattle.critarea_core.specs.declared.refusal.Refusal.{Refusal}
+
+-- a refusal of the words
+abbrev pub of_words : ℕ → ℕ → Refusal
+of_words number place = record { status = 2; number = number; place = place }
+
+-- a refusal of the layout
+abbrev pub of_layout : ℕ → ℕ → Refusal
+of_layout number place = record { status = 4; number = number; place = place }
+
+-- the words ask for nothing
+abbrev pub usage : Refusal
+usage = of_words 2 0
+
+-- the most bytes that a layout may have
+abbrev pub layout_limit : ℕ
+layout_limit = 268435456
+
+-- the layout has more
+abbrev pub layout_too_long : Refusal
+layout_too_long = of_layout 9 layout_limit
+
+-- the layout has a fault
+abbrev pub of_layout_fault : LayoutFault → Refusal
+of_layout_fault fault = of_layout (number_of fault) (place_of fault)
+
+-- the line that is printed for a refusal
+abbrev pub refusal_text : Refusal → List ℕ
+refusal_text refusal = concat (codes "error " ∷ decimal refusal.number ∷ codes " at " ∷ decimal refusal.place ∷ codes "\n" ∷ [])

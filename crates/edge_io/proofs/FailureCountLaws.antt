@@ -1,0 +1,7 @@
+-- what a count that rose is
+use Rattle.std.proofs.Common.{ℕ, ◌≤◌, arith}
+use Rattle.edge_io.specs.FailureCounts.{Rose}
+
+-- it did not fall
+pub Rose-le : {old new : ℕ} → Rose old new → old ≤ new
+Rose-le rose = omega (arith, rose)

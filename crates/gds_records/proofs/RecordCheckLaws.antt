@@ -1,0 +1,77 @@
+-- Bytes have one fault at most. They begin with a record, and then have none, or they have a fault.
+use Rattle.std.proofs.Common.{◌≡◌, ℕ, ◌%◌, ◌<◌, ◌≤◌, ◌⊎◌, inl, inr, List, ◌++◌, length, drop, All, refl, arith}
+use Rattle.std.proofs.lemmas.Bool.{cases_lt}
+use Rattle.std.proofs.lemmas.List.{length-append}
+use Rattle.first_refusal.proofs.CheckLaws.{fails_at_once, fails_later, all_hold_or_one_fails, first_refusals_agree}
+use Rattle.gds_records.specs.declared.fault.RecordFault.{RecordFault}
+use Rattle.gds_records.specs.declared.fault.RecordFault.TheVariants.{Truncated, BadLength}
+use Rattle.gds_records.specs.Spelling.{Entry, AreBytes, spelling}
+use Rattle.gds_records.specs.Profile.{IsInProfile}
+use Rattle.gds_records.specs.RecordChecks.{length_field, RecordCheck, head_is_there, length_counts_head, length_is_even, body_is_there, record_checks, Holds, fault_at, IsFaultOf}
+use Rattle.gds_records.proofs.Heads.{length_field-spelling, entry_at, IsInProfile-entry_at, spelling-entry_at}
+
+-- bytes have one fault at most
+pub faults_agree : (offset : ℕ) (rest : List ℕ) (f g : RecordFault) → IsFaultOf offset rest f → IsFaultOf offset rest g → f ≡ g
+faults_agree offset rest f g one other =
+    first_refusals_agree (Holds rest) record_checks (fault_at offset rest) f g one other
+
+-- each check holds of bytes that begin with a record, and so these have no fault
+holds_of_record : (e : Entry) (rest : List ℕ) → IsInProfile e → (check : RecordCheck) → Holds (spelling e ++ rest) check
+holds_of_record e rest h head_is_there = omega arith
+holds_of_record e rest h length_counts_head = omega (arith, length_field-spelling e rest h.spelled)
+holds_of_record e rest h length_is_even = omega (arith, length_field-spelling e rest h.spelled, h.spelled.even)
+holds_of_record e rest h body_is_there = omega (arith, length_field-spelling e rest h.spelled, length-append e.body rest)
+
+pub records_have_no_fault : (offset : ℕ) (e : Entry) (rest : List ℕ) (fault : RecordFault) → IsInProfile e → IsFaultOf offset (spelling e ++ rest) fault → ⊥
+records_have_no_fault offset e rest fault h f = f.is_first.fails (holds_of_record e rest h f.check)
+
+-- a check holds or not
+holds_or_not : (rest : List ℕ) (check : RecordCheck) → Holds rest check ⊎ (Holds rest check → ⊥)
+holds_or_not rest head_is_there = elim (cases_lt (length rest) 4) [ inl less ↦ inr (λ h. omega arith) | inr h ↦ inl h ]
+holds_or_not rest length_counts_head = elim (cases_lt (length_field rest) 4) [ inl less ↦ inr (λ h. omega arith) | inr h ↦ inl h ]
+holds_or_not rest length_is_even = elim (cases_lt 0 (length_field rest % 2)) [ inl odd ↦ inr (λ h. omega arith) | inr h ↦ inl (omega arith) ]
+holds_or_not rest body_is_there = elim (cases_lt (length rest) (length_field rest)) [ inl less ↦ inr (λ h. omega arith) | inr h ↦ inl h ]
+
+-- what holds of each of the checks, check by check
+holds_of_all : (rest : List ℕ) → All (Holds rest) record_checks → (check : RecordCheck) → Holds rest check
+holds_of_all rest all head_is_there = all 0 head_is_there (omega arith)
+holds_of_all rest all length_counts_head = all 1 head_is_there (omega arith)
+holds_of_all rest all length_is_even = all 2 head_is_there (omega arith)
+holds_of_all rest all body_is_there = all 3 head_is_there (omega arith)
+
+-- each check holds of bytes, or they have a fault
+hold_or_fault : (offset : ℕ) (rest : List ℕ) → ((check : RecordCheck) → Holds rest check) ⊎ ((f : RecordFault) × IsFaultOf offset rest f)
+hold_or_fault offset rest =
+    elim (all_hold_or_one_fails (Holds rest) (holds_or_not rest) record_checks) [
+      | inl all ↦ inl (holds_of_all rest all)
+      | inr (check, first) ↦ inr (fault_at offset rest check, record { check = check; is_first = first; is_its_refusal = refl })
+    ]
+
+-- bytes begin with a record, or they have a fault
+pub record_or_fault : (offset : ℕ) (rest : List ℕ) → AreBytes rest
+    → ((n : ℕ) × (e : Entry) × IsInProfile e × (rest ≡ spelling e ++ drop n rest)) ⊎ ((f : RecordFault) × IsFaultOf offset rest f)
+record_or_fault offset rest bytes =
+    elim (hold_or_fault offset rest) [
+      | inl holds ↦
+          let n : ℕ = length_field rest in
+          let counts_head = holds length_counts_head in
+          let room = holds body_is_there in
+          inl (n, entry_at rest n, IsInProfile-entry_at rest n bytes refl counts_head (holds length_is_even) room, spelling-entry_at rest n bytes refl counts_head room)
+      | inr fault ↦ inr fault
+    ]
+
+-- the fault of bytes where the checks before one hold, and that one fails
+module _ (offset : ℕ) (rest : List ℕ) where
+  pub truncated_in_head : length rest < 4 → IsFaultOf offset rest (Truncated offset)
+  truncated_in_head short = record { check = head_is_there; is_first = fails_at_once _ _ _ (λ h. omega arith); is_its_refusal = refl }
+
+  module _ (head : 4 ≤ length rest) where
+    pub bad_where_low : length_field rest < 4 → IsFaultOf offset rest (BadLength offset (length_field rest))
+    bad_where_low low = record { check = length_counts_head; is_first = fails_later _ _ _ _ head (fails_at_once _ _ _ (λ h. omega arith)); is_its_refusal = refl }
+
+    module _ (counts_head : 4 ≤ length_field rest) where
+      pub bad_where_odd : length_field rest % 2 ≡ 1 → IsFaultOf offset rest (BadLength offset (length_field rest))
+      bad_where_odd odd = record { check = length_is_even; is_first = fails_later _ _ _ _ head (fails_later _ _ _ _ counts_head (fails_at_once _ _ _ (λ h. omega arith))); is_its_refusal = refl }
+
+      pub truncated_in_body : length_field rest % 2 ≡ 0 → length rest < length_field rest → IsFaultOf offset rest (Truncated offset)
+      truncated_in_body even short = record { check = body_is_there; is_first = fails_later _ _ _ _ head (fails_later _ _ _ _ counts_head (fails_later _ _ _ _ even (fails_at_once _ _ _ (λ h. omega arith)))); is_its_refusal = refl }

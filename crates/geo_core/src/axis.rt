@@ -1,0 +1,8 @@
+/// One of the two directions of the plane. What is so of columns along the one is so of rows along the other.
+#[derive(Clone, Copy, Debug, PartialEq, Eq)]
+pub enum Axis {
+    /// From left to right, where columns are counted.
+    X,
+    /// From bottom to top, where rows are counted.
+    Y,
+}

@@ -1,0 +1,18 @@
+//! Worked rows on the calls of geometry: cells, rectangles, turns, classes, islands and areas. Each row's answer was
+//! worked out by hand. The crate has tests alone.
+#![tactic(auto)]
+
+#[cfg(test)]
+mod class_rows;
+#[cfg(test)]
+mod island_rows;
+#[cfg(test)]
+mod lists;
+#[cfg(test)]
+mod many_squares;
+#[cfg(test)]
+mod rects;
+#[cfg(test)]
+mod short_areas;
+#[cfg(test)]
+mod turns;

@@ -1,0 +1,175 @@
+ghost use Rattle.std.specs.Prelude.{◌^◌, ◌<◌, length};
+
+use gds_records::RecordFault::{self, BadLength, Truncated};
+use gds_records::forms::{EIGHT_BYTE_REALS, FOUR_BYTE_NUMBERS, NO_DATA, TEXT, TWO_BYTE_NUMBERS};
+use gds_records::kinds::{
+    BGNLIB, BGNSTR, BOUNDARY, DATATYPE, ENDEL, ENDLIB, ENDSTR, HEADER, LAYER, LIBNAME, STRNAME,
+    UNITS, XY,
+};
+use gds_records::{Record, Records};
+
+/// A stream with the library `L` and in it the structure `T`, which has two squares with sides of 10 on layer 1.
+pub const TWO_SQUARES: &[u8; 230] = b"\
+    \x00\x06\x00\x02\x02\x58\
+    \x00\x1C\x01\x02\x00\x00\x00\x00\x00\x00\x00\x00\x00\x00\x00\x00\x00\x00\x00\x00\x00\x00\x00\x00\
+    \x00\x00\x00\x00\
+    \x00\x06\x02\x06\x4C\x00\
+    \x00\x14\x03\x05\x41\x10\x00\x00\x00\x00\x00\x00\x41\x10\x00\x00\x00\x00\x00\x00\
+    \x00\x1C\x05\x02\x00\x00\x00\x00\x00\x00\x00\x00\x00\x00\x00\x00\x00\x00\x00\x00\x00\x00\x00\x00\
+    \x00\x00\x00\x00\
+    \x00\x06\x06\x06\x54\x00\
+    \x00\x04\x08\x00\
+    \x00\x06\x0D\x02\x00\x01\
+    \x00\x06\x0E\x02\x00\x00\
+    \x00\x2C\x10\x03\x00\x00\x00\x00\x00\x00\x00\x00\x00\x00\x00\x0A\x00\x00\x00\x00\x00\x00\x00\x0A\
+    \x00\x00\x00\x0A\x00\x00\x00\x00\x00\x00\x00\x0A\x00\x00\x00\x00\x00\x00\x00\x00\
+    \x00\x04\x11\x00\
+    \x00\x04\x08\x00\
+    \x00\x06\x0D\x02\x00\x01\
+    \x00\x06\x0E\x02\x00\x00\
+    \x00\x2C\x10\x03\x00\x00\x00\x0E\x00\x00\x00\x00\x00\x00\x00\x18\x00\x00\x00\x00\x00\x00\x00\x18\
+    \x00\x00\x00\x0A\x00\x00\x00\x0E\x00\x00\x00\x0A\x00\x00\x00\x0E\x00\x00\x00\x00\
+    \x00\x04\x11\x00\
+    \x00\x04\x07\x00\
+    \x00\x04\x04\x00";
+
+/// Its records: where each begins, its kind, the form of its data, and the size of its body.
+const RECORDS: [(u16, u8, u8, u8); 18] = [
+    (0, HEADER, TWO_BYTE_NUMBERS, 2),
+    (6, BGNLIB, TWO_BYTE_NUMBERS, 24),
+    (34, LIBNAME, TEXT, 2),
+    (40, UNITS, EIGHT_BYTE_REALS, 16),
+    (60, BGNSTR, TWO_BYTE_NUMBERS, 24),
+    (88, STRNAME, TEXT, 2),
+    (94, BOUNDARY, NO_DATA, 0),
+    (98, LAYER, TWO_BYTE_NUMBERS, 2),
+    (104, DATATYPE, TWO_BYTE_NUMBERS, 2),
+    (110, XY, FOUR_BYTE_NUMBERS, 40),
+    (154, ENDEL, NO_DATA, 0),
+    (158, BOUNDARY, NO_DATA, 0),
+    (162, LAYER, TWO_BYTE_NUMBERS, 2),
+    (168, DATATYPE, TWO_BYTE_NUMBERS, 2),
+    (174, XY, FOUR_BYTE_NUMBERS, 40),
+    (218, ENDEL, NO_DATA, 0),
+    (222, ENDSTR, NO_DATA, 0),
+    (226, ENDLIB, NO_DATA, 0),
+];
+
+/// Whether the next record lies here, with this kind, this form, and a body of this size.
+fn gives(records: &mut Records<'_>, at: u16, kind: u8, form: u8, size: u8) -> bool {
+    let Ok(Some(record)) = records.next() else {
+        return false;
+    };
+    record.at == u32::from(at)
+        && record.kind == kind
+        && record.form == form
+        && record.body.len() == usize::from(size)
+}
+
+/// Whether so many records come, and then this answer, and the same when the reader is asked again.
+fn ends(
+    mut records: Records<'_>,
+    count: usize,
+    answer: Result<Option<Record<'_>>, RecordFault>,
+) -> bool {
+    for _ in 0..count {
+        if !matches!(records.next(), Ok(Some(_))) {
+            return false;
+        }
+    }
+    records.next() == answer && records.next() == answer
+}
+
+/// Whether so many records come, and then the stream is truncated within the one at this offset.
+fn is_truncated(bytes: &[u8], count: usize, at: u16) -> bool
+    requires { length bytes.now < 2 ^ 32 }
+{
+    let at = u32::from(at);
+    let fault = RecordFault::Truncated { at };
+    fault.number() == 10
+        && fault.place() == u64::from(at)
+        && ends(Records::new(bytes), count, Err(fault))
+}
+
+/// Whether the two squares, cut anywhere within their record at this offset, are so many records and then truncated.
+fn is_truncated_within(count: usize, at: u16, size: u8) -> bool {
+    let start = usize::from(at);
+    for end in start..start + 4 + usize::from(size) {
+        let front = TWO_SQUARES.get(..end).unwrap_or(TWO_SQUARES);
+        if !is_truncated(front, count, at) {
+            return false;
+        }
+    }
+    true
+}
+
+/// Whether so many records come, and then this bad length at this offset.
+fn has_bad_length(bytes: &[u8], count: usize, at: u16, len: u16) -> bool
+    requires { length bytes.now < 2 ^ 32 }
+{
+    let at = u32::from(at);
+    let fault = RecordFault::BadLength { at, len };
+    fault.number() == 11
+        && fault.place() == u64::from(at)
+        && ends(Records::new(bytes), count, Err(fault))
+}
+
+#[test]
+fn records_come_one_after_the_other(rt: HostRuntime) {
+    let mut records = Records::new(TWO_SQUARES);
+    for (at, kind, form, size) in RECORDS {
+        assert!(rt; gives(&mut records, at, kind, form, size), "at {at}");
+    }
+    assert!(rt; ends(records, 0, Ok(None)));
+}
+
+#[test]
+fn cut_streams_are_truncated_within_the_record_that_is_cut(rt: HostRuntime) {
+    for (count, (at, _kind, _form, size)) in RECORDS.into_iter().enumerate() {
+        assert!(rt; is_truncated_within(count, at, size), "at {at}");
+    }
+}
+
+#[test]
+fn bytes_behind_endlib_are_ignored(rt: HostRuntime) {
+    for fill in [0, 4, 255] {
+        let mut padded = [fill; 230 + 2048];
+        padded[..230].copy_from_slice(TWO_SQUARES);
+        assert!(rt; ends(Records::new(&padded), 18, Ok(None)), "{fill}");
+    }
+}
+
+#[test]
+fn short_streams_are_truncated(rt: HostRuntime) {
+    for (bytes, count, at) in [
+        // less than a head, whatever length it has
+        (b"".as_slice(), 0, 0),
+        (b"\x00", 0, 0),
+        (b"\x00\x03\x00", 0, 0),
+        // less than the length counts, which has no sign
+        (b"\x00\x06\x00\x02\x02", 0, 0),
+        (b"\x80\x00\x00\x02\x02\x58", 0, 0),
+        // behind a record
+        (b"\x00\x04\x08\x00", 1, 4),
+        (b"\x00\x04\x08\x00\x00\x06\x00\x02\x02", 1, 4),
+    ] {
+        assert!(rt; is_truncated(bytes, count, at), "{bytes:?}");
+    }
+}
+
+#[test]
+fn lengths_below_4_and_odd_ones_are_bad(rt: HostRuntime) {
+    for (bytes, count, at, len) in [
+        (b"\x00\x00\x04\x00".as_slice(), 0, 0, 0),
+        (b"\x00\x02\x04\x00", 0, 0, 2),
+        (b"\x00\x03\x00\x02", 0, 0, 3),
+        (b"\x00\x05\x00\x02\x00", 0, 0, 5),
+        // before the bytes are counted
+        (b"\x00\x07\x00\x02", 0, 0, 7),
+        (b"\xFF\xFF\x00\x02", 0, 0, 65_535),
+        // behind a record
+        (b"\x00\x04\x08\x00\x00\x07\x00\x02", 1, 4, 7),
+    ] {
+        assert!(rt; has_bad_length(bytes, count, at, len), "{bytes:?}");
+    }
+}

@@ -1,0 +1,7 @@
+use Rattle.std.proofs.Common.{take}
+use Rattle.std.specs.Prelude.{All}
+use Rattle.short_area.proofs.LabelLaws.{IsFar}
+use Rattle.short_area.proofs.labels.first_label.Given as goal
+
+abbrev pub invariant-loop-piece : goal.invariant-loop-piece
+invariant-loop-piece l = All (IsFar l.axis l.radius l.fn.place) (take l.piece-index l.pieces)
