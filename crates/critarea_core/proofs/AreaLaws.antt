@@ -19,7 +19,7 @@ use Rattle.fault_model.proofs.FaultLaws.{short_same}
 use Rattle.fault_model.proofs.NetLaws.{net_is_island}
 use Rattle.fault_model.proofs.WindowLaws.{IsWindowOf-same}
 use Rattle.islands.specs.Islands.{LabelsAreIslands}
-use Rattle.short_area.specs.Labels.{Reaches, TouchesTwoLabels}
+use Rattle.short_area.specs.Labels.{TouchesLabel, TouchesTwoLabels}
 use Rattle.critarea_core.specs.Area.{is_asked, shape_rect, piece_of}
 use Rattle.critarea_core.specs.Coverage.{IsCoveredOn, coverage_of}
 use Rattle.critarea_core.specs.LayerMap.{MappedLayer, one_metal_map, layers_of}
@@ -48,7 +48,7 @@ also_at (r ∷ rects) (m ∷ labels) (suc k) rect e f = also_at rects labels k r
 
 module _ (rects : List Rect) (labels : List ℕ) (counted : length labels ≡ length rects) (islands : LabelsAreIslands rects labels) (r : ℕ) (c : Cell) where
   -- the half square of a piece that is reached, with the number of its rectangle
-  reached : (label : ℕ) → (s : Reaches (map piece_of (zip rects labels)) r c label) → (k : ℕ) × IsAt rects k s.half × (slice_get labels k ≡ Some label)
+  reached : (label : ℕ) → (s : TouchesLabel (map piece_of (zip rects labels)) r c label) → (k : ℕ) × IsAt rects k s.half × (slice_get labels k ≡ Some label)
   reached label s =
       let number = number_of (map piece_of (zip rects labels)) s.piece s.among in
       let parts = parts_at rects labels number.0 s.piece number.1 in
@@ -59,20 +59,20 @@ module _ (rects : List Rect) (labels : List ℕ) (counted : length labels ≡ le
 
   pub short_of_pieces : TouchesTwoLabels (map piece_of (zip rects labels)) r c → IsShort (λ _. IsInUnion rects) [] 0 (r + r) c
   short_of_pieces t =
-      let p = reached t.one t.one_reaches in
-      let q = reached t.other t.other_reaches in
+      let p = reached t.one t.touches_one in
+      let q = reached t.other t.touches_other in
       record {
-        one = t.one_reaches.half;
-        other = t.other_reaches.half;
-        one_on = on_layer t.one_reaches.half p.0 p.1;
-        other_on = on_layer t.other_reaches.half q.0 q.1;
-        one_hit = t.one_reaches.hit;
-        other_hit = t.other_reaches.hit;
-        apart = λ net. t.different ((islands p.0 q.0 t.one t.other t.one_reaches.half t.other_reaches.half p.2 q.2 p.1 q.1).1 ((net_is_island (λ _. IsInUnion rects) 0 t.one_reaches.half t.other_reaches.half).0 net));
+        one = t.touches_one.half;
+        other = t.touches_other.half;
+        one_on = on_layer t.touches_one.half p.0 p.1;
+        other_on = on_layer t.touches_other.half q.0 q.1;
+        one_hit = t.touches_one.hit;
+        other_hit = t.touches_other.hit;
+        apart = λ net. t.different ((islands p.0 q.0 t.one t.other t.touches_one.half t.touches_other.half p.2 q.2 p.1 q.1).1 ((net_is_island (λ _. IsInUnion rects) 0 t.touches_one.half t.touches_other.half).0 net));
       }
 
   -- a half square of the layer that the defect touches is one of a piece
-  reaching : (h : Half) → (on : IsOn (IsInUnion rects) h) (label : ℕ) → slice_get labels on.2.number ≡ Some label → IsInFootprint c (r + r) h → Reaches (map piece_of (zip rects labels)) r c label
+  reaching : (h : Half) → (on : IsOn (IsInUnion rects) h) (label : ℕ) → slice_get labels on.2.number ≡ Some label → IsInFootprint c (r + r) h → TouchesLabel (map piece_of (zip rects labels)) r c label
   reaching h on label e hit = record {
     piece = piece_of (on.2.rect, label);
     among = Contains-slice_get (map piece_of (zip rects labels)) on.2.number (piece_of (on.2.rect, label)) (piece_at rects labels on.2.number on.2.rect label on.2.at e);
@@ -93,8 +93,8 @@ module _ (rects : List Rect) (labels : List ℕ) (counted : length labels ≡ le
       record {
         one = m.0;
         other = n.0;
-        one_reaches = reaching s.one s.one_on m.0 m.1 s.one_hit;
-        other_reaches = reaching s.other s.other_on n.0 n.1 s.other_hit;
+        touches_one = reaching s.one s.one_on m.0 m.1 s.one_hit;
+        touches_other = reaching s.other s.other_on n.0 n.1 s.other_hit;
         different = λ e. s.apart ((net_is_island (λ _. IsInUnion rects) 0 s.one s.other).1 ((islands v.number w.number m.0 n.0 s.one s.other m.1 n.1 at_v at_w).0 e));
       }
 

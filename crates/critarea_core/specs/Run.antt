@@ -25,7 +25,7 @@ pub record IsRefusalFor (words : List (List ℕ)) (told : List ℕ → Option (L
   pub may_be : MayBeInput words told input
   pub verdict : IsVerdict words input (outcome.refused refusal)
 
--- the count of a device's failures, before the run and after it
+-- how many calls of the files, or of an output, failed: before the run and after it
 pub record Failures : Type 0 where
   pub before : ℕ
   pub after : ℕ
@@ -44,11 +44,11 @@ pub record Output : Type 0 where
 abbrev pub output : Option (List ℕ) → Option (List ℕ) → ℕ → ℕ → Output
 output before after failed_before failed_after = record { before = before; after = after; failures = failures failed_before failed_after }
 
--- the device failed: its count rose
+-- some call failed: the count rose
 abbrev pub HasRisen : Failures → Type 0
 HasRisen failures = Rose failures.before failures.after
 
--- the device did not fail
+-- none failed
 abbrev pub IsCalm : Failures → Type 0
 IsCalm failures = failures.after ≡ failures.before
 
@@ -101,7 +101,7 @@ pub record IsRefusalDue (words : List (List ℕ)) (told : List ℕ → Option (L
   pub is_told : IsToldInput words told input
   pub verdict : IsVerdict words input (outcome.refused refusal)
 
--- what is due comes out, or no memory was left, unless a device failed on the way
+-- what is due comes out, or no memory was left, unless the files or the output failed on the way
 pub record IsComplete (words : List (List ℕ)) (told : List ℕ → Option (List ℕ)) (files : Failures) (out err : Output) (status : ℕ) : Type 0 where
   pub report : IsReportDue words told → (HasRisen files → ⊥) → (HasRisen out.failures → ⊥) → (status ≡ 0) ⊎ (status ≡ 6)
   pub refusal : (refusal : Refusal) → IsRefusalDue words told refusal → (HasRisen files → ⊥) → (HasRisen err.failures → ⊥) → (status ≡ refusal.status) ⊎ (status ≡ 6)

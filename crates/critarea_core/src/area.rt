@@ -24,12 +24,10 @@ pub fn rects_on(
     ensures asked { IfOk result (λ rects. rects.items ≡ map shape_rect (filter (is_asked (asked_by request.now)) shapes.now)) }
     ensures within { IfOk result (λ rects. All IsInLayout rects.items) }
 {
-    let layer = request.layer;
-    let datatype = request.datatype;
     Ok(
         shapes
             .iter()
-            .filter(|shape| shape.layer == layer && shape.datatype == datatype)
+            .filter(|shape| request.asks_for(shape))
             .map(|shape| shape.rect)
             .collect(alloc)?,
     )

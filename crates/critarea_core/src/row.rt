@@ -35,7 +35,8 @@ pub struct Row<'a> {
     pub layer: &'a str,
     /// The size of the defect as it is listed: its radius, in database units.
     pub size: u32,
-    /// How many cells of the window have the fault. A window has at most 2,002,000,000 cells a side.
+    /// How many cells of the window have the fault. No edge of a window is further than 1,001,000,000 from 0, so these
+    /// are fewer than 2^63.
     pub area: u64,
     /// By what the area counts in the totals: at most 1,000,000,000.
     pub weight: u64,

@@ -33,6 +33,16 @@ fn is_file_word(word: &[u8]) -> bool
     }
 }
 
+/// Whether the words are the three options, in their order.
+fn are_options(layer: &Word, datatype: &Word, radius: &Word) -> bool
+    ensures { IsTrue result ↔ ((layer.now ≡ codes "--layer") × (datatype.now ≡ codes "--datatype")
+        × (radius.now ≡ codes "--radius")) }
+{
+    layer.as_str() == "--layer"
+        && datatype.as_str() == "--datatype"
+        && radius.as_str() == "--radius"
+}
+
 /// What the words ask for, where they fit: a file and three options in the one order.
 pub fn read_words(words: &[Word]) -> Option<Request<'_>>
     ensures some { IfSome result (λ r. AskOneMetal words.now (asked_by r)) }
@@ -51,11 +61,7 @@ pub fn read_words(words: &[Word]) -> Option<Request<'_>>
         return None;
     };
     let layout = layout.as_str().as_bytes();
-    if !is_file_word(layout)
-        || layer_option.as_str() != "--layer"
-        || datatype_option.as_str() != "--datatype"
-        || radius_option.as_str() != "--radius"
-    {
+    if !is_file_word(layout) || !are_options(layer_option, datatype_option, radius_option) {
         return None;
     }
     let layer = number(layer.as_str(), 0, 65_535)?;

@@ -1,4 +1,4 @@
--- What a device tells before a call and after it, such as the bytes that a sink took: `None` where it does not tell
+-- What a source or a sink tells before a call and after it, such as the bytes that a sink took: `None` where it does not tell
 -- them, at both times.
 use Rattle.std.specs.Prelude.{ℕ, ◌≡◌, ◌≤◌, List, [], ◌++◌, length, take, drop, Option, None, Some, IsSomeAnd, option_map}
 

@@ -10,7 +10,7 @@ pub(super) fn is_listed(calls: &[u64], call: u64) -> bool
     calls.contains(&call)
 }
 
-/// Counts one more, and stays at the last value.
+/// Adds one to a count, unless it is the greatest `u64` already.
 pub(super) fn count_up(count: &mut u64)
     ensures counted { count.new ≡ one_more count.old }
     ensures rose { Rose count.old count.new }

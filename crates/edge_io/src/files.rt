@@ -4,9 +4,9 @@ ghost use Rattle.edge_io.specs.ReadAnswers.{HasFailed};
 
 use thiserror::Error;
 
-/// A device did not do what it was asked.
+/// A source of files or a sink did not do what it was asked.
 #[derive(Clone, Copy, Debug, PartialEq, Eq, Error)]
-#[error("a device failed")]
+#[error("a file or an output failed")]
 pub struct Failed;
 
 /// A source of files, which are read one at a time, each from its start.

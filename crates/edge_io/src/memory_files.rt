@@ -14,9 +14,9 @@ pub struct MemFiles {
     pub files: Vec<(Name, Vec<u8>)>,
     /// The numbers of the calls that fail, counted from 0.
     pub fails: Vec<u64>,
-    /// How many calls there were. The count stays at the last value of `u64`.
+    /// How many calls there were, as far as `u64` counts.
     pub calls: u64,
-    /// How many calls failed. The count stays at the last value of `u64`.
+    /// How many calls failed, as far as `u64` counts.
     pub faults: u64,
     /// The number of the started file, and how many of its bytes were read.
     pub place: Option<(usize, usize)>,

@@ -14,9 +14,9 @@ pub struct MemSink {
     pub room: usize,
     /// The numbers of the calls that fail, counted from 0.
     pub fails: Vec<u64>,
-    /// How many calls there were. The count stays at the last value of `u64`.
+    /// How many calls there were, as far as `u64` counts.
     pub calls: u64,
-    /// How many calls failed. The count stays at the last value of `u64`.
+    /// How many calls failed, as far as `u64` counts.
     pub faults: u64,
     pub ghost within: { vec_len written ≤ room },
     pub ghost room_taken: { room ≤ vec_capacity written },

@@ -4,7 +4,7 @@ ghost use Rattle.edge_io.specs.FailureCounts.{Rose};
 
 use super::files::Failed;
 
-/// A device that takes bytes.
+/// An output, which takes bytes.
 pub trait Sink {
     /// What was written to the sink, in order, if it is one that tells.
     ghost written: { Self → Option (List ℕ) };
@@ -13,7 +13,7 @@ pub trait Sink {
     /// rises, or stands still where it stood at the last value of `u64`.
     ghost faults: { Self → ℕ };
 
-    /// Takes bytes from the front of `piece`, and answers how many. A device that takes none has failed. A failure
+    /// Takes bytes from the front of `piece`, and answers how many. A sink that takes none has failed. A failure
     /// leaves what was written.
     fn write(&mut self, piece: &[u8]) -> Result<usize, Failed>
         requires { 0 < length piece.now }

@@ -12,7 +12,7 @@ use thiserror::Error;
 /// Why a file was not read.
 #[derive(Clone, Copy, Debug, PartialEq, Eq, Error)]
 pub enum ReadError {
-    /// The device failed, or the name is not there.
+    /// The source failed, or the name is not there.
     #[error("the file could not be read")]
     Fault,
     /// The file has more bytes than the limit.

@@ -220,3 +220,10 @@ comes_near rect by c p =
       λ n. (x.1 (n.0.i, n.1.across, n.2.0), y.1 (n.0.j, n.1.up, n.2.1)),
       λ k. let a = x.0 k.0 in let b = y.0 k.1 in (record { i = a.0; j = b.0 }, record { across = a.1; up = b.1 }, (a.2, b.2)),
     )
+
+-- rectangles whose columns, or whose rows, have no number in common have no cell in common
+pub apart_across : (a b : Rect) (p q : Interval) → p.low ≡ a.x0 → p.high ≡ a.x1 → q.low ≡ b.x0 → q.high ≡ b.x1 → (IntervalsOverlap p.low p.high q.low q.high → ⊥) → (c : Cell) → Has a c → Has b c → ⊥
+apart_across a b p q e f g h none c s t = none (c.i, IsIn-at p.low p.high c.i s.across e f refl, IsIn-at q.low q.high c.i t.across g h refl)
+
+pub apart_up : (a b : Rect) (p q : Interval) → p.low ≡ a.y0 → p.high ≡ a.y1 → q.low ≡ b.y0 → q.high ≡ b.y1 → (IntervalsOverlap p.low p.high q.low q.high → ⊥) → (c : Cell) → Has a c → Has b c → ⊥
+apart_up a b p q e f g h none c s t = none (c.j, IsIn-at p.low p.high c.j s.up e f refl, IsIn-at q.low q.high c.j t.up g h refl)

@@ -13,7 +13,7 @@ use Rattle.geo_core.specs.declared.plane.Rect.{Rect}
 use Rattle.fault_model.specs.Areas.{Tally, range, row}
 use Rattle.fault_model.specs.Halves.{IsOn, IsInFootprint}
 use Rattle.fault_model.proofs.SizeLaws.{footprint_near}
-use Rattle.short_area.specs.Labels.{Reaches, TouchesTwoLabels}
+use Rattle.short_area.specs.Labels.{TouchesLabel, TouchesTwoLabels}
 use Rattle.short_area.specs.Places.{IsNearAlong, ArePlacesAlike, ArePiecesNear, HasLabelNear, HasTwoLabelsNear, cells_of_columns, cells_of_rows}
 use Rattle.fault_model.proofs.RangeLaws.{length-range, Contains-range, Tally-all, Tally-never, Tally-alike, Tally-times}
 use Rattle.geo_core.proofs.RectLaws.{comes_near}
@@ -31,13 +31,13 @@ touched rect radius c positive =
 
 -- in a band of rows that are alike, the pieces that are near the first row decide each
 module _ (pieces near : List Labelled) (radius : ℕ) (start end : ℤ) (positive : 1 ≤ radius) (first : IsIn start end start) (alike : ArePlacesAlike pieces Y radius start end) (those : ArePiecesNear pieces Y radius start near) (j : ℤ) (in_band : IsIn start end j) where
-  to_column : (i : ℤ) (label : ℕ) → Reaches pieces radius (cell j i) label → HasLabelNear near X radius i label
+  to_column : (i : ℤ) (label : ℕ) → TouchesLabel pieces radius (cell j i) label → HasLabelNear near X radius i label
   to_column i label s =
       let n = (touched s.piece.rect radius (cell j i) positive).1 (s.half, s.on, s.hit) in
       let at_start = near_at pieces Y radius start end alike s.piece s.among j start in_band first n.1 in
       record { piece = s.piece; among = (those s.piece).1 (s.among, at_start); labelled = s.labelled; near = n.0 }
 
-  from_column : (i : ℤ) (label : ℕ) → HasLabelNear near X radius i label → Reaches pieces radius (cell j i) label
+  from_column : (i : ℤ) (label : ℕ) → HasLabelNear near X radius i label → TouchesLabel pieces radius (cell j i) label
   from_column i label s =
       let m = (those s.piece).0 s.among in
       let at_row = near_at pieces Y radius start end alike s.piece m.0 start j first in_band m.1 in
@@ -46,8 +46,8 @@ module _ (pieces near : List Labelled) (radius : ℕ) (start end : ℤ) (positiv
 
   decided : (i : ℤ) → HasTwoLabelsNear near X radius i ↔ TouchesTwoLabels pieces radius (cell j i)
   decided i = (
-    λ t. record { one = t.one; other = t.other; one_reaches = from_column i t.one t.one_near; other_reaches = from_column i t.other t.other_near; different = t.different },
-    λ t. record { one = t.one; other = t.other; one_near = to_column i t.one t.one_reaches; other_near = to_column i t.other t.other_reaches; different = t.different },
+    λ t. record { one = t.one; other = t.other; touches_one = from_column i t.one t.one_near; touches_other = from_column i t.other t.other_near; different = t.different },
+    λ t. record { one = t.one; other = t.other; one_near = to_column i t.one t.touches_one; other_near = to_column i t.other t.touches_other; different = t.different },
   )
 
 -- ---- blocks of columns

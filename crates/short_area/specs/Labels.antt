@@ -7,7 +7,7 @@ use Rattle.geo_core.specs.declared.plane.Labelled.{Labelled}
 use Rattle.fault_model.specs.Halves.{IsOn, IsInFootprint}
 
 -- a piece with this label has a half square in the footprint of the defect of this radius at the cell
-pub record Reaches (pieces : List Labelled) (radius : ℕ) (c : Cell) (label : ℕ) : Type 0 where
+pub record TouchesLabel (pieces : List Labelled) (radius : ℕ) (c : Cell) (label : ℕ) : Type 0 where
   pub piece : Labelled
   pub among : Contains pieces piece
   pub labelled : piece.label ≡ label
@@ -19,6 +19,6 @@ pub record Reaches (pieces : List Labelled) (radius : ℕ) (c : Cell) (label : �
 pub record TouchesTwoLabels (pieces : List Labelled) (radius : ℕ) (c : Cell) : Type 0 where
   pub one : ℕ
   pub other : ℕ
-  pub one_reaches : Reaches pieces radius c one
-  pub other_reaches : Reaches pieces radius c other
+  pub touches_one : TouchesLabel pieces radius c one
+  pub touches_other : TouchesLabel pieces radius c other
   pub different : one ≢ other

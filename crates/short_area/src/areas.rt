@@ -76,7 +76,7 @@ pub fn short_area(alloc: Global, pieces: &[Labelled], window: Rect, r: u32) -> R
     requires { IsRadius r }
     ensures tally { IfOk result (λ n. Tally (TouchesTwoLabels pieces.now r) (cells_of window) n) }
 
-    // A window has at most 2,002,000,000 cells a side.
+    // No edge of a window is further than 1,001,000,000 from 0.
     ensures small { IfOk result (λ n. n < 2 ^ 63) }
 {
     // Between two neighbouring edges, grown by `r`, all rows have the same answer, and so have all columns of a row. So

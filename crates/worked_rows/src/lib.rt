@@ -2,7 +2,9 @@
 #![tactic(auto)]
 
 #[cfg(test)]
-mod devices;
+mod failures;
+#[cfg(test)]
+mod large;
 #[cfg(test)]
 mod layouts;
 #[cfg(test)]

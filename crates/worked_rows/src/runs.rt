@@ -97,7 +97,7 @@ pub enum Want {
     BadWords,
     /// The layout is refused.
     BadLayout,
-    /// A device failed, and nothing was written.
+    /// A file or an output failed, and nothing was written.
     Fault,
 }
 
@@ -135,7 +135,7 @@ pub fn calm<'a>(words: &'a str, layout: &'a [u8]) -> Given<'a> {
 }
 
 /// The words of a command line. An empty line has none.
-fn words_of(alloc: Global, line: &str) -> Result<Vec<Word>, AllocError> {
+pub fn words_of(alloc: Global, line: &str) -> Result<Vec<Word>, AllocError> {
     let mut words = Vec::new(alloc);
     if line.is_empty() {
         return Ok(words);

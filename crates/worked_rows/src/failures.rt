@@ -2,10 +2,10 @@ use super::layouts::two_bars;
 use super::runs::{Failing, Given, RADIUS_3, SHORT_32, Want, expect};
 use std::test::Fail;
 
-/// Devices that fail. The file is started, read, and read again to see its end. The lines of the report have 36, 33,
+/// Files and outputs that fail. The file is started, read, and read again to see its end. The lines of the report have 36, 33,
 /// 15, 13, 12 and 9 bytes, 118 in all.
 #[test]
-fn faults_of_devices_are_answered(rt: HostRuntime) -> Result<(), Fail> {
+fn failures_are_answered(rt: HostRuntime) -> Result<(), Fail> {
     let bars = two_bars(rt.alloc())?;
     let whole = bars.as_slice();
     let empty: &[u8] = &[];
@@ -18,7 +18,7 @@ fn faults_of_devices_are_answered(rt: HostRuntime) -> Result<(), Fail> {
         (RADIUS_3, whole, Failing::OutPast(118), SHORT_32),
         (RADIUS_3, empty, Failing::ErrorOut, Want::Fault),
         ("", whole, Failing::ErrorOut, Want::Fault),
-        // a device that is not used does not fail
+        // what is not used does not fail
         (RADIUS_3, whole, Failing::ErrorOut, SHORT_32),
         (RADIUS_3, empty, Failing::Out, Want::BadLayout),
         ("", whole, Failing::Out, Want::BadWords),
