@@ -1,8 +1,9 @@
 -- the area of shorts of rectangles is that of the metal that they cover
-use Rattle.std.proofs.Common.{ℕ, zero, suc, ◌+◌, ◌≡◌, refl, sym, ap, subst, ◌∙◌, List, [], ◌∷◌, length, arith, inl, inr, ◌⊎◌, Bool, true, false, codes}
+use Rattle.std.proofs.Common.{ℕ, zero, suc, ◌+◌, ◌<◌, ◌++◌, take, get_or, append-nil, ◌≡◌, refl, sym, ap, subst, ◌∙◌, List, [], ◌∷◌, length, arith, inl, inr, ◌⊎◌, Bool, true, false, codes}
 use Rattle.std.specs.Prelude.{◌↔◌, Some, Option, slice_get, Contains, map, filter, ◌==◌, All, if◌then◌else◌}
 use Rattle.std.specs.List.{zip, AllByRecursion}
-use Rattle.std.proofs.lemmas.List.Elements.{All-from_recursion}
+use Rattle.std.proofs.lemmas.List.{map-append, take_more}
+use Rattle.std.proofs.lemmas.List.Elements.{All-from_recursion, filter-append}
 use Rattle.std.proofs.lemmas.Bool.{and_from, and_parts}
 use Rattle.std.proofs.lemmas.Bool.Decides.{Decides-eqb}
 use Rattle.paths.proofs.ListLaws.{Contains-none, Contains-first, Contains-rest, Contains-cases, number_of, Contains-slice_get}
@@ -130,6 +131,25 @@ pub record IsCoveredFor (request : OneMetal) (shapes : List Shape) (c : Cell) : 
 -- the rectangles that are asked for cover what the shapes that are asked for cover
 abbrev pub asked_rects : OneMetal → List Shape → List Rect
 asked_rects request shapes = map shape_rect (filter (is_asked request) shapes)
+
+-- one shape more at the end, which is asked for or not
+one_asked : (request : OneMetal) (s : Shape) (b : Bool) → is_asked request s ≡ b → filter (is_asked request) (s ∷ []) ≡ (if b then s ∷ [] else [])
+one_asked request s b e = rw e refl
+
+asked_more : (request : OneMetal) (xs : List Shape) (s : Shape) (b : Bool) → is_asked request s ≡ b → asked_rects request (xs ++ s ∷ []) ≡ asked_rects request xs ++ map shape_rect (if b then s ∷ [] else [])
+asked_more request xs s b e =
+    ap (map shape_rect) (filter-append (is_asked request) xs (s ∷ [])) ∙ map-append shape_rect (filter (is_asked request) xs) (filter (is_asked request) (s ∷ []))
+    ∙ ap (λ ys. asked_rects request xs ++ map shape_rect ys) (one_asked request s b e)
+
+module _ (request : OneMetal) (shapes : List Shape) (k : ℕ) (s : Shape) (h : k < length shapes) (is : s ≡ get_or shapes k s) where
+  more : take (k + 1) shapes ≡ take k shapes ++ s ∷ []
+  more = take_more shapes k s h ∙ ap (λ x. take k shapes ++ x ∷ []) (sym is)
+
+  pub asked_next : true ≡ is_asked request s → asked_rects request (take (k + 1) shapes) ≡ asked_rects request (take k shapes) ++ s.rect ∷ []
+  asked_next e = ap (asked_rects request) more ∙ asked_more request (take k shapes) s true (sym e)
+
+  pub not_asked_next : false ≡ is_asked request s → asked_rects request (take (k + 1) shapes) ≡ asked_rects request (take k shapes)
+  not_asked_next e = ap (asked_rects request) more ∙ asked_more request (take k shapes) s false (sym e) ∙ append-nil (asked_rects request (take k shapes))
 
 -- one shape more in front, which is asked for or not
 abbrev with_first : OneMetal → Shape → List Shape → Bool → List Rect

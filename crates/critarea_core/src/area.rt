@@ -24,13 +24,13 @@ pub fn rects_on(
     ensures asked { IfOk result (λ rects. rects.items ≡ map shape_rect (filter (is_asked (asked_by request.now)) shapes.now)) }
     ensures within { IfOk result (λ rects. All IsInLayout rects.items) }
 {
-    Ok(
-        shapes
-            .iter()
-            .filter(|shape| request.asks_for(shape))
-            .map(|shape| shape.rect)
-            .collect(alloc)?,
-    )
+    let mut rects = Vec::new(alloc);
+    for shape in shapes {
+        if request.asks_for(shape) {
+            rects.push(shape.rect)?;
+        }
+    }
+    Ok(rects)
 }
 
 /// Each rectangle with its label.

@@ -1,7 +1,8 @@
-use Rattle.std.proofs.Common.{[], None}
+use Rattle.std.proofs.Common.{[], None, subst, take_all}
 use Rattle.critarea_core.specs.Layout.{none}
 use Rattle.critarea_core.specs.declared.pattern.Pattern.{Pattern}
 use Rattle.critarea_core.specs.Patterns.{head_patterns}
+use Rattle.critarea_core.specs.Taking.{TakesAll}
 use Rattle.critarea_core.proofs.TakingLaws.{takes-none, one_pattern_more, not_all_follow}
 use Rattle.critarea_core.proofs.layout.take_head.Goals as goal
 
@@ -17,3 +18,6 @@ returns-in_default c = not_all_follow head_patterns c.loop-pattern.pattern-index
 
 pub loop-pattern-preserved : goal.loop-pattern-preserved
 loop-pattern-preserved c = one_pattern_more head_patterns c.loop-pattern.pattern-index past _ c.loop-pattern-test.true c.loop-pattern.invariant c.in-Some.ensures.some.fits c.in-Some.ensures.some.taken
+
+pub returns : goal.returns
+returns c = subst (TakesAll c.args.records.now _) (take_all c.loop-pattern.pattern-index head_patterns c.loop-pattern-test.false) c.loop-pattern.invariant
