@@ -1,16 +1,17 @@
 -- what a run found of the words and the files, what it printed, and what that comes to
 use Rattle.std.proofs.Common.{ℕ, ◌≡◌, ◌≤◌, ◌<◌, ◌⊎◌, List, [], ◌∷◌, length, refl, sym, ap, subst, ◌∙◌, inl, inr, zero, suc, arith, append-nil}
-use Rattle.std.specs.Prelude.{Option, Some, None, IfSome, Result, Ok, Err, String}
+use Rattle.std.specs.Prelude.{Option, Some, None, IfSome, Result, Ok, Err, String, Vec, vec_len}
 use Rattle.std.specs.Global.{Global}
 use Rattle.first_refusal.specs.Outcomes.{Outcome, value, refused}
 use Rattle.edge_io.specs.Bytes.{Appends}
+use Rattle.edge_io.specs.ReadAnswers.{ReadsWhole, is_whole, is_too_long, has_no_memory, has_failed}
 use Rattle.edge_io.specs.declared.whole.ReadError.{ReadError}
 use Rattle.edge_io.specs.declared.whole.ReadError.TheVariants as read
 use Rattle.paths.proofs.ListLaws.{Contains-first}
 use Rattle.critarea_core.specs.Finding.{IsCause, IsFound, IsPrinted, report_out, report_cut, line_out, line_cut, no_line, of_unfit_layout, of_unread_layout}
 use Rattle.critarea_core.specs.Input.{Input, IsToldInput, MayBeInput}
 use Rattle.critarea_core.specs.Refusals.{usage, layout_limit, layout_too_long, of_layout_fault}
-use Rattle.critarea_core.specs.Run.{Failures, Output, HasRisen, IsCalm, IsReportFor, IsRefusalFor, IsReportDue, IsRefusalDue, IsComplete, NameSomeFile, EndsWith, StartsNamed, MayBeStarted, no_file, both_files}
+use Rattle.critarea_core.specs.Run.{Failures, failures, Output, HasRisen, IsCalm, IsReportFor, IsRefusalFor, IsReportDue, IsRefusalDue, IsComplete, NameSomeFile, EndsWith, StartsNamed, MayBeStarted, no_file, both_files}
 use Rattle.critarea_core.specs.Run as run
 use Rattle.critarea_core.specs.Verdict.{Subject, IsSubject, IsVerdict, IsReportOn}
 use Rattle.critarea_core.specs.Words.{OneMetal, Task, one_metal, Ask}
@@ -26,6 +27,11 @@ use Rattle.critarea_core.proofs.WordLaws.{tasks_agree}
 longer : (n : ℕ) → (xs : List ℕ) × (n < length xs)
 longer zero = (0 ∷ [], omega arith)
 longer (suc n) = let xs = longer n in let h = xs.1 in (0 ∷ xs.0, omega arith)
+
+-- a file that was read is whole, no longer than the limit, and nothing failed
+pub was_read : {held : Option (List ℕ)} {limit before after : ℕ} {started : Type 0} {rest : Option (List ℕ)} {bytes : Vec ℕ Global}
+    → ReadsWhole held limit before after started rest (Ok bytes) → IfSome held (λ all. bytes.items ≡ all) × (vec_len bytes ≤ limit) × (after ≡ before)
+was_read (is_whole whole short calm opened left) = (whole, short, calm)
 
 module _ (words : List (List ℕ)) (told : List ℕ → Option (List ℕ)) where
   -- ---- what was found
@@ -67,11 +73,11 @@ module _ (words : List (List ℕ)) (told : List ℕ → Option (List ℕ)) where
     }
 
     -- what a file that was not read says of the input
-    pub unread : (files : Failures) (error : ReadError) → (error ≡ read.Fault → HasRisen files) → ((error ≡ read.Fault → ⊥) → IsCalm files)
-        → (error ≡ read.TooLong → IfSome (told areas.layout) (λ all. layout_limit < length all)) → IsCause words told files (of_unread_layout error)
-    unread files read.Fault risen calm long = ((one_metal areas, areas.layout, asked, Contains-first areas.layout []), risen refl)
-    unread files read.TooLong risen calm long = (length_refused (long refl), calm (λ e. cc e))
-    unread files read.Memory risen calm long = calm (λ e. cc e)
+    pub unread : (before after : ℕ) (started : Type 0) (rest : Option (List ℕ)) (error : ReadError)
+        → ReadsWhole (told areas.layout) layout_limit before after started rest (Err error) → IsCause words told (failures before after) (of_unread_layout error)
+    unread before after started rest read.Fault (has_failed failed) = ((one_metal areas, areas.layout, asked, Contains-first areas.layout []), failed.rose)
+    unread before after started rest read.TooLong (is_too_long long calm opened left) = (length_refused long, calm)
+    unread before after started rest read.Memory (has_no_memory calm opened left) = calm
 
     -- what a layout that was not read says of it
     pub unfit : (files : Failures) (why : LayoutFault) → (bytes : List ℕ) → IsCalm files → length bytes ≤ layout_limit → IfSome (told areas.layout) (λ all. bytes ≡ all)

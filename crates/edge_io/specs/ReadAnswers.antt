@@ -1,5 +1,5 @@
 -- what the calls that read files come to
-use Rattle.std.specs.Prelude.{ℕ, ◌+◌, ◌≡◌, List, Option, None, Result, Ok, Err, Vec, vec_len}
+use Rattle.std.specs.Prelude.{ℕ, ◌+◌, ◌≡◌, ◌≤◌, ◌<◌, List, length, Option, None, IfSome, Result, Ok, Err, Vec, vec_len}
 use Rattle.std.specs.Global.{Global}
 use Rattle.edge_io.specs.Bytes.{Drops, DropsUpTo}
 use Rattle.edge_io.specs.FailureCounts.{Rose}
@@ -12,11 +12,16 @@ pub record HasFailed (old new : ℕ) (started : Type 0) (rest : Option (List ℕ
   pub none_started : started → ⊥
   pub rest_untold : rest ≡ None
 
--- What `read_whole` leaves unread of the contents that are told, by its answer: what is behind the bytes that it gives,
--- or behind one byte past the limit. Where no memory was left it read no more than that, and after a failure nothing
--- is told.
-abbrev pub LeavesUnread : Option (List ℕ) → Option (List ℕ) → ℕ → Result (Vec ℕ Global) ReadError → Type 0
-LeavesUnread told rest limit (Ok bytes) = Drops told rest (vec_len bytes)
-LeavesUnread told rest limit (Err TooLong) = Drops told rest (limit + 1)
-LeavesUnread told rest limit (Err Memory) = DropsUpTo told rest (limit + 1)
-LeavesUnread told rest limit (Err Fault) = rest ≡ None
+-- What a file that is read whole comes to, where these are its contents, if they are told: the answer, the count of
+-- failures before and after, whether the file is still started, and what is unread of it.
+pub data ReadsWhole (told : Option (List ℕ)) (limit before after : ℕ) (started : Type 0) (rest : Option (List ℕ)) : Result (Vec ℕ Global) ReadError → Type 0 where
+  -- these are all bytes, no more than the limit
+  is_whole : {bytes : Vec ℕ Global} → IfSome told (λ all. bytes.items ≡ all) → vec_len bytes ≤ limit
+      → after ≡ before → started → Drops told rest (vec_len bytes) → ReadsWhole told limit before after started rest (Ok bytes)
+  -- there are more than the limit, and one more was read
+  is_too_long : IfSome told (λ all. limit < length all)
+      → after ≡ before → started → Drops told rest (limit + 1) → ReadsWhole told limit before after started rest (Err TooLong)
+  -- no memory was left, and no more than that was read
+  has_no_memory : after ≡ before → started → DropsUpTo told rest (limit + 1) → ReadsWhole told limit before after started rest (Err Memory)
+  -- the source failed
+  has_failed : HasFailed before after started rest → ReadsWhole told limit before after started rest (Err Fault)

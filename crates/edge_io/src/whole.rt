@@ -1,8 +1,8 @@
-ghost use Rattle.std.specs.Prelude.{◌≡◌, ◌≢◌, ◌≤◌, ◌<◌, ◌^◌, List, [], ◌∷◌, ℕ, Err, length, vec_len, OnOk, OnErr, IfOk, IfSome};
+ghost use Rattle.std.specs.Prelude.{◌≡◌, ◌≤◌, ◌^◌, List, [], ◌∷◌, ℕ, OnOk, OnErr};
 ghost use Rattle.edge_io.specs.Bytes.{Appends, AppendsPrefix};
 ghost use Rattle.edge_io.specs.FailureCounts.{Rose};
-ghost use Rattle.edge_io.specs.ReadAnswers.{HasFailed, LeavesUnread};
-ghost use Rattle.edge_io.specs.declared.whole.ReadError.TheVariants.{Fault, TooLong, Memory};
+ghost use Rattle.edge_io.specs.ReadAnswers.{ReadsWhole};
+ghost use Rattle.edge_io.specs.declared.whole.ReadError.TheVariants.{Fault, Memory};
 
 use super::files::{Failed, Files};
 use super::sink::Sink;
@@ -48,20 +48,10 @@ pub fn read_whole<F: Files>(
     limit: usize,
 ) -> Result<Vec<u8>, ReadError>
     requires { limit ≤ 2 ^ 30 }
-    // Where the file is told, `Ok` and `TooLong` each come exactly on their side of the limit.
-    ensures whole { IfOk result (λ bytes. IfSome (F.holds files.old name.now) (λ told. bytes.items ≡ told)) }
-    ensures short { IfOk result (λ bytes. vec_len bytes ≤ limit) }
-    ensures too_long { result ≡ Err TooLong →
-        IfSome (F.holds files.old name.now) (λ told. limit < length told) }
-
-    // What stands afterwards.
+    ensures answer { ReadsWhole (F.holds files.old name.now) limit (F.faults files.old) (F.faults files.new)
+        (F.started files.new) (F.rest files.new) result }
     ensures holds { (n : List ℕ) → F.holds files.new n ≡ F.holds files.old n }
     ensures starts { Appends (F.starts files.old) (F.starts files.new) (name.now ∷ []) }
-    ensures unread { LeavesUnread (F.holds files.old name.now) (F.rest files.new) limit result }
-    ensures started { result ≢ Err Fault → F.started files.new }
-    ensures calm { result ≢ Err Fault → F.faults files.new ≡ F.faults files.old }
-    ensures failed { result ≡ Err Fault →
-        HasFailed (F.faults files.old) (F.faults files.new) (F.started files.new) (F.rest files.new) }
 {
     let mut whole = Vec::new(alloc);
     let mut buf = [0u8; 4096];

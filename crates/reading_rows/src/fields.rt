@@ -1,6 +1,5 @@
 ghost use Rattle.std.specs.Prelude.{◌≡◌};
 
-use super::records::TWO_SQUARES;
 use gds_records::{Record, forms, i16_at, i32_at, kinds, text, u16_at};
 
 /// A record with this body. Its kind and form are not looked at.
@@ -32,48 +31,62 @@ fn has_text(body: &[u8], want: &[u8]) -> bool {
     text(&record_of(body)) == want
 }
 
+/// Bodies of two-byte numbers: the number of an item, and its value with sign and without.
+const TWO_BYTES: &[(&[u8], usize, i16, u16)] = &[
+    (b"\x02\x58", 0, 600, 600),
+    (b"\xFF\xFE\x80\x00\x7F\xFF", 0, -2, 65_534),
+    (b"\xFF\xFE\x80\x00\x7F\xFF", 1, -32_768, 32_768),
+    (b"\xFF\xFE\x80\x00\x7F\xFF", 2, 32_767, 32_767),
+];
+
 #[test]
 fn numbers_of_two_bytes(rt: HostRuntime) {
-    let ends_of_range = b"\xFF\xFE\x80\x00\x7F\xFF";
-    for (body, k, signed, unsigned) in [
-        (b"\x02\x58".as_slice(), 0, 600, 600),
-        (ends_of_range, 0, -2, 65_534),
-        (ends_of_range, 1, -32_768, 32_768),
-        (ends_of_range, 2, 32_767, 32_767),
-    ] {
-        assert!(rt; has_two_bytes(body, k, signed, unsigned), "{k} of {body:?}");
+    for (body, k, signed, unsigned) in TWO_BYTES {
+        assert!(rt;
+            has_two_bytes(body, *k, *signed, *unsigned),
+            "{k} of {body:?}"
+        );
     }
 }
+
+/// A point, and the ends of the range: the number of an item, and its value.
+const FOUR_BYTES: &[(&[u8], usize, i32)] = &[
+    (b"\x00\x00\x00\x0E\x00\x00\x00\x00\x00\x00\x00\x18", 0, 14),
+    (b"\x00\x00\x00\x0E\x00\x00\x00\x00\x00\x00\x00\x18", 1, 0),
+    (b"\x00\x00\x00\x0E\x00\x00\x00\x00\x00\x00\x00\x18", 2, 24),
+    (b"\xFF\xFF\xFF\x9C\x80\x00\x00\x00\x7F\xFF\xFF\xFF", 0, -100),
+    (
+        b"\xFF\xFF\xFF\x9C\x80\x00\x00\x00\x7F\xFF\xFF\xFF",
+        1,
+        -2_147_483_648,
+    ),
+    (
+        b"\xFF\xFF\xFF\x9C\x80\x00\x00\x00\x7F\xFF\xFF\xFF",
+        2,
+        2_147_483_647,
+    ),
+];
 
 #[test]
 fn numbers_of_four_bytes(rt: HostRuntime) {
-    // the corners of the right square, and the ends of the range
-    let stream: &[u8] = TWO_SQUARES;
-    let corners = &stream[178..218];
-    let others = b"\xFF\xFF\xFF\x9C\x80\x00\x00\x00\x7F\xFF\xFF\xFF";
-    for (body, k, number) in [
-        (corners, 0, 14),
-        (corners, 1, 0),
-        (corners, 2, 24),
-        (corners, 9, 0),
-        (others, 0, -100),
-        (others, 1, -2_147_483_648),
-        (others, 2, 2_147_483_647),
-    ] {
-        assert!(rt; has_four_bytes(body, k, number), "{k} of {body:?}");
+    for (body, k, number) in FOUR_BYTES {
+        assert!(rt; has_four_bytes(body, *k, *number), "{k} of {body:?}");
     }
 }
 
+/// Bodies of texts, and the texts.
+const TEXTS: &[(&[u8], &[u8])] = &[
+    (b"L\0", b"L"),
+    (b"TOP\0\0\0", b"TOP"),
+    (b"a\0b\0", b"a\0b"),
+    (b"AB", b"AB"),
+    (b"\0\0", b""),
+    (b"", b""),
+];
+
 #[test]
 fn texts_end_before_their_zero_bytes(rt: HostRuntime) {
-    for (body, want) in [
-        (b"L\0".as_slice(), b"L".as_slice()),
-        (b"TOP\0\0\0", b"TOP"),
-        (b"a\0b\0", b"a\0b"),
-        (b"AB", b"AB"),
-        (b"\0\0", b""),
-        (b"", b""),
-    ] {
+    for (body, want) in TEXTS {
         assert!(rt; has_text(body, want), "{body:?}");
     }
 }

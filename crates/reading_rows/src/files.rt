@@ -40,61 +40,143 @@ fn file_a_reads(
     reads(alloc, &mut files, name, limit, want) && files.faults == counted
 }
 
+/// What is answered where the file `a` is read up to a limit.
+struct Case {
+    bytes: &'static [u8],
+    fails: &'static [u64],
+    name: &'static [u8],
+    limit: u16,
+    want: Result<&'static [u8], ReadError>,
+}
+
+/// The three bytes are read, and no call fails.
+const READ: Case = Case {
+    bytes: b"abc",
+    fails: &[],
+    name: b"a",
+    limit: 3,
+    want: Ok(b"abc"),
+};
+
+/// The same, and it is answered that the file has more bytes than the limit.
+const TOO_LONG: Case = Case {
+    want: Err(ReadError::TooLong),
+    ..READ
+};
+
+/// The same, and it is answered that a call failed.
+const FAULT: Case = Case {
+    want: Err(ReadError::Fault),
+    ..READ
+};
+
 /// A file is started, read, and read again to see its end, unless more than the limit was read. A read gives 4,096
 /// bytes at most.
+const CASES: &[Case] = &[
+    READ,
+    Case {
+        limit: 9999,
+        ..READ
+    },
+    Case {
+        limit: 2,
+        ..TOO_LONG
+    },
+    Case {
+        limit: 0,
+        ..TOO_LONG
+    },
+    Case {
+        bytes: b"",
+        limit: 0,
+        want: Ok(b""),
+        ..READ
+    },
+    Case {
+        bytes: &[7; 5000],
+        limit: 5000,
+        want: Ok(&[7; 5000]),
+        ..READ
+    },
+    Case {
+        bytes: &[7; 5000],
+        limit: 4999,
+        ..TOO_LONG
+    },
+    // names that are not there
+    Case {
+        name: b"b",
+        ..FAULT
+    },
+    Case {
+        name: b"A",
+        ..FAULT
+    },
+    Case {
+        name: b"a ",
+        ..FAULT
+    },
+    Case { name: b"", ..FAULT },
+    // the start fails, the read, and the read that finds the end
+    Case {
+        fails: &[0],
+        ..FAULT
+    },
+    Case {
+        fails: &[1],
+        ..FAULT
+    },
+    Case {
+        fails: &[2],
+        ..FAULT
+    },
+    // a call that is not made does not fail
+    Case {
+        fails: &[3],
+        ..READ
+    },
+    Case {
+        fails: &[2],
+        limit: 2,
+        ..TOO_LONG
+    },
+];
+
 #[test]
 fn files_are_read_whole_up_to_the_limit(rt: HostRuntime) {
-    let a: &[u8] = b"a";
-    let none: &[u64] = &[];
-    let empty: &[u8] = b"";
-    let three: &[u8] = b"abc";
-    let long: &[u8] = &[7; 5000];
-    let cases = [
-        (three, none, a, 3, Ok(three)),
-        (three, none, a, 9999, Ok(three)),
-        (three, none, a, 2, Err(ReadError::TooLong)),
-        (three, none, a, 0, Err(ReadError::TooLong)),
-        (empty, none, a, 0, Ok(empty)),
-        (long, none, a, 5000, Ok(long)),
-        (long, none, a, 4999, Err(ReadError::TooLong)),
-        // names that are not there
-        (three, none, b"b", 3, Err(ReadError::Fault)),
-        (three, none, b"A", 3, Err(ReadError::Fault)),
-        (three, none, b"a ", 3, Err(ReadError::Fault)),
-        (three, none, b"", 3, Err(ReadError::Fault)),
-        // the start fails, the read, and the read that finds the end
-        (three, &[0], a, 3, Err(ReadError::Fault)),
-        (three, &[1], a, 3, Err(ReadError::Fault)),
-        (three, &[2], a, 3, Err(ReadError::Fault)),
-        // a call that is not made does not fail
-        (three, &[3], a, 3, Ok(three)),
-        (three, &[2], a, 2, Err(ReadError::TooLong)),
-    ];
-    for (number, (bytes, fails, name, limit, want)) in cases.into_iter().enumerate() {
+    for (number, case) in CASES.iter().enumerate() {
         assert!(rt;
-            file_a_reads(rt.alloc(), bytes, fails, name, limit, want),
+            file_a_reads(
+                rt.alloc(),
+                case.bytes,
+                case.fails,
+                case.name,
+                case.limit,
+                case.want
+            ),
             "case {number}"
         );
     }
 }
 
+/// Names of files, and the answer where each is read up to 5,000 bytes.
+const SYSTEM_FILES: &[(&[u8], Result<&[u8], ReadError>)] = &[
+    (b"/dev/null", Ok(b"")),
+    (b"/dev/zero", Err(ReadError::TooLong)),
+    // names that are not there, a folder, and a name that is no text
+    (b"/dev/null ", Err(ReadError::Fault)),
+    (b"/dev/no such file", Err(ReadError::Fault)),
+    (b"", Err(ReadError::Fault)),
+    (b"/", Err(ReadError::Fault)),
+    (b"\xff", Err(ReadError::Fault)),
+];
+
 #[test]
 fn files_of_the_system_are_read(rt: HostRuntime) {
-    let empty: &[u8] = b"";
-    let cases = [
-        (b"/dev/null".as_slice(), Ok(empty)),
-        (b"/dev/zero".as_slice(), Err(ReadError::TooLong)),
-        // names that are not there, a folder, and a name that is no text
-        (b"/dev/null ".as_slice(), Err(ReadError::Fault)),
-        (b"/dev/no such file".as_slice(), Err(ReadError::Fault)),
-        (b"".as_slice(), Err(ReadError::Fault)),
-        (b"/".as_slice(), Err(ReadError::Fault)),
-        (b"\xff".as_slice(), Err(ReadError::Fault)),
-    ];
     let mut files = OsFiles::new(&rt);
-    for (number, (name, want)) in cases.into_iter().enumerate() {
+    for (number, (name, want)) in SYSTEM_FILES.iter().enumerate() {
         assert!(rt;
-            reads(rt.alloc(), &mut files, name, 5000, want),
+            reads(rt.alloc(), &mut files, name, 5000, *want),
             "case {number}"
         );
     }

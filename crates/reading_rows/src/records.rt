@@ -34,7 +34,7 @@ pub const TWO_SQUARES: &[u8; 230] = b"\
     \x00\x04\x04\x00";
 
 /// Its records: where each begins, its kind, the form of its data, and the size of its body.
-const RECORDS: [(u16, u8, u8, u8); 18] = [
+const RECORDS: &[(u16, u8, u8, u8)] = &[
     (0, HEADER, TWO_BYTE_NUMBERS, 2),
     (6, BGNLIB, TWO_BYTE_NUMBERS, 24),
     (34, LIBNAME, TEXT, 2),
@@ -118,15 +118,15 @@ fn has_bad_length(bytes: &[u8], count: usize, at: u16, len: u16) -> bool
 fn records_come_one_after_the_other(rt: HostRuntime) {
     let mut records = Records::new(TWO_SQUARES);
     for (at, kind, form, size) in RECORDS {
-        assert!(rt; gives(&mut records, at, kind, form, size), "at {at}");
+        assert!(rt; gives(&mut records, *at, *kind, *form, *size), "at {at}");
     }
     assert!(rt; ends(records, 0, Ok(None)));
 }
 
 #[test]
 fn cut_streams_are_truncated_within_the_record_that_is_cut(rt: HostRuntime) {
-    for (count, (at, _kind, _form, size)) in RECORDS.into_iter().enumerate() {
-        assert!(rt; is_truncated_within(count, at, size), "at {at}");
+    for (count, (at, _kind, _form, size)) in RECORDS.iter().enumerate() {
+        assert!(rt; is_truncated_within(count, *at, *size), "at {at}");
     }
 }
 
@@ -139,37 +139,43 @@ fn bytes_behind_endlib_are_ignored(rt: HostRuntime) {
     }
 }
 
+/// Streams that are truncated: how many records they have, and where the truncated one begins.
+const SHORT: &[(&[u8], usize, u16)] = &[
+    // less than a head, whatever length it has
+    (b"", 0, 0),
+    (b"\x00", 0, 0),
+    (b"\x00\x03\x00", 0, 0),
+    // less than the length counts, which has no sign
+    (b"\x00\x06\x00\x02\x02", 0, 0),
+    (b"\x80\x00\x00\x02\x02\x58", 0, 0),
+    // behind a record
+    (b"\x00\x04\x08\x00", 1, 4),
+    (b"\x00\x04\x08\x00\x00\x06\x00\x02\x02", 1, 4),
+];
+
 #[test]
 fn short_streams_are_truncated(rt: HostRuntime) {
-    for (bytes, count, at) in [
-        // less than a head, whatever length it has
-        (b"".as_slice(), 0, 0),
-        (b"\x00", 0, 0),
-        (b"\x00\x03\x00", 0, 0),
-        // less than the length counts, which has no sign
-        (b"\x00\x06\x00\x02\x02", 0, 0),
-        (b"\x80\x00\x00\x02\x02\x58", 0, 0),
-        // behind a record
-        (b"\x00\x04\x08\x00", 1, 4),
-        (b"\x00\x04\x08\x00\x00\x06\x00\x02\x02", 1, 4),
-    ] {
-        assert!(rt; is_truncated(bytes, count, at), "{bytes:?}");
+    for (bytes, count, at) in SHORT {
+        assert!(rt; is_truncated(bytes, *count, *at), "{bytes:?}");
     }
 }
 
+/// Streams with a bad length: how many records they have, where it stands, and the length.
+const BAD_LENGTHS: &[(&[u8], usize, u16, u16)] = &[
+    (b"\x00\x00\x04\x00", 0, 0, 0),
+    (b"\x00\x02\x04\x00", 0, 0, 2),
+    (b"\x00\x03\x00\x02", 0, 0, 3),
+    (b"\x00\x05\x00\x02\x00", 0, 0, 5),
+    // before the bytes are counted
+    (b"\x00\x07\x00\x02", 0, 0, 7),
+    (b"\xFF\xFF\x00\x02", 0, 0, 65_535),
+    // behind a record
+    (b"\x00\x04\x08\x00\x00\x07\x00\x02", 1, 4, 7),
+];
+
 #[test]
 fn lengths_below_4_and_odd_ones_are_bad(rt: HostRuntime) {
-    for (bytes, count, at, len) in [
-        (b"\x00\x00\x04\x00".as_slice(), 0, 0, 0),
-        (b"\x00\x02\x04\x00", 0, 0, 2),
-        (b"\x00\x03\x00\x02", 0, 0, 3),
-        (b"\x00\x05\x00\x02\x00", 0, 0, 5),
-        // before the bytes are counted
-        (b"\x00\x07\x00\x02", 0, 0, 7),
-        (b"\xFF\xFF\x00\x02", 0, 0, 65_535),
-        // behind a record
-        (b"\x00\x04\x08\x00\x00\x07\x00\x02", 1, 4, 7),
-    ] {
-        assert!(rt; has_bad_length(bytes, count, at, len), "{bytes:?}");
+    for (bytes, count, at, len) in BAD_LENGTHS {
+        assert!(rt; has_bad_length(bytes, *count, *at, *len), "{bytes:?}");
     }
 }

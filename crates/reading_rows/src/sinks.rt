@@ -45,26 +45,25 @@ fn writer_takes(
     write_all(&mut sink, bytes) == want && sink.writer.taken.as_slice() == taken
 }
 
+/// How many bytes a writer takes a call, whether its flushes pass, what is written, the answer, and what the writer took.
+const WRITERS: &[(usize, bool, &[u8], Result<(), Failed>, &[u8])] = &[
+    (9, true, b"abc", Ok(()), b"abc"),
+    (2, true, b"abc", Ok(()), b"abc"),
+    (1, true, b"abc", Ok(()), b"abc"),
+    // a writer that takes nothing has failed
+    (0, true, b"abc", Err(Failed), b""),
+    // and so has one whose flush fails, whatever it took
+    (9, false, b"abc", Err(Failed), b"abc"),
+    (1, false, b"abc", Err(Failed), b"a"),
+    // where there is nothing to write, nothing is asked of it
+    (0, false, b"", Ok(()), b""),
+];
+
 #[test]
 fn a_writer_that_is_slow_or_fails(rt: HostRuntime) {
-    let empty: &[u8] = b"";
-    let one: &[u8] = b"a";
-    let three: &[u8] = b"abc";
-    let cases = [
-        (9, true, three, Ok(()), three),
-        (2, true, three, Ok(()), three),
-        (1, true, three, Ok(()), three),
-        // a writer that takes nothing has failed
-        (0, true, three, Err(Failed), empty),
-        // and so has one whose flush fails, whatever it took
-        (9, false, three, Err(Failed), three),
-        (1, false, three, Err(Failed), one),
-        // where there is nothing to write, nothing is asked of it
-        (0, false, empty, Ok(()), empty),
-    ];
-    for (number, (most, flushes, bytes, want, taken)) in cases.into_iter().enumerate() {
+    for (number, (most, flushes, bytes, want, taken)) in WRITERS.iter().enumerate() {
         assert!(rt;
-            writer_takes(rt.alloc(), most, flushes, bytes, want, taken),
+            writer_takes(rt.alloc(), *most, *flushes, bytes, *want, taken),
             "case {number}"
         );
     }
@@ -88,26 +87,41 @@ fn sink_takes(alloc: Global, room: usize, fails: &[u64], taken: &[u8], failures:
         && failed == failures
 }
 
+/// The room of a sink, the numbers of the calls that fail, what it took, and how many calls failed.
+const SINKS: &[(usize, &[u64], &[u8], u64)] = &[
+    (4, &[], b"abcd", 0),
+    // a piece that does not fit is left whole
+    (3, &[], b"abc", 1),
+    (2, &[], b"d", 1),
+    (0, &[], b"", 2),
+    // calls that are listed
+    (9, &[0], b"d", 1),
+    (9, &[1], b"abc", 1),
+    (9, &[0, 1], b"", 2),
+    (9, &[2], b"abcd", 0),
+];
+
 #[test]
 fn a_sink_takes_what_its_room_holds(rt: HostRuntime) {
-    let none: &[u64] = &[];
-    let cases = [
-        (4, none, b"abcd".as_slice(), 0),
-        // a piece that does not fit is left whole
-        (3, none, b"abc".as_slice(), 1),
-        (2, none, b"d".as_slice(), 1),
-        (0, none, b"".as_slice(), 2),
-        // calls that are listed
-        (9, &[0], b"d".as_slice(), 1),
-        (9, &[1], b"abc".as_slice(), 1),
-        (9, &[0, 1], b"".as_slice(), 2),
-        (9, &[2], b"abcd".as_slice(), 0),
-    ];
-    for (number, (room, fails, taken, failures)) in cases.into_iter().enumerate() {
+    for (number, (room, fails, taken, failures)) in SINKS.iter().enumerate() {
         assert!(rt;
-            sink_takes(rt.alloc(), room, fails, taken, failures),
+            sink_takes(rt.alloc(), *room, fails, taken, *failures),
             "case {number}"
         );
+    }
+}
+
+/// Whether three bytes are written to the file.
+fn is_written(rt: &HostRuntime, path: &str) -> Result<bool, Fail> {
+    let mut sink = OsSink::new(fs::create(rt, path)?);
+    Ok(write_all(&mut sink, b"abc").is_ok())
+}
+
+/// Whether the same three bytes are read from it.
+fn is_read(rt: &HostRuntime, path: &str) -> bool {
+    match read_whole(rt.alloc(), &mut OsFiles::new(rt), path.as_bytes(), 3) {
+        Ok(bytes) => bytes.as_slice() == b"abc".as_slice(),
+        Err(_) => false,
     }
 }
 
@@ -116,13 +130,8 @@ fn a_sink_takes_what_its_room_holds(rt: HostRuntime) {
 fn written_files_are_read_again(rt: HostRuntime) -> Result<(), Fail> {
     let name = format!(in rt.alloc(); "reading_rows_{}", process::id(rt.process()))?;
     let path = env::temp_dir(&rt)?.join(rt.alloc(), name.as_str())?;
-    let mut sink = OsSink::new(fs::create(&rt, path.as_str())?);
-    let written = write_all(&mut sink, b"abc");
-    drop(sink);
-    let mut files = OsFiles::new(&rt);
-    let answer = read_whole(rt.alloc(), &mut files, path.as_str().as_bytes(), 3);
+    let same = is_written(&rt, path.as_str())? && is_read(&rt, path.as_str());
     fs::remove_file(&rt, path.as_str())?;
-    let same = answer.is_ok_and(|bytes| bytes.as_slice() == b"abc".as_slice());
-    assert!(rt; written.is_ok() && same);
+    assert!(rt; same);
     Ok(())
 }

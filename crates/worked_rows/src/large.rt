@@ -4,6 +4,7 @@ use critarea_core::run;
 use edge_io::{Failed, Files, MemSink};
 use std::alloc::{AllocError, Global};
 use std::test::Fail;
+use std::thread::Threads;
 
 /// So many squares of 10 by 10 cells in a row, 4 cells apart.
 fn row_of_squares(alloc: Global, count: u16) -> Result<Vec<Plate>, AllocError> {
@@ -68,24 +69,25 @@ impl Files for Zeros {
     }
 }
 
+/// Whether the answer to a file of so many zero bytes is this line.
+fn is_answered(
+    rt: &(impl Threads + Sync),
+    alloc: Global,
+    size: usize,
+    line: &str,
+) -> Result<bool, Fail> {
+    let words = words_of(alloc, RADIUS_3)?;
+    let mut out = MemSink::with(alloc, 100, Vec::new(alloc))?;
+    let mut err = MemSink::with(alloc, 100, Vec::new(alloc))?;
+    let mut files = Zeros { size, unread: 0 };
+    let status = run(rt, alloc, words.as_slice(), &mut files, &mut out, &mut err);
+    Ok(status == 4 && out.written.is_empty() && err.written.as_slice() == line.as_bytes())
+}
+
 /// The longest layout is read, and found to be none. One byte more, and it is too long.
 #[test]
 fn layouts_are_as_long_as_the_limit(rt: HostRuntime) -> Result<(), Fail> {
-    let alloc = rt.alloc();
-    let words = words_of(alloc, RADIUS_3)?;
-    let cases = [
-        (268_435_456, "error 60 at 0\n"),
-        (268_435_457, "error 9 at 268435456\n"),
-    ];
-    for (size, line) in cases {
-        let mut files = Zeros { size, unread: 0 };
-        let mut out = MemSink::with(alloc, 100, Vec::new(alloc))?;
-        let mut err = MemSink::with(alloc, 100, Vec::new(alloc))?;
-        let status = run(&rt, alloc, words.as_slice(), &mut files, &mut out, &mut err);
-        assert!(rt;
-            status == 4 && out.written.is_empty() && err.written.as_slice() == line.as_bytes(),
-            "{size}"
-        );
-    }
+    assert!(rt; is_answered(&rt, rt.alloc(), 268_435_456, "error 60 at 0\n")?);
+    assert!(rt; is_answered(&rt, rt.alloc(), 268_435_457, "error 9 at 268435456\n")?);
     Ok(())
 }

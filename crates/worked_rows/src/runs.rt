@@ -153,6 +153,17 @@ fn file_a(alloc: Global, bytes: &[u8], fails: Vec<u64>) -> Result<MemFiles, Allo
     Ok(MemFiles::new(files, fails))
 }
 
+/// What a sink took, as text.
+fn text_of(sink: MemSink) -> Result<String, Fail> {
+    Ok(String::from_utf8(sink.written)?)
+}
+
+/// The files of the run.
+fn files_of(alloc: Global, given: &Given<'_>) -> Result<MemFiles, AllocError> {
+    let fails = given.failing.calls_of_files(alloc)?;
+    file_a(alloc, given.layout, fails)
+}
+
 /// What a run answers.
 pub fn run_on(
     rt: &(impl Threads + Sync),
@@ -160,15 +171,14 @@ pub fn run_on(
     given: &Given<'_>,
 ) -> Result<Answer, Fail> {
     let words = words_of(alloc, given.words)?;
-    let fails = given.failing.calls_of_files(alloc)?;
-    let mut files = file_a(alloc, given.layout, fails)?;
+    let mut files = files_of(alloc, given)?;
     let mut out = given.failing.out(alloc)?;
     let mut err = given.failing.error_out(alloc)?;
     let status = run(rt, alloc, words.as_slice(), &mut files, &mut out, &mut err);
     Ok(Answer {
         status,
-        out: String::from_utf8(out.written)?,
-        err: String::from_utf8(err.written)?,
+        out: text_of(out)?,
+        err: text_of(err)?,
     })
 }
 
@@ -178,8 +188,8 @@ pub fn expect(
     alloc: Global,
     given: &Given<'_>,
     want: Want,
-    what: &impl fmt::Display,
+    what: &impl fmt::Debug,
 ) -> Result<(), Fail> {
-    assert_eq!(rt; run_on(rt, alloc, given)?, want.whole(alloc)?, "{what}");
+    assert_eq!(rt; run_on(rt, alloc, given)?, want.whole(alloc)?, "{what:?}");
     Ok(())
 }

@@ -2,6 +2,7 @@ use Rattle.std.proofs.Common.{arith, ◌≡◌, ◌≤◌, ◌+◌, ◌++◌, �
 use Rattle.std.proofs.lemmas.List.{length-drop, length-take, take-append-le}
 use Rattle.std.proofs.lemmas.Result.{err_from_is_err_and}
 use Rattle.edge_io.proofs.ByteLaws.{HasRead-more, HasRead-all, HasRead-long, HasRead-Drops, HasRead-DropsUpTo}
+use Rattle.edge_io.specs.ReadAnswers.{is_whole, is_too_long, has_no_memory, has_failed}
 use Rattle.edge_io.proofs.whole.read_whole.Goals as goal
 
 pub loop-buf-preserved : goal.loop-buf-preserved
@@ -18,31 +19,35 @@ loop-buf-preserved g c =
       read = rw (whole.items, front) (HasRead-more _ _ _ _ _ c.loop-buf.invariant.read given.gives);
     }
 
-pub returns-then-count-eq0-clause-whole : goal.returns-then-count-eq0-clause-whole
-returns-then-count-eq0-clause-whole g c =
-    HasRead-all _ _ _ _ c.loop-buf.invariant.read (rw c.if-count-eq0.true at c.in_ok-count.ensures.gives)
-
-pub returns-then-count-eq0-clause-unread : goal.returns-then-count-eq0-clause-unread
-returns-then-count-eq0-clause-unread g c =
-    let none = HasRead-more _ _ _ _ _ c.loop-buf.invariant.read (rw c.if-count-eq0.true at c.in_ok-count.ensures.gives) in
+pub returns-then-count-eq0-clause-answer : goal.returns-then-count-eq0-clause-answer
+returns-then-count-eq0-clause-answer g c =
+    let given = c.in_ok-count.ensures in
+    let gives = rw c.if-count-eq0.true at given.gives in
+    let none = HasRead-more _ _ _ _ _ c.loop-buf.invariant.read gives in
     let long : vec_len c.loop-buf.whole ≡ length c.loop-buf.whole.items = omega arith in
-    rw long (HasRead-Drops _ _ _ (rw append-nil at none))
+    is_whole {bytes = c.loop-buf.whole} (HasRead-all _ _ _ _ c.loop-buf.invariant.read gives) (omega arith) (given.calm ∙ c.loop-buf.invariant.calm) given.started
+    (rw long (HasRead-Drops _ _ _ (rw append-nil at none)))
 
-pub returns-in_err-extend_from_slice-clause-unread : goal.returns-in_err-extend_from_slice-clause-unread
-returns-in_err-extend_from_slice-clause-unread g c =
+pub returns-in_err-start-clause-answer : goal.returns-in_err-start-clause-answer
+returns-in_err-start-clause-answer g c =
+    let error = err_from_is_err_and c.from_residual.result c.from_residual.ensures.1 in
+    rw (error.1, error.2) (has_failed c.in_err-start.ensures.failed)
+
+pub returns-in_err-count-clause-answer : goal.returns-in_err-count-clause-answer
+returns-in_err-count-clause-answer g c =
+    let error = err_from_is_err_and c.from_residual-in_err-count.result c.from_residual-in_err-count.ensures.1 in
+    rw (error.1, error.2) (has_failed (rw c.loop-buf.invariant.calm at c.in_err-count.ensures.failed))
+
+pub returns-in_err-extend_from_slice-clause-answer : goal.returns-in_err-extend_from_slice-clause-answer
+returns-in_err-extend_from_slice-clause-answer g c =
     let error = err_from_is_err_and c.from_residual-in_err-extend_from_slice.result c.from_residual-in_err-extend_from_slice.ensures.1 in
     let given : List ℕ = take c.in_ok-count.count c.read.new.buf in
     let more = HasRead-more _ _ _ _ given c.loop-buf.invariant.read c.in_ok-count.ensures.gives in
     let fits : length (c.loop-buf.whole.items ++ given) ≤ c.args.limit + 1 = omega (arith, c.in_ok-count.ensures.within, c.read.auto.buf, c.min-room.ensures, length-append {A = ℕ}, length-take {A = ℕ}, length-drop {A = ℕ}) in
-    rw (error.1, error.2) (HasRead-DropsUpTo _ _ _ _ more fits)
+    rw (error.1, error.2) (has_no_memory (c.in_ok-count.ensures.calm ∙ c.loop-buf.invariant.calm) c.in_ok-count.ensures.started (HasRead-DropsUpTo _ _ _ _ more fits))
 
-pub returns-clause-failed : goal.returns-clause-failed
-returns-clause-failed g c e = cc
-
-pub returns-clause-too_long : goal.returns-clause-too_long
-returns-clause-too_long g c _ = HasRead-long _ _ _ _ c.loop-buf.invariant.read (omega arith)
-
-pub returns-clause-unread : goal.returns-clause-unread
-returns-clause-unread g c =
+pub returns-clause-answer : goal.returns-clause-answer
+returns-clause-answer g c =
     let past : c.args.limit + 1 ≡ length c.loop-buf.whole.items = omega arith in
-    rw past (HasRead-Drops _ _ _ c.loop-buf.invariant.read)
+    is_too_long (HasRead-long _ _ _ _ c.loop-buf.invariant.read (omega arith)) c.loop-buf.invariant.calm c.loop-buf.invariant.started
+    (rw past (HasRead-Drops _ _ _ c.loop-buf.invariant.read))
