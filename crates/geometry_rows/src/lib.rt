@@ -1,5 +1,5 @@
-//! Worked rows on the calls of geometry: cells, rectangles, turns, classes, islands and areas. Each row's answer was
-//! worked out by hand. The crate has tests alone.
+//! Worked rows on the calls of geometry: cells, rectangles, turns, touching pairs, classes, islands and areas. Each
+//! row's answer was worked out by hand. The crate has tests alone.
 #![tactic(auto)]
 
 #[cfg(test)]
@@ -14,5 +14,7 @@ mod many_squares;
 mod rects;
 #[cfg(test)]
 mod short_areas;
+#[cfg(test)]
+mod touch_rows;
 #[cfg(test)]
 mod turns;

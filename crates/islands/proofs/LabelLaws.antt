@@ -1,5 +1,5 @@
 -- classes of the touching pairs are labels, and tell islands apart
-use Rattle.std.proofs.Common.{ℕ, ◌≡◌, sym, List, length, get_or, arith, inl, inr, ◌⊎◌}
+use Rattle.std.proofs.Common.{ℕ, ◌<◌, ◌≡◌, sym, List, length, get_or, arith, inl, inr, ◌⊎◌}
 use Rattle.std.proofs.lemmas.Bool.Decides.{leb_tells}
 use Rattle.std.proofs.lemmas.List.Elements.{Contains-get_or}
 use Rattle.std.proofs.lemmas.Option.{slice_get_within}
@@ -13,34 +13,45 @@ use Rattle.paths.proofs.ListLaws.{equal_or_not}
 use Rattle.classes.specs.Classes.{AreBelow, IsPair, AreJoined, IsClasses}
 use Rattle.classes.specs.Laws.{EqualWhereJoined}
 use Rattle.islands.specs.Islands.{LabelsAreIslands}
-use Rattle.islands.specs.Touching.{AreTouching}
+use Rattle.std.specs.Prelude.{Contains, ◌↔◌}
+use Rattle.touch_sweep.specs.Touching.{AreTouching}
 
-pub pairs_below : (rects : List Rect) (pairs : List (ℕ × ℕ)) → AreTouching rects pairs → AreBelow (length rects) pairs
-pairs_below rects pairs t k d small =
-    let h = (t.exact (get_or pairs k d).0 (get_or pairs k d).1).0 (Contains-get_or pairs k d small) in
-    (slice_get_within rects _ h.1.one h.1.one_at, slice_get_within rects _ h.1.other h.1.other_at)
+-- exactly the touching pairs, the lesser number first
+abbrev pub TellTouching : List Rect → List (ℕ × ℕ) → Type 0
+TellTouching rects pairs = (a b : ℕ) → Contains pairs (a, b) ↔ AreTouching rects a b
 
-pair_touches : (rects : List Rect) (pairs : List (ℕ × ℕ)) → AreTouching rects pairs → (a b : ℕ) → IsPair pairs a b → TouchAt rects a b
-pair_touches rects pairs t a b (inl c) = ((t.exact a b).0 c).1
-pair_touches rects pairs t a b (inr c) = TouchAt-sym rects b a ((t.exact b a).0 c).1
+pub pairs_below : (rects : List Rect) (pairs : List (ℕ × ℕ)) → TellTouching rects pairs → AreBelow (length rects) pairs
+pairs_below rects pairs tells k d small =
+    let t = (tells (get_or pairs k d).0 (get_or pairs k d).1).0 (Contains-get_or pairs k d small) in
+    (slice_get_within rects _ t.one t.one_at, slice_get_within rects _ t.other t.other_at)
 
-touching_pair : (rects : List Rect) (pairs : List (ℕ × ℕ)) → AreTouching rects pairs → (a b : ℕ) → TouchAt rects a b → (a ≡ b) ⊎ IsPair pairs a b
-touching_pair rects pairs t a b h = elim (equal_or_not a b) [
+touch_at : (rects : List Rect) (a b : ℕ) → AreTouching rects a b → TouchAt rects a b
+touch_at rects a b t = record { one = t.one; other = t.other; one_at = t.one_at; other_at = t.other_at; touch = t.touch }
+
+touching : (rects : List Rect) (a b : ℕ) → a < b → TouchAt rects a b → AreTouching rects a b
+touching rects a b less t = record { lesser = less; one = t.one; other = t.other; one_at = t.one_at; other_at = t.other_at; touch = t.touch }
+
+pair_touches : (rects : List Rect) (pairs : List (ℕ × ℕ)) → TellTouching rects pairs → (a b : ℕ) → IsPair pairs a b → TouchAt rects a b
+pair_touches rects pairs tells a b (inl c) = touch_at rects a b ((tells a b).0 c)
+pair_touches rects pairs tells a b (inr c) = TouchAt-sym rects b a (touch_at rects b a ((tells b a).0 c))
+
+touching_pair : (rects : List Rect) (pairs : List (ℕ × ℕ)) → TellTouching rects pairs → (a b : ℕ) → TouchAt rects a b → (a ≡ b) ⊎ IsPair pairs a b
+touching_pair rects pairs tells a b h = elim (equal_or_not a b) [
   | inl e ↦ inl e
   | inr apart ↦
       elim (leb_tells a b) [
-        | inl y ↦ let y' = y.1 in inr (inl ((t.exact a b).1 (omega arith, h)))
-        | inr y ↦ inr (inr ((t.exact b a).1 (y.1, TouchAt-sym rects a b h)))
+        | inl y ↦ let y' = y.1 in inr (inl ((tells a b).1 (touching rects a b (omega arith) h)))
+        | inr y ↦ inr (inr ((tells b a).1 (touching rects b a y.1 (TouchAt-sym rects a b h))))
       ]
 ]
 
-module _ (rects : List Rect) (pairs : List (ℕ × ℕ)) (t : AreTouching rects pairs) where
+module _ (rects : List Rect) (pairs : List (ℕ × ℕ)) (tells : TellTouching rects pairs) where
   -- rectangles are chained exactly where their numbers are joined
   joined_chained : {a b : ℕ} → AreJoined (length rects) pairs a b → AreChained rects a b
-  joined_chained path = retold (λ a b h i p. inr (pair_touches rects pairs t a b p)) path
+  joined_chained path = retold (λ a b h i p. inr (pair_touches rects pairs tells a b p)) path
 
   chained_joined : {a b : ℕ} → AreChained rects a b → AreJoined (length rects) pairs a b
-  chained_joined path = retold (λ a b h i p. touching_pair rects pairs t a b p) path
+  chained_joined path = retold (λ a b h i p. touching_pair rects pairs tells a b p) path
 
   pub labelling : (labels : List ℕ) → IsClasses (length rects) pairs labels → IsLabelling rects labels
   labelling labels c = record {

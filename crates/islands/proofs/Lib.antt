@@ -1,2 +1,1 @@
-pub mod TouchSteps
 pub mod LabelLaws

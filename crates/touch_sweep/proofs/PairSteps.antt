@@ -1,0 +1,137 @@
+-- from what the search found to the answer
+use Rattle.std.proofs.Common.{ℕ, ◌<◌, ◌≡◌, refl, sym, subst, List, [], ◌∷◌, arith, inl, inr, Bool, true, Some}
+use Rattle.std.specs.Prelude.{ℤ, ◌&&◌, nat_eq, All, AllPairs, Contains, slice_get, ◌↔◌, ◌≤ℤ◌}
+use Rattle.std.specs.Cmp.{IsEquivalence, IsTotalOrder, nat_cmp_total}
+use Rattle.std.specs.List.{dedup}
+use Rattle.std.specs.List.Sorted.{IsPermutation, IsSorted, IsStrictlySortedBy}
+use Rattle.std.specs.Ordering.{MatchOrdering, nat_cmp, ordering_then, eq_by_cmp}
+use Rattle.std.specs.declared.cmp.Ordering.{Ordering}
+use Rattle.std.specs.declared.cmp.Ordering.TheVariants.{Less, Equal, Greater}
+use Rattle.std.proofs.lemmas.Bool.Decides.{nat_tests}
+use Rattle.std.proofs.lemmas.Cmp.{ranked, on_total, then_total, on_equiv, and_equiv, nat_eq_equiv}
+use Rattle.std.proofs.lemmas.Int.{ints, by_lt_z}
+use Rattle.std.proofs.lemmas.List.Elements.{All-contains, All-from_recursion, All-weaker}
+use Rattle.std.proofs.lemmas.List.Kept.{AllPairs-cons, Contains-dedup, Contains-from_dedup, IsStrictlySortedBy-dedup}
+use Rattle.std.proofs.lemmas.List.Sorted.{Contains-permutation, IsPermutation-sym}
+use Rattle.geo_core.specs.Intervals.{IsIn}
+use Rattle.geo_core.specs.declared.plane.Rect.{Rect}
+use Rattle.geo_core.proofs.RectLaws.{Touch-sym}
+use Rattle.touch_sweep.specs.Entries.{AreNumbered}
+use Rattle.touch_sweep.specs.Matches.{IsPairOf, IsMatchOf, IsMatchFrom, Gains}
+use Rattle.touch_sweep.specs.Touching.{AreTouching, ComesBefore}
+use Rattle.touch_sweep.specs.declared.numbered.Numbered.{Numbered}
+use Rattle.touch_sweep.proofs.ListLaws.{Contains-nil}
+
+-- ---- pairs of numbers in rising order, each once
+
+abbrev pub pair_cmp : ℕ × ℕ → ℕ × ℕ → Ordering
+pair_cmp p q = ordering_then (nat_cmp p.0 q.0) (nat_cmp p.1 q.1)
+
+before : (p q : ℕ × ℕ) → pair_cmp p q ≡ Less → ComesBefore p q
+before p q less = by_parts (nat_cmp p.0 q.0) (nat_cmp p.1 q.1) (ranked p.0 q.0 (nat_cmp p.0 q.0) refl) (ranked p.1 q.1 (nat_cmp p.1 q.1) refl) less where
+  by_parts : (r s : Ordering) → MatchOrdering r (p.0 < q.0) (p.0 ≡ q.0) (q.0 < p.0) → MatchOrdering s (p.1 < q.1) (p.1 ≡ q.1) (q.1 < p.1) → ordering_then r s ≡ Less → ComesBefore p q
+  by_parts Less s m n e = inl m
+  by_parts Equal Less m n e = inr (m, n)
+  by_parts Equal Equal m n e = cc
+  by_parts Equal Greater m n e = cc
+  by_parts Greater s m n e = cc
+
+rising : (pairs : List (ℕ × ℕ)) → IsStrictlySortedBy pair_cmp pairs → AllPairs ComesBefore pairs
+unfolding IsStrictlySortedBy
+rising [] h = λ i j d less small. absurd (omega arith)
+rising (p ∷ pairs) h = AllPairs-cons ComesBefore p pairs
+    (All-weaker (λ q. pair_cmp p q ≡ Less) (ComesBefore p) (before p) pairs (All-from_recursion (λ q. pair_cmp p q ≡ Less) pairs h.0))
+    (rising pairs h.1)
+
+abbrev pub pair_eq : ℕ × ℕ → ℕ × ℕ → Bool
+pair_eq p q = nat_eq p.0 q.0 && nat_eq p.1 q.1
+
+pair_cmp_total : IsTotalOrder pair_cmp
+pair_cmp_total = then_total (on_total (λ (p : ℕ × ℕ). p.0) nat_cmp_total) (on_total (λ (p : ℕ × ℕ). p.1) nat_cmp_total)
+
+pair_eq_equiv : IsEquivalence pair_eq
+pair_eq_equiv = and_equiv (on_equiv (λ (p : ℕ × ℕ). p.0) nat_eq_equiv) (on_equiv (λ (p : ℕ × ℕ). p.1) nat_eq_equiv)
+
+same_pair : (p q : ℕ × ℕ) → pair_eq p q ≡ true → p ≡ q
+same_pair (a, b) (c, d) e = let f : a ≡ c = grind (arith, nat_tests) in let g : b ≡ d = grind (arith, nat_tests) in cc
+
+ties : (p q : ℕ × ℕ) → pair_eq p q ≡ eq_by_cmp pair_cmp p q
+ties p q = grind (arith, nat_tests)
+
+-- what `sort_unstable` and `dedup` make of pairs
+pub rising_pairs : (sorted pairs : List (ℕ × ℕ)) → IsSorted pair_cmp sorted → pairs ≡ dedup pair_eq sorted → AllPairs ComesBefore pairs
+rising_pairs sorted pairs up e = subst (AllPairs ComesBefore) (sym e) (rising (dedup pair_eq sorted) (IsStrictlySortedBy-dedup pair_cmp_total ties sorted up))
+
+same_pairs : (found sorted pairs : List (ℕ × ℕ)) → IsPermutation found sorted → pairs ≡ dedup pair_eq sorted → (p : ℕ × ℕ) → Contains pairs p ↔ Contains found p
+same_pairs found sorted pairs moved e p = (
+  λ c. Contains-permutation sorted found p (IsPermutation-sym found sorted moved) (Contains-from_dedup pair_eq sorted p (subst (λ ps. Contains ps p) e c)),
+  λ c. subst (λ ps. Contains ps p) (sym e) (Contains-dedup pair_eq_equiv same_pair sorted p (Contains-permutation found sorted p moved c)),
+)
+
+-- ---- the pairs of numbers of rectangles that touch
+
+touching_from_match : (rects : List Rect) (entries : List Numbered) → AreNumbered rects entries → (a b : ℕ) → IsMatchOf entries entries (a, b) → AreTouching rects a b
+touching_from_match rects entries all a b m = by_numbers m.match.match.numbers where
+  one : Numbered
+  one = m.point
+
+  other : Numbered
+  other = m.match.other
+
+  one_at : slice_get rects one.number ≡ Some one.rect
+  one_at = (all one).0 m.among
+
+  other_at : slice_get rects other.number ≡ Some other.rect
+  other_at = (all other).0 m.match.among
+
+  by_numbers : IsPairOf one.number other.number (a, b) → AreTouching rects a b
+  by_numbers (inl (less, e)) = subst (λ (p : ℕ × ℕ). AreTouching rects p.0 p.1) (sym e) (record { lesser = less; one = one.rect; other = other.rect; one_at = one_at; other_at = other_at; touch = m.match.match.touch })
+  by_numbers (inr (less, e)) = subst (λ (p : ℕ × ℕ). AreTouching rects p.0 p.1) (sym e) (record { lesser = less; one = other.rect; other = one.rect; one_at = other_at; other_at = one_at; touch = Touch-sym one.rect other.rect m.match.match.touch })
+
+-- of two that touch, the one that begins no earlier is the point, and the other one is the span
+match_from_touching : (rects : List Rect) (entries : List Numbered) (low high : ℤ) → AreNumbered rects entries → All (λ e. IsIn low high e.rect.x0) entries
+    → (a b : ℕ) → AreTouching rects a b → IsMatchFrom low high entries entries (a, b)
+match_from_touching rects entries low high all within a b t = by_lt_z t.one.x0 t.other.x0 (λ l. second_begins (omega (arith, ints))) first_begins where
+  first : Numbered
+  first = record { number = a; rect = t.one }
+
+  second : Numbered
+  second = record { number = b; rect = t.other }
+
+  has_first : Contains entries first
+  has_first = (all first).1 t.one_at
+
+  has_second : Contains entries second
+  has_second = (all second).1 t.other_at
+
+  second_begins : t.one.x0 ≤ℤ t.other.x0 → IsMatchFrom low high entries entries (a, b)
+  second_begins reached = record {
+    found = record {
+      point = second;
+      among = has_second;
+      match = record { other = first; among = has_first; match = record { touch = Touch-sym t.one t.other t.touch; numbers = inr (t.lesser, refl) } };
+    };
+    begins = All-contains (λ e. IsIn low high e.rect.x0) entries second within has_second;
+    reached = reached;
+  }
+
+  first_begins : t.other.x0 ≤ℤ t.one.x0 → IsMatchFrom low high entries entries (a, b)
+  first_begins reached = record {
+    found = record {
+      point = first;
+      among = has_first;
+      match = record { other = second; among = has_second; match = record { touch = t.touch; numbers = inl (t.lesser, refl) } };
+    };
+    begins = All-contains (λ e. IsIn low high e.rect.x0) entries first within has_first;
+    reached = reached;
+  }
+
+-- what was found, sorted and each once, are the pairs of rectangles that touch
+pub exact_pairs : (rects : List Rect) (entries : List Numbered) (low high : ℤ) (found sorted pairs : List (ℕ × ℕ)) → AreNumbered rects entries → All (λ e. IsIn low high e.rect.x0) entries
+    → Gains (IsMatchFrom low high entries entries) (IsMatchOf entries entries) [] found → IsPermutation found sorted → pairs ≡ dedup pair_eq sorted
+    → (a b : ℕ) → Contains pairs (a, b) ↔ AreTouching rects a b
+exact_pairs rects entries low high found sorted pairs all within g moved e a b =
+    let same = same_pairs found sorted pairs moved e (a, b) in (
+      λ c. elim (g.none_else (a, b) (same.0 c)) [ inl d ↦ absurd (Contains-nil (a, b) d) | inr m ↦ touching_from_match rects entries all a b m ],
+      λ t. same.1 (g.all (a, b) (match_from_touching rects entries low high all within a b t)),
+    )

@@ -1,0 +1,5 @@
+use Rattle.touch_sweep.proofs.EntrySteps.{AreFirstNumbered}
+use Rattle.touch_sweep.proofs.numbered.with_numbers.Given as goal
+
+abbrev pub invariant-loop-number : goal.invariant-loop-number
+invariant-loop-number l = AreFirstNumbered l.rects l.number l.entries.items

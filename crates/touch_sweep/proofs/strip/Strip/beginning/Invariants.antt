@@ -1,0 +1,7 @@
+use Rattle.std.proofs.Common.{◌≡◌, take}
+use Rattle.std.specs.Prelude.{filter}
+use Rattle.touch_sweep.specs.Strips.{begins_in}
+use Rattle.touch_sweep.proofs.strip.Strip.beginning.Given as goal
+
+abbrev pub invariant-loop-entry : goal.invariant-loop-entry
+invariant-loop-entry l = l.found.items ≡ filter (begins_in l.self.low l.self.high) (take l.entry-index l.entries)

@@ -1,0 +1,4 @@
+pub mod Touching
+pub mod Entries
+pub mod Strips
+pub mod Matches
