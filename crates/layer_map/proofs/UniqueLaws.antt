@@ -1,0 +1,97 @@
+-- a document gives one layer map at most, and bytes come to one thing at most
+use Rattle.std.proofs.Common.{◌≡◌, ℕ, ℤ, List, [], ◌∷◌, map, Bool, Option, Some, refl, sym, ap, ◌∙◌, subst}
+use Rattle.std.specs.List.{AllZip}
+use Rattle.std.proofs.lemmas.Option.{same_Some}
+use Rattle.geo_core.specs.declared.plane.Cell.{Cell}
+use Rattle.first_refusal.specs.Laws.{IsUnique}
+use Rattle.first_refusal.proofs.CheckLaws.{checks_agree}
+use Rattle.first_refusal.proofs.StageLaws.{readings_agree, stages_agree}
+use Rattle.toml.specs.Data.{Data, Members, string, integer}
+use Rattle.layer_map.specs.Documents.{DocumentComesTo, GivesCut, GivesLayer, GivesMap, GivesTerminal, IsDocument, MapComesTo}
+use Rattle.layer_map.specs.LayerMap.{DefectSize, MappedCut, MappedLayer}
+use Rattle.layer_map.specs.Layers.{names_of}
+use Rattle.layer_map.specs.Lists.{AreDifferent}
+use Rattle.layer_map.specs.MapChecks.{Holds, checks_of, fault_of}
+use Rattle.layer_map.specs.MapView.{sizes_of}
+use Rattle.layer_map.specs.Values.{array_of, pair_value, cuts_in, terminals_in, values_in, whole_number}
+use Rattle.layer_map.specs.declared.fault.MapFault.TheVariants.{Syntax}
+use Rattle.layer_map.proofs.EndLaws.{one_metal_named}
+use Rattle.layer_map.proofs.SeenLaws.{pair_tells}
+use Rattle.layer_map.proofs.ValueLaws.{listed-items_of}
+
+-- what is read of each of some things is one list at most
+zip_tells : {A B : Type 0} (R : A → B → Type 0) → ((a : A) (x y : B) → R a x → R a y → x ≡ y) → (ds : List A) (xs ys : List B) → AllZip R ds xs → AllZip R ds ys → xs ≡ ys
+zip_tells R tells [] [] [] p q = refl
+zip_tells R tells [] [] (y ∷ ys) p q = absurd q
+zip_tells R tells [] (x ∷ xs) ys p q = absurd p
+zip_tells R tells (d ∷ ds) [] ys p q = absurd p
+zip_tells R tells (d ∷ ds) (x ∷ xs) [] p q = absurd q
+zip_tells R tells (d ∷ ds) (x ∷ xs) (y ∷ ys) p q = ap (λ z. z ∷ xs) (tells d x y p.0 q.0) ∙ ap (λ zs. y ∷ zs) (zip_tells R tells ds xs ys p.1 q.1)
+
+-- a list is told by what is written for it
+lists_tell : {A : Type 0} (written : A → Data) → ((one other : A) → written one ≡ written other → one ≡ other) → (xs ys : List A) → map written xs ≡ map written ys → xs ≡ ys
+lists_tell written tells [] [] same = refl
+lists_tell written tells [] (y ∷ ys) same = cc same
+lists_tell written tells (x ∷ xs) [] same = cc same
+lists_tell written tells (x ∷ xs) (y ∷ ys) same =
+    let heads : written x ≡ written y = cc same in
+    let tails : map written xs ≡ map written ys = cc same in
+    ap (λ z. z ∷ xs) (tells x y heads) ∙ ap (λ zs. y ∷ zs) (lists_tell written tells xs ys tails)
+
+arrays_tell : {A : Type 0} (written : A → Data) → ((one other : A) → written one ≡ written other → one ≡ other) → (there : Option Data) (xs ys : List A) → there ≡ Some (array_of (map written xs)) → there ≡ Some (array_of (map written ys)) → xs ≡ ys
+arrays_tell written tells there xs ys one other =
+    lists_tell written tells xs ys (sym (listed-items_of (map written xs)) ∙ ap values_in (sym one ∙ other) ∙ listed-items_of (map written ys))
+
+number_tells : (m n : ℕ) → whole_number m ≡ whole_number n → m ≡ n
+number_tells m n same = cc same
+
+layers_tell : (item : Data) (one other : MappedLayer) → GivesLayer item one → GivesLayer item other → one ≡ other
+layers_tell item one other p q =
+    let e : Some (string one.name) ≡ Some (string other.name) = sym p.name ∙ q.name in
+    let names : one.name ≡ other.name = cc e in
+    let pairs : one.pairs ≡ other.pairs = arrays_tell pair_value pair_tells _ one.pairs other.pairs p.pairs q.pairs in
+    ap (λ (n : List ℕ). record { name = n; pairs = one.pairs }) names ∙ ap (λ (ps : List (ℕ × ℕ)). record { name = other.name; pairs = ps }) pairs
+
+module _ (metals : List MappedLayer) (differ : AreDifferent (names_of metals)) where
+  cuts_tell : (item : Data) (one other : MappedCut) → GivesCut metals item one → GivesCut metals item other → one ≡ other
+  cuts_tell item one other p q =
+      let mapped : one.mapped ≡ other.mapped = layers_tell item one.mapped other.mapped p.layer q.layer in
+      let lower : one.lower ≡ other.lower = one_metal_named metals _ one.lower other.lower differ p.lower q.lower in
+      let upper : one.upper ≡ other.upper = one_metal_named metals _ one.upper other.upper differ p.upper q.upper in
+      let terminals : one.has_terminals ≡ other.has_terminals = p.no_terminals ∙ sym q.no_terminals in
+      ap (λ (m : MappedLayer). record { mapped = m; lower = one.lower; upper = one.upper; has_terminals = one.has_terminals }) mapped
+      ∙ ap (λ (n : ℕ). record { mapped = other.mapped; lower = n; upper = one.upper; has_terminals = one.has_terminals }) lower
+      ∙ ap (λ (n : ℕ). record { mapped = other.mapped; lower = other.lower; upper = n; has_terminals = one.has_terminals }) upper
+      ∙ ap (λ (b : Bool). record { mapped = other.mapped; lower = other.lower; upper = other.upper; has_terminals = b }) terminals
+
+  terminals_tell : (item : Data) (one other : ℕ × Cell) → GivesTerminal metals item one → GivesTerminal metals item other → one ≡ other
+  terminals_tell item (m, c) (n, d) p q =
+      let number : m ≡ n = one_metal_named metals _ m n differ p.metal q.metal in
+      let e : Some (integer c.i) ≡ Some (integer d.i) = sym p.column ∙ q.column in
+      let f : Some (integer c.j) ≡ Some (integer d.j) = sym p.row ∙ q.row in
+      let columns : c.i ≡ d.i = cc e in
+      let rows : c.j ≡ d.j = cc f in
+      let cells : c ≡ d = ap (λ (z : ℤ). record { i = z; j = c.j }) columns ∙ ap (λ (z : ℤ). record { i = d.i; j = z }) rows in
+      ap (λ (k : ℕ). (k, c)) number ∙ ap (λ (e : Cell). (n, e)) cells
+
+pub maps_tell : (document : Members) → IsUnique (GivesMap document)
+maps_tell document one other p q =
+    let metals : one.metals ≡ other.metals = zip_tells GivesLayer layers_tell _ one.metals other.metals p.metals q.metals in
+    let cuts : one.cuts ≡ other.cuts = zip_tells (GivesCut one.metals) (cuts_tell one.metals p.names_differ) _ one.cuts other.cuts p.cuts (subst (λ (ms : List MappedLayer). AllZip (GivesCut ms) (cuts_in document) other.cuts) (sym metals) q.cuts) in
+    let terminals : one.terminals ≡ other.terminals = zip_tells (GivesTerminal one.metals) (terminals_tell one.metals p.names_differ) _ one.terminals other.terminals p.terminals (subst (λ (ms : List MappedLayer). AllZip (GivesTerminal ms) (terminals_in document) other.terminals) (sym metals) q.terminals) in
+    let letters : one.letter ≡ other.letter = p.letter ∙ sym q.letter in
+    let radii : p.radii ≡ q.radii = arrays_tell whole_number number_tells _ p.radii q.radii p.has_radii q.has_radii in
+    let weights : p.weights ≡ q.weights = arrays_tell whole_number number_tells _ p.weights q.weights p.has_weights q.has_weights in
+    let sizes : one.sizes ≡ other.sizes = p.sizes ∙ ap (λ (rs : List ℕ). sizes_of rs p.weights) radii ∙ ap (λ (ws : List ℕ). sizes_of q.radii ws) weights ∙ sym q.sizes in
+    ap (λ (ms : List MappedLayer). record { metals = ms; cuts = one.cuts; letter = one.letter; sizes = one.sizes; terminals = one.terminals }) metals
+    ∙ ap (λ (cs : List MappedCut). record { metals = other.metals; cuts = cs; letter = one.letter; sizes = one.sizes; terminals = one.terminals }) cuts
+    ∙ ap (λ (l : List ℕ). record { metals = other.metals; cuts = other.cuts; letter = l; sizes = one.sizes; terminals = one.terminals }) letters
+    ∙ ap (λ (ss : List DefectSize). record { metals = other.metals; cuts = other.cuts; letter = other.letter; sizes = ss; terminals = one.terminals }) sizes
+    ∙ ap (λ (ts : List (ℕ × Cell)). record { metals = other.metals; cuts = other.cuts; letter = other.letter; sizes = other.sizes; terminals = ts }) terminals
+
+pub documents_agree : (bytes : List ℕ) → IsUnique (IsDocument bytes)
+documents_agree bytes one other p q = same_Some _ _ (sym p.parsed ∙ q.parsed)
+
+pub maps_agree : (bytes : List ℕ) → IsUnique (MapComesTo bytes)
+maps_agree bytes =
+    stages_agree _ DocumentComesTo (readings_agree (IsDocument bytes) Syntax (documents_agree bytes)) (λ document. checks_agree (Holds document) (checks_of document) fault_of (GivesMap document) (maps_tell document))

@@ -1,0 +1,25 @@
+use Rattle.std.proofs.Common.{arith, take_all}
+use Rattle.std.proofs.lemmas.Bool.Decides.{nat_tests}
+use Rattle.layer_map.proofs.FindLaws.{found, none_found}
+use Rattle.layer_map.proofs.PairLaws.{all_pairs, not_all_pairs, one_pair_more, wrong_count}
+use Rattle.layer_map.proofs.layer_items.pairs_of.Goals as goal
+
+pub returns-then-is_empty : goal.returns-then-is_empty
+returns-then-is_empty c = wrong_count c.args.values.now (λ counts. grind (arith, nat_tests, c.is_empty.ensures, c.if-is_empty.true, counts.0))
+
+pub returns-then-values-gt-MOST_PAIRS : goal.returns-then-values-gt-MOST_PAIRS
+returns-then-values-gt-MOST_PAIRS c = wrong_count c.args.values.now (λ counts. omega (arith, counts.1))
+
+pub returns-in-None : goal.returns-in-None
+returns-in-None c =
+    not_all_pairs c.args.values.now c.loop-value.value-index c.value-item.result c.loop-value-test.true c.value-item.is (none_found c.in-None.ensures)
+
+pub loop-value-preserved : goal.loop-value-preserved
+loop-value-preserved c =
+    rw c.in_ok-push-in-Some.ensures.items
+    (one_pair_more c.args.values.now c.loop-value.value-index c.value-item.result c.loop-value.pairs.items c.in-Some.pair c.loop-value-test.true c.value-item.is c.loop-value.invariant (found c.in-Some.ensures))
+
+pub returns : goal.returns
+returns c =
+    all_pairs c.args.values.now c.loop-value.pairs.items (grind (arith, nat_tests, c.is_empty.ensures, c.if-is_empty.false)) c.if-values-gt-MOST_PAIRS.false
+    (rw (take_all c.loop-value.value-index c.args.values.now c.loop-value-test.false) at c.loop-value.invariant)

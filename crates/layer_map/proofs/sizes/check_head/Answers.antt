@@ -1,0 +1,20 @@
+use Rattle.std.proofs.Common.{[], ◌∷◌}
+use Rattle.std.proofs.lemmas.List.Elements.{All-from_recursion}
+use Rattle.toml.specs.View.{table_view}
+use Rattle.layer_map.specs.MapChecks.{Holds, fault_of, has_known_keys, has_version}
+use Rattle.layer_map.proofs.CheckedLaws.{fails_first, goes_on, passes}
+use Rattle.layer_map.proofs.sizes.check_head.Goals as goal
+
+pub returns-then-not-has_only : goal.returns-then-not-has_only
+returns-then-not-has_only c = fails_first (Holds (table_view c.args.document.now)) fault_of _ has_known_keys (has_version ∷ []) (λ h. cc (c.has_only.ensures.1 h, c.if-not-has_only.true))
+
+pub returns-then-not-is_version_1 : goal.returns-then-not-is_version_1
+returns-then-not-is_version_1 c =
+    goes_on (Holds (table_view c.args.document.now)) fault_of _ (has_known_keys ∷ []) (has_version ∷ []) _
+    (All-from_recursion (Holds (table_view c.args.document.now)) (has_known_keys ∷ []) (c.has_only.ensures.0 c.if-not-has_only.false, tt))
+    (fails_first (Holds (table_view c.args.document.now)) fault_of _ has_version [] (λ h. cc (c.is_version_1.ensures.1 h, c.if-not-is_version_1.true)))
+
+pub returns : goal.returns
+returns c =
+    passes (Holds (table_view c.args.document.now)) fault_of _ (has_known_keys ∷ has_version ∷ []) tt
+    (All-from_recursion (Holds (table_view c.args.document.now)) (has_known_keys ∷ has_version ∷ []) (c.has_only.ensures.0 c.if-not-has_only.false, (c.is_version_1.ensures.0 c.if-not-is_version_1.false, tt))) tt

@@ -1,0 +1,28 @@
+//! Facts about the definitions, each the contract of a function that does nothing else.
+
+ghost use Rattle.std.specs.Prelude.{ℕ, List};
+ghost use Rattle.first_refusal.specs.Outcomes.{value};
+ghost use Rattle.first_refusal.specs.Laws.{IsUnique, CannotLack};
+ghost use Rattle.toml.specs.Data.{Members};
+ghost use Rattle.layer_map.specs.Documents.{GivesMap, MapComesTo};
+ghost use Rattle.layer_map.specs.Sample.{sample_map, sample_text};
+
+/// A document gives one layer map at most.
+pub fn documents_give_one_map()
+    ensures { (document : Members) → IsUnique (GivesMap document) }
+{}
+
+/// Bytes come to one layer map or one fault at most.
+pub fn maps_agree()
+    ensures { (bytes : List ℕ) → IsUnique (MapComesTo bytes) }
+{}
+
+/// Bytes come to a layer map or a fault: it cannot be that they come to none.
+pub fn bytes_come_to_something()
+    ensures { (bytes : List ℕ) → CannotLack (MapComesTo bytes) }
+{}
+
+/// The text of the sample comes to the sample's layer map.
+pub fn the_sample_comes_to_its_map()
+    ensures { MapComesTo sample_text (value sample_map) }
+{}

@@ -1,0 +1,25 @@
+//! The limits of a map.
+
+/// The most bytes of the name of a metal or a cut.
+pub const LONGEST_NAME: usize = 32;
+
+/// The greatest layer, and the greatest datatype: GDSII Release 6 gives them two bytes each.
+pub const GREATEST_PAIR_NUMBER: u16 = 65_535;
+
+/// The most pairs of a layer and a datatype that one metal or cut may have.
+pub const MOST_PAIRS: usize = 16;
+
+/// The most metals.
+pub const MOST_METALS: usize = 16;
+
+/// The most cuts.
+pub const MOST_CUTS: usize = 16;
+
+/// The most radii.
+pub const MOST_SIZES: usize = 32;
+
+/// The greatest weight.
+pub const GREATEST_WEIGHT: u64 = 1_000_000_000;
+
+/// The most terminals.
+pub const MOST_TERMINALS: usize = 10_000;

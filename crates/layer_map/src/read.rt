@@ -1,0 +1,68 @@
+ghost use Rattle.std.specs.Prelude.{◌≡◌, ◌≢◌, IfOk, IfErr};
+ghost use Rattle.first_refusal.specs.Checks.{Checks};
+ghost use Rattle.first_refusal.specs.Outcomes.{value, refused};
+ghost use Rattle.toml.specs.Data.{Members};
+ghost use Rattle.toml.specs.View.{table_view};
+ghost use Rattle.layer_map.specs.Documents.{GivesMap, IsDocument, MapComesTo};
+ghost use Rattle.layer_map.specs.MapChecks.{Holds, checks_of, fault_of};
+ghost use Rattle.layer_map.specs.MapView.{layer_map_of};
+ghost use Rattle.layer_map.specs.Readers.{Answers};
+
+use super::cuts::read_cuts;
+use super::fault::MapFault;
+use super::map::Map;
+use super::metals::read_metals;
+use super::seen::Seen;
+use super::sizes::{check_head, read_radii, read_weights};
+use super::terminals::read_terminals;
+use std::alloc::Global;
+use toml::Table;
+
+/// The layer map that the bytes say, or why they say none: `Syntax` for bytes that are no TOML document, and else the
+/// first fault in this order: the document's keys, version, radii, weights, metals, cuts, terminals, and of these one
+/// item after the other.
+pub fn read_map(alloc: Global, bytes: &[u8]) -> Result<Map, MapFault>
+    ensures read { IfOk result (λ made. MapComesTo bytes.now (value (layer_map_of made))) }
+    ensures refused { IfErr result (λ fault. fault ≢ MapFault.Memory → MapComesTo bytes.now (refused fault)) }
+{
+    let document = read_document(alloc, bytes)?;
+    map_of(alloc, &document)
+}
+
+/// The document that the bytes are.
+fn read_document(alloc: Global, bytes: &[u8]) -> Result<Table, MapFault>
+    ensures read { IfOk result (λ document. IsDocument bytes.now (table_view document)) }
+    ensures refused { IfErr result (λ fault. fault ≢ MapFault.Memory →
+        (fault ≡ MapFault.Syntax) × ((document : Members) → IsDocument bytes.now document → ⊥)) }
+{
+    match toml::table_from_slice(alloc, bytes) {
+        Ok(document) => Ok(document),
+        Err(error) => {
+            if error.is_memory() {
+                return Err(MapFault::Memory);
+            }
+            Err(MapFault::Syntax)
+        }
+    }
+}
+
+/// The map that the document gives.
+fn map_of(alloc: Global, document: &Table) -> Result<Map, MapFault>
+    ensures { Answers (Checks (Holds (table_view document.now)) (checks_of (table_view document.now)) fault_of
+        (λ made. GivesMap (table_view document.now) (layer_map_of made))) result }
+{
+    check_head(document)?;
+    let radii = read_radii(alloc, document)?;
+    let weights = read_weights(alloc, document, radii.as_slice().len())?;
+    let mut seen = Seen::new(alloc);
+    let metals = read_metals(alloc, document, &mut seen)?;
+    let cuts = read_cuts(alloc, document, metals.as_slice(), &mut seen)?;
+    let terminals = read_terminals(alloc, document, metals.as_slice())?;
+    Ok(Map {
+        metals,
+        cuts,
+        terminals,
+        radii,
+        weights,
+    })
+}

@@ -1,0 +1,37 @@
+//! The metals and cuts so far.
+
+ghost use Rattle.layer_map.specs.Limits.{ArePairs};
+
+use super::layers::Pairs;
+use super::name::LayerName;
+use std::alloc::Global;
+
+/// The names and the pairs of the metals and cuts so far.
+#[derive(Drop)]
+pub struct Seen {
+    pub names: Vec<LayerName>,
+    pub pairs: Vec<(u16, u16)>,
+}
+
+impl Seen {
+    ghost use Rattle.std.specs.Prelude.{[]};
+    ghost use Rattle.layer_map.specs.Readers.{AreSeen};
+
+    /// None so far.
+    pub fn new(alloc: Global) -> Seen
+        ensures { AreSeen [] result }
+    {
+        Seen {
+            names: Vec::new(alloc),
+            pairs: Vec::new(alloc),
+        }
+    }
+}
+
+/// A metal or a cut, without the ends of a cut.
+#[derive(Drop)]
+pub struct Layer {
+    pub name: LayerName,
+    pub pairs: Pairs,
+    pub ghost are_pairs: { ArePairs pairs },
+}

@@ -1,0 +1,147 @@
+//! The terminals.
+
+ghost use Rattle.std.specs.Prelude.{◌≡◌, ◌≤◌, ◌^◌, ◌<◌, List, [], length, IfOk};
+ghost use Rattle.first_refusal.specs.Checks.{Checks};
+ghost use Rattle.toml.specs.Data.{Data, get_member};
+ghost use Rattle.toml.specs.View.{table_view, view};
+ghost use Rattle.layer_map.specs.MapChecks.{Holds, checks_of_terminals, fault_of};
+ghost use Rattle.layer_map.specs.Readers.{
+  AddsPlace,
+  Answers,
+  Finds,
+  HaveNamesOf,
+  IsCellNumberIn,
+  IsCellNumberThere,
+  TakesMetals,
+  TakesTerminal,
+  TakesTerminals,
+  place_of_terminal,
+};
+ghost use Rattle.layer_map.specs.TerminalChecks.{TerminalHolds, place_checks, terminal_fault};
+ghost use Rattle.layer_map.specs.declared.limits.TheConstants.{MOST_METALS};
+ghost use Rattle.layer_map.specs.declared.seen.Seen.{Seen};
+
+use super::fault::MapFault;
+use super::items::{metal_at, table_of};
+use super::layers::{Metal, Terminal, Terminals};
+use super::limits::MOST_TERMINALS;
+use super::paths;
+use super::values::{array_or_none_at, value_at};
+use geo_core::{Cell, FARTHEST, NoMemory};
+use indexmap::IndexSet;
+use std::alloc::Global;
+use toml::{Table, Value};
+
+/// The keys of a terminal.
+const TERMINAL_KEYS: [&str; 3] = ["metal", "x", "y"];
+
+/// The terminals on these metals, at most 10,000.
+pub fn read_terminals(
+    alloc: Global,
+    document: &Table,
+    metals: &[Metal],
+) -> Result<Terminals, MapFault>
+    requires { length metals.now ≤ MOST_METALS }
+    ensures { (seen : Seen) → TakesMetals (table_view document.now) seen metals.now →
+        Answers (Checks (Holds (table_view document.now)) (checks_of_terminals (table_view document.now)) fault_of
+        (TakesTerminals (table_view document.now) metals.now)) result }
+{
+    let mut places = IndexSet::new(alloc);
+    read_each(alloc, document, metals, &mut places)
+}
+
+/// The terminals on these metals, whose places are added to an empty set.
+fn read_each(
+    alloc: Global,
+    document: &Table,
+    metals: &[Metal],
+    places: &mut IndexSet<(u32, i32, i32)>,
+) -> Result<Terminals, MapFault>
+    requires few { length metals.now ≤ MOST_METALS }
+    requires empty { places.old.keys ≡ [] }
+    ensures { (seen : Seen) → TakesMetals (table_view document.now) seen metals.now →
+        Answers (Checks (Holds (table_view document.now)) (checks_of_terminals (table_view document.now)) fault_of
+        (TakesTerminals (table_view document.now) metals.now)) result }
+{
+    let items = array_or_none_at(document, "terminal", paths::TERMINALS)?;
+    if items.len() > MOST_TERMINALS {
+        return Err(MapFault::LimitPassed {
+            path: paths::TERMINALS,
+        });
+    }
+    let mut terminals = Vec::new(alloc);
+    for (number, item) in items.iter().enumerate() {
+        let path = paths::terminal(number);
+        let terminal = read_terminal(item, metals, path)?;
+        if !add_place(places, terminal)? {
+            return Err(MapFault::RepeatedTerminal { path });
+        }
+        terminals.push(terminal)?;
+    }
+    Ok(Terminals::from_vec(terminals))
+}
+
+/// Adds the place of a terminal, if it is a new one; whether it is.
+fn add_place(places: &mut IndexSet<(u32, i32, i32)>, terminal: Terminal) -> Result<bool, NoMemory>
+    ensures { IfOk result (λ is_new. AddsPlace is_new places.old.keys places.new.keys (place_of_terminal terminal)) }
+{
+    let Cell { i, j } = terminal.cell;
+    Ok(places.insert((terminal.metal, i, j))?)
+}
+
+/// What the item says of a terminal.
+fn read_terminal(item: &Value, metals: &[Metal], path: u32) -> Result<Terminal, MapFault>
+    requires few { length metals.now ≤ MOST_METALS }
+    requires small { path < 2 ^ 31 }
+    ensures { (items earlier : List Data) → HaveNamesOf items metals.now →
+        Answers (Checks (TerminalHolds items earlier (view item.now)) place_checks (terminal_fault path)
+        (TakesTerminal metals.now (view item.now))) result }
+{
+    let table = table_of(item, &TERMINAL_KEYS, path)?;
+    let metal = metal_at(table, "metal", metals, path + paths::METAL)?;
+    match cell_number_at(table, "x") {
+        Some(i) => match cell_number_at(table, "y") {
+            Some(j) => Ok(Terminal {
+                metal,
+                cell: Cell { i, j },
+            }),
+            None => Err(MapFault::BadValue {
+                path: path + paths::Y,
+            }),
+        },
+        None => Err(MapFault::BadValue {
+            path: path + paths::X,
+        }),
+    }
+}
+
+/// The column or row that stands at the key.
+fn cell_number_at(table: &Table, key: &str) -> Option<i32>
+    ensures { Finds (IsCellNumberThere (get_member key.now (table_view table.now))) result }
+{
+    match value_at(table, key) {
+        Some(value) => cell_number_in(value),
+        None => None,
+    }
+}
+
+/// The column or row that the value is.
+fn cell_number_in(value: &Value) -> Option<i32>
+    ensures { Finds (IsCellNumberIn (view value.now)) result }
+{
+    match value.as_integer() {
+        Some(number) => match i32::try_from(number) {
+            Ok(number) => {
+                if number < -FARTHEST {
+                    return None;
+                }
+                if number >= FARTHEST {
+                    return None;
+                }
+                Some(number)
+            }
+            Err(_) => None,
+        },
+        None => None,
+    }
+}

@@ -1,0 +1,164 @@
+use super::samples::outcome;
+use std::alloc::{AllocError, Global};
+
+/// How many there are of each thing in a map, whose items are as short as may be.
+#[derive(Clone, Copy)]
+struct Counts {
+    radii: u32,
+    metals: u32,
+    pairs: u32,
+    cuts: u32,
+    terminals: u32,
+}
+
+const LEAST: Counts = Counts {
+    radii: 1,
+    metals: 2,
+    pairs: 1,
+    cuts: 0,
+    terminals: 0,
+};
+
+const MOST: Counts = Counts {
+    radii: 32,
+    metals: 16,
+    pairs: 16,
+    cuts: 16,
+    terminals: 10_000,
+};
+
+fn add_radii(alloc: Global, text: &mut String, count: u32) -> Result<(), AllocError> {
+    text.push_str("version = 1\nradii = [")?;
+    for k in 0..count {
+        let radius = k.saturating_add(1);
+        text.push_str(format!(in alloc; "{radius}, ")?.as_str())?;
+    }
+    text.push_str("]\nweights = [")?;
+    for k in 0..count {
+        text.push_str(format!(in alloc; "{k}, ")?.as_str())?;
+    }
+    text.push_str("]\n")?;
+    Ok(())
+}
+
+/// The pairs of the layer with this number: no two layers have the same first number.
+fn add_pairs(alloc: Global, text: &mut String, layer: u32, count: u32) -> Result<(), AllocError> {
+    text.push_str("pairs = [")?;
+    for k in 0..count {
+        text.push_str(format!(in alloc; "[{layer}, {k}], ")?.as_str())?;
+    }
+    text.push_str("]\n")?;
+    Ok(())
+}
+
+fn add_layers(alloc: Global, text: &mut String, counts: Counts) -> Result<(), AllocError> {
+    for k in 0..counts.metals {
+        text.push_str(format!(in alloc; "[[metal]]\nname = \"m{k}\"\n")?.as_str())?;
+        add_pairs(alloc, text, k, counts.pairs)?;
+    }
+    for k in 0..counts.cuts {
+        text.push_str(format!(in alloc;
+            "[[cut]]\nname = \"v{k}\"\nlower = \"m0\"\nupper = \"m1\"\n"
+        )?.as_str())?;
+        add_pairs(alloc, text, k.saturating_add(1000), counts.pairs)?;
+    }
+    Ok(())
+}
+
+fn add_terminals(alloc: Global, text: &mut String, count: u32) -> Result<(), AllocError> {
+    for k in 0..count {
+        text.push_str(format!(in alloc;
+            "[[terminal]]\nmetal = \"m1\"\nx = {k}\ny = -{k}\n"
+        )?.as_str())?;
+    }
+    Ok(())
+}
+
+/// The text of a map with so many of each.
+fn text_of(alloc: Global, counts: Counts) -> Result<String, AllocError> {
+    let mut text = String::new(alloc);
+    add_radii(alloc, &mut text, counts.radii)?;
+    add_layers(alloc, &mut text, counts)?;
+    add_terminals(alloc, &mut text, counts.terminals)?;
+    Ok(text)
+}
+
+/// Whether a map with so many of each comes to this.
+fn comes_to(alloc: Global, counts: Counts, want: (u8, u64)) -> bool {
+    match text_of(alloc, counts) {
+        Ok(text) => outcome(alloc, text.as_bytes()) == want,
+        Err(_) => false,
+    }
+}
+
+#[test]
+fn limits_are_kept(rt: HostRuntime) {
+    let cases = [
+        (LEAST, (0, 0)),
+        (MOST, (0, 0)),
+        (Counts { radii: 0, ..LEAST }, (42, 3)),
+        (Counts { radii: 33, ..LEAST }, (47, 3)),
+        (Counts { metals: 0, ..LEAST }, (42, 5)),
+        (
+            Counts {
+                metals: 17,
+                ..LEAST
+            },
+            (47, 5),
+        ),
+        (Counts { pairs: 0, ..LEAST }, (42, 102)),
+        (Counts { pairs: 17, ..LEAST }, (42, 102)),
+        (Counts { cuts: 17, ..LEAST }, (47, 6)),
+        (
+            Counts {
+                terminals: 10_001,
+                ..LEAST
+            },
+            (47, 7),
+        ),
+        // the earlier limit of two that are passed
+        (
+            Counts {
+                radii: 33,
+                metals: 17,
+                ..LEAST
+            },
+            (47, 3),
+        ),
+        (
+            Counts {
+                cuts: 17,
+                terminals: 10_001,
+                ..LEAST
+            },
+            (47, 6),
+        ),
+    ];
+    for (counts, want) in cases {
+        assert!(rt; comes_to(rt.alloc(), counts, want));
+    }
+}
+
+/// Whether a metal's name of so many bytes is read, or else its fault is this.
+fn name_comes_to(alloc: Global, count: usize, want: (u8, u64)) -> bool {
+    let name = "abcdefghijklmnopqrstuvwxyz_0123456789";
+    if count > name.len() {
+        return false;
+    }
+    let text = format!(in alloc;
+        "version = 1\nradii = [1]\nweights = [1]\n[[metal]]\nname = \"{}\"\npairs = [[0, 0]]\n",
+        name.get(..count).unwrap_or("")
+    );
+    match text {
+        Ok(text) => outcome(alloc, text.as_bytes()) == want,
+        Err(_) => false,
+    }
+}
+
+#[test]
+fn names_have_at_most_32_bytes(rt: HostRuntime) {
+    assert!(rt; name_comes_to(rt.alloc(), 0, (42, 101)));
+    assert!(rt; name_comes_to(rt.alloc(), 1, (0, 0)));
+    assert!(rt; name_comes_to(rt.alloc(), 32, (0, 0)));
+    assert!(rt; name_comes_to(rt.alloc(), 33, (42, 101)));
+}
