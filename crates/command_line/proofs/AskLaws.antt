@@ -1,0 +1,85 @@
+-- what words ask for, by what they give
+use Rattle.std.proofs.Common.{ℕ, ◌≤◌, List, [], ◌∷◌, ◌≡◌, ◌∙◌, sym, ap, arith, length, subst}
+use Rattle.command_line.specs.declared.option_name.OptionName.{OptionName}
+use Rattle.command_line.specs.declared.option_name.OptionName.TheVariants.{Map, Tile, Workers, Layer, Datatype, Radius}
+use Rattle.command_line.specs.declared.request.Request.{Request}
+use Rattle.command_line.specs.declared.task.Task.{Task}
+use Rattle.command_line.specs.Arguments.{AreSingle}
+use Rattle.command_line.specs.OptionNames.{Text}
+use Rattle.command_line.specs.Requests.{Ask, HasNoEmptyText, IsNumberOnce, IsNumberOrDefault, as_given, left_out, IsTask, of_one_metal, of_map, IsRequestOf, values_of}
+use Rattle.command_line.specs.Spelling.{Given, AreSpelled}
+use Rattle.command_line.proofs.SpellingLaws.{spellings_agree}
+
+-- ---- the same values ask for the same
+
+module _ (v w : OptionName → List Text) (p q : List Text) (same : (name : OptionName) → v name ≡ w name) (at : p ≡ q) where
+  once_moved : (name : OptionName) (n : ℕ) → IsNumberOnce (v name) n → IsNumberOnce (w name) n
+  once_moved name n = subst (λ t. IsNumberOnce t n) (same name)
+
+  default_moved : (name : OptionName) (default n : ℕ) → IsNumberOrDefault default (v name) n → IsNumberOrDefault default (w name) n
+  default_moved name default n = subst (λ t. IsNumberOrDefault default t n) (same name)
+
+  task_moved : (task : Task) → IsTask v p task → IsTask w q task
+  task_moved task (of_one_metal {layer = a} {datatype = b} {radius = c} layout none layer datatype radius) =
+      of_one_metal (sym at ∙ layout) (sym (same Map) ∙ none) (once_moved Layer a layer) (once_moved Datatype b datatype) (once_moved Radius c radius)
+  task_moved task (of_map layout map layer datatype radius) =
+      of_map (sym at ∙ layout) (sym (same Map) ∙ map) (sym (same Layer) ∙ layer) (sym (same Datatype) ∙ datatype) (sym (same Radius) ∙ radius)
+
+  pub request_moved : (request : Request) → IsRequestOf v p request → IsRequestOf w q request
+  request_moved request asked = record {
+    task = task_moved request.task asked.task;
+    edge = default_moved Tile 65536 request.edge asked.edge;
+    workers = default_moved Workers 4 request.workers asked.workers;
+  }
+
+-- ---- what is asked for is given once
+
+one_is_few : {A : Type 0} (xs : List A) (x : A) → xs ≡ x ∷ [] → length xs ≤ 1
+one_is_few xs x e = omega (arith, ap length e)
+
+none_is_few : {A : Type 0} (xs : List A) → xs ≡ [] → length xs ≤ 1
+none_is_few xs e = omega (arith, ap length e)
+
+once_is_few : (values : List Text) (n : ℕ) → IsNumberOnce values n → length values ≤ 1
+once_is_few values n once = one_is_few values once.text once.once
+
+default_is_few : (default : ℕ) (values : List Text) (n : ℕ) → IsNumberOrDefault default values n → length values ≤ 1
+default_is_few default values n (as_given once) = once_is_few values n once
+default_is_few default values n (left_out e) = none_is_few values e
+
+module _ (values : OptionName → List Text) (positions : List Text) where
+  positions_few : (task : Task) → IsTask values positions task → length positions ≤ 1
+  positions_few task (of_one_metal {layout = l} at _ _ _ _) = one_is_few positions l at
+  positions_few task (of_map {layout = l} at _ _ _ _) = one_is_few positions l at
+
+  values_few : (request : Request) → IsRequestOf values positions request → (task : Task) → IsTask values positions task → (name : OptionName) → length (values name) ≤ 1
+  values_few request asked task (of_one_metal _ none _ _ _) Map = none_is_few (values Map) none
+  values_few request asked task (of_one_metal {layer = n} _ _ layer _ _) Layer = once_is_few (values Layer) n layer
+  values_few request asked task (of_one_metal {datatype = n} _ _ _ datatype _) Datatype = once_is_few (values Datatype) n datatype
+  values_few request asked task (of_one_metal {radius = n} _ _ _ _ radius) Radius = once_is_few (values Radius) n radius
+  values_few request asked task (of_map {map = m} _ map _ _ _) Map = one_is_few (values Map) m map
+  values_few request asked task (of_map _ _ layer _ _) Layer = none_is_few (values Layer) layer
+  values_few request asked task (of_map _ _ _ datatype _) Datatype = none_is_few (values Datatype) datatype
+  values_few request asked task (of_map _ _ _ _ radius) Radius = none_is_few (values Radius) radius
+  values_few request asked task _ Tile = default_is_few 65536 (values Tile) request.edge asked.edge
+  values_few request asked task _ Workers = default_is_few 4 (values Workers) request.workers asked.workers
+
+-- ---- words that give this
+
+module _ (words : List Text) (given : Given) (spelled : AreSpelled words given) (request : Request) where
+  pub ask : HasNoEmptyText given → IsRequestOf (values_of given.options) given.positions request → Ask words request
+  ask texts asked = record { given = given; spelled = spelled; texts = texts; asked = asked }
+
+  is_given : (asks : Ask words request) → asks.given ≡ given
+  is_given asks = spellings_agree words asks.given given asks.spelled spelled
+
+  pub asks_for : Ask words request → IsRequestOf (values_of given.options) given.positions request
+  asks_for asks = subst (λ (g : Given). IsRequestOf (values_of g.options) g.positions request) (is_given asks) asks.asked
+
+  pub asks_by_texts : Ask words request → HasNoEmptyText given
+  asks_by_texts asks = subst HasNoEmptyText (is_given asks) asks.texts
+
+  pub asks_once : Ask words request → AreSingle given
+  asks_once asks =
+      let asked = asks_for asks in
+      record { options = values_few (values_of given.options) given.positions request asked request.task asked.task; positions = positions_few (values_of given.options) given.positions request.task asked.task }

@@ -1,0 +1,7 @@
+pub mod MatchLaws
+pub mod SpellingLaws
+pub mod RequestLaws
+pub mod ReadingLaws
+pub mod CheckLaws
+pub mod TaskLaws
+pub mod AskLaws

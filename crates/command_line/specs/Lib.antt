@@ -1,0 +1,9 @@
+pub mod OptionNames
+pub mod Spelling
+pub mod Numbers
+pub mod Limits
+pub mod Requests
+pub mod WordsFaults
+pub mod Arguments
+pub mod Command
+pub mod Readings

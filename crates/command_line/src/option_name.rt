@@ -1,0 +1,62 @@
+/// An option of the command, which takes one text as its value.
+#[derive(Clone, Copy, Debug, PartialEq, Eq)]
+pub enum OptionName {
+    /// `map`: the name of the layer map's file.
+    Map,
+    /// `tile`: the edge of the tiles.
+    Tile,
+    /// `workers`: how many workers there are.
+    Workers,
+    /// `layer`: the layer of the one metal.
+    Layer,
+    /// `datatype`: the datatype of the one metal.
+    Datatype,
+    /// `radius`: the radius of the defects.
+    Radius,
+}
+
+/// All options.
+pub const OPTIONS: [OptionName; 6] = [
+    OptionName::Map,
+    OptionName::Tile,
+    OptionName::Workers,
+    OptionName::Layer,
+    OptionName::Datatype,
+    OptionName::Radius,
+];
+
+impl OptionName {
+    ghost use Rattle.std.specs.Prelude.{◌≡◌, ◌≢◌, IfSome, IfNone};
+    ghost use Rattle.command_line.specs.OptionNames.{name_of};
+    ghost use Rattle.command_line.specs.declared.option_name.OptionName.{OptionName};
+
+    /// Its name, as it stands behind two dashes.
+    pub fn text(self) -> &'static str
+        ensures { result.now ≡ name_of self }
+    {
+        match self {
+            OptionName::Map => "map",
+            OptionName::Tile => "tile",
+            OptionName::Workers => "workers",
+            OptionName::Layer => "layer",
+            OptionName::Datatype => "datatype",
+            OptionName::Radius => "radius",
+        }
+    }
+
+    /// The option of this name.
+    pub fn of(name: &str) -> Option<OptionName>
+        ensures some { IfSome result (λ option. name.now ≡ name_of option) }
+        ensures none { IfNone result ((option : OptionName) → name.now ≢ name_of option) }
+    {
+        match name {
+            "map" => Some(OptionName::Map),
+            "tile" => Some(OptionName::Tile),
+            "workers" => Some(OptionName::Workers),
+            "layer" => Some(OptionName::Layer),
+            "datatype" => Some(OptionName::Datatype),
+            "radius" => Some(OptionName::Radius),
+            _ => None,
+        }
+    }
+}

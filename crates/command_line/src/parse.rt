@@ -1,0 +1,59 @@
+ghost use Rattle.std.specs.Prelude.{◌≡◌, IfOk, List, MatchResult, map, string_bytes};
+ghost use Rattle.clap.specs.Words.{app_of, with_rule};
+ghost use Rattle.command_line.specs.Arguments.{AreSingle, one_form};
+ghost use Rattle.command_line.specs.Command.{HasWhatIsGiven, rule_of_option, whole_command};
+ghost use Rattle.command_line.specs.Spelling.{Given};
+
+use crate::fault::WordsFault;
+use crate::option_name::{OPTIONS, OptionName};
+use clap::error::ErrorKind;
+use clap::{Arg, ArgMatches, Command};
+use std::alloc::{AllocError, Global};
+
+/// The name by which the positional word is asked for.
+pub const LAYOUT: &str = "layout";
+
+/// The command with one option more, which takes one text.
+fn with_option<'a>(
+    alloc: Global,
+    command: Command<'a>,
+    name: OptionName,
+) -> Result<Command<'a>, AllocError>
+    ensures { IfOk result (λ more. app_of more ≡ with_rule (app_of command.entry) (rule_of_option name)) }
+{
+    let text: &'a str = name.text();
+    command.arg(Arg::new(alloc, text).long(text))
+}
+
+/// The command as `clap` sees it: options that take one text each, and a positional word.
+fn command<'a>(alloc: Global) -> Result<Command<'a>, AllocError>
+    ensures { IfOk result (λ command. app_of command ≡ whole_command) }
+{
+    let mut command = Command::new(alloc, "critarea").no_binary_name(true);
+    for name in OPTIONS {
+        command = with_option(alloc, command, name)?;
+    }
+    command.arg(Arg::new(alloc, LAYOUT))
+}
+
+/// What an error of `clap` is to the reader of words.
+fn fault_of(kind: ErrorKind) -> WordsFault
+    ensures { kind ≡ ErrorKind.OutOfMemory → result ≡ WordsFault.Memory }
+{
+    match kind {
+        ErrorKind::OutOfMemory => WordsFault::Memory,
+        _ => WordsFault::Usage,
+    }
+}
+
+/// What `clap` reads in words of the one form, where its only error is that it is out of memory.
+pub fn parse<'a>(alloc: Global, words: &'a [String]) -> Result<ArgMatches<'a>, WordsFault>
+    ensures { (given : Given) → AreSingle given → map string_bytes words.now ≡ one_form given →
+        MatchResult result (HasWhatIsGiven given) (λ fault. fault ≡ WordsFault.Memory) }
+{
+    let command = command(alloc)?;
+    match command.try_get_matches_from(words) {
+        Ok(matches) => Ok(matches),
+        Err(error) => Err(fault_of(error.kind())),
+    }
+}

@@ -1,0 +1,24 @@
+use geo_core::Name;
+
+/// What a command is to do.
+#[derive(Debug, Drop)]
+pub enum Task {
+    /// The areas of one metal, which is all shapes of one layer and datatype, for defects of one radius.
+    OneMetal {
+        /// The name of the layout's file.
+        layout: Name,
+        /// The layer of the metal's shapes.
+        layer: u16,
+        /// The datatype of the metal's shapes.
+        datatype: u16,
+        /// The radius of the defects, in database units: from 1 to 1,000,000.
+        radius: u32,
+    },
+    /// The areas of all layers of a layer map, for its sizes of defects.
+    Mapped {
+        /// The name of the layout's file.
+        layout: Name,
+        /// The name of the layer map's file.
+        map: Name,
+    },
+}

@@ -1,0 +1,130 @@
+use super::rows::{NO_LINE, REFUSED, first_not};
+
+/// Words that fit neither form.
+static NO_FORM: [&str; 20] = [
+    // no words, an empty word, and words alone
+    "",
+    "|",
+    "a",
+    "a|b",
+    "=",
+    "-",
+    "--",
+    "--|a",
+    // not all options of a form, or those of both
+    "a|--layer|1",
+    "a|--layer|1|--datatype|0",
+    "--layer|1|--datatype|0|--radius|3",
+    "a|--layer|1|--datatype|0|--radius|3|--map|m",
+    "a|--map|m|--radius|3",
+    "--map|m",
+    "--tile|0",
+    "a|--tile|7|--workers|2",
+    // two layouts, also behind two dashes
+    "a|b|--map|m",
+    "a|--map|m|--|b",
+    "--map|m|--|a|b",
+    "--|--map=m|a",
+];
+
+/// Words that are no options and no values.
+static NO_OPTION: [&str; 28] = [
+    "--help",
+    "--version",
+    "a|--map|m|--help",
+    "a|--map|m|-h",
+    "a|--map|m|-",
+    "a|-map|m",
+    "a|---map|m",
+    "a|--MAP|m",
+    "a|--ma|m",
+    "a|--maps|m",
+    "a|--lay|1|--datatype|0|--radius|3",
+    "a|--map|m|--top|t",
+    "a|--map|m|--top=t",
+    "--generate|3",
+    "--generate=3",
+    "a|--=m",
+    "--=x",
+    "a|--map|m|--tile =7",
+    // no value, or one in a word of its own that begins with a dash and is more than the dash
+    "a|--map",
+    "--map|a",
+    "a|--map|--",
+    "a|--map|--|m",
+    "a|--map|-m",
+    "a|--map|--tile|7",
+    "a|--layer|-1|--datatype|0|--radius|3",
+    // given twice
+    "a|--map|m|--map|m",
+    "a|--map=m|--map|n",
+    "a|--map|m|--tile=7|--tile=7",
+];
+
+/// Words with an empty text.
+static EMPTY: [&str; 8] = [
+    "a|--map=",
+    "a|--map|",
+    "|--map|m",
+    "--map|m|--|",
+    "a|--map|m|",
+    "a|--map|m|--tile=",
+    "a|--layer=|--datatype=0|--radius=3",
+    "a|--layer|1|--datatype|0|--radius|",
+];
+
+/// Words with a text that is no number, or one out of its bounds.
+static NUMBERS: [&str; 27] = [
+    "a|--layer|65536|--datatype|0|--radius|3",
+    "a|--layer|1|--datatype|65536|--radius|3",
+    "a|--layer|4294967297|--datatype|0|--radius|3",
+    "a|--layer|1|--datatype|0|--radius|0",
+    "a|--layer|1|--datatype|0|--radius|1000001",
+    "a|--layer|1|--datatype|0|--radius|4294967296",
+    "a|--layer|1|--datatype|0|--radius|9999999999",
+    "a|--map|m|--tile|0",
+    "a|--map|m|--tile|1000000001",
+    "a|--map|m|--workers|0",
+    "a|--map|m|--workers|65",
+    // eleven digits
+    "a|--layer|00000000001|--datatype|0|--radius|3",
+    "a|--layer|1|--datatype|00000000000|--radius|3",
+    "a|--layer|1|--datatype|0|--radius|00000000003",
+    "a|--map|m|--tile|00000000007",
+    "a|--map|m|--workers=12345678901",
+    // a sign, a blank, a point, another base, another script
+    "a|--layer|+1|--datatype|0|--radius|3",
+    "a|--layer=-1|--datatype|0|--radius|3",
+    "a|--layer=-0|--datatype|0|--radius|3",
+    "a|--layer| 1|--datatype|0|--radius|3",
+    "a|--layer|1|--datatype|0|--radius|3 ",
+    "a|--map|m|--tile|+7",
+    "a|--map|m|--tile=7.0",
+    "a|--map|m|--tile|0x7",
+    "a|--map|m|--tile|1_000",
+    "a|--map|m|--workers|\u{0663}",
+    "a|--map|m|--workers|four",
+];
+
+#[test]
+fn other_forms_are_refused(rt: HostRuntime) {
+    assert_eq!(rt; first_not(rt.alloc(), REFUSED, NO_FORM.as_slice()), NO_LINE);
+}
+
+#[test]
+fn other_options_are_refused(rt: HostRuntime) {
+    assert_eq!(rt;
+        first_not(rt.alloc(), REFUSED, NO_OPTION.as_slice()),
+        NO_LINE
+    );
+}
+
+#[test]
+fn empty_texts_are_refused(rt: HostRuntime) {
+    assert_eq!(rt; first_not(rt.alloc(), REFUSED, EMPTY.as_slice()), NO_LINE);
+}
+
+#[test]
+fn other_numbers_are_refused(rt: HostRuntime) {
+    assert_eq!(rt; first_not(rt.alloc(), REFUSED, NUMBERS.as_slice()), NO_LINE);
+}
