@@ -1,0 +1,55 @@
+-- the text of a report: a line for each row, and then the totals
+use Rattle.std.specs.Prelude.{ℕ, Bool, true, false, List, [], ◌∷◌, ◌++◌, ◌*◌, codes, filter, sum_by}
+use Rattle.std.specs.List.{concat, flat_map}
+use Rattle.std.specs.Fmt.{decimal}
+use Rattle.report.specs.declared.kind.Kind.{Kind}
+use Rattle.report.specs.declared.kind.Kind.TheVariants.{Short, Open, Via}
+use Rattle.report.specs.declared.row.Row.{Row}
+
+-- area times weight
+abbrev pub product_of : Row → ℕ
+product_of row = row.area * row.weight
+
+-- the kinds are the same
+abbrev pub is_kind : Kind → Kind → Bool
+is_kind Short Short = true
+is_kind Open Open = true
+is_kind Via Via = true
+is_kind _ _ = false
+
+-- the products of the rows of this kind, added up
+abbrev pub total_of_kind : Kind → List Row → ℕ
+total_of_kind kind rows = sum_by product_of (filter (λ row. is_kind kind row.kind) rows)
+
+-- the products of all rows, added up
+abbrev pub total_of : List Row → ℕ
+total_of rows = sum_by product_of rows
+
+-- the word for the kind
+abbrev pub kind_text : Kind → List ℕ
+kind_text Short = codes "short"
+kind_text Open = codes "open"
+kind_text Via = codes "via"
+
+-- a row's line, with the newline at its end; the letter stands before the size
+abbrev pub line_text : List ℕ → Row → List ℕ
+line_text letter row = concat (
+    kind_text row.kind ∷ codes " " ∷ row.layer
+    ∷ codes " " ∷ letter ∷ codes "=" ∷ decimal row.size
+    ∷ codes " area=" ∷ decimal row.area
+    ∷ codes " weight=" ∷ decimal row.weight
+    ∷ codes " sum=" ∷ decimal (product_of row)
+    ∷ codes "\n" ∷ [])
+
+-- the lines of the totals: of each kind, and of all
+abbrev pub totals_text : List Row → List ℕ
+totals_text rows = concat (
+    codes "total short " ∷ decimal (total_of_kind Short rows)
+    ∷ codes "\ntotal open " ∷ decimal (total_of_kind Open rows)
+    ∷ codes "\ntotal via " ∷ decimal (total_of_kind Via rows)
+    ∷ codes "\ntotal " ∷ decimal (total_of rows)
+    ∷ codes "\n" ∷ [])
+
+-- the line of each row, and then the totals
+abbrev pub report_text : List ℕ → List Row → List ℕ
+report_text letter rows = flat_map (line_text letter) rows ++ totals_text rows
