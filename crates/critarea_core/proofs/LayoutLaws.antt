@@ -10,7 +10,7 @@ use Rattle.gds_records.specs.Spelling.{Entry}
 use Rattle.gds_records.specs.Split.{whole}
 use Rattle.gds_records.proofs.SplitLaws.{splits_agree}
 use Rattle.critarea_core.specs.Layout.{IsLayout, AreBoundaries, no_more, one_more, ReadAsShape, Outlines}
-use Rattle.critarea_core.specs.declared.shape.Shape.{Shape}
+use Rattle.critical_areas.specs.declared.shape.Shape.{Shape}
 use Rattle.critarea_core.proofs.OutlineLaws.{sides_of}
 use Rattle.critarea_core.proofs.TakingLaws.{cancel}
 

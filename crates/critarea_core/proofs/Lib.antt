@@ -1,9 +1,6 @@
-pub mod WordLaws
 pub mod OutlineLaws
 pub mod TakingLaws
 pub mod LayoutLaws
-pub mod WindowLaws
-pub mod AreaLaws
-pub mod RowLaws
 pub mod VerdictLaws
+pub mod MapLaws
 pub mod RunLaws

@@ -1,101 +1,214 @@
 -- what a run found of the words and the files, what it printed, and what that comes to
-use Rattle.std.proofs.Common.{ℕ, ◌≡◌, ◌≤◌, ◌<◌, ◌⊎◌, List, [], ◌∷◌, length, refl, sym, ap, subst, ◌∙◌, inl, inr, zero, suc, arith, append-nil}
-use Rattle.std.specs.Prelude.{Option, Some, None, IfSome, Result, Ok, Err, String, Vec, vec_len}
+use Rattle.std.proofs.Common.{ℕ, ◌≡◌, ◌≤◌, ◌<◌, ◌⊎◌, List, [], ◌∷◌, ◌++◌, length, refl, sym, ap, subst, ◌∙◌, inl, inr, zero, suc, arith, append-nil, append_assoc}
+use Rattle.std.specs.Prelude.{Option, Some, None, IfSome, Contains, All, Result, Ok, Err, Vec, vec_len}
 use Rattle.std.specs.Global.{Global}
-use Rattle.first_refusal.specs.Outcomes.{Outcome, value, refused}
+use Rattle.std.proofs.lemmas.List.Elements.{All-cons, All-nil, Contains-append_right}
+use Rattle.first_refusal.specs.Outcomes.{Outcome, value, refused, goes_on}
+use Rattle.first_refusal.specs.Checks.{all_hold}
+use Rattle.first_refusal.specs.Laws.{IsUnique}
 use Rattle.edge_io.specs.Bytes.{Appends}
 use Rattle.edge_io.specs.ReadAnswers.{ReadsWhole, is_whole, is_too_long, has_no_memory, has_failed}
 use Rattle.edge_io.specs.declared.whole.ReadError.{ReadError}
 use Rattle.edge_io.specs.declared.whole.ReadError.TheVariants as read
 use Rattle.paths.proofs.ListLaws.{Contains-first}
-use Rattle.critarea_core.specs.Finding.{IsCause, IsFound, IsPrinted, report_out, report_cut, line_out, line_cut, no_line, of_unfit_layout, of_unread_layout}
-use Rattle.critarea_core.specs.Input.{Input, IsToldInput, MayBeInput}
-use Rattle.critarea_core.specs.Refusals.{usage, layout_limit, layout_too_long, of_layout_fault}
-use Rattle.critarea_core.specs.Run.{Failures, failures, Output, HasRisen, IsCalm, IsReportFor, IsRefusalFor, IsReportDue, IsRefusalDue, IsComplete, NameSomeFile, EndsWith, StartsNamed, MayBeStarted, no_file, both_files}
+use Rattle.command_line.specs.Requests.{Ask}
+use Rattle.command_line.specs.declared.request.Request.{Request}
+use Rattle.command_line.specs.declared.task.Task.{Task}
+use Rattle.command_line.specs.declared.task.Task.TheVariants.{OneMetal, Mapped}
+use Rattle.command_line.proofs.RequestLaws.{requests_agree}
+use Rattle.layer_map.specs.LayerMap.{LayerMap, one_metal_map}
+use Rattle.layer_map.specs.declared.map.Map.{Map}
+use Rattle.report.specs.Report.{report_text}
+use Rattle.critical_areas.specs.Coverage.{IsCoveredOn}
+use Rattle.critical_areas.proofs.UniqueLaws.{rows_agree}
+use Rattle.critarea_core.specs.Finding.{IsMapFound, IsMapRead, LayoutMayCome, IsReportFound, of_unread, of_unfit_layout, IsFound, IsPrinted, report_out, report_cut, line_out, line_cut, no_line}
+use Rattle.critarea_core.specs.Input.{Input, Source, file, nothing, told_text, file_name_of, file_names, sources_of, IsTextFrom, IsToldInput, MayBeInput}
+use Rattle.critarea_core.specs.Refusals.{usage, map_limit, map_too_long, layout_limit, layout_too_long}
+use Rattle.critarea_core.specs.Run.{MapMayCome, Failures, failures, Output, HasRisen, IsCalm, IsReportFor, IsRefusalFor, IsReportDue, IsRefusalDue, IsComplete, NameSomeFile, EndsWith, StartsNamed, MayBeStarted, no_file, map_file, both_files}
 use Rattle.critarea_core.specs.Run as run
-use Rattle.critarea_core.specs.Verdict.{Subject, IsSubject, IsVerdict, IsReportOn}
-use Rattle.critarea_core.specs.Words.{OneMetal, Task, one_metal, Ask}
+use Rattle.critarea_core.specs.Verdict.{Subject, IsSupported, support_checks, has_no_cuts, has_no_terminals, ShortMapComesTo, MapComesTo, IsSubject, IsVerdict, IsReportOn}
 use Rattle.critarea_core.specs.declared.fault.LayoutFault.{LayoutFault}
 use Rattle.critarea_core.specs.declared.fault.LayoutFault.TheVariants as fault
 use Rattle.critarea_core.specs.declared.refusal.Refusal.{Refusal}
 use Rattle.critarea_core.specs.declared.unreported.Unreported.{Unreported}
 use Rattle.critarea_core.specs.declared.unreported.Unreported.TheVariants.{Refused, FilesFailed, Memory}
-use Rattle.critarea_core.proofs.VerdictLaws.{verdicts_agree, look_at_layout, refused_words, refused_length, refused_form, good_layout, with_layout, HasTextsOf, more_input}
-use Rattle.critarea_core.proofs.WordLaws.{tasks_agree}
+use Rattle.critarea_core.proofs.VerdictLaws.{verdicts_agree, refused_words, refused_map, with_layout, refused_length, refused_form, good_layout, refused_map_length, short_map, HasTextsOf, IsTextOf, more_input}
 
--- a list longer than a number
-longer : (n : ℕ) → (xs : List ℕ) × (n < length xs)
-longer zero = (0 ∷ [], omega arith)
-longer (suc n) = let xs = longer n in let h = xs.1 in (0 ∷ xs.0, omega arith)
+-- ---- what is read
 
 -- a file that was read is whole, no longer than the limit, and nothing failed
 pub was_read : {held : Option (List ℕ)} {limit before after : ℕ} {started : Type 0} {rest : Option (List ℕ)} {bytes : Vec ℕ Global}
     → ReadsWhole held limit before after started rest (Ok bytes) → IfSome held (λ all. bytes.items ≡ all) × (vec_len bytes ≤ limit) × (after ≡ before)
 was_read (is_whole whole short calm opened left) = (whole, short, calm)
 
+-- a list longer than a number
+longer : (n : ℕ) → (xs : List ℕ) × (n < length xs)
+longer zero = (0 ∷ [], omega arith)
+longer (suc n) = let xs = longer n in let h = xs.1 in (0 ∷ xs.0, omega arith)
+
+-- of a file with more bytes than a limit, some such text
+long_text : (limit : ℕ) (held : Option (List ℕ)) → IfSome held (λ all. limit < length all) → (bytes : List ℕ) × IfSome held (λ all. bytes ≡ all) × (limit < length bytes)
+long_text limit None h = let xs = longer limit in (xs.0, tt, xs.1)
+long_text limit (Some all) h = (all, refl, h)
+
+-- a subject has one report
+pub reports_agree : (subject : Subject) → IsUnique (IsReportOn subject)
+reports_agree subject text other a b =
+    let rows = rows_agree subject.layer_map (IsCoveredOn subject.layer_map subject.shapes) a.rows b.rows a.are_rows b.are_rows in
+    a.is_text ∙ ap (report_text subject.layer_map.letter) rows ∙ sym b.is_text
+
+module _ (told : List ℕ → Option (List ℕ)) where
+  -- ---- the map
+
+  -- what a map's file that was not read says of the map
+  pub map_unread : (layout name : List ℕ) (before after : ℕ) (started : Type 0) (rest : Option (List ℕ)) (too_long : Refusal) (error : ReadError) → too_long ≡ map_too_long
+      → ReadsWhole (told name) map_limit before after started rest (Err error) → IsMapFound told (Mapped layout name) (failures before after) (Err (of_unread too_long error))
+  map_unread layout name before after started rest too_long read.Fault e (has_failed failed) = (failed.rose, (name, refl))
+  map_unread layout name before after started rest too_long read.TooLong e (is_too_long long calm opened left) =
+      let some = long_text map_limit (told name) long in
+      (record { text = Some some.0; may_be = some.1; comes = rw e (refused_map_length some.0 some.2) }, calm)
+  map_unread layout name before after started rest too_long read.Memory e (has_no_memory calm opened left) = calm
+
+  -- what bytes that were read say of it
+  pub map_read : (layout name bytes : List ℕ) (before after : ℕ) (result : Result Map Unreported) → IfSome (told name) (λ all. bytes ≡ all) → length bytes ≤ map_limit → after ≡ before
+      → IsMapRead bytes result → IsMapFound told (Mapped layout name) (failures before after) result
+  map_read layout name bytes before after (Ok map) same short calm is =
+      (record { text = Some bytes; may_be = same; comes = short_map bytes _ short is }, calm)
+  map_read layout name bytes before after (Err (Refused refusal)) same short calm is =
+      (record { text = Some bytes; may_be = same; comes = short_map bytes _ short is }, calm)
+  map_read layout name bytes before after (Err FilesFailed) same short calm is = absurd is
+  map_read layout name bytes before after (Err Memory) same short calm is = calm
+
+  -- ---- the layout
+
+  module _ (layer_map : LayerMap) (name : List ℕ) where
+    -- what a layout's file that was not read says of it
+    pub layout_unread : (before after : ℕ) (started : Type 0) (rest : Option (List ℕ)) (too_long : Refusal) (error : ReadError) → too_long ≡ layout_too_long
+        → ReadsWhole (told name) layout_limit before after started rest (Err error) → IsReportFound told layer_map name (failures before after) (Err (of_unread too_long error))
+    layout_unread before after started rest too_long read.Fault e (has_failed failed) = failed.rose
+    layout_unread before after started rest too_long read.TooLong e (is_too_long long calm opened left) =
+        let some = long_text layout_limit (told name) long in
+        (record { layout = some.0; may_be = some.1; comes = rw e (refused_length layer_map some.0 some.2) }, calm)
+    layout_unread before after started rest too_long read.Memory e (has_no_memory calm opened left) = calm
+
+    -- what a layout that is of another form says of it
+    pub unfit : (files : Failures) (why : LayoutFault) (bytes : List ℕ) → IsCalm files → length bytes ≤ layout_limit → IfSome (told name) (λ all. bytes ≡ all)
+        → (why ≡ fault.OtherForm → (subject : Subject) → IsSubject layer_map bytes subject → ⊥) → IsReportFound told layer_map name files (Err (of_unfit_layout why))
+    unfit files fault.OtherForm bytes calm short same none =
+        (record { layout = bytes; may_be = same; comes = refused_form layer_map bytes short (none refl) }, calm)
+    unfit files fault.Memory bytes calm short same none = calm
+
+    pub report_found : (files : Failures) (bytes : List ℕ) (text : Vec ℕ Global) (subject : Subject) → IsCalm files → length bytes ≤ layout_limit → IfSome (told name) (λ all. bytes ≡ all)
+        → IsSubject layer_map bytes subject → IsReportOn subject text.items → IsReportFound told layer_map name files (Ok text)
+    report_found files bytes text subject calm short same is report =
+        (subject, record { layout = bytes; may_be = same; comes = good_layout layer_map bytes short subject is }, report, calm)
+
+-- what is found of a layout is the same for sources that tell the same of its file
+pub told_alike : (told other : List ℕ → Option (List ℕ)) (layer_map : LayerMap) (name : List ℕ) (files : Failures) (result : Result (Vec ℕ Global) Unreported) → other name ≡ told name
+    → IsReportFound other layer_map name files result → IsReportFound told layer_map name files result
+told_alike told other layer_map name files (Ok text) e (subject, l, report, calm) =
+    (subject, record { layout = l.layout; may_be = subst (λ o. IfSome o (λ all. l.layout ≡ all)) e l.may_be; comes = l.comes }, report, calm)
+told_alike told other layer_map name files (Err (Refused refusal)) e (l, calm) =
+    (record { layout = l.layout; may_be = subst (λ o. IfSome o (λ all. l.layout ≡ all)) e l.may_be; comes = l.comes }, calm)
+told_alike told other layer_map name files (Err FilesFailed) e found = found
+told_alike told other layer_map name files (Err Memory) e found = found
+
+-- a good map is supported
+supported : {layer_map : LayerMap} {text : List ℕ} → ShortMapComesTo text (value layer_map) → All (IsSupported layer_map) support_checks
+supported (goes_on {v = read} says (all_hold all e)) = subst (λ m. All (IsSupported m) support_checks) (sym e) all
+
+one_metal_is : (layer datatype radius : ℕ) → All (IsSupported (one_metal_map layer datatype radius)) support_checks
+one_metal_is layer datatype radius =
+    let Is = IsSupported (one_metal_map layer datatype radius) in
+    All-cons Is has_no_cuts (has_no_terminals ∷ []) refl (All-cons Is has_no_terminals [] refl (All-nil Is))
+
+pub is_supported : (told : List ℕ → Option (List ℕ)) (task : Task) (layer_map : LayerMap) → MapMayCome told task (value layer_map) → All (IsSupported layer_map) support_checks
+is_supported told task layer_map m = go task m.text m.comes where
+  go : (task : Task) (text : Option (List ℕ)) → MapComesTo task text (value layer_map) → All (IsSupported layer_map) support_checks
+  go (OneMetal layout layer datatype radius) text e = let same : layer_map ≡ one_metal_map layer datatype radius = cc e in
+      subst (λ m. All (IsSupported m) support_checks) (sym same) (one_metal_is layer datatype radius)
+  go (Mapped layout map) (Some text) (goes_on short says) = supported says
+  go (Mapped layout map) None h = absurd h
+
+-- the one file after the other: what was not calm before or after
+calm_both : {before middle after : ℕ} → middle ≡ before → after ≡ middle → after ≡ before
+calm_both first second = second ∙ first
+
+appends_both : {A : Type 0} (before middle after : Option (List A)) (xs ys : List A) → Appends before middle xs → Appends middle after ys → Appends before after (xs ++ ys)
+appends_both None middle after xs ys p q = subst (λ m. Appends m after ys) p q
+appends_both (Some all) middle after xs ys p q = subst (λ m. Appends m after ys) p q ∙ ap (λ (zs : List _). Some zs) (append_assoc all xs ys)
+
 module _ (words : List (List ℕ)) (told : List ℕ → Option (List ℕ)) where
   -- ---- what was found
 
-  pub words_refused : ((task : Task) → Ask words task → ⊥) → IsRefusalFor words told usage
+  pub words_refused : ((request : Request) → Ask words request → ⊥) → IsRefusalFor words told usage
   words_refused none =
       let input : Input = record { map = None; layout = None } in
-      record { input = input; may_be = λ task asked. absurd (none task asked); verdict = refused_words words input none }
+      record { input = input; may_be = λ request asked. absurd (none request asked); verdict = refused_words words input none }
 
-  module _ (areas : OneMetal) (asked : Ask words (one_metal areas)) where
-    -- the words name one layout, so this is what they may name where the files tell no other
-    layout_may_be : (layout : List ℕ) → IfSome (told areas.layout) (λ bytes. layout ≡ bytes) → MayBeInput words told (with_layout layout)
-    layout_may_be layout same (one_metal other) also =
-        let task : one_metal areas ≡ one_metal other = tasks_agree words (one_metal areas) (one_metal other) asked also in
-        let name : areas.layout ≡ other.layout = cc task in
-        (refl, subst (λ n. IfSome (told n) (λ bytes. Some layout ≡ Some bytes)) name (at_some (told areas.layout) same)) where
-          at_some : (o : Option (List ℕ)) → IfSome o (λ bytes. layout ≡ bytes) → IfSome o (λ bytes. Some layout ≡ Some bytes)
-          at_some None h = tt
-          at_some (Some bytes) h = ap (λ (b : List ℕ). Some b) h
+  module _ (request : Request) (asked : Ask words request) where
+    -- texts that the files of the request may have are an input that the words may name
+    input_may_be : (input : Input) → IsTextFrom told (sources_of request.task).map input.map → IsTextFrom told (sources_of request.task).layout input.layout → MayBeInput words told input
+    input_may_be input map layout other also =
+        let same = requests_agree words request other asked also in
+        (subst (λ (r : Request). IsTextFrom told (sources_of r.task).map input.map) same map, subst (λ (r : Request). IsTextFrom told (sources_of r.task).layout input.layout) same layout)
 
-    length_refused : IfSome (told areas.layout) (λ all. layout_limit < length all) → IsRefusalFor words told layout_too_long
-    length_refused h = go (told areas.layout) refl h where
-      go : (o : Option (List ℕ)) → told areas.layout ≡ o → IfSome o (λ all. layout_limit < length all) → IsRefusalFor words told layout_too_long
-      go None e long =
-          let xs = longer layout_limit in
-          record { input = with_layout xs.0; may_be = layout_may_be xs.0 (rw e tt); verdict = refused_length words (one_metal areas) asked xs.0 xs.1 }
-      go (Some all) e long = record { input = with_layout all; may_be = layout_may_be all (rw e refl); verdict = refused_length words (one_metal areas) asked all long }
+    -- some text of the layout
+    some_text : (held : Option (List ℕ)) → (bytes : List ℕ) × IfSome held (λ all. bytes ≡ all)
+    some_text None = ([], tt)
+    some_text (Some all) = (all, refl)
 
-    layout_refused : (bytes : List ℕ) → length bytes ≤ layout_limit → IfSome (told areas.layout) (λ all. bytes ≡ all) → ((subject : Subject) → IsSubject (one_metal areas) bytes subject → ⊥) → IsRefusalFor words told (of_layout_fault fault.OtherForm)
-    layout_refused bytes short same no_subject = record { input = with_layout bytes; may_be = layout_may_be bytes same; verdict = refused_form words (one_metal areas) asked bytes short no_subject }
+    some_layout : (task : Task) → (text : Option (List ℕ)) × IsTextFrom told (sources_of task).layout text
+    some_layout (OneMetal layout layer datatype radius) = let some = some_text (told layout) in (Some some.0, some.1)
+    some_layout (Mapped layout map) = let some = some_text (told layout) in (Some some.0, some.1)
 
-    pub report_found : (bytes text : List ℕ) (subject : Subject) → length bytes ≤ layout_limit → IfSome (told areas.layout) (λ all. bytes ≡ all) → IsSubject (one_metal areas) bytes subject → IsReportOn subject text → IsReportFor words told text
-    report_found bytes text subject short same is report = record {
-      input = with_layout bytes;
-      may_be = layout_may_be bytes same;
-      subject = subject;
-      verdict = good_layout words (one_metal areas) asked bytes short subject is;
-      report = report;
-    }
+    pub map_refused : (refusal : Refusal) → MapMayCome told request.task (refused refusal) → IsRefusalFor words told refusal
+    map_refused refusal m =
+        let layout = some_layout request.task in
+        let input : Input = record { map = m.text; layout = layout.0 } in
+        record { input = input; may_be = input_may_be input m.may_be layout.1; verdict = refused_map words request asked input refusal m.comes }
 
-    -- what a file that was not read says of the input
-    pub unread : (before after : ℕ) (started : Type 0) (rest : Option (List ℕ)) (error : ReadError)
-        → ReadsWhole (told areas.layout) layout_limit before after started rest (Err error) → IsCause words told (failures before after) (of_unread_layout error)
-    unread before after started rest read.Fault (has_failed failed) = ((one_metal areas, areas.layout, asked, Contains-first areas.layout []), failed.rose)
-    unread before after started rest read.TooLong (is_too_long long calm opened left) = (length_refused long, calm)
-    unread before after started rest read.Memory (has_no_memory calm opened left) = calm
+    -- a map that was not found
+    pub no_map : (files : Failures) (why : Unreported) → IsMapFound told request.task files (Err why) → IsFound words told files (Err why)
+    no_map files (Refused refusal) (m, calm) = (map_refused refusal m, calm)
+    no_map files FilesFailed (risen, named) = ((request, named.0, asked, rw named.1 (Contains-first named.0 _)), risen)
+    no_map files Memory calm = calm
 
-    -- what a layout that was not read says of it
-    pub unfit : (files : Failures) (why : LayoutFault) → (bytes : List ℕ) → IsCalm files → length bytes ≤ layout_limit → IfSome (told areas.layout) (λ all. bytes ≡ all)
-        → (why ≡ fault.OtherForm → (subject : Subject) → IsSubject (one_metal areas) bytes subject → ⊥) → IsCause words told files (of_unfit_layout why)
-    unfit files fault.OtherForm bytes calm short same none = (layout_refused bytes short same (none refl), calm)
-    unfit files fault.Memory bytes calm short same none = calm
+    module _ (layer_map : LayerMap) (good : MapMayCome told request.task (value layer_map)) (name : List ℕ) (named : (sources_of request.task).layout ≡ file name) where
+      both : (outcome : Outcome Subject Refusal) (l : LayoutMayCome told layer_map name outcome) → (input : Input) × MayBeInput words told input × IsVerdict words input outcome
+      both outcome l =
+          let input : Input = record { map = good.text; layout = Some l.layout } in
+          (input, input_may_be input good.may_be (subst (λ source. IsTextFrom told source (Some l.layout)) (sym named) l.may_be), with_layout words request asked good.text layer_map l.layout outcome good.comes l.comes)
 
-    -- some layout is one that the words may name
-    some_layout : (o : Option (List ℕ)) → (layout : List ℕ) × IfSome o (λ bytes. layout ≡ bytes)
-    some_layout None = ([], tt)
-    some_layout (Some bytes) = (bytes, refl)
+      layout_named : Contains (file_names (sources_of request.task)) name
+      layout_named = Contains-append_right (file_name_of (sources_of request.task).map) (file_name_of (sources_of request.task).layout) name
+          (subst (λ source. Contains (file_name_of source) name) (sym named) (Contains-first name []))
 
-    -- the one file that the words name was started, once
-    pub starts_layout : {before after : Option (List (List ℕ))} → Appends before after (areas.layout ∷ []) → StartsNamed words told before after
-    starts_layout begun =
-        let layout = some_layout (told areas.layout) in
-        let may_be : MayBeStarted words told (areas.layout ∷ []) = both_files (one_metal areas) (with_layout layout.0) asked (layout_may_be layout.0 layout.1) (look_at_layout words (one_metal areas) asked (with_layout layout.0)) in
-        record { names = areas.layout ∷ []; may_be = may_be; started = begun }
+      -- a good map, and what was found of the layout
+      pub on_good_map : (before middle after : ℕ) (result : Result (Vec ℕ Global) Unreported) → IsCalm (failures before middle)
+          → IsReportFound told layer_map name (failures middle after) result → IsFound words told (failures before after) result
+      on_good_map before middle after (Ok text) first (subject, l, report, calm) =
+          let b = both (value subject) l in
+          (record { input = b.0; may_be = b.1; subject = subject; verdict = b.2; report = report }, calm_both first calm)
+      on_good_map before middle after (Err (Refused refusal)) first (l, calm) =
+          let b = both (refused refusal) l in
+          (record { input = b.0; may_be = b.1; verdict = b.2 }, calm_both first calm)
+      on_good_map before middle after (Err FilesFailed) first risen =
+          ((request, name, asked, layout_named), subst (λ b. HasRisen (failures b after)) first risen)
+      on_good_map before middle after (Err Memory) first calm = calm_both first calm
+
+      -- the map's file, where there is one, and the layout's behind it
+      pub starts_both : {before middle after : Option (List (List ℕ))} → Appends before middle (file_name_of (sources_of request.task).map) → Appends middle after (name ∷ []) → StartsNamed words told before after
+      starts_both {before} {middle} {after} first second = record {
+        names = file_names (sources_of request.task);
+        may_be = both_files request layer_map asked good;
+        started = appends_both before middle after (file_name_of (sources_of request.task).map) (file_name_of (sources_of request.task).layout) first
+            (subst (λ source. Appends middle after (file_name_of source)) (sym named) second);
+      }
+
+    -- the map's file alone
+    pub starts_map : {before after : Option (List (List ℕ))} → Appends before after (file_name_of (sources_of request.task).map) → StartsNamed words told before after
+    starts_map first = record { names = file_name_of (sources_of request.task).map; may_be = map_file request asked; started = first }
 
   pub starts_none : (before : Option (List (List ℕ))) → StartsNamed words told before before
   starts_none before = record { names = []; may_be = no_file; started = kept before } where
@@ -105,7 +218,7 @@ module _ (words : List (List ℕ)) (told : List ℕ → Option (List ℕ)) where
 
   -- ---- what is printed
 
-  pub ends : (files : Failures) (out err : Output) (found : Result (String Global) Unreported) (status : ℕ) → IsFound words told files found → IsPrinted found out err status → EndsWith words told files out err status
+  pub ends : (files : Failures) (out err : Output) (found : Result (Vec ℕ Global) Unreported) (status : ℕ) → IsFound words told files found → IsPrinted found out err status → EndsWith words told files out err status
   ends files out err (Ok text) status (on, calm) (report_out takes, idle) = run.reported on calm takes idle
   ends files out err (Ok text) status (on, calm) (report_cut fails, idle) = run.report_cut_short on calm fails idle
   ends files out err (Err (Refused refusal)) status (on, calm) (line_out takes, idle) = run.refused on calm idle takes
@@ -117,10 +230,16 @@ module _ (words : List (List ℕ)) (told : List ℕ → Option (List ℕ)) where
   -- ---- what is due comes out
 
   -- each text that the files tell is one that the words may name
+  told_text_is : (source : Source) (text more : Option (List ℕ)) → text ≡ told_text told source → IsTextFrom told source more → IsTextOf text more
+  told_text_is (file name) text None e h bytes f = absurd h
+  told_text_is (file name) text (Some more) e h bytes f = ap (λ (b : List ℕ). Some b) (subst (λ o. IfSome o (λ all. more ≡ all)) (sym e ∙ f) h)
+  told_text_is nothing text more e h bytes f = cc (e, f)
+
   told_texts : (input more : Input) → IsToldInput words told input → MayBeInput words told more → HasTextsOf words input more
-  told_texts input more t m (one_metal areas) asked layout e =
-      let is : told areas.layout ≡ Some layout = sym (t (one_metal areas) asked).1 ∙ e in
-      subst (λ o. IfSome o (λ bytes. more.layout ≡ Some bytes)) is (m (one_metal areas) asked).1
+  told_texts input more t m request asked =
+      let is = t request asked in
+      let may = m request asked in
+      (told_text_is (sources_of request.task).map input.map more.map is.0 may.0, told_text_is (sources_of request.task).layout input.layout more.layout is.1 may.1)
 
   one_outcome : (input more : Input) (due found : Outcome Subject Refusal) → IsToldInput words told input → IsVerdict words input due → MayBeInput words told more → IsVerdict words more found → due ≡ found
   one_outcome input more due found t v m w = verdicts_agree words more due found (more_input words input more due (told_texts input more t m) v) w

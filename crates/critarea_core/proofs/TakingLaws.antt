@@ -12,7 +12,7 @@ use Rattle.critarea_core.specs.Layout.{IsLayout, Match, none, next, AreBoundarie
 use Rattle.critarea_core.specs.Taking.{MovesOn, TakesRecords, TakesAll, TakesShape, DoesNotFollow, NotAllFollow, NoShapeFollows, HasBoundaries, YieldsShape}
 use Rattle.critarea_core.specs.declared.pattern.Pattern.{Pattern}
 use Rattle.critarea_core.specs.Patterns.{Fits, head_patterns, boundary_pattern, endstr_pattern, endlib_pattern}
-use Rattle.critarea_core.specs.declared.shape.Shape.{Shape}
+use Rattle.critical_areas.specs.declared.shape.Shape.{Shape}
 
 -- a record that was taken is the first of those that were left
 pub after : {old new : Reading} {x y : Entry} (ys : List Entry) (end : End) → TakesRecords old new (x ∷ []) → IsLeft old (y ∷ ys) end → (y ≡ x) × IsLeft new ys end

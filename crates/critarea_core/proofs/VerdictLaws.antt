@@ -1,106 +1,154 @@
 -- the verdict, stage by stage: each has one outcome at most, and none can lack one
-use Rattle.std.proofs.Common.{ℕ, ◌≡◌, ◌<◌, ◌≤◌, List, length, refl, sym, ap, subst, ◌∙◌, arith}
+use Rattle.std.proofs.Common.{ℕ, ◌≡◌, ◌<◌, ◌≤◌, List, length, refl, sym, ap, ◌∙◌, arith}
 use Rattle.std.specs.Prelude.{Option, Some, None, IsSome, IsSomeAnd}
 use Rattle.first_refusal.specs.Outcomes.{Outcome, value, refused, Reads, reads, lacks, kept, retold, stops, goes_on}
 use Rattle.first_refusal.specs.Laws.{IsUnique, CannotLack}
 use Rattle.first_refusal.proofs.StageLaws.{readings_agree, reading_cannot_lack, retold_agree, retold_cannot_lack, stages_agree, stages_cannot_lack, texts_agree}
-use Rattle.critarea_core.specs.Input.{Input}
-use Rattle.critarea_core.specs.LayerMap.{LayerMap}
-use Rattle.critarea_core.specs.Refusals.{usage, layout_limit, layout_too_long, of_layout_fault}
-use Rattle.critarea_core.specs.Verdict.{Subject, IsShortEnough, IsSubject, WordsComeTo, LayoutComesTo, IsVerdict, LookAtLayout, HasTexts}
-use Rattle.critarea_core.specs.Words.{Task, one_metal, Ask}
+use Rattle.first_refusal.proofs.CheckLaws.{checks_agree, checks_cannot_lack}
+use Rattle.command_line.specs.Requests.{Ask}
+use Rattle.command_line.specs.declared.request.Request.{Request}
+use Rattle.command_line.specs.declared.task.Task.{Task}
+use Rattle.command_line.specs.declared.task.Task.TheVariants.{OneMetal, Mapped}
+use Rattle.command_line.proofs.RequestLaws.{requests_agree}
+use Rattle.layer_map.specs.Documents as document
+use Rattle.layer_map.specs.LayerMap.{LayerMap, one_metal_map}
+use Rattle.layer_map.proofs.ExistLaws.{maps_cannot_lack}
+use Rattle.layer_map.proofs.UniqueLaws.{maps_agree}
+use Rattle.critarea_core.specs.Input.{Input, IsThere, sources_of}
+use Rattle.critarea_core.specs.Refusals.{usage, map_limit, map_too_long, of_map_fault, layout_limit, layout_too_long, of_layout_fault}
+use Rattle.critarea_core.specs.Verdict.{Subject, IsShortEnough, IsSupported, support_checks, not_supported, ReadMapComesTo, ShortMapComesTo, MapTextComesTo, MapComesTo, IsSubject, WordsComeTo, LayoutComesTo, IsVerdict, HasTexts}
 use Rattle.critarea_core.specs.declared.fault.LayoutFault.TheVariants.{OtherForm}
 use Rattle.critarea_core.specs.declared.refusal.Refusal.{Refusal}
-use Rattle.critarea_core.specs.declared.shape.Shape.{Shape}
-use Rattle.critarea_core.proofs.WordLaws.{tasks_agree}
+use Rattle.critical_areas.specs.declared.shape.Shape.{Shape}
 use Rattle.critarea_core.proofs.LayoutLaws.{layouts_agree}
 
 -- ---- one outcome at most, a lemma a stage
 
 words_agree : (words : List (List ℕ)) → IsUnique (WordsComeTo words)
-words_agree words = readings_agree (Ask words) usage (tasks_agree words)
+words_agree words = readings_agree (Ask words) usage (requests_agree words)
 
 lengths_agree : (limit : ℕ) (text : List ℕ) → IsUnique (IsShortEnough limit text)
 lengths_agree limit text one other a b = a.is_text ∙ sym b.is_text
 
-subjects_agree : (task : Task) (layout : List ℕ) → IsUnique (IsSubject task layout)
-subjects_agree task layout one other a b =
+read_maps_agree : (layer_map : LayerMap) → IsUnique (ReadMapComesTo layer_map)
+read_maps_agree layer_map = checks_agree (IsSupported layer_map) support_checks not_supported (λ same. same ≡ layer_map) (λ one other e f. e ∙ sym f)
+
+short_maps_agree : (text : List ℕ) → IsUnique (ShortMapComesTo text)
+short_maps_agree text = stages_agree _ _ (retold_agree of_map_fault (document.MapComesTo text) (maps_agree text)) read_maps_agree
+
+map_texts_agree : (bytes : List ℕ) → IsUnique (MapTextComesTo bytes)
+map_texts_agree bytes = stages_agree _ _ (readings_agree (IsShortEnough map_limit bytes) map_too_long (lengths_agree map_limit bytes)) short_maps_agree
+
+map_outcomes_agree : (task : Task) (text : Option (List ℕ)) → IsUnique (MapComesTo task text)
+map_outcomes_agree (OneMetal layout layer datatype radius) text one other a b = a ∙ sym b
+map_outcomes_agree (Mapped layout map) text one other a b = texts_agree MapTextComesTo map_texts_agree text one other a b
+
+subjects_agree : (layer_map : LayerMap) (layout : List ℕ) → IsUnique (IsSubject layer_map layout)
+subjects_agree layer_map layout one other a b =
     let subject : LayerMap → List Shape → Subject = λ m s. record { layer_map = m; shapes = s } in
     ap (λ m. subject m one.shapes) (a.mapped ∙ sym b.mapped) ∙ ap (subject other.layer_map) (layouts_agree layout one.shapes other.shapes a.shaped b.shaped)
 
-layout_outcomes_agree : (task : Task) (layout : List ℕ) → IsUnique (LayoutComesTo task layout)
-layout_outcomes_agree task layout = stages_agree _ _ (readings_agree (IsShortEnough layout_limit layout) layout_too_long (lengths_agree layout_limit layout))
-    (λ text. retold_agree of_layout_fault (Reads (IsSubject task text) OtherForm) (readings_agree (IsSubject task text) OtherForm (subjects_agree task text)))
+layout_outcomes_agree : (layer_map : LayerMap) (layout : List ℕ) → IsUnique (LayoutComesTo layer_map layout)
+layout_outcomes_agree layer_map layout = stages_agree _ _ (readings_agree (IsShortEnough layout_limit layout) layout_too_long (lengths_agree layout_limit layout))
+    (λ text. retold_agree of_layout_fault (Reads (IsSubject layer_map text) OtherForm) (readings_agree (IsSubject layer_map text) OtherForm (subjects_agree layer_map text)))
 
 pub verdicts_agree : (words : List (List ℕ)) (input : Input) → IsUnique (IsVerdict words input)
-verdicts_agree words input = stages_agree (WordsComeTo words) _ (words_agree words) (λ task. texts_agree (LayoutComesTo task) (layout_outcomes_agree task) input.layout)
+verdicts_agree words input = stages_agree (WordsComeTo words) _ (words_agree words)
+    (λ request. stages_agree (MapComesTo request.task input.map) _ (map_outcomes_agree request.task input.map)
+    (λ layer_map. texts_agree (LayoutComesTo layer_map) (layout_outcomes_agree layer_map) input.layout))
 
 -- ---- none can lack an outcome
 
-layout_cannot_lack : (task : Task) (layout : List ℕ) → CannotLack (LayoutComesTo task layout)
-layout_cannot_lack task layout = stages_cannot_lack _ _ (reading_cannot_lack (IsShortEnough layout_limit layout) layout_too_long)
-    (λ text _. retold_cannot_lack of_layout_fault (Reads (IsSubject task text) OtherForm) (reading_cannot_lack (IsSubject task text) OtherForm))
+map_text_cannot_lack : (bytes : List ℕ) → CannotLack (MapTextComesTo bytes)
+map_text_cannot_lack bytes = stages_cannot_lack _ _ (reading_cannot_lack (IsShortEnough map_limit bytes) map_too_long)
+    (λ text _. stages_cannot_lack _ _ (retold_cannot_lack of_map_fault (document.MapComesTo text) (maps_cannot_lack text))
+    (λ layer_map _. checks_cannot_lack (IsSupported layer_map) support_checks not_supported (λ same. same ≡ layer_map) (λ _ none. none layer_map refl)))
 
-asked_for : (words : List (List ℕ)) (task : Task) → WordsComeTo words (value task) → Ask words task
-asked_for words task (reads asked) = asked
-
-at_text : (text : Option (List ℕ)) (Stage : List ℕ → Outcome Subject Refusal → Type 0) → IsSome text → ((layout : List ℕ) → CannotLack (Stage layout)) → CannotLack (λ outcome. IsSomeAnd text (λ layout. Stage layout outcome))
-at_text (Some layout) Stage there each = each layout
+at_text : {V : Type 0} (text : Option (List ℕ)) (Stage : List ℕ → Outcome V Refusal → Type 0) → IsSome text → ((bytes : List ℕ) → CannotLack (Stage bytes)) → CannotLack (λ outcome. IsSomeAnd text (λ bytes. Stage bytes outcome))
+at_text (Some bytes) Stage there each = each bytes
 at_text None Stage there each = cc there
 
-layout_there : (words : List (List ℕ)) (input : Input) (task : Task) → Ask words task → HasTexts words input → LookAtLayout words input → IsSome input.layout
-layout_there words input (one_metal areas) asked texts looks = (texts (one_metal areas) asked).1 looks
+map_cannot_lack : (task : Task) (text : Option (List ℕ)) → IsThere (sources_of task).map text → CannotLack (MapComesTo task text)
+map_cannot_lack (OneMetal layout layer datatype radius) text there none = none (value (one_metal_map layer datatype radius)) refl
+map_cannot_lack (Mapped layout map) text there none = at_text text MapTextComesTo there map_text_cannot_lack none
 
--- where no layout is there and nothing is a verdict, no refusal is one, so the layout is looked at
+layout_cannot_lack : (layer_map : LayerMap) (layout : List ℕ) → CannotLack (LayoutComesTo layer_map layout)
+layout_cannot_lack layer_map layout = stages_cannot_lack _ _ (reading_cannot_lack (IsShortEnough layout_limit layout) layout_too_long)
+    (λ text _. retold_cannot_lack of_layout_fault (Reads (IsSubject layer_map text) OtherForm) (reading_cannot_lack (IsSubject layer_map text) OtherForm))
+
+asked_for : (words : List (List ℕ)) (request : Request) → WordsComeTo words (value request) → Ask words request
+asked_for words request (reads asked) = asked
+
+layout_there : (task : Task) (text : Option (List ℕ)) → IsThere (sources_of task).layout text → IsSome text
+layout_there (OneMetal layout layer datatype radius) text there = there
+layout_there (Mapped layout map) text there = there
+
+-- a layout that is looked at is there
 pub inputs_have_verdicts : (words : List (List ℕ)) (input : Input) → HasTexts words input → CannotLack (IsVerdict words input)
-inputs_have_verdicts words input texts none = go input.layout refl where
-  go : (layout : Option (List ℕ)) → input.layout ≡ layout → ⊥
-  go (Some layout) e = stages_cannot_lack (WordsComeTo words) _ (reading_cannot_lack (Ask words) usage)
-      (λ task asked. at_text input.layout (LayoutComesTo task) (rw e refl) (layout_cannot_lack task)) none
-  go None e = reading_cannot_lack (Ask words) usage no_words where
-    looks : LookAtLayout words input
-    looks refusal v = none (refused refusal) (subst (λ o. IsVerdict words (record input { layout = o }) (refused refusal)) (sym e) v)
-
-    no_words : (outcome : Outcome Task Refusal) → WordsComeTo words outcome → ⊥
-    no_words (value task) w = let there = layout_there words input task (asked_for words task w) texts looks in cc (e, there)
-    no_words (refused refusal) w = none (refused refusal) (stops w)
+inputs_have_verdicts words input texts = stages_cannot_lack (WordsComeTo words) _ (reading_cannot_lack (Ask words) usage)
+    (λ request asks. let asked = asked_for words request asks in
+    stages_cannot_lack (MapComesTo request.task input.map) _ (map_cannot_lack request.task input.map (texts request asked).0)
+    (λ layer_map good. at_text input.layout (LayoutComesTo layer_map)
+    (layout_there request.task input.layout ((texts request asked).1 (record { request = request; asked = asked; layer_map = layer_map; good = good })))
+    (layout_cannot_lack layer_map)))
 
 -- ---- the verdicts that there are
 
 -- words that ask for nothing
-pub refused_words : (words : List (List ℕ)) (input : Input) → ((task : Task) → Ask words task → ⊥) → IsVerdict words input (refused usage)
+pub refused_words : (words : List (List ℕ)) (input : Input) → ((request : Request) → Ask words request → ⊥) → IsVerdict words input (refused usage)
 refused_words words input none = stops (lacks none)
 
--- the input of words that name this layout
-abbrev pub with_layout : List ℕ → Input
-with_layout layout = record { map = None; layout = Some layout }
+module _ (words : List (List ℕ)) (request : Request) (asked : Ask words request) where
+  -- a refused map
+  pub refused_map : (input : Input) (refusal : Refusal) → MapComesTo request.task input.map (refused refusal) → IsVerdict words input (refused refusal)
+  refused_map input refusal comes = goes_on (reads asked) (stops comes)
 
-module _ (words : List (List ℕ)) (task : Task) (asked : Ask words task) where
-  -- without the layout words that ask for something are not refused
-  pub look_at_layout : (input : Input) → LookAtLayout words input
-  look_at_layout input refusal (stops (lacks none)) = none task asked
-  look_at_layout input refusal (goes_on w next) = next
+  -- a good map, and what the layout comes to
+  pub with_layout : (map : Option (List ℕ)) (layer_map : LayerMap) (layout : List ℕ) (outcome : Outcome Subject Refusal) → MapComesTo request.task map (value layer_map)
+      → LayoutComesTo layer_map layout outcome → IsVerdict words (record { map = map; layout = Some layout }) outcome
+  with_layout map layer_map layout outcome good comes = goes_on (reads asked) (goes_on good comes)
 
-  module _ (layout : List ℕ) where
-    pub refused_length : layout_limit < length layout → IsVerdict words (with_layout layout) (refused layout_too_long)
-    refused_length long = goes_on (reads asked) (stops (lacks (λ text t. let s = t.short in absurd (omega arith))))
+-- the layout: too long, of another form, or good
+module _ (layer_map : LayerMap) (layout : List ℕ) where
+  pub refused_length : layout_limit < length layout → LayoutComesTo layer_map layout (refused layout_too_long)
+  refused_length long = stops (lacks (λ text t. let s = t.short in absurd (omega arith)))
 
-    pub refused_form : length layout ≤ layout_limit → ((subject : Subject) → IsSubject task layout subject → ⊥) → IsVerdict words (with_layout layout) (refused (of_layout_fault OtherForm))
-    refused_form short none = goes_on (reads asked) (goes_on {v = layout} (reads (record { is_text = refl; short = short })) (retold (lacks none)))
+  pub refused_form : length layout ≤ layout_limit → ((subject : Subject) → IsSubject layer_map layout subject → ⊥) → LayoutComesTo layer_map layout (refused (of_layout_fault OtherForm))
+  refused_form short none = goes_on {v = layout} (reads (record { is_text = refl; short = short })) (retold (lacks none))
 
-    pub good_layout : length layout ≤ layout_limit → (subject : Subject) → IsSubject task layout subject → IsVerdict words (with_layout layout) (value subject)
-    good_layout short subject is = goes_on (reads asked) (goes_on {v = layout} (reads (record { is_text = refl; short = short })) (kept (reads is)))
+  pub good_layout : length layout ≤ layout_limit → (subject : Subject) → IsSubject layer_map layout subject → LayoutComesTo layer_map layout (value subject)
+  good_layout short subject is = goes_on {v = layout} (reads (record { is_text = refl; short = short })) (kept (reads is))
+
+-- the text of a map: too long, or what it comes to where it is not
+pub refused_map_length : (bytes : List ℕ) → map_limit < length bytes → MapTextComesTo bytes (refused map_too_long)
+refused_map_length bytes long = stops (lacks (λ text t. let s = t.short in absurd (omega arith)))
+
+pub short_map : (bytes : List ℕ) (outcome : Outcome LayerMap Refusal) → length bytes ≤ map_limit → ShortMapComesTo bytes outcome → MapTextComesTo bytes outcome
+short_map bytes outcome short comes = goes_on {v = bytes} (reads (record { is_text = refl; short = short })) comes
 
 -- ---- a text more changes no verdict
 
--- the one input has each text that the other has
-abbrev pub HasTextsOf : List (List ℕ) → Input → Input → Type 0
-HasTextsOf words input more = (task : Task) → Ask words task → (layout : List ℕ) → input.layout ≡ Some layout → more.layout ≡ Some layout
+-- the one text is there where the other is
+abbrev pub IsTextOf : Option (List ℕ) → Option (List ℕ) → Type 0
+IsTextOf text more = (bytes : List ℕ) → text ≡ Some bytes → more ≡ Some bytes
 
-more_text : (text more : Option (List ℕ)) (P : List ℕ → Type 0) → ((layout : List ℕ) → text ≡ Some layout → more ≡ Some layout) → IsSomeAnd text P → IsSomeAnd more P
+-- the one input has each text that the words name and that the other has
+abbrev pub HasTextsOf : List (List ℕ) → Input → Input → Type 0
+HasTextsOf words input more = (request : Request) → Ask words request → IsTextOf input.map more.map × IsTextOf input.layout more.layout
+
+more_text : (text more : Option (List ℕ)) (P : List ℕ → Type 0) → IsTextOf text more → IsSomeAnd text P → IsSomeAnd more P
 more_text None more P same h = absurd h
-more_text (Some layout) more P same h = let e = same layout refl in rw e h
+more_text (Some bytes) more P same h = let e = same bytes refl in rw e h
+
+more_map : (task : Task) (text more : Option (List ℕ)) (outcome : Outcome LayerMap Refusal) → IsTextOf text more → MapComesTo task text outcome → MapComesTo task more outcome
+more_map (OneMetal layout layer datatype radius) text more outcome same h = h
+more_map (Mapped layout map) text more outcome same h = more_text text more _ same h
 
 pub more_input : (words : List (List ℕ)) (input more : Input) (outcome : Outcome Subject Refusal) → HasTextsOf words input more → IsVerdict words input outcome → IsVerdict words more outcome
 more_input words input more outcome same (stops w) = stops w
-more_input words input more outcome same (goes_on {v = task} w next) = goes_on w (more_text input.layout more.layout _ (same task (asked_for words task w)) next)
+more_input words input more outcome same (goes_on {v = request} w (stops m)) =
+    let texts = same request (asked_for words request w) in
+    goes_on w (stops (more_map request.task input.map more.map _ texts.0 m))
+more_input words input more outcome same (goes_on {v = request} w (goes_on {v = layer_map} m next)) =
+    let texts = same request (asked_for words request w) in
+    goes_on w (goes_on (more_map request.task input.map more.map _ texts.0 m) (more_text input.layout more.layout _ texts.1 next))

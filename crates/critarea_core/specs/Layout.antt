@@ -10,7 +10,7 @@ use Rattle.gds_records.specs.Fields.{item}
 use Rattle.critarea_core.specs.Outline.{GoesRound}
 use Rattle.critarea_core.specs.Patterns.{Fits, head_patterns, boundary_pattern, layer_pattern, datatype_pattern, five_points_pattern, endel_pattern, endstr_pattern, endlib_pattern}
 use Rattle.critarea_core.specs.declared.pattern.Pattern.{Pattern}
-use Rattle.critarea_core.specs.declared.shape.Shape.{Shape}
+use Rattle.critical_areas.specs.declared.shape.Shape.{Shape}
 
 -- point k of a body of points: two coordinates of four bytes each
 abbrev pub point_in : List ℕ → ℕ → Point

@@ -2,6 +2,8 @@
 use Rattle.std.specs.Prelude.{ℕ, List, [], ◌∷◌, codes}
 use Rattle.std.specs.Fmt.{decimal}
 use Rattle.std.specs.List.{concat}
+use Rattle.layer_map.specs.MapFaults as map_faults
+use Rattle.layer_map.specs.declared.fault.MapFault.{MapFault}
 use Rattle.critarea_core.specs.LayoutFaults.{number_of, place_of}
 use Rattle.critarea_core.specs.declared.fault.LayoutFault.{LayoutFault}
 use Rattle.critarea_core.specs.declared.refusal.Refusal.{Refusal}
@@ -10,13 +12,33 @@ use Rattle.critarea_core.specs.declared.refusal.Refusal.{Refusal}
 abbrev pub of_words : ℕ → ℕ → Refusal
 of_words number place = record { status = 2; number = number; place = place }
 
+-- a refusal of the map
+abbrev pub of_map : ℕ → ℕ → Refusal
+of_map number place = record { status = 3; number = number; place = place }
+
 -- a refusal of the layout
 abbrev pub of_layout : ℕ → ℕ → Refusal
 of_layout number place = record { status = 4; number = number; place = place }
 
--- the words ask for nothing
+-- the words fit no form of the command
 abbrev pub usage : Refusal
 usage = of_words 2 0
+
+-- the most bytes that a map may have
+abbrev pub map_limit : ℕ
+map_limit = 1048576
+
+-- the map has more
+abbrev pub map_too_long : Refusal
+map_too_long = of_map 39 map_limit
+
+-- the map has a fault
+abbrev pub of_map_fault : MapFault → Refusal
+of_map_fault fault = of_map (map_faults.number_of fault) (map_faults.place_of fault)
+
+-- the map has what is not supported yet, at this path
+abbrev pub map_not_supported : ℕ → Refusal
+map_not_supported path = of_map 60 path
 
 -- the most bytes that a layout may have
 abbrev pub layout_limit : ℕ

@@ -3,10 +3,13 @@ use Rattle.std.specs.Prelude.{ℕ, List, [], ◌≡◌, ◌⊎◌, Contains, Opt
 use Rattle.first_refusal.specs.Outcomes as outcome
 use Rattle.edge_io.specs.Bytes.{Appends, AppendsPrefix}
 use Rattle.edge_io.specs.FailureCounts.{Rose}
-use Rattle.critarea_core.specs.Words.{Task, Ask}
-use Rattle.critarea_core.specs.Input.{Input, sources_of, name_of, file_names, IsToldInput, MayBeInput}
+use Rattle.command_line.specs.Requests.{Ask}
+use Rattle.command_line.specs.declared.request.Request.{Request}
+use Rattle.command_line.specs.declared.task.Task.{Task}
+use Rattle.layer_map.specs.LayerMap.{LayerMap}
+use Rattle.critarea_core.specs.Input.{Input, sources_of, file_name_of, file_names, IsTextFrom, IsToldInput, MayBeInput}
 use Rattle.critarea_core.specs.Refusals.{refusal_text}
-use Rattle.critarea_core.specs.Verdict.{Subject, IsVerdict, IsReportOn, LookAtLayout}
+use Rattle.critarea_core.specs.Verdict.{Subject, MapComesTo, IsVerdict, IsReportOn}
 use Rattle.critarea_core.specs.declared.refusal.Refusal.{Refusal}
 
 -- Below, `words` are the words of the command line, and `told` gives what a file holds, by its name, where that is told.
@@ -30,7 +33,7 @@ pub record Failures : Type 0 where
   pub before : ℕ
   pub after : ℕ
 
--- both as one
+-- from two counts
 abbrev pub failures : ℕ → ℕ → Failures
 failures before after = record { before = before; after = after }
 
@@ -40,15 +43,15 @@ pub record Output : Type 0 where
   pub after : Option (List ℕ)
   pub failures : Failures
 
--- all of it as one
+-- from what was told and counted
 abbrev pub output : Option (List ℕ) → Option (List ℕ) → ℕ → ℕ → Output
 output before after failed_before failed_after = record { before = before; after = after; failures = failures failed_before failed_after }
 
--- some call failed: the count rose
+-- the count rose, or stands at its last value, where it cannot rise
 abbrev pub HasRisen : Failures → Type 0
 HasRisen failures = Rose failures.before failures.after
 
--- none failed
+-- the count is as it was
 abbrev pub IsCalm : Failures → Type 0
 IsCalm failures = failures.after ≡ failures.before
 
@@ -66,9 +69,9 @@ FailsWithin out text = HasRisen out.failures × AppendsPrefix out.before out.aft
 
 -- the words name some file
 abbrev pub NameSomeFile : List (List ℕ) → Type 0
-NameSomeFile words = (task : Task) × (name : List ℕ) × Ask words task × Contains (file_names (sources_of task)) name
+NameSomeFile words = (request : Request) × (name : List ℕ) × Ask words request × Contains (file_names (sources_of request.task)) name
 
--- The run ends with this status. Each case is a line of the table of statuses.
+-- The run ends with this status. Its cases are the table of statuses; refusals of words, map and layout are one case.
 pub data EndsWith (words : List (List ℕ)) (told : List ℕ → Option (List ℕ)) (files : Failures) (out err : Output) : ℕ → Type 0 where
   -- the report went out
   reported : {text : List ℕ} → IsReportFor words told text
@@ -85,7 +88,7 @@ pub data EndsWith (words : List (List ℕ)) (told : List ℕ → Option (List �
   -- the output of the refusal failed
   refusal_cut_short : {refusal : Refusal} → IsRefusalFor words told refusal
       → IsCalm files → IsIdle out → FailsWithin err (refusal_text refusal) → EndsWith words told files out err 5
-  -- no memory was left
+  -- out of memory
   out_of_memory : IsCalm files → IsIdle out → IsIdle err → EndsWith words told files out err 6
 
 -- a report is due: the input that the files tell is good
@@ -101,18 +104,24 @@ pub record IsRefusalDue (words : List (List ℕ)) (told : List ℕ → Option (L
   pub is_told : IsToldInput words told input
   pub verdict : IsVerdict words input (outcome.refused refusal)
 
--- what is due comes out, or no memory was left, unless the files or the output failed on the way
+-- what is due comes out, or the run is out of memory, unless the files or the output failed on the way
 pub record IsComplete (words : List (List ℕ)) (told : List ℕ → Option (List ℕ)) (files : Failures) (out err : Output) (status : ℕ) : Type 0 where
   pub report : IsReportDue words told → (HasRisen files → ⊥) → (HasRisen out.failures → ⊥) → (status ≡ 0) ⊎ (status ≡ 6)
   pub refusal : (refusal : Refusal) → IsRefusalDue words told refusal → (HasRisen files → ⊥) → (HasRisen err.failures → ⊥) → (status ≡ refusal.status) ⊎ (status ≡ 6)
 
+-- some text that the map may have, as far as the files tell it, comes to this
+pub record MapMayCome (told : List ℕ → Option (List ℕ)) (task : Task) (outcome : outcome.Outcome LayerMap Refusal) : Type 0 where
+  pub text : Option (List ℕ)
+  pub may_be : IsTextFrom told (sources_of task).map text
+  pub comes : MapComesTo task text outcome
+
 -- the names of files that a run starts, in order: none; the map's, where there is one; or the layout's behind it, where
--- an input which the words may name is not refused before its layout is looked at
+-- the map may be good
 pub data MayBeStarted (words : List (List ℕ)) (told : List ℕ → Option (List ℕ)) : List (List ℕ) → Type 0 where
   no_file : MayBeStarted words told []
-  map_file : (task : Task) → Ask words task → MayBeStarted words told (name_of (sources_of task).map)
-  both_files : (task : Task) (input : Input) → Ask words task → MayBeInput words told input → LookAtLayout words input
-      → MayBeStarted words told (file_names (sources_of task))
+  map_file : (request : Request) → Ask words request → MayBeStarted words told (file_name_of (sources_of request.task).map)
+  both_files : (request : Request) (layer_map : LayerMap) → Ask words request → MapMayCome told request.task (outcome.value layer_map)
+      → MayBeStarted words told (file_names (sources_of request.task))
 
 -- such names were started, and no others
 pub record StartsNamed (words : List (List ℕ)) (told : List ℕ → Option (List ℕ)) (before after : Option (List (List ℕ))) : Type 0 where

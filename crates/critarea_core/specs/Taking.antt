@@ -8,7 +8,7 @@ use Rattle.critarea_core.specs.Patterns.{Fits}
 use Rattle.critarea_core.specs.Layout.{ReadAsShape, Match, AreBoundaries}
 use Rattle.critarea_core.specs.declared.fault.Misfit.{Misfit}
 use Rattle.critarea_core.specs.declared.pattern.Pattern.{Pattern}
-use Rattle.critarea_core.specs.declared.shape.Shape.{Shape}
+use Rattle.critical_areas.specs.declared.shape.Shape.{Shape}
 
 -- what was left is what was taken, and then what is left
 pub record TakesRecords (old new : Reading) (taken : List Entry) : Type 0 where

@@ -1,58 +1,107 @@
 -- the verdict on words and on the input that they name: the first refusal, or what a report is on
-use Rattle.std.specs.Prelude.{ℕ, List, ◌≡◌, ◌≤◌, length, None, IsSomeAnd}
-use Rattle.first_refusal.specs.Outcomes.{Outcome, refused, Reads, Retold, Then}
-use Rattle.critarea_core.specs.Words.{Task, one_metal, Ask}
+use Rattle.std.specs.Prelude.{ℕ, List, [], ◌∷◌, ◌≡◌, ◌≤◌, length, Option, IsSomeAnd}
+use Rattle.first_refusal.specs.Outcomes.{Outcome, value, Reads, Retold, Then}
+use Rattle.first_refusal.specs.Checks.{Checks}
+use Rattle.command_line.specs.Requests.{Ask}
+use Rattle.command_line.specs.declared.request.Request.{Request}
+use Rattle.command_line.specs.declared.task.Task.{Task}
+use Rattle.command_line.specs.declared.task.Task.TheVariants.{OneMetal, Mapped}
+use Rattle.layer_map.specs.Documents as document
+use Rattle.layer_map.specs.LayerMap.{LayerMap, one_metal_map}
+use Rattle.layer_map.specs.Paths.{cuts_path, terminals_path}
+use Rattle.critical_areas.specs.Coverage.{IsCoveredOn}
+use Rattle.critical_areas.specs.Rows.{AreRows}
+use Rattle.critical_areas.specs.declared.shape.Shape.{Shape}
+use Rattle.report.specs.Report.{report_text}
+use Rattle.report.specs.declared.row.Row.{Row}
 use Rattle.critarea_core.specs.Input.{Input, IsThere, sources_of}
 use Rattle.critarea_core.specs.Layout.{IsLayout}
-use Rattle.critarea_core.specs.LayerMap.{LayerMap, one_metal_map}
-use Rattle.critarea_core.specs.Coverage.{coverage_of}
-use Rattle.critarea_core.specs.Rows.{IsReport}
-use Rattle.critarea_core.specs.Refusals.{usage, layout_limit, layout_too_long, of_layout_fault}
+use Rattle.critarea_core.specs.Refusals.{usage, map_limit, map_too_long, of_map_fault, map_not_supported, layout_limit, layout_too_long, of_layout_fault}
 use Rattle.critarea_core.specs.declared.fault.LayoutFault.TheVariants.{OtherForm}
 use Rattle.critarea_core.specs.declared.refusal.Refusal.{Refusal}
-use Rattle.critarea_core.specs.declared.shape.Shape.{Shape}
 
 -- what a report is on: the layer map, and the shapes of the layout
 pub record Subject : Type 0 where
   pub layer_map : LayerMap
   pub shapes : List Shape
 
--- the layer map of the task: for the areas of one metal it needs no text
-abbrev pub map_of : Task → LayerMap
-map_of (one_metal areas) = one_metal_map areas
-
--- the text is good so far, since it has at most so many bytes
+-- the same text, where it has at most so many bytes
 pub record IsShortEnough (limit : ℕ) (text same : List ℕ) : Type 0 where
   pub is_text : same ≡ text
   pub short : length text ≤ limit
 
--- the subject has the layer map of the task, and the shapes of the layout
-pub record IsSubject (task : Task) (layout : List ℕ) (subject : Subject) : Type 0 where
-  pub mapped : subject.layer_map ≡ map_of task
+-- what a layer map may not have yet: cuts, and terminals
+pub data SupportCheck : Type 0 where
+  has_no_cuts : SupportCheck
+  has_no_terminals : SupportCheck
+
+-- both, in their order
+abbrev pub support_checks : List SupportCheck
+support_checks = has_no_cuts ∷ has_no_terminals ∷ []
+
+-- what each demands of a layer map
+abbrev pub IsSupported : LayerMap → SupportCheck → Type 0
+IsSupported layer_map has_no_cuts = layer_map.cuts ≡ []
+IsSupported layer_map has_no_terminals = layer_map.terminals ≡ []
+
+-- the refusal that each gives where it fails
+abbrev pub not_supported : SupportCheck → Refusal
+not_supported has_no_cuts = map_not_supported cuts_path
+not_supported has_no_terminals = map_not_supported terminals_path
+
+-- a layer map that was read: whether it is supported
+abbrev pub ReadMapComesTo : LayerMap → Outcome LayerMap Refusal → Type 0
+ReadMapComesTo layer_map = Checks (IsSupported layer_map) support_checks not_supported (λ same. same ≡ layer_map)
+
+-- the text of a map that is short enough: what it says, and then whether that is supported
+abbrev pub ShortMapComesTo : List ℕ → Outcome LayerMap Refusal → Type 0
+ShortMapComesTo text = Then (Retold of_map_fault (document.MapComesTo text)) ReadMapComesTo
+
+-- the text of a map: first its length, and then what it says
+abbrev pub MapTextComesTo : List ℕ → Outcome LayerMap Refusal → Type 0
+MapTextComesTo bytes = Then (Reads (IsShortEnough map_limit bytes) map_too_long) ShortMapComesTo
+
+-- the layer map of a task, where this is the text of the map: that of one metal needs no text
+abbrev pub MapComesTo : Task → Option (List ℕ) → Outcome LayerMap Refusal → Type 0
+MapComesTo (OneMetal layout layer datatype radius) text outcome = outcome ≡ value (one_metal_map layer datatype radius)
+MapComesTo (Mapped layout map) text outcome = IsSomeAnd text (λ bytes. MapTextComesTo bytes outcome)
+
+-- the subject has this layer map, and the shapes of the layout
+pub record IsSubject (layer_map : LayerMap) (layout : List ℕ) (subject : Subject) : Type 0 where
+  pub mapped : subject.layer_map ≡ layer_map
   pub shaped : IsLayout layout subject.shapes
 
--- the words: a task, or they ask for nothing
-abbrev pub WordsComeTo : List (List ℕ) → Outcome Task Refusal → Type 0
+-- the words: a request, or they fit no form of the command
+abbrev pub WordsComeTo : List (List ℕ) → Outcome Request Refusal → Type 0
 WordsComeTo words = Reads (Ask words) usage
 
 -- the layout: first its length, and then its form
-abbrev pub LayoutComesTo : Task → List ℕ → Outcome Subject Refusal → Type 0
-LayoutComesTo task layout =
-    Then (Reads (IsShortEnough layout_limit layout) layout_too_long) (λ text. Retold of_layout_fault (Reads (IsSubject task text) OtherForm))
+abbrev pub LayoutComesTo : LayerMap → List ℕ → Outcome Subject Refusal → Type 0
+LayoutComesTo layer_map layout =
+    Then (Reads (IsShortEnough layout_limit layout) layout_too_long) (λ text. Retold of_layout_fault (Reads (IsSubject layer_map text) OtherForm))
 
--- the verdict: first the words, and then the layout, which is looked at only where the words are good
+-- the verdict: first the words, then the map, and then the layout, each of which is looked at only where what stands
+-- before it is good
 abbrev pub IsVerdict : List (List ℕ) → Input → Outcome Subject Refusal → Type 0
-IsVerdict words input = Then (WordsComeTo words) (λ task outcome. IsSomeAnd input.layout (λ layout. LayoutComesTo task layout outcome))
+IsVerdict words input =
+    Then (WordsComeTo words) (λ request. Then (MapComesTo request.task input.map)
+    (λ layer_map outcome. IsSomeAnd input.layout (λ layout. LayoutComesTo layer_map layout outcome)))
 
--- the layout is looked at: whatever is refused, the layout is at fault
-abbrev pub LookAtLayout : List (List ℕ) → Input → Type 0
-LookAtLayout words input = (refusal : Refusal) → IsVerdict words (record input { layout = None }) (refused refusal) → ⊥
+-- the layout is looked at: the words ask for something, and its map is good
+pub record IsLayoutLookedAt (words : List (List ℕ)) (input : Input) : Type 0 where
+  pub request : Request
+  pub asked : Ask words request
+  pub layer_map : LayerMap
+  pub good : MapComesTo request.task input.map (value layer_map)
 
 -- the input has each text that the words name and that is looked at
 abbrev pub HasTexts : List (List ℕ) → Input → Type 0
 HasTexts words input =
-    (task : Task) → Ask words task → IsThere (sources_of task).map input.map × (LookAtLayout words input → IsThere (sources_of task).layout input.layout)
+    (request : Request) → Ask words request
+    → IsThere (sources_of request.task).map input.map × (IsLayoutLookedAt words input → IsThere (sources_of request.task).layout input.layout)
 
 -- the text is the report on the subject
-abbrev pub IsReportOn : Subject → List ℕ → Type 0
-IsReportOn subject = IsReport subject.layer_map (coverage_of subject.layer_map subject.shapes)
+pub record IsReportOn (subject : Subject) (text : List ℕ) : Type 0 where
+  pub rows : List Row
+  pub are_rows : AreRows subject.layer_map (IsCoveredOn subject.layer_map subject.shapes) rows
+  pub is_text : text ≡ report_text subject.layer_map.letter rows

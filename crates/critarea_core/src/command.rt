@@ -1,96 +1,131 @@
-ghost use Rattle.std.specs.Prelude.{◌≡◌, ◌≤◌, ℕ, List, Err, length, string_bytes, IfOk};
-ghost use Rattle.critarea_core.specs.Finding.{IsFound};
+ghost use Rattle.std.specs.Prelude.{◌≡◌, ◌≤◌, ℕ, List, [], ◌∷◌, Err, length, All, IfOk};
+ghost use Rattle.edge_io.specs.Bytes.{Appends};
+ghost use Rattle.command_line.specs.Requests.{Ask};
+ghost use Rattle.layer_map.specs.MapView.{layer_map_of};
+ghost use Rattle.critarea_core.specs.Finding.{IsFound, IsReportFound};
+ghost use Rattle.critarea_core.specs.Input.{file, sources_of};
 ghost use Rattle.critarea_core.specs.Refusals.{layout_limit};
 ghost use Rattle.critarea_core.specs.Run.{EndsWith, IsComplete, StartsNamed, failures, output};
-ghost use Rattle.critarea_core.specs.Verdict.{IsReportOn, IsSubject, Subject};
-ghost use Rattle.critarea_core.specs.Views.{task_of};
+ghost use Rattle.critarea_core.specs.Verdict.{IsReportOn, IsSubject, IsSupported, Subject, support_checks};
 ghost use Rattle.critarea_core.specs.declared.fault.LayoutFault.TheVariants.{OtherForm};
 
-use super::area::{area_of_shorts, rects_on};
 use super::fault::LayoutFault;
 use super::layout::read_layout;
+use super::maps::map_for;
 use super::printing::print;
-use super::refusal::{LAYOUT_LIMIT, Refusal, USAGE};
-use super::report::report;
-use super::request::Request;
-use super::row::{Kind, Row};
+use super::refusal::{LAYOUT_LIMIT, LAYOUT_TOO_LONG, Refusal, USAGE};
 use super::unreported::Unreported;
-use super::window::window_of;
-use super::word::Word;
-use super::words::read_words;
+use command_line::{Request, Task, Word, WordsFault, read_words};
+use critical_areas::critical_areas;
 use edge_io::{Files, Sink, read_whole};
+use geo_core::Name;
+use layer_map::Map;
+use report::write_report;
 use std::alloc::Global;
 use std::thread::Threads;
 
-/// The name of the one metal.
-const METAL: &str = "m";
-
-/// The report of the layout with these bytes.
-fn report_of(alloc: Global, request: &Request<'_>, bytes: &[u8]) -> Result<String, LayoutFault>
-    requires { length bytes.now ≤ layout_limit }
+/// The report of the map on the layout with these bytes. The map has no cuts and no terminals.
+fn report_of_bytes(alloc: Global, map: &Map, bytes: &[u8]) -> Result<Vec<u8>, LayoutFault>
+    requires short { length bytes.now ≤ layout_limit }
+    requires supported { All (IsSupported (layer_map_of map.now)) support_checks }
     ensures report { IfOk result (λ text. (subject : Subject)
-        × IsSubject (task_of request.now) bytes.now subject × IsReportOn subject (string_bytes text)) }
-    ensures refused { result ≡ Err OtherForm → (subject : Subject) → IsSubject (task_of request.now) bytes.now subject → ⊥ }
+        × IsSubject (layer_map_of map.now) bytes.now subject × IsReportOn subject text.items) }
+    ensures refused { result ≡ Err OtherForm → (subject : Subject) → IsSubject (layer_map_of map.now) bytes.now subject → ⊥ }
 {
     let shapes = read_layout(alloc, bytes)?;
-    let rects = rects_on(alloc, shapes.as_slice(), request)?;
-    let window = window_of(rects.as_slice(), request.radius);
-    let area = area_of_shorts(alloc, rects.as_slice(), window, request.radius)?;
-    let short = Row {
-        kind: Kind::Short,
-        layer: METAL,
-        size: request.radius,
-        area,
-        weight: 1,
-    };
-    // No terminal stands on the metal, so nothing is parted.
-    let open = Row {
-        kind: Kind::Open,
-        layer: METAL,
-        size: request.radius,
-        area: 0,
-        weight: 1,
-    };
-    Ok(report(alloc, &[short, open])?)
+    let rows = critical_areas(alloc, map, shapes.as_slice())?;
+    let mut text = Vec::new(alloc);
+    write_report(alloc, rows.as_slice(), &mut text)?;
+    Ok(text)
 }
 
-/// The report that the words ask for, or why there is none.
-fn find<F: Files>(alloc: Global, words: &[Word], files: &mut F) -> Result<String, Unreported>
-    ensures found { IsFound words.now (F.holds files.old) (failures (F.faults files.old) (F.faults files.new)) result }
-    ensures started { StartsNamed words.now (F.holds files.old) (F.starts files.old) (F.starts files.new) }
-    ensures holds { (name : List ℕ) → F.holds files.new name ≡ F.holds files.old name }
+/// The report of the map on the layout in the file of this name, or why there is none.
+fn report_of_file<F: Files>(
+    alloc: Global,
+    map: &Map,
+    files: &mut F,
+    name: &[u8],
+) -> Result<Vec<u8>, Unreported>
+    requires supported { All (IsSupported (layer_map_of map.now)) support_checks }
+    ensures found { IsReportFound (F.holds files.old) (layer_map_of map.now) name.now
+        (failures (F.faults files.old) (F.faults files.new)) result }
+    ensures starts { Appends (F.starts files.old) (F.starts files.new) (name.now ∷ []) }
+    ensures holds { (n : List ℕ) → F.holds files.new n ≡ F.holds files.old n }
 {
-    let Some(request) = read_words(words) else {
-        return Err(Unreported::Refused(Refusal::of_words(USAGE, 0)));
-    };
-    let bytes = match read_whole(alloc, files, request.layout, LAYOUT_LIMIT) {
+    let bytes = match read_whole(alloc, files, name, LAYOUT_LIMIT) {
         Ok(bytes) => bytes,
-        Err(error) => return Err(Unreported::of_unread(error)),
+        Err(error) => {
+            let too_long = Refusal::of_layout(LAYOUT_TOO_LONG, LAYOUT_LIMIT as u64);
+            return Err(Unreported::of_unread(error, too_long));
+        }
     };
-    match report_of(alloc, &request, bytes.as_slice()) {
+    match report_of_bytes(alloc, map, bytes.as_slice()) {
         Ok(text) => Ok(text),
         Err(fault) => Err(Unreported::of_layout(fault)),
     }
 }
 
+/// The name of the layout's file.
+fn layout_of(task: &Task) -> &Name
+    ensures { (sources_of task.now).layout ≡ file result.now }
+{
+    match task {
+        Task::OneMetal { layout, .. } | Task::Mapped { layout, .. } => layout,
+    }
+}
+
+/// The report that is asked for, or why there is none. The map is read first, and the layout only where the map is good.
+fn report_of_request<F: Files>(
+    alloc: Global,
+    request: &Request,
+    files: &mut F,
+) -> Result<Vec<u8>, Unreported>
+    ensures found { (words : List (List ℕ)) → Ask words request.now →
+        IsFound words (F.holds files.old) (failures (F.faults files.old) (F.faults files.new)) result }
+    ensures started { (words : List (List ℕ)) → Ask words request.now →
+        StartsNamed words (F.holds files.old) (F.starts files.old) (F.starts files.new) }
+    ensures holds { (name : List ℕ) → F.holds files.new name ≡ F.holds files.old name }
+{
+    match map_for(alloc, request, files) {
+        Ok(map) => report_of_file(alloc, &map, files, layout_of(&request.task).as_slice()),
+        Err(why) => Err(why),
+    }
+}
+
+/// The report that the words ask for, or why there is none.
+fn find<F: Files>(alloc: Global, words: &[Word], files: &mut F) -> Result<Vec<u8>, Unreported>
+    ensures found { IsFound words.now (F.holds files.old) (failures (F.faults files.old) (F.faults files.new)) result }
+    ensures started { StartsNamed words.now (F.holds files.old) (F.starts files.old) (F.starts files.new) }
+    ensures holds { (name : List ℕ) → F.holds files.new name ≡ F.holds files.old name }
+{
+    match read_words(alloc, words) {
+        Ok(request) => report_of_request(alloc, &request, files),
+        Err(WordsFault::Usage) => Err(Unreported::Refused(Refusal::of_words(USAGE, 0))),
+        Err(WordsFault::Memory) => Err(Unreported::Memory),
+    }
+}
+
 /// Does what the words ask for, and answers the exit status.
 ///
-/// The words are those after the program's name: a layout's file, `--layer` with a number, `--datatype` with a number,
-/// `--radius` with a number, in this order. `files` gives the layout, `out` gets the report, and `err` the line of a
-/// refusal.
+/// The words are the arguments of the program, in any order: a layout's file, and either the options `layer`, `datatype`
+/// and `radius` or the option `map` with the file of a layer map. Both may have `tile` and `workers`, which change nothing
+/// yet. `files` gives the map and the layout, `out` gets the report, and `err` the line of a refusal.
 ///
 /// | why it ended | status | printed to `out` | printed to `err` |
 /// |---|---|---|---|
 /// | the report went out | 0 | the report | |
-/// | the words ask for nothing | 2 | | `error 2 at 0` |
+/// | the words fit no form of the command | 2 | | `error 2 at 0` |
+/// | the map is refused | 3 | | `error`, the number, `at`, the place |
 /// | the layout is refused | 4 | | `error`, the number, `at`, the place |
 /// | a file failed | 5 | | |
 /// | an output failed | 5 | the first part of the report, if it was `out` | the first part of the line, if it was `err` |
-/// | no memory was left | 6 | | |
+/// | out of memory | 6 | | |
 ///
-/// Nothing goes out before the report is complete, so a refused layout leaves `out` as it was. A refusal has number 9 at
-/// 268435456 where the layout has more bytes than that, and 60 at 0 where it is no library of one structure of
-/// rectangles.
+/// Nothing goes out before the report is complete, so a refused map or layout leaves `out` as it was. Where what the files
+/// tell of the map is refused, the layout's file is not started. A map's refusal has number 39 at 1048576 where the map has more bytes than
+/// that, one of 40 to 47 at a path of its document, and 60 at 6 or 7 where it has cuts or terminals, which are not
+/// supported yet. A layout's refusal has number 9 at 268435456 where the layout has more bytes than that, and 60 at 0 where it is
+/// no library of one structure of rectangles.
 pub fn run<F: Files, O: Sink, E: Sink>(
     _rt: &(impl Threads + Sync),
     alloc: Global,
@@ -104,7 +139,7 @@ pub fn run<F: Files, O: Sink, E: Sink>(
         (output (O.written out.old) (O.written out.new) (O.faults out.old) (O.faults out.new))
         (output (E.written err.old) (E.written err.new) (E.faults err.old) (E.faults err.new)) result }
 
-    // What is due comes out, unless something failed or no memory was left.
+    // What is due comes out, unless something failed or the run is out of memory. This follows from the status.
     ensures complete { IsComplete words.now (F.holds files.old) (failures (F.faults files.old) (F.faults files.new))
         (output (O.written out.old) (O.written out.new) (O.faults out.old) (O.faults out.new))
         (output (E.written err.old) (E.written err.new) (E.faults err.old) (E.faults err.new)) result }

@@ -16,15 +16,15 @@ pub enum LayoutFault {
     /// The layout is no library of one structure of rectangles.
     #[error("the layout is not a library of one structure of rectangles")]
     OtherForm,
-    /// No memory is left.
-    #[error("no memory is left")]
+    /// Out of memory.
+    #[error("out of memory")]
     Memory,
 }
 
 impl LayoutFault {
     ghost use Rattle.critarea_core.specs.LayoutFaults.{number_of, place_of};
 
-    /// What is wrong, as a number. That no memory is left says nothing of the layout, so it is 0 here and below.
+    /// What is wrong, as a number. Out of memory says nothing of the layout, so it is 0 here and below.
     pub fn number(&self) -> u8
         ensures { result ≡ number_of self.now }
     {

@@ -5,12 +5,6 @@ ghost use Rattle.first_refusal.specs.Laws.{IsUnique, CannotLack};
 ghost use Rattle.critarea_core.specs.Input.{Input};
 ghost use Rattle.critarea_core.specs.Layout.{IsLayout};
 ghost use Rattle.critarea_core.specs.Verdict.{HasTexts, IsReportOn, IsVerdict, Subject};
-ghost use Rattle.critarea_core.specs.Words.{Ask};
-
-/// Words ask for one thing at most.
-pub fn tasks_agree()
-    ensures { (words : List (List ℕ)) → IsUnique (Ask words) }
-{}
 
 /// Bytes are a layout of one list of shapes at most.
 pub fn layouts_agree()

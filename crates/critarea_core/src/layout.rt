@@ -6,19 +6,19 @@ ghost use Rattle.critarea_core.specs.Patterns.{Fits, five_points_pattern, head_p
 ghost use Rattle.critarea_core.specs.Layout.{IsLayout, Outlines, point_in};
 ghost use Rattle.critarea_core.specs.Taking.{DoesNotFollow, HasBoundaries, NoShapeFollows, NotAllFollow, StepsOver, TakesAll, TakesRecord, TakesShape};
 ghost use Rattle.critarea_core.specs.declared.fault.LayoutFault.TheVariants.{OtherForm};
-ghost use Rattle.critarea_core.specs.declared.shape.Shape.{Shape};
+ghost use Rattle.critical_areas.specs.declared.shape.Shape.{Shape};
 
 use super::fault::{LayoutFault, Misfit};
 use super::outline::outlined;
 use super::pattern::{
     BOUNDARY, DATATYPE, ENDEL, ENDLIB, ENDSTR, FIVE_POINTS, HEAD, LAYER, Pattern,
 };
-use super::shape::Shape;
+use critical_areas::Shape;
 use gds_records::{Record, Records, i32_at, u16_at};
 use geo_core::{Point, Rect};
 use std::alloc::Global;
 
-/// TakesRecords the next record, and gives it where it fits the pattern. Where it does not, the reader may have moved on.
+/// Takes the next record, and gives it where it fits the pattern. Where it does not, the reader may have moved on.
 fn take<'a>(records: &mut Records<'a>, pattern: &Pattern) -> Option<Record<'a>>
     ensures some { IfSome result (TakesRecord records.old records.new pattern.now) }
     ensures none { IfNone result (DoesNotFollow records.old pattern.now) }
@@ -32,7 +32,7 @@ fn take<'a>(records: &mut Records<'a>, pattern: &Pattern) -> Option<Record<'a>>
     Some(found)
 }
 
-/// TakesRecords the head of the library and of its structure, and answers whether it was there.
+/// Takes the head of the library and of its structure, and answers whether it was there.
 fn take_head(records: &mut Records<'_>) -> bool
     ensures { MatchBool result (TakesAll records.old records.new head_patterns) (NotAllFollow records.old head_patterns) }
 {
@@ -72,7 +72,7 @@ fn outlined_by(points: &Record<'_>) -> Option<Rect>
     )
 }
 
-/// TakesRecords the records of a rectangle behind BOUNDARY.
+/// Takes the records of a rectangle behind BOUNDARY.
 fn take_shape(records: &mut Records<'_>) -> Option<Shape>
     ensures { MatchOption result (NoShapeFollows records.old) (TakesShape records.old records.new) }
 {

@@ -12,7 +12,7 @@ const REPORTED: u8 = 0;
 /// The status where a file or an output failed.
 const FAILED: u8 = 5;
 
-/// The status where no memory was left.
+/// The status where the run is out of memory.
 const NO_MEMORY: u8 = 6;
 
 /// Prints the line of a refusal, and gives the status.
@@ -29,10 +29,10 @@ fn print_refusal<E: Sink>(alloc: Global, refusal: Refusal, err: &mut E) -> u8
 }
 
 /// Prints a report, and gives the status.
-fn print_report<O: Sink>(text: &str, out: &mut O) -> u8
+fn print_report<O: Sink>(text: &[u8], out: &mut O) -> u8
     ensures { ReportEnds text.now (output (O.written out.old) (O.written out.new) (O.faults out.old) (O.faults out.new)) result }
 {
-    match write_all(out, text.as_bytes()) {
+    match write_all(out, text) {
         Ok(()) => REPORTED,
         Err(Failed) => FAILED,
     }
@@ -41,7 +41,7 @@ fn print_report<O: Sink>(text: &str, out: &mut O) -> u8
 /// Prints the report, or the line of the refusal where there is none, and gives the status.
 pub fn print<O: Sink, E: Sink>(
     alloc: Global,
-    found: Result<String, Unreported>,
+    found: Result<Vec<u8>, Unreported>,
     out: &mut O,
     err: &mut E,
 ) -> u8
@@ -50,7 +50,7 @@ pub fn print<O: Sink, E: Sink>(
         (output (E.written err.old) (E.written err.new) (E.faults err.old) (E.faults err.new)) result }
 {
     match found {
-        Ok(text) => print_report(text.as_str(), out),
+        Ok(text) => print_report(text.as_slice(), out),
         Err(Unreported::Refused(refusal)) => print_refusal(alloc, refusal, err),
         Err(Unreported::FilesFailed) => FAILED,
         Err(Unreported::Memory) => NO_MEMORY,

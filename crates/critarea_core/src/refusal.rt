@@ -1,29 +1,38 @@
 use geo_core::NoMemory;
 use std::alloc::Global;
 
+/// The most bytes that a map may have.
+pub const MAP_LIMIT: usize = 1_048_576;
+
 /// The most bytes that a layout may have.
 pub const LAYOUT_LIMIT: usize = 268_435_456;
 
-/// The number of words that ask for nothing.
+/// The number of words that fit no form of the command.
 pub const USAGE: u8 = 2;
 
+/// The number of a map that has more bytes.
+pub const MAP_TOO_LONG: u8 = 39;
+
 /// The number of a layout that has more bytes.
-pub const TOO_LONG: u8 = 9;
+pub const LAYOUT_TOO_LONG: u8 = 9;
+
+/// The number of what is not supported yet.
+pub const NOT_SUPPORTED: u8 = 60;
 
 /// Why the input is refused, as it is printed, with the exit status that goes with it.
 #[derive(Clone, Copy, Debug, PartialEq, Eq)]
 pub struct Refusal {
-    /// 2 for words, 4 for layouts.
+    /// 2 for words, 3 for maps, 4 for layouts.
     pub status: u8,
     /// Which rule the input breaks.
     pub number: u8,
-    /// Where the input shows it: an offset in bytes, or a limit on a length, or 0.
+    /// Where the input shows it: a path of the map, an offset in bytes, a limit on a length, or 0.
     pub place: u64,
 }
 
 impl Refusal {
     ghost use Rattle.std.specs.Prelude.{◌≡◌, IfOk, string_bytes};
-    ghost use Rattle.critarea_core.specs.Refusals.{of_layout, of_words, refusal_text};
+    ghost use Rattle.critarea_core.specs.Refusals.{of_layout, of_map, of_words, refusal_text};
 
     /// A refusal of the words.
     pub fn of_words(number: u8, place: u64) -> Refusal
@@ -31,6 +40,17 @@ impl Refusal {
     {
         Refusal {
             status: 2,
+            number,
+            place,
+        }
+    }
+
+    /// A refusal of the map.
+    pub fn of_map(number: u8, place: u64) -> Refusal
+        ensures { result ≡ of_map number place }
+    {
+        Refusal {
+            status: 3,
             number,
             place,
         }

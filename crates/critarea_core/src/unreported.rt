@@ -1,7 +1,8 @@
 use super::fault::LayoutFault;
-use super::refusal::{LAYOUT_LIMIT, Refusal, TOO_LONG};
+use super::refusal::Refusal;
 use edge_io::ReadError;
 use geo_core::NoMemory;
+use layer_map::MapFault;
 use thiserror::Error;
 
 /// Why no report was made.
@@ -13,8 +14,8 @@ pub enum Unreported {
     /// A file is missing or could not be read.
     #[error("a file could not be read")]
     FilesFailed,
-    /// No memory is left.
-    #[error("no memory is left")]
+    /// Out of memory.
+    #[error("out of memory")]
     Memory,
 }
 
@@ -31,7 +32,17 @@ impl From<NoMemory> for Unreported {
 
 impl Unreported {
     ghost use Rattle.std.specs.Prelude.{◌≡◌};
-    ghost use Rattle.critarea_core.specs.Finding.{of_unfit_layout, of_unread_layout};
+    ghost use Rattle.critarea_core.specs.Finding.{of_bad_map, of_unfit_layout, of_unread};
+
+    /// Why there is no report where a map was not read.
+    pub fn of_map(fault: MapFault) -> Unreported
+        ensures { result ≡ of_bad_map fault }
+    {
+        match fault {
+            MapFault::Memory => Unreported::Memory,
+            _ => Unreported::Refused(Refusal::of_map(fault.number(), fault.place())),
+        }
+    }
 
     /// Why there is no report where a layout was not read.
     pub fn of_layout(fault: LayoutFault) -> Unreported
@@ -46,16 +57,13 @@ impl Unreported {
         }
     }
 
-    /// Why there is no report where the file of a layout was not read.
-    pub fn of_unread(error: ReadError) -> Unreported
-        ensures { result ≡ of_unread_layout error }
+    /// Why there is no report where a file was not read. `too_long` is the refusal of a file that is too long.
+    pub fn of_unread(error: ReadError, too_long: Refusal) -> Unreported
+        ensures { result ≡ of_unread too_long error }
     {
         match error {
             ReadError::Fault => Unreported::FilesFailed,
-            ReadError::TooLong => Unreported::Refused(Refusal::of_layout(
-                TOO_LONG,
-                LAYOUT_LIMIT as u64,
-            )),
+            ReadError::TooLong => Unreported::Refused(too_long),
             ReadError::Memory => Unreported::Memory,
         }
     }

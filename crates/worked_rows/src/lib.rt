@@ -8,6 +8,8 @@ mod large;
 #[cfg(test)]
 mod layouts;
 #[cfg(test)]
+mod maps;
+#[cfg(test)]
 mod outlines;
 #[cfg(test)]
 mod records;

@@ -54,7 +54,7 @@ fn two_bars_have_their_report(rt: HostRuntime) -> Result<(), Fail> {
 }
 
 /// The left one of the two bars.
-const LEFT: Plate = Plate {
+pub const LEFT: Plate = Plate {
     layer: 1,
     datatype: 0,
     x0: 0,
@@ -64,14 +64,14 @@ const LEFT: Plate = Plate {
 };
 
 /// The right one.
-const RIGHT: Plate = Plate {
+pub const RIGHT: Plate = Plate {
     x0: 14,
     x1: 24,
     ..LEFT
 };
 
 /// What lies between the two.
-const BETWEEN: Plate = Plate {
+pub const BETWEEN: Plate = Plate {
     x0: 10,
     x1: 14,
     ..LEFT

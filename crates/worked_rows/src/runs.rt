@@ -65,14 +65,16 @@ impl Failing {
     }
 }
 
-/// What a run is given: the command line after the program's name, with one space between two words, and a file `a` as
-/// the only one that is there.
+/// What a run is given: the command line after the program's name, with one space between two words, and the files that
+/// are there, `a` and `m`.
 #[derive(Clone, Copy)]
 pub struct Given<'a> {
     /// The command line.
     pub words: &'a str,
-    /// The bytes of the file.
+    /// The bytes of the file `a`.
     pub layout: &'a [u8],
+    /// The bytes of the file `m`.
+    pub map: &'a [u8],
     /// What fails.
     pub failing: Failing,
 }
@@ -95,6 +97,8 @@ pub enum Want {
     Short { radius: u32, area: u64 },
     /// The words are refused.
     BadWords,
+    /// The map is refused, and this is the line.
+    BadMap(&'static str),
     /// The layout is refused.
     BadLayout,
     /// A file or an output failed, and nothing was written.
@@ -114,6 +118,7 @@ impl Want {
                 (0, out, "")
             }
             Want::BadWords => (2, String::new(alloc), "error 2 at 0\n"),
+            Want::BadMap(line) => (3, String::new(alloc), *line),
             Want::BadLayout => (4, String::new(alloc), "error 60 at 0\n"),
             Want::Fault => (5, String::new(alloc), ""),
         };
@@ -125,11 +130,22 @@ impl Want {
     }
 }
 
-/// A run of these words on this layout, where nothing fails.
+/// A run of these words on this layout, where nothing fails. The map is empty.
 pub fn calm<'a>(words: &'a str, layout: &'a [u8]) -> Given<'a> {
     Given {
         words,
         layout,
+        map: b"",
+        failing: Failing::Nothing,
+    }
+}
+
+/// A run on this layout with this map, where nothing fails.
+pub fn mapped<'a>(layout: &'a [u8], map: &'a [u8]) -> Given<'a> {
+    Given {
+        words: "a --map m",
+        layout,
+        map,
         failing: Failing::Nothing,
     }
 }
@@ -146,11 +162,10 @@ pub fn words_of(alloc: Global, line: &str) -> Result<Vec<Word>, AllocError> {
     Ok(words)
 }
 
-/// The file `a` of these bytes. The calls of these numbers fail.
-fn file_a(alloc: Global, bytes: &[u8], fails: Vec<u64>) -> Result<MemFiles, AllocError> {
-    let name = Name::from_vec(Vec::from_slice(alloc, b"a")?);
-    let files = vec![in alloc; (name, Vec::from_slice(alloc, bytes)?)]?;
-    Ok(MemFiles::new(files, fails))
+/// A file with a name of one letter.
+fn file(alloc: Global, letter: u8, bytes: &[u8]) -> Result<(Name, Vec<u8>), AllocError> {
+    let name = Name::from_vec(Vec::from_slice(alloc, &[letter])?);
+    Ok((name, Vec::from_slice(alloc, bytes)?))
 }
 
 /// What a sink took, as text.
@@ -160,8 +175,10 @@ fn text_of(sink: MemSink) -> Result<String, Fail> {
 
 /// The files of the run.
 fn files_of(alloc: Global, given: &Given<'_>) -> Result<MemFiles, AllocError> {
-    let fails = given.failing.calls_of_files(alloc)?;
-    file_a(alloc, given.layout, fails)
+    let mut files = Vec::new(alloc);
+    files.push(file(alloc, b'a', given.layout)?)?;
+    files.push(file(alloc, b'm', given.map)?)?;
+    Ok(MemFiles::new(files, given.failing.calls_of_files(alloc)?))
 }
 
 /// What a run answers.

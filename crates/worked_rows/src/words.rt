@@ -1,10 +1,9 @@
 use super::layouts::TWO_BARS;
-use super::runs::{NO_SHORT, SHORT_32, Want, calm, expect};
+use super::runs::{NO_SHORT, RADIUS_3, SHORT_32, Want, calm, expect};
 use std::test::Fail;
 
-/// Command lines that do not have the one form: a file, and three options with a number each, in one order.
+/// Command lines that fit neither form.
 const OTHER_WORDS: &[&str] = &[
-    // too few words, too many, and others
     "",
     "a",
     "a --layer 1",
@@ -13,44 +12,15 @@ const OTHER_WORDS: &[&str] = &[
     "--layer 1 --datatype 0 --radius 3",
     "a --layer 1 --datatype 0 --radius 3 --map m",
     "a --layer 1 --datatype 0 --radius 3 b",
-    "a --layer 1 --datatype 0 --radius 3 ",
+    "--map m",
     "--tile 0",
     "--help",
-    "a --layer 1 --datatype 0 --Radius 3",
-    "a --layer 1 --datatype 0 -radius 3",
-    "a layer 1 datatype 0 radius 3",
-    "a --layer 1 --layer 1 --radius 3",
-    // another order
-    "a --radius 3 --layer 1 --datatype 0",
-    "a --datatype 0 --layer 1 --radius 3",
-    "--layer 1 --datatype 0 --radius 3 a",
-    // the name of a file is not empty, and does not begin with a dash
-    " --layer 1 --datatype 0 --radius 3",
-    "- --layer 1 --datatype 0 --radius 3",
-    "-a --layer 1 --datatype 0 --radius 3",
-    // a number has 1 to 10 digits and nothing else
-    "a --layer 00000000001 --datatype 0 --radius 3",
-    "a --layer 1 --datatype 00000000000 --radius 3",
-    "a --layer 1 --datatype 0 --radius 00000000003",
-    "a --layer 1 --datatype 0 --radius 12345678901",
-    "a --layer  --datatype 0 --radius 3",
-    "a --layer +1 --datatype 0 --radius 3",
-    "a --layer 1 --datatype -0 --radius 3",
-    "a --layer 1 --datatype 0 --radius +3",
-    "a --layer 1 --datatype 0 --radius -3",
-    "a --layer 0x1 --datatype 0 --radius 3",
-    "a --layer 1.0 --datatype 0 --radius 3",
-    "a --layer 1 --datatype 0 --radius 1_0",
-    "a --layer 1 --datatype 0 --radius \u{0663}",
-    // and lies within bounds, where no number wraps round
-    "a --layer 65536 --datatype 0 --radius 3",
-    "a --layer 65537 --datatype 0 --radius 3",
-    "a --layer 1 --datatype 65536 --radius 3",
-    "a --layer 4294967297 --datatype 0 --radius 3",
+    "a --layer 1 --layer 1 --datatype 0 --radius 3",
     "a --layer 1 --datatype 0 --radius 0",
     "a --layer 1 --datatype 0 --radius 1000001",
-    "a --layer 1 --datatype 0 --radius 4294967299",
-    "a --layer 1 --datatype 0 --radius 9999999999",
+    "a --layer 65536 --datatype 0 --radius 3",
+    "a --layer 1 --datatype 0 --radius 3 --top T",
+    "--generate 1",
 ];
 
 #[test]
@@ -67,10 +37,19 @@ fn other_words_are_refused(rt: HostRuntime) -> Result<(), Fail> {
     Ok(())
 }
 
-/// Command lines that have the one form, and what they are answered for the two bars.
+/// Command lines that ask for one metal, and what they are answered for the two bars.
 const WORDS: &[(&str, Want)] = &[
+    (RADIUS_3, SHORT_32),
+    // another order, the other spelling, both, and zeros in front
+    ("a --radius 3 --layer 1 --datatype 0", SHORT_32),
+    ("--layer 1 --datatype 0 --radius 3 a", SHORT_32),
+    ("--layer=1 --datatype=0 --radius=3 a", SHORT_32),
+    ("a --radius=3 --layer 1 --datatype 00", SHORT_32),
+    ("--layer 1 --datatype 0 --radius 0000000003 -- a", SHORT_32),
+    // the tiles and the workers change nothing
+    ("a --layer 1 --datatype 0 --radius 3 --tile 1", SHORT_32),
     (
-        "a --layer 0000000001 --datatype 0000000000 --radius 0000000003",
+        "a --workers 64 --layer 1 --datatype 0 --radius 3 --tile=7",
         SHORT_32,
     ),
     // no shape is on the greatest layer, nor on the greatest datatype
@@ -80,6 +59,9 @@ const WORDS: &[(&str, Want)] = &[
     ("b --layer 1 --datatype 0 --radius 3", Want::Fault),
     ("A --layer 1 --datatype 0 --radius 3", Want::Fault),
     ("aa --layer 1 --datatype 0 --radius 3", Want::Fault),
+    ("- --layer 1 --datatype 0 --radius 3", Want::Fault),
+    ("--layer 1 --datatype 0 --radius 3 -- -a", Want::Fault),
+    ("a --map b", Want::Fault),
 ];
 
 #[test]

@@ -1,6 +1,6 @@
 use Rattle.std.proofs.Common.{◌≡◌, ◌-◌, ◌++◌, List, length}
 use Rattle.critarea_core.specs.Taking.{HasBoundaries}
-use Rattle.critarea_core.specs.declared.shape.Shape.{Shape}
+use Rattle.critical_areas.specs.declared.shape.Shape.{Shape}
 use Rattle.critarea_core.proofs.layout.shapes_of.Given as goal
 
 abbrev pub invariant-loop-shapes : goal.invariant-loop-shapes

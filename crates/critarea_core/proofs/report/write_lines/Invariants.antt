@@ -1,8 +1,0 @@
-use Rattle.std.proofs.Common.{codes, ◌≡◌, ◌++◌, take, string_bytes}
-use Rattle.std.specs.List.{flat_map}
-use Rattle.critarea_core.specs.Report.{line_text}
-use Rattle.critarea_core.specs.Views.{rows_of}
-use Rattle.critarea_core.proofs.report.write_lines.Given as goal
-
-abbrev pub invariant-loop-row : goal.invariant-loop-row
-invariant-loop-row l = string_bytes l.text ≡ string_bytes l.fn.text ++ flat_map (line_text (codes "r")) (rows_of (take l.row-index l.rows))

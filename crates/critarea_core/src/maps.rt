@@ -1,0 +1,66 @@
+ghost use Rattle.std.specs.Prelude.{◌≡◌, ℕ, List, [], ◌∷◌};
+ghost use Rattle.edge_io.specs.Bytes.{Appends};
+ghost use Rattle.command_line.specs.declared.task.Task.TheVariants.{Mapped};
+ghost use Rattle.critarea_core.specs.Finding.{IsMapFound, IsMapRead};
+ghost use Rattle.critarea_core.specs.Input.{file_name_of, sources_of};
+ghost use Rattle.critarea_core.specs.Run.{failures};
+
+use super::refusal::{MAP_LIMIT, MAP_TOO_LONG, NOT_SUPPORTED, Refusal};
+use super::unreported::Unreported;
+use command_line::{Request, Task};
+use edge_io::{Files, read_whole};
+use layer_map::paths::{CUTS, TERMINALS};
+use layer_map::{Map, one_metal, read_map};
+use std::alloc::Global;
+
+/// The map that the bytes say, where it has no cuts and no terminals, which are not supported yet.
+fn supported_map(alloc: Global, bytes: &[u8]) -> Result<Map, Unreported>
+    ensures { IsMapRead bytes.now result }
+{
+    let map = match read_map(alloc, bytes) {
+        Ok(map) => map,
+        Err(fault) => return Err(Unreported::of_map(fault)),
+    };
+    if !map.cuts.as_slice().is_empty() {
+        return Err(Unreported::Refused(Refusal::of_map(NOT_SUPPORTED, u64::from(CUTS))));
+    }
+    if !map.terminals.as_slice().is_empty() {
+        return Err(Unreported::Refused(Refusal::of_map(NOT_SUPPORTED, u64::from(TERMINALS))));
+    }
+    Ok(map)
+}
+
+/// The map in the file of this name, or why there is none.
+fn map_in<F: Files>(alloc: Global, files: &mut F, name: &[u8]) -> Result<Map, Unreported>
+    ensures found { (layout : List ℕ) → IsMapFound (F.holds files.old) (Mapped layout name.now)
+        (failures (F.faults files.old) (F.faults files.new)) result }
+    ensures starts { Appends (F.starts files.old) (F.starts files.new) (name.now ∷ []) }
+    ensures holds { (n : List ℕ) → F.holds files.new n ≡ F.holds files.old n }
+{
+    let bytes = match read_whole(alloc, files, name, MAP_LIMIT) {
+        Ok(bytes) => bytes,
+        Err(error) => {
+            let too_long = Refusal::of_map(MAP_TOO_LONG, MAP_LIMIT as u64);
+            return Err(Unreported::of_unread(error, too_long));
+        }
+    };
+    supported_map(alloc, bytes.as_slice())
+}
+
+/// The map that is asked for, or why there is none: that of one metal is made, and any other is in the file that is
+/// named.
+pub fn map_for<F: Files>(alloc: Global, request: &Request, files: &mut F) -> Result<Map, Unreported>
+    ensures found { IsMapFound (F.holds files.old) request.now.task (failures (F.faults files.old) (F.faults files.new)) result }
+    ensures starts { Appends (F.starts files.old) (F.starts files.new) (file_name_of (sources_of request.now.task).map) }
+    ensures holds { (name : List ℕ) → F.holds files.new name ≡ F.holds files.old name }
+{
+    match &request.task {
+        Task::OneMetal {
+            layer,
+            datatype,
+            radius,
+            ..
+        } => Ok(one_metal(alloc, *layer, *datatype, *radius)?),
+        Task::Mapped { map, .. } => map_in(alloc, files, map.as_slice()),
+    }
+}

@@ -1,0 +1,10 @@
+pub mod ListLaws
+pub mod MappedLaws
+pub mod WindowLaws
+pub mod SizeLaws
+pub mod PieceLaws
+pub mod GainLaws
+pub mod FaultLaws
+pub mod QuestionLaws
+pub mod RowLaws
+pub mod UniqueLaws

@@ -1,0 +1,5 @@
+use Rattle.critical_areas.proofs.UniqueLaws.{rows_agree}
+use Rattle.critical_areas.proofs.laws.rows_agree.Goals as goal
+
+pub returns : goal.returns
+returns g c layer_map = rows_agree layer_map g.L.Layout.covers

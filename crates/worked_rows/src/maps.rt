@@ -1,0 +1,207 @@
+use super::layouts::{Plate, TWO_BARS, plates};
+use super::rows::{BETWEEN, LEFT, RIGHT};
+use super::runs::{Answer, Failing, Given, Want, expect, mapped, run_on};
+use std::alloc::Global;
+use std::process::Abort;
+use std::test::Fail;
+use std::thread::Threads;
+
+/// Asserts the report of the rectangles with this map, byte for byte.
+fn expect_report(
+    rt: &(impl Threads + Sync + Abort),
+    alloc: Global,
+    shapes: &[Plate],
+    map: &[u8],
+    text: &str,
+) -> Result<(), Fail> {
+    let layout = plates(alloc, shapes)?;
+    let want = Answer {
+        status: 0,
+        out: String::from_str(alloc, text)?,
+        err: String::new(alloc),
+    };
+    assert_eq!(rt; run_on(rt, alloc, &mapped(layout.as_slice(), map))?, want);
+    Ok(())
+}
+
+/// Each radius has its own weight, and all shorts stand before all opens.
+#[test]
+fn sizes_have_weights(rt: HostRuntime) -> Result<(), Fail> {
+    expect_report(
+        &rt,
+        rt.alloc(),
+        &[LEFT, RIGHT],
+        b"version = 1\nradii = [2, 3]\nweights = [10, 1]\n[[metal]]\nname = \"m1\"\npairs = [[1, 0]]\n",
+        "short m1 r=2 area=0 weight=10 sum=0\n\
+         short m1 r=3 area=32 weight=1 sum=32\n\
+         open m1 r=2 area=0 weight=10 sum=0\n\
+         open m1 r=3 area=0 weight=1 sum=0\n\
+         total short 32\n\
+         total open 0\n\
+         total via 0\n\
+         total 32\n",
+    )
+}
+
+/// Two metals, each of one layer.
+const TWO_METALS: &[u8] = b"\
+    version = 1\n\
+    radii = [2, 3]\n\
+    weights = [10, 1]\n\
+    [[metal]]\n\
+    name = \"m1\"\n\
+    pairs = [[1, 0]]\n\
+    [[metal]]\n\
+    name = \"m2\"\n\
+    pairs = [[3, 0]]\n";
+
+/// Two squares of the second metal, 3 cells apart.
+const SECOND: Plate = Plate {
+    layer: 3,
+    datatype: 0,
+    x0: 40,
+    x1: 50,
+    y0: 0,
+    y1: 10,
+};
+
+const THIRD: Plate = Plate {
+    layer: 3,
+    datatype: 0,
+    x0: 53,
+    x1: 63,
+    y0: 0,
+    y1: 10,
+};
+
+/// For the second metal column 51 of rows -2 to 11 is near both squares at radius 2, and columns 50 to 52 of rows -3 to 12
+/// are at radius 3. What the second metal has between the bars of the first joins them as little as the bars join it.
+#[test]
+fn metals_are_judged_by_themselves(rt: HostRuntime) -> Result<(), Fail> {
+    let between = Plate {
+        layer: 3,
+        ..BETWEEN
+    };
+    expect_report(
+        &rt,
+        rt.alloc(),
+        &[THIRD, RIGHT, between, LEFT, SECOND],
+        TWO_METALS,
+        "short m1 r=2 area=0 weight=10 sum=0\n\
+         short m1 r=3 area=32 weight=1 sum=32\n\
+         short m2 r=2 area=14 weight=10 sum=140\n\
+         short m2 r=3 area=48 weight=1 sum=48\n\
+         open m1 r=2 area=0 weight=10 sum=0\n\
+         open m1 r=3 area=0 weight=1 sum=0\n\
+         open m2 r=2 area=0 weight=10 sum=0\n\
+         open m2 r=3 area=0 weight=1 sum=0\n\
+         total short 220\n\
+         total open 0\n\
+         total via 0\n\
+         total 220\n",
+    )
+}
+
+/// All pairs of a metal are one metal: the bar between the two joins them. The names are those of the map, and a weight
+/// may be 0.
+#[test]
+fn pairs_of_a_metal_are_one_metal(rt: HostRuntime) -> Result<(), Fail> {
+    let between = Plate {
+        datatype: 20,
+        ..BETWEEN
+    };
+    expect_report(
+        &rt,
+        rt.alloc(),
+        &[LEFT, between, RIGHT],
+        b"version = 1\nradii = [3]\nweights = [0]\nmetal = [{ pairs = [[1, 20], [1, 0]], name = \"Metal_1\" }]\n",
+        "short Metal_1 r=3 area=0 weight=0 sum=0\n\
+         open Metal_1 r=3 area=0 weight=0 sum=0\n\
+         total short 0\n\
+         total open 0\n\
+         total via 0\n\
+         total 0\n",
+    )
+}
+
+/// Maps that are refused, and the line.
+const BAD_MAPS: &[(&[u8], Want)] = &[
+    (b"x", Want::BadMap("error 40 at 0\n")),
+    (b"\xff", Want::BadMap("error 40 at 0\n")),
+    (b"", Want::BadMap("error 42 at 2\n")),
+    (b"q = 1", Want::BadMap("error 41 at 1\n")),
+    (b"version = 3", Want::BadMap("error 42 at 2\n")),
+    (b"version = 1", Want::BadMap("error 42 at 3\n")),
+    // a cut, a terminal, and both, which are not built yet
+    (
+        b"version=1\nradii=[3]\nweights=[1]\nmetal=[{name=\"a\",pairs=[[1,0]]},{name=\"b\",pairs=[[2,0]]}]\n\
+          cut=[{name=\"c\",pairs=[[3,0]],lower=\"a\",upper=\"b\"}]\n",
+        Want::BadMap("error 60 at 6\n"),
+    ),
+    (
+        b"version=1\nradii=[3]\nweights=[1]\nmetal=[{name=\"a\",pairs=[[1,0]]}]\n\
+          terminal=[{metal=\"a\",x=0,y=0}]\n",
+        Want::BadMap("error 60 at 7\n"),
+    ),
+    (
+        b"version=1\nradii=[3]\nweights=[1]\nmetal=[{name=\"a\",pairs=[[1,0]]},{name=\"b\",pairs=[[2,0]]}]\n\
+          cut=[{name=\"c\",pairs=[[3,0]],lower=\"a\",upper=\"b\"}]\n\
+          terminal=[{metal=\"a\",x=0,y=0}]\n",
+        Want::BadMap("error 60 at 6\n"),
+    ),
+    // a fault of a cut before it is told that cuts are not built
+    (
+        b"version=1\nradii=[3]\nweights=[1]\nmetal=[{name=\"a\",pairs=[[1,0]]},{name=\"b\",pairs=[[2,0]]}]\n\
+          cut=[{name=\"c\",pairs=[[3,0]],lower=\"d\",upper=\"b\"}]\n",
+        Want::BadMap("error 45 at 303\n"),
+    ),
+];
+
+/// A refused map comes before the layout, which is not looked at: here it is no layout, and the fourth call of the files,
+/// which would start it, fails.
+#[test]
+fn bad_maps_are_refused(rt: HostRuntime) -> Result<(), Fail> {
+    for (map, want) in BAD_MAPS {
+        let given = Given {
+            words: "a --map m",
+            layout: b"",
+            map,
+            failing: Failing::Files(3),
+        };
+        expect(&rt, rt.alloc(), &given, *want, map)?;
+    }
+    Ok(())
+}
+
+/// A map of 1,048,576 bytes is read, and found to be none. With one byte more it is too long.
+#[test]
+fn maps_are_as_long_as_the_limit(rt: HostRuntime) -> Result<(), Fail> {
+    let mut map = vec![in rt.alloc(); b'x'; 1_048_576]?;
+    expect(
+        &rt,
+        rt.alloc(),
+        &mapped(TWO_BARS, map.as_slice()),
+        Want::BadMap("error 40 at 0\n"),
+        &"limit",
+    )?;
+    map.push(b'x')?;
+    expect(
+        &rt,
+        rt.alloc(),
+        &mapped(TWO_BARS, map.as_slice()),
+        Want::BadMap("error 39 at 1048576\n"),
+        &"past the limit",
+    )
+}
+
+/// With a good map the layout is judged as ever.
+#[test]
+fn bad_layouts_are_refused_behind_good_maps(rt: HostRuntime) -> Result<(), Fail> {
+    expect(
+        &rt,
+        rt.alloc(),
+        &mapped(b"", TWO_METALS),
+        Want::BadLayout,
+        &"empty",
+    )
+}
