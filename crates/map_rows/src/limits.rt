@@ -91,74 +91,52 @@ fn comes_to(alloc: Global, counts: Counts, want: (u8, u64)) -> bool {
     }
 }
 
+/// Maps by how many they have of each thing, and what they come to.
+const LIMITS: &[(Counts, (u8, u64))] = &[
+    (LEAST, (0, 0)),
+    (MOST, (0, 0)),
+    (Counts { radii: 0, ..LEAST }, (42, 3)),
+    (Counts { radii: 33, ..LEAST }, (47, 3)),
+    (Counts { metals: 0, ..LEAST }, (42, 5)),
+    (
+        Counts {
+            metals: 17,
+            ..LEAST
+        },
+        (47, 5),
+    ),
+    (Counts { pairs: 0, ..LEAST }, (42, 102)),
+    (Counts { pairs: 17, ..LEAST }, (42, 102)),
+    (Counts { cuts: 17, ..LEAST }, (47, 6)),
+    (
+        Counts {
+            terminals: 10_001,
+            ..LEAST
+        },
+        (47, 7),
+    ),
+    // the earlier limit of two that are passed
+    (
+        Counts {
+            radii: 33,
+            metals: 17,
+            ..LEAST
+        },
+        (47, 3),
+    ),
+    (
+        Counts {
+            cuts: 17,
+            terminals: 10_001,
+            ..LEAST
+        },
+        (47, 6),
+    ),
+];
+
 #[test]
 fn limits_are_kept(rt: HostRuntime) {
-    let cases = [
-        (LEAST, (0, 0)),
-        (MOST, (0, 0)),
-        (Counts { radii: 0, ..LEAST }, (42, 3)),
-        (Counts { radii: 33, ..LEAST }, (47, 3)),
-        (Counts { metals: 0, ..LEAST }, (42, 5)),
-        (
-            Counts {
-                metals: 17,
-                ..LEAST
-            },
-            (47, 5),
-        ),
-        (Counts { pairs: 0, ..LEAST }, (42, 102)),
-        (Counts { pairs: 17, ..LEAST }, (42, 102)),
-        (Counts { cuts: 17, ..LEAST }, (47, 6)),
-        (
-            Counts {
-                terminals: 10_001,
-                ..LEAST
-            },
-            (47, 7),
-        ),
-        // the earlier limit of two that are passed
-        (
-            Counts {
-                radii: 33,
-                metals: 17,
-                ..LEAST
-            },
-            (47, 3),
-        ),
-        (
-            Counts {
-                cuts: 17,
-                terminals: 10_001,
-                ..LEAST
-            },
-            (47, 6),
-        ),
-    ];
-    for (counts, want) in cases {
-        assert!(rt; comes_to(rt.alloc(), counts, want));
+    for (counts, want) in LIMITS {
+        assert!(rt; comes_to(rt.alloc(), *counts, *want));
     }
-}
-
-/// Whether a metal's name of so many bytes is read, or else its fault is this.
-fn name_comes_to(alloc: Global, count: usize, want: (u8, u64)) -> bool {
-    let name = "abcdefghijklmnopqrstuvwxyz_0123456789";
-    if count > name.len() {
-        return false;
-    }
-    let text = format!(in alloc;
-        "version = 1\nradii = [1]\nweights = [1]\n[[metal]]\nname = \"{}\"\npairs = [[0, 0]]\n",
-        name.get(..count).unwrap_or("")
-    );
-    match text {
-        Ok(text) => outcome(alloc, text.as_bytes()) == want,
-        Err(_) => false,
-    }
-}
-
-#[test]
-fn names_have_at_most_32_bytes(rt: HostRuntime) {
-    assert!(rt; name_comes_to(rt.alloc(), 0, (42, 101)));
-    assert!(rt; name_comes_to(rt.alloc(), 1, (0, 0)));
-    assert!(rt; name_comes_to(rt.alloc(), 32, (0, 0)));
-    assert!(rt; name_comes_to(rt.alloc(), 33, (42, 101)));
 }
