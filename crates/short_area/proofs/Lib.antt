@@ -1,5 +1,5 @@
-pub mod MeasureLaws
+pub mod TallyParts
 pub mod PlaceLaws
 pub mod LabelLaws
-pub mod RectLaws
-pub mod AreaLaws
+pub mod NearLaws
+pub mod SizeLaws

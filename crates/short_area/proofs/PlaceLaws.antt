@@ -1,91 +1,104 @@
--- places that a rectangle is near, and lists of pieces that are read piece by piece
-use Rattle.std.proofs.Common.{ℕ, ◌+◌, ◌<◌, ◌≤◌, ◌≡◌, sym, subst, List, [], ◌∷◌, ◌++◌, length, take, get_or, arith}
-use Rattle.std.specs.Prelude.{ℤ, ◌≤ℤ◌, ◌<ℤ◌, All, Contains}
-use Rattle.std.specs.Int.{int_min}
-use Rattle.std.proofs.lemmas.Int.{ints, clamps}
-use Rattle.std.proofs.lemmas.List.Elements.{All-weaker, All-push, All-contains, All-nil, Contains-get_or, Contains-append_left, Contains-push}
-use Rattle.geo_core.specs.Intervals.{IsIn}
-use Rattle.geo_core.specs.declared.axis.Axis.{Axis}
-use Rattle.geo_core.specs.declared.plane.Labelled.{Labelled}
-use Rattle.short_area.specs.Places.{IsNearAlong, AllOrNone, all, none, ArePlacesAlike, ArePiecesNear}
+-- places that a rectangle is near, and rectangles by their columns and rows
+use Rattle.std.proofs.Common.{ℕ, ◌+◌, ◌≤◌, ◌<◌, ◌≡◌, subst, List, length, take, get_or, arith, inl, inr, ◌⊎◌}
+use Rattle.std.specs.Prelude.{ℤ, pos, ◌+ℤ◌, ◌-ℤ◌, ◌≤ℤ◌, ◌<ℤ◌, ◌↔◌, Option, Some, None, IfNone, IfSome}
 use Rattle.paths.proofs.ListLaws.{All-read, All-read_all}
+use Rattle.std.proofs.lemmas.Int.{ints, by_lt_z}
+use Rattle.geo_core.specs.Intervals.{IsIn}
+use Rattle.geo_core.proofs.IntervalLaws.{overlapping, ends_in, in_ends}
+use Rattle.geo_core.specs.declared.axis.Axis.{Axis}
+use Rattle.geo_core.specs.declared.axis.Axis.TheVariants.{X, Y}
+use Rattle.geo_core.specs.Axes.{low_along, high_along}
+use Rattle.geo_core.specs.declared.plane.Labelled.{Labelled}
+use Rattle.geo_core.specs.declared.plane.Rect.{Rect}
+use Rattle.short_area.specs.Places.{IsNearAlong, IsNearPlaces, IsBetween, AllOrNone, all, none, ArePiecesAlike}
+use Rattle.short_area.specs.Windows.{IsNearWindow, AreParts}
+use Rattle.short_area.specs.declared.places.Extent.{Extent}
+use Rattle.short_area.specs.declared.places.Extent.TheVariants.{Part, Whole}
 
 -- ---- in one dimension
 
--- the lesser of two numbers that are above a third
-pub above_min : (a x y m : ℤ) → m ≡ int_min x y → a <ℤ x → a <ℤ y → a <ℤ m
-above_min a x y m e h k = omega (arith, ints, clamps)
+-- where neither end of an interval lies between two numbers, the numbers from the one to before the other are all in
+-- the interval, or none is
+pub alike_between : (low high start end : ℤ) → (IsBetween start end low → ⊥) → (IsBetween start end high → ⊥) → AllOrNone (IsIn low high) start end
+alike_between low high start end p q = by_lt_z start low
+    (λ a. none (λ x i k. let b = i.before in let d = k.from in absurd (p (record { above = a; below = omega (arith, ints) }))))
+    (λ a. by_lt_z high end
+    (λ b. none (λ x i k. let d = i.from in let e = k.before in absurd (q (record { above = omega (arith, ints); below = b }))))
+    (λ b. all (λ x i. let d = i.from in let e = i.before in record { from = omega (arith, ints); before = omega (arith, ints) })))
 
--- the numbers from `start` to before `end` are all in an interval, or none is, where no end of it lies between
-module _ (low high start end : ℤ) where
-  pub below : end ≤ℤ low → AllOrNone (IsIn low high) start end
-  below h = none (λ x k i. let a = k.before in let b = i.from in absurd (omega (arith, ints)))
+-- a rectangle's places along an axis, moved out, and those of a window
+module _ (rect : Rect) (axis : Axis) (radius : ℕ) (start end : ℤ) (some : start <ℤ end) where
+  some_along : (which : Axis) → low_along which rect <ℤ high_along which rect
+  some_along X = rect.across.some
+  some_along Y = rect.up.some
 
-  pub inside : low ≤ℤ start → end ≤ℤ high → AllOrNone (IsIn low high) start end
-  inside h k = all (λ x i. let a = i.from in let b = i.before in record { from = omega (arith, ints); before = omega (arith, ints) })
+  pub near_part : ((start <ℤ (high_along axis rect +ℤ pos radius)) × ((low_along axis rect -ℤ pos radius) <ℤ end)) ↔ IsNearPlaces Part rect axis radius start end
+  near_part = let h = some_along axis in overlapping start end (low_along axis rect -ℤ pos radius) (high_along axis rect +ℤ pos radius) some (omega (arith, ints))
 
-  pub above : high ≤ℤ start → AllOrNone (IsIn low high) start end
-  above h = none (λ x k i. let a = k.from in let b = i.before in absurd (omega (arith, ints)))
+  pub near_all : (((low_along axis rect -ℤ pos radius) ≤ℤ start) × (end ≤ℤ (high_along axis rect +ℤ pos radius))) ↔ IsNearPlaces Whole rect axis radius start end
+  near_all = (
+    λ h. in_ends start end (low_along axis rect -ℤ pos radius) (high_along axis rect +ℤ pos radius) h.0 h.1,
+    λ part. ends_in start end (low_along axis rect -ℤ pos radius) (high_along axis rect +ℤ pos radius) some part,
+  )
 
-module _ {P : ℤ → Type 0} {start end : ℤ} where
-  -- what holds of one of the numbers holds of each
-  one_for_all : AllOrNone P start end → (x y : ℤ) → IsIn start end x → IsIn start end y → P x → P y
-  one_for_all (all f) x y h k p = f y k
-  one_for_all (none f) x y h k p = absurd (f x h p)
+-- what holds of one of the numbers holds of each
+pub one_for_all : {P : ℤ → Type 0} {start end : ℤ} → AllOrNone P start end → (x y : ℤ) → IsIn start end x → IsIn start end y → P x → P y
+one_for_all (all f) x y h k p = f y k
+one_for_all (none f) x y h k p = absurd (f x h p)
 
-  -- and it holds of fewer numbers too
-  pub up_to : AllOrNone P start end → (less : ℤ) → less ≤ℤ end → AllOrNone P start less
-  up_to (all f) less h = all (λ x i. let b = i.before in f x (record { from = i.from; before = omega (arith, ints) }))
-  up_to (none f) less h = none (λ x i. let b = i.before in f x (record { from = i.from; before = omega (arith, ints) }))
+-- ---- columns and rows together
+
+-- a rectangle is near a window where it is near its columns and near its rows
+pub near_window : (extent : Extent) (rect window : Rect) (radius : ℕ) → IsNearPlaces extent rect X radius window.x0 window.x1 → IsNearPlaces extent rect Y radius window.y0 window.y1 → IsNearWindow extent rect window radius
+near_window Part rect window radius h k = (record { i = h.0; j = k.0 }, record { across = h.1; up = k.1 }, record { across = h.2; up = k.2 })
+near_window Whole rect window radius h k = λ c at. record { across = h c.i at.across; up = k c.j at.up }
+
+pub near_columns : (extent : Extent) (rect window : Rect) (radius : ℕ) → IsNearWindow extent rect window radius → IsNearPlaces extent rect X radius window.x0 window.x1
+near_columns Part rect window radius n = (n.0.i, n.1.across, n.2.across)
+near_columns Whole rect window radius n =
+    let some = window.up.some in
+    let bottom : IsIn window.y0 window.y1 window.y0 = record { from = omega (arith, ints); before = some } in
+    λ i at. (n (record { i = i; j = window.y0 }) (record { across = at; up = bottom })).across
+
+pub near_rows : (extent : Extent) (rect window : Rect) (radius : ℕ) → IsNearWindow extent rect window radius → IsNearPlaces extent rect Y radius window.y0 window.y1
+near_rows Part rect window radius n = (n.0.j, n.1.up, n.2.up)
+near_rows Whole rect window radius n =
+    let some = window.across.some in
+    let left : IsIn window.x0 window.x1 window.x0 = record { from = omega (arith, ints); before = some } in
+    λ j at. (n (record { i = window.x0; j = j }) (record { across = left; up = at })).up
+
+-- a rectangle that is near some of the columns and some of the rows, and near no column or row without the others
+pub near_whole : (rect window : Rect) (radius : ℕ) → ((axis : Axis) → AllOrNone (IsNearAlong rect axis radius) (low_along axis window) (high_along axis window)) → IsNearWindow Part rect window radius → IsNearWindow Whole rect window radius
+near_whole rect window radius alike n c at = record {
+  across = one_for_all (alike X) n.0.i c.i n.1.across at.across n.2.across;
+  up = one_for_all (alike Y) n.0.j c.j n.1.up at.up n.2.up;
+}
+
+-- what holds along both axes, in either order, holds along each
+pub each_axis : {A : Type 0} (Q : Axis → Type 0) (order : Axis × Axis) (found : Option A) → (order ≡ (X, Y)) ⊎ (order ≡ (Y, X)) → Q order.0 → IfNone found (Q order.1) → IfNone found ((axis : Axis) → Q axis)
+each_axis Q order (Some x) either p q = tt
+each_axis Q order None (inl e) p q = λ axis. elim axis as Q [ X ↦ subst (λ (o : Axis × Axis). Q o.0) e p | Y ↦ subst (λ (o : Axis × Axis). Q o.1) e q ]
+each_axis Q order None (inr e) p q = λ axis. elim axis as Q [ X ↦ subst (λ (o : Axis × Axis). Q o.1) e q | Y ↦ subst (λ (o : Axis × Axis). Q o.0) e p ]
+
+-- parts along this axis are parts along some axis
+pub some_axis : (axis : Axis) (window : Rect) (found : Option (Rect × Rect)) → IfSome found (λ parts. AreParts axis window parts.0 parts.1) → IfSome found (λ parts. (a : Axis) × AreParts a window parts.0 parts.1)
+some_axis axis window None parts = tt
+some_axis axis window (Some x) parts = (axis, parts)
 
 -- ---- pieces, one more at a time
 
-module _ (pieces : List Labelled) (axis : Axis) (radius : ℕ) (start : ℤ) where
-  abbrev IsAlike : ℤ → Labelled → Type 0
-  IsAlike end piece = AllOrNone (IsNearAlong piece.rect axis radius) start end
+-- no change of the first pieces was found, and neither of the next one's changes lies between the ends
+pub alike_more : (pieces : List Labelled) (axis : Axis) (radius : ℕ) (start end : ℤ) (k : ℕ) (piece : Labelled) (from before : ℤ) (found next last : Option ℤ)
+    → k < length pieces → piece ≡ get_or pieces k piece → from ≡ low_along axis piece.rect -ℤ pos radius → before ≡ high_along axis piece.rect +ℤ pos radius
+    → IfNone found (ArePiecesAlike (take k pieces) axis radius start end) → IfNone next (found ≡ None) → IfNone next (IsBetween start end from → ⊥) → IfNone last (next ≡ None) → IfNone last (IsBetween start end before → ⊥)
+    → IfNone last (ArePiecesAlike (take (k + 1) pieces) axis radius start end)
+alike_more pieces axis radius start end k piece from before found next (Some x) h e f g alike no_found no_next no_last no_before = tt
+alike_more pieces axis radius start end k piece from before found (Some x) None h e f g alike no_found no_from no_next no_before = absurd (cc no_next)
+alike_more pieces axis radius start end k piece from before (Some x) None None h e f g alike no_found no_from no_next no_before = absurd (cc no_found)
+alike_more pieces axis radius start end k piece from before None None None h e f g alike no_found no_from no_next no_before =
+    All-read (λ (p : Labelled). AllOrNone (IsNearAlong p.rect axis radius) start end) pieces k piece h e alike
+    (alike_between (low_along axis piece.rect -ℤ pos radius) (high_along axis piece.rect +ℤ pos radius) start end (subst (λ x. IsBetween start end x → ⊥) f no_from) (subst (λ x. IsBetween start end x → ⊥) g no_before))
 
-  pub alike_more : (k : ℕ) (piece : Labelled) (end next : ℤ) → k < length pieces → piece ≡ get_or pieces k piece → next ≤ℤ end
-      → ArePlacesAlike (take k pieces) axis radius start end → AllOrNone (IsNearAlong piece.rect axis radius) start next → ArePlacesAlike (take (k + 1) pieces) axis radius start next
-  alike_more k piece end next h e less alike here =
-      All-read (IsAlike next) pieces k piece h e (All-weaker (IsAlike end) (IsAlike next) (λ p a. up_to a next less) (take k pieces) alike) here
-
-  -- a piece that is near one of the places is near each
-  pub near_at : (end : ℤ) → ArePlacesAlike pieces axis radius start end → (piece : Labelled) → Contains pieces piece → (x y : ℤ) → IsIn start end x → IsIn start end y → IsNearAlong piece.rect axis radius x → IsNearAlong piece.rect axis radius y
-  near_at end alike piece among = one_for_all (All-contains (IsAlike end) pieces piece alike among)
-
-  pub alike_all : (k : ℕ) (end : ℤ) → length pieces ≤ k → ArePlacesAlike (take k pieces) axis radius start end → ArePlacesAlike pieces axis radius start end
-  alike_all k end = All-read_all (IsAlike end) pieces k
-
--- those of the pieces, up to some number, that are near the place
-pub record NearSoFar (pieces : List Labelled) (axis : Axis) (radius : ℕ) (place : ℤ) (k : ℕ) (near : List Labelled) : Type 0 where
-  pub no_others : All (λ (piece : Labelled). Contains pieces piece × IsNearAlong piece.rect axis radius place) near
-  pub each : All (λ (piece : Labelled). IsNearAlong piece.rect axis radius place → Contains near piece) (take k pieces)
-
-module _ (pieces : List Labelled) (axis : Axis) (radius : ℕ) (place : ℤ) where
-  -- the piece is one of the pieces, and near
-  abbrev IsOneNear : Labelled → Type 0
-  IsOneNear piece = Contains pieces piece × IsNearAlong piece.rect axis radius place
-
-  -- the piece is in the list, if it is near
-  abbrev IsInIfNear : List Labelled → Labelled → Type 0
-  IsInIfNear near piece = IsNearAlong piece.rect axis radius place → Contains near piece
-
-  pub near_none : NearSoFar pieces axis radius place 0 []
-  near_none = record { no_others = All-nil IsOneNear; each = All-nil (IsInIfNear []) }
-
-  module _ (k : ℕ) (near : List Labelled) (so_far : NearSoFar pieces axis radius place k near) where
-    pub near_one : (piece : Labelled) → k < length pieces → piece ≡ get_or pieces k piece → IsNearAlong piece.rect axis radius place → NearSoFar pieces axis radius place (k + 1) (near ++ piece ∷ [])
-    near_one piece h e is =
-        let more = near ++ piece ∷ [] in
-        let one : IsOneNear piece = (subst (Contains pieces) (sym e) (Contains-get_or pieces k piece h), is) in
-        let before = All-weaker (IsInIfNear near) (IsInIfNear more) (λ p f m. Contains-append_left near (piece ∷ []) p (f m)) (take k pieces) so_far.each in
-        record { no_others = All-push IsOneNear near piece so_far.no_others one; each = All-read (IsInIfNear more) pieces k piece h e before (λ m. Contains-push near piece) }
-
-    pub far_one : (piece : Labelled) → k < length pieces → piece ≡ get_or pieces k piece → (IsNearAlong piece.rect axis radius place → ⊥) → NearSoFar pieces axis radius place (k + 1) near
-    far_one piece h e far = record { no_others = so_far.no_others; each = All-read (IsInIfNear near) pieces k piece h e so_far.each (λ m. absurd (far m)) }
-
-    pub near_all : length pieces ≤ k → ArePiecesNear pieces axis radius place near
-    near_all past piece = (
-      λ m. All-contains IsOneNear near piece so_far.no_others m,
-      λ m. All-contains (IsInIfNear near) pieces piece (All-read_all (IsInIfNear near) pieces k past so_far.each) m.0 m.1,
-    )
+pub alike_all : (pieces : List Labelled) (axis : Axis) (radius : ℕ) (start end : ℤ) (k : ℕ) (found : Option ℤ) → length pieces ≤ k → IfNone found (ArePiecesAlike (take k pieces) axis radius start end) → IfNone found (ArePiecesAlike pieces axis radius start end)
+alike_all pieces axis radius start end k (Some x) past alike = tt
+alike_all pieces axis radius start end k None past alike = All-read_all (λ (p : Labelled). AllOrNone (IsNearAlong p.rect axis radius) start end) pieces k past alike

@@ -2,3 +2,4 @@
 pub mod Labels
 -- what this crate alone cites
 pub mod Places
+pub mod Windows

@@ -1,12 +1,20 @@
-ghost use Rattle.std.specs.Prelude.{pos, ◌+ℤ◌, ◌-ℤ◌, ◌≤ℤ◌, ◌<ℤ◌, ◌≡◌, ◌↔◌, IsTrue, IfOk};
+ghost use Rattle.std.specs.Prelude.{pos, ◌+ℤ◌, ◌-ℤ◌, ◌≡◌, ◌↔◌, IsTrue};
 ghost use Rattle.geo_core.specs.Axes.{low_along, high_along};
-ghost use Rattle.short_area.specs.Places.{IsNearAlong, AllOrNone, ArePlacesAlike, ArePiecesNear};
+ghost use Rattle.short_area.specs.Places.{IsNearPlaces};
 
-use geo_core::{Axis, Labelled, NoMemory, Rect};
-use std::alloc::Global;
+use geo_core::{Axis, Interval, Rect};
+
+/// How much of a window a rectangle has to be near.
+#[derive(Clone, Copy)]
+pub enum Extent {
+    /// Some of it.
+    Part,
+    /// All of it.
+    Whole,
+}
 
 /// The places along the axis that the rectangle is near: from the first number to before the second.
-fn near_places(rect: Rect, axis: Axis, radius: u32) -> (i64, i64)
+pub fn near_places(rect: Rect, axis: Axis, radius: u32) -> (i64, i64)
     ensures from { result.0 ≡ low_along axis rect -ℤ pos radius }
     ensures before { result.1 ≡ high_along axis rect +ℤ pos radius }
 {
@@ -15,60 +23,15 @@ fn near_places(rect: Rect, axis: Axis, radius: u32) -> (i64, i64)
     (i64::from(places.low) - by, i64::from(places.high) + by)
 }
 
-/// Whether the rectangle is near the place.
-pub fn is_near(rect: Rect, axis: Axis, radius: u32, place: i64) -> bool
-    ensures { IsTrue result ↔ IsNearAlong rect axis radius place }
+/// Whether the rectangle is near some of these places along the axis, or near all of them.
+pub fn is_near_places(extent: Extent, rect: Rect, axis: Axis, radius: u32, places: Interval) -> bool
+    ensures { IsTrue result ↔ IsNearPlaces extent rect axis radius places.low places.high }
 {
     let (from, before) = near_places(rect, axis, radius);
-    from <= place && place < before
-}
-
-/// The next place above `place` from which on `is_near` answers otherwise, or `end` if that comes first.
-fn next_change(rect: Rect, axis: Axis, radius: u32, place: i64, end: i64) -> i64
-    requires { place <ℤ end }
-    ensures above { place <ℤ result }
-    ensures within { result ≤ℤ end }
-    ensures all_or_none { AllOrNone (IsNearAlong rect axis radius) place result }
-{
-    let (from, before) = near_places(rect, axis, radius);
-    if place < from {
-        return from.min(end);
+    let start = i64::from(places.low);
+    let end = i64::from(places.high);
+    match extent {
+        Extent::Part => from < end && start < before,
+        Extent::Whole => from <= start && end <= before,
     }
-    if place < before {
-        return before.min(end);
-    }
-    end
-}
-
-/// The next place above `place` that some piece comes near or is no longer near, or `end` if that comes first.
-pub fn next_place(pieces: &[Labelled], axis: Axis, radius: u32, place: i64, end: i64) -> i64
-    requires { place <ℤ end }
-    ensures above { place <ℤ result }
-    ensures within { result ≤ℤ end }
-    ensures alike { ArePlacesAlike pieces.now axis radius place result }
-{
-    let mut next = end;
-    for piece in pieces {
-        next = next_change(piece.rect, axis, radius, place, next);
-    }
-    next
-}
-
-/// The pieces that are near the place.
-pub fn pieces_near(
-    alloc: Global,
-    pieces: &[Labelled],
-    axis: Axis,
-    radius: u32,
-    place: i64,
-) -> Result<Vec<Labelled>, NoMemory>
-    ensures { IfOk result (λ near. ArePiecesNear pieces.now axis radius place near.items) }
-{
-    let mut near = Vec::new(alloc);
-    for piece in pieces {
-        if is_near(piece.rect, axis, radius, place) {
-            near.push(*piece)?;
-        }
-    }
-    Ok(near)
 }

@@ -1,17 +1,14 @@
 use Rattle.std.proofs.Common.{refl}
 use Rattle.std.proofs.lemmas.Bool.{false≢true}
-use Rattle.std.proofs.lemmas.Int.{to_z-of_z}
 use Rattle.paths.proofs.ListLaws.{All-read, All-read_all}
 use Rattle.short_area.proofs.LabelLaws.{IsFar, label_near}
 use Rattle.short_area.proofs.labels.first_label.Goals as goal
 
 pub returns-then-is_near-clause-some : goal.returns-then-is_near-clause-some
-returns-then-is_near-clause-some c =
-    let fits = c.ranges.place in
-    label_near _ _ _ _ _ _ c.loop-piece-test.true c.piece-item.is (simp to_z-of_z at (c.if-is_near.ensures.0 refl))
+returns-then-is_near-clause-some c = label_near _ _ _ _ _ _ c.loop-piece-test.true c.piece-item.is (c.if-is_near.ensures.0 refl)
 
 pub loop-piece-preserved : goal.loop-piece-preserved
-loop-piece-preserved c = All-read (IsFar c.args.axis c.args.radius _) _ _ _ c.loop-piece-test.true c.piece-item.is c.loop-piece.invariant (λ n. false≢true (c.if-is_near.ensures.1 n))
+loop-piece-preserved c = All-read (IsFar c.args.extent c.args.window c.args.radius) _ _ _ c.loop-piece-test.true c.piece-item.is c.loop-piece.invariant (λ n. false≢true (c.if-is_near.ensures.1 n))
 
 pub returns-clause-none : goal.returns-clause-none
-returns-clause-none c = let fits = c.ranges.place in All-read_all (IsFar c.args.axis c.args.radius c.args.place) _ _ c.loop-piece-test.false (simp to_z-of_z at c.loop-piece.invariant)
+returns-clause-none c = All-read_all (IsFar c.args.extent c.args.window c.args.radius) _ _ c.loop-piece-test.false c.loop-piece.invariant

@@ -4,4 +4,4 @@ use Rattle.short_area.proofs.LabelLaws.{IsFar}
 use Rattle.short_area.proofs.labels.first_label.Given as goal
 
 abbrev pub invariant-loop-piece : goal.invariant-loop-piece
-invariant-loop-piece l = All (IsFar l.axis l.radius l.fn.place) (take l.piece-index l.pieces)
+invariant-loop-piece l = All (IsFar l.extent l.window l.radius) (take l.piece-index l.pieces)

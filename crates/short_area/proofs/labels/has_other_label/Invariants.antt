@@ -4,4 +4,4 @@ use Rattle.short_area.proofs.LabelLaws.{HasLabelIfNear}
 use Rattle.short_area.proofs.labels.has_other_label.Given as goal
 
 abbrev pub invariant-loop-piece : goal.invariant-loop-piece
-invariant-loop-piece l = All (HasLabelIfNear l.axis l.radius l.fn.place l.label) (take l.piece-index l.pieces)
+invariant-loop-piece l = All (HasLabelIfNear l.extent l.window l.radius l.label) (take l.piece-index l.pieces)
