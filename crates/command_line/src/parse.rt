@@ -30,8 +30,9 @@ fn command<'a>(alloc: Global) -> Result<Command<'a>, AllocError>
     ensures { IfOk result (λ command. app_of command ≡ whole_command) }
 {
     let mut command = Command::new(alloc, "critarea").no_binary_name(true);
-    for name in OPTIONS {
-        command = with_option(alloc, command, name)?;
+    let options: &[OptionName] = &OPTIONS;
+    for name in options {
+        command = with_option(alloc, command, *name)?;
     }
     command.arg(Arg::new(alloc, LAYOUT))
 }

@@ -3,7 +3,7 @@ ghost use Rattle.command_line.specs.Limits.{IsEdge, IsWithinLimits, IsWithinLimi
 use crate::task::Task;
 
 /// What the words of a command ask for.
-#[derive(Debug, Drop)]
+#[derive(Drop)]
 pub struct Request {
     /// What is to be done.
     pub task: Task,

@@ -1,7 +1,7 @@
 use geo_core::Name;
 
 /// What a command is to do.
-#[derive(Debug, Drop)]
+#[derive(Drop)]
 pub enum Task {
     /// The areas of one metal, which is all shapes of one layer and datatype, for defects of one radius.
     OneMetal {

@@ -3,7 +3,7 @@ ghost use Rattle.std.specs.Prelude.{◌≡◌, List, ℕ, string_bytes};
 use std::marker::Model;
 
 /// An argument of the program, as the system gave it. In contracts it is the list of its bytes.
-#[derive(Debug, Drop)]
+#[derive(Drop)]
 pub struct Word {
     text: String,
 }

@@ -9,7 +9,7 @@ use super::files::{Failed, Files};
 use geo_core::Name;
 
 /// Files in memory. Where two have one name, the first is meant.
-#[derive(Debug, Drop)]
+#[derive(Drop)]
 pub struct MemFiles {
     pub files: Vec<(Name, Vec<u8>)>,
     /// The numbers of the calls that fail, counted from 0.

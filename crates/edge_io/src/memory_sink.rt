@@ -7,7 +7,7 @@ use geo_core::NoMemory;
 use std::alloc::Global;
 
 /// A sink in memory, of a fixed size: `with` takes all the memory that it will ever use.
-#[derive(Debug, Drop)]
+#[derive(Drop)]
 pub struct MemSink {
     pub written: Vec<u8>,
     /// How many bytes it takes in all.

@@ -5,7 +5,7 @@ use super::name::LayerName;
 use geo_core::{Cell, Items};
 
 /// A metal: its name, and the layers and datatypes of the shapes that are of it, 1 to 16 pairs.
-#[derive(Debug, Drop)]
+#[derive(Drop)]
 pub struct Metal {
     pub name: LayerName,
     pub pairs: Pairs,
@@ -14,7 +14,7 @@ pub struct Metal {
 
 /// A cut, which joins two metals, by the numbers of these: its name, and the layers and datatypes of the shapes that
 /// are of it, 1 to 16 pairs.
-#[derive(Debug, Drop)]
+#[derive(Drop)]
 pub struct Cut {
     pub name: LayerName,
     pub pairs: Pairs,

@@ -8,7 +8,7 @@ ghost use Rattle.layer_map.specs.declared.limits.TheConstants.{MOST_METALS, MOST
 use super::layers::{Cuts, Metals, Sizes, Terminals, Weights, has_pair};
 
 /// A layer map. A cut's number as a layer follows those of all metals.
-#[derive(Debug, Drop)]
+#[derive(Drop)]
 pub struct Map {
     /// 1 to 16.
     pub metals: Metals,

@@ -1,10 +1,16 @@
 use command_line::WordsFault;
 
-/// The numbers and places of the two faults.
+/// Whether the fault has this number, and no place.
+fn has_number(fault: WordsFault, number: u8) -> bool {
+    fault.number() == number && fault.place() == 0
+}
+
+/// Whether both faults have their numbers.
+fn have_numbers() -> bool {
+    has_number(WordsFault::Usage, 2) && has_number(WordsFault::Memory, 0)
+}
+
 #[test]
 fn faults_have_numbers(rt: HostRuntime) {
-    let usage = WordsFault::Usage;
-    let memory = WordsFault::Memory;
-    assert!(rt; usage.number() == 2 && usage.place() == 0);
-    assert!(rt; memory.number() == 0 && memory.place() == 0);
+    assert!(rt; have_numbers());
 }

@@ -1,7 +1,7 @@
-use super::rows::{NO_LINE, REFUSED, first_not};
+use super::rows::are_refused;
 
 /// Words that fit neither form.
-static NO_FORM: [&str; 20] = [
+const NO_FORM: &[&str] = &[
     // no words, an empty word, and words alone
     "",
     "|",
@@ -28,7 +28,7 @@ static NO_FORM: [&str; 20] = [
 ];
 
 /// Words that are no options and no values.
-static NO_OPTION: [&str; 28] = [
+const NO_OPTION: &[&str] = &[
     "--help",
     "--version",
     "a|--map|m|--help",
@@ -62,7 +62,7 @@ static NO_OPTION: [&str; 28] = [
 ];
 
 /// Words with an empty text.
-static EMPTY: [&str; 8] = [
+const EMPTY: &[&str] = &[
     "a|--map=",
     "a|--map|",
     "|--map|m",
@@ -74,7 +74,7 @@ static EMPTY: [&str; 8] = [
 ];
 
 /// Words with a text that is no number, or one out of its bounds.
-static NUMBERS: [&str; 27] = [
+const NUMBERS: &[&str] = &[
     "a|--layer|65536|--datatype|0|--radius|3",
     "a|--layer|1|--datatype|65536|--radius|3",
     "a|--layer|4294967297|--datatype|0|--radius|3",
@@ -108,23 +108,28 @@ static NUMBERS: [&str; 27] = [
 
 #[test]
 fn other_forms_are_refused(rt: HostRuntime) {
-    assert_eq!(rt; first_not(rt.alloc(), REFUSED, NO_FORM.as_slice()), NO_LINE);
+    for line in NO_FORM {
+        assert!(rt; are_refused(rt.alloc(), line), "{line}");
+    }
 }
 
 #[test]
 fn other_options_are_refused(rt: HostRuntime) {
-    assert_eq!(rt;
-        first_not(rt.alloc(), REFUSED, NO_OPTION.as_slice()),
-        NO_LINE
-    );
+    for line in NO_OPTION {
+        assert!(rt; are_refused(rt.alloc(), line), "{line}");
+    }
 }
 
 #[test]
 fn empty_texts_are_refused(rt: HostRuntime) {
-    assert_eq!(rt; first_not(rt.alloc(), REFUSED, EMPTY.as_slice()), NO_LINE);
+    for line in EMPTY {
+        assert!(rt; are_refused(rt.alloc(), line), "{line}");
+    }
 }
 
 #[test]
 fn other_numbers_are_refused(rt: HostRuntime) {
-    assert_eq!(rt; first_not(rt.alloc(), REFUSED, NUMBERS.as_slice()), NO_LINE);
+    for line in NUMBERS {
+        assert!(rt; are_refused(rt.alloc(), line), "{line}");
+    }
 }

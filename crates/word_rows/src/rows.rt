@@ -1,9 +1,17 @@
 use command_line::{Request, Task, Word, WordsFault, read_words};
 use std::alloc::{AllocError, Global};
-use std::str;
 
-/// What words are told that ask for nothing.
-pub const REFUSED: &str = "refused";
+/// What is asked for, but for the tile and the workers.
+#[derive(Clone, Copy)]
+pub enum Asked {
+    /// One metal: the layout, and the layer, the datatype and the radius.
+    Metal(&'static str, (u16, u16, u32)),
+    /// A map: the layout and the map.
+    Map(&'static str, &'static str),
+}
+
+/// A line of words, and what they ask for: the task, the tile and the workers.
+pub type Row = (&'static str, Asked, u32, u32);
 
 /// The words of a line, with a bar between two of them. An empty line has none.
 fn words_of(alloc: Global, line: &str) -> Result<Vec<Word>, AllocError> {
@@ -17,57 +25,58 @@ fn words_of(alloc: Global, line: &str) -> Result<Vec<Word>, AllocError> {
     Ok(words)
 }
 
-/// A request as one line, with bars: the form, the layout, the map or the three numbers, the tile and the workers.
-fn line_of(alloc: Global, request: &Request) -> Result<String, AllocError> {
-    let edge = request.edge;
-    let workers = request.workers;
-    match &request.task {
+/// What the words of a line are answered.
+fn answer(alloc: Global, line: &str) -> Result<Request, WordsFault> {
+    let words = words_of(alloc, line)?;
+    read_words(alloc, words.as_slice())
+}
+
+/// Whether the task is that of one metal, of this layout and with these numbers.
+fn is_metal(task: &Task, name: &str, numbers: (u16, u16, u32)) -> bool {
+    match task {
         Task::OneMetal {
             layout,
             layer,
             datatype,
             radius,
-        } => {
-            let layout = str::from_utf8(layout.as_slice()).unwrap_or("");
-            format!(in alloc; "metal|{layout}|{layer}|{datatype}|{radius}|{edge}|{workers}")
-        }
+        } => layout.as_slice() == name.as_bytes() && (*layer, *datatype, *radius) == numbers,
+        Task::Mapped { .. } => false,
+    }
+}
+
+/// Whether the task is that of this layout and this map.
+fn is_mapped(task: &Task, name: &str, map_name: &str) -> bool {
+    match task {
+        Task::OneMetal { .. } => false,
         Task::Mapped { layout, map } => {
-            let layout = str::from_utf8(layout.as_slice()).unwrap_or("");
-            let map = str::from_utf8(map.as_slice()).unwrap_or("");
-            format!(in alloc; "map|{layout}|{map}|{edge}|{workers}")
+            layout.as_slice() == name.as_bytes() && map.as_slice() == map_name.as_bytes()
         }
     }
 }
 
-/// Whether the words of a line are answered so.
-fn is_answered(alloc: Global, line: &str, want: &str) -> Result<bool, AllocError> {
-    let words = words_of(alloc, line)?;
-    match read_words(alloc, words.as_slice()) {
-        Ok(request) => Ok(line_of(alloc, &request)?.as_str() == want),
-        Err(WordsFault::Usage) => Ok(want == REFUSED),
-        Err(WordsFault::Memory) => Err(AllocError),
+/// Whether the request is for this.
+fn is_for(request: &Request, asked: &Asked, edge: u32, workers: u32) -> bool {
+    if request.edge != edge || request.workers != workers {
+        return false;
+    }
+    match asked {
+        Asked::Metal(layout, numbers) => is_metal(&request.task, layout, *numbers),
+        Asked::Map(layout, map) => is_mapped(&request.task, layout, map),
     }
 }
 
-/// What is told of lines that are all answered as wanted.
-pub const NO_LINE: &str = "no line";
-
-/// The first of these lines that is not answered as it is paired.
-pub fn first_other<'a>(alloc: Global, rows: &[(&'a str, &'a str)]) -> &'a str {
-    for &(line, want) in rows {
-        if is_answered(alloc, line, want) != Ok(true) {
-            return line;
-        }
+/// Whether the words of a line ask for this.
+pub fn ask_for(alloc: Global, line: &str, asked: &Asked, edge: u32, workers: u32) -> bool {
+    match answer(alloc, line) {
+        Ok(request) => is_for(&request, asked, edge, workers),
+        Err(_) => false,
     }
-    NO_LINE
 }
 
-/// The first of these lines that is not answered so.
-pub fn first_not<'a>(alloc: Global, want: &str, lines: &[&'a str]) -> &'a str {
-    for &line in lines {
-        if is_answered(alloc, line, want) != Ok(true) {
-            return line;
-        }
+/// Whether the words of a line are refused.
+pub fn are_refused(alloc: Global, line: &str) -> bool {
+    match answer(alloc, line) {
+        Ok(_) => false,
+        Err(fault) => fault == WordsFault::Usage,
     }
-    NO_LINE
 }

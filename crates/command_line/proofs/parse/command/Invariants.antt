@@ -4,4 +4,4 @@ use Rattle.command_line.specs.Command.{with_options}
 use Rattle.command_line.proofs.parse.command.Given as goal
 
 abbrev pub invariant-loop-name : goal.invariant-loop-name
-invariant-loop-name l = app_of l.command ≡ with_options (take l.name-index l.name-items)
+invariant-loop-name l = app_of l.command ≡ with_options (take l.name-index l.options)

@@ -1,5 +1,6 @@
 use Rattle.std.proofs.Common.{◌≡◌, ◌∙◌, ap, rules}
 use Rattle.std.proofs.lemmas.Result.{IfOk-weaker}
+use Rattle.clap.specs.declared.builder.arg.Arg.{Arg}
 use Rattle.clap.specs.Words.{app_of, rule_of, with_rule}
 use Rattle.command_line.specs.Command.{rule_of_option}
 use Rattle.command_line.proofs.parse.with_option.Goals as goal
@@ -7,4 +8,4 @@ use Rattle.command_line.proofs.parse.with_option.Goals as goal
 pub returns : goal.returns
 returns c =
     let rule : rule_of c.long.result ≡ rule_of_option c.args.name = search rules in
-    IfOk-weaker c.arg.result _ _ (λ more adds. adds.shape (search rules) ∙ ap (with_rule (app_of c.args.command)) rule) c.arg.ensures
+    IfOk-weaker c.arg.result _ _ (λ more adds. adds.shape (ap (λ (a : Arg). a.global) c.long.ensures ∙ c.new.ensures.optional.1) ∙ ap (with_rule (app_of c.args.command)) rule) c.arg.ensures

@@ -44,6 +44,12 @@ read_cuts-requires c =
     let takes = given (Holds document) fault_of _ (checks_of_metals document) c.in_ok-metals.metals c.in_ok-metals.ensures in
     rw c.as_slice-2.ensures takes.few
 
+pub read_terminals-requires : goal.read_terminals-requires
+read_terminals-requires c =
+    let document = table_view c.args.document.now in
+    let takes = given (Holds document) fault_of _ (checks_of_metals document) c.in_ok-metals.metals c.in_ok-metals.ensures in
+    rw c.as_slice-3.ensures takes.few
+
 pub returns-in_err-cuts : goal.returns-in_err-cuts
 returns-in_err-cuts c =
     let document = table_view c.args.document.now in
