@@ -1,6 +1,6 @@
 pub mod OutlineLaws
-pub mod TakingLaws
 pub mod LayoutLaws
+pub mod ReadingLaws
 pub mod VerdictLaws
 pub mod MapLaws
 pub mod RunLaws

@@ -1,5 +1,5 @@
 -- rectangles from the points of their outlines
-use Rattle.std.proofs.Common.{◌≡◌, inl, inr, zero, suc, List, [], ◌∷◌, refl, ap, sym, subst, ◌∙◌, arith}
+use Rattle.std.proofs.Common.{◌≡◌, inl, inr, zero, suc, List, [], ◌∷◌, length, get_or, refl, ap, sym, subst, ◌∙◌, arith}
 use Rattle.std.proofs.lemmas.Int.{ints, clamps, by_lt_z}
 use Rattle.std.specs.Prelude.{ℤ, ◌<ℤ◌, Option, Some, None, IfSome, IfNone}
 use Rattle.std.specs.Int.{int_min, int_max}
@@ -110,3 +110,29 @@ outlined_none (Some r) a b c d e x0 y0 x1 y1 s h = tt
 outlined_none None a b c d e x0 y0 x1 y1 s h = λ r g i.
     let t = sides_of r g in
     h r (t.left ∙ sym s.left) (t.bottom ∙ sym s.bottom) (t.right ∙ sym s.right) (t.top ∙ sym s.top) i
+
+-- points that go round a rectangle are five
+abbrev Five : List Point → Type 0
+Five points = (a b c d e : Point) × (points ≡ a ∷ b ∷ c ∷ d ∷ e ∷ [])
+
+pub five_points : (r : Rect) (points : List Point) → GoesRound r points → Five points
+five_points r points (counterclockwise zero h same) = (_, _, _, _, _, same)
+five_points r points (counterclockwise (suc zero) h same) = (_, _, _, _, _, same)
+five_points r points (counterclockwise (suc (suc zero)) h same) = (_, _, _, _, _, same)
+five_points r points (counterclockwise (suc (suc (suc zero))) h same) = (_, _, _, _, _, same)
+five_points r points (counterclockwise (suc (suc (suc (suc n)))) h same) = absurd (omega (arith, h))
+five_points r points (clockwise zero h same) = (_, _, _, _, _, same)
+five_points r points (clockwise (suc zero) h same) = (_, _, _, _, _, same)
+five_points r points (clockwise (suc (suc zero)) h same) = (_, _, _, _, _, same)
+five_points r points (clockwise (suc (suc (suc zero))) h same) = (_, _, _, _, _, same)
+five_points r points (clockwise (suc (suc (suc (suc n)))) h same) = absurd (omega (arith, h))
+
+-- five points by their places
+pub five_items : (points : List Point) (p q u v w : Point) → length points ≡ 5 → points ≡ get_or points 0 p ∷ get_or points 1 q ∷ get_or points 2 u ∷ get_or points 3 v ∷ get_or points 4 w ∷ []
+five_items [] p q u v w five = absurd (omega (arith, five))
+five_items (a ∷ []) p q u v w five = absurd (omega (arith, five))
+five_items (a ∷ b ∷ []) p q u v w five = absurd (omega (arith, five))
+five_items (a ∷ b ∷ c ∷ []) p q u v w five = absurd (omega (arith, five))
+five_items (a ∷ b ∷ c ∷ d ∷ []) p q u v w five = absurd (omega (arith, five))
+five_items (a ∷ b ∷ c ∷ d ∷ e ∷ []) p q u v w five = refl
+five_items (a ∷ b ∷ c ∷ d ∷ e ∷ f ∷ more) p q u v w five = absurd (omega (arith, five))

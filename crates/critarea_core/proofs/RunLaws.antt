@@ -1,5 +1,5 @@
 -- what a run found of the words and the files, what it printed, and what that comes to
-use Rattle.std.proofs.Common.{ℕ, ◌≡◌, ◌≤◌, ◌<◌, ◌⊎◌, List, [], ◌∷◌, ◌++◌, length, refl, sym, ap, subst, ◌∙◌, inl, inr, zero, suc, arith, append-nil, append_assoc}
+use Rattle.std.proofs.Common.{ℕ, ◌≡◌, ◌≢◌, ◌≤◌, ◌<◌, ◌⊎◌, List, [], ◌∷◌, ◌++◌, length, refl, sym, ap, subst, ◌∙◌, inl, inr, zero, suc, arith, append-nil, append_assoc}
 use Rattle.std.specs.Prelude.{Option, Some, None, IfSome, Contains, All, Result, Ok, Err, Vec, vec_len}
 use Rattle.std.specs.Global.{Global}
 use Rattle.std.proofs.lemmas.List.Elements.{All-cons, All-nil, Contains-append_right}
@@ -23,16 +23,18 @@ use Rattle.critical_areas.specs.Coverage.{IsCoveredOn}
 use Rattle.critical_areas.proofs.UniqueLaws.{rows_agree}
 use Rattle.critarea_core.specs.Finding.{IsMapFound, IsMapRead, LayoutMayCome, IsReportFound, of_unread, of_unfit_layout, IsFound, IsPrinted, report_out, report_cut, line_out, line_cut, no_line}
 use Rattle.critarea_core.specs.Input.{Input, Source, file, nothing, told_text, file_name_of, file_names, sources_of, IsTextFrom, IsToldInput, MayBeInput}
-use Rattle.critarea_core.specs.Refusals.{usage, map_limit, map_too_long, layout_limit, layout_too_long}
+use Rattle.critarea_core.specs.Refusals.{usage, map_limit, map_too_long, layout_limit, layout_too_long, of_layout_fault}
 use Rattle.critarea_core.specs.Run.{MapMayCome, Failures, failures, Output, HasRisen, IsCalm, IsReportFor, IsRefusalFor, IsReportDue, IsRefusalDue, IsComplete, NameSomeFile, EndsWith, StartsNamed, MayBeStarted, no_file, map_file, both_files}
 use Rattle.critarea_core.specs.Run as run
-use Rattle.critarea_core.specs.Verdict.{Subject, IsSupported, support_checks, has_no_cuts, has_no_terminals, ShortMapComesTo, MapComesTo, IsSubject, IsVerdict, IsReportOn}
+use Rattle.gds_syntax.specs.declared.fault.SyntaxFault.TheVariants as syntax
+use Rattle.critarea_core.specs.Layout.{Subject, ShortLayoutComesTo}
+use Rattle.critarea_core.specs.Verdict.{IsSupported, support_checks, has_no_cuts, has_no_terminals, ShortMapComesTo, MapComesTo, IsVerdict, IsReportOn}
 use Rattle.critarea_core.specs.declared.fault.LayoutFault.{LayoutFault}
 use Rattle.critarea_core.specs.declared.fault.LayoutFault.TheVariants as fault
 use Rattle.critarea_core.specs.declared.refusal.Refusal.{Refusal}
 use Rattle.critarea_core.specs.declared.unreported.Unreported.{Unreported}
 use Rattle.critarea_core.specs.declared.unreported.Unreported.TheVariants.{Refused, FilesFailed, Memory}
-use Rattle.critarea_core.proofs.VerdictLaws.{verdicts_agree, refused_words, refused_map, with_layout, refused_length, refused_form, good_layout, refused_map_length, short_map, HasTextsOf, IsTextOf, more_input}
+use Rattle.critarea_core.proofs.VerdictLaws.{verdicts_agree, refused_words, refused_map, with_layout, refused_length, short_layout, refused_map_length, short_map, HasTextsOf, IsTextOf, more_input}
 
 -- ---- what is read
 
@@ -91,17 +93,33 @@ module _ (told : List ℕ → Option (List ℕ)) where
         (record { layout = some.0; may_be = some.1; comes = rw e (refused_length layer_map some.0 some.2) }, calm)
     layout_unread before after started rest too_long read.Memory e (has_no_memory calm opened left) = calm
 
-    -- what a layout that is of another form says of it
+    -- what a layout that is refused says of it
+    refused_layout : (files : Failures) (refusal : Refusal) (bytes : List ℕ) → IsCalm files → length bytes ≤ layout_limit → IfSome (told name) (λ all. bytes ≡ all)
+        → ShortLayoutComesTo layer_map bytes (refused refusal) → IsReportFound told layer_map name files (Err (Refused refusal))
+    refused_layout files refusal bytes calm short same comes =
+        (record { layout = bytes; may_be = same; comes = short_layout layer_map bytes (refused refusal) short comes }, calm)
+
     pub unfit : (files : Failures) (why : LayoutFault) (bytes : List ℕ) → IsCalm files → length bytes ≤ layout_limit → IfSome (told name) (λ all. bytes ≡ all)
-        → (why ≡ fault.OtherForm → (subject : Subject) → IsSubject layer_map bytes subject → ⊥) → IsReportFound told layer_map name files (Err (of_unfit_layout why))
-    unfit files fault.OtherForm bytes calm short same none =
-        (record { layout = bytes; may_be = same; comes = refused_form layer_map bytes short (none refl) }, calm)
-    unfit files fault.Memory bytes calm short same none = calm
+        → (why ≢ fault.Memory → ShortLayoutComesTo layer_map bytes (refused (of_layout_fault why))) → IsReportFound told layer_map name files (Err (of_unfit_layout why))
+    unfit files fault.Memory bytes calm short same comes = calm
+    unfit files (fault.Syntax syntax.Memory) bytes calm short same comes = calm
+    unfit files (fault.Syntax (syntax.Record f)) bytes calm short same comes = refused_layout files _ bytes calm short same (comes (λ same. absurd (cc same)))
+    unfit files (fault.Syntax (syntax.Unexpected at k)) bytes calm short same comes = refused_layout files _ bytes calm short same (comes (λ same. absurd (cc same)))
+    unfit files (fault.Syntax (syntax.Missing at k)) bytes calm short same comes = refused_layout files _ bytes calm short same (comes (λ same. absurd (cc same)))
+    unfit files (fault.Syntax (syntax.RepeatedStructure at)) bytes calm short same comes = refused_layout files _ bytes calm short same (comes (λ same. absurd (cc same)))
+    unfit files (fault.Syntax (syntax.PointCount at)) bytes calm short same comes = refused_layout files _ bytes calm short same (comes (λ same. absurd (cc same)))
+    unfit files (fault.Syntax (syntax.NotClosed at)) bytes calm short same comes = refused_layout files _ bytes calm short same (comes (λ same. absurd (cc same)))
+    unfit files (fault.Syntax (syntax.Magnified at)) bytes calm short same comes = refused_layout files _ bytes calm short same (comes (λ same. absurd (cc same)))
+    unfit files (fault.Syntax (syntax.BadAngle at)) bytes calm short same comes = refused_layout files _ bytes calm short same (comes (λ same. absurd (cc same)))
+    unfit files (fault.Syntax (syntax.AbsoluteAngle at)) bytes calm short same comes = refused_layout files _ bytes calm short same (comes (λ same. absurd (cc same)))
+    unfit files (fault.Syntax (syntax.EmptyArray at)) bytes calm short same comes = refused_layout files _ bytes calm short same (comes (λ same. absurd (cc same)))
+    unfit files (fault.Syntax (syntax.UnevenArray at)) bytes calm short same comes = refused_layout files _ bytes calm short same (comes (λ same. absurd (cc same)))
+    unfit files (fault.NotSupported at) bytes calm short same comes = refused_layout files _ bytes calm short same (comes (λ same. absurd (cc same)))
 
     pub report_found : (files : Failures) (bytes : List ℕ) (text : Vec ℕ Global) (subject : Subject) → IsCalm files → length bytes ≤ layout_limit → IfSome (told name) (λ all. bytes ≡ all)
-        → IsSubject layer_map bytes subject → IsReportOn subject text.items → IsReportFound told layer_map name files (Ok text)
+        → ShortLayoutComesTo layer_map bytes (value subject) → IsReportOn subject text.items → IsReportFound told layer_map name files (Ok text)
     report_found files bytes text subject calm short same is report =
-        (subject, record { layout = bytes; may_be = same; comes = good_layout layer_map bytes short subject is }, report, calm)
+        (subject, record { layout = bytes; may_be = same; comes = short_layout layer_map bytes (value subject) short is }, report, calm)
 
 -- what is found of a layout is the same for sources that tell the same of its file
 pub told_alike : (told other : List ℕ → Option (List ℕ)) (layer_map : LayerMap) (name : List ℕ) (files : Failures) (result : Result (Vec ℕ Global) Unreported) → other name ≡ told name

@@ -1,7 +1,7 @@
 -- the verdict, stage by stage: each has one outcome at most, and none can lack one
-use Rattle.std.proofs.Common.{ℕ, ◌≡◌, ◌<◌, ◌≤◌, List, length, refl, sym, ap, ◌∙◌, arith}
+use Rattle.std.proofs.Common.{ℕ, ◌≡◌, ◌<◌, ◌≤◌, List, length, refl, sym, subst, ◌∙◌, arith}
 use Rattle.std.specs.Prelude.{Option, Some, None, IsSome, IsSomeAnd}
-use Rattle.first_refusal.specs.Outcomes.{Outcome, value, refused, Reads, reads, lacks, kept, retold, stops, goes_on}
+use Rattle.first_refusal.specs.Outcomes.{Outcome, value, refused, Reads, reads, lacks, stops, goes_on}
 use Rattle.first_refusal.specs.Laws.{IsUnique, CannotLack}
 use Rattle.first_refusal.proofs.StageLaws.{readings_agree, reading_cannot_lack, retold_agree, retold_cannot_lack, stages_agree, stages_cannot_lack, texts_agree}
 use Rattle.first_refusal.proofs.CheckLaws.{checks_agree, checks_cannot_lack}
@@ -15,12 +15,15 @@ use Rattle.layer_map.specs.LayerMap.{LayerMap, one_metal_map}
 use Rattle.layer_map.proofs.ExistLaws.{maps_cannot_lack}
 use Rattle.layer_map.proofs.UniqueLaws.{maps_agree}
 use Rattle.critarea_core.specs.Input.{Input, IsThere, sources_of}
-use Rattle.critarea_core.specs.Refusals.{usage, map_limit, map_too_long, of_map_fault, layout_limit, layout_too_long, of_layout_fault}
-use Rattle.critarea_core.specs.Verdict.{Subject, IsShortEnough, IsSupported, support_checks, not_supported, ReadMapComesTo, ShortMapComesTo, MapTextComesTo, MapComesTo, IsSubject, WordsComeTo, LayoutComesTo, IsVerdict, HasTexts}
-use Rattle.critarea_core.specs.declared.fault.LayoutFault.TheVariants.{OtherForm}
+use Rattle.critarea_core.specs.Refusals.{usage, map_limit, map_too_long, of_map_fault, layout_limit, layout_too_long, of_syntax_fault}
+use Rattle.critarea_core.specs.Layout.{Subject, ShortLayoutComesTo}
+use Rattle.critarea_core.specs.Verdict.{AreBytesThere, IsShortEnough, IsSupported, support_checks, not_supported, ReadMapComesTo, ShortMapComesTo, MapTextComesTo, MapComesTo, WordsComeTo, LayoutComesTo, IsVerdict, HasTexts}
 use Rattle.critarea_core.specs.declared.refusal.Refusal.{Refusal}
-use Rattle.critical_areas.specs.declared.shape.Shape.{Shape}
-use Rattle.critarea_core.proofs.LayoutLaws.{layouts_agree}
+use Rattle.gds_syntax.specs.FirstFault.{BytesComeTo}
+use Rattle.gds_syntax.proofs.FaultsAgree.{libraries_agree}
+use Rattle.gds_syntax.proofs.LibraryThere.{bytes_come_to_something}
+use Rattle.gds_records.specs.Spelling.{AreBytes}
+use Rattle.critarea_core.proofs.LayoutLaws.{libraries_come_to_one, libraries_come_to_something}
 
 -- ---- one outcome at most, a lemma a stage
 
@@ -43,14 +46,12 @@ map_outcomes_agree : (task : Task) (text : Option (List ℕ)) → IsUnique (MapC
 map_outcomes_agree (OneMetal layout layer datatype radius) text one other a b = a ∙ sym b
 map_outcomes_agree (Mapped layout map) text one other a b = texts_agree MapTextComesTo map_texts_agree text one other a b
 
-subjects_agree : (layer_map : LayerMap) (layout : List ℕ) → IsUnique (IsSubject layer_map layout)
-subjects_agree layer_map layout one other a b =
-    let subject : LayerMap → List Shape → Subject = λ m s. record { layer_map = m; shapes = s } in
-    ap (λ m. subject m one.shapes) (a.mapped ∙ sym b.mapped) ∙ ap (subject other.layer_map) (layouts_agree layout one.shapes other.shapes a.shaped b.shaped)
+short_layouts_agree : (layer_map : LayerMap) (layout : List ℕ) → IsUnique (ShortLayoutComesTo layer_map layout)
+short_layouts_agree layer_map layout = stages_agree _ _ (retold_agree of_syntax_fault (BytesComeTo layout) (libraries_agree layout)) (libraries_come_to_one layer_map)
 
-layout_outcomes_agree : (layer_map : LayerMap) (layout : List ℕ) → IsUnique (LayoutComesTo layer_map layout)
+pub layout_outcomes_agree : (layer_map : LayerMap) (layout : List ℕ) → IsUnique (LayoutComesTo layer_map layout)
 layout_outcomes_agree layer_map layout = stages_agree _ _ (readings_agree (IsShortEnough layout_limit layout) layout_too_long (lengths_agree layout_limit layout))
-    (λ text. retold_agree of_layout_fault (Reads (IsSubject layer_map text) OtherForm) (readings_agree (IsSubject layer_map text) OtherForm (subjects_agree layer_map text)))
+    (short_layouts_agree layer_map)
 
 pub verdicts_agree : (words : List (List ℕ)) (input : Input) → IsUnique (IsVerdict words input)
 verdicts_agree words input = stages_agree (WordsComeTo words) _ (words_agree words)
@@ -72,9 +73,18 @@ map_cannot_lack : (task : Task) (text : Option (List ℕ)) → IsThere (sources_
 map_cannot_lack (OneMetal layout layer datatype radius) text there none = none (value (one_metal_map layer datatype radius)) refl
 map_cannot_lack (Mapped layout map) text there none = at_text text MapTextComesTo there map_text_cannot_lack none
 
-layout_cannot_lack : (layer_map : LayerMap) (layout : List ℕ) → CannotLack (LayoutComesTo layer_map layout)
-layout_cannot_lack layer_map layout = stages_cannot_lack _ _ (reading_cannot_lack (IsShortEnough layout_limit layout) layout_too_long)
-    (λ text _. retold_cannot_lack of_layout_fault (Reads (IsSubject layer_map text) OtherForm) (reading_cannot_lack (IsSubject layer_map text) OtherForm))
+-- the text of a layout that is short enough is the layout
+text_of : (layout text : List ℕ) → Reads (IsShortEnough layout_limit layout) layout_too_long (value text) → text ≡ layout
+text_of layout text (reads short) = short.is_text
+
+layout_cannot_lack : (layer_map : LayerMap) (layout : List ℕ) → AreBytes layout → CannotLack (LayoutComesTo layer_map layout)
+layout_cannot_lack layer_map layout are = stages_cannot_lack _ _ (reading_cannot_lack (IsShortEnough layout_limit layout) layout_too_long)
+    (λ text short. stages_cannot_lack _ _ (retold_cannot_lack of_syntax_fault (BytesComeTo text) (bytes_come_to_something text (subst AreBytes (sym (text_of layout text short)) are))) (λ library _. libraries_come_to_something layer_map library))
+
+at_bytes : {V : Type 0} (text : Option (List ℕ)) (Stage : List ℕ → Outcome V Refusal → Type 0) → AreBytesThere text → IsSome text → ((bytes : List ℕ) → AreBytes bytes → CannotLack (Stage bytes))
+    → CannotLack (λ outcome. IsSomeAnd text (λ bytes. Stage bytes outcome))
+at_bytes (Some bytes) Stage are there each = each bytes are
+at_bytes None Stage are there each = cc there
 
 asked_for : (words : List (List ℕ)) (request : Request) → WordsComeTo words (value request) → Ask words request
 asked_for words request (reads asked) = asked
@@ -84,11 +94,11 @@ layout_there (OneMetal layout layer datatype radius) text there = there
 layout_there (Mapped layout map) text there = there
 
 -- a layout that is looked at is there
-pub inputs_have_verdicts : (words : List (List ℕ)) (input : Input) → HasTexts words input → CannotLack (IsVerdict words input)
-inputs_have_verdicts words input texts = stages_cannot_lack (WordsComeTo words) _ (reading_cannot_lack (Ask words) usage)
+pub inputs_have_verdicts : (words : List (List ℕ)) (input : Input) → HasTexts words input → AreBytesThere input.layout → CannotLack (IsVerdict words input)
+inputs_have_verdicts words input texts are = stages_cannot_lack (WordsComeTo words) _ (reading_cannot_lack (Ask words) usage)
     (λ request asks. let asked = asked_for words request asks in
     stages_cannot_lack (MapComesTo request.task input.map) _ (map_cannot_lack request.task input.map (texts request asked).0)
-    (λ layer_map good. at_text input.layout (LayoutComesTo layer_map)
+    (λ layer_map good. at_bytes input.layout (LayoutComesTo layer_map) are
     (layout_there request.task input.layout ((texts request asked).1 (record { request = request; asked = asked; layer_map = layer_map; good = good })))
     (layout_cannot_lack layer_map)))
 
@@ -108,16 +118,13 @@ module _ (words : List (List ℕ)) (request : Request) (asked : Ask words reques
       → LayoutComesTo layer_map layout outcome → IsVerdict words (record { map = map; layout = Some layout }) outcome
   with_layout map layer_map layout outcome good comes = goes_on (reads asked) (goes_on good comes)
 
--- the layout: too long, of another form, or good
+-- the layout: too long, or what its bytes come to
 module _ (layer_map : LayerMap) (layout : List ℕ) where
   pub refused_length : layout_limit < length layout → LayoutComesTo layer_map layout (refused layout_too_long)
   refused_length long = stops (lacks (λ text t. let s = t.short in absurd (omega arith)))
 
-  pub refused_form : length layout ≤ layout_limit → ((subject : Subject) → IsSubject layer_map layout subject → ⊥) → LayoutComesTo layer_map layout (refused (of_layout_fault OtherForm))
-  refused_form short none = goes_on {v = layout} (reads (record { is_text = refl; short = short })) (retold (lacks none))
-
-  pub good_layout : length layout ≤ layout_limit → (subject : Subject) → IsSubject layer_map layout subject → LayoutComesTo layer_map layout (value subject)
-  good_layout short subject is = goes_on {v = layout} (reads (record { is_text = refl; short = short })) (kept (reads is))
+  pub short_layout : (outcome : Outcome Subject Refusal) → length layout ≤ layout_limit → ShortLayoutComesTo layer_map layout outcome → LayoutComesTo layer_map layout outcome
+  short_layout outcome short comes = goes_on {v = layout} (reads (record { is_text = refl; short = short })) comes
 
 -- the text of a map: too long, or what it comes to where it is not
 pub refused_map_length : (bytes : List ℕ) → map_limit < length bytes → MapTextComesTo bytes (refused map_too_long)

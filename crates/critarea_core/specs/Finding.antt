@@ -11,11 +11,13 @@ use Rattle.layer_map.specs.declared.fault.MapFault.{MapFault}
 use Rattle.layer_map.specs.declared.fault.MapFault.TheVariants as map
 use Rattle.layer_map.specs.declared.map.Map.{Map}
 use Rattle.critarea_core.specs.Input.{file, sources_of, file_name_of, IsTextFrom}
+use Rattle.gds_syntax.specs.declared.fault.SyntaxFault.TheVariants as syntax
 use Rattle.critarea_core.specs.declared.fault.LayoutFault.{LayoutFault}
 use Rattle.critarea_core.specs.declared.fault.LayoutFault.TheVariants as fault
 use Rattle.critarea_core.specs.Refusals.{of_map_fault, of_layout_fault, refusal_text}
 use Rattle.critarea_core.specs.Run.{MapMayCome, Failures, Output, HasRisen, IsCalm, IsIdle, Takes, FailsWithin, NameSomeFile, IsReportFor, IsRefusalFor}
-use Rattle.critarea_core.specs.Verdict.{Subject, ShortMapComesTo, LayoutComesTo, IsReportOn}
+use Rattle.critarea_core.specs.Layout.{Subject}
+use Rattle.critarea_core.specs.Verdict.{ShortMapComesTo, LayoutComesTo, IsReportOn}
 use Rattle.critarea_core.specs.declared.refusal.Refusal.{Refusal}
 use Rattle.critarea_core.specs.declared.unreported.Unreported.{Unreported}
 use Rattle.critarea_core.specs.declared.unreported.Unreported.TheVariants.{Refused, FilesFailed, Memory}
@@ -59,8 +61,9 @@ IsReportFound told layer_map name files (Err Memory) = IsCalm files
 
 -- why there is no report where a layout was not read
 abbrev pub of_unfit_layout : LayoutFault → Unreported
-of_unfit_layout fault.OtherForm = Refused (of_layout_fault fault.OtherForm)
 of_unfit_layout fault.Memory = Memory
+of_unfit_layout (fault.Syntax syntax.Memory) = Memory
+of_unfit_layout why = Refused (of_layout_fault why)
 
 -- why there is no map or report where a file was not read; this is the refusal of a file that is too long
 abbrev pub of_unread : Refusal → ReadError → Unreported

@@ -2,8 +2,8 @@
 pub mod Input
 -- the layouts that are read
 pub mod Outline
-pub mod Patterns
 pub mod Layout
+pub mod LayoutReaders
 -- what an input comes to, and a run
 pub mod LayoutFaults
 pub mod Refusals
@@ -11,5 +11,4 @@ pub mod Verdict
 pub mod Run
 -- what parts of the code alone cite
 pub mod Edges
-pub mod Taking
 pub mod Finding

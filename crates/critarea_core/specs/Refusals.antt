@@ -4,6 +4,8 @@ use Rattle.std.specs.Fmt.{decimal}
 use Rattle.std.specs.List.{concat}
 use Rattle.layer_map.specs.MapFaults as map_faults
 use Rattle.layer_map.specs.declared.fault.MapFault.{MapFault}
+use Rattle.gds_syntax.specs.SyntaxFaults as syntax_faults
+use Rattle.gds_syntax.specs.declared.fault.SyntaxFault.{SyntaxFault}
 use Rattle.critarea_core.specs.LayoutFaults.{number_of, place_of}
 use Rattle.critarea_core.specs.declared.fault.LayoutFault.{LayoutFault}
 use Rattle.critarea_core.specs.declared.refusal.Refusal.{Refusal}
@@ -51,6 +53,14 @@ layout_too_long = of_layout 9 layout_limit
 -- the layout has a fault
 abbrev pub of_layout_fault : LayoutFault → Refusal
 of_layout_fault fault = of_layout (number_of fault) (place_of fault)
+
+-- its bytes are no library
+abbrev pub of_syntax_fault : SyntaxFault → Refusal
+of_syntax_fault fault = of_layout (syntax_faults.number_of fault) (syntax_faults.place_of fault)
+
+-- the layout has what is not supported yet, at this offset
+abbrev pub layout_not_supported : ℕ → Refusal
+layout_not_supported at = of_layout 60 at
 
 -- the line that is printed for a refusal
 abbrev pub refusal_text : Refusal → List ℕ

@@ -9,7 +9,8 @@ use Rattle.command_line.specs.declared.task.Task.{Task}
 use Rattle.layer_map.specs.LayerMap.{LayerMap}
 use Rattle.critarea_core.specs.Input.{Input, sources_of, file_name_of, file_names, IsTextFrom, IsToldInput, MayBeInput}
 use Rattle.critarea_core.specs.Refusals.{refusal_text}
-use Rattle.critarea_core.specs.Verdict.{Subject, MapComesTo, IsVerdict, IsReportOn}
+use Rattle.critarea_core.specs.Layout.{Subject}
+use Rattle.critarea_core.specs.Verdict.{MapComesTo, IsVerdict, IsReportOn}
 use Rattle.critarea_core.specs.declared.refusal.Refusal.{Refusal}
 
 -- Below, `words` are the words of the command line, and `told` gives what a file holds, by its name, where that is told.

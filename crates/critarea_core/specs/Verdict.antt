@@ -1,29 +1,23 @@
 -- the verdict on words and on the input that they name: the first refusal, or what a report is on
-use Rattle.std.specs.Prelude.{ℕ, List, [], ◌∷◌, ◌≡◌, ◌≤◌, length, Option, IsSomeAnd}
+use Rattle.std.specs.Prelude.{ℕ, List, [], ◌∷◌, ◌≡◌, ◌≤◌, length, Option, IfSome, IsSomeAnd}
 use Rattle.first_refusal.specs.Outcomes.{Outcome, value, Reads, Retold, Then}
 use Rattle.first_refusal.specs.Checks.{Checks}
 use Rattle.command_line.specs.Requests.{Ask}
 use Rattle.command_line.specs.declared.request.Request.{Request}
 use Rattle.command_line.specs.declared.task.Task.{Task}
 use Rattle.command_line.specs.declared.task.Task.TheVariants.{OneMetal, Mapped}
+use Rattle.gds_records.specs.Spelling.{AreBytes}
 use Rattle.layer_map.specs.Documents as document
 use Rattle.layer_map.specs.LayerMap.{LayerMap, one_metal_map}
 use Rattle.layer_map.specs.Paths.{cuts_path, terminals_path}
 use Rattle.critical_areas.specs.Coverage.{IsCoveredOn}
 use Rattle.critical_areas.specs.Rows.{AreRows}
-use Rattle.critical_areas.specs.declared.shape.Shape.{Shape}
 use Rattle.report.specs.Report.{report_text}
 use Rattle.report.specs.declared.row.Row.{Row}
 use Rattle.critarea_core.specs.Input.{Input, IsThere, sources_of}
-use Rattle.critarea_core.specs.Layout.{IsLayout}
-use Rattle.critarea_core.specs.Refusals.{usage, map_limit, map_too_long, of_map_fault, map_not_supported, layout_limit, layout_too_long, of_layout_fault}
-use Rattle.critarea_core.specs.declared.fault.LayoutFault.TheVariants.{OtherForm}
+use Rattle.critarea_core.specs.Layout.{Subject, ShortLayoutComesTo}
+use Rattle.critarea_core.specs.Refusals.{usage, map_limit, map_too_long, of_map_fault, map_not_supported, layout_limit, layout_too_long}
 use Rattle.critarea_core.specs.declared.refusal.Refusal.{Refusal}
-
--- what a report is on: the layer map, and the shapes of the layout
-pub record Subject : Type 0 where
-  pub layer_map : LayerMap
-  pub shapes : List Shape
 
 -- the same text, where it has at most so many bytes
 pub record IsShortEnough (limit : ℕ) (text same : List ℕ) : Type 0 where
@@ -66,19 +60,13 @@ abbrev pub MapComesTo : Task → Option (List ℕ) → Outcome LayerMap Refusal 
 MapComesTo (OneMetal layout layer datatype radius) text outcome = outcome ≡ value (one_metal_map layer datatype radius)
 MapComesTo (Mapped layout map) text outcome = IsSomeAnd text (λ bytes. MapTextComesTo bytes outcome)
 
--- the subject has this layer map, and the shapes of the layout
-pub record IsSubject (layer_map : LayerMap) (layout : List ℕ) (subject : Subject) : Type 0 where
-  pub mapped : subject.layer_map ≡ layer_map
-  pub shaped : IsLayout layout subject.shapes
-
 -- the words: a request, or they fit no form of the command
 abbrev pub WordsComeTo : List (List ℕ) → Outcome Request Refusal → Type 0
 WordsComeTo words = Reads (Ask words) usage
 
--- the layout: first its length, and then its form
+-- the layout: first its length, and then its bytes
 abbrev pub LayoutComesTo : LayerMap → List ℕ → Outcome Subject Refusal → Type 0
-LayoutComesTo layer_map layout =
-    Then (Reads (IsShortEnough layout_limit layout) layout_too_long) (λ text. Retold of_layout_fault (Reads (IsSubject layer_map text) OtherForm))
+LayoutComesTo layer_map layout = Then (Reads (IsShortEnough layout_limit layout) layout_too_long) (ShortLayoutComesTo layer_map)
 
 -- the verdict: first the words, then the map, and then the layout, each of which is looked at only where what stands
 -- before it is good
@@ -99,6 +87,10 @@ abbrev pub HasTexts : List (List ℕ) → Input → Type 0
 HasTexts words input =
     (request : Request) → Ask words request
     → IsThere (sources_of request.task).map input.map × (IsLayoutLookedAt words input → IsThere (sources_of request.task).layout input.layout)
+
+-- the layout, where it is there, is a string of bytes
+abbrev pub AreBytesThere : Option (List ℕ) → Type 0
+AreBytesThere text = IfSome text AreBytes
 
 -- the text is the report on the subject
 pub record IsReportOn (subject : Subject) (text : List ℕ) : Type 0 where

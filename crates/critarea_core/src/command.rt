@@ -1,13 +1,15 @@
-ghost use Rattle.std.specs.Prelude.{◌≡◌, ◌≤◌, ℕ, List, [], ◌∷◌, Err, length, All, IfOk};
+ghost use Rattle.std.specs.Prelude.{◌≡◌, ◌≢◌, ◌≤◌, ℕ, List, [], ◌∷◌, length, All, IfOk, IfErr};
+ghost use Rattle.first_refusal.specs.Outcomes.{value, refused};
 ghost use Rattle.edge_io.specs.Bytes.{Appends};
 ghost use Rattle.command_line.specs.Requests.{Ask};
 ghost use Rattle.layer_map.specs.MapView.{layer_map_of};
 ghost use Rattle.critarea_core.specs.Finding.{IsFound, IsReportFound};
 ghost use Rattle.critarea_core.specs.Input.{file, sources_of};
-ghost use Rattle.critarea_core.specs.Refusals.{layout_limit};
+ghost use Rattle.critarea_core.specs.Refusals.{layout_limit, of_layout_fault};
 ghost use Rattle.critarea_core.specs.Run.{EndsWith, IsComplete, StartsNamed, failures, output};
-ghost use Rattle.critarea_core.specs.Verdict.{IsReportOn, IsSubject, IsSupported, Subject, support_checks};
-ghost use Rattle.critarea_core.specs.declared.fault.LayoutFault.TheVariants.{OtherForm};
+ghost use Rattle.critarea_core.specs.Layout.{ShortLayoutComesTo, Subject};
+ghost use Rattle.critarea_core.specs.Verdict.{IsReportOn, IsSupported, support_checks};
+ghost use Rattle.critarea_core.specs.declared.fault.LayoutFault.TheVariants.{Memory};
 
 use super::fault::LayoutFault;
 use super::layout::read_layout;
@@ -29,10 +31,10 @@ fn report_of_bytes(alloc: Global, map: &Map, bytes: &[u8]) -> Result<Vec<u8>, La
     requires short { length bytes.now ≤ layout_limit }
     requires supported { All (IsSupported (layer_map_of map.now)) support_checks }
     ensures report { IfOk result (λ text. (subject : Subject)
-        × IsSubject (layer_map_of map.now) bytes.now subject × IsReportOn subject text.items) }
-    ensures refused { result ≡ Err OtherForm → (subject : Subject) → IsSubject (layer_map_of map.now) bytes.now subject → ⊥ }
+        × ShortLayoutComesTo (layer_map_of map.now) bytes.now (value subject) × IsReportOn subject text.items) }
+    ensures refused { IfErr result (λ fault. fault ≢ Memory → ShortLayoutComesTo (layer_map_of map.now) bytes.now (refused (of_layout_fault fault))) }
 {
-    let shapes = read_layout(alloc, bytes)?;
+    let shapes = read_layout(alloc, map, bytes)?;
     let rows = critical_areas(alloc, map, shapes.as_slice())?;
     let mut text = Vec::new(alloc);
     write_report(alloc, rows.as_slice(), &mut text)?;
@@ -124,8 +126,9 @@ fn find<F: Files>(alloc: Global, words: &[Word], files: &mut F) -> Result<Vec<u8
 /// Nothing goes out before the report is complete, so a refused map or layout leaves `out` as it was. Where what the files
 /// tell of the map is refused, the layout's file is not started. A map's refusal has number 39 at 1048576 where the map has more bytes than
 /// that, one of 40 to 47 at a path of its document, and 60 at 6 or 7 where it has cuts or terminals, which are not
-/// supported yet. A layout's refusal has number 9 at 268435456 where the layout has more bytes than that, and 60 at 0 where it is
-/// no library of one structure of rectangles.
+/// supported yet. A layout's refusal has number 9 at 268435456 where the layout has more bytes than that, one of 10 to 23 at an
+/// offset where its bytes are no library, and then 60: at 0 where the library has no structure or more than one, or at the offset
+/// of the first element that is a reference, or is no rectangle and on a layer of the map.
 pub fn run<F: Files, O: Sink, E: Sink>(
     _rt: &(impl Threads + Sync),
     alloc: Global,

@@ -1,21 +1,23 @@
-ghost use Rattle.critarea_core.specs.declared.fault.LayoutFault.TheVariants.{OtherForm, Memory};
+ghost use Rattle.critarea_core.specs.declared.fault.LayoutFault.TheVariants.{Memory};
 ghost use Rattle.std.specs.Prelude.{◌≡◌};
 
+use gds_syntax::SyntaxFault;
 use geo_core::NoMemory;
 use std::alloc::AllocFailed;
 use thiserror::Error;
 
-/// The records that follow are neither a rectangle nor the ends of a library.
-#[derive(Clone, Copy, Debug, PartialEq, Eq, Error)]
-#[error("the records are neither a rectangle nor the end of the library")]
-pub struct Misfit;
-
 /// Why a layout was not read.
 #[derive(Clone, Copy, Debug, PartialEq, Eq, Error)]
 pub enum LayoutFault {
-    /// The layout is no library of one structure of rectangles.
-    #[error("the layout is not a library of one structure of rectangles")]
-    OtherForm,
+    /// The bytes are no library.
+    #[error("the layout is no library")]
+    Syntax(SyntaxFault),
+    /// The library has what is not supported yet.
+    #[error("the layout is not supported yet, at byte {at}")]
+    NotSupported {
+        /// The offset of the element, or 0 where there is no structure or more than one.
+        at: u32,
+    },
     /// Out of memory.
     #[error("out of memory")]
     Memory,
@@ -29,26 +31,34 @@ impl LayoutFault {
         ensures { result ≡ number_of self.now }
     {
         match self {
-            LayoutFault::OtherForm => 60,
+            LayoutFault::Syntax(fault) => fault.number(),
+            LayoutFault::NotSupported { .. } => 60,
             LayoutFault::Memory => 0,
         }
     }
 
-    /// Where the layout shows it: the form is that of the layout as a whole, which is 0.
+    /// The offset at which the layout shows it.
     pub fn place(&self) -> u64
         ensures { result ≡ place_of self.now }
     {
         match self {
-            LayoutFault::OtherForm | LayoutFault::Memory => 0,
+            LayoutFault::Syntax(fault) => fault.place(),
+            LayoutFault::NotSupported { at } => u64::from(*at),
+            LayoutFault::Memory => 0,
         }
     }
 }
 
-impl From<Misfit> for LayoutFault {
-    ghost from_gives = { λ _ fault. fault ≡ OtherForm };
+impl From<SyntaxFault> for LayoutFault {
+    ghost use Rattle.critarea_core.specs.LayoutFaults.{of_syntax};
 
-    fn from(_fault: Misfit) -> LayoutFault {
-        LayoutFault::OtherForm
+    ghost from_gives = { λ why fault. fault ≡ of_syntax why };
+
+    fn from(why: SyntaxFault) -> LayoutFault {
+        match why {
+            SyntaxFault::Memory => LayoutFault::Memory,
+            _ => LayoutFault::Syntax(why),
+        }
     }
 }
 

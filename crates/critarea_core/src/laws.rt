@@ -3,12 +3,13 @@
 ghost use Rattle.std.specs.Prelude.{ℕ, ◌≡◌, List};
 ghost use Rattle.first_refusal.specs.Laws.{IsUnique, CannotLack};
 ghost use Rattle.critarea_core.specs.Input.{Input};
-ghost use Rattle.critarea_core.specs.Layout.{IsLayout};
-ghost use Rattle.critarea_core.specs.Verdict.{HasTexts, IsReportOn, IsVerdict, Subject};
+ghost use Rattle.critarea_core.specs.Layout.{Subject};
+ghost use Rattle.critarea_core.specs.Verdict.{AreBytesThere, HasTexts, IsReportOn, IsVerdict, LayoutComesTo};
+ghost use Rattle.layer_map.specs.LayerMap.{LayerMap};
 
-/// Bytes are a layout of one list of shapes at most.
+/// A layer map and the bytes of a layout come to one subject, or to one refusal, at most.
 pub fn layouts_agree()
-    ensures { (bytes : List ℕ) → IsUnique (IsLayout bytes) }
+    ensures { (layer_map : LayerMap) (bytes : List ℕ) → IsUnique (LayoutComesTo layer_map bytes) }
 {}
 
 /// Words and an input have one verdict at most.
@@ -16,9 +17,10 @@ pub fn verdicts_agree()
     ensures { (words : List (List ℕ)) (input : Input) → IsUnique (IsVerdict words input) }
 {}
 
-/// Words and an input that has the texts which are looked at have a verdict: it cannot be that they have none.
+/// Words and an input that has the texts which are looked at, each a string of bytes, have a verdict: it cannot be that they have
+/// none.
 pub fn inputs_have_verdicts()
-    ensures { (words : List (List ℕ)) (input : Input) → HasTexts words input → CannotLack (IsVerdict words input) }
+    ensures { (words : List (List ℕ)) (input : Input) → HasTexts words input → AreBytesThere input.layout → CannotLack (IsVerdict words input) }
 {}
 
 /// A subject has one report at most.

@@ -7,7 +7,6 @@ pub mod laws;
 mod layout;
 mod maps;
 mod outline;
-mod pattern;
 mod printing;
 mod refusal;
 mod unreported;

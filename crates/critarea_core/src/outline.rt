@@ -33,8 +33,8 @@ fn rect_within(x0: i32, y0: i32, x1: i32, y1: i32) -> Option<Rect>
     Some(Rect { x0, y0, x1, y1 })
 }
 
-/// The rectangle that the points go round, where there is one within a layout.
-pub fn outlined(a: Point, b: Point, c: Point, d: Point, e: Point) -> Option<Rect>
+/// The rectangle that these five points go round, where there is one within a layout.
+fn outlined(a: Point, b: Point, c: Point, d: Point, e: Point) -> Option<Rect>
     ensures some { IfSome result (λ r. GoesRound r (a ∷ b ∷ c ∷ d ∷ e ∷ [])) }
     ensures within { IfSome result IsInLayout }
     ensures none { IfNone result ((r : Rect) → GoesRound r (a ∷ b ∷ c ∷ d ∷ e ∷ []) → IsInLayout r → ⊥) }
@@ -46,4 +46,16 @@ pub fn outlined(a: Point, b: Point, c: Point, d: Point, e: Point) -> Option<Rect
         return None;
     }
     rect_within(a.x.min(c.x), a.y.min(c.y), a.x.max(c.x), a.y.max(c.y))
+}
+
+/// The rectangle that the points go round, where there is one within a layout.
+pub fn outlined_by(points: &[Point]) -> Option<Rect>
+    ensures some { IfSome result (λ r. GoesRound r points.now) }
+    ensures within { IfSome result IsInLayout }
+    ensures none { IfNone result ((r : Rect) → GoesRound r points.now → IsInLayout r → ⊥) }
+{
+    if points.len() != 5 {
+        return None;
+    }
+    outlined(points[0], points[1], points[2], points[3], points[4])
 }

@@ -1,6 +1,7 @@
 use super::fault::LayoutFault;
 use super::refusal::Refusal;
 use edge_io::ReadError;
+use gds_syntax::SyntaxFault;
 use geo_core::NoMemory;
 use layer_map::MapFault;
 use thiserror::Error;
@@ -49,11 +50,8 @@ impl Unreported {
         ensures { result ≡ of_unfit_layout fault }
     {
         match fault {
-            LayoutFault::OtherForm => Unreported::Refused(Refusal::of_layout(
-                fault.number(),
-                fault.place(),
-            )),
-            LayoutFault::Memory => Unreported::Memory,
+            LayoutFault::Memory | LayoutFault::Syntax(SyntaxFault::Memory) => Unreported::Memory,
+            _ => Unreported::Refused(Refusal::of_layout(fault.number(), fault.place())),
         }
     }
 

@@ -1,11 +1,12 @@
 -- The head of a record: what is spelled is read, and what is read is spelled so.
-use Rattle.std.proofs.Common.{◌≡◌, ℕ, ◌+◌, ◌-◌, ◌/◌, ◌%◌, ◌<◌, ◌≤◌, List, [], ◌∷◌, ◌++◌, length, get_or, take, drop, refl, sym, ap, ◌∙◌, arith}
+use Rattle.std.proofs.Common.{◌≡◌, ℕ, ◌+◌, ◌-◌, ◌/◌, ◌%◌, ◌<◌, ◌≤◌, List, [], ◌∷◌, ◌++◌, length, get_or, take, drop, refl, sym, ap, subst, ◌∙◌, arith}
 use Rattle.std.proofs.lemmas.List.{take_at, drop_at, take-append-drop, length-take-le, length-drop, drop-drop}
 use Rattle.std.proofs.lemmas.List.Elements.{All-take, All-drop, All-from_get_or}
 use Rattle.byteorder.specs.Numbers.{big_number-reads_back}
 use Rattle.gds_records.specs.Spelling.{Entry, IsByte, HasSpelling, AreBytes, spelling}
 use Rattle.gds_records.specs.Profile.{IsInProfile}
-use Rattle.gds_records.specs.RecordChecks.{length_field}
+use Rattle.gds_records.specs.Table.{IsPermitted}
+use Rattle.gds_records.specs.RecordChecks.{length_field, kind_field, form_field}
 
 -- what a slice of bytes has are bytes
 pub bytes_are_bytes : (bytes : List ℕ) → ((i : ℕ) → get_or bytes i 0 < 256) → AreBytes bytes
@@ -35,8 +36,9 @@ abbrev pub entry_at : List ℕ → ℕ → Entry
 entry_at rest n = record { kind = get_or rest 2 0; form = get_or rest 3 0; body = take (n - 4) (drop 4 rest) }
 
 -- it is in the profile
-pub IsInProfile-entry_at : (rest : List ℕ) (n : ℕ) → AreBytes rest → n ≡ length_field rest → 4 ≤ n → n % 2 ≡ 0 → n ≤ length rest → IsInProfile (entry_at rest n)
-IsInProfile-entry_at rest n h field counts_head is_even room =
+pub IsInProfile-entry_at : (rest : List ℕ) (n : ℕ) → AreBytes rest → n ≡ length_field rest → 4 ≤ n → n % 2 ≡ 0 → n ≤ length rest
+    → IsPermitted (kind_field rest) (form_field rest) (n - 4) → IsInProfile (entry_at rest n)
+IsInProfile-entry_at rest n h field counts_head is_even room permitted =
     let len : length (take (n - 4) (drop 4 rest)) ≡ n - 4 = length-take-le (n - 4) (drop 4 rest) (omega (arith, length-drop 4 rest)) in
     let a = h 0 0 (omega arith) in
     let b = h 1 0 (omega arith) in
@@ -48,6 +50,7 @@ IsInProfile-entry_at rest n h field counts_head is_even room =
         even = omega arith;
         fits = omega arith;
       };
+      permitted = subst (IsPermitted (kind_field rest) (form_field rest)) (sym len) permitted;
     }
 
 -- and the bytes begin with its spelling

@@ -1,5 +1,7 @@
 pub mod Heads
+pub mod TableLaws
 pub mod RecordCheckLaws
 pub mod SplitLaws
 pub mod ReadingLaws
 pub mod TextLaws
+pub mod RealLaws

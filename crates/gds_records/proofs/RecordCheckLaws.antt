@@ -1,13 +1,15 @@
 -- Bytes have one fault at most. They begin with a record, and then have none, or they have a fault.
-use Rattle.std.proofs.Common.{◌≡◌, ℕ, ◌%◌, ◌<◌, ◌≤◌, ◌⊎◌, inl, inr, List, ◌++◌, length, drop, All, refl, arith}
+use Rattle.std.proofs.Common.{◌≡◌, ℕ, ◌%◌, ◌<◌, ◌≤◌, ◌⊎◌, inl, inr, ◌-◌, List, ◌++◌, length, drop, All, refl, subst, arith}
 use Rattle.std.proofs.lemmas.Bool.{cases_lt}
 use Rattle.std.proofs.lemmas.List.{length-append}
 use Rattle.first_refusal.proofs.CheckLaws.{fails_at_once, fails_later, all_hold_or_one_fails, first_refusals_agree}
 use Rattle.gds_records.specs.declared.fault.RecordFault.{RecordFault}
-use Rattle.gds_records.specs.declared.fault.RecordFault.TheVariants.{Truncated, BadLength}
+use Rattle.gds_records.specs.declared.fault.RecordFault.TheVariants.{Truncated, BadLength, BadRecord, BadSize}
 use Rattle.gds_records.specs.Spelling.{Entry, AreBytes, spelling}
 use Rattle.gds_records.specs.Profile.{IsInProfile}
-use Rattle.gds_records.specs.RecordChecks.{length_field, RecordCheck, head_is_there, length_counts_head, length_is_even, body_is_there, record_checks, Holds, fault_at, IsFaultOf}
+use Rattle.gds_records.specs.Table.{IsListed, IsPermitted}
+use Rattle.gds_records.specs.RecordChecks.{length_field, kind_field, form_field, RecordCheck, head_is_there, length_counts_head, length_is_even, body_is_there, form_is_listed, size_is_permitted, record_checks, Holds, fault_at, IsFaultOf}
+use Rattle.gds_records.proofs.TableLaws.{listed_or_not, permitted_or_not}
 use Rattle.gds_records.proofs.Heads.{length_field-spelling, entry_at, IsInProfile-entry_at, spelling-entry_at}
 
 -- bytes have one fault at most
@@ -21,6 +23,10 @@ holds_of_record e rest h head_is_there = omega arith
 holds_of_record e rest h length_counts_head = omega (arith, length_field-spelling e rest h.spelled)
 holds_of_record e rest h length_is_even = omega (arith, length_field-spelling e rest h.spelled, h.spelled.even)
 holds_of_record e rest h body_is_there = omega (arith, length_field-spelling e rest h.spelled, length-append e.body rest)
+holds_of_record e rest h form_is_listed = (h.permitted.0, h.permitted.1)
+holds_of_record e rest h size_is_permitted =
+    let size : length e.body ≡ length_field (spelling e ++ rest) - 4 = omega (arith, length_field-spelling e rest h.spelled) in
+    subst (IsPermitted e.kind e.form) size h.permitted
 
 pub records_have_no_fault : (offset : ℕ) (e : Entry) (rest : List ℕ) (fault : RecordFault) → IsInProfile e → IsFaultOf offset (spelling e ++ rest) fault → ⊥
 records_have_no_fault offset e rest fault h f = f.is_first.fails (holds_of_record e rest h f.check)
@@ -31,6 +37,8 @@ holds_or_not rest head_is_there = elim (cases_lt (length rest) 4) [ inl less ↦
 holds_or_not rest length_counts_head = elim (cases_lt (length_field rest) 4) [ inl less ↦ inr (λ h. omega arith) | inr h ↦ inl h ]
 holds_or_not rest length_is_even = elim (cases_lt 0 (length_field rest % 2)) [ inl odd ↦ inr (λ h. omega arith) | inr h ↦ inl (omega arith) ]
 holds_or_not rest body_is_there = elim (cases_lt (length rest) (length_field rest)) [ inl less ↦ inr (λ h. omega arith) | inr h ↦ inl h ]
+holds_or_not rest form_is_listed = listed_or_not (kind_field rest) (form_field rest)
+holds_or_not rest size_is_permitted = permitted_or_not (kind_field rest) (form_field rest) (length_field rest - 4)
 
 -- what holds of each of the checks, check by check
 holds_of_all : (rest : List ℕ) → All (Holds rest) record_checks → (check : RecordCheck) → Holds rest check
@@ -38,6 +46,8 @@ holds_of_all rest all head_is_there = all 0 head_is_there (omega arith)
 holds_of_all rest all length_counts_head = all 1 head_is_there (omega arith)
 holds_of_all rest all length_is_even = all 2 head_is_there (omega arith)
 holds_of_all rest all body_is_there = all 3 head_is_there (omega arith)
+holds_of_all rest all form_is_listed = all 4 head_is_there (omega arith)
+holds_of_all rest all size_is_permitted = all 5 head_is_there (omega arith)
 
 -- each check holds of bytes, or they have a fault
 hold_or_fault : (offset : ℕ) (rest : List ℕ) → ((check : RecordCheck) → Holds rest check) ⊎ ((f : RecordFault) × IsFaultOf offset rest f)
@@ -56,7 +66,7 @@ record_or_fault offset rest bytes =
           let n : ℕ = length_field rest in
           let counts_head = holds length_counts_head in
           let room = holds body_is_there in
-          inl (n, entry_at rest n, IsInProfile-entry_at rest n bytes refl counts_head (holds length_is_even) room, spelling-entry_at rest n bytes refl counts_head room)
+          inl (n, entry_at rest n, IsInProfile-entry_at rest n bytes refl counts_head (holds length_is_even) room (holds size_is_permitted), spelling-entry_at rest n bytes refl counts_head room)
       | inr fault ↦ inr fault
     ]
 
@@ -73,5 +83,24 @@ module _ (offset : ℕ) (rest : List ℕ) where
       pub bad_where_odd : length_field rest % 2 ≡ 1 → IsFaultOf offset rest (BadLength offset (length_field rest))
       bad_where_odd odd = record { check = length_is_even; is_first = fails_later _ _ _ _ head (fails_later _ _ _ _ counts_head (fails_at_once _ _ _ (λ h. omega arith))); is_its_refusal = refl }
 
-      pub truncated_in_body : length_field rest % 2 ≡ 0 → length rest < length_field rest → IsFaultOf offset rest (Truncated offset)
-      truncated_in_body even short = record { check = body_is_there; is_first = fails_later _ _ _ _ head (fails_later _ _ _ _ counts_head (fails_later _ _ _ _ even (fails_at_once _ _ _ (λ h. omega arith)))); is_its_refusal = refl }
+      module _ (even : length_field rest % 2 ≡ 0) where
+        pub truncated_in_body : length rest < length_field rest → IsFaultOf offset rest (Truncated offset)
+        truncated_in_body short = record { check = body_is_there; is_first = fails_later _ _ _ _ head (fails_later _ _ _ _ counts_head (fails_later _ _ _ _ even (fails_at_once _ _ _ (λ h. omega arith)))); is_its_refusal = refl }
+
+        module _ (body : length_field rest ≤ length rest) where
+          pub bad_record : (IsListed (kind_field rest) (form_field rest) → ⊥) → IsFaultOf offset rest (BadRecord offset (kind_field rest) (form_field rest))
+          bad_record none =
+              record {
+                check = form_is_listed;
+                is_first = fails_later _ _ _ _ head (fails_later _ _ _ _ counts_head (fails_later _ _ _ _ even (fails_later _ _ _ _ body (fails_at_once _ _ _ none))));
+                is_its_refusal = refl;
+              }
+
+          pub bad_size : (n : ℕ) → n ≡ length_field rest → IsListed (kind_field rest) (form_field rest) → (IsPermitted (kind_field rest) (form_field rest) (n - 4) → ⊥) → IsFaultOf offset rest (BadSize offset)
+          bad_size n field listed refused =
+              let refuses = subst (λ (m : ℕ). IsPermitted (kind_field rest) (form_field rest) (m - 4) → ⊥) field refused in
+              record {
+                check = size_is_permitted;
+                is_first = fails_later _ _ _ _ head (fails_later _ _ _ _ counts_head (fails_later _ _ _ _ even (fails_later _ _ _ _ body (fails_later _ _ _ _ listed (fails_at_once _ _ _ refuses)))));
+                is_its_refusal = refl;
+              }

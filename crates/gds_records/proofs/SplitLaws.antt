@@ -178,3 +178,7 @@ cut_is_not_whole offset front (b ∷ lost) entries others some joined s t =
     let longer : length front ≡ length (spellings entries) + length t.rest = ap length again ∙ length-append (spellings entries) t.rest in
     let shorter : length front + length (b ∷ lost) ≡ length (spellings entries) = sym (length-append front (b ∷ lost)) ∙ ap length joined in
     omega arith
+
+-- bytes split
+pub all_bytes_split : (offset : ℕ) (bytes : List ℕ) → AreBytes bytes → HasSplit offset bytes
+all_bytes_split offset bytes h = has_split (suc (length bytes)) offset bytes (omega arith) h

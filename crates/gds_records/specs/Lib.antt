@@ -1,3 +1,6 @@
+pub mod Kinds
+pub mod Forms
+pub mod Table
 pub mod Spelling
 pub mod Profile
 pub mod RecordFaults
@@ -5,3 +8,4 @@ pub mod RecordChecks
 pub mod Split
 pub mod Reading
 pub mod Fields
+pub mod Reals

@@ -2,6 +2,7 @@
 use Rattle.std.specs.Prelude.{◌≡◌, ◌≢◌, ℕ, ◌+◌, ◌%◌, ◌^◌, ◌<◌, List, ◌∷◌, ◌++◌, length, All}
 use Rattle.std.specs.List.{flat_map}
 use Rattle.byteorder.specs.Endian.{big_bytes}
+use Rattle.gds_records.specs.Kinds as kind
 
 -- the contents of a record, wherever it lies: its kind, the form of its data, and its body
 pub record Entry : Type 0 where
@@ -34,10 +35,10 @@ pub record HasSpelling (e : Entry) : Type 0 where
   pub even : length e.body % 2 ≡ 0
   pub fits : length e.body + 4 < 2 ^ 16
 
--- the record ends a library: 4 is ENDLIB's number among the kinds of records of GDSII Release 6
+-- the record ends a library
 abbrev pub IsEndlib : Entry → Type 0
-IsEndlib e = e.kind ≡ 4
+IsEndlib e = e.kind ≡ kind.endlib
 
 -- the record is of any other kind
 abbrev pub IsNoEndlib : Entry → Type 0
-IsNoEndlib e = e.kind ≢ 4
+IsNoEndlib e = e.kind ≢ kind.endlib

@@ -1,5 +1,8 @@
 //! The kinds of records, as the GDSII Stream Format Manual, Release 6.0, numbers them.
 
+ghost use Rattle.std.specs.Prelude.{◌≡◌};
+ghost use Rattle.gds_records.specs.Kinds as kind;
+
 /// The version of the stream format.
 pub const HEADER: u8 = 0x00;
 /// When the library was last changed and read. It begins the library.
@@ -96,3 +99,55 @@ pub const LIBDIRSIZE: u8 = 0x39;
 pub const SRFNAME: u8 = 0x3A;
 /// Who may use the library.
 pub const LIBSECUR: u8 = 0x3B;
+
+/// The constants are the numbers by which the definitions name the kinds.
+pub fn kinds_are_numbered()
+    ensures { (HEADER ≡ kind.header) ×
+        (BGNLIB ≡ kind.bgnlib) ×
+        (LIBNAME ≡ kind.libname) ×
+        (UNITS ≡ kind.units) ×
+        (ENDLIB ≡ kind.endlib) ×
+        (BGNSTR ≡ kind.bgnstr) ×
+        (STRNAME ≡ kind.strname) ×
+        (ENDSTR ≡ kind.endstr) ×
+        (BOUNDARY ≡ kind.boundary) ×
+        (PATH ≡ kind.path) ×
+        (SREF ≡ kind.sref) ×
+        (AREF ≡ kind.aref) ×
+        (TEXT ≡ kind.text) ×
+        (LAYER ≡ kind.layer) ×
+        (DATATYPE ≡ kind.datatype) ×
+        (WIDTH ≡ kind.width) ×
+        (XY ≡ kind.xy) ×
+        (ENDEL ≡ kind.endel) ×
+        (SNAME ≡ kind.sname) ×
+        (COLROW ≡ kind.colrow) ×
+        (NODE ≡ kind.node) ×
+        (TEXTTYPE ≡ kind.texttype) ×
+        (PRESENTATION ≡ kind.presentation) ×
+        (STRING ≡ kind.string) ×
+        (STRANS ≡ kind.strans) ×
+        (MAG ≡ kind.mag) ×
+        (ANGLE ≡ kind.angle) ×
+        (REFLIBS ≡ kind.reflibs) ×
+        (FONTS ≡ kind.fonts) ×
+        (PATHTYPE ≡ kind.pathtype) ×
+        (GENERATIONS ≡ kind.generations) ×
+        (ATTRTABLE ≡ kind.attrtable) ×
+        (ELFLAGS ≡ kind.elflags) ×
+        (NODETYPE ≡ kind.nodetype) ×
+        (PROPATTR ≡ kind.propattr) ×
+        (PROPVALUE ≡ kind.propvalue) ×
+        (BOX ≡ kind.box) ×
+        (BOXTYPE ≡ kind.boxtype) ×
+        (PLEX ≡ kind.plex) ×
+        (BGNEXTN ≡ kind.bgnextn) ×
+        (ENDEXTN ≡ kind.endextn) ×
+        (STRCLASS ≡ kind.strclass) ×
+        (FORMAT ≡ kind.format) ×
+        (MASK ≡ kind.mask) ×
+        (ENDMASKS ≡ kind.endmasks) ×
+        (LIBDIRSIZE ≡ kind.libdirsize) ×
+        (SRFNAME ≡ kind.srfname) ×
+        (LIBSECUR ≡ kind.libsecur) }
+{}

@@ -1,10 +1,19 @@
-//! Laws of the split of bytes into records, and of texts. Each is a function with an empty body, and its contract says
-//! what holds of the definitions.
+//! Laws of the table of records, of the split of bytes into records, of texts, and of reals. Each is a function with an
+//! empty body, and its contract says what holds of the definitions.
 
-ghost use Rattle.std.specs.Prelude.{◌≡◌, ◌≢◌, ℕ, List, [], ◌++◌};
+ghost use Rattle.std.specs.Prelude.{◌≡◌, ◌≢◌, ℕ, List, [], ◌++◌, Contains};
 ghost use Rattle.gds_records.specs.Spelling.{AreBytes, Entry, spellings};
+ghost use Rattle.gds_records.specs.declared.table.Rule.{Rule};
+ghost use Rattle.gds_records.specs.Table.{table};
 ghost use Rattle.gds_records.specs.Split.{End, HasSplit, Splits, SplitsAgree, whole};
 ghost use Rattle.gds_records.specs.Fields.{TextsAgree};
+ghost use Rattle.gds_records.specs.Reals.{HasValue};
+ghost use Rattle.first_refusal.specs.Laws.{IsUnique};
+
+/// A kind has one rule at most in the table.
+pub fn rules_agree()
+    ensures { (kind : ℕ) → IsUnique (λ (rule : Rule). Contains table (kind, rule)) }
+{}
 
 /// A string of bytes splits in at most one way.
 pub fn splits_agree()
@@ -32,4 +41,9 @@ pub fn cut_streams_are_not_whole()
 /// A body has one text.
 pub fn texts_agree()
     ensures { (body : List ℕ) → TextsAgree body }
+{}
+
+/// A real has one whole value at most.
+pub fn values_agree()
+    ensures { (bytes : List ℕ) → IsUnique (HasValue bytes) }
 {}

@@ -6,10 +6,13 @@ pub mod fields;
 pub mod forms;
 pub mod kinds;
 pub mod laws;
+pub mod reals;
 pub mod record;
 pub mod records;
+mod table;
 
 pub use fault::RecordFault;
 pub use fields::{i16_at, i32_at, text, u16_at};
+pub use reals::real_whole;
 pub use record::Record;
 pub use records::Records;

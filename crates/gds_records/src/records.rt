@@ -1,13 +1,15 @@
 ghost use Rattle.std.specs.Prelude.{◌≡◌, ◌^◌, ◌<◌, ◌↔◌, false, List, length, IsTrue, IfOk, IfErr, IfSome, IfNone, OnErr};
 ghost use Rattle.gds_records.specs.declared.fault.RecordFault.{RecordFault};
 ghost use Rattle.gds_records.specs.Spelling.{Entry};
+ghost use Rattle.gds_records.specs.Profile.{IsInProfile};
 ghost use Rattle.gds_records.specs.RecordChecks.{IsFaultOf};
 ghost use Rattle.gds_records.specs.Split.{End};
-ghost use Rattle.gds_records.specs.Reading.{BeginsWith, IsGivenOrLeft, IsLeft, MovesPast, left_in, start_of};
+ghost use Rattle.gds_records.specs.Reading.{BeginsWith, IsGivenOrLeft, IsLeft, MovesPast, entry_of, left_in, start_of};
 
 use crate::fault::RecordFault;
 use crate::kinds::ENDLIB;
 use crate::record::Record;
+use crate::table::rule_for;
 use byteorder::{BigEndian, ByteOrder};
 use std::marker::Model;
 
@@ -30,10 +32,18 @@ fn record_at<'a>(rest: &'a [u8], at: u32) -> Result<Record<'a>, RecordFault>
     if rest.len() < end {
         return Err(RecordFault::Truncated { at });
     }
+    let kind = rest[2];
+    let form = rest[3];
+    let Some(rule) = rule_for(kind, form) else {
+        return Err(RecordFault::BadRecord { at, kind, form });
+    };
+    if !rule.takes_size(end - HEAD) {
+        return Err(RecordFault::BadSize { at });
+    }
     Ok(Record {
         at,
-        kind: rest[2],
-        form: rest[3],
+        kind,
+        form,
         body: &rest[HEAD..end],
     })
 }
@@ -72,13 +82,18 @@ impl<'a> Records<'a> {
     }
 
     /// The next record, or `None` once ENDLIB was given, whatever the bytes behind it are. An error says why the bytes
-    /// that are left do not begin with a record: the first check of `record_checks` that fails gives `BadLength` for
-    /// a length of less than the head or an odd one, and `Truncated` for a head or a body that is cut. What is no
-    /// record is not passed over: `None` and an error are given at each further call, too.
+    /// that are left do not begin with a record that is taken, by the first check of `record_checks` that fails:
+    /// `Truncated` for a head or a body that is cut, `BadLength` for a length of less than the head or an odd one,
+    /// `BadRecord` for a kind that is not in the table of records or that has another form there, and `BadSize` for a
+    /// body of a size that the table does not give its kind. What is no record is not passed over: `None` and an error
+    /// are given at each further call, too.
     pub fn next(&mut self) -> Result<Option<Record<'a>>, RecordFault>
         // What was still to come is what the call gave, and then what is still to come.
         ensures split { (entries : List Entry) (end : End) →
             IsLeft self.old entries end ↔ IsGivenOrLeft result self.new entries end }
+
+        // What is given is taken by the table of records.
+        ensures in_profile { IfOk result (λ o. IfSome o (λ r. IsInProfile (entry_of r))) }
 
         // When there is no record.
         ensures finished { (result ≡ Ok None) ↔ IsTrue self.old.ended }

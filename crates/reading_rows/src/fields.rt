@@ -1,6 +1,6 @@
 ghost use Rattle.std.specs.Prelude.{◌≡◌};
 
-use gds_records::{Record, forms, i16_at, i32_at, kinds, text, u16_at};
+use gds_records::{Record, forms, i16_at, i32_at, kinds, real_whole, text, u16_at};
 
 /// A record with this body. Its kind and form are not looked at.
 fn record_of(body: &[u8]) -> Record<'_>
@@ -88,5 +88,59 @@ const TEXTS: &[(&[u8], &[u8])] = &[
 fn texts_end_before_their_zero_bytes(rt: HostRuntime) {
     for (body, want) in TEXTS {
         assert!(rt; has_text(body, want), "{body:?}");
+    }
+}
+
+/// Whether this is the whole value of item `k` of a body of reals.
+fn has_real(body: &[u8], k: usize, value: Option<i64>) -> bool {
+    k < body.len() / 8 && real_whole(&record_of(body), k) == value
+}
+
+/// Bodies of reals: the number of an item, and its value where it is whole.
+const REALS: &[(&[u8], usize, Option<i64>)] = &[
+    // 1 in two spellings, 0, and a half
+    (b"\x41\x10\x00\x00\x00\x00\x00\x00", 0, Some(1)),
+    (b"\x42\x01\x00\x00\x00\x00\x00\x00", 0, Some(1)),
+    (b"\x4E\x00\x00\x00\x00\x00\x00\x01", 0, Some(1)),
+    (b"\x00\x00\x00\x00\x00\x00\x00\x00", 0, Some(0)),
+    (b"\x40\x80\x00\x00\x00\x00\x00\x00", 0, None),
+    // angles
+    (b"\x42\x5A\x00\x00\x00\x00\x00\x00", 0, Some(90)),
+    (b"\xC2\x5A\x00\x00\x00\x00\x00\x00", 0, Some(-90)),
+    (b"\x42\xB4\x00\x00\x00\x00\x00\x00", 0, Some(180)),
+    (b"\x43\x10\xE0\x00\x00\x00\x00\x00", 0, Some(270)),
+    (b"\xC3\x16\x80\x00\x00\x00\x00\x00", 0, Some(-360)),
+    // 1 and a part that is left of it
+    (b"\x41\x10\x00\x00\x00\x00\x00\x01", 0, None),
+    (b"\x4D\x00\x00\x00\x00\x00\x00\x01", 0, None),
+    (b"\x00\x00\x00\x00\x00\x00\x00\x01", 0, None),
+    // no fraction, whatever the sign and the exponent
+    (b"\x80\x00\x00\x00\x00\x00\x00\x00", 0, Some(0)),
+    (b"\xFF\x00\x00\x00\x00\x00\x00\x00", 0, Some(0)),
+    // 2^62, 2^63 and -2^63, and the greatest real
+    (
+        b"\x50\x40\x00\x00\x00\x00\x00\x00",
+        0,
+        Some(4_611_686_018_427_387_904),
+    ),
+    (b"\x50\x80\x00\x00\x00\x00\x00\x00", 0, None),
+    (
+        b"\xD0\x80\x00\x00\x00\x00\x00\x00",
+        0,
+        Some(-9_223_372_036_854_775_808),
+    ),
+    (b"\x7F\xFF\xFF\xFF\xFF\xFF\xFF\xFF", 0, None),
+    // the second of two
+    (
+        b"\x41\x10\x00\x00\x00\x00\x00\x00\x41\x20\x00\x00\x00\x00\x00\x00",
+        1,
+        Some(2),
+    ),
+];
+
+#[test]
+fn reals_that_are_whole(rt: HostRuntime) {
+    for (body, k, value) in REALS {
+        assert!(rt; has_real(body, *k, *value), "{k} of {body:?}");
     }
 }

@@ -24,29 +24,25 @@ fn file_a(alloc: Global, bytes: &[u8], fails: &[u64]) -> Result<MemFiles, AllocE
     Ok(MemFiles::new(files, Vec::from_slice(alloc, fails)?))
 }
 
-/// Whether the file `a` of these bytes is answered so, where calls of these numbers fail, and a failure is counted.
-fn file_a_reads(
-    alloc: Global,
-    bytes: &[u8],
-    fails: &[u64],
-    name: &[u8],
-    limit: u16,
-    want: Result<&[u8], ReadError>,
-) -> bool {
-    let Ok(mut files) = file_a(alloc, bytes, fails) else {
-        return false;
-    };
-    let counted = u64::from(want == Err(ReadError::Fault));
-    reads(alloc, &mut files, name, limit, want) && files.faults == counted
-}
-
 /// What is answered where the file `a` is read up to a limit.
 struct Case {
+    /// Its bytes.
     bytes: &'static [u8],
+    /// The numbers of the calls that fail.
     fails: &'static [u64],
+    /// The name that is read.
     name: &'static [u8],
     limit: u16,
     want: Result<&'static [u8], ReadError>,
+}
+
+/// Whether the file is answered so, and a failure is counted.
+fn is_answered(alloc: Global, case: &Case) -> bool {
+    let Ok(mut files) = file_a(alloc, case.bytes, case.fails) else {
+        return false;
+    };
+    let counted = u64::from(case.want == Err(ReadError::Fault));
+    reads(alloc, &mut files, case.name, case.limit, case.want) && files.faults == counted
 }
 
 /// The three bytes are read, and no call fails.
@@ -145,17 +141,7 @@ const CASES: &[Case] = &[
 #[test]
 fn files_are_read_whole_up_to_the_limit(rt: HostRuntime) {
     for (number, case) in CASES.iter().enumerate() {
-        assert!(rt;
-            file_a_reads(
-                rt.alloc(),
-                case.bytes,
-                case.fails,
-                case.name,
-                case.limit,
-                case.want
-            ),
-            "case {number}"
-        );
+        assert!(rt; is_answered(rt.alloc(), case), "case {number}");
     }
 }
 

@@ -80,15 +80,21 @@ fn ends(
     records.next() == answer && records.next() == answer
 }
 
+/// Whether so many records come, and then this fault, which has this number, at this offset.
+fn stops(bytes: &[u8], count: usize, fault: RecordFault, number: u8, at: u32) -> bool
+    requires { length bytes.now < 2 ^ 32 }
+{
+    fault.number() == number
+        && fault.place() == u64::from(at)
+        && ends(Records::new(bytes), count, Err(fault))
+}
+
 /// Whether so many records come, and then the stream is truncated within the one at this offset.
 fn is_truncated(bytes: &[u8], count: usize, at: u16) -> bool
     requires { length bytes.now < 2 ^ 32 }
 {
     let at = u32::from(at);
-    let fault = RecordFault::Truncated { at };
-    fault.number() == 10
-        && fault.place() == u64::from(at)
-        && ends(Records::new(bytes), count, Err(fault))
+    stops(bytes, count, RecordFault::Truncated { at }, 10, at)
 }
 
 /// Whether the two squares, cut anywhere within their record at this offset, are so many records and then truncated.
@@ -108,10 +114,7 @@ fn has_bad_length(bytes: &[u8], count: usize, at: u16, len: u16) -> bool
     requires { length bytes.now < 2 ^ 32 }
 {
     let at = u32::from(at);
-    let fault = RecordFault::BadLength { at, len };
-    fault.number() == 11
-        && fault.place() == u64::from(at)
-        && ends(Records::new(bytes), count, Err(fault))
+    stops(bytes, count, RecordFault::BadLength { at, len }, 11, at)
 }
 
 #[test]
@@ -145,6 +148,7 @@ const SHORT: &[(&[u8], usize, u16)] = &[
     (b"", 0, 0),
     (b"\x00", 0, 0),
     (b"\x00\x03\x00", 0, 0),
+    (b"\x00\x06\x00", 0, 0),
     // less than the length counts, which has no sign
     (b"\x00\x06\x00\x02\x02", 0, 0),
     (b"\x80\x00\x00\x02\x02\x58", 0, 0),
@@ -177,5 +181,87 @@ const BAD_LENGTHS: &[(&[u8], usize, u16, u16)] = &[
 fn lengths_below_4_and_odd_ones_are_bad(rt: HostRuntime) {
     for (bytes, count, at, len) in BAD_LENGTHS {
         assert!(rt; has_bad_length(bytes, *count, *at, *len), "{bytes:?}");
+    }
+}
+
+/// Whether so many records come, and then this kind with this form is not known, at this offset.
+fn has_bad_record(bytes: &[u8], count: usize, at: u16, kind: u8, form: u8) -> bool
+    requires { length bytes.now < 2 ^ 32 }
+{
+    let at = u32::from(at);
+    stops(
+        bytes,
+        count,
+        RecordFault::BadRecord { at, kind, form },
+        12,
+        at,
+    )
+}
+
+/// Streams with a kind or a form that is not known: how many records they have, where it stands, the kind and the form.
+const BAD_RECORDS: &[(&[u8], usize, u16, u8, u8)] = &[
+    // past the table, and in its gaps
+    (b"\x00\x04\x77\x00", 0, 0, 0x77, 0),
+    (b"\x00\x04\x3C\x00", 0, 0, 0x3C, 0),
+    (b"\x00\x04\x14\x00", 0, 0, 0x14, 0),
+    (b"\x00\x04\x35\x02", 0, 0, 0x35, 2),
+    // a layer as a number of four bytes, whatever its size
+    (b"\x00\x06\x0D\x03\x00\x01", 0, 0, 0x0D, 3),
+    (b"\x00\x08\x0D\x03\x00\x00\x00\x01", 0, 0, 0x0D, 3),
+    // behind a record
+    (b"\x00\x04\x08\x00\x00\x04\x08\x01", 1, 4, 0x08, 1),
+];
+
+#[test]
+fn kinds_and_forms_stand_in_the_table(rt: HostRuntime) {
+    for (bytes, count, at, kind, form) in BAD_RECORDS {
+        assert!(rt;
+            has_bad_record(bytes, *count, *at, *kind, *form),
+            "{bytes:?}"
+        );
+    }
+}
+
+/// Whether so many records come, and then one has a bad size, at this offset.
+fn has_bad_size(bytes: &[u8], count: usize, at: u16) -> bool
+    requires { length bytes.now < 2 ^ 32 }
+{
+    let at = u32::from(at);
+    stops(bytes, count, RecordFault::BadSize { at }, 13, at)
+}
+
+/// Streams with a body of a size that its kind does not have: how many records they have, and where it stands.
+const BAD_SIZES: &[(&[u8], usize, u16)] = &[
+    // ENDLIB with a body, a layer without one, half a point, and one real for two units
+    (b"\x00\x06\x04\x00\x00\x00", 0, 0),
+    (b"\x00\x04\x0D\x02", 0, 0),
+    (b"\x00\x08\x10\x03\x00\x00\x00\x00", 0, 0),
+    (b"\x00\x0C\x03\x05\x41\x10\x00\x00\x00\x00\x00\x00", 0, 0),
+    // behind a record
+    (b"\x00\x04\x08\x00\x00\x06\x11\x00\x00\x00", 1, 4),
+];
+
+#[test]
+fn sizes_are_those_of_the_table(rt: HostRuntime) {
+    for (bytes, count, at) in BAD_SIZES {
+        assert!(rt; has_bad_size(bytes, *count, *at), "{bytes:?}");
+    }
+}
+
+/// Records of the four kinds whose form is not looked at: the kind, the form, and the size of the body.
+const ANY_FORM: &[(&[u8], u8, u8, u8)] = &[
+    (b"\x00\x06\x34\x77\x00\x00", 0x34, 0x77, 2),
+    (b"\x00\x04\x39\x00", 0x39, 0x00, 0),
+    (b"\x00\x08\x3A\x05AB\x00\x00", 0x3A, 0x05, 4),
+    (b"\x00\x06\x3B\xFF\x00\x00", 0x3B, 0xFF, 2),
+];
+
+#[test]
+fn forms_of_four_kinds_are_not_looked_at(rt: HostRuntime) {
+    for (bytes, kind, form, size) in ANY_FORM {
+        assert!(rt;
+            gives(&mut Records::new(bytes), 0, *kind, *form, *size),
+            "{bytes:?}"
+        );
     }
 }

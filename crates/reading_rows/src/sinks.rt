@@ -1,6 +1,8 @@
-use edge_io::{Failed, MemSink, OsFiles, OsSink, read_whole, write_all};
+use edge_io::{MemSink, OsFiles, OsSink, read_whole, write_all};
+use geo_core::NoMemory;
 use std::alloc::Global;
 use std::io::{self, ErrorKind, Write};
+use std::path::PathBuf;
 use std::test::Fail;
 use std::{env, fs, process};
 
@@ -28,67 +30,112 @@ impl Write for Slow {
     }
 }
 
-/// Whether a sink over such a writer answers so where these bytes are written, and the writer took these.
-fn writer_takes(
-    alloc: Global,
+/// What a writer does, and what is written to it.
+struct Written {
+    /// How many bytes it takes a call at most.
     most: usize,
+    /// Whether its flushes pass.
     flushes: bool,
-    bytes: &[u8],
-    want: Result<(), Failed>,
-    taken: &[u8],
-) -> bool {
-    let mut sink = OsSink::new(Slow {
-        most,
-        flushes,
-        taken: Vec::new(alloc),
-    });
-    write_all(&mut sink, bytes) == want && sink.writer.taken.as_slice() == taken
+    /// What is written.
+    bytes: &'static [u8],
+    /// Whether that is answered with `Ok`.
+    passes: bool,
+    /// What the writer took.
+    taken: &'static [u8],
 }
 
-/// How many bytes a writer takes a call, whether its flushes pass, what is written, the answer, and what the writer took.
-const WRITERS: &[(usize, bool, &[u8], Result<(), Failed>, &[u8])] = &[
-    (9, true, b"abc", Ok(()), b"abc"),
-    (2, true, b"abc", Ok(()), b"abc"),
-    (1, true, b"abc", Ok(()), b"abc"),
+/// Whether a sink over such a writer answers so, and the writer took so much.
+fn writer_takes(alloc: Global, case: &Written) -> bool {
+    let mut sink = OsSink::new(Slow {
+        most: case.most,
+        flushes: case.flushes,
+        taken: Vec::new(alloc),
+    });
+    let passes = write_all(&mut sink, case.bytes).is_ok();
+    passes == case.passes && sink.writer.taken.as_slice() == case.taken
+}
+
+/// A writer that takes three bytes at once.
+const TAKEN: Written = Written {
+    most: 9,
+    flushes: true,
+    bytes: b"abc",
+    passes: true,
+    taken: b"abc",
+};
+
+/// Writers that are slow or fail.
+const WRITERS: &[Written] = &[
+    TAKEN,
+    Written { most: 2, ..TAKEN },
+    Written { most: 1, ..TAKEN },
     // a writer that takes nothing has failed
-    (0, true, b"abc", Err(Failed), b""),
+    Written {
+        most: 0,
+        passes: false,
+        taken: b"",
+        ..TAKEN
+    },
     // and so has one whose flush fails, whatever it took
-    (9, false, b"abc", Err(Failed), b"abc"),
-    (1, false, b"abc", Err(Failed), b"a"),
+    Written {
+        flushes: false,
+        passes: false,
+        ..TAKEN
+    },
+    Written {
+        most: 1,
+        flushes: false,
+        passes: false,
+        taken: b"a",
+        ..TAKEN
+    },
     // where there is nothing to write, nothing is asked of it
-    (0, false, b"", Ok(()), b""),
+    Written {
+        most: 0,
+        flushes: false,
+        bytes: b"",
+        taken: b"",
+        ..TAKEN
+    },
 ];
 
 #[test]
 fn a_writer_that_is_slow_or_fails(rt: HostRuntime) {
-    for (number, (most, flushes, bytes, want, taken)) in WRITERS.iter().enumerate() {
-        assert!(rt;
-            writer_takes(rt.alloc(), *most, *flushes, bytes, *want, taken),
-            "case {number}"
-        );
+    for (number, case) in WRITERS.iter().enumerate() {
+        assert!(rt; writer_takes(rt.alloc(), case), "case {number}");
     }
 }
 
-/// Whether a sink with this room has taken these bytes where `abc` and then `d` are written, and failed so often. The
-/// calls of the numbers that are listed fail.
-fn sink_takes(alloc: Global, room: usize, fails: &[u64], taken: &[u8], failures: u64) -> bool {
-    let Ok(fails) = Vec::from_slice(alloc, fails) else {
-        return false;
-    };
-    let Ok(mut sink) = MemSink::with(alloc, room, fails) else {
-        return false;
-    };
-    let abc = write_all(&mut sink, b"abc");
-    let d = write_all(&mut sink, b"d");
-    let failed = u64::from(abc.is_err()) + u64::from(d.is_err());
-    sink.written.as_slice() == taken
-        && sink.calls == 2
-        && sink.faults == failures
-        && failed == failures
+/// The room of a sink, the numbers of the calls that fail, what it took of `abc` and then `d`, and how many calls failed.
+type Row = (usize, &'static [u64], &'static [u8], u64);
+
+/// A sink with this room. The calls of these numbers fail.
+fn sink_with(alloc: Global, room: usize, fails: &[u64]) -> Result<MemSink, NoMemory> {
+    MemSink::with(alloc, room, Vec::from_slice(alloc, fails)?)
 }
 
-/// The room of a sink, the numbers of the calls that fail, what it took, and how many calls failed.
-const SINKS: &[(usize, &[u64], &[u8], u64)] = &[
+/// Writes `abc` and then `d`, and answers how often that failed.
+fn write_both(sink: &mut MemSink) -> u64 {
+    let abc = write_all(sink, b"abc");
+    let d = write_all(sink, b"d");
+    u64::from(abc.is_err()) + u64::from(d.is_err())
+}
+
+/// Whether the sink took these bytes in two calls, of which so many failed.
+fn has_taken(sink: &MemSink, taken: &[u8], failures: u64) -> bool {
+    sink.written.as_slice() == taken && sink.calls == 2 && sink.faults == failures
+}
+
+/// Whether such a sink took so much and failed so often.
+fn sink_takes(alloc: Global, row: &Row) -> bool {
+    let (room, fails, taken, failures) = *row;
+    match sink_with(alloc, room, fails) {
+        Ok(mut sink) => write_both(&mut sink) == failures && has_taken(&sink, taken, failures),
+        Err(_) => false,
+    }
+}
+
+const SINKS: &[Row] = &[
     (4, &[], b"abcd", 0),
     // a piece that does not fit is left whole
     (3, &[], b"abc", 1),
@@ -103,11 +150,8 @@ const SINKS: &[(usize, &[u64], &[u8], u64)] = &[
 
 #[test]
 fn a_sink_takes_what_its_room_holds(rt: HostRuntime) {
-    for (number, (room, fails, taken, failures)) in SINKS.iter().enumerate() {
-        assert!(rt;
-            sink_takes(rt.alloc(), *room, fails, taken, *failures),
-            "case {number}"
-        );
+    for (number, row) in SINKS.iter().enumerate() {
+        assert!(rt; sink_takes(rt.alloc(), row), "case {number}");
     }
 }
 
@@ -125,13 +169,23 @@ fn is_read(rt: &HostRuntime, path: &str) -> bool {
     }
 }
 
-/// What is written to a file of the system is read from it again.
+/// The path of a file for this test alone.
+fn path_of_a_file(rt: &HostRuntime) -> Result<PathBuf, Fail> {
+    let name = format!(in rt.alloc(); "reading_rows_{}", process::id(rt.process()))?;
+    Ok(env::temp_dir(rt)?.join(rt.alloc(), name.as_str())?)
+}
+
+/// Whether what is written to this file is read from it again. Then the file is removed.
+fn is_read_again(rt: &HostRuntime, path: &str) -> Result<bool, Fail> {
+    let same = is_written(rt, path)? && is_read(rt, path);
+    fs::remove_file(rt, path)?;
+    Ok(same)
+}
+
 #[test]
 fn written_files_are_read_again(rt: HostRuntime) -> Result<(), Fail> {
-    let name = format!(in rt.alloc(); "reading_rows_{}", process::id(rt.process()))?;
-    let path = env::temp_dir(&rt)?.join(rt.alloc(), name.as_str())?;
-    let same = is_written(&rt, path.as_str())? && is_read(&rt, path.as_str());
-    fs::remove_file(&rt, path.as_str())?;
+    let path = path_of_a_file(&rt)?;
+    let same = is_read_again(&rt, path.as_str())?;
     assert!(rt; same);
     Ok(())
 }

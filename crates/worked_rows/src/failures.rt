@@ -1,6 +1,5 @@
 use super::layouts::TWO_BARS;
-use super::runs::{Failing, Given, RADIUS_3, SHORT_32, Want, expect};
-use std::test::Fail;
+use super::runs::{Failing, Given, RADIUS_3, SHORT_32, Want, answers, expect};
 
 /// A map of one metal of all shapes of layer 1 and datatype 0, for one radius.
 const MAP: &[u8] =
@@ -11,29 +10,37 @@ const MAPPED: &str = "a --map m";
 /// Words and the bytes of the layout, what fails, and the answer. A file is started, read, and read again to see its end,
 /// the map's before the layout's. The lines of the report have 36, 33, 15, 13, 12 and 9 bytes, 118 in all.
 const FAILURES: &[(&str, &[u8], Failing, Want)] = &[
-    (RADIUS_3, TWO_BARS, Failing::Files(0), Want::Fault),
-    (RADIUS_3, TWO_BARS, Failing::Files(1), Want::Fault),
-    (RADIUS_3, TWO_BARS, Failing::Files(2), Want::Fault),
+    (RADIUS_3, TWO_BARS, Failing::Files(&[0]), Want::Fault),
+    (RADIUS_3, TWO_BARS, Failing::Files(&[1]), Want::Fault),
+    (RADIUS_3, TWO_BARS, Failing::Files(&[2]), Want::Fault),
     (RADIUS_3, TWO_BARS, Failing::Out, Want::Fault),
     (RADIUS_3, TWO_BARS, Failing::OutPast(117), Want::Fault),
     (RADIUS_3, TWO_BARS, Failing::OutPast(118), SHORT_32),
     (RADIUS_3, &[], Failing::ErrorOut, Want::Fault),
     ("", TWO_BARS, Failing::ErrorOut, Want::Fault),
-    (MAPPED, TWO_BARS, Failing::Files(0), Want::Fault),
-    (MAPPED, TWO_BARS, Failing::Files(2), Want::Fault),
-    (MAPPED, TWO_BARS, Failing::Files(3), Want::Fault),
-    (MAPPED, TWO_BARS, Failing::Files(5), Want::Fault),
+    (MAPPED, TWO_BARS, Failing::Files(&[0]), Want::Fault),
+    (MAPPED, TWO_BARS, Failing::Files(&[2]), Want::Fault),
+    (MAPPED, TWO_BARS, Failing::Files(&[3]), Want::Fault),
+    (MAPPED, TWO_BARS, Failing::Files(&[5]), Want::Fault),
     // what is not used does not fail
-    (MAPPED, TWO_BARS, Failing::Files(6), SHORT_32),
-    (RADIUS_3, TWO_BARS, Failing::Files(3), SHORT_32),
+    (MAPPED, TWO_BARS, Failing::Files(&[6]), SHORT_32),
+    (RADIUS_3, TWO_BARS, Failing::Files(&[3]), SHORT_32),
     (RADIUS_3, TWO_BARS, Failing::ErrorOut, SHORT_32),
-    (RADIUS_3, &[], Failing::Out, Want::BadLayout),
+    (
+        RADIUS_3,
+        &[],
+        Failing::Out,
+        Want::BadLayout {
+            number: 10,
+            place: 0,
+        },
+    ),
     ("", TWO_BARS, Failing::Out, Want::BadWords),
-    ("", TWO_BARS, Failing::Files(0), Want::BadWords),
+    ("", TWO_BARS, Failing::Files(&[0]), Want::BadWords),
 ];
 
 #[test]
-fn failures_are_answered(rt: HostRuntime) -> Result<(), Fail> {
+fn failures_are_answered(rt: HostRuntime) {
     for (number, (words, layout, failing, want)) in FAILURES.iter().enumerate() {
         let given = Given {
             words,
@@ -41,7 +48,6 @@ fn failures_are_answered(rt: HostRuntime) -> Result<(), Fail> {
             map: MAP,
             failing: *failing,
         };
-        expect(&rt, rt.alloc(), &given, *want, &number)?;
+        expect(&rt, answers(&rt, rt.alloc(), &given, want), &number);
     }
-    Ok(())
 }

@@ -1,9 +1,8 @@
 use super::layouts::{Plate, plates};
-use super::runs::{RADIUS_3, Want, calm, expect, words_of};
-use critarea_core::run;
-use edge_io::{Failed, Files, MemSink};
+use super::runs::{Answer, Failing, RADIUS_3, Want, answers, calm, expect, run_with};
+use edge_io::{Failed, Files};
+use geo_core::NoMemory;
 use std::alloc::{AllocError, Global};
-use std::test::Fail;
 use std::thread::Threads;
 
 /// So many squares of 10 by 10 cells in a row, 4 cells apart.
@@ -23,17 +22,28 @@ fn row_of_squares(alloc: Global, count: u16) -> Result<Vec<Plate>, AllocError> {
     Ok(squares)
 }
 
+/// The file of so many squares in a row.
+fn row_layout(alloc: Global, count: u16) -> Result<Vec<u8>, AllocError> {
+    let squares = row_of_squares(alloc, count)?;
+    plates(alloc, squares.as_slice())
+}
+
+/// Whether a run on so many squares in a row answers so.
+fn row_answers(rt: &(impl Threads + Sync), alloc: Global, count: u16, want: &Want) -> bool {
+    match row_layout(alloc, count) {
+        Ok(layout) => answers(rt, alloc, &calm(RADIUS_3, layout.as_slice()), want),
+        Err(_) => false,
+    }
+}
+
 /// Between two neighbours are the 32 cells of the two bars, and no defect of radius 3 touches a third square.
 #[test]
-fn rows_of_many_squares(rt: HostRuntime) -> Result<(), Fail> {
-    let alloc = rt.alloc();
-    let squares = row_of_squares(alloc, 5000)?;
-    let layout = plates(alloc, squares.as_slice())?;
+fn rows_of_many_squares(rt: HostRuntime) {
     let want = Want::Short {
         radius: 3,
         area: 159_968,
     };
-    expect(&rt, alloc, &calm(RADIUS_3, layout.as_slice()), want, &"row")
+    expect(&rt, row_answers(&rt, rt.alloc(), 5000, &want), &"row");
 }
 
 /// Files whose bytes are all zero. Each has so many.
@@ -69,25 +79,34 @@ impl Files for Zeros {
     }
 }
 
-/// Whether the answer to a file of so many zero bytes is this line.
-fn is_answered(
+/// What a run on a file of so many zero bytes answers.
+fn run_on_zeros(
     rt: &(impl Threads + Sync),
     alloc: Global,
     size: usize,
-    line: &str,
-) -> Result<bool, Fail> {
-    let words = words_of(alloc, RADIUS_3)?;
-    let mut out = MemSink::with(alloc, 100, Vec::new(alloc))?;
-    let mut err = MemSink::with(alloc, 100, Vec::new(alloc))?;
+) -> Result<Answer, NoMemory> {
     let mut files = Zeros { size, unread: 0 };
-    let status = run(rt, alloc, words.as_slice(), &mut files, &mut out, &mut err);
-    Ok(status == 4 && out.written.is_empty() && err.written.as_slice() == line.as_bytes())
+    run_with(rt, alloc, RADIUS_3, &mut files, Failing::Nothing)
 }
 
-/// The longest layout is read, and found to be none. One byte more, and it is too long.
+/// Whether the answer to a file of so many zero bytes is this line.
+fn is_answered(rt: &(impl Threads + Sync), alloc: Global, size: usize, line: &str) -> bool {
+    match run_on_zeros(rt, alloc, size) {
+        Ok(answer) => answer.has(4, "", line),
+        Err(_) => false,
+    }
+}
+
+/// Lengths of layouts, and the line: the longest is read, and its first record has
+/// no length, and with one byte more it is too long.
+const LONG_LAYOUTS: &[(usize, &str)] = &[
+    (268_435_456, "error 11 at 0\n"),
+    (268_435_457, "error 9 at 268435456\n"),
+];
+
 #[test]
-fn layouts_are_as_long_as_the_limit(rt: HostRuntime) -> Result<(), Fail> {
-    assert!(rt; is_answered(&rt, rt.alloc(), 268_435_456, "error 60 at 0\n")?);
-    assert!(rt; is_answered(&rt, rt.alloc(), 268_435_457, "error 9 at 268435456\n")?);
-    Ok(())
+fn layouts_are_as_long_as_the_limit(rt: HostRuntime) {
+    for (size, line) in LONG_LAYOUTS {
+        expect(&rt, is_answered(&rt, rt.alloc(), *size, line), size);
+    }
 }

@@ -1,5 +1,4 @@
 use std::alloc::{AllocError, Global};
-use std::test::Fail;
 
 /// The file of the two bars, byte for byte: a library `L` with one structure `T`, and in it `[0,10)x[0,10)` and
 /// `[14,24)x[0,10)` on layer 1.
@@ -47,9 +46,9 @@ pub fn layout_of(alloc: Global, elements: &[u8]) -> Result<Vec<u8>, AllocError> 
     Ok(layout)
 }
 
-/// Appends a record: its length, its kind and form, and its body.
-fn push_record(layout: &mut Vec<u8>, kind: u8, form: u8, body: &[u8]) -> Result<(), Fail> {
-    let length = u16::try_from(body.len().saturating_add(4))?;
+/// Appends a record: its length, its kind and form, and its body, which is not too long for a record.
+fn push_record(layout: &mut Vec<u8>, kind: u8, form: u8, body: &[u8]) -> Result<(), AllocError> {
+    let length = u16::try_from(body.len().saturating_add(4)).unwrap_or(u16::MAX);
     layout.extend_from_slice(&length.to_be_bytes())?;
     layout.extend_from_slice(&[kind, form])?;
     layout.extend_from_slice(body)?;
@@ -72,7 +71,7 @@ fn push_boundary(
     layer: u16,
     datatype: u16,
     points: &[u8],
-) -> Result<(), Fail> {
+) -> Result<(), AllocError> {
     push_record(elements, 0x08, 0, &[])?;
     push_record(elements, 0x0D, 2, &layer.to_be_bytes())?;
     push_record(elements, 0x0E, 2, &datatype.to_be_bytes())?;
@@ -81,7 +80,7 @@ fn push_boundary(
 }
 
 /// Appends a rectangle, its points counterclockwise from its lower left corner.
-fn push_plate(alloc: Global, elements: &mut Vec<u8>, plate: &Plate) -> Result<(), Fail> {
+fn push_plate(alloc: Global, elements: &mut Vec<u8>, plate: &Plate) -> Result<(), AllocError> {
     let corners = [
         (plate.x0, plate.y0),
         (plate.x1, plate.y0),
@@ -94,20 +93,20 @@ fn push_plate(alloc: Global, elements: &mut Vec<u8>, plate: &Plate) -> Result<()
 }
 
 /// The file of these rectangles.
-pub fn plates(alloc: Global, shapes: &[Plate]) -> Result<Vec<u8>, Fail> {
+pub fn plates(alloc: Global, shapes: &[Plate]) -> Result<Vec<u8>, AllocError> {
     let mut elements = Vec::new(alloc);
     for shape in shapes {
         push_plate(alloc, &mut elements, shape)?;
     }
-    Ok(layout_of(alloc, elements.as_slice())?)
+    layout_of(alloc, elements.as_slice())
 }
 
 /// The file of a shape with this outline, in place of the left one of the two bars, and of the right one.
-pub fn outline_and_bar(alloc: Global, outline: &[(i32, i32)]) -> Result<Vec<u8>, Fail> {
+pub fn outline_and_bar(alloc: Global, outline: &[(i32, i32)]) -> Result<Vec<u8>, AllocError> {
     let bars: &[u8] = TWO_BARS;
     let points = points_of(alloc, outline)?;
     let mut elements = Vec::new(alloc);
     push_boundary(&mut elements, 1, 0, points.as_slice())?;
     elements.extend_from_slice(&bars[158..222])?;
-    Ok(layout_of(alloc, elements.as_slice())?)
+    layout_of(alloc, elements.as_slice())
 }

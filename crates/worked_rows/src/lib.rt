@@ -4,6 +4,8 @@
 #[cfg(test)]
 mod failures;
 #[cfg(test)]
+mod grammar;
+#[cfg(test)]
 mod large;
 #[cfg(test)]
 mod layouts;

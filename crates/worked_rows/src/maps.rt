@@ -1,47 +1,38 @@
 use super::layouts::{Plate, TWO_BARS, plates};
 use super::rows::{BETWEEN, LEFT, RIGHT};
-use super::runs::{Answer, Failing, Given, Want, expect, mapped, run_on};
+use super::runs::{Failing, Given, Want, answers, expect, mapped};
 use std::alloc::Global;
-use std::process::Abort;
-use std::test::Fail;
 use std::thread::Threads;
 
-/// Asserts the report of the rectangles with this map, byte for byte.
-fn expect_report(
-    rt: &(impl Threads + Sync + Abort),
+/// Whether a run on the rectangles with this map answers so.
+fn map_answers(
+    rt: &(impl Threads + Sync),
     alloc: Global,
     shapes: &[Plate],
     map: &[u8],
-    text: &str,
-) -> Result<(), Fail> {
-    let layout = plates(alloc, shapes)?;
-    let want = Answer {
-        status: 0,
-        out: String::from_str(alloc, text)?,
-        err: String::new(alloc),
-    };
-    assert_eq!(rt; run_on(rt, alloc, &mapped(layout.as_slice(), map))?, want);
-    Ok(())
+    want: &Want,
+) -> bool {
+    match plates(alloc, shapes) {
+        Ok(layout) => answers(rt, alloc, &mapped(layout.as_slice(), map), want),
+        Err(_) => false,
+    }
 }
 
-/// Each radius has its own weight, and all shorts stand before all opens.
-#[test]
-fn sizes_have_weights(rt: HostRuntime) -> Result<(), Fail> {
-    expect_report(
-        &rt,
-        rt.alloc(),
-        &[LEFT, RIGHT],
-        b"version = 1\nradii = [2, 3]\nweights = [10, 1]\n[[metal]]\nname = \"m1\"\npairs = [[1, 0]]\n",
-        "short m1 r=2 area=0 weight=10 sum=0\n\
-         short m1 r=3 area=32 weight=1 sum=32\n\
-         open m1 r=2 area=0 weight=10 sum=0\n\
-         open m1 r=3 area=0 weight=1 sum=0\n\
-         total short 32\n\
-         total open 0\n\
-         total via 0\n\
-         total 32\n",
-    )
-}
+/// Two squares of the second metal, 3 cells apart.
+const SECOND: Plate = Plate {
+    layer: 3,
+    datatype: 0,
+    x0: 40,
+    x1: 50,
+    y0: 0,
+    y1: 10,
+};
+
+const THIRD: Plate = Plate {
+    x0: 53,
+    x1: 63,
+    ..SECOND
+};
 
 /// Two metals, each of one layer.
 const TWO_METALS: &[u8] = b"\
@@ -55,73 +46,85 @@ const TWO_METALS: &[u8] = b"\
     name = \"m2\"\n\
     pairs = [[3, 0]]\n";
 
-/// Two squares of the second metal, 3 cells apart.
-const SECOND: Plate = Plate {
-    layer: 3,
-    datatype: 0,
-    x0: 40,
-    x1: 50,
-    y0: 0,
-    y1: 10,
-};
-
-const THIRD: Plate = Plate {
-    layer: 3,
-    datatype: 0,
-    x0: 53,
-    x1: 63,
-    y0: 0,
-    y1: 10,
-};
-
-/// For the second metal column 51 of rows -2 to 11 is near both squares at radius 2, and columns 50 to 52 of rows -3 to 12
-/// are at radius 3. What the second metal has between the bars of the first joins them as little as the bars join it.
-#[test]
-fn metals_are_judged_by_themselves(rt: HostRuntime) -> Result<(), Fail> {
-    let between = Plate {
-        layer: 3,
-        ..BETWEEN
-    };
-    expect_report(
-        &rt,
-        rt.alloc(),
-        &[THIRD, RIGHT, between, LEFT, SECOND],
+/// Rectangles, a map and the report.
+const REPORTS: &[(&[Plate], &[u8], Want)] = &[
+    // Each radius has its own weight, and all shorts stand before all opens.
+    (
+        &[LEFT, RIGHT],
+        b"version = 1\nradii = [2, 3]\nweights = [10, 1]\n[[metal]]\nname = \"m1\"\npairs = [[1, 0]]\n",
+        Want::Report(
+            "short m1 r=2 area=0 weight=10 sum=0\n\
+             short m1 r=3 area=32 weight=1 sum=32\n\
+             open m1 r=2 area=0 weight=10 sum=0\n\
+             open m1 r=3 area=0 weight=1 sum=0\n\
+             total short 32\n\
+             total open 0\n\
+             total via 0\n\
+             total 32\n",
+        ),
+    ),
+    // For the second metal column 51 of rows -2 to 11 is near both squares at radius 2, and columns 50 to 52 of rows -3
+    // to 12 are at radius 3. What the second metal has between the bars of the first joins them as little as the bars
+    // join it.
+    (
+        &[
+            THIRD,
+            RIGHT,
+            Plate {
+                layer: 3,
+                ..BETWEEN
+            },
+            LEFT,
+            SECOND,
+        ],
         TWO_METALS,
-        "short m1 r=2 area=0 weight=10 sum=0\n\
-         short m1 r=3 area=32 weight=1 sum=32\n\
-         short m2 r=2 area=14 weight=10 sum=140\n\
-         short m2 r=3 area=48 weight=1 sum=48\n\
-         open m1 r=2 area=0 weight=10 sum=0\n\
-         open m1 r=3 area=0 weight=1 sum=0\n\
-         open m2 r=2 area=0 weight=10 sum=0\n\
-         open m2 r=3 area=0 weight=1 sum=0\n\
-         total short 220\n\
-         total open 0\n\
-         total via 0\n\
-         total 220\n",
-    )
-}
-
-/// All pairs of a metal are one metal: the bar between the two joins them. The names are those of the map, and a weight
-/// may be 0.
-#[test]
-fn pairs_of_a_metal_are_one_metal(rt: HostRuntime) -> Result<(), Fail> {
-    let between = Plate {
-        datatype: 20,
-        ..BETWEEN
-    };
-    expect_report(
-        &rt,
-        rt.alloc(),
-        &[LEFT, between, RIGHT],
+        Want::Report(
+            "short m1 r=2 area=0 weight=10 sum=0\n\
+             short m1 r=3 area=32 weight=1 sum=32\n\
+             short m2 r=2 area=14 weight=10 sum=140\n\
+             short m2 r=3 area=48 weight=1 sum=48\n\
+             open m1 r=2 area=0 weight=10 sum=0\n\
+             open m1 r=3 area=0 weight=1 sum=0\n\
+             open m2 r=2 area=0 weight=10 sum=0\n\
+             open m2 r=3 area=0 weight=1 sum=0\n\
+             total short 220\n\
+             total open 0\n\
+             total via 0\n\
+             total 220\n",
+        ),
+    ),
+    // All pairs of a metal are one metal: the bar between the two joins them. The names are those of the map, and a weight
+    // may be 0.
+    (
+        &[
+            LEFT,
+            Plate {
+                datatype: 20,
+                ..BETWEEN
+            },
+            RIGHT,
+        ],
         b"version = 1\nradii = [3]\nweights = [0]\nmetal = [{ pairs = [[1, 20], [1, 0]], name = \"Metal_1\" }]\n",
-        "short Metal_1 r=3 area=0 weight=0 sum=0\n\
-         open Metal_1 r=3 area=0 weight=0 sum=0\n\
-         total short 0\n\
-         total open 0\n\
-         total via 0\n\
-         total 0\n",
-    )
+        Want::Report(
+            "short Metal_1 r=3 area=0 weight=0 sum=0\n\
+             open Metal_1 r=3 area=0 weight=0 sum=0\n\
+             total short 0\n\
+             total open 0\n\
+             total via 0\n\
+             total 0\n",
+        ),
+    ),
+];
+
+#[test]
+fn maps_have_their_reports(rt: HostRuntime) {
+    for (number, (shapes, map, want)) in REPORTS.iter().enumerate() {
+        expect(
+            &rt,
+            map_answers(&rt, rt.alloc(), shapes, map, want),
+            &number,
+        );
+    }
 }
 
 /// Two metals with a cut between them, and a terminal: a map of each kind of item.
@@ -182,48 +185,58 @@ const BAD_MAPS: &[(&[u8], Want)] = &[
 /// A refused map comes before the layout, which is not looked at: here it is no layout, and the fourth call of the files,
 /// which would start it, fails.
 #[test]
-fn bad_maps_are_refused(rt: HostRuntime) -> Result<(), Fail> {
-    for (map, want) in BAD_MAPS {
+fn bad_maps_are_refused(rt: HostRuntime) {
+    for (number, (map, want)) in BAD_MAPS.iter().enumerate() {
         let given = Given {
             words: "a --map m",
             layout: b"",
             map,
-            failing: Failing::Files(3),
+            failing: Failing::Files(&[3]),
         };
-        expect(&rt, rt.alloc(), &given, *want, map)?;
+        expect(&rt, answers(&rt, rt.alloc(), &given, want), &number);
     }
-    Ok(())
 }
 
-/// A map of 1,048,576 bytes is read, and found to be none. With one byte more it is too long.
+/// Whether a run answers so to a map of so many bytes that is none.
+fn long_map_answers(rt: &(impl Threads + Sync), alloc: Global, length: usize, want: &Want) -> bool {
+    match vec![in alloc; b'x'; length] {
+        Ok(map) => answers(rt, alloc, &mapped(TWO_BARS, map.as_slice()), want),
+        Err(_) => false,
+    }
+}
+
+/// Lengths of maps: at the limit a map is read, and found to be none, and with one byte more it is too long.
+const LONG_MAPS: &[(usize, Want)] = &[
+    (1_048_576, Want::BadMap("error 40 at 0\n")),
+    (1_048_577, Want::BadMap("error 39 at 1048576\n")),
+];
+
 #[test]
-fn maps_are_as_long_as_the_limit(rt: HostRuntime) -> Result<(), Fail> {
-    let mut map = vec![in rt.alloc(); b'x'; 1_048_576]?;
-    expect(
-        &rt,
-        rt.alloc(),
-        &mapped(TWO_BARS, map.as_slice()),
-        Want::BadMap("error 40 at 0\n"),
-        &"limit",
-    )?;
-    map.push(b'x')?;
-    expect(
-        &rt,
-        rt.alloc(),
-        &mapped(TWO_BARS, map.as_slice()),
-        Want::BadMap("error 39 at 1048576\n"),
-        &"past the limit",
-    )
+fn maps_are_as_long_as_the_limit(rt: HostRuntime) {
+    for (length, want) in LONG_MAPS {
+        expect(
+            &rt,
+            long_map_answers(&rt, rt.alloc(), *length, want),
+            length,
+        );
+    }
 }
 
 /// With a good map the layout is judged as ever.
 #[test]
-fn bad_layouts_are_refused_behind_good_maps(rt: HostRuntime) -> Result<(), Fail> {
+fn bad_layouts_are_refused_behind_good_maps(rt: HostRuntime) {
+    let given = mapped(b"", TWO_METALS);
     expect(
         &rt,
-        rt.alloc(),
-        &mapped(b"", TWO_METALS),
-        Want::BadLayout,
+        answers(
+            &rt,
+            rt.alloc(),
+            &given,
+            &Want::BadLayout {
+                number: 10,
+                place: 0,
+            },
+        ),
         &"empty",
-    )
+    );
 }

@@ -1,56 +1,52 @@
 use super::layouts::{Plate, TWO_BARS, layout_of, plates};
-use super::runs::{Answer, RADIUS_3, Want, calm, expect, run_on};
+use super::runs::{RADIUS_3, Want, answers, calm, expect};
 use std::alloc::Global;
-use std::process::Abort;
-use std::test::Fail;
 use std::thread::Threads;
 
-/// Asserts the report, byte for byte.
-fn expect_report(
-    rt: &(impl Threads + Sync + Abort),
-    alloc: Global,
-    layout: &[u8],
-    text: &str,
-) -> Result<(), Fail> {
-    let want = Answer {
-        status: 0,
-        out: String::from_str(alloc, text)?,
-        err: String::new(alloc),
-    };
-    assert_eq!(rt; run_on(rt, alloc, &calm(RADIUS_3, layout))?, want);
-    Ok(())
+/// The report on no shapes.
+const EMPTY_REPORT: Want = Want::Report(
+    "short m r=3 area=0 weight=1 sum=0\n\
+     open m r=3 area=0 weight=1 sum=0\n\
+     total short 0\n\
+     total open 0\n\
+     total via 0\n\
+     total 0\n",
+);
+
+/// Whether a layout without a shape has 102 bytes and this report.
+fn empty_layout_has(rt: &(impl Threads + Sync), alloc: Global, report: &Want) -> bool {
+    match layout_of(alloc, &[]) {
+        Ok(layout) => {
+            layout.len() == 102 && answers(rt, alloc, &calm(RADIUS_3, layout.as_slice()), report)
+        }
+        Err(_) => false,
+    }
 }
 
 #[test]
-fn empty_layout_has_its_report(rt: HostRuntime) -> Result<(), Fail> {
-    let nothing = layout_of(rt.alloc(), &[])?;
-    assert_eq!(rt; nothing.len(), 102);
-    expect_report(
-        &rt,
-        rt.alloc(),
-        nothing.as_slice(),
-        "short m r=3 area=0 weight=1 sum=0\n\
-         open m r=3 area=0 weight=1 sum=0\n\
-         total short 0\n\
-         total open 0\n\
-         total via 0\n\
-         total 0\n",
-    )
+fn empty_layout_has_its_report(rt: HostRuntime) {
+    let holds = empty_layout_has(&rt, rt.alloc(), &EMPTY_REPORT);
+    expect(&rt, holds, &"no shapes");
 }
 
+/// The report on the two bars.
+const BARS_REPORT: Want = Want::Report(
+    "short m r=3 area=32 weight=1 sum=32\n\
+     open m r=3 area=0 weight=1 sum=0\n\
+     total short 32\n\
+     total open 0\n\
+     total via 0\n\
+     total 32\n",
+);
+
 #[test]
-fn two_bars_have_their_report(rt: HostRuntime) -> Result<(), Fail> {
-    expect_report(
+fn two_bars_have_their_report(rt: HostRuntime) {
+    let given = calm(RADIUS_3, TWO_BARS);
+    expect(
         &rt,
-        rt.alloc(),
-        TWO_BARS,
-        "short m r=3 area=32 weight=1 sum=32\n\
-         open m r=3 area=0 weight=1 sum=0\n\
-         total short 32\n\
-         total open 0\n\
-         total via 0\n\
-         total 32\n",
-    )
+        answers(&rt, rt.alloc(), &given, &BARS_REPORT),
+        &"two bars",
+    );
 }
 
 /// The left one of the two bars.
@@ -211,16 +207,26 @@ const AREAS: &[(&[Plate], &str, u32, u64)] = &[
     ),
 ];
 
-#[test]
-fn areas_are_those_counted_by_hand(rt: HostRuntime) -> Result<(), Fail> {
-    for (number, (shapes, words, radius, area)) in AREAS.iter().enumerate() {
-        let layout = plates(rt.alloc(), shapes)?;
-        let given = calm(words, layout.as_slice());
-        let want = Want::Short {
-            radius: *radius,
-            area: *area,
-        };
-        expect(&rt, rt.alloc(), &given, want, &number)?;
+/// Whether a run of these words on these rectangles has this area at this radius.
+fn have_area(
+    rt: &(impl Threads + Sync),
+    alloc: Global,
+    shapes: &[Plate],
+    words: &str,
+    radius: u32,
+    area: u64,
+) -> bool {
+    let want = Want::Short { radius, area };
+    match plates(alloc, shapes) {
+        Ok(layout) => answers(rt, alloc, &calm(words, layout.as_slice()), &want),
+        Err(_) => false,
     }
-    Ok(())
+}
+
+#[test]
+fn areas_are_those_counted_by_hand(rt: HostRuntime) {
+    for (number, (shapes, words, radius, area)) in AREAS.iter().enumerate() {
+        let holds = have_area(&rt, rt.alloc(), shapes, words, *radius, *area);
+        expect(&rt, holds, &number);
+    }
 }

@@ -1,10 +1,9 @@
 use critarea_core::{Word, run};
-use edge_io::{MemFiles, MemSink};
-use geo_core::Name;
+use edge_io::{Files, MemFiles, MemSink};
+use geo_core::{Name, NoMemory};
 use std::alloc::{AllocError, Global};
 use std::fmt;
 use std::process::Abort;
-use std::test::Fail;
 use std::thread::Threads;
 
 /// The words that ask for the areas of layer 1 and datatype 0 at the radius 3.
@@ -24,8 +23,8 @@ pub const NO_SHORT: Want = Want::Short { radius: 3, area: 0 };
 pub enum Failing {
     /// Nothing does.
     Nothing,
-    /// The call of the files with this number, counted from 0.
-    Files(u64),
+    /// The calls of the files with these numbers, counted from 0.
+    Files(&'static [u64]),
     /// The first call of the output.
     Out,
     /// The output past so many bytes.
@@ -36,31 +35,34 @@ pub enum Failing {
 
 impl Failing {
     /// The numbers of the calls of the files that fail.
-    fn calls_of_files(&self, alloc: Global) -> Result<Vec<u64>, AllocError> {
+    fn calls_of_files(&self) -> &'static [u64] {
         match self {
-            Failing::Files(call) => Ok(vec![in alloc; *call]?),
-            _ => Ok(Vec::new(alloc)),
+            Failing::Files(calls) => calls,
+            _ => &[],
         }
     }
 
-    /// The output of the run.
-    fn out(&self, alloc: Global) -> Result<MemSink, Fail> {
+    /// How many bytes the output takes.
+    fn room(&self) -> usize {
         match self {
-            Failing::Out => Ok(MemSink::with(alloc, 1000, vec![in alloc; 0]?)?),
-            Failing::OutPast(room) => Ok(MemSink::with(
-                alloc,
-                usize::from(*room),
-                Vec::new(alloc),
-            )?),
-            _ => Ok(MemSink::with(alloc, 1000, Vec::new(alloc))?),
+            Failing::OutPast(room) => usize::from(*room),
+            _ => 1000,
         }
     }
 
-    /// The error output of the run.
-    fn error_out(&self, alloc: Global) -> Result<MemSink, Fail> {
+    /// The numbers of the calls of the output that fail.
+    fn calls_of_out(&self) -> &'static [u64] {
         match self {
-            Failing::ErrorOut => Ok(MemSink::with(alloc, 1000, vec![in alloc; 0]?)?),
-            _ => Ok(MemSink::with(alloc, 1000, Vec::new(alloc))?),
+            Failing::Out => &[0],
+            _ => &[],
+        }
+    }
+
+    /// The numbers of the calls of the error output that fail.
+    fn calls_of_error_out(&self) -> &'static [u64] {
+        match self {
+            Failing::ErrorOut => &[0],
+            _ => &[],
         }
     }
 }
@@ -80,53 +82,73 @@ pub struct Given<'a> {
 }
 
 /// What a run answered: its status, and all that it wrote.
-#[derive(Debug, PartialEq, Eq, Drop)]
+#[derive(Drop)]
 pub struct Answer {
     /// The exit status.
     pub status: u8,
     /// What the output took.
-    pub out: String,
+    pub out: Vec<u8>,
     /// What the error output took.
-    pub err: String,
+    pub err: Vec<u8>,
+}
+
+impl Answer {
+    /// Whether this is the status, and just these bytes were written.
+    pub fn has(&self, status: u8, out: &str, err: &str) -> bool {
+        self.status == status
+            && self.out.as_slice() == out.as_bytes()
+            && self.err.as_slice() == err.as_bytes()
+    }
+}
+
+/// The report of this area of shorts of the metal `m` at this radius of defects, with the weight 1.
+fn report_of(alloc: Global, radius: u32, area: u64) -> Result<String, AllocError> {
+    format!(in alloc;
+        "short m r={radius} area={area} weight=1 sum={area}\n\
+         open m r={radius} area=0 weight=1 sum=0\n\
+         total short {area}\ntotal open 0\ntotal via 0\ntotal {area}\n"
+    )
+}
+
+/// The line of a refusal.
+fn line_of(alloc: Global, number: u8, place: usize) -> Result<String, AllocError> {
+    format!(in alloc; "error {number} at {place}\n")
 }
 
 /// What is wanted of a run.
 #[derive(Clone, Copy)]
 pub enum Want {
+    /// This report.
+    Report(&'static str),
     /// The report of this area of shorts at this radius of defects.
     Short { radius: u32, area: u64 },
     /// The words are refused.
     BadWords,
     /// The map is refused, and this is the line.
     BadMap(&'static str),
-    /// The layout is refused.
-    BadLayout,
+    /// The layout is refused: what is wrong, and the offset at which it shows.
+    BadLayout { number: u8, place: usize },
     /// A file or an output failed, and nothing was written.
     Fault,
 }
 
 impl Want {
-    /// The whole answer, where the report is written out by hand.
-    pub fn whole(&self, alloc: Global) -> Result<Answer, AllocError> {
-        let (status, out, err) = match self {
-            Want::Short { radius, area } => {
-                let out = format!(in alloc;
-                    "short m r={radius} area={area} weight=1 sum={area}\n\
-                     open m r={radius} area=0 weight=1 sum=0\n\
-                     total short {area}\ntotal open 0\ntotal via 0\ntotal {area}\n"
-                )?;
-                (0, out, "")
-            }
-            Want::BadWords => (2, String::new(alloc), "error 2 at 0\n"),
-            Want::BadMap(line) => (3, String::new(alloc), *line),
-            Want::BadLayout => (4, String::new(alloc), "error 60 at 0\n"),
-            Want::Fault => (5, String::new(alloc), ""),
-        };
-        Ok(Answer {
-            status,
-            out,
-            err: String::from_str(alloc, err)?,
-        })
+    /// Whether the answer is the wanted one, which was written out by hand.
+    fn is(&self, alloc: Global, answer: &Answer) -> bool {
+        match self {
+            Want::Report(report) => answer.has(0, report, ""),
+            Want::Short { radius, area } => match report_of(alloc, *radius, *area) {
+                Ok(report) => answer.has(0, report.as_str(), ""),
+                Err(_) => false,
+            },
+            Want::BadWords => answer.has(2, "", "error 2 at 0\n"),
+            Want::BadMap(line) => answer.has(3, "", line),
+            Want::BadLayout { number, place } => match line_of(alloc, *number, *place) {
+                Ok(line) => answer.has(4, "", line.as_str()),
+                Err(_) => false,
+            },
+            Want::Fault => answer.has(5, "", ""),
+        }
     }
 }
 
@@ -151,7 +173,7 @@ pub fn mapped<'a>(layout: &'a [u8], map: &'a [u8]) -> Given<'a> {
 }
 
 /// The words of a command line. An empty line has none.
-pub fn words_of(alloc: Global, line: &str) -> Result<Vec<Word>, AllocError> {
+fn words_of(alloc: Global, line: &str) -> Result<Vec<Word>, AllocError> {
     let mut words = Vec::new(alloc);
     if line.is_empty() {
         return Ok(words);
@@ -168,45 +190,58 @@ fn file(alloc: Global, letter: u8, bytes: &[u8]) -> Result<(Name, Vec<u8>), Allo
     Ok((name, Vec::from_slice(alloc, bytes)?))
 }
 
-/// What a sink took, as text.
-fn text_of(sink: MemSink) -> Result<String, Fail> {
-    Ok(String::from_utf8(sink.written)?)
-}
-
 /// The files of the run.
 fn files_of(alloc: Global, given: &Given<'_>) -> Result<MemFiles, AllocError> {
     let mut files = Vec::new(alloc);
     files.push(file(alloc, b'a', given.layout)?)?;
     files.push(file(alloc, b'm', given.map)?)?;
-    Ok(MemFiles::new(files, given.failing.calls_of_files(alloc)?))
+    let fails = Vec::from_slice(alloc, given.failing.calls_of_files())?;
+    Ok(MemFiles::new(files, fails))
 }
 
-/// What a run answers.
-pub fn run_on(
+/// A sink that takes so many bytes. Its calls of these numbers fail.
+fn sink(alloc: Global, room: usize, fails: &[u64]) -> Result<MemSink, NoMemory> {
+    MemSink::with(alloc, room, Vec::from_slice(alloc, fails)?)
+}
+
+/// What a run of these words on these files answers.
+pub fn run_with<F: Files>(
     rt: &(impl Threads + Sync),
     alloc: Global,
-    given: &Given<'_>,
-) -> Result<Answer, Fail> {
-    let words = words_of(alloc, given.words)?;
-    let mut files = files_of(alloc, given)?;
-    let mut out = given.failing.out(alloc)?;
-    let mut err = given.failing.error_out(alloc)?;
-    let status = run(rt, alloc, words.as_slice(), &mut files, &mut out, &mut err);
+    words: &str,
+    files: &mut F,
+    failing: Failing,
+) -> Result<Answer, NoMemory> {
+    let words = words_of(alloc, words)?;
+    let mut out = sink(alloc, failing.room(), failing.calls_of_out())?;
+    let mut err = sink(alloc, 1000, failing.calls_of_error_out())?;
+    let status = run(rt, alloc, words.as_slice(), files, &mut out, &mut err);
     Ok(Answer {
         status,
-        out: text_of(out)?,
-        err: text_of(err)?,
+        out: out.written,
+        err: err.written,
     })
 }
 
-/// Asserts what a run answers: its status, and every byte that it wrote. `what` names the case where they differ.
-pub fn expect(
-    rt: &(impl Threads + Sync + Abort),
+/// What a run answers.
+fn run_on(
+    rt: &(impl Threads + Sync),
     alloc: Global,
     given: &Given<'_>,
-    want: Want,
-    what: &impl fmt::Debug,
-) -> Result<(), Fail> {
-    assert_eq!(rt; run_on(rt, alloc, given)?, want.whole(alloc)?, "{what:?}");
-    Ok(())
+) -> Result<Answer, NoMemory> {
+    let mut files = files_of(alloc, given)?;
+    run_with(rt, alloc, given.words, &mut files, given.failing)
+}
+
+/// Whether a run answers so: its status, and every byte that it writes.
+pub fn answers(rt: &(impl Threads + Sync), alloc: Global, given: &Given<'_>, want: &Want) -> bool {
+    match run_on(rt, alloc, given) {
+        Ok(answer) => want.is(alloc, &answer),
+        Err(_) => false,
+    }
+}
+
+/// Stops the test where this does not hold, and names the case.
+pub fn expect(rt: &impl Abort, holds: bool, case: &impl fmt::Debug) {
+    assert!(rt; holds, "{case:?}");
 }

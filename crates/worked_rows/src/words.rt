@@ -1,6 +1,5 @@
 use super::layouts::TWO_BARS;
-use super::runs::{NO_SHORT, RADIUS_3, SHORT_32, Want, calm, expect};
-use std::test::Fail;
+use super::runs::{NO_SHORT, RADIUS_3, SHORT_32, Want, answers, calm, expect};
 
 /// Command lines that fit neither form.
 const OTHER_WORDS: &[&str] = &[
@@ -24,17 +23,15 @@ const OTHER_WORDS: &[&str] = &[
 ];
 
 #[test]
-fn other_words_are_refused(rt: HostRuntime) -> Result<(), Fail> {
+fn other_words_are_refused(rt: HostRuntime) {
     for words in OTHER_WORDS {
+        let given = calm(words, TWO_BARS);
         expect(
             &rt,
-            rt.alloc(),
-            &calm(words, TWO_BARS),
-            Want::BadWords,
+            answers(&rt, rt.alloc(), &given, &Want::BadWords),
             words,
-        )?;
+        );
     }
-    Ok(())
 }
 
 /// Command lines that ask for one metal, and what they are answered for the two bars.
@@ -65,9 +62,9 @@ const WORDS: &[(&str, Want)] = &[
 ];
 
 #[test]
-fn words_are_read(rt: HostRuntime) -> Result<(), Fail> {
+fn words_are_read(rt: HostRuntime) {
     for (words, want) in WORDS {
-        expect(&rt, rt.alloc(), &calm(words, TWO_BARS), *want, words)?;
+        let given = calm(words, TWO_BARS);
+        expect(&rt, answers(&rt, rt.alloc(), &given, want), words);
     }
-    Ok(())
 }

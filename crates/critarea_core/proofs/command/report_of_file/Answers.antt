@@ -1,5 +1,4 @@
-use Rattle.std.proofs.Common.{ap, arith}
-use Rattle.std.specs.Prelude.{Err}
+use Rattle.std.proofs.Common.{arith}
 use Rattle.layer_map.specs.MapView.{layer_map_of}
 use Rattle.critarea_core.proofs.RunLaws.{was_read, layout_unread, unfit, report_found}
 use Rattle.critarea_core.proofs.command.report_of_file.Goals as goal
@@ -19,4 +18,4 @@ pub returns-clause-found : goal.returns-clause-found
 returns-clause-found g c =
     let read = was_read c.in-Ok.ensures.answer in
     rw c.of_layout.ensures (unfit (g.F.Files.holds c.args.files.now) (layer_map_of c.args.map.now) c.args.name.now _ c.in-Err-report_of_bytes.fault c.as_slice.result.now read.2
-    (omega (arith, c.as_slice.ensures.len, read.1)) (rw c.as_slice.ensures.value read.0) (λ e. c.in-Err-report_of_bytes.ensures.refused (ap (λ x. Err x) e)))
+    (omega (arith, c.as_slice.ensures.len, read.1)) (rw c.as_slice.ensures.value read.0) c.in-Err-report_of_bytes.ensures.refused)

@@ -1,5 +1,5 @@
-use Rattle.critarea_core.proofs.LayoutLaws.{layouts_agree}
+use Rattle.critarea_core.proofs.VerdictLaws.{layout_outcomes_agree}
 use Rattle.critarea_core.proofs.laws.layouts_agree.Goals as goal
 
 pub returns : goal.returns
-returns c = layouts_agree
+returns c = layout_outcomes_agree

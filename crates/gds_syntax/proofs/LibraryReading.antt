@@ -1,0 +1,67 @@
+-- What bytes come to, from what a reader found in them.
+use Rattle.std.proofs.Common.{◌≡◌, ℕ, List, [], ◌∷◌, ◌++◌, length, refl, sym, ap, subst, ◌∙◌, true, arith}
+use Rattle.std.proofs.lemmas.List.{append_assoc, append-nil}
+use Rattle.first_refusal.specs.Outcomes.{value, refused}
+use Rattle.gds_records.specs.Reading.{Reading, start_of, IsLeft}
+use Rattle.gds_records.specs.Spelling.{AreBytes, Entry}
+use Rattle.gds_records.specs.Split.{End, whole, Splits}
+use Rattle.gds_records.proofs.SplitLaws.{all_bytes_split}
+use Rattle.gds_syntax.specs.FirstFault.{BytesComeTo, are_library, have_fault, NoneShows}
+use Rattle.gds_syntax.specs.Libraries.{AreStructures}
+use Rattle.gds_syntax.specs.Places.{before_header, between_structures}
+use Rattle.gds_syntax.specs.Readers.{standing, IsAt, Stops, ReadsHead, ReadsStructures}
+use Rattle.gds_syntax.specs.declared.fault.SyntaxFault.{SyntaxFault}
+use Rattle.gds_syntax.specs.declared.library.Library.{Library}
+use Rattle.gds_syntax.proofs.ReaderLaws.{stops_later}
+
+-- no records are in front of the stream
+no_records : {A : Type 0} (before after : List A) (e : A) → [] ≡ before ++ e ∷ after → ⊥
+no_records [] after e same = omega (arith, ap length same)
+no_records (b ∷ before) after e same = omega (arith, ap length same)
+
+pub starts : (bytes : List ℕ) → IsAt (start_of bytes) [] (standing before_header [])
+starts bytes =
+    record {
+      place = refl;
+      none_shows = λ before after e fault same shown. no_records before after e same;
+      offset = refl;
+      names = λ name. (λ has. absurd (omega (arith, has.1)), λ found. absurd (no_records found.earlier found.later found.record_of_name found.parts));
+    }
+
+-- the fault that a reader stops at is that of the bytes
+pub bytes_have_fault : (bytes : List ℕ) (fault : SyntaxFault) → AreBytes bytes → Stops (start_of bytes) (standing before_header []) fault → BytesComeTo bytes (refused fault)
+bytes_have_fault bytes fault are stops =
+    let (entries, end, split) = all_bytes_split 0 bytes are in
+    have_fault split (stops [] (starts bytes) entries end split)
+
+-- behind the head
+pub bytes_have_later_fault : (bytes : List ℕ) (mid : Reading) (name units : List ℕ) (fault : SyntaxFault) → AreBytes bytes → ReadsHead (start_of bytes) mid name units
+    → Stops mid (standing between_structures []) fault → BytesComeTo bytes (refused fault)
+bytes_have_later_fault bytes mid name units fault are head stops =
+    bytes_have_fault bytes fault are (stops_later (start_of bytes) mid (standing before_header []) (standing between_structures []) head.entries fault head.advances stops)
+
+-- what is left behind the end
+none_left : (reading : Reading) (entries : List Entry) (end : End) → reading.ended ≡ true → IsLeft reading entries end → (entries ≡ []) × (end ≡ whole)
+none_left reading entries end ended left = rw ended at left
+
+-- the library that a reader read is that of the bytes
+pub bytes_are_library : (bytes : List ℕ) (mid new : Reading) (library : Library) → AreBytes bytes → ReadsHead (start_of bytes) mid library.name library.units
+    → ReadsStructures mid new library.structures → BytesComeTo bytes (value library)
+bytes_are_library bytes mid new library are head rest =
+    let (entries, end, split) = all_bytes_split 0 bytes are in
+    let (others, parts, mid_left) = head.advances.takes.left entries end split in
+    let (last, more_parts, new_left) = rest.advances.takes.left others end mid_left in
+    let (none, is_whole) = none_left new last end rest.ended new_left in
+    let all : entries ≡ head.entries ++ (rest.entries ++ rest.last ∷ []) =
+    parts ∙ ap (λ (x : List Entry). head.entries ++ x) (more_parts ∙ ap (λ (x : List Entry). (rest.entries ++ rest.last ∷ []) ++ x) none ∙ append-nil (rest.entries ++ rest.last ∷ [])) in
+    let quiet : NoneShows (head.entries ++ (rest.entries ++ rest.last ∷ [])) = (rest.advances.stands head.entries (head.advances.stands [] (starts bytes))).none_shows in
+    let whole_split : Splits 0 bytes (head.entries ++ (rest.entries ++ rest.last ∷ [])) whole = subst (λ (x : List Entry). Splits 0 bytes x whole) all (subst (λ (x : End). Splits 0 bytes entries x) is_whole split) in
+    are_library whole_split quiet (record {
+      head = head.entries;
+      is_head = head.is_head;
+      structures = rest.entries;
+      has_structures = subst (λ (at : ℕ). AreStructures at rest.entries library.structures) head.advances.takes.offset rest.are_structures;
+      last = rest.last;
+      ends = rest.is_last;
+      parts = sym (append_assoc head.entries rest.entries (rest.last ∷ []));
+    })

@@ -1,0 +1,100 @@
+-- the steps of an array: whole parts of the ways that they make up
+use Rattle.std.proofs.Common.{◌≡◌, ◌∙◌, refl, sym, ap, ℕ, zero, suc, ℤ, pos, negsuc, ◌+ℤ◌, ◌-ℤ◌, ◌*ℤ◌, ◌≤ℤ◌, neg_ℤ, nat_abs, ◌/◌, ◌%◌, ◌≤◌, Option, Some, None, IfSome, IfNone, SFits, w64, to_z, of_z, arith}
+use Rattle.std.specs.Prelude.{int_div, int_rem}
+use Rattle.std.specs.Option.{option_zip}
+use Rattle.std.proofs.Math.IntN.{*ℤ_comm}
+use Rattle.std.proofs.Math.Nat.{div-le_self, mul-mod_right}
+use Rattle.std.proofs.lemmas.Int.{ints, quot-rem, unsigned_abs-mul, quot_is, quot_fits, rem_is, to_z-of_z}
+use Rattle.std.proofs.lemmas.Option.{IfSome_then}
+
+IfNone_then : {P Q : Type 0} (r : Option ℤ) → IfNone r P → (P → Q) → IfNone r Q
+IfNone_then None p f = f p
+IfNone_then (Some z) p f = tt
+
+-- ---- parts
+
+without_rest : (p r way : ℤ) → (p +ℤ r) ≡ way → r ≡ pos 0 → p ≡ way
+without_rest p r way e none = omega (arith, ints)
+
+pub part_makes_up : (way count : ℤ) → int_rem way count ≡ pos 0 → (count *ℤ int_div way count) ≡ way
+part_makes_up way count none =
+    *ℤ_comm count (int_div way count) ∙ without_rest (int_div way count *ℤ count) (int_rem way count) way (quot-rem way count) none
+
+size_of_neg : (n : ℕ) → nat_abs (neg_ℤ (pos n)) ≡ n
+size_of_neg zero = refl
+size_of_neg (suc n) = refl
+
+pub part_is_shorter : (way count : ℤ) → pos 1 ≤ℤ count → nat_abs (int_div way count) ≤ nat_abs way
+part_is_shorter (pos a) (pos b) some = div-le_self a b
+part_is_shorter (negsuc a) (pos b) some = let size = size_of_neg (suc a / b) in let less = div-le_self (suc a) b in omega arith
+part_is_shorter way (negsuc b) some = absurd (omega (arith, ints))
+
+size_of_rest : (way count : ℤ) → nat_abs (int_rem way count) ≡ nat_abs way % nat_abs count
+size_of_rest (pos a) count = refl
+size_of_rest (negsuc a) count = size_of_neg (suc a % nat_abs count)
+
+none_of_size : (z : ℤ) → nat_abs z ≡ 0 → z ≡ pos 0
+none_of_size (pos n) e = ap pos e
+none_of_size (negsuc n) e = absurd (omega arith)
+
+pub no_rest_of_parts : (way count part : ℤ) → (count *ℤ part) ≡ way → int_rem way count ≡ pos 0
+no_rest_of_parts way count part e =
+    none_of_size (int_rem way count)
+    (size_of_rest way count ∙ ap (λ z. nat_abs z % nat_abs count) (sym e) ∙ ap (λ n. n % nat_abs count) (unsigned_abs-mul count part) ∙ mul-mod_right (nat_abs count) (nat_abs part))
+
+-- ---- steps
+
+pub leads_along : (from to p : ℤ) → p ≡ (to -ℤ from) → (from +ℤ p) ≡ to
+leads_along from to p e = omega (arith, ints)
+
+pub way_along : (from to p : ℤ) → (from +ℤ p) ≡ to → p ≡ (to -ℤ from)
+way_along from to p e = omega (arith, ints)
+
+-- ---- what a program divides
+
+module _ (way count : ℤ) (way_fits : SFits w64 way) (count_fits : SFits w64 count) where
+  pub quotient_is : pos 1 ≤ℤ count
+      → to_z w64 (of_z w64 (int_div (to_z w64 (of_z w64 way)) (to_z w64 (of_z w64 count)))) ≡ int_div way count
+  quotient_is some = quot_is w64 way count way_fits count_fits (quot_fits w64 way count way_fits (omega (arith, ints)))
+
+  rest_is : int_rem (to_z w64 (of_z w64 way)) (to_z w64 (of_z w64 count)) ≡ int_rem way count
+  rest_is = ap (λ z. int_rem z (to_z w64 (of_z w64 count))) (to_z-of_z w64 way way_fits) ∙ ap (int_rem way) (to_z-of_z w64 count count_fits)
+
+  pub no_rest : of_z w64 (int_rem (to_z w64 (of_z w64 way)) (to_z w64 (of_z w64 count))) ≡ 0 → int_rem way count ≡ pos 0
+  no_rest none = sym (rem_is w64 way count way_fits count_fits) ∙ ap (to_z w64) none
+
+  pub rest_is_none : (part : ℤ) → (count *ℤ part) ≡ way → of_z w64 (int_rem (to_z w64 (of_z w64 way)) (to_z w64 (of_z w64 count))) ≡ 0
+  rest_is_none part e = ap (of_z w64) (rest_is ∙ no_rest_of_parts way count part e)
+
+-- ---- steps from parts
+
+module _ (from to count told_count told_way : ℤ) (r : Option ℤ) where
+  pub step_leads : IfSome r (λ part. (told_count *ℤ part) ≡ told_way) → told_count ≡ count → told_way ≡ (to -ℤ from)
+      → IfSome r (λ step. (from +ℤ (count *ℤ step)) ≡ to)
+  step_leads whole is_count is_way =
+      IfSome_then r whole (λ part e. leads_along from to (count *ℤ part) (ap (λ n. n *ℤ part) (sym is_count) ∙ e ∙ is_way))
+
+  pub no_step_leads : IfNone r ((part : ℤ) → (told_count *ℤ part) ≡ told_way → ⊥) → told_count ≡ count → told_way ≡ (to -ℤ from)
+      → IfNone r ((step : ℤ) → (from +ℤ (count *ℤ step)) ≡ to → ⊥)
+  no_step_leads none is_count is_way = IfNone_then r none (λ n step e. n step (ap (λ k. k *ℤ step) is_count ∙ way_along from to (count *ℤ step) e ∙ sym is_way))
+
+-- a step between the same coordinates
+pub along_alike : (from told_from to told_to count told_count step : ℤ) → told_from ≡ from → told_to ≡ to → told_count ≡ count
+    → (told_from +ℤ (told_count *ℤ step)) ≡ told_to → (from +ℤ (count *ℤ step)) ≡ to
+along_alike from told_from to told_to count told_count step is_from is_to is_count leads = cc
+
+-- ---- two answers as one
+
+-- where both are there, what follows from both
+pub both_there : {A B : Type 0} (one : Option A) (other : Option B) (P : A → Type 0) (Q : B → Type 0) (R : A × B → Type 0) → IfSome one P → IfSome other Q
+    → ((a : A) (b : B) → P a → Q b → R (a, b)) → IfSome (option_zip one other) R
+both_there None other P Q R p q both = tt
+both_there (Some a) None P Q R p q both = tt
+both_there (Some a) (Some b) P Q R p q both = both a b p q
+
+-- where one is not there, what follows from that of either
+pub one_lacks : {A B : Type 0} (one : Option A) (other : Option B) (P Q R : Type 0) → IfNone one P → IfNone other Q → (P → R) → (Q → R)
+    → IfNone (option_zip one other) R
+one_lacks None other P Q R p q of_one of_other = of_one p
+one_lacks (Some a) None P Q R p q of_one of_other = of_other q
+one_lacks (Some a) (Some b) P Q R p q of_one of_other = tt

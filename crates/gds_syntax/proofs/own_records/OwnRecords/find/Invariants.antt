@@ -1,0 +1,8 @@
+use Rattle.std.proofs.Common.{◌≡◌, drop}
+use Rattle.std.specs.Prelude.{find, map, ◌==◌}
+use Rattle.gds_records.specs.Reading.{entry_of}
+use Rattle.gds_syntax.proofs.own_records.OwnRecords.find.Given as goal
+
+abbrev pub invariant-loop-record : goal.invariant-loop-record
+invariant-loop-record l =
+    find (λ e. e.kind == l.kind) (map entry_of l.record-items) ≡ find (λ e. e.kind == l.kind) (map entry_of (drop l.record-index l.record-items))

@@ -1,0 +1,8 @@
+use Rattle.std.proofs.Common.{arith}
+use Rattle.gds_records.specs.Reading.{entry_of}
+use Rattle.gds_syntax.proofs.own_records.OwnRecords.u16_in.Goals as goal
+
+pub u16_at-requires : goal.u16_at-requires
+u16_at-requires c =
+    let ensures = c.in-Some.ensures in
+    omega (arith, c.requires (entry_of c.in-Some.found) ensures.in_profile ensures.of_kind)

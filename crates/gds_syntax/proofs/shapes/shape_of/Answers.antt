@@ -1,0 +1,16 @@
+use Rattle.std.proofs.Common.{sym, subst}
+use Rattle.gds_syntax.specs.Ranges.{ArePoints}
+use Rattle.gds_syntax.proofs.PointLaws.{are_points}
+use Rattle.gds_syntax.proofs.SizeLaws.{layer_has_two}
+use Rattle.gds_syntax.proofs.shapes.shape_of.Goals as goal
+
+pub u16_in-requires : goal.u16_in-requires
+u16_in-requires c = layer_has_two
+
+pub invariant_of-result : goal.invariant_of-result
+invariant_of-result c = record {
+  kind_fits = c.requires.range;
+  layer_fits = c.u16_in.type_inv;
+  datatype_fits = c.u16_in-2.type_inv;
+  points_fit = subst ArePoints (sym c.in_ok-points_of.ensures) (are_points c.args.own.now);
+}

@@ -1,0 +1,17 @@
+pub mod Ranges
+pub mod ElementForms
+pub mod Shape
+pub mod OwnRecords
+pub mod Sizes
+pub mod ElementChecks
+pub mod ElementKinds
+pub mod Elements
+pub mod Points
+pub mod Libraries
+pub mod SyntaxFaults
+pub mod Places
+pub mod FirstFault
+pub mod Readers
+pub mod Names
+pub mod SharedChecks
+pub mod Quarters

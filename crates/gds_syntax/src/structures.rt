@@ -1,0 +1,70 @@
+ghost use Rattle.std.specs.Prelude.{◌≡◌, ◌≢◌, ◌≤◌, [], ◌∷◌, length, IfOk, IfErr};
+ghost use Rattle.gds_records.specs.Reading.{entry_of};
+ghost use Rattle.gds_syntax.specs.Libraries.{behind, IsOfKind};
+ghost use Rattle.gds_records.specs.Kinds as kind;
+ghost use Rattle.gds_syntax.specs.Places.{before_strname, between_structures};
+ghost use Rattle.gds_syntax.specs.Readers.{IsReady, ReadsStructure, ReadsStructures, Stops, standing};
+ghost use Rattle.gds_syntax.specs.declared.fault.SyntaxFault.TheVariants.{Memory};
+
+use super::elements::read_elements;
+use super::fault::SyntaxFault;
+use super::library::Structure;
+use super::name_index::NameIndex;
+use super::own_records::OwnRecords;
+use super::records::{expect, next_record, unexpected};
+use gds_records::{Record, Records, kinds, text};
+use geo_core::{Items, Name};
+use std::alloc::Global;
+
+/// Reads a structure behind the record that opens it, and puts its name behind those of the structures before it.
+fn read_structure<'a>(
+    alloc: Global,
+    records: &mut Records<'a>,
+    opening: &Record<'a>,
+    names: &mut NameIndex,
+    own: &mut OwnRecords<'a>,
+) -> Result<Structure, SyntaxFault>
+    requires ready { IsReady records.old }
+    requires opens { IsOfKind kind.bgnstr (entry_of opening.now) }
+    requires place { records.old.at ≡ behind opening.now.at (entry_of opening.now ∷ []) }
+    requires few { length names.old ≤ records.old.at }
+    ensures structure { IfOk result (ReadsStructure records.old records.new names.old names.new opening.now) }
+    ensures faulty { IfErr result (λ fault. fault ≢ Memory → Stops records.old (standing before_strname names.old) fault) }
+{
+    let found = expect(records, kinds::STRNAME)?;
+    let name = text(&found);
+    if !names.add(alloc, name)? {
+        return Err(SyntaxFault::RepeatedStructure { at: found.at });
+    }
+    let name = Vec::from_slice(alloc, name)?;
+    let elements = read_elements(alloc, records, own)?;
+    Ok(Structure {
+        at: opening.at,
+        name: Name::from_vec(name),
+        elements: Items::from_vec(elements),
+    })
+}
+
+/// Reads the structures of a library behind its head, and its end.
+pub fn read_structures(
+    alloc: Global,
+    records: &mut Records<'_>,
+) -> Result<Vec<Structure>, SyntaxFault>
+    requires { IsReady records.old }
+    ensures structures { IfOk result (λ structures. ReadsStructures records.old records.new structures.items) }
+    ensures faulty { IfErr result (λ fault. fault ≢ Memory → Stops records.old (standing between_structures []) fault) }
+{
+    let mut structures = Vec::new(alloc);
+    let mut names = NameIndex::new(alloc);
+    let mut own = OwnRecords::new(alloc);
+    let mut found = next_record(records)?;
+    while found.kind == kinds::BGNSTR {
+        let structure = read_structure(alloc, records, &found, &mut names, &mut own)?;
+        structures.push(structure)?;
+        found = next_record(records)?;
+    }
+    if found.kind != kinds::ENDLIB {
+        return Err(unexpected(&found));
+    }
+    Ok(structures)
+}
