@@ -1,0 +1,14 @@
+pub mod Every
+pub mod ProfileLaws
+pub mod NumberLaws
+pub mod FieldLaws
+pub mod WriteLaws
+pub mod MoveLaws
+pub mod ShapeLaws
+pub mod ReferenceLaws
+pub mod ElementLaws
+pub mod OrderLaws
+pub mod ReadLaws
+pub mod QuietLaws
+pub mod WrittenLaws
+pub mod ReadWellFormed

@@ -1,0 +1,271 @@
+-- What a reference's own records say of it, as they are written.
+use Rattle.std.proofs.Common.{◌≡◌, ◌↔◌, ℕ, zero, suc, ◌/◌, ◌%◌, ◌^◌, ◌<◌, ℤ, pos, negsuc, ◌+ℤ◌, ◌*ℤ◌, ◌≤ℤ◌, Bool, true, false, not, ◌||◌, ◌==◌, List, [], ◌∷◌, ◌++◌, length, get_or, All, Contains, Option, Some, None, refl, sym, ap, subst, ◌∙◌, arith, append_assoc, true≢false}
+use Rattle.std.specs.Prelude.{unwrap_or, MatchOption, IfSome, IsTrue}
+use Rattle.std.specs.Bool.{then_some}
+use Rattle.std.specs.List.{flat_map}
+use Rattle.std.proofs.lemmas.Int.{ints}
+use Rattle.std.proofs.lemmas.List.Elements.{All-from_recursion}
+use Rattle.byteorder.specs.Endian.{big_bytes}
+use Rattle.geo_core.specs.declared.plane.Point.{Point}
+use Rattle.geo_core.specs.declared.plane.Turn.{Turn}
+use Rattle.gds_records.specs.Fields.{item}
+use Rattle.gds_records.specs.Kinds as kind
+use Rattle.gds_records.specs.Reals.{HasValue}
+use Rattle.gds_records.specs.Spelling.{Entry}
+use Rattle.gds_syntax.specs.ElementChecks.{ElementHolds, element_checks}
+use Rattle.gds_syntax.specs.ElementForms.{sref_form, aref_form}
+use Rattle.gds_syntax.specs.Elements.{IsTurn, IsReference, IsKept, sref as keeps_sref, aref as keeps_aref}
+use Rattle.gds_syntax.specs.OwnRecords.{field, body_of, point_in, points_of, unsigned_of, HasQuarters, columns_of, rows_of, Leads, HasSteps}
+use Rattle.gds_syntax.specs.Ranges.{IsPoint, ArePoints}
+use Rattle.gds_syntax.specs.Shape.{kinds_of}
+use Rattle.gds_syntax.specs.declared.element.Element.TheVariants.{Reference as reference_element}
+use Rattle.gds_syntax.specs.declared.element.Lattice.{Lattice}
+use Rattle.gds_syntax.specs.declared.element.Reference.{Reference}
+use Rattle.gds_write.specs.Bodies.{text_entry, point_bytes, entry_if}
+use Rattle.gds_write.specs.WellFormed.{IsWritableReference}
+use Rattle.gds_write.specs.Written.{strans_entry, angle_entry, turn_records, moved_by, array_points, placing_records}
+use Rattle.gds_write.proofs.FieldLaws.{past, found_where}
+use Rattle.gds_write.proofs.NumberLaws.{columns_read, rows_read, point_reads, points_read}
+use Rattle.gds_write.proofs.ProfileLaws.{padded_fills}
+use Rattle.gds_write.proofs.ShapeLaws.{has_found}
+
+-- ---- the turn
+
+-- STRANS, where it is written, has its highest bit set where the turn mirrors
+mirrors_by : (reflect written : Bool) → (reflect ≡ true → written ≡ true)
+    → IsTrue reflect ↔ (item 2 0 (unwrap_or (then_some written (strans_entry reflect).body) []) / 2 ^ 15 ≡ 1)
+mirrors_by true true is = (λ t. refl, λ e. refl)
+mirrors_by true false is = absurd (true≢false (sym (is refl)))
+mirrors_by false true is = (λ t. absurd (cc), λ e. absurd (omega arith))
+mirrors_by false false is = (λ t. absurd (cc), λ e. absurd (omega arith))
+
+not_absolute_by : (reflect written : Bool) → item 2 0 (unwrap_or (then_some written (strans_entry reflect).body) []) / 2 % 2 ≡ 1 → ⊥
+not_absolute_by true true e = omega arith
+not_absolute_by true false e = omega arith
+not_absolute_by false true e = omega arith
+not_absolute_by false false e = omega arith
+
+-- ANGLE, where it is written, is 90 degrees a quarter
+quarters_by : (quarters : ℕ) → quarters < 4
+    → MatchOption (then_some (not (quarters == 0)) (angle_entry quarters).body) (pos quarters +ℤ (pos 4 *ℤ pos 0) ≡ pos 0)
+    (λ body. HasValue body (pos 90 *ℤ (pos quarters +ℤ (pos 4 *ℤ pos 0))))
+quarters_by zero few = refl
+quarters_by (suc zero) few = record { size = record { scaled = refl }; sign = refl }
+quarters_by (suc (suc zero)) few = record { size = record { scaled = refl }; sign = refl }
+quarters_by (suc (suc (suc zero))) few = record { size = record { scaled = refl }; sign = refl }
+quarters_by (suc (suc (suc (suc quarters)))) few = absurd (omega arith)
+
+-- ---- where a reference is placed
+
+-- the points of its XY
+abbrev pub placing_points : Point → Option Lattice → List Point
+placing_points origin None = origin ∷ []
+placing_points origin (Some lattice) = array_points origin lattice
+
+-- the own records of a reference that is repeated so
+abbrev pub reference_own : List ℕ → Turn → Point → Option Lattice → List Entry
+reference_own target turn origin lattice = text_entry kind.sname target ∷ turn_records turn ++ placing_records origin lattice
+
+module _ (target : List ℕ) (turn : Turn) (origin : Point) (lattice : Option Lattice) where
+  abbrev own : List Entry
+  own = reference_own target turn origin lattice
+
+  abbrev mirrors : Bool
+  mirrors = turn.reflect || not (turn.quarters == 0)
+
+  abbrev turns : Bool
+  turns = not (turn.quarters == 0)
+
+  abbrev placing : List Entry
+  placing = placing_records origin lattice
+
+  abbrev behind_strans : List Entry
+  behind_strans = entry_if turns (angle_entry turn.quarters) ++ placing
+
+  reference_field : (k : ℕ) (o : Option (List ℕ)) → (kind.sname == k) ≡ false → field k (entry_if mirrors (strans_entry turn.reflect) ++ behind_strans) ≡ o → field k own ≡ o
+  reference_field k o no_name has =
+      rw no_name (ap (field k) (append_assoc (entry_if mirrors (strans_entry turn.reflect)) (entry_if turns (angle_entry turn.quarters)) placing) ∙ has)
+
+  past_strans : (k : ℕ) → (kind.strans == k) ≡ false → field k (entry_if mirrors (strans_entry turn.reflect) ++ behind_strans) ≡ field k behind_strans
+  past_strans k other = past k mirrors (strans_entry turn.reflect) behind_strans other
+
+  past_angle : (k : ℕ) → (kind.angle == k) ≡ false → field k behind_strans ≡ field k placing
+  past_angle k other = past k turns (angle_entry turn.quarters) placing other
+
+  placing_xy : (l : Option Lattice) → field kind.xy (placing_records origin l) ≡ Some (flat_map point_bytes (placing_points origin l))
+  placing_xy None = refl
+  placing_xy (Some l) = refl
+
+  not_placing : (k : ℕ) → (kind.xy == k) ≡ false → (kind.colrow == k) ≡ false → (l : Option Lattice) → field k (placing_records origin l) ≡ None
+  not_placing k no_xy no_colrow None = rw no_xy refl
+  not_placing k no_xy no_colrow (Some l) = rw (no_colrow, no_xy) refl
+
+  has_xy : field kind.xy own ≡ Some (flat_map point_bytes (placing_points origin lattice))
+  has_xy = reference_field kind.xy _ refl (past_strans kind.xy refl ∙ past_angle kind.xy refl ∙ placing_xy lattice)
+
+  has_strans : field kind.strans own ≡ then_some mirrors (strans_entry turn.reflect).body
+  has_strans =
+      reference_field kind.strans _ refl
+      (found_where kind.strans mirrors (strans_entry turn.reflect) behind_strans refl (past_angle kind.strans refl ∙ not_placing kind.strans refl refl lattice))
+
+  has_angle : field kind.angle own ≡ then_some turns (angle_entry turn.quarters).body
+  has_angle =
+      reference_field kind.angle _ refl
+      (past_strans kind.angle refl ∙ found_where kind.angle turns (angle_entry turn.quarters) placing refl (not_placing kind.angle refl refl lattice))
+
+  has_no_mag : field kind.mag own ≡ None
+  has_no_mag = reference_field kind.mag _ refl (past_strans kind.mag refl ∙ past_angle kind.mag refl ∙ not_placing kind.mag refl refl lattice)
+
+  xy_body : body_of kind.xy own ≡ flat_map point_bytes (placing_points origin lattice)
+  xy_body = ap (λ (o : Option (List ℕ)). unwrap_or o []) has_xy
+
+  -- ---- the turn as it is read
+
+  word_is : unsigned_of kind.strans own ≡ item 2 0 (unwrap_or (then_some mirrors (strans_entry turn.reflect).body) [])
+  word_is = ap (λ (o : Option (List ℕ)). item 2 0 (unwrap_or o [])) has_strans
+
+  is_written : turn.reflect ≡ true → mirrors ≡ true
+  is_written e = ap (λ (b : Bool). b || turns) e
+
+  has_quarters : HasQuarters own (pos turn.quarters +ℤ (pos 4 *ℤ pos 0))
+  has_quarters = rw has_angle (quarters_by turn.quarters turn.whole)
+
+  turn_is_read : IsTurn own turn
+  turn_is_read = record { mirrors = rw word_is (mirrors_by turn.reflect mirrors is_written); circles = pos 0; turns = has_quarters }
+
+  not_magnified : IfSome (field kind.mag own) (λ body. HasValue body (pos 1))
+  not_magnified = rw has_no_mag tt
+
+  not_absolute : unsigned_of kind.strans own / 2 % 2 ≡ 1 → ⊥
+  not_absolute = rw word_is (not_absolute_by turn.reflect mirrors)
+
+  by_quarters : (quarters : ℤ) × HasQuarters own quarters × (negsuc 3 ≤ℤ quarters) × (quarters ≤ℤ pos 4)
+  by_quarters = let few = turn.whole in (pos turn.quarters +ℤ (pos 4 *ℤ pos 0), has_quarters, omega (arith, ints), omega (arith, ints))
+
+-- ---- a reference as it is read
+
+-- a reference that begins at another offset
+abbrev pub reference_at : ℕ → Reference → Reference
+reference_at at reference = record reference { at = at }
+
+module _ (at : ℕ) (reference : Reference) (lattice : Option Lattice) (writable : IsWritableReference reference) (is : reference.lattice ≡ lattice) where
+  abbrev own_records : List Entry
+  own_records = reference_own reference.target reference.turn reference.origin lattice
+
+  placed_points_fit : (l : Option Lattice) → IfSome l (λ some. ArePoints (array_points reference.origin some)) → ArePoints (placing_points reference.origin l)
+  placed_points_fit None fit = All-from_recursion IsPoint (reference.origin ∷ []) (reference.origin_fits, tt)
+  placed_points_fit (Some some) fit = fit
+
+  points_fit : ArePoints (placing_points reference.origin lattice)
+  points_fit = placed_points_fit lattice (subst (λ (l : Option Lattice). IfSome l (λ some. ArePoints (array_points reference.origin some))) is writable.lattice)
+
+  point_is : (k : ℕ) → k < length (placing_points reference.origin lattice) → point_in (body_of kind.xy own_records) k ≡ get_or (placing_points reference.origin lattice) k reference.origin
+  point_is k within = rw (xy_body reference.target reference.turn reference.origin lattice) (point_reads (placing_points reference.origin lattice) k reference.origin points_fit within)
+
+  points_are : points_of own_records ≡ placing_points reference.origin lattice
+  points_are = rw (xy_body reference.target reference.turn reference.origin lattice) (points_read (placing_points reference.origin lattice) points_fit)
+
+  first_is_origin : (l : Option Lattice) → (0 < length (placing_points reference.origin l)) × (get_or (placing_points reference.origin l) 0 reference.origin ≡ reference.origin)
+  first_is_origin None = (omega arith, refl)
+  first_is_origin (Some some) = (omega arith, refl)
+
+  is_reference : IsReference at own_records (reference_at at reference)
+  is_reference =
+      let first = first_is_origin lattice in
+      record {
+        place = refl;
+        is_target = (padded_fills reference.target writable.target reference.target_fits).is_text;
+        is_turn = turn_is_read reference.target reference.turn reference.origin lattice;
+        is_origin = sym (point_is 0 first.0 ∙ first.1);
+      }
+
+  has_points_xy : Contains (kinds_of own_records) kind.xy
+  has_points_xy = has_found kind.xy own_records _ (has_xy reference.target reference.turn reference.origin lattice)
+
+-- a reference that is not repeated
+module _ (at : ℕ) (reference : Reference) (writable : IsWritableReference reference) (is : reference.lattice ≡ None) where
+  pub sref_kept : IsKept at (reference_own reference.target reference.turn reference.origin None) kind.sref (Some (reference_element (reference_at at reference)))
+  sref_kept = keeps_sref (is_reference at reference None writable is) is
+
+  pub sref_holds : All (ElementHolds sref_form (reference_own reference.target reference.turn reference.origin None)) (element_checks sref_form)
+  sref_holds =
+      let own : List Entry = reference_own reference.target reference.turn reference.origin None in
+      All-from_recursion (ElementHolds sref_form own) (element_checks sref_form) (
+        has_points_xy at reference None writable is,
+        (
+          (0, omega arith, refl),
+          (
+            ap length (points_are at reference None writable is),
+            (
+              not_magnified reference.target reference.turn reference.origin None,
+              (
+                not_absolute reference.target reference.turn reference.origin None,
+                (by_quarters reference.target reference.turn reference.origin None, tt),
+              ),
+            ),
+          ),
+        ),
+      )
+
+-- an array
+module _ (at : ℕ) (reference : Reference) (lattice : Lattice) (writable : IsWritableReference reference) (is : reference.lattice ≡ Some lattice) where
+  abbrev array_own : List Entry
+  array_own = reference_own reference.target reference.turn reference.origin (Some lattice)
+
+  has_colrow : field kind.colrow array_own ≡ Some (big_bytes 2 lattice.columns ++ big_bytes 2 lattice.rows)
+  has_colrow =
+      reference_field reference.target reference.turn reference.origin (Some lattice) kind.colrow _ refl
+      (past_strans reference.target reference.turn reference.origin (Some lattice) kind.colrow refl
+      ∙ past_angle reference.target reference.turn reference.origin (Some lattice) kind.colrow refl)
+
+  columns_are : columns_of array_own ≡ pos lattice.columns
+  columns_are = rw has_colrow (columns_read lattice.columns lattice.rows lattice.few_columns)
+
+  rows_are : rows_of array_own ≡ pos lattice.rows
+  rows_are = rw has_colrow (rows_read lattice.columns lattice.rows lattice.few_rows)
+
+  leads : (count : ℕ) (step : ℤ × ℤ) (counted : ℤ) (from to : Point) → counted ≡ pos count → from ≡ reference.origin → to ≡ moved_by count step reference.origin → Leads counted from to step
+  leads count step counted from to same_count same_from same_to = rw (same_count, same_from, same_to) (record { across = refl; up = refl })
+
+  has_steps : HasSteps array_own lattice.column_step lattice.row_step
+  has_steps =
+      let point = point_is at reference (Some lattice) writable is in
+      record {
+        columns = leads lattice.columns lattice.column_step _ _ _ columns_are (point 0 (omega arith)) (point 1 (omega arith));
+        rows = leads lattice.rows lattice.row_step _ _ _ rows_are (point 0 (omega arith)) (point 2 (omega arith));
+      }
+
+  pub aref_kept : IsKept at array_own kind.aref (Some (reference_element (reference_at at reference)))
+  aref_kept =
+      keeps_aref (is_reference at reference (Some lattice) writable is) is
+      (record { columns = sym columns_are; rows = sym rows_are; steps = has_steps })
+
+  pub aref_holds : All (ElementHolds aref_form array_own) (element_checks aref_form)
+  aref_holds =
+      let some_columns = lattice.some_columns in
+      let some_rows = lattice.some_rows in
+      All-from_recursion (ElementHolds aref_form array_own) (element_checks aref_form) (
+        has_points_xy at reference (Some lattice) writable is,
+        (
+          (0, omega arith, refl),
+          (
+            has_found kind.colrow array_own _ has_colrow,
+            (
+              ap length (points_are at reference (Some lattice) writable is),
+              (
+                not_magnified reference.target reference.turn reference.origin (Some lattice),
+                (
+                  not_absolute reference.target reference.turn reference.origin (Some lattice),
+                  (
+                    by_quarters reference.target reference.turn reference.origin (Some lattice),
+                    (
+                      (rw columns_are (omega (arith, ints)), rw rows_are (omega (arith, ints))),
+                      ((lattice.column_step, lattice.row_step, has_steps), tt),
+                    ),
+                  ),
+                ),
+              ),
+            ),
+          ),
+        ),
+      )

@@ -1,0 +1,217 @@
+-- What a shape's own records say of it, as they are written.
+use Rattle.std.proofs.Common.{◌≡◌, ℕ, suc, ◌≤◌, ℤ, pos, Bool, true, false, ◌==◌, List, [], ◌∷◌, ◌++◌, length, All, Contains, Option, Some, refl, sym, ap, subst, ◌∙◌, arith, append_assoc, w16, w32}
+use Rattle.std.specs.Prelude.{option_map, unwrap_or}
+use Rattle.std.specs.Bool.{then_some}
+use Rattle.std.specs.Int.{cast_signed}
+use Rattle.std.specs.List.{flat_map}
+use Rattle.std.proofs.lemmas.Bool.{eqb-true}
+use Rattle.std.proofs.lemmas.List.Elements.{All-from_recursion}
+use Rattle.geo_core.specs.declared.plane.Point.{Point}
+use Rattle.gds_records.specs.Fields.{item}
+use Rattle.gds_records.specs.Kinds as kind
+use Rattle.gds_records.specs.Spelling.{Entry}
+use Rattle.gds_syntax.specs.ElementChecks.{ElementHolds, element_checks}
+use Rattle.gds_syntax.specs.ElementForms.{ElementForm, boundary_form, path_form, box_form}
+use Rattle.gds_syntax.specs.Elements.{path_kind, IsKept, boundary as keeps_boundary, path as keeps_path, box as keeps_box}
+use Rattle.gds_syntax.specs.OwnRecords.{field, points_in, points_of, short_of, long_of, IsClosed}
+use Rattle.gds_syntax.specs.Points.{HasItsPoints}
+use Rattle.gds_syntax.specs.Ranges.{ArePoints, IsKind}
+use Rattle.gds_syntax.specs.Shape.{kinds_of}
+use Rattle.gds_syntax.specs.declared.element.Element.TheVariants.{Shape as shape_element}
+use Rattle.gds_syntax.specs.declared.element.Shape.{Shape}
+use Rattle.gds_syntax.specs.declared.element.ShapeKind.{ShapeKind}
+use Rattle.gds_syntax.specs.declared.element.ShapeKind.TheVariants.{Boundary, BoxElement, Path}
+use Rattle.gds_write.specs.Bodies.{unsigned_entry, short_entry, long_entry, long_bytes, point_bytes, points_entry, entry_if, is_not_zero}
+use Rattle.gds_write.specs.Written.{opening_of_shape, datatype_kind, path_records}
+use Rattle.gds_write.proofs.FieldLaws.{past, found_where, number_reads_by}
+use Rattle.gds_write.proofs.NumberLaws.{two_bytes_read, short_reads, long_reads, points_read}
+
+-- a kind that has a field is among the kinds
+pub has_found : (k : ℕ) (own : List Entry) (body : List ℕ) → field k own ≡ Some body → Contains (kinds_of own) k
+has_found k [] body found = absurd (cc)
+has_found k (e ∷ own) body found = by (e.kind == k) refl (λ other. has_found k own body (rw other at found))
+  where
+    by : (b : Bool) → (e.kind == k) ≡ b → ((e.kind == k) ≡ false → Contains (kinds_of own) k) → Contains (kinds_of (e ∷ own)) k
+    by true same behind = (0, omega arith, eqb-true e.kind k same)
+    by false other behind =
+        let later : Contains (kinds_of own) k = behind other in
+        (suc later.0, omega (arith, later.1), later.2)
+
+-- the form of an element that is a shape
+abbrev pub form_of_shape : ShapeKind → ElementForm
+form_of_shape Boundary = boundary_form
+form_of_shape BoxElement = box_form
+form_of_shape (Path pathtype width begin end) = path_form
+
+-- the own records of a shape of this kind
+abbrev pub shape_own : ℕ → ℕ → List Point → ShapeKind → List Entry
+shape_own layer datatype points shape_kind =
+    unsigned_entry kind.layer layer ∷ unsigned_entry (datatype_kind shape_kind) datatype ∷ path_records shape_kind ++ points_entry points ∷ []
+
+module _ (layer datatype : ℕ) (points : List Point) where
+  module _ (pathtype width begin end : ℤ) where
+    pub nested : shape_own layer datatype points (Path pathtype width begin end)
+        ≡ unsigned_entry kind.layer layer ∷ unsigned_entry kind.datatype datatype
+        ∷ (entry_if (is_not_zero pathtype) (short_entry kind.pathtype pathtype) ++ (entry_if (is_not_zero width) (long_entry kind.width width)
+        ++ (entry_if (is_not_zero begin) (long_entry kind.bgnextn begin) ++ (entry_if (is_not_zero end) (long_entry kind.endextn end) ++ points_entry points ∷ []))))
+    nested = simp append_assoc
+
+    -- what stands behind each of its own
+    abbrev behind_begin : List Entry
+    behind_begin = entry_if (is_not_zero end) (long_entry kind.endextn end) ++ points_entry points ∷ []
+
+    abbrev behind_width : List Entry
+    behind_width = entry_if (is_not_zero begin) (long_entry kind.bgnextn begin) ++ behind_begin
+
+    abbrev behind_pathtype : List Entry
+    behind_pathtype = entry_if (is_not_zero width) (long_entry kind.width width) ++ behind_width
+
+    path_field : (k : ℕ) (o : Option (List ℕ)) → (kind.layer == k) ≡ false → (kind.datatype == k) ≡ false
+        → field k (entry_if (is_not_zero pathtype) (short_entry kind.pathtype pathtype) ++ behind_pathtype) ≡ o
+        → field k (shape_own layer datatype points (Path pathtype width begin end)) ≡ o
+    path_field k o no_layer no_datatype has = ap (field k) nested ∙ rw (no_layer, no_datatype) has
+
+    past_pathtype : (k : ℕ) → (kind.pathtype == k) ≡ false
+        → field k (entry_if (is_not_zero pathtype) (short_entry kind.pathtype pathtype) ++ behind_pathtype) ≡ field k behind_pathtype
+    past_pathtype k other = past k (is_not_zero pathtype) (short_entry kind.pathtype pathtype) behind_pathtype other
+
+    past_width : (k : ℕ) → (kind.width == k) ≡ false → field k behind_pathtype ≡ field k behind_width
+    past_width k other = past k (is_not_zero width) (long_entry kind.width width) behind_width other
+
+    past_begin : (k : ℕ) → (kind.bgnextn == k) ≡ false → field k behind_width ≡ field k behind_begin
+    past_begin k other = past k (is_not_zero begin) (long_entry kind.bgnextn begin) behind_begin other
+
+    past_end : (k : ℕ) → (kind.endextn == k) ≡ false → field k behind_begin ≡ field k (points_entry points ∷ [])
+    past_end k other = past k (is_not_zero end) (long_entry kind.endextn end) (points_entry points ∷ []) other
+
+    path_xy : field kind.xy (shape_own layer datatype points (Path pathtype width begin end)) ≡ Some (flat_map point_bytes points)
+    path_xy = path_field kind.xy _ refl refl (past_pathtype kind.xy refl ∙ past_width kind.xy refl ∙ past_begin kind.xy refl ∙ past_end kind.xy refl)
+
+    has_pathtype : field kind.pathtype (shape_own layer datatype points (Path pathtype width begin end)) ≡ then_some (is_not_zero pathtype) (short_entry kind.pathtype pathtype).body
+    has_pathtype =
+        path_field kind.pathtype _ refl refl
+        (found_where kind.pathtype (is_not_zero pathtype) (short_entry kind.pathtype pathtype) behind_pathtype refl
+        (past_width kind.pathtype refl ∙ past_begin kind.pathtype refl ∙ past_end kind.pathtype refl))
+
+    has_width : field kind.width (shape_own layer datatype points (Path pathtype width begin end)) ≡ then_some (is_not_zero width) (long_bytes width)
+    has_width =
+        path_field kind.width _ refl refl
+        (past_pathtype kind.width refl ∙ found_where kind.width (is_not_zero width) (long_entry kind.width width) behind_width refl
+        (past_begin kind.width refl ∙ past_end kind.width refl))
+
+    has_begin : field kind.bgnextn (shape_own layer datatype points (Path pathtype width begin end)) ≡ then_some (is_not_zero begin) (long_bytes begin)
+    has_begin =
+        path_field kind.bgnextn _ refl refl
+        (past_pathtype kind.bgnextn refl ∙ past_width kind.bgnextn refl
+        ∙ found_where kind.bgnextn (is_not_zero begin) (long_entry kind.bgnextn begin) behind_begin refl (past_end kind.bgnextn refl))
+
+    has_end : field kind.endextn (shape_own layer datatype points (Path pathtype width begin end)) ≡ then_some (is_not_zero end) (long_bytes end)
+    has_end =
+        path_field kind.endextn _ refl refl
+        (past_pathtype kind.endextn refl ∙ past_width kind.endextn refl ∙ past_begin kind.endextn refl
+        ∙ found_where kind.endextn (is_not_zero end) (long_entry kind.endextn end) (points_entry points ∷ []) refl refl)
+
+    -- they are read as they were
+    path_reads : IsKind (Path pathtype width begin end) → Path pathtype width begin end ≡ path_kind (shape_own layer datatype points (Path pathtype width begin end))
+    path_reads fit =
+        let own : List Entry = shape_own layer datatype points (Path pathtype width begin end) in
+        let short : List ℕ → ℤ = λ body. cast_signed w16 (item 2 0 body) in
+        let long : List ℕ → ℤ = λ body. cast_signed w32 (item 4 0 body) in
+        let a : short_of kind.pathtype own ≡ pathtype =
+        ap (λ (o : Option (List ℕ)). unwrap_or (option_map short o) (pos 0)) has_pathtype
+        ∙ number_reads_by short (short_entry kind.pathtype pathtype).body pathtype (is_not_zero pathtype) refl (short_reads pathtype fit.0) in
+        let b : long_of kind.width own ≡ width =
+        ap (λ (o : Option (List ℕ)). unwrap_or (option_map long o) (pos 0)) has_width ∙ number_reads_by long (long_bytes width) width (is_not_zero width) refl (long_reads width fit.1) in
+        let c : long_of kind.bgnextn own ≡ begin =
+        ap (λ (o : Option (List ℕ)). unwrap_or (option_map long o) (pos 0)) has_begin ∙ number_reads_by long (long_bytes begin) begin (is_not_zero begin) refl (long_reads begin fit.2) in
+        let d : long_of kind.endextn own ≡ end =
+        ap (λ (o : Option (List ℕ)). unwrap_or (option_map long o) (pos 0)) has_end ∙ number_reads_by long (long_bytes end) end (is_not_zero end) refl (long_reads end fit.3) in
+        sym (λ i. Path (a i) (b i) (c i) (d i))
+
+  -- ---- a shape's
+
+  has_xy : (shape_kind : ShapeKind) → field kind.xy (shape_own layer datatype points shape_kind) ≡ Some (flat_map point_bytes points)
+  has_xy Boundary = refl
+  has_xy BoxElement = refl
+  has_xy (Path pathtype width begin end) = path_xy pathtype width begin end
+
+  points_are : (shape_kind : ShapeKind) → ArePoints points → points_of (shape_own layer datatype points shape_kind) ≡ points
+  points_are shape_kind fit = ap (λ (o : Option (List ℕ)). points_in (unwrap_or o [])) (has_xy shape_kind) ∙ points_read points fit
+
+  -- each of its checks holds
+  pub shape_holds : (shape_kind : ShapeKind) → ArePoints points → HasItsPoints shape_kind points
+      → All (ElementHolds (form_of_shape shape_kind) (shape_own layer datatype points shape_kind)) (element_checks (form_of_shape shape_kind))
+  shape_holds Boundary fit outline =
+      let own : List Entry = shape_own layer datatype points Boundary in
+      let same = sym (points_are Boundary fit) in
+      All-from_recursion (ElementHolds boundary_form own) (element_checks boundary_form) (
+        (0, omega arith, refl),
+        (
+          (1, omega arith, refl),
+          (
+            (2, omega arith, refl),
+            (subst (λ (ps : List Point). 4 ≤ length ps) same outline.count, (subst IsClosed same outline.closed, tt)),
+          ),
+        ),
+      )
+  shape_holds BoxElement fit outline =
+      let own : List Entry = shape_own layer datatype points BoxElement in
+      let same = sym (points_are BoxElement fit) in
+      All-from_recursion (ElementHolds box_form own) (element_checks box_form) (
+        (0, omega arith, refl),
+        (
+          (2, omega arith, refl),
+          (
+            (1, omega arith, refl),
+            (subst (λ (ps : List Point). 4 ≤ length ps) same outline.count, (subst IsClosed same outline.closed, tt)),
+          ),
+        ),
+      )
+  shape_holds (Path pathtype width begin end) fit some =
+      let own : List Entry = shape_own layer datatype points (Path pathtype width begin end) in
+      let same = sym (points_are (Path pathtype width begin end) fit) in
+      All-from_recursion (ElementHolds path_form own) (element_checks path_form) (
+        has_found kind.layer own _ refl,
+        (
+          has_found kind.datatype own _ refl,
+          (
+            has_found kind.xy own _ (path_xy pathtype width begin end),
+            (subst (λ (ps : List Point). 1 ≤ length ps) same some, tt),
+          ),
+        ),
+      )
+
+-- a shape that begins at another offset
+abbrev pub shape_at : ℕ → Shape → Shape
+shape_at at shape = record shape { at = at }
+
+-- what is kept of it is the shape
+pub shape_kept : (at : ℕ) (shape : Shape) (shape_kind : ShapeKind) → shape.kind ≡ shape_kind
+    → IsKept at (shape_own shape.layer shape.datatype shape.points shape_kind) (opening_of_shape shape_kind) (Some (shape_element (shape_at at shape)))
+shape_kept at shape Boundary is =
+    keeps_boundary
+    (record {
+      place = refl;
+      is_kind = is;
+      on_layer = sym (two_bytes_read shape.layer [] shape.layer_fits);
+      of_datatype = sym (two_bytes_read shape.datatype [] shape.datatype_fits);
+      has_points = sym (points_are shape.layer shape.datatype shape.points Boundary shape.points_fit);
+    })
+shape_kept at shape BoxElement is =
+    keeps_box
+    (record {
+      place = refl;
+      is_kind = is;
+      on_layer = sym (two_bytes_read shape.layer [] shape.layer_fits);
+      of_datatype = sym (two_bytes_read shape.datatype [] shape.datatype_fits);
+      has_points = sym (points_are shape.layer shape.datatype shape.points BoxElement shape.points_fit);
+    })
+shape_kept at shape (Path pathtype width begin end) is =
+    keeps_path
+    (record {
+      place = refl;
+      is_kind = is ∙ path_reads shape.layer shape.datatype shape.points pathtype width begin end (subst IsKind is shape.kind_fits);
+      on_layer = sym (two_bytes_read shape.layer [] shape.layer_fits);
+      of_datatype = sym (two_bytes_read shape.datatype [] shape.datatype_fits);
+      has_points = sym (points_are shape.layer shape.datatype shape.points (Path pathtype width begin end) shape.points_fit);
+    })

@@ -1,0 +1,83 @@
+-- What each step of the writer puts behind what is there.
+use Rattle.std.proofs.Common.{◌≡◌, ℕ, ◌+◌, ◌*◌, ◌<◌, ◌≤◌, List, [], ◌∷◌, ◌++◌, length, get_or, take, All, sym, ap, subst, ◌∙◌, append_assoc}
+use Rattle.std.specs.List.{flat_map}
+use Rattle.std.proofs.lemmas.List.{append-nil, take_all, take_more}
+use Rattle.std.proofs.lemmas.Grind.{flat_map-append}
+use Rattle.byteorder.specs.Endian.{big_bytes}
+use Rattle.geo_core.specs.declared.plane.Point.{Point}
+use Rattle.gds_records.specs.Forms as form
+use Rattle.gds_records.specs.Kinds as kind
+use Rattle.gds_records.specs.Spelling.{Entry, spelling, spellings}
+use Rattle.gds_write.specs.Bodies.{point_bytes, points_entry}
+use Rattle.gds_write.proofs.ProfileLaws.{length-points}
+
+-- two lists of records, one after the other
+pub appended : (old mid new : List ℕ) (xs ys : List Entry) → mid ≡ old ++ spellings xs → new ≡ mid ++ spellings ys → new ≡ old ++ spellings (xs ++ ys)
+appended old mid new xs ys first second =
+    second ∙ ap (λ (m : List ℕ). m ++ spellings ys) first ∙ append_assoc old (spellings xs) (spellings ys) ∙ ap (λ (m : List ℕ). old ++ m) (sym (flat_map-append spelling xs ys))
+
+-- the parts up to the next one are those before it and this one
+pub parts_more : {A B : Type 0} (f : A → List B) (parts : List A) (i : ℕ) (d : A) → i < length parts
+    → flat_map f (take (i + 1) parts) ≡ flat_map f (take i parts) ++ f (get_or parts i d)
+parts_more {B = B} f parts i d more =
+    ap (flat_map f) (take_more parts i d more) ∙ flat_map-append f (take i parts) (get_or parts i d ∷ [])
+    ∙ ap (λ (v : List B). flat_map f (take i parts) ++ v) (append-nil (f (get_or parts i d)))
+
+-- one part more is written
+pub part_written : {A : Type 0} (f : A → List Entry) (parts : List A) (i : ℕ) (a : A) (old now new : List ℕ) → i < length parts → a ≡ get_or parts i a
+    → now ≡ old ++ spellings (flat_map f (take i parts)) → new ≡ now ++ spellings (f a) → new ≡ old ++ spellings (flat_map f (take (i + 1) parts))
+part_written {A} f parts i a old now new more is before one =
+    rw (parts_more f parts i a more)
+    (appended old now new (flat_map f (take i parts)) (f (get_or parts i a)) before (one ∙ ap (λ (x : A). now ++ spellings (f x)) is))
+
+-- one point more is written
+pub point_written : (points : List Point) (i : ℕ) (d : Point) (old now new : List ℕ) → i < length points
+    → now ≡ old ++ flat_map point_bytes (take i points) → new ≡ now ++ point_bytes (get_or points i d) → new ≡ old ++ flat_map point_bytes (take (i + 1) points)
+point_written points i d old now new more before one =
+    rw (parts_more point_bytes points i d more)
+    (one ∙ ap (λ (v : List ℕ). v ++ point_bytes (get_or points i d)) before ∙ append_assoc old (flat_map point_bytes (take i points)) (point_bytes (get_or points i d)))
+
+-- all points are written, behind the head of their record
+pub points_written : (points : List Point) (i size : ℕ) (old now new : List ℕ) → length points ≤ i → size ≡ 8 * length points
+    → now ≡ old ++ big_bytes 2 (size + 4) ++ kind.xy ∷ form.four_byte_numbers ∷ [] → new ≡ now ++ flat_map point_bytes (take i points)
+    → new ≡ old ++ spelling (points_entry points)
+points_written points i size old now new all is_size head body =
+    let whole : take i points ≡ points = take_all i points all in
+    let length_is : length (flat_map point_bytes points) ≡ size = length-points points ∙ sym is_size in
+    rw (body, whole, head, length_is) (simp append_assoc)
+
+-- a list of one record
+pub one_is_list : (now new : List ℕ) (e : Entry) → new ≡ now ++ spelling e → new ≡ now ++ spellings (e ∷ [])
+one_is_list now new e a = a ∙ ap (λ (v : List ℕ). now ++ v) (sym (append-nil (spelling e)))
+
+-- two records
+pub two_written : (old one new : List ℕ) (first second : Entry) → one ≡ old ++ spelling first → new ≡ one ++ spelling second → new ≡ old ++ spellings (first ∷ second ∷ [])
+two_written old one new first second a b = appended old one new (first ∷ []) (second ∷ []) (one_is_list old one first a) (one_is_list one new second b)
+
+-- a record, others and one more
+pub enclosed_written : (old one two new : List ℕ) (first last : Entry) (between : List Entry) → one ≡ old ++ spelling first → two ≡ one ++ spellings between
+    → new ≡ two ++ spelling last → new ≡ old ++ spellings (first ∷ between ++ last ∷ [])
+enclosed_written old one two new first last between a b c =
+    appended old two new (first ∷ between) (last ∷ []) (appended old one two (first ∷ []) between (one_is_list old one first a) b) (one_is_list two new last c)
+
+-- two records, others and one more
+pub enclosed_by_two : (old one two three new : List ℕ) (first second last : Entry) (between : List Entry) → one ≡ old ++ spelling first → two ≡ one ++ spelling second
+    → three ≡ two ++ spellings between → new ≡ three ++ spelling last → new ≡ old ++ spellings (first ∷ second ∷ between ++ last ∷ [])
+enclosed_by_two old one two three new first second last between a b c d =
+    appended old three new (first ∷ second ∷ between) (last ∷ []) (appended old two three (first ∷ second ∷ []) between (two_written old one two first second a b) c)
+    (one_is_list three new last d)
+
+-- all parts are written
+pub all_written : {A : Type 0} (f : A → List Entry) (parts : List A) (i : ℕ) (old now : List ℕ) → length parts ≤ i
+    → now ≡ old ++ spellings (flat_map f (take i parts)) → now ≡ old ++ spellings (flat_map f parts)
+all_written {A} f parts i old now all done = done ∙ ap (λ (v : List A). old ++ spellings (flat_map f v)) (take_all i parts all)
+
+-- what holds of each item holds of the next
+pub of_next : {A : Type 0} (P : A → Type 0) (items : List A) (i : ℕ) (a : A) → All P items → i < length items → a ≡ get_or items i a → P a
+of_next P items i a all more is = subst P (sym is) (all i a more)
+
+-- records, others and one more
+pub enclosed : (old one two new : List ℕ) (first between : List Entry) (last : Entry) → one ≡ old ++ spellings first → two ≡ one ++ spellings between
+    → new ≡ two ++ spelling last → new ≡ old ++ spellings (first ++ between ++ last ∷ [])
+enclosed old one two new first between last a b c =
+    appended old two new (first ++ between) (last ∷ []) (appended old one two first between a b) (one_is_list two new last c)

@@ -1,0 +1,5 @@
+use Rattle.gds_write.proofs.WrittenLaws as laws
+use Rattle.gds_write.proofs.laws.written_reads.Goals as goal
+
+pub returns : goal.returns
+returns c = laws.written_reads

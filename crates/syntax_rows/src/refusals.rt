@@ -1,0 +1,555 @@
+use super::records::*;
+use super::streams::{is_refused, read, stream_of};
+use gds_records::kinds;
+use gds_syntax::SyntaxFault::{self, Missing, Unexpected};
+use std::alloc::Global;
+
+/// Bytes that are no stream: the number and the place of the refusal.
+const NO_STREAMS: &[(&str, &[u8], u8, u64)] = &[
+    ("empty_file", b"", 10, 0),
+    ("three_bytes", b"\x00\x06\x00", 10, 0),
+    ("length_below_4", b"\x00\x03\x00\x02", 11, 0),
+    ("odd_length", b"\x00\x05\x00\x02\x00", 11, 0),
+    ("unknown_kind", b"\x00\x04\x77\x00", 12, 0),
+    ("body_of_wrong_size", b"\x00\x06\x04\x00\x00\x00", 13, 0),
+    ("end_before_header", b"\x00\x04\x04\x00", 14, 0),
+];
+
+#[test]
+fn no_streams_are_refused(rt: HostRuntime) {
+    for (name, bytes, number, place) in NO_STREAMS {
+        assert!(rt; is_refused(rt.alloc(), bytes, *number, *place), "{name}");
+    }
+}
+
+/// Whether the stream with these records is refused with this number at this place.
+fn are_refused(alloc: Global, records: &[&[u8]], number: u8, place: u64) -> bool {
+    match stream_of(alloc, records) {
+        Ok(bytes) => is_refused(alloc, bytes.as_slice(), number, place),
+        Err(_) => false,
+    }
+}
+
+/// Three corners of a square, four that are not closed, and no point.
+const CORNERS_3: &[u8] = b"\
+    \x00\x1C\x10\x03\x00\x00\x00\x00\x00\x00\x00\x00\x00\x00\x00\x0A\x00\x00\x00\x00\x00\x00\x00\x00\
+    \x00\x00\x00\x00";
+
+const CORNERS_4: &[u8] = b"\
+    \x00\x24\x10\x03\x00\x00\x00\x00\x00\x00\x00\x00\x00\x00\x00\x0A\x00\x00\x00\x00\x00\x00\x00\x0A\
+    \x00\x00\x00\x0A\x00\x00\x00\x00\x00\x00\x00\x0A";
+
+const NO_POINT: &[u8] = b"\x00\x04\x10\x03";
+
+/// The corners of a square, but the last point is beside the first, and above it.
+const ENDS_BESIDE: &[u8] = b"\
+    \x00\x2C\x10\x03\x00\x00\x00\x00\x00\x00\x00\x00\x00\x00\x00\x0A\x00\x00\x00\x00\x00\x00\x00\x0A\
+    \x00\x00\x00\x0A\x00\x00\x00\x00\x00\x00\x00\x0A\x00\x00\x00\x01\x00\x00\x00\x00";
+
+const ENDS_ABOVE: &[u8] = b"\
+    \x00\x2C\x10\x03\x00\x00\x00\x00\x00\x00\x00\x00\x00\x00\x00\x0A\x00\x00\x00\x00\x00\x00\x00\x0A\
+    \x00\x00\x00\x0A\x00\x00\x00\x00\x00\x00\x00\x0A\x00\x00\x00\x00\x00\x00\x00\x01";
+
+/// Two points, and the three of an array: `(0,0)`, `(10,0)` and `(0,10)`.
+const POINTS_2: &[u8] =
+    b"\x00\x14\x10\x03\x00\x00\x00\x00\x00\x00\x00\x00\x00\x00\x00\x0A\x00\x00\x00\x00";
+
+const ACROSS_AND_UP: &[u8] = b"\
+    \x00\x1C\x10\x03\x00\x00\x00\x00\x00\x00\x00\x00\x00\x00\x00\x0A\x00\x00\x00\x00\x00\x00\x00\x00\
+    \x00\x00\x00\x0A";
+
+/// The three points `(0,0)`, `(0,10)` and `(10,0)`.
+const UP_AND_ACROSS: &[u8] = b"\
+    \x00\x1C\x10\x03\x00\x00\x00\x00\x00\x00\x00\x00\x00\x00\x00\x00\x00\x00\x00\x0A\x00\x00\x00\x0A\
+    \x00\x00\x00\x00";
+
+/// Magnification by 2, by a half, and by 0.
+const MAG_2: &[u8] = b"\x00\x0C\x1B\x05\x41\x20\x00\x00\x00\x00\x00\x00";
+
+const MAG_HALF: &[u8] = b"\x00\x0C\x1B\x05\x40\x80\x00\x00\x00\x00\x00\x00";
+
+const MAG_0: &[u8] = b"\x00\x0C\x1B\x05\x00\x00\x00\x00\x00\x00\x00\x00";
+
+/// Angles of 720 degrees, of 450, of -450, and of a little over 90.
+const ANGLE_720: &[u8] = b"\x00\x0C\x1C\x05\x43\x2D\x00\x00\x00\x00\x00\x00";
+
+const ANGLE_450: &[u8] = b"\x00\x0C\x1C\x05\x43\x1C\x20\x00\x00\x00\x00\x00";
+
+const ANGLE_MINUS_450: &[u8] = b"\x00\x0C\x1C\x05\xC3\x1C\x20\x00\x00\x00\x00\x00";
+
+const ANGLE_OVER_90: &[u8] = b"\x00\x0C\x1C\x05\x42\x5A\x00\x00\x00\x00\x00\x01";
+
+/// Columns and rows.
+const COLUMNS_0_ROWS_1: &[u8] = b"\x00\x08\x13\x02\x00\x00\x00\x01";
+
+const COLUMNS_1_ROWS_0: &[u8] = b"\x00\x08\x13\x02\x00\x01\x00\x00";
+
+const COLUMNS_NEGATIVE: &[u8] = b"\x00\x08\x13\x02\xFF\xFF\x00\x01";
+
+const COLUMNS_0_ROWS_3: &[u8] = b"\x00\x08\x13\x02\x00\x00\x00\x03";
+
+const COLUMNS_3_ROWS_1: &[u8] = b"\x00\x08\x13\x02\x00\x03\x00\x01";
+
+const COLUMNS_1_ROWS_3: &[u8] = b"\x00\x08\x13\x02\x00\x01\x00\x03";
+
+/// Elements behind the front, the first at 94: the number and the place of the refusal.
+const ELEMENTS: &[(&str, &[&[u8]], u8, u64)] = &[
+    (
+        "boundary_without_layer",
+        &[BOUNDARY, DATATYPE_0, SQUARE_END],
+        15,
+        94,
+    ),
+    (
+        "boundary_of_three_points",
+        &[BOUNDARY_ON_1, CORNERS_3, ENDEL],
+        17,
+        94,
+    ),
+    (
+        "boundary_not_closed",
+        &[BOUNDARY_ON_1, ENDS_BESIDE, ENDEL],
+        18,
+        94,
+    ),
+    ("magnified_reference", &[SREF_S, MAG_2, ORIGIN_END], 19, 94),
+    ("angle_45", &[SREF_S, ANGLE_45, ORIGIN_END], 20, 94),
+    (
+        "absolute_angle",
+        &[SREF_S, STRANS_ABSOLUTE, ORIGIN_END],
+        21,
+        94,
+    ),
+    (
+        "array_of_no_columns",
+        &[AREF_S, COLUMNS_0_ROWS_1, ACROSS_AND_UP, ENDEL],
+        22,
+        94,
+    ),
+    (
+        "uneven_array",
+        &[AREF_S, COLUMNS_3_ROWS_1, ACROSS_AND_UP, ENDEL],
+        23,
+        94,
+    ),
+    // what each kind of element needs
+    (
+        "boundary without datatype",
+        &[BOUNDARY, LAYER_1, SQUARE_END],
+        15,
+        94,
+    ),
+    ("path without points", &[PATH_ON_1, ENDEL], 15, 94),
+    (
+        "array without columns",
+        &[AREF_S, ACROSS_AND_UP, ENDEL],
+        15,
+        94,
+    ),
+    (
+        "text without string",
+        &[TEXT, LAYER_1, TEXTTYPE_0, ORIGIN_END],
+        15,
+        94,
+    ),
+    ("node without type", &[NODE, LAYER_1, ORIGIN_END], 15, 94),
+    ("box without type", &[BOX, LAYER_1, SQUARE_END], 15, 94),
+    ("path of no point", &[PATH_ON_1, NO_POINT, ENDEL], 17, 94),
+    (
+        "node of no point",
+        &[NODE, LAYER_1, NODETYPE_0, NO_POINT, ENDEL],
+        17,
+        94,
+    ),
+    (
+        "reference of two points",
+        &[SREF_S, POINTS_2, ENDEL],
+        17,
+        94,
+    ),
+    (
+        "array of two points",
+        &[AREF_S, COLUMNS_1_ROWS_3, POINTS_2, ENDEL],
+        17,
+        94,
+    ),
+    ("box of three points", &[BOX_ON_1, CORNERS_3, ENDEL], 17, 94),
+    (
+        "four corners not closed",
+        &[BOUNDARY_ON_1, CORNERS_4, ENDEL],
+        18,
+        94,
+    ),
+    ("box not closed", &[BOX_ON_1, ENDS_ABOVE, ENDEL], 18, 94),
+    (
+        "magnified by a half",
+        &[SREF_S, MAG_HALF, ORIGIN_END],
+        19,
+        94,
+    ),
+    ("magnified by 0", &[SREF_S, MAG_0, ORIGIN_END], 19, 94),
+    ("angle 720", &[SREF_S, ANGLE_720, ORIGIN_END], 20, 94),
+    ("angle 450", &[SREF_S, ANGLE_450, ORIGIN_END], 20, 94),
+    ("angle -450", &[SREF_S, ANGLE_MINUS_450, ORIGIN_END], 20, 94),
+    (
+        "angle over 90",
+        &[SREF_S, ANGLE_OVER_90, ORIGIN_END],
+        20,
+        94,
+    ),
+    (
+        "array of no rows",
+        &[AREF_S, COLUMNS_1_ROWS_0, ACROSS_AND_UP, ENDEL],
+        22,
+        94,
+    ),
+    (
+        "negative columns",
+        &[AREF_S, COLUMNS_NEGATIVE, ACROSS_AND_UP, ENDEL],
+        22,
+        94,
+    ),
+    (
+        "uneven rows",
+        &[AREF_S, COLUMNS_1_ROWS_3, ACROSS_AND_UP, ENDEL],
+        23,
+        94,
+    ),
+    (
+        "columns uneven upwards",
+        &[AREF_S, COLUMNS_3_ROWS_1, UP_AND_ACROSS, ENDEL],
+        23,
+        94,
+    ),
+    (
+        "rows uneven across",
+        &[AREF_S, COLUMNS_1_ROWS_3, UP_AND_ACROSS, ENDEL],
+        23,
+        94,
+    ),
+    // the first of two that apply
+    (
+        "missing, then too few points",
+        &[BOUNDARY, DATATYPE_0, CORNERS_3, ENDEL],
+        15,
+        94,
+    ),
+    (
+        "too few points, then not closed",
+        &[BOX_ON_1, CORNERS_3, ENDEL],
+        17,
+        94,
+    ),
+    (
+        "magnified, then absolute",
+        &[SREF_S, STRANS_ABSOLUTE, MAG_2, ORIGIN_END],
+        19,
+        94,
+    ),
+    (
+        "absolute, then angle",
+        &[SREF_S, ANGLE_45, STRANS_ABSOLUTE, ORIGIN_END],
+        21,
+        94,
+    ),
+    (
+        "angle, then no columns",
+        &[AREF_S, ANGLE_45, COLUMNS_0_ROWS_1, ACROSS_AND_UP, ENDEL],
+        20,
+        94,
+    ),
+    (
+        "no columns, then uneven",
+        &[AREF_S, COLUMNS_0_ROWS_3, ACROSS_AND_UP, ENDEL],
+        22,
+        94,
+    ),
+];
+
+#[test]
+fn elements_are_refused(rt: HostRuntime) {
+    for (name, records, number, place) in ELEMENTS {
+        assert!(rt; are_refused(rt.alloc(), records, *number, *place), "{name}");
+    }
+}
+
+/// A name that is filled further, and records that do not stand within a structure.
+const STRNAME_T_OF_FOUR: &[u8] = b"\x00\x08\x06\x06T\x00\x00\x00";
+
+const BGNSTR_SHORT: &[u8] = b"\x00\x04\x05\x02";
+
+const HEADER: &[u8] = b"\x00\x06\x00\x02\x02\x58";
+
+/// A layer as a number of four bytes, one without its body, and half a point.
+const LAYER_OF_FORM_3: &[u8] = b"\x00\x06\x0D\x03\x00\x01";
+
+const LAYER_EMPTY: &[u8] = b"\x00\x04\x0D\x02";
+
+const HALF_A_POINT: &[u8] = b"\x00\x08\x10\x03\x00\x00\x00\x00";
+
+/// A record longer than what is left of the stream.
+const TOO_LONG: &[u8] = b"\x7F\xFE\x0D\x02\x00\x01";
+
+/// Records behind the front, the first at 94: the number and the place of the refusal.
+const RECORDS: &[(&str, &[&[u8]], u8, u64)] = &[
+    (
+        "layer_twice",
+        &[BOUNDARY, LAYER_1, LAYER_1, DATATYPE_0, SQUARE_END],
+        14,
+        104,
+    ),
+    // records that may not stand where they do
+    ("own record in no element", &[LAYER_1], 14, 94),
+    ("property in no element", &[PROPATTR, PROPVALUE], 14, 94),
+    ("end of no element", &[ENDEL], 14, 94),
+    ("element in an element", &[BOUNDARY, BOUNDARY], 14, 98),
+    ("structure in a structure", &[BGNSTR_SHORT], 14, 94),
+    (
+        "structure without name",
+        &[ENDSTR, BGNSTR_SHORT, ENDSTR],
+        14,
+        102,
+    ),
+    ("library ends in a structure", &[ENDLIB], 14, 94),
+    ("structure ends twice", &[ENDSTR, ENDSTR], 14, 98),
+    (
+        "structure ends in an element",
+        &[BOUNDARY, LAYER_1, ENDSTR],
+        14,
+        104,
+    ),
+    ("header within", &[HEADER], 14, 94),
+    ("class twice", &[STRCLASS, STRCLASS], 14, 100),
+    (
+        "class behind an element",
+        &[BOUNDARY_ON_1, SQUARE_END, STRCLASS],
+        14,
+        158,
+    ),
+    ("width of a boundary", &[BOUNDARY, WIDTH_4], 14, 98),
+    ("name of a path", &[PATH, SNAME_S], 14, 98),
+    ("plex twice", &[BOUNDARY, PLEX, ELFLAGS, PLEX], 14, 112),
+    (
+        "half a property",
+        &[BOUNDARY_ON_1, SQUARE, PROPATTR, ENDEL],
+        14,
+        160,
+    ),
+    (
+        "two halves",
+        &[BOUNDARY_ON_1, SQUARE, PROPATTR, PROPATTR],
+        14,
+        160,
+    ),
+    ("value alone", &[BOUNDARY_ON_1, SQUARE, PROPVALUE], 14, 154),
+    (
+        "flags behind a property",
+        &[BOUNDARY_ON_1, SQUARE, PROPATTR, PROPVALUE, ELFLAGS],
+        14,
+        166,
+    ),
+    // a name that an earlier structure has, with its filling or without
+    ("name twice", &[ENDSTR, BGNSTR_SHORT, STRNAME_T], 16, 102),
+    (
+        "name twice, filled further",
+        &[ENDSTR, BGNSTR_SHORT, STRNAME_T_OF_FOUR],
+        16,
+        102,
+    ),
+    // records that are none
+    ("layer as four bytes", &[BOUNDARY, LAYER_OF_FORM_3], 12, 98),
+    ("layer without its number", &[BOUNDARY, LAYER_EMPTY], 13, 98),
+    ("half a point", &[BOUNDARY, HALF_A_POINT], 13, 98),
+    ("past the end", &[BOUNDARY, TOO_LONG], 10, 98),
+    // the first record that shows a fault decides
+    (
+        "bad size behind a bad place",
+        &[LAYER_1, LAYER_EMPTY],
+        14,
+        94,
+    ),
+    (
+        "bad size in an element that lacks a layer",
+        &[BOUNDARY, DATATYPE_0, SQUARE, LAYER_EMPTY, ENDEL],
+        13,
+        148,
+    ),
+    (
+        "bad place in an element that lacks a layer",
+        &[BOUNDARY, DATATYPE_0, SQUARE, DATATYPE_0, ENDEL],
+        14,
+        148,
+    ),
+    (
+        "no layer, then half a property",
+        &[BOUNDARY, DATATYPE_0, SQUARE, PROPATTR, ENDEL],
+        15,
+        94,
+    ),
+    (
+        "no layer, then a layer too late",
+        &[BOUNDARY, DATATYPE_0, SQUARE, PROPATTR, PROPVALUE, LAYER_1],
+        15,
+        94,
+    ),
+    (
+        "bad size at a property",
+        &[BOUNDARY, DATATYPE_0, SQUARE, LAYER_OF_FORM_3, PROPATTR],
+        12,
+        148,
+    ),
+    (
+        "name twice behind a bad element",
+        &[BOUNDARY, ENDEL, ENDSTR, BGNSTR_SHORT, STRNAME_T],
+        15,
+        94,
+    ),
+    (
+        "name twice, then a bad element",
+        &[ENDSTR, BGNSTR_SHORT, STRNAME_T, BOUNDARY, ENDEL],
+        16,
+        102,
+    ),
+];
+
+#[test]
+fn records_are_refused(rt: HostRuntime) {
+    for (name, records, number, place) in RECORDS {
+        assert!(rt; are_refused(rt.alloc(), records, *number, *place), "{name}");
+    }
+}
+
+/// Whether this is the fault of the stream with these records.
+fn have_fault(alloc: Global, records: &[&[u8]], fault: SyntaxFault) -> bool {
+    let Ok(bytes) = stream_of(alloc, records) else {
+        return false;
+    };
+    match read(alloc, bytes.as_slice()) {
+        Ok(_) => false,
+        Err(found) => found == fault,
+    }
+}
+
+/// Records behind the front, and the fault with the kind that is missing or unexpected.
+const KINDS: &[(&[&[u8]], SyntaxFault)] = &[
+    // the least kind that is missing
+    (
+        &[BOUNDARY, ENDEL],
+        Missing {
+            at: 94,
+            kind: kinds::LAYER,
+        },
+    ),
+    (
+        &[BOUNDARY, LAYER_1, ENDEL],
+        Missing {
+            at: 94,
+            kind: kinds::DATATYPE,
+        },
+    ),
+    (
+        &[BOUNDARY_ON_1, ENDEL],
+        Missing {
+            at: 94,
+            kind: kinds::XY,
+        },
+    ),
+    (
+        &[PATH, DATATYPE_0, ENDEL],
+        Missing {
+            at: 94,
+            kind: kinds::LAYER,
+        },
+    ),
+    (
+        &[SREF, ENDEL],
+        Missing {
+            at: 94,
+            kind: kinds::XY,
+        },
+    ),
+    (
+        &[SREF, ORIGIN_END],
+        Missing {
+            at: 94,
+            kind: kinds::SNAME,
+        },
+    ),
+    (
+        &[AREF, ORIGIN_END],
+        Missing {
+            at: 94,
+            kind: kinds::SNAME,
+        },
+    ),
+    (
+        &[AREF, ORIGIN, SNAME_S, ENDEL],
+        Missing {
+            at: 94,
+            kind: kinds::COLROW,
+        },
+    ),
+    (
+        &[TEXT, LAYER_1, ENDEL],
+        Missing {
+            at: 94,
+            kind: kinds::XY,
+        },
+    ),
+    (
+        &[TEXT, LAYER_1, ORIGIN_END],
+        Missing {
+            at: 94,
+            kind: kinds::TEXTTYPE,
+        },
+    ),
+    (
+        &[TEXT, LAYER_1, ORIGIN, TEXTTYPE_0, ENDEL],
+        Missing {
+            at: 94,
+            kind: kinds::STRING,
+        },
+    ),
+    (
+        &[NODE, LAYER_1, ENDEL],
+        Missing {
+            at: 94,
+            kind: kinds::XY,
+        },
+    ),
+    (
+        &[NODE, LAYER_1, ORIGIN_END],
+        Missing {
+            at: 94,
+            kind: kinds::NODETYPE,
+        },
+    ),
+    (
+        &[BOX, LAYER_1, ORIGIN_END],
+        Missing {
+            at: 94,
+            kind: kinds::BOXTYPE,
+        },
+    ),
+    (
+        &[ENDLIB],
+        Unexpected {
+            at: 94,
+            kind: kinds::ENDLIB,
+        },
+    ),
+    (
+        &[BOUNDARY, WIDTH_4],
+        Unexpected {
+            at: 98,
+            kind: kinds::WIDTH,
+        },
+    ),
+];
+
+#[test]
+fn faults_have_their_kinds(rt: HostRuntime) {
+    for (records, fault) in KINDS {
+        assert!(rt; have_fault(rt.alloc(), records, *fault), "{fault:?}");
+    }
+}

@@ -1,0 +1,216 @@
+//! What a usual writer of layouts puts into a stream besides shapes.
+
+use super::records::{
+    ANGLE_45, BOUNDARY, DATATYPE_0, ELFLAGS, ENDEL, ENDLIB, ENDSTR, LAYER_1, MAG_TENTH, NODE,
+    NODETYPE_0, PATH, PATHTYPE_1, PLEX, PROPATTR, SQUARE, SQUARE_TO_THE_RIGHT, STRNAME_T, TEXT,
+    TEXTTYPE_0,
+};
+use super::streams::{joined, read};
+use super::wanted::{RIGHT_SQUARE_POINTS, SQUARE_POINTS, Wanted, has_elements, has_structures};
+use gds_syntax::{Library, ShapeKind};
+use geo_core::Point;
+use std::alloc::Global;
+
+/// Version 5, and dates.
+const HEADER: &[u8] = b"\x00\x06\x00\x02\x00\x05";
+
+const BGNLIB: &[u8] = b"\
+    \x00\x1C\x01\x02\x07\xE8\x00\x05\x00\x11\x00\x0C\x00\x1E\x00\x3B\x07\xE8\x00\x05\x00\x11\x00\x0C\
+    \x00\x1E\x00\x3B";
+
+const BGNSTR: &[u8] = b"\
+    \x00\x1C\x05\x02\x07\xE8\x00\x05\x00\x11\x00\x0C\x00\x1E\x00\x3B\x07\xE8\x00\x05\x00\x11\x00\x0C\
+    \x00\x1E\x00\x3B";
+
+/// The head: other libraries, fonts, a file of attributes, generations, and a thousandth of a micrometre as unit.
+const REFLIBS: &[u8] = b"\x00\x0C\x1F\x06LIB1.GDS";
+
+const LIBNAME: &[u8] = b"\x00\x0C\x02\x06TOP_LIB\x00";
+
+const FONTS: &[u8] = b"\x00\x0A\x20\x06font\x00\x00";
+
+const ATTRTABLE: &[u8] = b"\x00\x06\x23\x06at";
+
+const GENERATIONS: &[u8] = b"\x00\x06\x22\x02\x00\x03";
+
+const UNITS: &[u8] =
+    b"\x00\x14\x03\x05\x3E\x41\x89\x37\x4B\xC6\xA7\xF0\x39\x44\xB8\x2F\xA0\x9B\x5A\x54";
+
+const UNITS_BODY: &[u8; 16] = b"\x3E\x41\x89\x37\x4B\xC6\xA7\xF0\x39\x44\xB8\x2F\xA0\x9B\x5A\x54";
+
+/// The text of a property.
+const NET_A: &[u8] = b"\x00\x0A\x2C\x06net a\x00";
+
+/// A label, magnified and turned by what no reference may be.
+const PRESENTATION: &[u8] = b"\x00\x06\x17\x01\x00\x05";
+
+const STRANS: &[u8] = b"\x00\x06\x1A\x01\x00\x06";
+
+const AT_3_3: &[u8] = b"\x00\x0C\x10\x03\x00\x00\x00\x03\x00\x00\x00\x03";
+
+const STRING: &[u8] = b"\x00\x0A\x19\x06label\x00";
+
+/// Layer 60, a slanted outline, and a slanted line that is 5 wide and ends round.
+const LAYER_60: &[u8] = b"\x00\x06\x0D\x02\x00\x3C";
+
+const SLANTED: &[u8] = b"\
+    \x00\x24\x10\x03\x00\x00\x00\x00\x00\x00\x00\x00\x00\x00\x00\x07\x00\x00\x00\x03\x00\x00\x00\x02\
+    \x00\x00\x00\x09\x00\x00\x00\x00\x00\x00\x00\x00";
+
+const WIDTH_5: &[u8] = b"\x00\x08\x0F\x03\x00\x00\x00\x05";
+
+const LINE: &[u8] =
+    b"\x00\x14\x10\x03\x00\x00\x00\x00\x00\x00\x00\x00\x00\x00\x00\x1E\x00\x00\x00\x28";
+
+/// The stream.
+const STREAM: &[&[u8]] = &[
+    HEADER,
+    BGNLIB,
+    REFLIBS,
+    LIBNAME,
+    FONTS,
+    ATTRTABLE,
+    GENERATIONS,
+    UNITS,
+    // the structure
+    BGNSTR,
+    STRNAME_T,
+    // a bar with flags and properties
+    BOUNDARY,
+    ELFLAGS,
+    PLEX,
+    LAYER_1,
+    DATATYPE_0,
+    SQUARE,
+    PROPATTR,
+    NET_A,
+    PROPATTR,
+    NET_A,
+    ENDEL,
+    // a label
+    TEXT,
+    ELFLAGS,
+    LAYER_1,
+    TEXTTYPE_0,
+    PRESENTATION,
+    PATHTYPE_1,
+    WIDTH_5,
+    STRANS,
+    MAG_TENTH,
+    ANGLE_45,
+    AT_3_3,
+    STRING,
+    ENDEL,
+    // a slanted outline and a round line on another layer
+    BOUNDARY,
+    LAYER_60,
+    DATATYPE_0,
+    SLANTED,
+    ENDEL,
+    PATH,
+    LAYER_60,
+    DATATYPE_0,
+    PATHTYPE_1,
+    WIDTH_5,
+    LINE,
+    ENDEL,
+    // a node
+    NODE,
+    LAYER_1,
+    NODETYPE_0,
+    AT_3_3,
+    ENDEL,
+    // the other bar
+    BOUNDARY,
+    LAYER_1,
+    DATATYPE_0,
+    SQUARE_TO_THE_RIGHT,
+    ENDEL,
+    ENDSTR,
+    ENDLIB,
+];
+
+/// What is kept: texts and nodes are not.
+const KEPT: &[Wanted] = &[
+    Wanted::Shape {
+        at: 134,
+        kind: ShapeKind::Boundary,
+        layer: 1,
+        datatype: 0,
+        points: SQUARE_POINTS,
+    },
+    Wanted::Shape {
+        at: 342,
+        kind: ShapeKind::Boundary,
+        layer: 60,
+        datatype: 0,
+        points: &[
+            Point { x: 0, y: 0 },
+            Point { x: 7, y: 3 },
+            Point { x: 2, y: 9 },
+            Point { x: 0, y: 0 },
+        ],
+    },
+    Wanted::Shape {
+        at: 398,
+        kind: ShapeKind::Path {
+            pathtype: 1,
+            width: 5,
+            begin: 0,
+            end: 0,
+        },
+        layer: 60,
+        datatype: 0,
+        points: &[Point { x: 0, y: 0 }, Point { x: 30, y: 40 }],
+    },
+    Wanted::Shape {
+        at: 484,
+        kind: ShapeKind::Boundary,
+        layer: 1,
+        datatype: 0,
+        points: RIGHT_SQUARE_POINTS,
+    },
+];
+
+/// Whether this is the library of the stream.
+fn is_library(library: &Library) -> bool {
+    has_structures(library, b"TOP_LIB", &[(100, b"T", 4)])
+        && library.units == *UNITS_BODY
+        && library
+            .structures
+            .as_slice()
+            .iter()
+            .all(|structure| has_elements(structure, KEPT))
+}
+
+/// Whether the stream is read, with these records behind its end.
+fn is_read(alloc: Global, padding: &[&[u8]]) -> bool {
+    let Ok(mut bytes) = joined(alloc, STREAM) else {
+        return false;
+    };
+    for piece in padding {
+        if bytes.extend_from_slice(piece).is_err() {
+            return false;
+        }
+    }
+    match read(alloc, bytes.as_slice()) {
+        Ok(library) => is_library(&library),
+        Err(_) => false,
+    }
+}
+
+/// What stands behind the end: nothing, the rest of a block of a tape, half a record, and what is no record.
+const PADDINGS: &[&[&[u8]]] = &[
+    &[],
+    &[&[0; 2048]],
+    &[b"\x00\x06\x00"],
+    &[BOUNDARY, ENDLIB],
+    &[b"\xFF"],
+];
+
+#[test]
+fn file_of_a_usual_writer(rt: HostRuntime) {
+    for (number, padding) in PADDINGS.iter().enumerate() {
+        assert!(rt; is_read(rt.alloc(), padding), "padding {number}");
+    }
+}

@@ -1,0 +1,132 @@
+//! Elements that a row says are kept, and whether a library has them.
+
+use gds_syntax::{Element, Lattice, Library, Reference, Shape, ShapeKind, Structure};
+use geo_core::Point;
+
+/// An element that is kept, with the offset of its opening record.
+#[derive(Clone, Copy)]
+pub enum Wanted {
+    Shape {
+        at: u32,
+        kind: ShapeKind,
+        layer: u16,
+        datatype: u16,
+        points: &'static [Point],
+    },
+    Reference {
+        at: u32,
+        target: &'static [u8],
+        reflect: bool,
+        quarters: u8,
+        origin: Point,
+        lattice: Option<WantedLattice>,
+    },
+}
+
+/// Columns and rows, and how far each is from the one before.
+#[derive(Clone, Copy)]
+pub struct WantedLattice {
+    pub columns: u16,
+    pub rows: u16,
+    pub column_step: (i64, i64),
+    pub row_step: (i64, i64),
+}
+
+/// The corners of `[0,10)x[0,10)` and of `[14,24)x[0,10)`.
+pub const SQUARE_POINTS: &[Point] = &[
+    Point { x: 0, y: 0 },
+    Point { x: 10, y: 0 },
+    Point { x: 10, y: 10 },
+    Point { x: 0, y: 10 },
+    Point { x: 0, y: 0 },
+];
+
+pub const RIGHT_SQUARE_POINTS: &[Point] = &[
+    Point { x: 14, y: 0 },
+    Point { x: 24, y: 0 },
+    Point { x: 24, y: 10 },
+    Point { x: 14, y: 10 },
+    Point { x: 14, y: 0 },
+];
+
+/// Whether this is the shape, but for its offset.
+fn is_shape(shape: &Shape, kind: ShapeKind, layer: u16, datatype: u16, points: &[Point]) -> bool {
+    shape.kind == kind
+        && shape.layer == layer
+        && shape.datatype == datatype
+        && shape.points.as_slice() == points
+}
+
+/// Whether this is the lattice.
+fn is_lattice(lattice: &Lattice, wanted: &WantedLattice) -> bool {
+    lattice.columns == wanted.columns
+        && lattice.rows == wanted.rows
+        && lattice.column_step == wanted.column_step
+        && lattice.row_step == wanted.row_step
+}
+
+/// Whether these are repeated in the same way, or not at all.
+fn has_lattice(lattice: &Option<Lattice>, wanted: &Option<WantedLattice>) -> bool {
+    match (lattice, wanted) {
+        (None, None) => true,
+        (Some(lattice), Some(wanted)) => is_lattice(lattice, wanted),
+        _ => false,
+    }
+}
+
+/// Whether this is the element.
+fn is_element(element: &Element, wanted: &Wanted) -> bool {
+    match (element, wanted) {
+        (
+            Element::Shape(shape),
+            Wanted::Shape {
+                at,
+                kind,
+                layer,
+                datatype,
+                points,
+            },
+        ) => shape.at == *at && is_shape(shape, *kind, *layer, *datatype, points),
+        (
+            Element::Reference(reference),
+            Wanted::Reference {
+                at,
+                target,
+                reflect,
+                quarters,
+                origin,
+                lattice,
+            },
+        ) => {
+            reference.at == *at
+                && reference.target.as_slice() == *target
+                && reference.turn.reflect == *reflect
+                && reference.turn.quarters == *quarters
+                && reference.origin == *origin
+                && has_lattice(&reference.lattice, lattice)
+        }
+        _ => false,
+    }
+}
+
+/// Whether the structure has just these elements.
+pub fn has_elements(structure: &Structure, wanted: &[Wanted]) -> bool {
+    let elements = structure.elements.as_slice();
+    elements.len() == wanted.len()
+        && elements
+            .iter()
+            .zip(wanted)
+            .all(|(element, wanted)| is_element(element, wanted))
+}
+
+/// Whether the library has this name and these structures, each with its offset, its name and its number of elements.
+pub fn has_structures(library: &Library, name: &[u8], wanted: &[(u32, &[u8], usize)]) -> bool {
+    let structures = library.structures.as_slice();
+    library.name.as_slice() == name
+        && structures.len() == wanted.len()
+        && structures.iter().zip(wanted).all(|(structure, (at, name, count))| {
+            structure.at == *at
+                && structure.name.as_slice() == *name
+                && structure.elements.as_slice().len() == *count
+        })
+}
