@@ -11,9 +11,13 @@ mod lists;
 #[cfg(test)]
 mod many_squares;
 #[cfg(test)]
+mod net_rows;
+#[cfg(test)]
 mod rects;
 #[cfg(test)]
 mod short_areas;
+#[cfg(test)]
+mod sides;
 #[cfg(test)]
 mod touch_rows;
 #[cfg(test)]

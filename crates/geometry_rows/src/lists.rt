@@ -1,6 +1,5 @@
 use geo_core::{Name, NoMemory};
 use std::alloc::Global;
-use std::test::Fail;
 
 /// Whether a list made of these bytes has them, and gives them back.
 fn keeps(alloc: Global, text: &[u8]) -> Result<bool, NoMemory> {
@@ -10,7 +9,6 @@ fn keeps(alloc: Global, text: &[u8]) -> Result<bool, NoMemory> {
 }
 
 #[test]
-fn lists_keep_their_items(rt: HostRuntime) -> Result<(), Fail> {
-    assert!(rt; keeps(rt.alloc(), b"TOP")?);
-    Ok(())
+fn lists_keep_their_items(rt: HostRuntime) {
+    assert!(rt; keeps(rt.alloc(), b"TOP") == Ok(true));
 }

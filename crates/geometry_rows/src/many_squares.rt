@@ -4,7 +4,6 @@ use geo_core::{Labelled, NoMemory, Rect};
 use islands::label;
 use short_area::short_area;
 use std::alloc::{AllocError, Global};
-use std::test::Fail;
 
 const COUNT: usize = 5_000;
 
@@ -16,53 +15,82 @@ fn square(number: usize, side: u8) -> Rect {
     Rect::new(x, y, x + side, y + side)
 }
 
+/// The squares of this side.
 fn squares(alloc: Global, side: u8) -> Result<Vec<Rect>, AllocError> {
-    (0..COUNT).map(|number| square(number, side)).collect(alloc)
+    let mut squares = Vec::new(alloc);
+    for number in 0..COUNT {
+        squares.push(square(number, side))?;
+    }
+    Ok(squares)
 }
 
-/// Whether each of the squares of side 2 is an island of its own.
-fn are_islands(alloc: Global) -> Result<bool, NoMemory> {
-    let labels = label(alloc, &squares(alloc, 2)?)?;
-    Ok(
-        labels
-            .iter()
-            .enumerate()
-            .all(|(number, label)| *label == number),
-    )
+/// The labels of the squares of this side.
+fn labels(alloc: Global, side: u8) -> Result<Vec<usize>, NoMemory> {
+    let squares = squares(alloc, side)?;
+    label(alloc, squares.as_slice())
 }
 
-/// Whether all of the squares of side 10, which leave no room between them, are one island.
-fn are_one_island(alloc: Global) -> Result<bool, NoMemory> {
-    let labels = label(alloc, &squares(alloc, 10)?)?;
-    Ok(labels.iter().all(|label| *label == 0))
+/// Whether each of the squares has its own number as its label.
+fn are_islands(labels: &[usize]) -> bool {
+    for (number, label) in labels.iter().enumerate() {
+        if *label != number {
+            return false;
+        }
+    }
+    labels.len() == COUNT
 }
 
 #[test]
-fn many_squares_are_labelled(rt: HostRuntime) -> Result<(), Fail> {
-    assert!(rt; are_islands(rt.alloc())?);
-    assert!(rt; are_one_island(rt.alloc())?);
-    Ok(())
+fn squares_apart_are_islands(rt: HostRuntime) {
+    match labels(rt.alloc(), 2) {
+        Ok(labels) => assert!(rt; are_islands(labels.as_slice())),
+        Err(_) => panic!(rt; "out of memory"),
+    }
 }
 
-/// The areas of the small squares, a net each, for the radii 4 and 5.
-fn areas(alloc: Global) -> Result<(u64, u64), NoMemory> {
-    let pieces: Vec<Labelled> = (0..COUNT)
-        .map(|number| Labelled {
-            rect: square(number, 2),
-            label: number,
-        })
-        .collect(alloc)?;
+/// Whether all of the squares have the label 0.
+fn are_one_island(labels: &[usize]) -> bool {
+    for label in labels {
+        if *label != 0 {
+            return false;
+        }
+    }
+    labels.len() == COUNT
+}
+
+/// With a side of 10 the squares leave no room between them.
+#[test]
+fn squares_side_by_side_are_one_island(rt: HostRuntime) {
+    match labels(rt.alloc(), 10) {
+        Ok(labels) => assert!(rt; are_one_island(labels.as_slice())),
+        Err(_) => panic!(rt; "out of memory"),
+    }
+}
+
+/// The small squares, each with a label of its own.
+fn pieces(alloc: Global) -> Result<Vec<Labelled>, AllocError> {
+    let mut pieces = Vec::new(alloc);
+    for label in 0..COUNT {
+        let rect = square(label, 2);
+        pieces.push(Labelled { rect, label })?;
+    }
+    Ok(pieces)
+}
+
+/// The area of the small squares, a net each, for a radius from 1 to 10.
+fn area(alloc: Global, radius: u8) -> Result<u64, NoMemory> {
+    let radius = u32::from(radius.clamp(1, 10));
+    let pieces = pieces(alloc)?;
     let window = Rect::new(-10, -10, 1010, 510);
-    let small = short_area(alloc, &pieces, window, 4)?;
-    let large = short_area(alloc, &pieces, window, 5)?;
-    Ok((small, large))
+    short_area(alloc, pieces.as_slice(), window, radius)
 }
 
 /// Grown by 4, no two squares have a column or a row in common, as 2 + 4 + 4 is 10. Grown by 5, each has 2 columns in
 /// common with the next. Then 1002 columns and 502 rows are near a square, and 804 and 404 of these are near one alone.
 /// A cell is near two squares where its column and its row are near some, and not both are near one alone.
 #[test]
-fn many_squares_have_their_areas(rt: HostRuntime) -> Result<(), Fail> {
-    assert_eq!(rt; areas(rt.alloc())?, (0, 1002 * 502 - 804 * 404));
-    Ok(())
+fn many_squares_have_their_areas(rt: HostRuntime) {
+    let near_two = 1002 * 502 - 804 * 404;
+    assert!(rt; area(rt.alloc(), 4) == Ok(0));
+    assert!(rt; area(rt.alloc(), 5) == Ok(near_two));
 }

@@ -1,9 +1,17 @@
+use super::sides::{Sides, rect_of};
 use geo_core::{Axis, Rect, clip, grow, join, overlaps, touches};
 
 /// Whether this square and the other rectangle have just these cells in common, and touch or not, whichever of the two
 /// comes first.
-fn are_so(other: Rect, common: Option<Rect>, touch: bool) -> bool {
+fn are_so(other: &Sides, common: Option<&Sides>, touch: bool) -> bool {
     let square = Rect::new(0, 0, 10, 10);
+    let Some(other) = rect_of(other) else {
+        return false;
+    };
+    let common = match common {
+        Some(sides) => rect_of(sides),
+        None => None,
+    };
     clip(square, other) == common
         && clip(other, square) == common
         && overlaps(square, other) == common.is_some()
@@ -12,48 +20,53 @@ fn are_so(other: Rect, common: Option<Rect>, touch: bool) -> bool {
         && touches(other, square) == touch
 }
 
+/// Rectangles, the cells that each has in common with the square, and whether it touches the square.
+const OTHERS: &[(Sides, Option<Sides>, bool)] = &[
+    // some cells in common
+    ((5, 6, 15, 16), Some((5, 6, 10, 10)), true),
+    ((2, 3, 4, 5), Some((2, 3, 4, 5)), true),
+    ((-5, 4, 15, 6), Some((0, 4, 10, 6)), true),
+    // a part of a side alone
+    ((10, 0, 14, 10), None, true),
+    ((9, 10, 12, 12), None, true),
+    // a corner alone
+    ((10, 10, 14, 14), None, false),
+    ((-4, 10, 0, 14), None, false),
+    // apart
+    ((11, 0, 14, 10), None, false),
+];
+
 #[test]
-fn rectangles_overlap_in_cells(rt: HostRuntime) {
-    let cases = [
-        (Rect::new(5, 6, 15, 16), Rect::new(5, 6, 10, 10)),
-        (Rect::new(2, 3, 4, 5), Rect::new(2, 3, 4, 5)),
-        (Rect::new(-5, 4, 15, 6), Rect::new(0, 4, 10, 6)),
-    ];
-    for (other, common) in cases {
-        assert!(rt; are_so(other, Some(common), true), "{other:?}");
+fn rectangles_overlap_in_cells_and_touch_at_sides(rt: HostRuntime) {
+    for (other, common, touch) in OTHERS {
+        assert!(rt; are_so(other, common.as_ref(), *touch), "{other:?}");
     }
 }
 
-#[test]
-fn rectangles_touch_at_edges(rt: HostRuntime) {
-    let cases = [
-        (Rect::new(10, 0, 14, 10), true),
-        (Rect::new(9, 10, 12, 12), true),
-        // a common corner alone
-        (Rect::new(10, 10, 14, 14), false),
-        (Rect::new(-4, 10, 0, 14), false),
-        // apart
-        (Rect::new(11, 0, 14, 10), false),
-    ];
-    for (other, touch) in cases {
-        assert!(rt; are_so(other, None, touch), "{other:?}");
-    }
+/// Whether the square grows and is joined as it should.
+fn grows_and_joins() -> bool {
+    let square = Rect::new(0, 0, 10, 10);
+    grow(square, 0) == square
+        && grow(square, 3) == Rect::new(-3, -3, 13, 13)
+        && join(square, Rect::new(12, -1, 13, 5)) == Rect::new(0, -1, 13, 10)
 }
 
 #[test]
 fn rectangles_grow_and_join(rt: HostRuntime) {
-    let square = Rect::new(0, 0, 10, 10);
-    assert!(rt; grow(square, 0) == square);
-    assert!(rt; grow(square, 3) == Rect::new(-3, -3, 13, 13));
-    assert!(rt; join(square, Rect::new(12, -1, 13, 5)) == Rect::new(0, -1, 13, 10));
+    assert!(rt; grows_and_joins());
+}
+
+/// Whether a rectangle has the columns and rows that it should, and comes back from them.
+fn has_columns_and_rows() -> bool {
+    let rect = Rect::new(-5, 4, 15, 6);
+    let columns = rect.along(Axis::X);
+    let rows = rect.along(Axis::Y);
+    (columns.low, columns.high) == (-5, 15)
+        && (rows.low, rows.high) == (4, 6)
+        && Rect::of(columns, rows) == rect
 }
 
 #[test]
 fn rectangles_have_columns_and_rows(rt: HostRuntime) {
-    let rect = Rect::new(-5, 4, 15, 6);
-    let columns = rect.along(Axis::X);
-    let rows = rect.along(Axis::Y);
-    assert!(rt; (columns.low, columns.high) == (-5, 15));
-    assert!(rt; (rows.low, rows.high) == (4, 6));
-    assert!(rt; Rect::of(columns, rows) == rect);
+    assert!(rt; has_columns_and_rows());
 }

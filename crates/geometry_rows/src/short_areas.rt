@@ -1,10 +1,24 @@
+use super::sides::{Sides, rect_of};
 use geo_core::{Labelled, Rect};
 use short_area::short_area;
 use std::alloc::Global;
 
-/// The rectangle with a label.
-fn piece(label: usize, rect: Rect) -> Labelled {
-    Labelled { rect, label }
+/// A label, and the sides of a piece that has it.
+type Piece = (usize, Sides);
+
+/// The pieces of a table.
+fn pieces_of(alloc: Global, table: &[Piece]) -> Option<Vec<Labelled>> {
+    let mut pieces = Vec::new(alloc);
+    for (label, sides) in table {
+        let rect = rect_of(sides)?;
+        pieces
+            .push(Labelled {
+                rect,
+                label: *label,
+            })
+            .ok()?;
+    }
+    Some(pieces)
 }
 
 /// Whether the area is this one.
@@ -18,42 +32,54 @@ fn has_area(alloc: Global, pieces: &[Labelled], window: Rect, radius: u32, area:
     }
 }
 
-/// Two squares, four columns apart.
-fn two_squares(right_label: usize) -> [Labelled; 2] {
-    [
-        piece(0, Rect::new(0, 0, 10, 10)),
-        piece(right_label, Rect::new(14, 0, 24, 10)),
-    ]
+/// Whether the area of a table's pieces in this window is this one.
+fn have_area(alloc: Global, table: &[Piece], window: &Sides, radius: u32, area: u64) -> bool {
+    let Some(window) = rect_of(window) else {
+        return false;
+    };
+    match pieces_of(alloc, table) {
+        Some(pieces) => has_area(alloc, pieces.as_slice(), window, radius, area),
+        None => false,
+    }
 }
+
+/// Two squares, four columns apart, with a label each, and with one.
+const TWO_LABELS: &[Piece] = &[(0, (0, 0, 10, 10)), (1, (14, 0, 24, 10))];
+
+const ONE_LABEL: &[Piece] = &[(0, (0, 0, 10, 10)), (0, (14, 0, 24, 10))];
+
+/// All cells that are within 3 of one of the two.
+const AROUND: Sides = (-3, -3, 27, 13);
+
+/// Pieces, the window, the radius and the area.
+const AREAS: &[(&[Piece], Sides, u32, u64)] = &[
+    // columns 11 and 12 of rows -3 to 12
+    (TWO_LABELS, AROUND, 3, 32),
+    (TWO_LABELS, AROUND, 2, 0),
+    (ONE_LABEL, AROUND, 3, 0),
+    (&[], AROUND, 3, 0),
+    // at a corner
+    (
+        &[(0, (0, 0, 4, 4)), (1, (4, 4, 8, 8))],
+        (-1, -1, 9, 9),
+        1,
+        4,
+    ),
+    // one cell, near three labels
+    (
+        &[(0, (0, 0, 1, 1)), (1, (2, 0, 3, 1)), (2, (1, 2, 2, 3))],
+        (1, 1, 2, 2),
+        1,
+        1,
+    ),
+];
 
 #[test]
 fn counts_cells_near_two_labels(rt: HostRuntime) {
-    let two_labels = two_squares(1);
-    let one_label = two_squares(0);
-    let at_a_corner = [
-        piece(0, Rect::new(0, 0, 4, 4)),
-        piece(1, Rect::new(4, 4, 8, 8)),
-    ];
-    let three_labels = [
-        piece(0, Rect::new(0, 0, 1, 1)),
-        piece(1, Rect::new(2, 0, 3, 1)),
-        piece(2, Rect::new(1, 2, 2, 3)),
-    ];
-    let window = Rect::new(-3, -3, 27, 13);
-    let cases = [
-        // columns 11 and 12 of rows -3 to 12
-        (two_labels.as_slice(), window, 3, 32),
-        (&two_labels, window, 2, 0),
-        (&one_label, window, 3, 0),
-        (&[], window, 3, 0),
-        (&at_a_corner, Rect::new(-1, -1, 9, 9), 1, 4),
-        // one cell, near all three
-        (&three_labels, Rect::new(1, 1, 2, 2), 1, 1),
-    ];
-    for (pieces, window, radius, area) in cases {
+    for (number, (table, window, radius, area)) in AREAS.iter().enumerate() {
         assert!(rt;
-            has_area(rt.alloc(), pieces, window, radius, area),
-            "{pieces:?} at {radius}"
+            have_area(rt.alloc(), table, window, *radius, *area),
+            "case {number}"
         );
     }
 }
@@ -98,40 +124,49 @@ fn counted(pieces: &[Labelled], window: Rect, radius: u32) -> u64 {
     count
 }
 
-#[test]
-fn agrees_with_a_count_cell_by_cell(rt: HostRuntime) {
-    let overlapping = [
-        piece(0, Rect::new(0, 0, 6, 3)),
-        piece(1, Rect::new(4, 1, 9, 5)),
-        piece(0, Rect::new(8, 4, 12, 6)),
-    ];
-    let nested = [
-        piece(7, Rect::new(-5, -5, 5, 5)),
-        piece(3, Rect::new(-1, -2, 2, 1)),
-        piece(7, Rect::new(6, 0, 7, 1)),
-    ];
-    let scattered = [
-        piece(0, Rect::new(-9, -9, -8, -8)),
-        piece(1, Rect::new(-6, -9, -4, -3)),
-        piece(2, Rect::new(-3, -4, 1, -2)),
-        piece(1, Rect::new(2, 3, 3, 8)),
-        piece(0, Rect::new(4, 5, 9, 6)),
-        piece(3, Rect::new(4, 7, 9, 9)),
-        piece(3, Rect::new(-9, 2, -7, 9)),
-    ];
-    let beyond = [
-        piece(0, Rect::new(-40, -40, 40, -8)),
-        piece(1, Rect::new(-40, 8, 40, 40)),
-        piece(2, Rect::new(30, 0, 31, 1)),
-    ];
+/// Pieces that overlap, that lie within one another, that lie here and there, and that reach out of the window.
+const COUNTED: &[&[Piece]] = &[
+    &[(0, (0, 0, 6, 3)), (1, (4, 1, 9, 5)), (0, (8, 4, 12, 6))],
+    &[(7, (-5, -5, 5, 5)), (3, (-1, -2, 2, 1)), (7, (6, 0, 7, 1))],
+    &[
+        (0, (-9, -9, -8, -8)),
+        (1, (-6, -9, -4, -3)),
+        (2, (-3, -4, 1, -2)),
+        (1, (2, 3, 3, 8)),
+        (0, (4, 5, 9, 6)),
+        (3, (4, 7, 9, 9)),
+        (3, (-9, 2, -7, 9)),
+    ],
+    &[
+        (0, (-40, -40, 40, -8)),
+        (1, (-40, 8, 40, 40)),
+        (2, (30, 0, 31, 1)),
+    ],
+];
+
+/// Whether the area is the one that is counted cell by cell, for each radius from 1 to 5.
+fn agrees(alloc: Global, pieces: &[Labelled]) -> bool {
     let window = Rect::new(-10, -11, 14, 12);
     for radius in 1..6 {
-        for pieces in [overlapping.as_slice(), &nested, &scattered, &beyond] {
-            let area = counted(pieces, window, radius);
-            assert!(rt;
-                has_area(rt.alloc(), pieces, window, radius, area),
-                "{pieces:?} at {radius}"
-            );
+        let area = counted(pieces, window, radius);
+        if !has_area(alloc, pieces, window, radius, area) {
+            return false;
         }
+    }
+    true
+}
+
+/// The same of a table's pieces.
+fn agree(alloc: Global, table: &[Piece]) -> bool {
+    match pieces_of(alloc, table) {
+        Some(pieces) => agrees(alloc, pieces.as_slice()),
+        None => false,
+    }
+}
+
+#[test]
+fn agrees_with_a_count_cell_by_cell(rt: HostRuntime) {
+    for (number, table) in COUNTED.iter().enumerate() {
+        assert!(rt; agree(rt.alloc(), table), "case {number}");
     }
 }

@@ -1,86 +1,88 @@
+use super::sides::{Sides, rects_of};
 use geo_core::{FARTHEST_GROWN, NoMemory, Rect, touches};
 use std::alloc::{AllocError, Global};
-use std::test::Fail;
 use touch_sweep::touch_pairs;
 
-/// Whether these are the pairs of rectangles that touch.
-fn have_pairs(alloc: Global, rects: &[Rect], wanted: &[(usize, usize)]) -> bool {
-    match touch_pairs(alloc, rects) {
+/// Whether these are the pairs of rectangles that touch, of those with these sides.
+fn have_pairs(alloc: Global, table: &[Sides], wanted: &[(usize, usize)]) -> bool {
+    let Some(rects) = rects_of(alloc, table) else {
+        return false;
+    };
+    match touch_pairs(alloc, rects.as_slice()) {
         Ok(pairs) => pairs.as_slice() == wanted,
         Err(_) => false,
     }
 }
 
-#[test]
-fn rectangles_at_one_another_are_paired(rt: HostRuntime) {
-    let overlapping_or_side_by_side = [
-        Rect::new(0, 0, 2, 2),
-        Rect::new(2, 0, 4, 2),
-        Rect::new(4, 2, 6, 4),
-        Rect::new(1, 1, 3, 5),
-    ];
-    let at_corners_alone = [
-        Rect::new(0, 0, 1, 1),
-        Rect::new(1, 1, 2, 2),
-        Rect::new(-1, 1, 0, 2),
-        Rect::new(1, -1, 2, 0),
-        Rect::new(-1, -1, 0, 0),
-    ];
-    let at_edges_alone = [
-        Rect::new(0, 0, 2, 2),
-        Rect::new(2, 1, 4, 2),
-        Rect::new(-1, 2, 1, 4),
-        Rect::new(-2, -1, 0, 1),
-        Rect::new(1, -2, 3, 0),
-    ];
-    let a_column_or_a_row_apart = [
-        Rect::new(0, 0, 2, 2),
-        Rect::new(3, 0, 5, 2),
-        Rect::new(0, 3, 2, 5),
-    ];
-    let cases: [(&[Rect], &[(usize, usize)]); 6] = [
-        (&[], &[]),
-        (&[Rect::new(0, 0, 1, 1)], &[]),
-        (&overlapping_or_side_by_side, &[(0, 1), (0, 3), (1, 3)]),
-        (&at_corners_alone, &[]),
-        (&at_edges_alone, &[(0, 1), (0, 2), (0, 3), (0, 4)]),
-        (&a_column_or_a_row_apart, &[]),
-    ];
-    for (rects, wanted) in cases {
-        assert!(rt; have_pairs(rt.alloc(), rects, wanted), "{rects:?}");
-    }
-}
+/// As far out as a rectangle goes.
+const FAR: i32 = FARTHEST_GROWN;
+
+/// Rectangles, and the pairs of them that touch.
+const PAIRS: &[(&[Sides], &[(usize, usize)])] = &[
+    (&[], &[]),
+    (&[(0, 0, 1, 1)], &[]),
+    // over one another or side by side
+    (
+        &[(0, 0, 2, 2), (2, 0, 4, 2), (4, 2, 6, 4), (1, 1, 3, 5)],
+        &[(0, 1), (0, 3), (1, 3)],
+    ),
+    // at corners alone
+    (
+        &[
+            (0, 0, 1, 1),
+            (1, 1, 2, 2),
+            (-1, 1, 0, 2),
+            (1, -1, 2, 0),
+            (-1, -1, 0, 0),
+        ],
+        &[],
+    ),
+    // at sides alone
+    (
+        &[
+            (0, 0, 2, 2),
+            (2, 1, 4, 2),
+            (-1, 2, 1, 4),
+            (-2, -1, 0, 1),
+            (1, -2, 3, 0),
+        ],
+        &[(0, 1), (0, 2), (0, 3), (0, 4)],
+    ),
+    // a column or a row apart
+    (&[(0, 0, 2, 2), (3, 0, 5, 2), (0, 3, 2, 5)], &[]),
+    // within one another
+    (
+        &[(-3, -3, 3, 3), (-1, -1, 1, 1), (-5, -5, 5, 5)],
+        &[(0, 1), (0, 2), (1, 2)],
+    ),
+    // the same
+    (&[(7, 7, 9, 8); 3], &[(0, 1), (0, 2), (1, 2)]),
+    // across one another
+    (
+        &[
+            (-10, 4, 10, 6),
+            (-6, -10, -4, 10),
+            (-10, -6, 10, -4),
+            (4, -10, 6, 10),
+        ],
+        &[(0, 1), (0, 3), (1, 2), (2, 3)],
+    ),
+    // the whole lowest row, the last column above it, a cell at the top of the first column, and the cells below that
+    (
+        &[
+            (-FAR, -FAR, FAR, 1 - FAR),
+            (FAR - 1, 1 - FAR, FAR, FAR),
+            (-FAR, FAR - 1, 1 - FAR, FAR),
+            (-FAR, 1 - FAR, 1 - FAR, FAR - 1),
+        ],
+        &[(0, 1), (0, 3), (2, 3)],
+    ),
+];
 
 #[test]
-fn rectangles_over_one_another_are_paired(rt: HostRuntime) {
-    let nested = [
-        Rect::new(-3, -3, 3, 3),
-        Rect::new(-1, -1, 1, 1),
-        Rect::new(-5, -5, 5, 5),
-    ];
-    let equal = [Rect::new(7, 7, 9, 8); 3];
-    let crossing = [
-        Rect::new(-10, 4, 10, 6),
-        Rect::new(-6, -10, -4, 10),
-        Rect::new(-10, -6, 10, -4),
-        Rect::new(4, -10, 6, 10),
-    ];
-    let far = FARTHEST_GROWN;
-    // the whole lowest row, the last column above it, a cell at the top of the first column, and the cells below that
-    let along_the_rim = [
-        Rect::new(-far, -far, far, 1 - far),
-        Rect::new(far - 1, 1 - far, far, far),
-        Rect::new(-far, far - 1, 1 - far, far),
-        Rect::new(-far, 1 - far, 1 - far, far - 1),
-    ];
-    let cases: [(&[Rect], &[(usize, usize)]); 4] = [
-        (&nested, &[(0, 1), (0, 2), (1, 2)]),
-        (&equal, &[(0, 1), (0, 2), (1, 2)]),
-        (&crossing, &[(0, 1), (0, 3), (1, 2), (2, 3)]),
-        (&along_the_rim, &[(0, 1), (0, 3), (2, 3)]),
-    ];
-    for (rects, wanted) in cases {
-        assert!(rt; have_pairs(rt.alloc(), rects, wanted), "{rects:?}");
+fn rectangles_that_touch_are_paired(rt: HostRuntime) {
+    for (table, wanted) in PAIRS {
+        assert!(rt; have_pairs(rt.alloc(), table, wanted), "{table:?}");
     }
 }
 
@@ -95,55 +97,85 @@ fn scattered(number: usize, longest: usize) -> Rect {
     Rect::new(x, y, x + width, y + height)
 }
 
-/// The pairs that touch, each compared.
-fn compared(alloc: Global, rects: &[Rect]) -> Result<Vec<(usize, usize)>, AllocError> {
-    let mut pairs = Vec::new(alloc);
+/// 150 such rectangles.
+fn field(alloc: Global, longest: usize) -> Result<Vec<Rect>, AllocError> {
+    let mut rects = Vec::new(alloc);
+    for number in 0..150 {
+        rects.push(scattered(number, longest))?;
+    }
+    Ok(rects)
+}
+
+/// Whether these are the pairs that touch, each compared.
+fn are_those_that_touch(rects: &[Rect], pairs: &[(usize, usize)]) -> bool {
+    let mut rest = pairs;
     for first in 0..rects.len() {
         for second in first + 1..rects.len() {
             if touches(rects[first], rects[second]) {
-                pairs.push((first, second))?;
+                let Some((pair, others)) = rest.split_first() else {
+                    return false;
+                };
+                if *pair != (first, second) {
+                    return false;
+                }
+                rest = others;
             }
         }
     }
-    Ok(pairs)
+    rest.is_empty()
 }
 
-/// Whether the pairs of 150 such rectangles are those that touch.
+/// Whether the pairs of such a field are those that touch.
 fn agrees(alloc: Global, longest: usize) -> Result<bool, NoMemory> {
-    let rects: Vec<Rect> = (0..150)
-        .map(|number| scattered(number, longest))
-        .collect(alloc)?;
-    let wanted = compared(alloc, &rects)?;
-    Ok(touch_pairs(alloc, &rects)?.as_slice() == wanted.as_slice())
+    let rects = field(alloc, longest)?;
+    let pairs = touch_pairs(alloc, rects.as_slice())?;
+    Ok(are_those_that_touch(rects.as_slice(), pairs.as_slice()))
+}
+
+/// How many columns or rows the rectangles are long at most.
+const LONGEST: &[usize] = &[1, 2, 3, 5, 20, 50];
+
+#[test]
+fn pairs_agree_with_a_comparison_of_all(rt: HostRuntime) {
+    for longest in LONGEST {
+        assert!(rt; agrees(rt.alloc(), *longest) == Ok(true), "{longest}");
+    }
+}
+
+/// How many squares are in a row.
+const COUNT: usize = 2_000;
+
+/// A long rectangle, and above it many squares of side 4 in a row, with a column between each two.
+fn long_one_and_squares(alloc: Global) -> Result<Vec<Rect>, AllocError> {
+    let mut rects = Vec::new(alloc);
+    rects.push(Rect::new(0, -1, 10_000, 0))?;
+    for number in 0..COUNT {
+        let x = 5 * number as i32;
+        rects.push(Rect::new(x, 0, x + 4, 4))?;
+    }
+    Ok(rects)
+}
+
+/// Whether the first is paired with each of the others, and no two of these are paired.
+fn are_with_the_first(pairs: &[(usize, usize)]) -> bool {
+    for (number, pair) in pairs.iter().enumerate() {
+        if *pair != (0, number + 1) {
+            return false;
+        }
+    }
+    pairs.len() == COUNT
+}
+
+/// The pairs of these that touch.
+fn pairs_with_a_long_one(alloc: Global) -> Result<Vec<(usize, usize)>, NoMemory> {
+    let rects = long_one_and_squares(alloc)?;
+    touch_pairs(alloc, rects.as_slice())
 }
 
 #[test]
-fn pairs_agree_with_a_comparison_of_all(rt: HostRuntime) -> Result<(), Fail> {
-    for longest in [1, 2, 3, 5, 20, 50] {
-        assert!(rt; agrees(rt.alloc(), longest)?, "{longest}");
+fn many_touch_a_long_one(rt: HostRuntime) {
+    match pairs_with_a_long_one(rt.alloc()) {
+        Ok(pairs) => assert!(rt; are_with_the_first(pairs.as_slice())),
+        Err(_) => panic!(rt; "out of memory"),
     }
-    Ok(())
-}
-
-/// One of many squares of side 4 in a row, with a column between each two.
-fn in_a_row(number: usize) -> Rect {
-    let x = 5 * (number % 10_000) as i32;
-    Rect::new(x, 0, x + 4, 4)
-}
-
-/// Whether each of 2,000 squares in a row is paired with the long rectangle below them, and with no other.
-fn all_touch_the_long_one(alloc: Global) -> Result<bool, NoMemory> {
-    let mut rects = vec![in alloc; Rect::new(0, -1, 10_000, 0)]?;
-    let mut wanted = Vec::new(alloc);
-    for number in 0..2_000 {
-        rects.push(in_a_row(number))?;
-        wanted.push((0, number + 1))?;
-    }
-    Ok(touch_pairs(alloc, &rects)?.as_slice() == wanted.as_slice())
-}
-
-#[test]
-fn many_touch_a_long_one(rt: HostRuntime) -> Result<(), Fail> {
-    assert!(rt; all_touch_the_long_one(rt.alloc())?);
-    Ok(())
 }

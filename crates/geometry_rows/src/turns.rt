@@ -8,20 +8,22 @@ fn turn((reflect, quarters): (bool, u8)) -> Turn {
     }
 }
 
+/// Turns, and where each takes the point (1, 2).
+const POINTS: &[((bool, u8), (i64, i64))] = &[
+    ((false, 0), (1, 2)),
+    ((false, 1), (-2, 1)),
+    ((false, 2), (-1, -2)),
+    ((false, 3), (2, -1)),
+    ((true, 0), (1, -2)),
+    ((true, 1), (2, 1)),
+    ((true, 2), (-1, 2)),
+    ((true, 3), (-2, -1)),
+];
+
 #[test]
 fn points_turn(rt: HostRuntime) {
-    let cases = [
-        ((false, 0), (1, 2)),
-        ((false, 1), (-2, 1)),
-        ((false, 2), (-1, -2)),
-        ((false, 3), (2, -1)),
-        ((true, 0), (1, -2)),
-        ((true, 1), (2, 1)),
-        ((true, 2), (-1, 2)),
-        ((true, 3), (-2, -1)),
-    ];
-    for (given, point) in cases {
-        assert!(rt; turn_point(turn(given), 1, 2) == point, "{given:?}");
+    for (given, point) in POINTS {
+        assert!(rt; turn_point(turn(*given), 1, 2) == *point, "{given:?}");
     }
 }
 
@@ -30,15 +32,17 @@ fn come_to(outer: (bool, u8), inner: (bool, u8), both: (bool, u8)) -> bool {
     after(turn(outer), turn(inner)) == turn(both)
 }
 
+/// Two turns, of which the second comes first, and what they come to.
+const TURNS: &[((bool, u8), (bool, u8), (bool, u8))] = &[
+    ((false, 3), (false, 2), (false, 1)),
+    ((false, 1), (true, 0), (true, 1)),
+    ((true, 0), (false, 1), (true, 3)),
+    ((true, 1), (true, 2), (false, 3)),
+];
+
 #[test]
 fn turns_follow_one_another(rt: HostRuntime) {
-    let cases = [
-        ((false, 3), (false, 2), (false, 1)),
-        ((false, 1), (true, 0), (true, 1)),
-        ((true, 0), (false, 1), (true, 3)),
-        ((true, 1), (true, 2), (false, 3)),
-    ];
-    for (outer, inner, both) in cases {
-        assert!(rt; come_to(outer, inner, both), "{inner:?}, then {outer:?}");
+    for (outer, inner, both) in TURNS {
+        assert!(rt; come_to(*outer, *inner, *both), "{inner:?}, then {outer:?}");
     }
 }

@@ -1,0 +1,16 @@
+pub mod ListLaws
+pub mod LinkLaws
+pub mod IslandLaws
+pub mod MetalLaws
+pub mod MeetingLaws
+pub mod ContactLaws
+pub mod SpotLaws
+pub mod FoundLaws
+pub mod AnchorLaws
+pub mod AnswerLaws
+pub mod WalkLaws
+pub mod MadeLaws
+pub mod ExtractLaws
+pub mod CarriedLaws
+pub mod AnchoredLaws
+pub mod GroupLaws

@@ -1,0 +1,9 @@
+use Rattle.std.proofs.Common.{sym, subst}
+use Rattle.net_extract.specs.LabelledCells.{ArePartsIn}
+use Rattle.net_extract.proofs.ContactLaws.{contacts_are}
+use Rattle.net_extract.proofs.contacts.contacts_in.Goals as goal
+
+pub returns : goal.returns
+returns c =
+    let parts = subst (ArePartsIn c.args.cut.now c.args.lower.now) (sym c.deref.ensures.value) c.in_ok-parts.ensures in
+    rw c.from_vec.ensures (contacts_are c.args.cut.now c.args.lower.now c.args.upper.now c.deref.result.now c.in_ok-meetings.field-0.items parts c.in_ok-meetings.ensures)

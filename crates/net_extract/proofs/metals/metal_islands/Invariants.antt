@@ -1,0 +1,5 @@
+use Rattle.net_extract.specs.Numbering.{AreIslandsOf}
+use Rattle.net_extract.proofs.metals.metal_islands.Given as goal
+
+abbrev pub invariant-loop-metal : goal.invariant-loop-metal
+invariant-loop-metal l = AreIslandsOf l.lists l.metal l.count l.islands.items

@@ -1,0 +1,28 @@
+ghost use Rattle.std.specs.Prelude.{ℕ, ◌≡◌, ◌==◌, IfOk, filter};
+ghost use Rattle.std.specs.List.Sorted.{IsNonDecreasingBy};
+
+use super::pieces::Piece;
+use geo_core::NoMemory;
+use std::alloc::Global;
+
+/// The pieces in the order of their islands. Those of one island keep their order.
+pub fn by_island(alloc: Global, pieces: &[Piece]) -> Result<Vec<Piece>, NoMemory>
+    ensures rising { IfOk result (λ sorted. IsNonDecreasingBy (λ piece. piece.island) sorted.items) }
+    ensures kept { IfOk result (λ sorted. (island : ℕ) →
+        filter (λ piece. piece.island == island) sorted.items ≡ filter (λ piece. piece.island == island) pieces.now) }
+{
+    let mut sorted = Vec::from_slice(alloc, pieces)?;
+    sorted.sort_by_key(|piece| piece.island)?;
+    Ok(sorted)
+}
+
+/// The part of such a list in which the pieces of the island stand.
+pub fn part_of(sorted: &[Piece], island: usize) -> &[Piece]
+    requires { IsNonDecreasingBy (λ piece. piece.island) sorted.now }
+    ensures { filter (λ piece. piece.island == island) result.now ≡ filter (λ piece. piece.island == island) sorted.now }
+{
+    let first = sorted.partition_point(|piece| piece.island < island);
+    let rest = &sorted[first..];
+    let count = rest.partition_point(|piece| piece.island <= island);
+    &rest[..count]
+}

@@ -1,0 +1,60 @@
+ghost use Rattle.std.specs.Prelude.{◌+◌, ◌^◌, ◌<◌, ◌≤◌, IfOk, length};
+ghost use Rattle.net_extract.specs.Numbering.{AreIslandsFrom, AreIslandsOf};
+
+use geo_core::{Items, Labelled, NoMemory, Rect, RectList};
+use islands::label;
+use std::alloc::Global;
+
+/// Rectangles of a metal, labelled by their islands.
+pub type IslandList = Items<Labelled>;
+
+/// The rectangles of each metal with their islands. The islands of all metals are numbered together, below `count`.
+#[derive(Drop)]
+pub struct MetalIslands {
+    pub islands: Items<IslandList>,
+    pub count: usize,
+}
+
+/// The rectangles of the first `metals` lists, which are those of the metals, with their islands.
+pub fn metal_islands(
+    alloc: Global,
+    lists: &[RectList],
+    metals: usize,
+) -> Result<MetalIslands, NoMemory>
+    requires { metals ≤ length lists.now }
+    ensures { IfOk result (λ made. AreIslandsOf lists.now metals made.count made.islands) }
+{
+    let mut islands = Vec::new(alloc);
+    let mut count: usize = 0;
+    for metal in 0..metals {
+        let rects = lists[metal].as_slice();
+        match count.checked_add(rects.len()) {
+            Some(next) => {
+                islands.push(islands_from(alloc, rects, count)?)?;
+                count = next;
+            }
+            // No memory holds more rectangles than can be numbered.
+            None => return Err(NoMemory),
+        }
+    }
+    Ok(MetalIslands {
+        islands: Items::from_vec(islands),
+        count,
+    })
+}
+
+/// The rectangles with their islands, which are numbered from `first` on.
+fn islands_from(alloc: Global, rects: &[Rect], first: usize) -> Result<IslandList, NoMemory>
+    requires { first + length rects.now < 2 ^ 64 }
+    ensures { IfOk result (λ islands. AreIslandsFrom rects.now first (first + length rects.now) islands) }
+{
+    let labels = label(alloc, rects)?;
+    let mut islands = Vec::with_capacity(alloc, rects.len())?;
+    for (k, rect) in rects.iter().enumerate() {
+        islands.push(Labelled {
+            rect: *rect,
+            label: first + labels[k],
+        })?;
+    }
+    Ok(IslandList::from_vec(islands))
+}

@@ -1,0 +1,119 @@
+ghost use Rattle.std.specs.Prelude.{◌≡◌, ◌<◌, All, IfOk, length};
+
+use super::carried::{cells_on, islands_carried, rects_on};
+use super::grouped::{by_island, part_of};
+use super::island::Island;
+use super::pieces::{Anchor, ContactList, ContactPiece, Piece, PieceList};
+use geo_core::{CellList, Items, NoMemory, RectList};
+use std::alloc::Global;
+use std::marker::Model;
+
+/// The nets of a layout, which `extract` makes.
+///
+/// They are the pieces of each metal, the contact pieces of each cut and the anchors. The pieces that carry one island are
+/// connected; each contact piece lies on the two islands that it carries, of its cut's lower and upper metal; each anchor
+/// lies on a piece of its island; and no two anchors of one metal are the same cell. The number of an island tells it
+/// from other islands of its metal, and the number of a net tells it from all other nets.
+#[derive(Debug, Drop)]
+pub struct Nets {
+    pieces: Items<PieceList>,
+    contacts: Items<ContactList>,
+    ends: Items<(u32, u32)>,
+    anchors: Items<Anchor>,
+}
+
+impl Model for Nets {
+    ghost use Rattle.net_extract.specs.NetLists.{NetLists};
+    ghost use Rattle.net_extract.specs.NetFacts.{AreNets};
+
+    ghost Value = { NetLists };
+
+    ghost view = { λ nets. record {
+      pieces = nets.pieces;
+      contacts = nets.contacts;
+      ends = nets.ends;
+      anchors = nets.anchors;
+    } };
+
+    ghost invariant = { λ nets. AreNets (record {
+      pieces = nets.pieces;
+      contacts = nets.contacts;
+      ends = nets.ends;
+      anchors = nets.anchors;
+    }) };
+}
+
+impl Nets {
+    ghost use Rattle.net_extract.specs.AnchoredIslands.{AreAnchoredIslands};
+    ghost use Rattle.net_extract.specs.IslandLists.{IsAnchoredIsland};
+    ghost use Rattle.net_extract.specs.NetFacts.{AreNets};
+    ghost use Rattle.net_extract.specs.NetLists.{pieces_on, contacts_of};
+
+    /// The nets with these pieces, contact pieces, metals of cuts, and anchors.
+    pub(crate) fn new(
+        pieces: Items<PieceList>,
+        contacts: Items<ContactList>,
+        ends: Items<(u32, u32)>,
+        anchors: Items<Anchor>,
+    ) -> Nets
+        requires { AreNets (record { pieces = pieces; contacts = contacts; ends = ends; anchors = anchors }) }
+        ensures { result ≡ record { pieces = pieces; contacts = contacts; ends = ends; anchors = anchors } }
+    {
+        Nets {
+            pieces,
+            contacts,
+            ends,
+            anchors,
+        }
+    }
+
+    /// The pieces of the metal with this number.
+    pub fn pieces(&self, metal: u32) -> &[Piece]
+        requires { metal < length self.now.pieces }
+        ensures pieces { result.now ≡ pieces_on self.now metal }
+        ensures sound { AreNets self.now }
+    {
+        self.pieces.as_slice()[metal as usize].as_slice()
+    }
+
+    /// The contact pieces of the cut with this number, counted from 0 among the cuts.
+    pub fn contacts(&self, cut: u32) -> &[ContactPiece]
+        requires { cut < length self.now.contacts }
+        ensures contacts { result.now ≡ contacts_of self.now cut }
+        ensures sound { AreNets self.now }
+    {
+        self.contacts.as_slice()[cut as usize].as_slice()
+    }
+
+    /// The anchors: the terminals of the map in order.
+    pub fn anchors(&self) -> &[Anchor]
+        ensures anchors { result.now ≡ self.now.anchors }
+        ensures sound { AreNets self.now }
+    {
+        self.anchors.as_slice()
+    }
+
+    /// The islands of the metal with this number that have two anchors or more, each with its rectangles and with the
+    /// cells of its anchors, which are in the order of the map's terminals. The islands come in no promised order. The
+    /// only error is that no memory is left.
+    pub fn islands(&self, alloc: Global, metal: u32) -> Result<Vec<Island>, NoMemory>
+        requires { metal < length self.now.pieces }
+        ensures islands { IfOk result (λ islands. AreAnchoredIslands self.now metal islands.items) }
+        ensures connected { IfOk result (λ islands. All IsAnchoredIsland islands.items) }
+    {
+        let numbers = islands_carried(alloc, self.anchors(), metal)?;
+        let sorted = by_island(alloc, self.pieces(metal))?;
+        let mut islands = Vec::new(alloc);
+        for number in &numbers {
+            let anchors = cells_on(alloc, self.anchors(), metal, *number)?;
+            if anchors.len() >= 2 {
+                let pieces = rects_on(alloc, part_of(&sorted, *number), *number)?;
+                islands.push(Island {
+                    pieces: RectList::from_vec(pieces),
+                    anchors: CellList::from_vec(anchors),
+                })?;
+            }
+        }
+        Ok(islands)
+    }
+}

@@ -1,0 +1,34 @@
+use geo_core::{Cell, Items, Rect};
+
+/// A rectangle of a metal with the numbers of an island and of a net. In `Nets`, pieces of one metal have the same
+/// `island` exactly where they are of one island, and pieces of any metals have the same `net` exactly where they are of
+/// one net. Pieces may overlap.
+#[derive(Clone, Copy, Debug, PartialEq, Eq)]
+pub struct Piece {
+    pub rect: Rect,
+    pub island: usize,
+    pub net: usize,
+}
+
+/// A rectangle of a cut with the numbers of an island of its lower metal and of one of its upper metal. In `Nets` the two
+/// islands and the cut have all of its cells, and so it joins the metals there.
+#[derive(Clone, Copy, Debug, PartialEq, Eq)]
+pub struct ContactPiece {
+    pub rect: Rect,
+    pub lower: usize,
+    pub upper: usize,
+}
+
+/// A cell of a metal with the number of an island of this. In `Nets` it is a terminal and stands on the island.
+#[derive(Clone, Copy, Debug, PartialEq, Eq)]
+pub struct Anchor {
+    pub metal: u32,
+    pub cell: Cell,
+    pub island: usize,
+}
+
+/// The pieces of a metal.
+pub type PieceList = Items<Piece>;
+
+/// The contact pieces of a cut.
+pub type ContactList = Items<ContactPiece>;
