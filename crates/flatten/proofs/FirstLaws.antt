@@ -1,0 +1,47 @@
+-- the first check that fails, where checks are those of one item after another
+use Rattle.std.proofs.Common.{ℕ, suc, ◌+◌, ◌<◌, ◌≡◌, List, [], ◌∷◌, ◌++◌, length, get_or, take, drop, append_assoc, sym, ap, subst, ◌∙◌}
+use Rattle.std.specs.Prelude.{All, flat_map}
+use Rattle.std.proofs.Math.Seq.{drop-cons}
+use Rattle.std.proofs.lemmas.Grind.{flat_map-append}
+use Rattle.std.proofs.lemmas.List.Elements.{All-append}
+use Rattle.std.proofs.lemmas.List.{take_more, take-append-drop, append-nil}
+use Rattle.first_refusal.specs.Checks.{IsRefusalOfFirst}
+
+module _ {N R : Type 0} (Holds : N → Type 0) (refusal_of : N → R) where
+  -- it is the first behind checks that hold, whatever follows
+  pub refused_within : (before here behind : List N) (refusal : R) → All Holds before → IsRefusalOfFirst Holds here refusal_of refusal → IsRefusalOfFirst Holds (before ++ (here ++ behind)) refusal_of refusal
+  refused_within before here behind refusal all first = record {
+    check = first.check;
+    is_first = record {
+      before = before ++ first.is_first.before;
+      after = first.is_first.after ++ behind;
+      parts = ap (λ xs. before ++ (xs ++ behind)) first.is_first.parts ∙ regroup before first.is_first.before first.check first.is_first.after behind;
+      all_before = All-append Holds before first.is_first.before all first.is_first.all_before;
+      fails = first.is_first.fails;
+    };
+    is_its_refusal = first.is_its_refusal;
+  }
+    where
+      regroup : (a b : List N) (x : N) (c d : List N) → a ++ ((b ++ x ∷ c) ++ d) ≡ (a ++ b) ++ x ∷ (c ++ d)
+      regroup a b x c d = simp append_assoc
+
+  module _ {X : Type 0} (checks_of : X → List N) (xs : List X) (i : ℕ) (x : X) (more : i < length xs) (is : x ≡ get_or xs i x) where
+    -- the checks of the next item
+    pub refused_at : (refusal : R) → All Holds (flat_map checks_of (take i xs)) → IsRefusalOfFirst Holds (checks_of x) refusal_of refusal
+        → IsRefusalOfFirst Holds (flat_map checks_of xs) refusal_of refusal
+    refused_at refusal all first =
+        subst (λ checks. IsRefusalOfFirst Holds checks refusal_of refusal) (sym parted)
+        (refused_within (flat_map checks_of (take i xs)) (checks_of x) (flat_map checks_of (drop (suc i) xs)) refusal all first)
+      where
+        parted : flat_map checks_of xs ≡ flat_map checks_of (take i xs) ++ (checks_of x ++ flat_map checks_of (drop (suc i) xs))
+        parted =
+            ap (flat_map checks_of) (sym (take-append-drop i xs) ∙ ap (λ rest. take i xs ++ rest) (drop-cons xs i x more ∙ ap (λ y. y ∷ drop (suc i) xs) (sym is)))
+            ∙ flat_map-append checks_of (take i xs) (x ∷ drop (suc i) xs)
+
+    pub hold_at : All Holds (flat_map checks_of (take i xs)) → All Holds (checks_of x) → All Holds (flat_map checks_of (take (i + 1) xs))
+    hold_at all here =
+        subst (All Holds) (sym (ap (flat_map checks_of) (take_more xs i x more ∙ ap (λ y. take i xs ++ y ∷ []) (sym is)) ∙ flat_map_more_of))
+        (All-append Holds (flat_map checks_of (take i xs)) (checks_of x) all here)
+      where
+        flat_map_more_of : flat_map checks_of (take i xs ++ x ∷ []) ≡ flat_map checks_of (take i xs) ++ checks_of x
+        flat_map_more_of = simp (flat_map-append, append-nil)

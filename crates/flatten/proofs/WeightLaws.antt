@@ -1,0 +1,69 @@
+-- weights of parts
+use Rattle.std.proofs.Common.{ℕ, suc, ◌+◌, ◌≤◌, ◌<◌, ◌≡◌, inl, inr, max, List, [], ◌∷◌, length, get_or, drop, add-one, sym, ap, subst, ◌∙◌, arith}
+use Rattle.std.specs.Prelude.{Contains}
+use Rattle.std.specs.Borrow.{Bor}
+use Rattle.std.proofs.Math.Seq.{drop-cons}
+use Rattle.std.proofs.lemmas.List.{drop_all}
+use Rattle.gds_syntax.specs.declared.element.Reference.{Reference}
+use Rattle.flatten.specs.declared.part.Part.{Part}
+use Rattle.flatten.specs.declared.part.Part.TheVariants.{Copies}
+use Rattle.flatten.specs.declared.summary.State.{State}
+use Rattle.flatten.specs.Surveys.{Weight, no_weight, both_weights, weight_of, weight_over, AreBelow, AreWeighed}
+use Rattle.flatten.proofs.ListLaws.{Contains-none, Contains-cons_cases}
+
+-- equal numbers, equal weights
+pub same_weights : (h h' s s' p p' : ℕ) → h ≡ h' → s ≡ s' → p ≡ p'
+    → let one : Weight = record { height = h; shapes = s; points = p } in let other : Weight = record { height = h'; shapes = s'; points = p' } in one ≡ other
+same_weights h h' s s' p p' e f g = at_height ∙ at_shapes ∙ at_points
+  where
+    weight : ℕ → ℕ → ℕ → Weight
+    weight a b c = record { height = a; shapes = b; points = c }
+
+    at_height : weight h s p ≡ weight h' s p
+    at_height = ap (λ x. weight x s p) e
+
+    at_shapes : weight h' s p ≡ weight h' s' p
+    at_shapes = ap (λ x. weight h' x p) f
+
+    at_points : weight h' s' p ≡ weight h' s' p'
+    at_points = ap (weight h' s') g
+
+pub nothing_first : (weight : Weight) → both_weights no_weight weight ≡ weight
+nothing_first weight = same_weights _ weight.height _ weight.shapes _ weight.points (omega arith) (omega arith) (omega arith)
+
+pub nothing_last : (weight : Weight) → both_weights weight no_weight ≡ weight
+nothing_last weight = same_weights _ weight.height _ weight.shapes _ weight.points (omega arith) (omega arith) (omega arith)
+
+regrouped : (a b c : Weight) → both_weights (both_weights a b) c ≡ both_weights a (both_weights b c)
+regrouped a b c = same_weights _ _ _ _ _ _ (three a.height b.height c.height) (omega arith) (omega arith)
+  where
+    three : (x y z : ℕ) → max (max x y) z ≡ max x (max y z)
+    three x y z = omega arith
+
+module _ (of : ℕ → Weight) (parts : List Part) (i : ℕ) (weight : Weight) (all : Weight) (before : both_weights weight (weight_over of (drop i parts)) ≡ all) where
+  -- one part more
+  pub weight_more : (part : Part) → i < length parts → part ≡ get_or parts i part → both_weights (both_weights weight (weight_of of part)) (weight_over of (drop (i + 1) parts)) ≡ all
+  weight_more part more is =
+      regrouped weight (weight_of of part) (weight_over of (drop (i + 1) parts))
+      ∙ ap (both_weights weight) (sym parted) ∙ before
+    where
+      parted : weight_over of (drop i parts) ≡ both_weights (weight_of of part) (weight_over of (drop (i + 1) parts))
+      parted = ap (weight_over of) (drop-cons parts i part more ∙ ap (λ x. x ∷ drop (suc i) parts) (sym is)) ∙ ap (λ k. both_weights (weight_of of part) (weight_over of (drop k parts))) (sym (add-one i))
+
+  -- and past the last
+  pub weight_all : length parts ≤ i → weight ≡ all
+  weight_all past = sym (nothing_last weight) ∙ ap (λ rest. both_weights weight (weight_over of rest)) (sym (drop_all i parts past)) ∙ before
+
+-- what is known of parts is known of one
+module _ (parts : List Part) (i : ℕ) (part : Part) (more : i < length parts) (is : part ≡ get_or parts i part) where
+  one_there : (reference : Bor Reference) (target : ℕ) → Contains (part ∷ []) (Copies reference target) → Contains parts (Copies reference target)
+  one_there reference target there = elim (Contains-cons_cases part [] (Copies reference target) there) [
+    | inl e ↦ subst (Contains parts) e (i, more, sym is)
+    | inr there_none ↦ absurd (Contains-none (Copies reference target) there_none)
+  ]
+
+  pub below_one : (count : ℕ) → AreBelow count parts → AreBelow count (part ∷ [])
+  below_one count below reference target there = below reference target (one_there reference target there)
+
+  pub weighed_one : (states : List State) (of : ℕ → Weight) → AreWeighed states of parts → AreWeighed states of (part ∷ [])
+  weighed_one states of weighed reference target there = weighed reference target (one_there reference target there)

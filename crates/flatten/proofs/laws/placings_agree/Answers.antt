@@ -1,0 +1,5 @@
+use Rattle.flatten.proofs.PlacingLaws as laws
+use Rattle.flatten.proofs.laws.placings_agree.Goals as goal
+
+pub returns : goal.returns
+returns c = laws.placings_agree

@@ -1,0 +1,53 @@
+use Rattle.std.proofs.Common.{◌≡◌, ◌++◌, take_all, sym, ap, subst, ◌∙◌}
+use Rattle.std.specs.Prelude.{option_to_list, All, flat_map}
+use Rattle.std.specs.List.{enumerate_from}
+use Rattle.std.proofs.lemmas.List.Elements.{All-nil}
+use Rattle.std.proofs.lemmas.List.{append-nil}
+use Rattle.std.proofs.lemmas.Result.{err_from_is_err_and}
+use Rattle.std.proofs.lemmas.List.FromFn.{length-enumerate_from}
+use Rattle.layer_map.specs.MapView.{layer_map_of}
+use Rattle.flatten.specs.Structures.{references_in}
+use Rattle.flatten.specs.Parts.{IsKnown, AreParts, no_more}
+use Rattle.flatten.specs.declared.fault.PlaceFault.TheVariants.{UnknownStructure}
+use Rattle.flatten.proofs.FirstLaws.{refused_at, hold_at}
+use Rattle.flatten.proofs.PartLaws.{one_element_more}
+use Rattle.flatten.proofs.parts.parts_of.Goals as goal
+use Rattle.flatten.proofs.parts.parts_of.Goals.{in-Some+in_ok-push-in-Some, in-None}
+
+pub loop-place-init : goal.loop-place-init
+loop-place-init c = record {
+  parts = rw c.in_ok-parts.ensures.items no_more;
+  known = All-nil (IsKnown c.args.index.now);
+}
+
+pub returns-in_err-found-clause-unknown : goal.returns-in_err-found-clause-unknown
+returns-in_err-found-clause-unknown c =
+    let p = err_from_is_err_and c.from_residual-in_err-found.result c.from_residual-in_err-found.ensures.1 in
+    rw (p.1, p.2) (λ _.
+    refused_at (IsKnown c.args.index.now) (λ reference. UnknownStructure reference.at) references_in c.args.structure.now.elements c.loop-place.place c.index-elements-place.result
+    (rw c.as_slice-elements.ensures at c.loop-place-test.true) (rw c.as_slice-elements.ensures at c.index-elements-place.is) c.in_err-found.field-0.0 c.loop-place.invariant.known c.in_err-found.ensures.unknown)
+
+pub loop-place-preserved : goal.loop-place-preserved
+loop-place-preserved c = record {
+  parts =
+      let part = c.in_ok-found.found in
+      let more = one_element_more c.args.index.now (layer_map_of c.args.map.now) c.args.structure.now.elements c.loop-place.place c.index-elements-place.result
+      c.loop-place.parts.items (option_to_list part) (rw c.as_slice-elements.ensures at c.loop-place-test.true) (rw c.as_slice-elements.ensures at c.index-elements-place.is)
+      c.loop-place.invariant.parts (rw c.in-Ok.ensures.1 at c.in_ok-found.ensures.part) in
+      elim c.match-found.branch [
+        | in-Some+in_ok-push-in-Some w ↦
+            let pushed : c.loop-place.parts.items ++ option_to_list part ≡ c.match-found.parts.items = rw w.in-Some.is (sym w.in_ok-push-in-Some.ensures.items ∙ ap (λ v. v.items) (sym w.parts-is)) in
+            subst (AreParts _ _ _) pushed more
+        | in-None w ↦ let same : c.loop-place.parts.items ++ option_to_list part ≡ c.match-found.parts.items = rw w.in-None.is (append-nil c.loop-place.parts.items ∙ ap (λ v. v.items) (sym w.parts-is)) in subst (AreParts _ _ _) same more
+      ];
+  known = hold_at (IsKnown c.args.index.now) (λ reference. UnknownStructure reference.at) references_in c.args.structure.now.elements c.loop-place.place c.index-elements-place.result
+      (rw c.as_slice-elements.ensures at c.loop-place-test.true) (rw c.as_slice-elements.ensures at c.index-elements-place.is) c.loop-place.invariant.known c.in_ok-found.ensures.known;
+}
+
+pub returns-clause-parts : goal.returns-clause-parts
+returns-clause-parts c =
+    subst (λ es. AreParts c.args.index.now (layer_map_of c.args.map.now) es c.loop-place.parts.items) (take_all c.loop-place.place (enumerate_from 0 c.args.structure.now.elements) (rw (length-enumerate_from 0 c.args.structure.now.elements, ← c.as_slice-elements.ensures) c.loop-place-test.false)) c.loop-place.invariant.parts
+
+pub returns-clause-known : goal.returns-clause-known
+returns-clause-known c =
+    subst (λ es. All (IsKnown c.args.index.now) (flat_map references_in es)) (take_all c.loop-place.place c.args.structure.now.elements (rw (← c.as_slice-elements.ensures) c.loop-place-test.false)) c.loop-place.invariant.known

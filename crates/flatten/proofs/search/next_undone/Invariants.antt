@@ -1,0 +1,5 @@
+use Rattle.flatten.specs.Surveys.{IsDoneBefore}
+use Rattle.flatten.proofs.search.next_undone.Given as goal
+
+abbrev pub invariant-loop-place : goal.invariant-loop-place
+invariant-loop-place l = IsDoneBefore l.states l.parts l.place

@@ -1,0 +1,33 @@
+use Rattle.std.proofs.Common.{◌≡◌, ◌-◌, [], ◌∷◌, ◌++◌, take, vec_len, sym, ap, subst, ◌∙◌, arith}
+use Rattle.flatten.specs.Surveys.{IsSearch}
+use Rattle.flatten.proofs.SearchLaws.{begins_search, begins_keeping, ends_settled, ends_done}
+use Rattle.flatten.proofs.search.search.Goals as goal
+
+pub loop-one-init : goal.loop-one-init
+loop-one-init c =
+    let items : c.push.new.self.items ≡ c.args.root ∷ [] = c.in_ok-push.ensures.items ∙ ap (λ l. l ++ c.args.root ∷ []) c.new-stack.ensures.items in
+    record {
+      search = subst (IsSearch _ _ _) (sym items) (begins_search c.args.nodes.now c.args.root c.args.states.now c.requires.long c.requires.root c.requires.new c.requires.settled);
+      kept = begins_keeping c.args.nodes.now c.args.root c.args.states.now c.requires.long c.requires.root c.requires.new c.requires.settled;
+    }
+
+pub step-requires-clause-search : goal.step-requires-clause-search
+step-requires-clause-search c = subst (IsSearch c.args.nodes.now c.args.root c.loop-one.states) c.in-Some.ensures.items c.loop-one.invariant.search
+
+pub loop-one-preserved : goal.loop-one-preserved
+loop-one-preserved c = record {
+  search = rw c.if-not-branch.false at c.in_ok-step.ensures.search;
+  kept = λ x s d. c.in_ok-step.ensures.kept x s (c.loop-one.invariant.kept x s d);
+}
+
+pub returns-clause-settled : goal.returns-clause-settled
+returns-clause-settled c =
+    let first : vec_len c.loop-one.stack - 1 ≡ 0 = omega (arith, c.in_default.ensures.cases.0) in
+    let left : c.pop.new.self.items ≡ [] = c.in_default.ensures.rest ∙ ap (λ n. take n c.loop-one.stack.items) first in
+    ends_settled c.args.nodes.now c.args.root c.loop-one.states c.loop-one.stack.items c.loop-one.invariant.search (c.in_default.ensures.items ∙ ap (λ l. l ++ []) left)
+
+pub returns-clause-done : goal.returns-clause-done
+returns-clause-done c =
+    let first : vec_len c.loop-one.stack - 1 ≡ 0 = omega (arith, c.in_default.ensures.cases.0) in
+    let left : c.pop.new.self.items ≡ [] = c.in_default.ensures.rest ∙ ap (λ n. take n c.loop-one.stack.items) first in
+    ends_done c.args.nodes.now c.args.root c.loop-one.states c.loop-one.stack.items c.loop-one.invariant.search (c.in_default.ensures.items ∙ ap (λ l. l ++ []) left)

@@ -1,0 +1,33 @@
+use Rattle.std.proofs.Common.{◌≡◌, length, refl, sym, ap, ◌∙◌, inl, inr, arith}
+use Rattle.std.proofs.lemmas.Bool.{cases_lt}
+use Rattle.std.proofs.lemmas.Option.{slice_get_read}
+use Rattle.flatten.specs.Surveys.{state_of}
+use Rattle.flatten.specs.declared.fault.PlaceFault.TheVariants.{Cycle}
+use Rattle.flatten.proofs.ListLaws.{put_back}
+use Rattle.flatten.proofs.survey.survey.Goals as goal
+
+pub returns-then-not-branch-clause-cycle : goal.returns-then-not-branch-clause-cycle
+returns-then-not-branch-clause-cycle c kept = record {
+  root = c.loop-root.root;
+  structure = c.index-structures-root.result;
+  is_there = slice_get_read c.args.structures.now (length c.args.structures.now) c.loop-root.root c.index-structures-root.result refl c.loop-root-test.true c.index-structures-root.is;
+  endless = rw c.if-not-branch.true at c.in_ok-survey_from.ensures.cycle;
+  before = λ one h. let done = c.loop-root.invariant.done one h in let told = c.loop-root.invariant.settled.are_true one done.0 done.1 in (told.0, told.1);
+  is_its_fault = ap (λ s. Cycle s.at) (sym c.index-structures-root.is);
+}
+
+pub loop-root-preserved : goal.loop-root-preserved
+loop-root-preserved c =
+    let new = c.survey_from.new.states in
+    let told = c.in_ok-survey_from.ensures in
+    let same = put_back c.loop-root.states.len new c.loop-root.states.items (sym (told.long ∙ c.deref_mut.ensures.len)) in
+    let kept = rw (c.if-not-branch.false, c.deref_mut.ensures.value) at told.kept in
+    let here = rw c.if-not-branch.false at told.done in
+    rw same (record {
+      long = told.long ∙ ap length c.deref_mut.ensures.value ∙ c.loop-root.invariant.long;
+      settled = rw c.if-not-branch.false at told.settled;
+      done = λ one h. elim (cases_lt one c.loop-root.root) [
+        | inl before ↦ let was = c.loop-root.invariant.done one before in (was.0, kept one was.0 was.1)
+        | inr last ↦ let is : one ≡ c.loop-root.root = omega arith in (here.0, ap (state_of new) is ∙ here.1)
+      ];
+    })

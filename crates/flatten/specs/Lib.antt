@@ -1,0 +1,13 @@
+pub mod Structures
+pub mod Steps
+pub mod Routes
+pub mod Chains
+pub mod Tops
+pub mod Placements
+pub mod Motions
+pub mod Placed
+pub mod Parts
+pub mod Surveys
+pub mod Ends
+pub mod Marks
+pub mod Plans

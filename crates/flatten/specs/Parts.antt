@@ -1,0 +1,33 @@
+-- what is followed of structures: their shapes on mapped layers, and their references with the numbers of their targets
+use Rattle.std.specs.Prelude.{ℕ, List, [], ◌∷◌, ◌≡◌, false, Vec}
+use Rattle.std.specs.Borrow.{Bor}
+use Rattle.std.specs.List.{enumerate_from, AllZip}
+use Rattle.std.specs.Global.{Global}
+use Rattle.gds_syntax.specs.Names.{StandsAt}
+use Rattle.gds_syntax.specs.declared.element.Element.{Element}
+use Rattle.gds_syntax.specs.declared.element.Element.TheVariants.{Shape as shape_element, Reference as reference_element}
+use Rattle.gds_syntax.specs.declared.element.Shape.{Shape}
+use Rattle.gds_syntax.specs.declared.element.Reference.{Reference}
+use Rattle.gds_syntax.specs.declared.library.Structure.{Structure}
+use Rattle.layer_map.specs.LayerMap.{LayerMap, IsMappedTo}
+use Rattle.flatten.specs.Structures.{is_mapped}
+use Rattle.flatten.specs.declared.part.Part.{Part}
+use Rattle.flatten.specs.declared.part.Part.TheVariants.{End, Copies}
+
+-- the reference names a structure of the library
+abbrev pub IsKnown : List (List ℕ) → Reference → Type 0
+IsKnown names reference = (place : ℕ) × StandsAt names reference.target place
+
+-- the parts are those of the elements, in their order: a shape whose layer is not mapped is none
+pub data AreParts (names : List (List ℕ)) (layer_map : LayerMap) : List (ℕ × Element) → List Part → Type 0 where
+  no_more : AreParts names layer_map [] []
+  passed_over : {number : ℕ} {shape : Shape} {elements : List (ℕ × Element)} {parts : List Part} → is_mapped layer_map shape ≡ false
+      → AreParts names layer_map elements parts → AreParts names layer_map ((number, shape_element shape) ∷ elements) parts
+  ends_there : {number layer : ℕ} {shape : Bor Shape} {elements : List (ℕ × Element)} {parts : List Part} → IsMappedTo layer_map (shape.now.layer, shape.now.datatype) layer
+      → AreParts names layer_map elements parts → AreParts names layer_map ((number, shape_element shape.now) ∷ elements) (End number layer shape ∷ parts)
+  goes_on : {number target : ℕ} {reference : Bor Reference} {elements : List (ℕ × Element)} {parts : List Part} → StandsAt names reference.now.target target
+      → AreParts names layer_map elements parts → AreParts names layer_map ((number, reference_element reference.now) ∷ elements) (Copies reference target ∷ parts)
+
+-- these are the parts of each of the structures
+abbrev pub AreNodes : List (List ℕ) → LayerMap → List Structure → List (Vec Part Global) → Type 0
+AreNodes names layer_map = AllZip (λ structure parts. AreParts names layer_map (enumerate_from 0 structure.elements) parts.items)

@@ -1,0 +1,33 @@
+-- what is known of a library before its shapes are placed
+use Rattle.std.specs.Prelude.{ℕ, List, ◌≡◌, ◌<◌, All, length, slice_get, Some, Option, Vec}
+use Rattle.std.specs.Global.{Global}
+use Rattle.first_refusal.specs.Outcomes.{value}
+use Rattle.gds_syntax.specs.Names.{names_of}
+use Rattle.gds_syntax.specs.declared.library.Structure.{Structure}
+use Rattle.layer_map.specs.LayerMap.{LayerMap}
+use Rattle.flatten.specs.Structures.{all_references}
+use Rattle.flatten.specs.Parts.{AreNodes, IsKnown}
+use Rattle.flatten.specs.Placements.{Choosing}
+use Rattle.flatten.specs.Surveys.{AreNodesBelow, AreSettled, Weight, Weighs, state_of}
+use Rattle.flatten.specs.declared.plan.Plan.{Plan}
+use Rattle.flatten.specs.declared.summary.Summary.{Summary}
+use Rattle.flatten.specs.declared.summary.State.TheVariants.{Done}
+use Rattle.flatten.specs.declared.part.Part.{Part}
+
+-- these are the parts of the structures, each reference names one of them, and each has a weight
+pub record AreSurveyed (structures : List Structure) (layer_map : LayerMap) (nodes : List (Vec Part Global)) : Type 0 where
+  pub nodes_are : AreNodes (names_of structures) layer_map structures nodes
+  pub below : AreNodesBelow (length nodes) nodes
+  pub known : All (IsKnown (names_of structures)) (all_references structures)
+  pub weighed : (one : ℕ) → one < length structures → (weight : Weight) × Weighs nodes one weight
+
+-- the structure with this number is the top
+abbrev pub IsChosen : List Structure → Option (List ℕ) → ℕ → Type 0
+IsChosen structures wanted top = (structure : Structure) × (slice_get structures top ≡ Some structure) × Choosing structures wanted (value (top, structure))
+
+-- what a plan says is true, and its top is the library's
+pub record IsPlan (structures : List Structure) (layer_map : LayerMap) (wanted : Option (List ℕ)) (plan : Plan) : Type 0 where
+  pub surveyed : AreSurveyed structures layer_map plan.nodes.items
+  pub settled : AreSettled plan.nodes.items plan.states.items
+  pub done : (one : ℕ) → one < length structures → (summary : Summary) × (state_of plan.states.items one ≡ Done summary)
+  pub chosen : IsChosen structures wanted plan.top

@@ -1,0 +1,10 @@
+//! What a layout may come to.
+
+/// A chain of more references than this is refused where it begins at the top.
+pub const MOST_STEPS: u32 = 256;
+
+/// More placed shapes than this, on mapped layers, are refused.
+pub const MOST_SHAPES: u64 = 1_000_000;
+
+/// More points than this in the placed shapes on mapped layers are refused.
+pub const MOST_POINTS: u64 = 8_000_000;

@@ -1,0 +1,89 @@
+ghost use Rattle.std.specs.Prelude.{◌≡◌, ◌≢◌, IfOk, IfErr, All, [], ◌∷◌, option_to_list};
+ghost use Rattle.std.specs.List.{enumerate_from};
+ghost use Rattle.first_refusal.specs.Checks.{IsRefusalOfFirst};
+ghost use Rattle.layer_map.specs.MapView.{layer_map_of};
+ghost use Rattle.flatten.specs.Structures.{all_references, references_in, references_of};
+ghost use Rattle.flatten.specs.Parts.{AreNodes, AreParts, IsKnown};
+ghost use Rattle.flatten.specs.declared.fault.PlaceFault.TheVariants.{UnknownStructure, Memory};
+
+use super::fault::PlaceFault;
+use super::part::Part;
+use gds_syntax::{Element, NameIndex, Structure};
+use layer_map::Map;
+use std::alloc::Global;
+
+/// The part that the element with this number is, if it is one.
+fn part_of<'a>(
+    number: u32,
+    element: &'a Element,
+    map: &Map,
+    index: &NameIndex,
+) -> Result<Option<Part<'a>>, PlaceFault>
+    ensures part { IfOk result (λ part. AreParts index.now (layer_map_of map.now) ((number, element.now) ∷ []) (option_to_list part)) }
+    ensures known { IfOk result (λ part. All (IsKnown index.now) (references_in element.now)) }
+    ensures unknown { IfErr result (λ fault.
+        IsRefusalOfFirst (IsKnown index.now) (references_in element.now) (λ reference. UnknownStructure reference.at) fault) }
+{
+    match element {
+        Element::Shape(shape) => Ok(match map.layer_of(shape.layer, shape.datatype) {
+            None => None,
+            Some(layer) => Some(Part::End {
+                element: number,
+                layer,
+                shape,
+            }),
+        }),
+        Element::Reference(reference) => match index.find(reference.target.as_slice()) {
+            None => Err(PlaceFault::UnknownStructure { at: reference.at }),
+            Some(target) => Ok(Some(Part::Copies { reference, target })),
+        },
+    }
+}
+
+/// The parts of a structure.
+pub fn parts_of<'a>(
+    alloc: Global,
+    structure: &'a Structure,
+    map: &Map,
+    index: &NameIndex,
+) -> Result<Vec<Part<'a>>, PlaceFault>
+    ensures parts { IfOk result (λ parts.
+        AreParts index.now (layer_map_of map.now) (enumerate_from 0 structure.now.elements) parts.items) }
+    ensures known { IfOk result (λ parts. All (IsKnown index.now) (references_of structure.now)) }
+    ensures unknown { IfErr result (λ fault. fault ≢ Memory →
+        IsRefusalOfFirst (IsKnown index.now) (references_of structure.now) (λ reference. UnknownStructure reference.at) fault) }
+{
+    let elements = structure.elements.as_slice();
+    let mut parts = Vec::with_capacity(alloc, elements.len())?;
+    for (place, element) in elements.iter().enumerate() {
+        let Ok(number) = u32::try_from(place) else {
+            return Err(PlaceFault::Memory);
+        };
+        let found = part_of(number, element, map, index)?;
+        match found {
+            None => {}
+            Some(part) => parts.push(part)?,
+        }
+    }
+    Ok(parts)
+}
+
+/// The parts of every structure.
+pub fn nodes_of<'a>(
+    alloc: Global,
+    structures: &'a [Structure],
+    map: &Map,
+    index: &NameIndex,
+) -> Result<Vec<Vec<Part<'a>>>, PlaceFault>
+    ensures nodes { IfOk result (λ nodes. AreNodes index.now (layer_map_of map.now) structures.now nodes.items) }
+    ensures known { IfOk result (λ nodes. All (IsKnown index.now) (all_references structures.now)) }
+    ensures unknown { IfErr result (λ fault. fault ≢ Memory →
+        IsRefusalOfFirst (IsKnown index.now) (all_references structures.now) (λ reference. UnknownStructure reference.at) fault) }
+{
+    let mut nodes = Vec::new(alloc);
+    for structure in structures {
+        let parts = parts_of(alloc, structure, map, index)?;
+        nodes.push(parts)?;
+    }
+    Ok(nodes)
+}

@@ -1,0 +1,97 @@
+ghost use Rattle.std.specs.Prelude.{ℕ, ◌≡◌, ◌≢◌, ◌<◌, ◌^◌, IfOk, IfErr, Option, length, option_copied};
+ghost use Rattle.gds_syntax.specs.Names.{NamesDiffer, names_of};
+ghost use Rattle.layer_map.specs.LayerMap.{LayerMap};
+ghost use Rattle.layer_map.specs.MapView.{layer_map_of};
+ghost use Rattle.first_refusal.specs.Outcomes.{refused};
+ghost use Rattle.flatten.specs.Placements.{Choosing};
+ghost use Rattle.flatten.specs.Plans.{AreSurveyed, IsChosen, IsPlan};
+ghost use Rattle.flatten.specs.declared.fault.PlaceFault.TheVariants.{Memory};
+
+use super::fault::PlaceFault;
+use super::marks::marks_of;
+use super::part::Part;
+use super::parts::nodes_of;
+use super::summary::State;
+use super::survey::survey;
+use super::tops::only_unmarked;
+use gds_syntax::{Library, NameIndex, Structure};
+use layer_map::Map;
+use std::alloc::Global;
+
+/// The number of the top: the structure of the wanted name, or the only one to which no reference leads.
+fn top_of(
+    alloc: Global,
+    structures: &[Structure],
+    nodes: &[Vec<Part<'_>>],
+    index: &NameIndex,
+    wanted: Option<&[u8]>,
+) -> Result<u32, PlaceFault>
+    requires differ { NamesDiffer (names_of structures.now) }
+    requires few { length structures.now < 2 ^ 32 }
+    requires index { index.now ≡ names_of structures.now }
+    requires surveyed { (layer_map : LayerMap) × AreSurveyed structures.now layer_map nodes.now }
+    ensures chosen { IfOk result (λ top. IsChosen structures.now (option_copied wanted.entry) top) }
+    ensures refused { IfErr result (λ fault. fault ≢ Memory → Choosing structures.now (option_copied wanted.entry) (refused fault)) }
+{
+    match wanted {
+        Some(name) => match index.find(name) {
+            Some(top) => Ok(top),
+            None => Err(PlaceFault::NoTop),
+        },
+        None => {
+            let marks = marks_of(alloc, nodes)?;
+            only_unmarked(structures, marks.as_slice())
+        }
+    }
+}
+
+/// What is known of a library before its shapes are placed.
+pub struct Plan<'a> {
+    /// The parts of each structure.
+    pub nodes: Vec<Vec<Part<'a>>>,
+    /// What is known of each: all are done.
+    pub states: Vec<State>,
+    /// The number of the top.
+    pub top: u32,
+}
+
+/// The plan of structures, by the index of their names.
+fn plan_with<'a>(
+    alloc: Global,
+    structures: &'a [Structure],
+    map: &Map,
+    index: &NameIndex,
+    wanted: Option<&[u8]>,
+) -> Result<Plan<'a>, PlaceFault>
+    requires differ { NamesDiffer (names_of structures.now) }
+    requires few { length structures.now < 2 ^ 32 }
+    requires index { index.now ≡ names_of structures.now }
+    ensures planned { IfOk result (λ plan. IsPlan structures.now (layer_map_of map.now) (option_copied wanted.entry) plan) }
+    ensures refused { IfErr result (λ fault. fault ≢ Memory → Choosing structures.now (option_copied wanted.entry) (refused fault)) }
+{
+    let nodes = nodes_of(alloc, structures, map, index)?;
+    let states = survey(alloc, structures, &nodes)?;
+    let top = top_of(alloc, structures, &nodes, index, wanted)?;
+    Ok(Plan { nodes, states, top })
+}
+
+/// The plan of a library. The fault is that of the first check of the library that fails. A library of 2^32 structures,
+/// which no stream can have, is answered as one for which no memory is left.
+pub fn plan_of<'a>(
+    alloc: Global,
+    library: &'a Library,
+    map: &Map,
+    wanted: Option<&[u8]>,
+) -> Result<Plan<'a>, PlaceFault>
+    requires { NamesDiffer (names_of library.now.structures) }
+    ensures planned { IfOk result (λ plan. IsPlan library.now.structures (layer_map_of map.now) (option_copied wanted.entry) plan) }
+    ensures refused { IfErr result (λ fault. fault ≢ Memory →
+        Choosing library.now.structures (option_copied wanted.entry) (refused fault)) }
+{
+    let structures = library.structures.as_slice();
+    if structures.len() > u32::MAX as usize {
+        return Err(PlaceFault::Memory);
+    }
+    let index = library.index(alloc)?;
+    plan_with(alloc, structures, map, &index, wanted)
+}

@@ -1,0 +1,43 @@
+ghost use Rattle.std.specs.Prelude.{ℕ, [], ◌∷◌, ◌≡◌, List, Option, All, IfOk, IfErr, Some, slice_get};
+ghost use Rattle.gds_syntax.specs.Names.{NamesDiffer, names_of};
+ghost use Rattle.gds_syntax.specs.declared.library.Structure.{Structure};
+ghost use Rattle.layer_map.specs.LayerMap.{LayerMap};
+ghost use Rattle.first_refusal.specs.Outcomes.{refused};
+ghost use Rattle.flatten.specs.Placements.{PlacingFrom, TopHolds, is_shallow, is_small, placed_routes};
+ghost use Rattle.flatten.specs.Plans.{IsPlan};
+
+use super::fault::PlaceFault;
+use super::limits::{MOST_POINTS, MOST_SHAPES, MOST_STEPS};
+use super::plan::Plan;
+use super::summary::State;
+use gds_syntax::Structure;
+
+/// Checks how deep the top is, and how much it places, before anything is placed.
+pub fn check_size(structures: &[Structure], plan: &Plan<'_>) -> Result<(), PlaceFault>
+    requires differ { NamesDiffer (names_of structures.now) }
+    requires planned { (layer_map : LayerMap) × (wanted : Option (List ℕ)) × IsPlan structures.now layer_map wanted plan.now }
+    ensures kept { (layer_map : LayerMap) (wanted : Option (List ℕ)) (top : Structure) → IsPlan structures.now layer_map wanted plan.now →
+        slice_get structures.now plan.now.top ≡ Some top →
+        IfOk result (λ _. All (TopHolds structures.now (plan.now.top, top) (placed_routes structures.now layer_map (plan.now.top, top))) (is_shallow ∷ is_small ∷ [])) }
+    ensures refused { (layer_map : LayerMap) (wanted : Option (List ℕ)) (top : Structure) → IsPlan structures.now layer_map wanted plan.now →
+        slice_get structures.now plan.now.top ≡ Some top →
+        IfErr result (λ fault. PlacingFrom structures.now (plan.now.top, top) (placed_routes structures.now layer_map (plan.now.top, top)) (refused fault)) }
+{
+    let at = structures[plan.top as usize].at;
+    let states = plan.states.as_slice();
+    match states[plan.top as usize] {
+        State::Done(summary) => {
+            if summary.height > MOST_STEPS {
+                return Err(PlaceFault::TooDeep { at });
+            }
+            if summary.shapes > MOST_SHAPES {
+                return Err(PlaceFault::TooManyShapes { at });
+            }
+            if summary.points > MOST_POINTS {
+                return Err(PlaceFault::TooManyShapes { at });
+            }
+            Ok(())
+        }
+        _ => Ok(()),
+    }
+}

@@ -1,0 +1,63 @@
+ghost use Rattle.std.specs.Prelude.{ℕ, ◌≡◌, ◌≢◌, ◌<◌, ◌^◌, length, IfOk, IfErr};
+ghost use Rattle.std.specs.Bool.{OnTrue, OnFalse};
+ghost use Rattle.flatten.specs.Surveys.{AreNodesBelow, AreSettled, IsFirstEndless, KeepsDone, Leads, state_of};
+ghost use Rattle.flatten.specs.declared.summary.Summary.{Summary};
+ghost use Rattle.flatten.specs.declared.summary.State.TheVariants.{Done};
+ghost use Rattle.flatten.specs.declared.fault.PlaceFault.TheVariants.{Memory};
+
+use super::fault::PlaceFault;
+use super::part::Part;
+use super::search::search;
+use super::summary::State;
+use gds_syntax::Structure;
+use geo_core::NoMemory;
+use std::alloc::Global;
+
+/// Surveys the structure `root`, if it is not done. The answer is whether its references lead to an end.
+fn survey_from(
+    alloc: Global,
+    nodes: &[Vec<Part<'_>>],
+    states: &mut [State],
+    root: u32,
+) -> Result<bool, NoMemory>
+    requires below { AreNodesBelow (length nodes.now) nodes.now }
+    requires long { length states.old ≡ length nodes.now }
+    requires root { root < length nodes.now }
+    requires settled { AreSettled nodes.now states.old }
+    ensures long { length states.new ≡ length states.old }
+    ensures settled { IfOk result (λ ends. OnTrue ends (AreSettled nodes.now states.new)) }
+    ensures done { IfOk result (λ ends. OnTrue ends ((summary : Summary) × (state_of states.new root ≡ Done summary))) }
+    ensures cycle { IfOk result (λ ends. OnFalse ends ((n : ℕ) → Leads nodes.now n root)) }
+    ensures kept { IfOk result (λ ends. OnTrue ends (KeepsDone states.old states.new)) }
+{
+    match states[root as usize] {
+        State::New => search(alloc, nodes, states, root),
+        _ => Ok(true),
+    }
+}
+
+/// Surveys all structures: each is done in the end. The fault is that of the first structure that leads to a cycle.
+pub fn survey(
+    alloc: Global,
+    structures: &[Structure],
+    nodes: &[Vec<Part<'_>>],
+) -> Result<Vec<State>, PlaceFault>
+    requires below { AreNodesBelow (length nodes.now) nodes.now }
+    requires long { length nodes.now ≡ length structures.now }
+    requires few { length structures.now < 2 ^ 32 }
+    ensures long { IfOk result (λ states. length states.items ≡ length nodes.now) }
+    ensures settled { IfOk result (λ states. AreSettled nodes.now states.items) }
+    ensures done { IfOk result (λ states. (one : ℕ) → one < length nodes.now →
+        (summary : Summary) × (state_of states.items one ≡ Done summary)) }
+    ensures cycle { IfErr result (λ fault. fault ≢ Memory → IsFirstEndless nodes.now structures.now fault) }
+{
+    let mut states = vec![in alloc; State::New; nodes.len()]?;
+    for root in 0..structures.len() {
+        if !survey_from(alloc, nodes, &mut states, root as u32)? {
+            return Err(PlaceFault::Cycle {
+                at: structures[root].at,
+            });
+        }
+    }
+    Ok(states)
+}
