@@ -17,8 +17,9 @@ use Rattle.layer_map.specs.LayerMap.{LayerMap}
 use Rattle.flatten.specs.Structures.{numbered, structure_named, all_references}
 use Rattle.flatten.specs.Chains.{IsEndless}
 use Rattle.flatten.specs.Parts.{AreNodes, IsKnown}
+use Rattle.flatten.specs.Weights.{Weight, Weighs}
+use Rattle.flatten.specs.Surveys.{IsFirstEndless}
 use Rattle.flatten.specs.Placements.{LibraryCheck, has_its_target, leads_to_no_cycle, has_top, is_no_other_top, LibraryHolds, library_fault, Choosing}
-use Rattle.flatten.specs.Surveys.{Weight, Weighs, IsFirstEndless}
 use Rattle.flatten.specs.declared.part.Part.{Part}
 use Rattle.flatten.specs.declared.fault.PlaceFault.{PlaceFault}
 use Rattle.flatten.specs.declared.fault.PlaceFault.TheVariants.{UnknownStructure}
@@ -53,7 +54,9 @@ front_at structures layer_map k one (j, h, e) =
     let far : j < length (numbered structures) = omega (arith, length-take k (numbered structures)) in
     let there : get_or (numbered structures) j one ≡ one = sym (get_or-take k (numbered structures) j one near) ∙ e in
     let zero-more : 0 + j ≡ j = omega arith in
-    let number : j ≡ one.0 = ap (λ o. o.0) (sym (get_or-enumerate_from 0 structures j one (omega (arith, length-enumerate_from 0 structures)) ∙ ap (λ n. (n, get_or structures j one.1)) zero-more) ∙ there) in
+    let read : get_or (numbered structures) j one ≡ (0 + j, get_or structures j one.1) = get_or-enumerate_from 0 structures j one (omega (arith, length-enumerate_from 0 structures)) in
+    let numbers : get_or (numbered structures) j one ≡ one → 0 + j ≡ one.0 = λ is. ap (λ o. o.0) {x = (0 + j, get_or structures j one.1)} (sym read ∙ is) in
+    let number : j ≡ one.0 = sym zero-more ∙ numbers there in
     (omega arith, (j, far, there))
 
 -- the first that fails of a list is the first of the list said in other words

@@ -12,8 +12,8 @@ use Rattle.gds_syntax.specs.declared.library.Structure.{Structure}
 use Rattle.layer_map.specs.LayerMap.{LayerMap}
 use Rattle.flatten.specs.Structures.{structure_named}
 use Rattle.flatten.specs.Routes.{routes, mapped_routes}
-use Rattle.flatten.specs.Parts.{AreParts, AreNodes}
-use Rattle.flatten.specs.Surveys.{parts_at, Weight, no_weight, both_weights, times_weight, weight_of, weight_over, Weighs, weighs}
+use Rattle.flatten.specs.Parts.{AreParts, AreNodes, parts_at}
+use Rattle.flatten.specs.Weights.{Weight, no_weight, both_weights, times_weight, weight_of, weight_over, Weighs, weighs}
 use Rattle.flatten.specs.Ends.{routes_from, part_routes}
 use Rattle.flatten.specs.declared.part.Part.{Part}
 use Rattle.flatten.specs.declared.part.Part.TheVariants.{End, Copies}

@@ -1,24 +1,23 @@
 -- the routes of a structure's parts, and what they weigh
-use Rattle.std.proofs.Common.{ℕ, suc, ◌+◌, ◌*◌, ◌≡◌, ◌⊎◌, inl, inr, Bool, true, false, cond, List, [], ◌∷◌, ◌++◌, length, length-append, map, refl, sym, ap, subst, ◌∙◌, arith}
+use Rattle.std.proofs.Common.{ℕ, suc, ◌+◌, ◌*◌, ◌≡◌, ◌⊎◌, inl, inr, Bool, true, false, cond, List, [], ◌∷◌, ◌++◌, length, map, refl, sym, ap, subst, ◌∙◌, arith}
 use Rattle.std.specs.Prelude.{Contains, filter, flat_map, sum_by}
 use Rattle.std.specs.Borrow.{Bor}
-use Rattle.std.specs.List.{range_with_len}
 use Rattle.std.proofs.lemmas.List.Elements.{filter-append}
 use Rattle.std.proofs.lemmas.List.Sums.{sum_by-append, sum_by-cons}
-use Rattle.std.proofs.lemmas.List.FromFn.{length-range_with_len, length-map-range_with_len}
 use Rattle.gds_syntax.specs.declared.element.Element.{Element}
 use Rattle.gds_syntax.specs.declared.element.Shape.{Shape}
 use Rattle.gds_syntax.specs.declared.element.Reference.{Reference}
 use Rattle.layer_map.specs.LayerMap.{LayerMap}
 use Rattle.flatten.specs.Structures.{is_mapped}
-use Rattle.flatten.specs.Steps.{Step, steps_of, steps_in_row, rows_of, columns_of}
+use Rattle.flatten.specs.Steps.{Step, steps_of}
 use Rattle.flatten.specs.Routes.{Route, behind_step, routes_at, mapped_routes}
 use Rattle.flatten.specs.Parts.{AreParts, no_more, passed_over, ends_there, goes_on}
-use Rattle.flatten.specs.Surveys.{Weight, no_weight, both_weights, times_weight, weight_of, weight_over, copies_of}
+use Rattle.flatten.specs.Weights.{Weight, no_weight, both_weights, times_weight, weight_of, weight_over, copies_of}
 use Rattle.flatten.specs.Ends.{part_routes}
 use Rattle.flatten.specs.declared.part.Part.{Part}
 use Rattle.flatten.specs.declared.part.Part.TheVariants.{End, Copies}
 use Rattle.flatten.proofs.ListLaws.{Contains-head, Contains-tail, flat_map-same}
+use Rattle.flatten.proofs.ArrayLaws.{steps_long}
 use Rattle.flatten.proofs.LayerLaws.{is_mapped-some}
 
 -- a filter goes past lists of lists
@@ -101,20 +100,6 @@ module _ (weight : Shape → ℕ) where
       one_more : (n w : ℕ) → w + n * w ≡ suc n * w
       one_more n w = omega arith
 
-  row-long : (reference : Reference) (rows : List ℕ) → length (flat_map (steps_in_row reference) rows) ≡ length rows * columns_of reference.lattice
-  row-long reference [] = omega arith
-  row-long reference (row ∷ rows) =
-      let one : length (steps_in_row reference row) ≡ columns_of reference.lattice = length-map-range_with_len _ 0 (columns_of reference.lattice) in
-      let rest : length (flat_map (steps_in_row reference) rows) ≡ length rows * columns_of reference.lattice = row-long reference rows in
-      let whole : length (flat_map (steps_in_row reference) (row ∷ rows)) ≡ length (steps_in_row reference row) + length (flat_map (steps_in_row reference) rows) = length-append (steps_in_row reference row) (flat_map (steps_in_row reference) rows) in
-      whole ∙ ap (λ n. n + length (flat_map (steps_in_row reference) rows)) one ∙ ap (λ n. columns_of reference.lattice + n) rest ∙ more (length rows) (columns_of reference.lattice)
-    where
-      more : (n w : ℕ) → w + n * w ≡ suc n * w
-      more n w = omega arith
-
-  steps-long : (reference : Reference) → length (steps_of reference) ≡ copies_of reference
-  steps-long reference = row-long reference (range_with_len 0 (rows_of reference.lattice)) ∙ ap (λ n. n * columns_of reference.lattice) (length-range_with_len 0 (rows_of reference.lattice))
-
   -- a number of a weight that adds up as the shapes' numbers do
   module _ (number : Weight → ℕ) (structure : ℕ) (of : ℕ → Weight) (by_number : ℕ → List Route)
       (of_none : number no_weight ≡ 0) (of_both : (a b : Weight) → number (both_weights a b) ≡ number a + number b)
@@ -127,7 +112,7 @@ module _ (weight : Shape → ℕ) where
         nothing : (n : ℕ) → n + 0 ≡ n
         nothing n = omega arith
     weigh-part (Copies reference target) known =
-        weigh-copies (by_number target) (steps_of reference.now) ∙ ap (λ n. n * weigh (by_number target)) (steps-long reference.now)
+        weigh-copies (by_number target) (steps_of reference.now) ∙ ap (λ n. n * weigh (by_number target)) (steps_long reference.now)
         ∙ ap (λ n. copies_of reference.now * n) (known reference target refl) ∙ sym (of_copies (copies_of reference.now) (of target))
 
     pub weigh-parts : (parts : List Part) → ((reference : Bor Reference) (target : ℕ) → Contains parts (Copies reference target) → weigh (by_number target) ≡ number (of target))

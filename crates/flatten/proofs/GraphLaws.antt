@@ -14,8 +14,8 @@ use Rattle.gds_syntax.specs.declared.library.Structure.{Structure}
 use Rattle.layer_map.specs.LayerMap.{LayerMap}
 use Rattle.flatten.specs.Structures.{numbered, structure_named, references_in}
 use Rattle.flatten.specs.Chains.{Refers, StartsChain}
-use Rattle.flatten.specs.Parts.{AreParts, AreNodes, no_more, passed_over, ends_there, goes_on}
-use Rattle.flatten.specs.Surveys.{LeadsTo, parts_at, Leads, Weight, weight_of, weight_over, Weighs, weighs}
+use Rattle.flatten.specs.Parts.{AreParts, AreNodes, no_more, passed_over, ends_there, goes_on, LeadsTo, parts_at, Leads}
+use Rattle.flatten.specs.Weights.{Weight, weight_of, weight_over, Weighs, weighs}
 use Rattle.flatten.specs.declared.part.Part.{Part}
 use Rattle.flatten.specs.declared.part.Part.TheVariants.{End, Copies}
 use Rattle.flatten.proofs.ListLaws.{Contains-none, Contains-head, Contains-tail, Contains-cons_cases}

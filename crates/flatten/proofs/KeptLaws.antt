@@ -1,6 +1,8 @@
 -- sums that stand still at a number
 use Rattle.std.proofs.Common.{ℕ, zero, suc, ◌+◌, ◌*◌, ◌≤◌, ◌≡◌, inl, inr, min, ap, ◌∙◌, arith}
 use Rattle.std.proofs.lemmas.Bool.{cases_lt}
+use Rattle.flatten.specs.Weights.{StandsFor, kept_of}
+use Rattle.flatten.specs.declared.limits.TheConstants.{MOST_POINTS}
 
 both_full : (a b most : ℕ) → most ≤ a → most ≤ b → min a most ≡ min b most
 both_full a b most h k = omega arith
@@ -17,16 +19,17 @@ kept_times (suc c) b most = elim (cases_lt most b) [
   | inr less ↦ let near : min b most ≡ b = omega arith in ap (λ x. min (suc c * x) most) near
 ]
 
-kept_sum : (a x y most : ℕ) → min x most ≡ min y most → min (min a most + x) most ≡ min (a + y) most
-kept_sum a x y most e = omega arith
+sum_kept : (a x y most : ℕ) → min x most ≡ min y most → min (min a most + x) most ≡ min (a + y) most
+sum_kept a x y most e = omega arith
 
-pub kept_more : (a b c most : ℕ) → min (min a most + c * min b most) most ≡ min (a + c * b) most
-kept_more a b c most = kept_sum a (c * min b most) (c * b) most (kept_times c b most)
+kept_more : (a b c most : ℕ) → min (min a most + c * min b most) most ≡ min (a + c * b) most
+kept_more a b c most = sum_kept a (c * min b most) (c * b) most (kept_times c b most)
 
--- what is kept of what is kept is the same
-module _ (sum part a b most : ℕ) (sum-is : sum ≡ min a most) (part-is : part ≡ min b most) where
-  pub kept_total : (copies : ℕ) → min (min sum most + copies * min part most) most ≡ min (a + copies * b) most
-  kept_total copies =
-      let s : min sum most ≡ min a most = omega arith in
-      let p : min part most ≡ min b most = omega arith in
-      ap (λ x. min (x + copies * min part most) most) s ∙ ap (λ x. min (min a most + copies * x) most) p ∙ kept_more a b copies most
+-- what is kept of a sum is the same whatever its parts stand for
+pub kept_total : (sum part a b : ℕ) → StandsFor sum a → StandsFor part b → (copies : ℕ) → kept_of (kept_of sum + copies * kept_of part) ≡ kept_of (a + copies * b)
+kept_total sum part a b for_a for_b copies =
+    ap (λ x. kept_of (x + copies * kept_of part)) for_a ∙ ap (λ x. kept_of (kept_of a + copies * x)) for_b ∙ kept_more a b copies (MOST_POINTS + 1)
+
+-- what is kept of a count stands for it
+pub stands_for : (number count : ℕ) → number ≡ kept_of count → StandsFor number count
+stands_for number count e = omega arith

@@ -3,8 +3,14 @@ pub mod RouteLaws
 pub mod NameLaws
 pub mod ChainLaws
 pub mod PlacingLaws
+pub mod PlacedLists
+pub mod CauseLaws
+pub mod ArrayLaws
+pub mod ListedRoutes
 pub mod LayerLaws
 pub mod MotionLaws
+pub mod StepLaws
+pub mod OneMotion
 pub mod FirstLaws
 pub mod PartLaws
 pub mod KeptLaws
@@ -18,3 +24,10 @@ pub mod ChoiceLaws
 pub mod TopLaws
 pub mod PlanLaws
 pub mod LimitLaws
+pub mod WayLaws
+pub mod RangeLaws
+pub mod PruningLaws
+pub mod ExpansionLaws
+pub mod GrowthLaws
+pub mod ShapeLaws
+pub mod PlacedLaws

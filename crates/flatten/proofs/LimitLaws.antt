@@ -13,8 +13,9 @@ use Rattle.gds_syntax.specs.declared.library.Structure.{Structure}
 use Rattle.layer_map.specs.LayerMap.{LayerMap}
 use Rattle.flatten.specs.Routes.{Route}
 use Rattle.flatten.specs.Parts.{AreNodes}
+use Rattle.flatten.specs.Weights.{Weight, Weighs, IsKept}
+use Rattle.flatten.specs.Surveys.{state_of}
 use Rattle.flatten.specs.Placements.{is_shallow, is_small, IsShallow, IsSmall, TopHolds, PlacingFrom, placed_routes}
-use Rattle.flatten.specs.Surveys.{Weight, Weighs, IsKept, state_of}
 use Rattle.flatten.specs.declared.part.Part.{Part}
 use Rattle.flatten.specs.declared.summary.Summary.{Summary}
 use Rattle.flatten.specs.declared.summary.State.{State}

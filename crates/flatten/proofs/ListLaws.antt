@@ -90,6 +90,17 @@ module _ {X : Type 0} where
     | inr behind ↦ let h' : k + 1 ≤ one.0 = numbers_from (k + 1) xs one behind in omega arith
   ]
 
+  -- what has a number is contained in the list
+  unnumbered_from : (k : ℕ) (xs : List X) (one : ℕ × X) → Contains (enumerate_from k xs) one → Contains xs one.1
+  unnumbered_from k [] one h = absurd (Contains-none one h)
+  unnumbered_from k (x ∷ xs) one h = elim (Contains-cons_cases (k, x) (enumerate_from (k + 1) xs) one h) [
+    | inl first ↦ subst (λ (o : ℕ × X). Contains (x ∷ xs) o.1) first (Contains-head x xs)
+    | inr behind ↦ Contains-tail x xs one.1 (unnumbered_from (k + 1) xs one behind)
+  ]
+
+  pub unnumbered : (xs : List X) (one : ℕ × X) → Contains (enumerate_from 0 xs) one → Contains xs one.1
+  unnumbered = unnumbered_from 0
+
   -- one number is that of one item
   pub numbered_alike : (k : ℕ) (xs : List X) (one other : ℕ × X) → Contains (enumerate_from k xs) one → Contains (enumerate_from k xs) other → one.0 ≡ other.0 → one ≡ other
   numbered_alike k [] one other h h' e = absurd (Contains-none one h)

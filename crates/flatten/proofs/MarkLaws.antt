@@ -9,7 +9,7 @@ use Rattle.std.specs.Global.{Global}
 use Rattle.std.specs.Option.{option_map_or}
 use Rattle.std.proofs.lemmas.Bool.{cases_lt}
 use Rattle.std.proofs.lemmas.Option.{slice_get_past}
-use Rattle.flatten.specs.Surveys.{LeadsTo, parts_at}
+use Rattle.flatten.specs.Parts.{LeadsTo, parts_at}
 use Rattle.std.specs.Prelude.{MatchOption, slice_get, Option, Some, None}
 use Rattle.std.specs.Option.{is_some}
 use Rattle.gds_syntax.specs.declared.library.Structure.{Structure}

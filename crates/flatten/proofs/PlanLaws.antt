@@ -10,9 +10,9 @@ use Rattle.gds_syntax.specs.Names.{NamesDiffer, names_of}
 use Rattle.gds_syntax.specs.declared.library.Structure.{Structure}
 use Rattle.layer_map.specs.LayerMap.{LayerMap}
 use Rattle.flatten.specs.Structures.{all_references}
-use Rattle.flatten.specs.Parts.{AreNodes, IsKnown}
+use Rattle.flatten.specs.Parts.{AreNodes, IsKnown, AreNodesBelow}
+use Rattle.flatten.specs.Surveys.{AreSettled, IsFirstEndless, state_of}
 use Rattle.flatten.specs.Placements.{Choosing}
-use Rattle.flatten.specs.Surveys.{AreNodesBelow, AreSettled, IsFirstEndless, state_of}
 use Rattle.flatten.specs.Plans.{AreSurveyed}
 use Rattle.flatten.specs.declared.part.Part.{Part}
 use Rattle.flatten.specs.declared.summary.Summary.{Summary}

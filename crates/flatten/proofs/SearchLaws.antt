@@ -18,7 +18,10 @@ use Rattle.flatten.specs.declared.part.Part.TheVariants.{Copies}
 use Rattle.flatten.specs.declared.summary.Summary.{Summary}
 use Rattle.flatten.specs.declared.summary.State.{State}
 use Rattle.flatten.specs.declared.summary.State.TheVariants.{New, Open, Done}
-use Rattle.flatten.specs.Surveys.{LeadsTo, parts_at, Leads, Weight, no_weight, weight_over, Weighs, weighs, IsKept, state_of, AreTrue, IsDoneBefore, AreWeighed, IsWay, IsSearch, AreSettled, KeepsDone, steps_left, steps_of_state}
+use Rattle.flatten.specs.Parts.{LeadsTo, parts_at, Leads}
+use Rattle.flatten.specs.Weights.{Weight, no_weight, weight_over, Weighs, weighs, IsKept}
+use Rattle.flatten.specs.Surveys.{state_of, AreTrue, AreWeighed, AreSettled, KeepsDone}
+use Rattle.flatten.specs.Searches.{IsDoneBefore, IsWay, IsSearch, steps_left, steps_of_state}
 use Rattle.flatten.proofs.ListLaws.{Contains-none, Contains-head, Contains-cons_cases}
 
 -- the parts that are read at a number

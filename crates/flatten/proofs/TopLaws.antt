@@ -15,9 +15,9 @@ use Rattle.layer_map.specs.LayerMap.{LayerMap}
 use Rattle.flatten.specs.Structures.{numbered, structure_named, references_of, all_references}
 use Rattle.flatten.specs.Tops.{IsUnnamed, IsNoOtherTop, HasTop}
 use Rattle.flatten.specs.Marks.{IsMarked, IsOnlyUnmarked, IsTopFault, all_marked, second_unmarked}
-use Rattle.flatten.specs.Parts.{AreNodes, IsKnown}
+use Rattle.flatten.specs.Parts.{AreNodes, IsKnown, LeadsTo, parts_at}
+use Rattle.flatten.specs.Weights.{Weight, Weighs}
 use Rattle.flatten.specs.Placements.{LibraryCheck, has_its_target, leads_to_no_cycle, has_top, is_no_other_top, LibraryHolds, library_checks, Choosing}
-use Rattle.flatten.specs.Surveys.{LeadsTo, parts_at, Weight, Weighs}
 use Rattle.flatten.specs.declared.part.Part.{Part}
 use Rattle.flatten.specs.declared.fault.PlaceFault.{PlaceFault}
 use Rattle.flatten.specs.declared.fault.PlaceFault.TheVariants.{NoTop}

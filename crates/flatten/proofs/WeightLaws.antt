@@ -8,7 +8,9 @@ use Rattle.gds_syntax.specs.declared.element.Reference.{Reference}
 use Rattle.flatten.specs.declared.part.Part.{Part}
 use Rattle.flatten.specs.declared.part.Part.TheVariants.{Copies}
 use Rattle.flatten.specs.declared.summary.State.{State}
-use Rattle.flatten.specs.Surveys.{Weight, no_weight, both_weights, weight_of, weight_over, AreBelow, AreWeighed}
+use Rattle.flatten.specs.Parts.{AreBelow}
+use Rattle.flatten.specs.Weights.{Weight, no_weight, both_weights, weight_of, weight_over}
+use Rattle.flatten.specs.Surveys.{AreWeighed}
 use Rattle.flatten.proofs.ListLaws.{Contains-none, Contains-cons_cases}
 
 -- equal numbers, equal weights

@@ -1,6 +1,8 @@
--- what is followed of structures: their shapes on mapped layers, and their references with the numbers of their targets
-use Rattle.std.specs.Prelude.{ℕ, List, [], ◌∷◌, ◌≡◌, false, Vec}
+-- What is followed of structures: their shapes on mapped layers, and their references with the numbers of their targets.
+-- Structures go by their numbers.
+use Rattle.std.specs.Prelude.{ℕ, zero, suc, List, [], ◌∷◌, ◌≡◌, ◌<◌, Contains, slice_get, false, Vec}
 use Rattle.std.specs.Borrow.{Bor}
+use Rattle.std.specs.Option.{option_map_or}
 use Rattle.std.specs.List.{enumerate_from, AllZip}
 use Rattle.std.specs.Global.{Global}
 use Rattle.gds_syntax.specs.Names.{StandsAt}
@@ -31,3 +33,24 @@ pub data AreParts (names : List (List ℕ)) (layer_map : LayerMap) : List (ℕ �
 -- these are the parts of each of the structures
 abbrev pub AreNodes : List (List ℕ) → LayerMap → List Structure → List (Vec Part Global) → Type 0
 AreNodes names layer_map = AllZip (λ structure parts. AreParts names layer_map (enumerate_from 0 structure.elements) parts.items)
+
+-- one of the parts is a reference to the structure with this number
+abbrev pub LeadsTo : List Part → ℕ → Type 0
+LeadsTo parts target = (reference : Bor Reference) × Contains parts (Copies reference target)
+
+-- the parts of the structure with this number
+abbrev pub parts_at : List (Vec Part Global) → ℕ → List Part
+parts_at nodes one = option_map_or (λ parts. parts.items) (slice_get nodes one) []
+
+-- a chain of this many references starts at the structure
+abbrev pub Leads : List (Vec Part Global) → ℕ → ℕ → Type 0
+Leads nodes zero one = Unit {0}
+Leads nodes (suc n) one = (other : ℕ) × LeadsTo (parts_at nodes one) other × Leads nodes n other
+
+-- the structures to which the parts refer are below this number
+abbrev pub AreBelow : ℕ → List Part → Type 0
+AreBelow count parts = (reference : Bor Reference) (target : ℕ) → Contains parts (Copies reference target) → target < count
+
+-- the structures to which all parts refer are below this number
+abbrev pub AreNodesBelow : ℕ → List (Vec Part Global) → Type 0
+AreNodesBelow count nodes = (one : ℕ) → AreBelow count (parts_at nodes one)

@@ -1,18 +1,25 @@
 -- what is known of a library before its shapes are placed
-use Rattle.std.specs.Prelude.{ℕ, List, ◌≡◌, ◌<◌, All, length, slice_get, Some, Option, Vec}
+use Rattle.std.specs.Prelude.{ℕ, List, ◌≡◌, ◌<◌, ◌^◌, All, length, slice_get, Some, Option, Vec}
 use Rattle.std.specs.Global.{Global}
 use Rattle.first_refusal.specs.Outcomes.{value}
-use Rattle.gds_syntax.specs.Names.{names_of}
+use Rattle.gds_syntax.specs.Names.{NamesDiffer, names_of}
 use Rattle.gds_syntax.specs.declared.library.Structure.{Structure}
 use Rattle.layer_map.specs.LayerMap.{LayerMap}
 use Rattle.flatten.specs.Structures.{all_references}
-use Rattle.flatten.specs.Parts.{AreNodes, IsKnown}
+use Rattle.flatten.specs.Parts.{AreNodes, IsKnown, AreNodesBelow}
+use Rattle.flatten.specs.Weights.{Weight, Weighs}
+use Rattle.flatten.specs.Surveys.{AreSettled, state_of}
 use Rattle.flatten.specs.Placements.{Choosing}
-use Rattle.flatten.specs.Surveys.{AreNodesBelow, AreSettled, Weight, Weighs, state_of}
 use Rattle.flatten.specs.declared.plan.Plan.{Plan}
 use Rattle.flatten.specs.declared.summary.Summary.{Summary}
 use Rattle.flatten.specs.declared.summary.State.TheVariants.{Done}
 use Rattle.flatten.specs.declared.part.Part.{Part}
+
+-- The index has the names of the structures, in their order. They differ, and there are no more of them than 32 bits number.
+pub record AreIndexed (structures : List Structure) (index : List (List ℕ)) : Type 0 where
+  pub names : index ≡ names_of structures
+  pub differ : NamesDiffer (names_of structures)
+  pub few : length structures < 2 ^ 32
 
 -- these are the parts of the structures, each reference names one of them, and each has a weight
 pub record AreSurveyed (structures : List Structure) (layer_map : LayerMap) (nodes : List (Vec Part Global)) : Type 0 where
@@ -31,3 +38,9 @@ pub record IsPlan (structures : List Structure) (layer_map : LayerMap) (wanted :
   pub settled : AreSettled plan.nodes.items plan.states.items
   pub done : (one : ℕ) → one < length structures → (summary : Summary) × (state_of plan.states.items one ≡ Done summary)
   pub chosen : IsChosen structures wanted plan.top
+
+-- the plan is one of this library, whatever top was wanted; the names of the library's structures differ
+pub record IsPlanOf (structures : List Structure) (layer_map : LayerMap) (plan : Plan) : Type 0 where
+  pub differ : NamesDiffer (names_of structures)
+  pub wanted : Option (List ℕ)
+  pub planned : IsPlan structures layer_map wanted plan

@@ -2,10 +2,13 @@
 //! the map, and each placed shape gets one turn and one shift. References and their turns are those of SREF and AREF in
 //! the GDSII Stream Format Manual, Release 6.0.
 //!
-//! So far the crate has what comes before the placing: the definitions and their laws, the motions of steps, and the checks of a
-//! library's names, cycles and top, and of the depth and the counts of what the top places.
+//! `place` works in three steps. A plan is made of the library: for each structure its shapes on mapped layers and its
+//! references, how long its longest chain of references is, and how many shapes and points it places (`plan`, `survey`).
+//! By these numbers the top is refused or not (`size`). Then the plan is followed from the top down, each reference as often
+//! as it makes copies, with one motion for all steps so far (`expansion`, `way`, `motion`).
 #![tactic(auto)]
 
+mod expansion;
 pub mod fault;
 pub mod laws;
 pub mod limits;
@@ -15,14 +18,19 @@ mod offset;
 mod part;
 mod parts;
 pub mod placed;
+pub mod placing;
 mod plan;
+mod pruning;
+mod ranges;
 mod search;
 mod size;
 mod summary;
 mod summing;
 mod survey;
 mod tops;
+mod way;
 
 pub use fault::PlaceFault;
 pub use motion::Motion;
 pub use placed::Placed;
+pub use placing::place;

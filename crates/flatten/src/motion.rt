@@ -54,7 +54,7 @@ impl Motion {
         ensures moves { (p : PlanePoint) → image_by result p ≡ image_by self (image_by inner p) }
         ensures reach { (steps : ℕ) → ShiftsAtMost steps self → ShiftsAtMost (suc steps) result }
     {
-        let (across, up) = turned_shift(self.turn, inner.dx, inner.dy);
+        let (across, up) = turned(self.turn, inner.dx, inner.dy);
         Motion {
             turn: after(self.turn, inner.turn),
             dx: both_shifts(across, self.dx),
@@ -67,16 +67,16 @@ ghost use Rattle.std.specs.Prelude.{◌≡◌, ◌≤◌, ◌<◌, ◌^◌, nat_
 ghost use Rattle.geo_core.specs.Turns.{image_under};
 ghost use Rattle.flatten.specs.Steps.{lattice_shift};
 
-/// The shift of a step, turned.
-fn turned_shift(turn: Turn, dx: i64, dy: i64) -> (i64, i64)
-    requires short { nat_abs dx ≤ 2 ^ 49 }
-    requires low { nat_abs dy ≤ 2 ^ 49 }
-    ensures across { result.0 ≡ (image_under turn (record { x = dx; y = dy })).x }
-    ensures up { result.1 ≡ (image_under turn (record { x = dx; y = dy })).y }
+/// The point `(x, y)`, turned: a turn takes it no farther from the axes than it was from either.
+pub fn turned(turn: Turn, x: i64, y: i64) -> (i64, i64)
+    requires across { nat_abs x ≤ 2 ^ 49 }
+    requires up { nat_abs y ≤ 2 ^ 49 }
+    ensures across { result.0 ≡ (image_under turn (record { x = x; y = y })).x }
+    ensures up { result.1 ≡ (image_under turn (record { x = x; y = y })).y }
     ensures across_amount { nat_abs result.0 ≤ 2 ^ 49 }
     ensures up_amount { nat_abs result.1 ≤ 2 ^ 49 }
 {
-    turn_point(turn, dx, dy)
+    turn_point(turn, x, y)
 }
 
 /// How far the copy in this column and row lies from the first, across and up.

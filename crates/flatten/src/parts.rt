@@ -17,7 +17,7 @@ fn part_of<'a>(
     number: u32,
     element: &'a Element,
     map: &Map,
-    index: &NameIndex,
+    index: &NameIndex<'_>,
 ) -> Result<Option<Part<'a>>, PlaceFault>
     ensures part { IfOk result (λ part. AreParts index.now (layer_map_of map.now) ((number, element.now) ∷ []) (option_to_list part)) }
     ensures known { IfOk result (λ part. All (IsKnown index.now) (references_in element.now)) }
@@ -45,7 +45,7 @@ pub fn parts_of<'a>(
     alloc: Global,
     structure: &'a Structure,
     map: &Map,
-    index: &NameIndex,
+    index: &NameIndex<'_>,
 ) -> Result<Vec<Part<'a>>, PlaceFault>
     ensures parts { IfOk result (λ parts.
         AreParts index.now (layer_map_of map.now) (enumerate_from 0 structure.now.elements) parts.items) }
@@ -73,7 +73,7 @@ pub fn nodes_of<'a>(
     alloc: Global,
     structures: &'a [Structure],
     map: &Map,
-    index: &NameIndex,
+    index: &NameIndex<'_>,
 ) -> Result<Vec<Vec<Part<'a>>>, PlaceFault>
     ensures nodes { IfOk result (λ nodes. AreNodes index.now (layer_map_of map.now) structures.now nodes.items) }
     ensures known { IfOk result (λ nodes. All (IsKnown index.now) (all_references structures.now)) }

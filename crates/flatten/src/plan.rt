@@ -4,7 +4,7 @@ ghost use Rattle.layer_map.specs.LayerMap.{LayerMap};
 ghost use Rattle.layer_map.specs.MapView.{layer_map_of};
 ghost use Rattle.first_refusal.specs.Outcomes.{refused};
 ghost use Rattle.flatten.specs.Placements.{Choosing};
-ghost use Rattle.flatten.specs.Plans.{AreSurveyed, IsChosen, IsPlan};
+ghost use Rattle.flatten.specs.Plans.{AreIndexed, AreSurveyed, IsChosen, IsPlan};
 ghost use Rattle.flatten.specs.declared.fault.PlaceFault.TheVariants.{Memory};
 
 use super::fault::PlaceFault;
@@ -23,12 +23,10 @@ fn top_of(
     alloc: Global,
     structures: &[Structure],
     nodes: &[Vec<Part<'_>>],
-    index: &NameIndex,
+    index: &NameIndex<'_>,
     wanted: Option<&[u8]>,
 ) -> Result<u32, PlaceFault>
-    requires differ { NamesDiffer (names_of structures.now) }
-    requires few { length structures.now < 2 ^ 32 }
-    requires index { index.now ≡ names_of structures.now }
+    requires indexed { AreIndexed structures.now index.now }
     requires surveyed { (layer_map : LayerMap) × AreSurveyed structures.now layer_map nodes.now }
     ensures chosen { IfOk result (λ top. IsChosen structures.now (option_copied wanted.entry) top) }
     ensures refused { IfErr result (λ fault. fault ≢ Memory → Choosing structures.now (option_copied wanted.entry) (refused fault)) }
@@ -46,6 +44,7 @@ fn top_of(
 }
 
 /// What is known of a library before its shapes are placed.
+#[derive(Drop)]
 pub struct Plan<'a> {
     /// The parts of each structure.
     pub nodes: Vec<Vec<Part<'a>>>,
@@ -60,12 +59,10 @@ fn plan_with<'a>(
     alloc: Global,
     structures: &'a [Structure],
     map: &Map,
-    index: &NameIndex,
+    index: &NameIndex<'_>,
     wanted: Option<&[u8]>,
 ) -> Result<Plan<'a>, PlaceFault>
-    requires differ { NamesDiffer (names_of structures.now) }
-    requires few { length structures.now < 2 ^ 32 }
-    requires index { index.now ≡ names_of structures.now }
+    requires { AreIndexed structures.now index.now }
     ensures planned { IfOk result (λ plan. IsPlan structures.now (layer_map_of map.now) (option_copied wanted.entry) plan) }
     ensures refused { IfErr result (λ fault. fault ≢ Memory → Choosing structures.now (option_copied wanted.entry) (refused fault)) }
 {

@@ -1,10 +1,9 @@
-ghost use Rattle.std.specs.Prelude.{ℕ, [], ◌∷◌, ◌≡◌, List, Option, All, IfOk, IfErr, Some, slice_get};
-ghost use Rattle.gds_syntax.specs.Names.{NamesDiffer, names_of};
+ghost use Rattle.std.specs.Prelude.{ℕ, [], ◌∷◌, ◌≡◌, All, IfOk, IfErr, Some, slice_get};
 ghost use Rattle.gds_syntax.specs.declared.library.Structure.{Structure};
 ghost use Rattle.layer_map.specs.LayerMap.{LayerMap};
 ghost use Rattle.first_refusal.specs.Outcomes.{refused};
 ghost use Rattle.flatten.specs.Placements.{PlacingFrom, TopHolds, is_shallow, is_small, placed_routes};
-ghost use Rattle.flatten.specs.Plans.{IsPlan};
+ghost use Rattle.flatten.specs.Plans.{IsPlanOf};
 
 use super::fault::PlaceFault;
 use super::limits::{MOST_POINTS, MOST_SHAPES, MOST_STEPS};
@@ -14,13 +13,12 @@ use gds_syntax::Structure;
 
 /// Checks how deep the top is, and how much it places, before anything is placed.
 pub fn check_size(structures: &[Structure], plan: &Plan<'_>) -> Result<(), PlaceFault>
-    requires differ { NamesDiffer (names_of structures.now) }
-    requires planned { (layer_map : LayerMap) × (wanted : Option (List ℕ)) × IsPlan structures.now layer_map wanted plan.now }
-    ensures kept { (layer_map : LayerMap) (wanted : Option (List ℕ)) (top : Structure) → IsPlan structures.now layer_map wanted plan.now →
-        slice_get structures.now plan.now.top ≡ Some top →
+    requires { (layer_map : LayerMap) × IsPlanOf structures.now layer_map plan.now }
+    ensures kept { (layer_map : LayerMap) (top : Structure) →
+        IsPlanOf structures.now layer_map plan.now → slice_get structures.now plan.now.top ≡ Some top →
         IfOk result (λ _. All (TopHolds structures.now (plan.now.top, top) (placed_routes structures.now layer_map (plan.now.top, top))) (is_shallow ∷ is_small ∷ [])) }
-    ensures refused { (layer_map : LayerMap) (wanted : Option (List ℕ)) (top : Structure) → IsPlan structures.now layer_map wanted plan.now →
-        slice_get structures.now plan.now.top ≡ Some top →
+    ensures refused { (layer_map : LayerMap) (top : Structure) →
+        IsPlanOf structures.now layer_map plan.now → slice_get structures.now plan.now.top ≡ Some top →
         IfErr result (λ fault. PlacingFrom structures.now (plan.now.top, top) (placed_routes structures.now layer_map (plan.now.top, top)) (refused fault)) }
 {
     let at = structures[plan.top as usize].at;

@@ -1,5 +1,7 @@
-ghost use Rattle.std.specs.Prelude.{ℕ, [], ◌∷◌, ◌+◌, ◌≡◌, ◌≤◌, ◌<◌, ◌*◌, ◌^◌, min, length};
-ghost use Rattle.flatten.specs.Surveys.{Weight, AreBelow, AreWeighed, IsKept, both_weights, copies_of, no_weight, weight_of, times_weight, weight_over};
+ghost use Rattle.std.specs.Prelude.{ℕ, [], ◌∷◌, ◌+◌, ◌≡◌, ◌≤◌, ◌<◌, ◌*◌, ◌^◌, length};
+ghost use Rattle.flatten.specs.Parts.{AreBelow};
+ghost use Rattle.flatten.specs.Weights.{Weight, IsKept, StandsFor, both_weights, copies_of, kept_of, no_weight, weight_of, times_weight, weight_over};
+ghost use Rattle.flatten.specs.Surveys.{AreWeighed};
 
 use super::limits::{MOST_POINTS, MOST_STEPS};
 use super::part::Part;
@@ -17,10 +19,11 @@ fn copies(reference: &Reference) -> u64
     }
 }
 
-/// A sum with so many times a count. It stands still at the first number that is too great for points and for shapes.
+/// What is kept of a sum: of one count, and so many times another. It is the sum itself, up to the first number that is too
+/// great for points and for shapes, and not more than that, whatever counts `sum` and `count` stand for.
 fn kept_sum(sum: u64, copies: u64, count: u64) -> u64
     requires { copies < 2 ^ 30 }
-    ensures { result ≡ min (min sum 8000001 + copies * min count 8000001) 8000001 }
+    ensures { (one other : ℕ) → StandsFor sum one → StandsFor count other → result ≡ kept_of (one + copies * other) }
 {
     let most = MOST_POINTS + 1;
     (sum.min(most) + copies * count.min(most)).min(most)

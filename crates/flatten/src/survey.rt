@@ -1,6 +1,7 @@
 ghost use Rattle.std.specs.Prelude.{ℕ, ◌≡◌, ◌≢◌, ◌<◌, ◌^◌, length, IfOk, IfErr};
 ghost use Rattle.std.specs.Bool.{OnTrue, OnFalse};
-ghost use Rattle.flatten.specs.Surveys.{AreNodesBelow, AreSettled, IsFirstEndless, KeepsDone, Leads, state_of};
+ghost use Rattle.flatten.specs.Parts.{AreNodesBelow, Leads};
+ghost use Rattle.flatten.specs.Surveys.{AreSettled, IsFirstEndless, KeepsDone, state_of};
 ghost use Rattle.flatten.specs.declared.summary.Summary.{Summary};
 ghost use Rattle.flatten.specs.declared.summary.State.TheVariants.{Done};
 ghost use Rattle.flatten.specs.declared.fault.PlaceFault.TheVariants.{Memory};

@@ -1,12 +1,12 @@
 -- what the checks of an array come to
 use Rattle.std.proofs.Common.{◌≡◌, refl, subst, ℕ, ℤ, pos, ◌≤ℤ◌, List, [], ◌∷◌}
+use Rattle.std.specs.Prelude.{All}
 use Rattle.std.proofs.lemmas.List.Elements.{All-nil, All-cons}
 use Rattle.first_refusal.proofs.CheckLaws.{fails_at_once, fails_later}
 use Rattle.geo_core.specs.declared.plane.Point.{Point}
 use Rattle.gds_records.specs.Spelling.{Entry}
-use Rattle.gds_syntax.specs.ElementChecks.{ElementCheck, ElementHolds, has_columns_and_rows, has_whole_steps}
+use Rattle.gds_syntax.specs.ElementChecks.{ElementCheck, ElementHolds, IsFaultOfFirst, array_checks, has_columns_and_rows, has_whole_steps}
 use Rattle.gds_syntax.specs.OwnRecords.{columns_of, rows_of, Leads, HasSteps}
-use Rattle.gds_syntax.specs.SharedChecks.{AllHold, IsFaultOfFirst, array_checks}
 use Rattle.gds_syntax.specs.declared.fault.SyntaxFault.TheVariants.{EmptyArray, UnevenArray}
 
 -- steps between the same points
@@ -17,22 +17,22 @@ leads_alike count told_count from told_from to told_to step is_count is_from is_
 
 module _ (own : List Entry) where
   pub array_checks_hold : (column_step row_step : ℤ × ℤ) → pos 1 ≤ℤ columns_of own → pos 1 ≤ℤ rows_of own → HasSteps own column_step row_step
-      → AllHold own array_checks
-  array_checks_hold column_step row_step columns rows steps form =
-      let Holds : ElementCheck → Type 0 = ElementHolds form own in
+      → All (ElementHolds own) array_checks
+  array_checks_hold column_step row_step columns rows steps =
+      let Holds : ElementCheck → Type 0 = ElementHolds own in
       All-cons Holds has_columns_and_rows (has_whole_steps ∷ []) (columns, rows)
       (All-cons Holds has_whole_steps [] (column_step, row_step, steps) (All-nil Holds))
 
   module _ (at : ℕ) where
     pub fault_where_empty : ((pos 1 ≤ℤ columns_of own) × (pos 1 ≤ℤ rows_of own) → ⊥) → IsFaultOfFirst at own array_checks (EmptyArray at)
-    fault_where_empty none form =
-        record { check = has_columns_and_rows; is_first = fails_at_once (ElementHolds form own) has_columns_and_rows _ none; is_its_refusal = refl }
+    fault_where_empty none =
+        record { check = has_columns_and_rows; is_first = fails_at_once (ElementHolds own) has_columns_and_rows _ none; is_its_refusal = refl }
 
     pub fault_where_uneven : pos 1 ≤ℤ columns_of own → pos 1 ≤ℤ rows_of own → ((column_step row_step : ℤ × ℤ) → HasSteps own column_step row_step → ⊥)
         → IsFaultOfFirst at own array_checks (UnevenArray at)
-    fault_where_uneven columns rows none form = record {
+    fault_where_uneven columns rows none = record {
       check = has_whole_steps;
-      is_first = fails_later (ElementHolds form own) has_columns_and_rows _ has_whole_steps (columns, rows)
-          (fails_at_once (ElementHolds form own) has_whole_steps [] (λ (column_step, row_step, steps). none column_step row_step steps));
+      is_first = fails_later (ElementHolds own) has_columns_and_rows _ has_whole_steps (columns, rows)
+          (fails_at_once (ElementHolds own) has_whole_steps [] (λ (column_step, row_step, steps). none column_step row_step steps));
       is_its_refusal = refl;
     }

@@ -50,12 +50,12 @@ module _ (own : List Entry) (needed : List ℕ) where
 
   -- the records that were looked for are those that the element needs
   module _ (form : ElementForm) (same : needed ≡ form.required) where
-    pub needed_are_there : (i : ℕ) → length needed ≤ i → All (Contains (kinds_of own)) (take i needed) → All (ElementHolds form own) (map has form.required)
+    pub needed_are_there : (i : ℕ) → length needed ≤ i → All (Contains (kinds_of own)) (take i needed) → All (ElementHolds own) (map has form.required)
     needed_are_there i whole all =
-        All-map (ElementHolds form own) has form.required (subst (All (Contains (kinds_of own))) (take_all i needed whole ∙ same) all)
+        All-map (ElementHolds own) has form.required (subst (All (Contains (kinds_of own))) (take_all i needed whole ∙ same) all)
 
     pub first_missing : (at i : ℕ) → i < length needed → All (Contains (kinds_of own)) (take i needed) → (Contains (kinds_of own) (get_or needed i 0) → ⊥)
-        → IsRefusalOfFirst (ElementHolds form own) (map has form.required) (element_fault at) (Missing at (get_or needed i 0))
+        → IsRefusalOfFirst (ElementHolds own) (map has form.required) (element_fault at) (Missing at (get_or needed i 0))
     first_missing at i within all none = record {
       check = has (get_or needed i 0);
       is_first = record {
@@ -63,7 +63,7 @@ module _ (own : List Entry) (needed : List ℕ) where
         after = map has (drop (i + 1) needed);
         parts = ap (map has) (sym same ∙ sym (take-append-drop i needed) ∙ ap (λ xs. take i needed ++ xs) (drop_more needed i 0 within))
             ∙ map-append has (take i needed) (get_or needed i 0 ∷ drop (i + 1) needed);
-        all_before = All-map (ElementHolds form own) has (take i needed) all;
+        all_before = All-map (ElementHolds own) has (take i needed) all;
         fails = none;
       };
       is_its_refusal = refl;

@@ -24,12 +24,12 @@ use Rattle.gds_syntax.proofs.PlaceRuns.{begins_property, ends_element}
 use Rattle.gds_syntax.proofs.ReaderLaws.{Advances-append, IsAt-snoc, Takes-append}
 
 -- where the checks of an element hold it has no fault
-sound_has_no_fault : (at : ℕ) (form : ElementForm) (own : List Entry) (fault : SyntaxFault) → All (ElementHolds form own) (element_checks form) → IsElementFault at form own fault → ⊥
-sound_has_no_fault at form own fault all fails = none_fails (ElementHolds form own) (element_checks form) all fails.check fails.is_first
+sound_has_no_fault : (at : ℕ) (form : ElementForm) (own : List Entry) (fault : SyntaxFault) → All (ElementHolds own) (element_checks form) → IsElementFault at form own fault → ⊥
+sound_has_no_fault at form own fault all fails = none_fails (ElementHolds own) (element_checks form) all fails.check fails.is_first
 
 -- the record that ends the own records of a sound element shows no fault
 closing_is_quiet : (before own : List Entry) (form : ElementForm) (e : Entry) (to : Place) (fault : SyntaxFault) → place_behind before_header (kinds_of (before ++ own)) ≡ Some (among_own form (kinds_of own))
-    → next_place (among_own form (kinds_of own)) e.kind ≡ Some to → e.kind ≢ kind.strname → All (ElementHolds form own) (element_checks form) → Shows (before ++ own) e fault → ⊥
+    → next_place (among_own form (kinds_of own)) e.kind ≡ Some to → e.kind ≢ kind.strname → All (ElementHolds own) (element_checks form) → Shows (before ++ own) e fault → ⊥
 closing_is_quiet before own form e to fault here next other sound (may_not_stand may_not) = may_not (may_stand (kinds_of (before ++ own)) e.kind (among_own form (kinds_of own)) to here next)
 closing_is_quiet before own form e to fault here next other sound (repeats may names is_text in_before) = other names
 closing_is_quiet before own form e to fault here next other sound (is_faulty {at = at} {form = other_form} {own = other_own} may ends fails) =
@@ -38,7 +38,7 @@ closing_is_quiet before own form e to fault here next other sound (is_faulty {at
 
 -- a reader goes on by that record
 pub closing_further : (old new : Reading) (form : ElementForm) (own : List Entry) (closing : Record) (to : Place) → ReadsOwnSoFar old new form own closing
-    → next_place (among_own form (kinds_of own)) closing.kind ≡ Some to → closing.kind ≢ kind.strname → All (ElementHolds form own) (element_checks form) → (names : List (List ℕ))
+    → next_place (among_own form (kinds_of own)) closing.kind ≡ Some to → closing.kind ≢ kind.strname → All (ElementHolds own) (element_checks form) → (names : List (List ℕ))
     → Advances old new (standing (among_own form []) names) (standing to names) (own ++ entry_of closing ∷ [])
 closing_further old new form own closing to so_far next other sound names =
     let front = so_far.advances names in
@@ -80,7 +80,7 @@ element_stops old new form own closing opening fault opens reads fails earlier n
 
 -- an element without properties
 pub plain_element : (old new : Reading) (form : ElementForm) (own : List Entry) (closing opening : Record) (kept : Option Element) → Opens opening.kind form → ReadsOwn old new form own closing
-    → closing.kind ≢ kind.propattr → All (ElementHolds form own) (element_checks form) → IsKept opening.at own form.opening kept → IfSome kept IsWellPointed → ReadsElement old new opening form kept
+    → closing.kind ≢ kind.propattr → All (ElementHolds own) (element_checks form) → IsKept opening.at own form.opening kept → IfSome kept IsWellPointed → ReadsElement old new opening form kept
 plain_element old new form own closing opening kept opens reads no_attribute sound keeps pointed =
     let is_end : closing.kind ≡ kind.endel = elim reads.ends [ inl attribute ↦ absurd (no_attribute attribute) | inr end ↦ end ] in
     let next : next_place (among_own form (kinds_of own)) closing.kind ≡ Some between_elements = ap (next_place (among_own form (kinds_of own))) is_end ∙ ends_element (kinds_of own) form opens.listed in
@@ -106,7 +106,7 @@ plain_element old new form own closing opening kept opens reads no_attribute sou
 
 -- PROPATTR leads to the properties
 pub opens_properties : (old mid : Reading) (form : ElementForm) (own : List Entry) (closing opening : Record) → Opens opening.kind form → ReadsOwn old mid form own closing
-    → closing.kind ≡ kind.propattr → All (ElementHolds form own) (element_checks form) → (names : List (List ℕ))
+    → closing.kind ≡ kind.propattr → All (ElementHolds own) (element_checks form) → (names : List (List ℕ))
     → Advances old mid (standing (among_own form []) names) (standing behind_attribute names) (own ++ entry_of closing ∷ [])
 opens_properties old mid form own closing opening opens reads is_attribute sound =
     let next : next_place (among_own form (kinds_of own)) closing.kind ≡ Some behind_attribute = ap (next_place (among_own form (kinds_of own))) is_attribute ∙ begins_property (kinds_of own) form opens.listed in
@@ -114,7 +114,7 @@ opens_properties old mid form own closing opening opens reads is_attribute sound
 
 -- an element with properties
 pub element_with_properties : (old mid new : Reading) (form : ElementForm) (own : List Entry) (closing opening : Record) (kept : Option Element) → Opens opening.kind form → ReadsOwn old mid form own closing
-    → closing.kind ≡ kind.propattr → ReadsProperties mid new → All (ElementHolds form own) (element_checks form) → IsKept opening.at own form.opening kept → IfSome kept IsWellPointed → ReadsElement old new opening form kept
+    → closing.kind ≡ kind.propattr → ReadsProperties mid new → All (ElementHolds own) (element_checks form) → IsKept opening.at own form.opening kept → IfSome kept IsWellPointed → ReadsElement old new opening form kept
 element_with_properties old mid new form own closing opening kept opens reads is_attribute rest sound keeps pointed =
     let properties : List Entry = entry_of closing ∷ rest.text ∷ rest.properties in
     record {

@@ -53,7 +53,7 @@ own_records_agree before e at at' form form' own own' may a b =
 element_faults_agree : (at at' : ℕ) (form form' : ElementForm) (own own' : List Entry) (fault other : SyntaxFault) → OneElement at at' form form' own own'
     → IsElementFault at form own fault → IsElementFault at' form' own' other → fault ≡ other
 element_faults_agree at at' form form' own own' fault other same a b =
-    first_refusals_agree (ElementHolds form own) (element_checks form) (element_fault at) fault other a
+    first_refusals_agree (ElementHolds own) (element_checks form) (element_fault at) fault other a
     (subst (λ (n : ℕ). IsElementFault n form own other) (sym same.places)
     (subst (λ (f : ElementForm). IsElementFault at' f own other) (sym same.forms)
     (subst (λ (o : List Entry). IsElementFault at' form' o other) (sym same.owns) b)))

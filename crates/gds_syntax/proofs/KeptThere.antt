@@ -65,8 +65,8 @@ quarters_of (negsuc (suc (suc zero))) back front = (1, omega arith, (negsuc 0, r
 quarters_of (negsuc (suc (suc (suc zero)))) back front = (0, omega arith, (negsuc 0, refl))
 quarters_of (negsuc (suc (suc (suc (suc n))))) back front = absurd (omega (arith, ints))
 
-turn_there : (form : ElementForm) (own : List Entry) → ElementHolds form own turns_by_quarters → (turn : Turn) × IsTurn own turn
-turn_there form own (quarters, has, back, front) =
+turn_there : (own : List Entry) → ElementHolds own turns_by_quarters → (turn : Turn) × IsTurn own turn
+turn_there own (quarters, has, back, front) =
     let few = quarters_of quarters back front in (
       record { reflect = unsigned_of kind.strans own / 2 ^ 15 == 1; quarters = few.0; whole = few.1 },
       record { mirrors = Decides-eqb (unsigned_of kind.strans own / 2 ^ 15) 1; circles = few.2.0; turns = subst (HasQuarters own) few.2.1 has },
@@ -97,9 +97,9 @@ step_fits n count from to step some is from_fits to_fits leads = record {
   up = step_is_near n from.y to.y step.1 some from_fits.up to_fits.up (ap (λ (k : ℤ). from.y +ℤ (k *ℤ step.1)) is ∙ leads.up);
 }
 
-lattice_there : (form : ElementForm) (own : List Entry) → HaveBytes own → ElementHolds form own has_columns_and_rows → ElementHolds form own has_whole_steps
+lattice_there : (own : List Entry) → HaveBytes own → ElementHolds own has_columns_and_rows → ElementHolds own has_whole_steps
     → (lattice : Lattice) × IsLattice own lattice
-lattice_there form own have (some_columns, some_rows) (column_step, row_step, steps) =
+lattice_there own have (some_columns, some_rows) (column_step, row_step, steps) =
     let columns = count_there (columns_of own) (columns_fit own have) some_columns in
     let rows = count_there (rows_of own) (rows_fit own have) some_rows in
     let first = point_fits own have 0 in (
@@ -141,7 +141,7 @@ reference_there at own turn lattice have is_turn =
 
 -- Something is kept of an element of this form.
 abbrev pub Keeps : ℕ → List Entry → ElementForm → Type 0
-Keeps at own form = All (ElementHolds form own) (element_checks form) → (kept : Option Element) × IsKept at own form.opening kept
+Keeps at own form = All (ElementHolds own) (element_checks form) → (kept : Option Element) × IsKept at own form.opening kept
 
 module _ (at : ℕ) (own : List Entry) (have : HaveBytes own) where
   keeps_boundary : Keeps at own boundary_form
@@ -155,21 +155,21 @@ module _ (at : ℕ) (own : List Entry) (have : HaveBytes own) where
 
   keeps_sref : Keeps at own sref_form
   keeps_sref all =
-      let turns : ElementHolds sref_form own turns_by_quarters =
-      All-contains (ElementHolds sref_form own) (element_checks sref_form) turns_by_quarters all (5, omega arith, refl)
+      let turns : ElementHolds own turns_by_quarters =
+      All-contains (ElementHolds own) (element_checks sref_form) turns_by_quarters all (5, omega arith, refl)
       in
-      let turn = turn_there sref_form own turns in
+      let turn = turn_there own turns in
       let reference = reference_there at own turn.0 None have turn.1 in
       (Some (reference_element reference.0), sref reference.1 reference.2)
 
   keeps_aref : Keeps at own aref_form
   keeps_aref all =
-      let Holds : ElementCheck → Type 0 = ElementHolds aref_form own in
+      let Holds : ElementCheck → Type 0 = ElementHolds own in
       let turns : Holds turns_by_quarters = All-contains Holds (element_checks aref_form) turns_by_quarters all (6, omega arith, refl) in
       let some : Holds has_columns_and_rows = All-contains Holds (element_checks aref_form) has_columns_and_rows all (7, omega arith, refl) in
       let steps : Holds has_whole_steps = All-contains Holds (element_checks aref_form) has_whole_steps all (8, omega arith, refl) in
-      let turn = turn_there aref_form own turns in
-      let lattice = lattice_there aref_form own have some steps in
+      let turn = turn_there own turns in
+      let lattice = lattice_there own have some steps in
       let reference = reference_there at own turn.0 (Some lattice.0) have turn.1 in
       (Some (reference_element reference.0), aref reference.1 reference.2 lattice.1)
 

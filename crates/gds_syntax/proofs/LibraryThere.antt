@@ -53,10 +53,10 @@ module _ (stream : List Entry) (shape : IsInShape (kinds_of stream)) (none : Non
   -- it cannot be that not all checks of an element hold: its first PROPATTR or its ENDEL would show the fault of the first that fails
   checks_cannot_fail : (before own after : List Entry) (opening e : Entry) (form : ElementForm) → stream ≡ before ++ opening ∷ (own ++ e ∷ after)
       → Opens opening.kind form → All (λ o. Contains (own_kinds form) o.kind) own → (e.kind ≡ kind.propattr) ⊎ (e.kind ≡ kind.endel)
-      → (All (ElementHolds form own) (element_checks form) → ⊥) → ⊥
+      → (All (ElementHolds own) (element_checks form) → ⊥) → ⊥
   checks_cannot_fail before own after opening e form parts opens are_own ends not_all =
       let apart : stream ≡ (before ++ opening ∷ own) ++ e ∷ after = parts ∙ sym (append_assoc before (opening ∷ own) (e ∷ after)) in
-      cannot_lack_both (ElementHolds form own) (element_checks form) not_all
+      cannot_lack_both (ElementHolds own) (element_checks form) not_all
       (λ check fails. none (before ++ opening ∷ own) after e (element_fault (behind 0 before) check) apart
       (is_faulty (may_stand (before ++ opening ∷ own) e after apart)
       (record { ends = ends; earlier = before; opening = opening; parts = refl; opens = opens; are_own = are_own; place = refl })

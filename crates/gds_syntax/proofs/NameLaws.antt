@@ -1,5 +1,5 @@
 -- Names by their places, as a test of names finds them.
-use Rattle.std.proofs.Common.{◌≡◌, ◌≢◌, ◌↔◌, ℕ, ◌<◌, ◌+◌, Bool, true, false, cond, ◌||◌, not, nat_eq, List, [], ◌∷◌, ◌++◌, map, length, get_or, Option, Some, None, Contains, IsTrue, take, position, inl, inr, if◌then◌else◌, refl, sym, ap, subst, ◌∙◌, true≢false, arith}
+use Rattle.std.proofs.Common.{◌≡◌, ◌≢◌, ◌↔◌, ℕ, ◌<◌, ◌≤◌, ◌+◌, Bool, true, false, cond, ◌||◌, not, nat_eq, List, [], ◌∷◌, ◌++◌, map, length, get_or, Option, Some, None, Contains, IsTrue, take, position, inl, inr, if◌then◌else◌, refl, sym, ap, subst, ◌∙◌, true≢false, arith}
 use Rattle.std.specs.Cmp.Lexicographic.{pointwise, bytes_decides, nat_list_eq_equiv}
 use Rattle.std.specs.List.{list_any, prefix_len}
 use Rattle.std.proofs.lemmas.List.{get_or-map, get_or-take, length-append, length-map, length-take-le, map-append, take_more}
@@ -87,19 +87,49 @@ module _ {V : Type 0} (text : V → List ℕ) (name : List ℕ) (owners : List V
   pub is_not_there : list_any (λ v. is_name name (text v)) owners ≡ false → Contains (map text owners) name → ⊥
   is_not_there none = name_not_found name (map text owners) (sym (list_any-texts text (is_name name) owners) ∙ none)
 
-  -- an owner of the name is put last where none has it
-  module _ (owner : V) (new : List V) (owns : text owner ≡ name) (none : list_any (λ v. is_name name (text v)) owners ≡ false)
+  -- An owner of the name is put last unless there is one already, and the answer is whether it was put there.
+  module _ (owner : V) (new : List V) (is_new : Bool) (owns : text owner ≡ name) (answer : is_new ≡ not (list_any (λ v. is_name (text owner) (text v)) owners))
       (put : new ≡ (if list_any (λ v. is_name (text owner) (text v)) owners then owners else owners ++ owner ∷ [])) where
-    pub names_with : map text new ≡ map text owners ++ name ∷ []
-    names_with =
-        let nowhere : list_any (λ v. is_name (text owner) (text v)) owners ≡ false = rw owns none in
-        rw (put, nowhere, map-append text owners (owner ∷ []), owns) refl
+    answers : is_new ≡ not (list_any (λ v. is_name name (text v)) owners)
+    answers = rw (← owns) answer
+
+    puts : new ≡ (if list_any (λ v. is_name name (text v)) owners then owners else owners ++ owner ∷ [])
+    puts = rw (← owns) put
+
+    pub known_with : is_new ≡ false → Contains (map text owners) name
+    known_with old = is_there (by (list_any (λ v. is_name name (text v)) owners) (sym answers ∙ old))
+      where
+        by : (b : Bool) → not b ≡ false → b ≡ true
+        by true e = refl
+        by false e = absurd (true≢false e)
+
+    pub fresh_with : IsTrue is_new ↔ (Contains (map text owners) name → ⊥)
+    fresh_with = by (list_any (λ v. is_name name (text v)) owners) refl
+      where
+        by : (b : Bool) → list_any (λ v. is_name name (text v)) owners ≡ b → IsTrue is_new ↔ (Contains (map text owners) name → ⊥)
+        by true e = (λ t. absurd (true≢false (sym t ∙ answers ∙ ap not e)), λ fresh. absurd (fresh (is_there e)))
+        by false e = (λ t. is_not_there e, λ fresh. answers ∙ ap not e)
+
+    pub names_with : map text new ≡ (if is_new then map text owners ++ name ∷ [] else map text owners)
+    names_with = by (list_any (λ v. is_name name (text v)) owners) refl
+      where
+        by : (b : Bool) → list_any (λ v. is_name name (text v)) owners ≡ b → map text new ≡ (if is_new then map text owners ++ name ∷ [] else map text owners)
+        by true e = rw (answers, puts, e) refl
+        by false e = rw (answers, puts, e, map-append text owners (owner ∷ []), owns) refl
 
     pub names_with_differ : NamesDiffer (map text owners) → NamesDiffer (map text new)
-    names_with_differ differ = rw names_with (one_name_more (map text owners) name differ (is_not_there none))
+    names_with_differ differ = by is_new refl
+      where
+        by : (b : Bool) → is_new ≡ b → NamesDiffer (map text new)
+        by true e = rw (names_with, e) (one_name_more (map text owners) name differ (fresh_with.0 e))
+        by false e = rw (names_with, e) differ
 
-    pub count_with : length new ≡ length owners + 1
-    count_with = omega (arith, sym (length-map new text) ∙ ap length names_with, length-append (map text owners) (name ∷ []), length-map owners text)
+    pub count_with : length new ≤ length owners + 1
+    count_with = by (list_any (λ v. is_name name (text v)) owners) refl
+      where
+        by : (b : Bool) → list_any (λ v. is_name name (text v)) owners ≡ b → length new ≤ length owners + 1
+        by true e = omega (arith, ap length (rw e at puts))
+        by false e = omega (arith, ap length (rw e at puts), length-append owners (owner ∷ []))
 
 -- The name of the next structure is new, and so it is put behind those of the structures before it.
 module _ (structures : List Structure) (i : ℕ) (s : Structure) (differ : NamesDiffer (names_of structures)) (more : i < length structures)

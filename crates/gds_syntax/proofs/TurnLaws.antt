@@ -3,6 +3,7 @@ use Rattle.std.proofs.Common.{◌≡◌, ◌↔◌, ◌∙◌, refl, sym, subst,
 use Rattle.std.specs.Prelude.{MatchOption, FitsSigned}
 use Rattle.std.specs.Int.{w64}
 use Rattle.std.specs.Option.{option_eq}
+use Rattle.std.specs.Prelude.{All}
 use Rattle.std.proofs.lemmas.Int.{ints}
 use Rattle.std.proofs.lemmas.Bool.Decides.{Decides-int_eq}
 use Rattle.std.proofs.lemmas.Option.{MatchOption-at_some}
@@ -13,10 +14,9 @@ use Rattle.gds_records.specs.Kinds as kind
 use Rattle.gds_records.specs.Reals.{HasValue}
 use Rattle.gds_records.specs.Spelling.{Entry}
 use Rattle.gds_records.proofs.RealLaws.{values_agree}
-use Rattle.gds_syntax.specs.ElementChecks.{ElementCheck, ElementHolds, reference_checks, is_not_magnified, angle_is_not_absolute, turns_by_quarters}
+use Rattle.gds_syntax.specs.ElementChecks.{IsFaultOfFirst, ElementCheck, ElementHolds, reference_checks, is_not_magnified, angle_is_not_absolute, turns_by_quarters}
 use Rattle.gds_syntax.specs.OwnRecords.{field, unsigned_of, HasQuarters, HasAbsoluteAngle}
 use Rattle.gds_syntax.specs.Quarters.{AreQuarters, ComesTo, IsAngle}
-use Rattle.gds_syntax.specs.SharedChecks.{AllHold, IsFaultOfFirst}
 use Rattle.gds_syntax.specs.declared.fault.SyntaxFault.TheVariants.{Magnified, AbsoluteAngle, BadAngle}
 
 -- ---- whole values of reals
@@ -81,34 +81,34 @@ module _ (own : List Entry) (strans : ℕ) (is : strans ≡ unsigned_of kind.str
   absolute set = subst (λ n. n / 2 % 2 ≡ 1) is (bit_is_set strans set)
 
   pub reference_checks_hold : (n : ℕ) → IfSome (field kind.mag own) (λ body. HasValue body (pos 1)) → bit_and strans 2 ≡ 0
-      → (degrees : ℤ) × IsAngle own degrees × ComesTo degrees n → AllHold own reference_checks
-  reference_checks_hold n large clear angle form =
-      let Holds : ElementCheck → Type 0 = ElementHolds form own in
+      → (degrees : ℤ) × IsAngle own degrees × ComesTo degrees n → All (ElementHolds own) reference_checks
+  reference_checks_hold n large clear angle =
+      let Holds : ElementCheck → Type 0 = ElementHolds own in
       All-cons Holds is_not_magnified (angle_is_not_absolute ∷ turns_by_quarters ∷ []) large
       (All-cons Holds angle_is_not_absolute (turns_by_quarters ∷ []) (not_absolute clear)
       (All-cons Holds turns_by_quarters [] (turned_by_quarters own n angle) (All-nil Holds)))
 
   module _ (at : ℕ) (large : IfSome (field kind.mag own) (λ body. HasValue body (pos 1))) where
     pub fault_where_absolute : (bit_and strans 2 ≡ 0 → ⊥) → IsFaultOfFirst at own reference_checks (AbsoluteAngle at)
-    fault_where_absolute set form = record {
+    fault_where_absolute set = record {
       check = angle_is_not_absolute;
-      is_first = fails_later (ElementHolds form own) is_not_magnified _ angle_is_not_absolute large
-          (fails_at_once (ElementHolds form own) angle_is_not_absolute _ (λ not. not (absolute set)));
+      is_first = fails_later (ElementHolds own) is_not_magnified _ angle_is_not_absolute large
+          (fails_at_once (ElementHolds own) angle_is_not_absolute _ (λ not. not (absolute set)));
       is_its_refusal = refl;
     }
 
     pub fault_where_bad : bit_and strans 2 ≡ 0 → ((degrees quarters : ℤ) → IsAngle own degrees → AreQuarters degrees quarters → ⊥)
         → IsFaultOfFirst at own reference_checks (BadAngle at)
-    fault_where_bad clear none form = record {
+    fault_where_bad clear none = record {
       check = turns_by_quarters;
-      is_first = fails_later (ElementHolds form own) is_not_magnified _ turns_by_quarters large
-          (fails_later (ElementHolds form own) angle_is_not_absolute _ turns_by_quarters (not_absolute clear)
-          (fails_at_once (ElementHolds form own) turns_by_quarters [] (λ (quarters, has, back, front).
+      is_first = fails_later (ElementHolds own) is_not_magnified _ turns_by_quarters large
+          (fails_later (ElementHolds own) angle_is_not_absolute _ turns_by_quarters (not_absolute clear)
+          (fails_at_once (ElementHolds own) turns_by_quarters [] (λ (quarters, has, back, front).
           none (pos 90 *ℤ quarters) quarters (angle_of_quarters (field kind.angle own) quarters has) (record { whole = refl; from_back = back; to_front = front }))));
       is_its_refusal = refl;
     }
 
 pub fault_where_magnified : (own : List Entry) (at : ℕ) → (IfSome (field kind.mag own) (λ body. HasValue body (pos 1)) → ⊥)
     → IsFaultOfFirst at own reference_checks (Magnified at)
-fault_where_magnified own at not form =
-    record { check = is_not_magnified; is_first = fails_at_once (ElementHolds form own) is_not_magnified _ not; is_its_refusal = refl }
+fault_where_magnified own at not =
+    record { check = is_not_magnified; is_first = fails_at_once (ElementHolds own) is_not_magnified _ not; is_its_refusal = refl }

@@ -13,5 +13,4 @@ pub mod Places
 pub mod FirstFault
 pub mod Readers
 pub mod Names
-pub mod SharedChecks
 pub mod Quarters

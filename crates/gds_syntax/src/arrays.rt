@@ -1,8 +1,8 @@
-ghost use Rattle.std.specs.Prelude.{◌≡◌, ◌≤◌, ◌^◌, ◌+ℤ◌, ◌*ℤ◌, ◌≤ℤ◌, ℤ, pos, nat_abs, IfErr, IfNone, IfOk, IfSome, OnOk, length};
+ghost use Rattle.std.specs.Prelude.{◌≡◌, ◌≤◌, ◌^◌, ◌+ℤ◌, ◌*ℤ◌, ◌≤ℤ◌, ℤ, pos, nat_abs, All, IfErr, IfNone, IfOk, IfSome, OnOk, length};
+ghost use Rattle.gds_syntax.specs.ElementChecks.{ElementHolds, IsFaultOfFirst, array_checks};
 ghost use Rattle.gds_syntax.specs.Elements.{IsLattice};
 ghost use Rattle.gds_syntax.specs.OwnRecords.{HasSteps, Leads, columns_of, points_of, rows_of};
 ghost use Rattle.gds_syntax.specs.Ranges.{IsStep};
-ghost use Rattle.gds_syntax.specs.SharedChecks.{AllHold, IsFaultOfFirst, array_checks};
 
 use super::element::Lattice;
 use super::fault::SyntaxFault;
@@ -78,7 +78,7 @@ fn steps_of(own: &OwnRecords<'_>, columns: i16, rows: i16) -> Option<((i64, i64)
 /// The columns and rows of an array and the steps between them, if it has at least one of each and its steps are whole.
 pub fn lattice_of(at: u32, own: &OwnRecords<'_>) -> Result<Lattice, SyntaxFault>
     requires { length (points_of own.now) ≡ 3 }
-    ensures passed { OnOk result (AllHold own.now array_checks) }
+    ensures passed { OnOk result (All (ElementHolds own.now) array_checks) }
     ensures lattice { IfOk result (IsLattice own.now) }
     ensures failed { IfErr result (IsFaultOfFirst at own.now array_checks) }
 {

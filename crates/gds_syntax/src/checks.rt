@@ -11,9 +11,9 @@ use geo_core::Point;
 
 /// That the records that the element needs are there, or the least of them that is missing.
 pub fn check_required(at: u32, kind: ElementKind, own: &OwnRecords<'_>) -> Result<(), SyntaxFault>
-    ensures passed { OnOk result (All (ElementHolds (form_for kind) own.now) (map has (form_for kind).required)) }
+    ensures passed { OnOk result (All (ElementHolds own.now) (map has (form_for kind).required)) }
     ensures failed { IfErr result
-        (IsRefusalOfFirst (ElementHolds (form_for kind) own.now) (map has (form_for kind).required) (element_fault at)) }
+        (IsRefusalOfFirst (ElementHolds own.now) (map has (form_for kind).required) (element_fault at)) }
 {
     for needed in kind.required() {
         if !own.has(*needed) {

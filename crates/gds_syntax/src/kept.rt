@@ -1,12 +1,11 @@
 ghost use Rattle.std.specs.Prelude.{◌≡◌, ◌≢◌, ◌<◌, All, IfOk, IfErr, length};
 ghost use Rattle.gds_records.specs.Kinds as kind;
-ghost use Rattle.gds_syntax.specs.ElementChecks.{ElementHolds, IsElementFault, checks_of_sort, element_checks};
+ghost use Rattle.gds_syntax.specs.ElementChecks.{ElementHolds, IsElementFault, Judges, checks_of_sort, element_checks};
 ghost use Rattle.gds_syntax.specs.ElementForms.{IsCount, array, outline, reference};
 ghost use Rattle.gds_syntax.specs.ElementKinds.{form_for};
 ghost use Rattle.gds_syntax.specs.Elements.{IsKept, IsShape};
 ghost use Rattle.gds_syntax.specs.OwnRecords.{points_of};
 ghost use Rattle.gds_syntax.specs.Ranges.{IsKind};
-ghost use Rattle.gds_syntax.specs.SharedChecks.{Judges};
 ghost use Rattle.gds_syntax.specs.Sizes.{BodiesHave};
 ghost use Rattle.gds_syntax.specs.declared.fault.SyntaxFault.TheVariants.{Memory};
 
@@ -99,7 +98,7 @@ pub fn kept_of(
     kind: ElementKind,
     own: &OwnRecords<'_>,
 ) -> Result<Option<Element>, SyntaxFault>
-    ensures sound { IfOk result (λ _. All (ElementHolds (form_for kind) own.now) (element_checks (form_for kind))) }
+    ensures sound { IfOk result (λ _. All (ElementHolds own.now) (element_checks (form_for kind))) }
     ensures kept { IfOk result (λ kept. IsKept at own.now (form_for kind).opening kept) }
     ensures faulty { IfErr result (λ fault. fault ≢ Memory → IsElementFault at (form_for kind) own.now fault) }
 {

@@ -24,32 +24,42 @@ use indexmap::IndexSet;
 use std::alloc::Global;
 use std::marker::Model;
 
-/// The names of structures, which are found by hashes. Contracts see them as a list, in which no name stands twice.
+/// The names of structures, which are found by hashes. Contracts see them as a list, in which no name stands twice. The
+/// names themselves stay where they are: in a stream, or in a library.
 #[derive(Debug, Drop)]
-pub struct NameIndex {
-    names: IndexSet<Vec<u8>>,
+pub struct NameIndex<'a> {
+    names: IndexSet<&'a [u8]>,
 }
 
-impl Model for NameIndex {
+impl<'a> Model for NameIndex<'a> {
     ghost use Rattle.std.specs.Prelude.{◌≤◌, ◌^◌, ℕ, List, length, map};
     ghost use Rattle.gds_syntax.specs.Names.{NamesDiffer};
 
     ghost Value = { List (List ℕ) };
 
-    ghost view = { λ index. map (λ name. name.items) index.names.keys };
+    ghost view = { λ index. map (λ name. name.now) index.names.keys };
 
     // Each place fits a `u32`.
-    ghost invariant = { λ index. NamesDiffer (map (λ name. name.items) index.names.keys) × (length index.names.keys ≤ 2 ^ 32) };
+    ghost invariant = { λ index. NamesDiffer (map (λ name. name.now) index.names.keys) × (length index.names.keys ≤ 2 ^ 32) };
 }
 
-impl NameIndex {
+impl<'a> NameIndex<'a> {
     /// No names yet.
-    pub fn new(alloc: Global) -> NameIndex
+    pub fn new(alloc: Global) -> NameIndex<'a>
         ensures { result ≡ [] }
     {
         NameIndex {
             names: IndexSet::new(alloc),
         }
+    }
+
+    /// No names yet, with room for so many.
+    fn with_room(alloc: Global, count: usize) -> Result<NameIndex<'a>, NoMemory>
+        ensures { IfOk result (λ index. index ≡ []) }
+    {
+        Ok(NameIndex {
+            names: IndexSet::with_capacity(alloc, count)?,
+        })
     }
 
     /// The place of the name, counted from 0, if it is there. This takes no memory.
@@ -61,32 +71,29 @@ impl NameIndex {
     }
 
     /// Puts the name last, unless it is there already; whether it was put there.
-    pub(crate) fn add(&mut self, alloc: Global, name: &[u8]) -> Result<bool, NoMemory>
+    pub(crate) fn add(&mut self, name: &'a [u8]) -> Result<bool, NoMemory>
         requires { length self.old < 2 ^ 32 }
         ensures fresh { IfOk result (λ is_new. IsTrue is_new ↔ (Contains self.old name.now → ⊥)) }
         ensures known { IfOk result (λ is_new. is_new ≡ false → Contains self.old name.now) }
         ensures names { IfOk result (λ is_new. self.new ≡ (if is_new then self.old ++ name.now ∷ [] else self.old)) }
         ensures unchanged { OnErr result (self.new ≡ self.old) }
     {
-        if self.names.contains(name) {
-            return Ok(false);
-        }
-        let owned = Vec::from_slice(alloc, name)?;
-        self.names.insert(owned)?;
-        Ok(true)
+        let is_new = self.names.insert(name)?;
+        Ok(is_new)
     }
 }
 
 impl Library {
     /// The index of its structures' names: the place of a name is the number of its structure.
-    pub fn index(&self, alloc: Global) -> Result<NameIndex, NoMemory>
+    pub fn index(&self, alloc: Global) -> Result<NameIndex<'_>, NoMemory>
         requires differ { NamesDiffer (names_of self.now.structures) }
         requires few { length self.now.structures < 2 ^ 32 }
         ensures { IfOk result (λ index. index ≡ names_of self.now.structures) }
     {
-        let mut index = NameIndex::new(alloc);
-        for structure in self.structures.as_slice() {
-            index.add(alloc, structure.name.as_slice())?;
+        let structures = self.structures.as_slice();
+        let mut index = NameIndex::with_room(alloc, structures.len())?;
+        for structure in structures {
+            index.add(structure.name.as_slice())?;
         }
         Ok(index)
     }

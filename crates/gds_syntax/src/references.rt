@@ -1,13 +1,12 @@
-ghost use Rattle.std.specs.Prelude.{◌≡◌, ◌↔◌, ◌<◌, ℤ, pos, IsTrue, IfErr, IfNone, IfOk, IfSome, OnOk, length};
+ghost use Rattle.std.specs.Prelude.{◌≡◌, ◌↔◌, ◌<◌, ℤ, pos, All, IsTrue, IfErr, IfNone, IfOk, IfSome, OnOk, length};
 ghost use Rattle.gds_records.specs.Fields.{IsText};
 ghost use Rattle.gds_records.specs.Kinds as kind;
 ghost use Rattle.gds_records.specs.Reals.{HasValue};
 ghost use Rattle.gds_records.specs.Spelling.{AreBytes};
-ghost use Rattle.gds_syntax.specs.ElementChecks.{reference_checks};
+ghost use Rattle.gds_syntax.specs.ElementChecks.{ElementHolds, IsFaultOfFirst, reference_checks};
 ghost use Rattle.gds_syntax.specs.Elements.{IsReference, IsTurn};
 ghost use Rattle.gds_syntax.specs.OwnRecords.{body_of, field, points_of};
 ghost use Rattle.gds_syntax.specs.Quarters.{AreQuarters, ComesTo, IsAngle};
-ghost use Rattle.gds_syntax.specs.SharedChecks.{AllHold, IsFaultOfFirst};
 
 use super::element::{Lattice, Reference};
 use super::fault::SyntaxFault;
@@ -61,7 +60,7 @@ fn quarters_of(own: &OwnRecords<'_>) -> Option<u8>
 
 /// The turn of a reference, if it is as large as its structure, and turned by quarters of a circle and not absolutely.
 pub fn turn_of(at: u32, own: &OwnRecords<'_>) -> Result<Turn, SyntaxFault>
-    ensures passed { OnOk result (AllHold own.now reference_checks) }
+    ensures passed { OnOk result (All (ElementHolds own.now) reference_checks) }
     ensures turn { IfOk result (IsTurn own.now) }
     ensures failed { IfErr result (IsFaultOfFirst at own.now reference_checks) }
 {

@@ -21,7 +21,7 @@ fn read_structure<'a>(
     alloc: Global,
     records: &mut Records<'a>,
     opening: &Record<'a>,
-    names: &mut NameIndex,
+    names: &mut NameIndex<'a>,
     own: &mut OwnRecords<'a>,
 ) -> Result<Structure, SyntaxFault>
     requires ready { IsReady records.old }
@@ -33,7 +33,7 @@ fn read_structure<'a>(
 {
     let found = expect(records, kinds::STRNAME)?;
     let name = text(&found);
-    if !names.add(alloc, name)? {
+    if !names.add(name)? {
         return Err(SyntaxFault::RepeatedStructure { at: found.at });
     }
     let name = Vec::from_slice(alloc, name)?;

@@ -34,7 +34,7 @@ pub record IsRead (element : Element) : Type 0 where
   pub opening : opening_of element ≡ form.opening
   pub are_own : All (Contains (own_kinds form)) (kinds_of (own_of element))
   pub once : AllPairs (λ one other. one ≢ other) (kinds_of (own_of element))
-  pub holds : All (ElementHolds form (own_of element)) (element_checks form)
+  pub holds : All (ElementHolds (own_of element)) (element_checks form)
   pub kept : (at : ℕ) → IsKept at (own_of element) (opening_of element) (Some (element_at at element))
 
 -- ---- shapes
@@ -124,7 +124,7 @@ reference_once None = all_differ (all_of_reference None) refl
 reference_once (Some lattice) = all_differ (all_of_reference (Some lattice)) refl
 
 reference_holds : (reference : Reference) (lattice : Option Lattice) → IsWritableReference reference → reference.lattice ≡ lattice
-    → All (ElementHolds (form_of_reference lattice) (reference_own reference.target reference.turn reference.origin lattice)) (element_checks (form_of_reference lattice))
+    → All (ElementHolds (reference_own reference.target reference.turn reference.origin lattice)) (element_checks (form_of_reference lattice))
 reference_holds reference None writable is = sref_holds 0 reference writable is
 reference_holds reference (Some lattice) writable is = aref_holds 0 reference lattice writable is
 

@@ -141,7 +141,7 @@ IsFine : List Entry → Type 0
 IsFine xs =
     (front back : List Entry) (e : Entry) → xs ≡ front ++ e ∷ back → (e.kind ≡ kind.propattr) ⊎ (e.kind ≡ kind.endel)
     → (lead earlier own : List Entry) (opening : Entry) (form : ElementForm) → lead ++ front ≡ earlier ++ opening ∷ own → Opens opening.kind form
-    → All (λ o. Contains (own_kinds form) o.kind) own → All (ElementHolds form own) (element_checks form)
+    → All (λ o. Contains (own_kinds form) o.kind) own → All (ElementHolds own) (element_checks form)
 
 fine_both : (xs ys : List Entry) → IsFine xs → IsFine ys → IsFine (xs ++ ys)
 unfolding IsFine
@@ -190,8 +190,8 @@ fine_element element writable front back e same is_last lead earlier own opening
           let same_opening : reads.form.opening ≡ form.opening = sym reads.opening ∙ ap (λ (o : Entry). o.kind) there.0 ∙ opened.opening in
           let found : Some reads.form ≡ Some form = sym (form_is_found reads.form reads.listed) ∙ ap form_of same_opening ∙ form_is_found form opened.listed in
           let same_form : reads.form ≡ form = cc in
-          subst (λ (f : ElementForm). All (ElementHolds f own) (element_checks f)) same_form
-          (subst (λ (o : List Entry). All (ElementHolds reads.form o) (element_checks reads.form)) there.1 reads.holds)
+          subst (λ (f : ElementForm). All (ElementHolds own) (element_checks f)) same_form
+          (subst (λ (o : List Entry). All (ElementHolds o) (element_checks reads.form)) there.1 reads.holds)
       | inr (behind, fronts, _) ↦
           absurd
           (true≢false
@@ -292,7 +292,7 @@ shows_nothing library well_formed before after e fault same (repeats {name} may 
 shows_nothing library well_formed before after e fault same (is_faulty {at} {form} {own} may last fails) =
     let holds = fine_library library well_formed before after e same last.ends [] last.earlier own last.opening form last.parts last.opens last.are_own in
     let first = fails.is_first in
-    first.fails (every_at (ElementHolds form own) first.before first.after fails.check (element_checks form) first.parts (every_of (ElementHolds form own) (element_checks form) holds))
+    first.fails (every_at (ElementHolds own) first.before first.after fails.check (element_checks form) first.parts (every_of (ElementHolds own) (element_checks form) holds))
 
 pub none_shows : (library : Library) → IsWellFormed library → NoneShows (written library)
 none_shows library well_formed before after e fault same shown = shows_nothing library well_formed before after e fault same shown

@@ -187,10 +187,10 @@ module _ (at : ℕ) (reference : Reference) (writable : IsWritableReference refe
   pub sref_kept : IsKept at (reference_own reference.target reference.turn reference.origin None) kind.sref (Some (reference_element (reference_at at reference)))
   sref_kept = keeps_sref (is_reference at reference None writable is) is
 
-  pub sref_holds : All (ElementHolds sref_form (reference_own reference.target reference.turn reference.origin None)) (element_checks sref_form)
+  pub sref_holds : All (ElementHolds (reference_own reference.target reference.turn reference.origin None)) (element_checks sref_form)
   sref_holds =
       let own : List Entry = reference_own reference.target reference.turn reference.origin None in
-      All-from_recursion (ElementHolds sref_form own) (element_checks sref_form) (
+      All-from_recursion (ElementHolds own) (element_checks sref_form) (
         has_points_xy at reference None writable is,
         (
           (0, omega arith, refl),
@@ -240,11 +240,11 @@ module _ (at : ℕ) (reference : Reference) (lattice : Lattice) (writable : IsWr
       keeps_aref (is_reference at reference (Some lattice) writable is) is
       (record { columns = sym columns_are; rows = sym rows_are; steps = has_steps })
 
-  pub aref_holds : All (ElementHolds aref_form array_own) (element_checks aref_form)
+  pub aref_holds : All (ElementHolds array_own) (element_checks aref_form)
   aref_holds =
       let some_columns = lattice.some_columns in
       let some_rows = lattice.some_rows in
-      All-from_recursion (ElementHolds aref_form array_own) (element_checks aref_form) (
+      All-from_recursion (ElementHolds array_own) (element_checks aref_form) (
         has_points_xy at reference (Some lattice) writable is,
         (
           (0, omega arith, refl),

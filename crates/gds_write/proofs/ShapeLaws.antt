@@ -140,11 +140,11 @@ module _ (layer datatype : ℕ) (points : List Point) where
 
   -- each of its checks holds
   pub shape_holds : (shape_kind : ShapeKind) → ArePoints points → HasItsPoints shape_kind points
-      → All (ElementHolds (form_of_shape shape_kind) (shape_own layer datatype points shape_kind)) (element_checks (form_of_shape shape_kind))
+      → All (ElementHolds (shape_own layer datatype points shape_kind)) (element_checks (form_of_shape shape_kind))
   shape_holds Boundary fit outline =
       let own : List Entry = shape_own layer datatype points Boundary in
       let same = sym (points_are Boundary fit) in
-      All-from_recursion (ElementHolds boundary_form own) (element_checks boundary_form) (
+      All-from_recursion (ElementHolds own) (element_checks boundary_form) (
         (0, omega arith, refl),
         (
           (1, omega arith, refl),
@@ -157,7 +157,7 @@ module _ (layer datatype : ℕ) (points : List Point) where
   shape_holds BoxElement fit outline =
       let own : List Entry = shape_own layer datatype points BoxElement in
       let same = sym (points_are BoxElement fit) in
-      All-from_recursion (ElementHolds box_form own) (element_checks box_form) (
+      All-from_recursion (ElementHolds own) (element_checks box_form) (
         (0, omega arith, refl),
         (
           (2, omega arith, refl),
@@ -170,7 +170,7 @@ module _ (layer datatype : ℕ) (points : List Point) where
   shape_holds (Path pathtype width begin end) fit some =
       let own : List Entry = shape_own layer datatype points (Path pathtype width begin end) in
       let same = sym (points_are (Path pathtype width begin end) fit) in
-      All-from_recursion (ElementHolds path_form own) (element_checks path_form) (
+      All-from_recursion (ElementHolds own) (element_checks path_form) (
         has_found kind.layer own _ refl,
         (
           has_found kind.datatype own _ refl,

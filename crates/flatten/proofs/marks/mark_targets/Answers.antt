@@ -1,5 +1,5 @@
 use Rattle.std.proofs.Common.{inl, inr, take_all, sym, subst}
-use Rattle.flatten.specs.Surveys.{LeadsTo, AreBelow}
+use Rattle.flatten.specs.Parts.{LeadsTo, AreBelow}
 use Rattle.flatten.proofs.WeightLaws.{below_one}
 use Rattle.flatten.proofs.MarkLaws.{leads_split, leads_front, leads_last}
 use Rattle.flatten.proofs.marks.mark_targets.Goals as goal

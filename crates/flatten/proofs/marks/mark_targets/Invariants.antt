@@ -1,5 +1,5 @@
 use Rattle.std.proofs.Common.{ℕ, ◌⊎◌, take}
-use Rattle.flatten.specs.Surveys.{LeadsTo}
+use Rattle.flatten.specs.Parts.{LeadsTo}
 use Rattle.flatten.specs.Marks.{IsMarked}
 use Rattle.flatten.proofs.marks.mark_targets.Given as goal
 

@@ -1,6 +1,6 @@
 use Rattle.std.proofs.Common.{◌≡◌, ◌<◌, inl, inr, length, sym, ap, subst, ◌∙◌, arith}
 use Rattle.std.proofs.lemmas.Bool.{cases_lt}
-use Rattle.flatten.specs.Surveys.{AreBelow, LeadsTo, parts_at}
+use Rattle.flatten.specs.Parts.{AreBelow, LeadsTo, parts_at}
 use Rattle.flatten.proofs.ListLaws.{put_back}
 use Rattle.flatten.proofs.SearchLaws.{parts_read}
 use Rattle.flatten.proofs.MarkLaws.{leads_within}

@@ -1,6 +1,9 @@
 use Rattle.std.proofs.Common.{◌≡◌, ◌≤◌, ◌<◌, ◌∷◌, [], ◌++◌, length, set, sym, ap, subst, ◌∙◌, arith}
 use Rattle.std.proofs.Math.ListN.{length-set}
-use Rattle.flatten.specs.Surveys.{AreBelow, IsDoneBefore, IsSearch, LeadsTo, parts_at, state_of, steps_left, weight_over}
+use Rattle.flatten.specs.Parts.{AreBelow, LeadsTo, parts_at}
+use Rattle.flatten.specs.Weights.{weight_over}
+use Rattle.flatten.specs.Surveys.{state_of}
+use Rattle.flatten.specs.Searches.{IsDoneBefore, IsSearch, steps_left}
 use Rattle.flatten.specs.declared.summary.Summary.{Summary}
 use Rattle.flatten.specs.declared.summary.State.TheVariants.{New, Open, Done}
 use Rattle.flatten.proofs.SearchLaws.{is_new, parts_read, weight_at, are_weighed, weigh_all, one_in_nodes, passed_over, chains_from_root, done_now, goes_on, keeps_done_pushed, fewer_left}

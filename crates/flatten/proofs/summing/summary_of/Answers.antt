@@ -1,5 +1,5 @@
 use Rattle.std.proofs.Common.{subst, arith}
-use Rattle.flatten.specs.Surveys.{IsKept, both_weights, no_weight, weight_of, weight_over}
+use Rattle.flatten.specs.Weights.{IsKept, both_weights, no_weight, weight_of, weight_over}
 use Rattle.flatten.proofs.WeightLaws.{nothing_first, weight_more, weight_all, below_one, weighed_one}
 use Rattle.flatten.proofs.summing.summary_of.Goals as goal
 

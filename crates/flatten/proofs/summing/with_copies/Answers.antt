@@ -1,10 +1,10 @@
-use Rattle.std.proofs.Common.{arith, ◌∙◌}
-use Rattle.flatten.proofs.KeptLaws.{kept_total}
+use Rattle.std.proofs.Common.{arith}
+use Rattle.flatten.proofs.KeptLaws.{stands_for}
 use Rattle.flatten.proofs.summing.with_copies.Goals as goal
 
 pub returns : goal.returns
 returns c weight another kept kept_other = record {
   height = omega arith;
-  shapes = c.kept_sum.ensures ∙ kept_total c.args.summary.shapes c.args.other.shapes weight.shapes another.shapes 8000001 kept.shapes kept_other.shapes c.args.copies;
-  points = c.kept_sum-2.ensures ∙ kept_total c.args.summary.points c.args.other.points weight.points another.points 8000001 kept.points kept_other.points c.args.copies;
+  shapes = c.kept_sum.ensures weight.shapes another.shapes (stands_for c.args.summary.shapes weight.shapes kept.shapes) (stands_for c.args.other.shapes another.shapes kept_other.shapes);
+  points = c.kept_sum-2.ensures weight.points another.points (stands_for c.args.summary.points weight.points kept.points) (stands_for c.args.other.points another.points kept_other.points);
 }

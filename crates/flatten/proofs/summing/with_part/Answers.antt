@@ -1,5 +1,5 @@
 use Rattle.std.proofs.Common.{◌≡◌, [], subst}
-use Rattle.flatten.specs.Surveys.{IsKept}
+use Rattle.flatten.specs.Weights.{IsKept}
 use Rattle.flatten.proofs.ListLaws.{Contains-head}
 use Rattle.flatten.proofs.summing.with_part.Goals as goal
 
@@ -15,7 +15,7 @@ returns-in-Done c of weight weighed kept =
     let these = rw c.in-Copies.is at weighed in
     let found = these c.in-Copies.reference c.in-Copies.target (Contains-head _ []) in
     let same : found.0 ≡ c.in-Done.other = cc c.in-Done.is in
-    rw c.copies.ensures.value at (c.with_copies.ensures weight (of c.in-Copies.target) kept (subst (IsKept (of c.in-Copies.target)) same found.2)))
+    rw c.copies.ensures.value at (c.with_copies.ensures weight (of c.in-Copies.target) kept (subst (IsKept (of c.in-Copies.target)) {x = found.0} same found.2)))
 
 pub returns-in_default : goal.returns-in_default
 returns-in_default c of weight weighed kept =

@@ -1,9 +1,8 @@
 use Rattle.std.proofs.Common.{Some}
 use Rattle.gds_records.specs.Kinds as kind
-use Rattle.gds_syntax.specs.ElementChecks.{checks_of_sort}
+use Rattle.gds_syntax.specs.ElementChecks.{checks_of_sort, passes, fails}
 use Rattle.gds_syntax.specs.ElementForms.{array}
 use Rattle.gds_syntax.specs.Elements.{IsKept, aref}
-use Rattle.gds_syntax.specs.SharedChecks.{passes, fails}
 use Rattle.gds_syntax.specs.declared.element.Element.TheVariants.{Reference}
 use Rattle.gds_syntax.proofs.JudgedLaws.{exit_with_memory, exit_with_fault, fault_of_reference, fault_of_array, array_holds}
 use Rattle.gds_syntax.proofs.kept.array_of.Goals as goal

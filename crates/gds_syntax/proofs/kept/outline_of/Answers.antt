@@ -1,9 +1,8 @@
 use Rattle.std.proofs.Common.{◌≡◌, ◌∙◌, sym, subst}
-use Rattle.gds_syntax.specs.ElementChecks.{checks_of_sort}
+use Rattle.gds_syntax.specs.ElementChecks.{checks_of_sort, passes, fails}
 use Rattle.gds_syntax.specs.ElementForms.{outline}
 use Rattle.gds_syntax.specs.Elements.{IsShape}
 use Rattle.gds_syntax.specs.OwnRecords.{IsClosed, points_of}
-use Rattle.gds_syntax.specs.SharedChecks.{passes, fails}
 use Rattle.gds_syntax.proofs.JudgedLaws.{exit_with_memory, outline_is_open, outline_is_closed}
 use Rattle.gds_syntax.proofs.kept.outline_of.Goals as goal
 

@@ -1,8 +1,7 @@
 use Rattle.std.proofs.Common.{Some}
 use Rattle.gds_records.specs.Kinds as kind
-use Rattle.gds_syntax.specs.ElementChecks.{reference_checks}
+use Rattle.gds_syntax.specs.ElementChecks.{reference_checks, passes, fails}
 use Rattle.gds_syntax.specs.Elements.{IsKept, sref}
-use Rattle.gds_syntax.specs.SharedChecks.{passes, fails}
 use Rattle.gds_syntax.specs.declared.element.Element.TheVariants.{Reference}
 use Rattle.gds_syntax.proofs.JudgedLaws.{exit_with_memory, exit_with_fault}
 use Rattle.gds_syntax.proofs.kept.single_of.Goals as goal

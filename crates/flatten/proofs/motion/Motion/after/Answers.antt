@@ -8,7 +8,7 @@ pub returns-clause-moves : goal.returns-clause-moves
 returns-clause-moves c =
     let outer = c.args.self in
     let inner = c.args.inner in
-    let turned = c.turned_shift-across in
+    let turned = c.turned-across in
     let x-same : to_z w64 (of_z w64 inner.dx) ≡ inner.dx = omega (arith, ints, c.requires.inner_reach.across) in
     let y-same : to_z w64 (of_z w64 inner.dy) ≡ inner.dy = omega (arith, ints, c.requires.inner_reach.up) in
     let x-is : turned.result.0 ≡ (image_under outer.turn (at inner.dx inner.dy)).x = turned_across outer.turn inner.dx inner.dy _ _ x-same y-same turned.result.0 turned.ensures.across in
@@ -19,7 +19,7 @@ returns-clause-moves c =
 
 pub returns-clause-reach : goal.returns-clause-reach
 returns-clause-reach c steps reach =
-    let turned = c.turned_shift-across in
+    let turned = c.turned-across in
     let across : nat_abs (to_z w64 (of_z w64 c.both_shifts.result)) ≤ suc steps * 2 ^ 49 = omega (arith, ints, c.both_shifts.ensures.amount, turned.ensures.across_amount, c.requires.reach.across) in
     let up : nat_abs (to_z w64 (of_z w64 c.both_shifts-2.result)) ≤ suc steps * 2 ^ 49 = omega (arith, ints, c.both_shifts-2.ensures.amount, turned.ensures.up_amount, c.requires.reach.up) in
     record { across = across; up = up }

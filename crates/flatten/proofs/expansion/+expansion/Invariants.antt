@@ -1,0 +1,31 @@
+use Rattle.std.proofs.Common.{[], ◌∷◌, ◌++◌, ◌+◌, ◌*◌, ◌-◌}
+use Rattle.std.specs.List.{range_with_len}
+use Rattle.flatten.specs.Steps.{steps_in_row}
+use Rattle.flatten.specs.Expansions.{Adds, copy_routes_behind, part_routes_behind, routes_behind}
+use Rattle.flatten.proofs.GrowthLaws.{front_routes}
+use Rattle.flatten.proofs.expansion.+expansion.Given as goal
+
+-- Each call goes one function down, and that of `expand` one step.
+abbrev pub decreases-expand : goal.decreases-expand
+decreases-expand l = 4 * l.way.left + 3
+
+abbrev pub decreases-expand_part : goal.decreases-expand_part
+decreases-expand_part l = 4 * l.way.left + 2
+
+abbrev pub decreases-expand_copies : goal.decreases-expand_copies
+decreases-expand_copies l = 4 * l.way.left + 1
+
+abbrev pub decreases-expand_row : goal.decreases-expand_row
+decreases-expand_row l = 4 * l.way.left
+
+abbrev pub invariant-expand-loop-part : goal.invariant-expand-loop-part
+invariant-expand-loop-part l = Adds l.plan l.way.motion (front_routes (part_routes_behind l.way.left l.one) l.part-items l.part-index) l.fn.placed.items l.placed.items
+
+abbrev pub invariant-expand_copies-loop-row : goal.invariant-expand_copies-loop-row
+invariant-expand_copies-loop-row l =
+    Adds l.plan l.way.motion (front_routes (λ row. copy_routes_behind (l.way.left - 1) l.target (steps_in_row l.reference row)) (range_with_len 0 l.row-end) l.row) l.fn.placed.items l.placed.items
+
+abbrev pub invariant-expand_row-loop-column : goal.invariant-expand_row-loop-column
+invariant-expand_row-loop-column l =
+    Adds l.plan l.way.motion (front_routes (λ column structures layer_map steps. routes_behind (l.way.left - 1) l.target structures layer_map (steps ++ (record { reference = l.reference; column = column; row = l.row }) ∷ []))
+    (range_with_len 0 l.column-end) l.column) l.fn.placed.items l.placed.items

@@ -1,0 +1,181 @@
+//! The expansion of structures: from the top, each part in turn, down to each shape.
+
+ghost use Rattle.std.specs.Prelude.{ℕ, [], ◌∷◌, ◌≡◌, ◌≢◌, ◌≤◌, ◌<◌, ◌-◌, ◌^◌, Contains, List, length, IfOk, IfErr};
+ghost use Rattle.layer_map.specs.LayerMap.{LayerMap, IsMappedTo};
+ghost use Rattle.flatten.specs.Steps.{Step, columns_of, rows_of, steps_in_row, steps_of};
+ghost use Rattle.flatten.specs.Motions.{MovesAlong};
+ghost use Rattle.flatten.specs.Parts.{parts_at};
+ghost use Rattle.flatten.specs.Expansions.{
+  Adds,
+  AddsEnds,
+  HasLibrary,
+  IsFirstBeyond,
+  Refuses,
+  copy_routes_behind,
+  part_routes_behind,
+  route_to,
+  routes_behind,
+};
+ghost use Rattle.flatten.specs.declared.fault.PlaceFault.TheVariants.{Memory};
+
+use super::fault::PlaceFault;
+use super::part::Part;
+use super::placed::Placed;
+use super::plan::Plan;
+use super::pruning::is_barren;
+use super::ranges::are_in_range;
+use super::way::Way;
+use gds_syntax::{Reference, Shape};
+
+/// Places the shape that is this element of this structure. The way leads to the structure.
+fn place_shape(
+    placed: &mut Vec<Placed>,
+    way: Way,
+    structure: u32,
+    element: u32,
+    layer: u32,
+    shape: &Shape,
+) -> Result<(), PlaceFault>
+    ensures placed { IfOk result (λ _. (layer_map : LayerMap) (steps : List Step) →
+        IsMappedTo layer_map (shape.now.layer, shape.now.datatype) layer → MovesAlong way.motion steps →
+        AddsEnds layer_map (route_to steps structure element shape.now ∷ []) placed.old.items placed.new.items) }
+    ensures refused { IfErr result (λ fault. (steps : List Step) → MovesAlong way.motion steps → fault ≢ Memory →
+        IsFirstBeyond (route_to steps structure element shape.now ∷ []) fault) }
+{
+    if !are_in_range(way.motion, shape.points.as_slice()) {
+        return Err(PlaceFault::OutOfRange { at: shape.at });
+    }
+    placed.push(Placed {
+        structure,
+        element,
+        at: shape.at,
+        layer,
+        turn: way.motion.turn,
+        dx: way.motion.dx,
+        dy: way.motion.dy,
+    })?;
+    Ok(())
+}
+
+/// How many columns of copies a reference makes: one, unless it is an array.
+fn columns(reference: &Reference) -> u16
+    ensures value { result ≡ columns_of reference.now.lattice }
+    ensures few { result < 2 ^ 15 }
+{
+    match &reference.lattice {
+        None => 1,
+        Some(lattice) => lattice.columns,
+    }
+}
+
+/// How many rows of copies a reference makes.
+fn rows(reference: &Reference) -> u16
+    ensures value { result ≡ rows_of reference.now.lattice }
+    ensures few { result < 2 ^ 15 }
+{
+    match &reference.lattice {
+        None => 1,
+        Some(lattice) => lattice.rows,
+    }
+}
+
+/// Places what the copies in one row of a reference place.
+#[cycle(expansion)]
+fn expand_row(
+    plan: &Plan<'_>,
+    placed: &mut Vec<Placed>,
+    way: Way,
+    reference: &Reference,
+    target: u32,
+    row: u16,
+) -> Result<(), PlaceFault>
+    requires planned { HasLibrary plan.now }
+    requires there { target < length plan.now.nodes.items }
+    requires more { 1 ≤ way.left }
+    requires few { row < 2 ^ 15 }
+    ensures placed { IfOk result (λ _.
+        Adds plan.now way.motion (copy_routes_behind (way.left - 1) target (steps_in_row reference.now row)) placed.old.items placed.new.items) }
+    ensures refused { IfErr result (λ fault.
+        Refuses plan.now way.motion (copy_routes_behind (way.left - 1) target (steps_in_row reference.now row)) fault) }
+{
+    for column in 0..columns(reference) {
+        expand(plan, placed, way.on(reference, column, row), target)?;
+    }
+    Ok(())
+}
+
+/// Places what the copies of a reference place, row by row.
+#[cycle(expansion)]
+fn expand_copies(
+    plan: &Plan<'_>,
+    placed: &mut Vec<Placed>,
+    way: Way,
+    reference: &Reference,
+    target: u32,
+) -> Result<(), PlaceFault>
+    requires planned { HasLibrary plan.now }
+    requires there { target < length plan.now.nodes.items }
+    requires more { 1 ≤ way.left }
+    ensures placed { IfOk result (λ _.
+        Adds plan.now way.motion (copy_routes_behind (way.left - 1) target (steps_of reference.now)) placed.old.items placed.new.items) }
+    ensures refused { IfErr result (λ fault.
+        Refuses plan.now way.motion (copy_routes_behind (way.left - 1) target (steps_of reference.now)) fault) }
+{
+    for row in 0..rows(reference) {
+        expand_row(plan, placed, way, reference, target, row)?;
+    }
+    Ok(())
+}
+
+/// Places what a part of the structure with this number places. A reference to a structure that places nothing is passed
+/// over, however many copies it makes.
+#[cycle(expansion)]
+fn expand_part(
+    plan: &Plan<'_>,
+    placed: &mut Vec<Placed>,
+    way: Way,
+    one: u32,
+    part: &Part<'_>,
+) -> Result<(), PlaceFault>
+    requires planned { HasLibrary plan.now }
+    requires there { Contains (parts_at plan.now.nodes.items one) part.now }
+    ensures placed { IfOk result (λ _.
+        Adds plan.now way.motion (part_routes_behind way.left one part.now) placed.old.items placed.new.items) }
+    ensures refused { IfErr result (λ fault. Refuses plan.now way.motion (part_routes_behind way.left one part.now) fault) }
+{
+    match part {
+        Part::End {
+            element,
+            layer,
+            shape,
+        } => place_shape(placed, way, one, *element, *layer, shape),
+        Part::Copies { reference, target } => {
+            // Where chains are too long nothing is placed, so that a step is left whenever a reference comes. The test is what
+            // ends the recursion.
+            if way.left == 0 || is_barren(plan, *target) {
+                return Ok(());
+            }
+            expand_copies(plan, placed, way, reference, *target)
+        }
+    }
+}
+
+/// Places what the structure with this number places, part by part.
+#[cycle(expansion)]
+pub fn expand(
+    plan: &Plan<'_>,
+    placed: &mut Vec<Placed>,
+    way: Way,
+    one: u32,
+) -> Result<(), PlaceFault>
+    requires planned { HasLibrary plan.now }
+    requires there { one < length plan.now.nodes.items }
+    ensures placed { IfOk result (λ _. Adds plan.now way.motion (routes_behind way.left one) placed.old.items placed.new.items) }
+    ensures refused { IfErr result (λ fault. Refuses plan.now way.motion (routes_behind way.left one) fault) }
+{
+    let nodes = plan.nodes.as_slice();
+    for part in nodes[one as usize].as_slice() {
+        expand_part(plan, placed, way, one, part)?;
+    }
+    Ok(())
+}

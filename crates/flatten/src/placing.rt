@@ -1,0 +1,73 @@
+ghost use Rattle.std.specs.Prelude.{[], ◌≡◌, ◌≢◌, List, IfOk, IfErr, option_copied};
+ghost use Rattle.first_refusal.specs.Outcomes.{refused};
+ghost use Rattle.gds_syntax.specs.Names.{NamesDiffer, names_of};
+ghost use Rattle.gds_syntax.specs.declared.library.Structure.{Structure};
+ghost use Rattle.layer_map.specs.LayerMap.{LayerMap};
+ghost use Rattle.layer_map.specs.MapView.{layer_map_of};
+ghost use Rattle.flatten.specs.Placements.{Placing};
+ghost use Rattle.flatten.specs.Placed.{ArePlaced};
+ghost use Rattle.flatten.specs.Plans.{IsPlanOf};
+ghost use Rattle.flatten.specs.Expansions.{AddsEnds, HasLibrary, IsFirstBeyond, routes_behind};
+ghost use Rattle.flatten.specs.declared.fault.PlaceFault.TheVariants.{Memory};
+
+use super::expansion::expand;
+use super::fault::PlaceFault;
+use super::placed::Placed;
+use super::plan::{Plan, plan_of};
+use super::size::check_size;
+use super::summary::State;
+use super::way::Way;
+use gds_syntax::Library;
+use layer_map::Map;
+use std::alloc::Global;
+
+/// How many shapes the top places, to take memory for all of them at once.
+fn shape_count(plan: &Plan<'_>) -> usize
+    requires { HasLibrary plan.now }
+{
+    let states = plan.states.as_slice();
+    match states[plan.top as usize] {
+        State::Done(summary) => summary.shapes as usize,
+        _ => 0,
+    }
+}
+
+/// All that the top places.
+fn expanded(alloc: Global, plan: &Plan<'_>) -> Result<Vec<Placed>, PlaceFault>
+    requires { HasLibrary plan.now }
+    ensures placed { IfOk result (λ placed. (structures : List Structure) (layer_map : LayerMap) → IsPlanOf structures layer_map plan.now →
+        AddsEnds layer_map (routes_behind 256 plan.now.top structures layer_map []) [] placed.items) }
+    ensures refused { IfErr result (λ fault. (structures : List Structure) (layer_map : LayerMap) → IsPlanOf structures layer_map plan.now → fault ≢ Memory →
+        IsFirstBeyond (routes_behind 256 plan.now.top structures layer_map []) fault) }
+{
+    let mut placed = Vec::with_capacity(alloc, shape_count(plan))?;
+    expand(plan, &mut placed, Way::at_top(), plan.top)?;
+    Ok(placed)
+}
+
+/// All shapes that the top of a library places on layers of the map, in the order of their routes: elements in file
+/// order, a reference standing for what its structure places, and an array going row by row. Without a wanted name the
+/// top is the one structure that no reference names.
+///
+/// Each gets one turn and one shift, in database units, which do to its points what the references on its route do one
+/// after the other: those of SREF and AREF, with STRANS, ANGLE and COLROW, in the GDSII Stream Format Manual, Release 6.0.
+/// Shapes on other layers are neither placed nor counted, wherever they lie.
+///
+/// The fault is that of the first check that fails; `PlaceFault` has their order. References, cycles and the choice of the
+/// top are checked in the whole library, whether the top reaches them or not. How deep the top is and how much it places is
+/// known before any array is walked.
+pub fn place(
+    alloc: Global,
+    library: &Library,
+    map: &Map,
+    top: Option<&[u8]>,
+) -> Result<Vec<Placed>, PlaceFault>
+    requires differ { NamesDiffer (names_of library.now.structures) }
+    ensures placed { IfOk result (λ placed. ArePlaced library.now.structures (layer_map_of map.now) (option_copied top.entry) placed.items) }
+    ensures refused { IfErr result (λ fault. fault ≢ Memory →
+        Placing library.now.structures (layer_map_of map.now) (option_copied top.entry) (refused fault)) }
+{
+    let plan = plan_of(alloc, library, map, top)?;
+    check_size(library.structures.as_slice(), &plan)?;
+    expanded(alloc, &plan)
+}
