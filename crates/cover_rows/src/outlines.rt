@@ -1,0 +1,153 @@
+//! Outlines against a count of their edges, cell by cell.
+
+use super::drawing::cover_of;
+use super::stream::{Corner, Form};
+use super::wanted::are_wound;
+use gds_syntax::ShapeKind;
+use std::alloc::Global;
+
+/// A square, and round it in the other direction from another corner.
+const SQUARE: &[Corner] = &[(0, 0), (9, 0), (9, 9), (0, 9), (0, 0)];
+
+const CLOCKWISE: &[Corner] = &[(9, 9), (9, 0), (0, 0), (0, 9), (9, 9)];
+
+/// One that turns in both directions.
+const COMB: &[Corner] = &[
+    (0, 0),
+    (13, 0),
+    (13, 9),
+    (10, 9),
+    (10, 3),
+    (8, 3),
+    (8, 7),
+    (5, 7),
+    (5, 3),
+    (3, 3),
+    (3, 9),
+    (0, 9),
+    (0, 0),
+];
+
+const STAIRCASE: &[Corner] = &[
+    (0, 0),
+    (3, 0),
+    (3, 3),
+    (6, 3),
+    (6, 6),
+    (9, 6),
+    (9, 9),
+    (0, 9),
+    (0, 0),
+];
+
+/// One that crosses itself: its two lobes wind in different directions.
+const CROSSING: &[Corner] = &[
+    (0, 0),
+    (12, 0),
+    (12, 4),
+    (4, 4),
+    (4, 12),
+    (8, 12),
+    (8, 2),
+    (0, 2),
+    (0, 0),
+];
+
+/// A square, part of which is wound again, in the same direction and in the other.
+const TWICE: &[Corner] = &[
+    (0, 0),
+    (10, 0),
+    (10, 10),
+    (0, 10),
+    (0, 0),
+    (4, 0),
+    (10, 0),
+    (10, 10),
+    (4, 10),
+    (4, 0),
+    (0, 0),
+];
+
+const EACH_WAY: &[Corner] = &[
+    (0, 0),
+    (10, 0),
+    (10, 10),
+    (0, 10),
+    (0, 0),
+    (4, 0),
+    (4, 10),
+    (10, 10),
+    (10, 0),
+    (4, 0),
+    (0, 0),
+];
+
+/// A ring: the way to what it leaves open is walked in both directions.
+const RING: &[Corner] = &[
+    (0, 0),
+    (12, 0),
+    (12, 12),
+    (0, 12),
+    (0, 0),
+    (3, 0),
+    (3, 3),
+    (3, 9),
+    (9, 9),
+    (9, 3),
+    (3, 3),
+    (3, 0),
+    (0, 0),
+];
+
+/// Two squares that meet at a point.
+const TOUCHING: &[Corner] = &[
+    (0, 0),
+    (5, 0),
+    (5, 5),
+    (10, 5),
+    (10, 10),
+    (5, 10),
+    (5, 5),
+    (0, 5),
+    (0, 0),
+];
+
+/// Points on one line, and points that are all equal.
+const LINE: &[Corner] = &[(0, 3), (9, 3), (4, 3), (0, 3)];
+
+const POINT: &[Corner] = &[(2, 2), (2, 2), (2, 2), (2, 2)];
+
+/// Points that stand again, or within an edge.
+const REPEATED: &[Corner] = &[
+    (0, 0),
+    (0, 0),
+    (4, 0),
+    (9, 0),
+    (9, 0),
+    (9, 5),
+    (0, 5),
+    (0, 2),
+    (0, 0),
+];
+
+const OUTLINES: &[&[Corner]] = &[
+    SQUARE, CLOCKWISE, COMB, STAIRCASE, CROSSING, TWICE, EACH_WAY, RING, TOUCHING, LINE, POINT,
+    REPEATED,
+];
+
+/// Whether the outline covers just the cells round which it winds, as a boundary or as a box.
+fn is_filled(alloc: Global, kind: ShapeKind, corners: &[Corner]) -> bool {
+    match cover_of(alloc, Form { kind, corners }) {
+        Some(Ok(rects)) => are_wound(rects.as_slice(), corners),
+        _ => false,
+    }
+}
+
+#[test]
+fn outlines_cover_what_they_wind_round(rt: HostRuntime) {
+    for corners in OUTLINES {
+        let filled = is_filled(rt.alloc(), ShapeKind::Boundary, corners)
+            && is_filled(rt.alloc(), ShapeKind::BoxElement, corners);
+        assert!(rt; filled);
+    }
+}

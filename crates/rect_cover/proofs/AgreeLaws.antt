@@ -1,0 +1,51 @@
+-- what the cover of a placed shape comes to, in one way at most
+use Rattle.std.proofs.Common.{ℕ, ◌≡◌, subst, List}
+use Rattle.std.specs.Prelude.{◌↔◌}
+use Rattle.first_refusal.specs.Outcomes.{Outcome, value, refused}
+use Rattle.first_refusal.specs.Checks.{all_hold, one_fails}
+use Rattle.first_refusal.proofs.CheckLaws.{none_fails, first_refusals_agree}
+use Rattle.geo_core.specs.Turns.{PlanePoint}
+use Rattle.geo_core.specs.declared.plane.Cell.{Cell}
+use Rattle.geo_core.specs.declared.plane.Rect.{Rect}
+use Rattle.gds_syntax.specs.declared.element.Shape.{Shape}
+use Rattle.gds_syntax.specs.declared.element.ShapeKind.{ShapeKind}
+use Rattle.gds_syntax.specs.declared.library.Structure.{Structure}
+use Rattle.flatten.specs.declared.placed.Placed.{Placed}
+use Rattle.rect_cover.specs.declared.fault.CoverFault.{CoverFault}
+use Rattle.rect_cover.specs.Coverings.{ShapeHolds, checks_of, shape_fault, CoverComesTo, PlacedComesTo, IsInSome, placed_points}
+use Rattle.rect_cover.proofs.PlacedLaws.{placed_shapes_agree}
+
+module _ (kind : ShapeKind) (points : List PlanePoint) (at : ℕ) where
+  cover_or_fault : (rects : List Rect) (fault : CoverFault) → CoverComesTo kind points at (value rects) → CoverComesTo kind points at (refused fault) → ⊥
+  cover_or_fault rects fault (all_hold all cover) (one_fails first) = none_fails (ShapeHolds kind points) (checks_of kind) all first.check first.is_first
+
+  one_fault : (one other : CoverFault) → CoverComesTo kind points at (refused one) → CoverComesTo kind points at (refused other) → one ≡ other
+  one_fault one other (one_fails p) (one_fails q) = first_refusals_agree (ShapeHolds kind points) (checks_of kind) (shape_fault at) one other p q
+
+  one_cover : (one other : List Rect) → CoverComesTo kind points at (value one) → CoverComesTo kind points at (value other) → (c : Cell) → IsInSome one c ↔ IsInSome other c
+  one_cover one other (all_hold p first) (all_hold q second) c =
+      ((λ h. (second.same c).1 ((first.same c).0 h)), (λ h. (first.same c).1 ((second.same c).0 h)))
+
+module _ (structures : List Structure) (placed : Placed) where
+  -- what both come to, said of one shape
+  told : (shape : Shape) (outcome : Outcome (List Rect) CoverFault) (comes : PlacedComesTo structures placed outcome) → comes.shape ≡ shape
+      → CoverComesTo shape.kind (placed_points placed shape) shape.at outcome
+  told shape outcome comes same = subst (λ s. CoverComesTo s.kind (placed_points placed s) s.at outcome) same comes.comes
+
+  alike : (one other : Outcome (List Rect) CoverFault) (first : PlacedComesTo structures placed one) (second : PlacedComesTo structures placed other) → second.shape ≡ first.shape
+  alike one other first second = placed_shapes_agree structures placed second.shape first.shape second.is_shape first.is_shape
+
+  pub covered_or_refused : (rects : List Rect) (fault : CoverFault) → PlacedComesTo structures placed (value rects) → PlacedComesTo structures placed (refused fault) → ⊥
+  covered_or_refused rects fault first second =
+      let shape = first.shape in
+      cover_or_fault shape.kind (placed_points placed shape) shape.at rects fault first.comes (told shape (refused fault) second (alike (value rects) (refused fault) first second))
+
+  pub refused_once : (one other : CoverFault) → PlacedComesTo structures placed (refused one) → PlacedComesTo structures placed (refused other) → one ≡ other
+  refused_once one other first second =
+      let shape = first.shape in
+      one_fault shape.kind (placed_points placed shape) shape.at one other first.comes (told shape (refused other) second (alike (refused one) (refused other) first second))
+
+  pub covered_alike : (one other : List Rect) → PlacedComesTo structures placed (value one) → PlacedComesTo structures placed (value other) → (c : Cell) → IsInSome one c ↔ IsInSome other c
+  covered_alike one other first second =
+      let shape = first.shape in
+      one_cover shape.kind (placed_points placed shape) shape.at one other first.comes (told shape (value other) second (alike (value one) (value other) first second))

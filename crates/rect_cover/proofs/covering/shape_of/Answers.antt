@@ -1,0 +1,32 @@
+use Rattle.std.proofs.Common.{ap, ◌∙◌, get_or}
+use Rattle.std.proofs.lemmas.Option.{slice_get_within}
+use Rattle.rect_cover.proofs.PlacedLaws.{element_read, element_within, shape_read}
+use Rattle.rect_cover.proofs.covering.shape_of.Goals as goal
+
+pub bounds-as_slice-placed : goal.bounds-as_slice-placed
+bounds-as_slice-placed c =
+    rw c.as_slice.ensures (slice_get_within c.args.library.now.structures c.args.placed.now.structure c.requires.is_shape.structure c.requires.is_shape.is_structure)
+
+pub bounds-as_slice-placed-2 : goal.bounds-as_slice-placed-2
+bounds-as_slice-placed-2 c =
+    let structure = c.index-as_slice-placed in
+    rw c.as_slice-2.ensures (element_within c.args.library.now.structures c.args.placed.now c.requires.shape c.requires.is_shape structure.result
+    (structure.is ∙ ap (λ l. get_or l c.args.placed.now.structure structure.result) c.as_slice.ensures))
+
+pub unreachable-requires : goal.unreachable-requires
+unreachable-requires c =
+    let structure = c.index-as_slice-placed in
+    let element = c.index-as_slice-placed-2 in
+    let is_shape = element_read c.args.library.now.structures c.args.placed.now c.requires.shape c.requires.is_shape structure.result
+    (structure.is ∙ ap (λ l. get_or l c.args.placed.now.structure structure.result) c.as_slice.ensures)
+    element.result (element.is ∙ ap (λ l. get_or l c.args.placed.now.element element.result) c.as_slice-2.ensures) in
+    let is_reference = c.in-Reference.is in
+    cc
+
+pub returns : goal.returns
+returns c =
+    let structure = c.index-as_slice-placed in
+    let element = c.index-as_slice-placed-2 in
+    shape_read c.args.library.now.structures c.args.placed.now c.requires.shape c.requires.is_shape structure.result
+    (structure.is ∙ ap (λ l. get_or l c.args.placed.now.structure structure.result) c.as_slice.ensures)
+    element.result c.in-Shape.shape (element.is ∙ ap (λ l. get_or l c.args.placed.now.element element.result) c.as_slice-2.ensures) c.in-Shape.is

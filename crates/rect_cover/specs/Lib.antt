@@ -1,0 +1,13 @@
+pub mod Outlines
+pub mod Paths
+pub mod Corners
+pub mod Pieces
+pub mod Covers
+pub mod Coverings
+pub mod PathChecks
+pub mod CoverFaults
+pub mod Styles
+pub mod Rectangles
+pub mod Sights
+pub mod Sides
+pub mod Sweeps

@@ -1,0 +1,27 @@
+//! The cells that a placed shape covers, as rectangles: a boundary or a box by its winding number, a path by one rectangle
+//! for each of its straight pieces. Boundaries, boxes and paths are those of the GDSII Stream Format Manual, Release 6.0.
+#![tactic(auto)]
+
+mod corners;
+mod course;
+pub mod covering;
+pub mod covering_all;
+mod crossing;
+pub mod direction;
+mod edges;
+pub mod fault;
+mod growth;
+pub mod laws;
+mod outline;
+mod path;
+mod piece;
+mod pieces;
+mod runs;
+mod side;
+mod sides;
+mod style;
+mod sweep;
+
+pub use covering::cover;
+pub use covering_all::cover_all;
+pub use fault::CoverFault;
