@@ -6,5 +6,6 @@ pub mod Faults
 pub mod Vias
 pub mod Areas
 pub mod Chains
+pub mod IslandLists
 -- what the laws of this crate alone cite
 pub mod Laws

@@ -1,9 +1,10 @@
 //! What a square defect does in a layout: shorts, opens and via blocks, the islands and nets that these speak of, and
-//! areas as tallies of cells. The definitions stand in `specs/`. The crate has no code but laws: each is a function
-//! with an empty body, and its contract says what holds of the definitions.
+//! areas as tallies of cells. The definitions stand in `specs/`. The code is the type `Island`, whose facts these are, and
+//! laws: each is a function with an empty body, and its contract says what holds of the definitions.
 #![tactic(auto)]
 
 pub mod faults;
+pub mod island;
 pub mod nets;
 pub mod sets;
 pub mod sizes;
@@ -16,6 +17,7 @@ pub use faults::{
     blocks_are_near_whole_clusters, larger_sides_keep_faults, shorts_are_near_two_nets,
     sides_as_halves,
 };
+pub use island::Island;
 pub use nets::{
     contacts_join, cuts_without_contacts_join_nothing, islands_lie_in_nets, nets_are_classes,
     nets_keep_to_metals, nets_without_cuts_are_islands,

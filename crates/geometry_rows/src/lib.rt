@@ -3,7 +3,13 @@
 #![tactic(auto)]
 
 #[cfg(test)]
+mod chain_rows;
+#[cfg(test)]
 mod class_rows;
+#[cfg(test)]
+mod flood;
+#[cfg(test)]
+mod flood_rows;
 #[cfg(test)]
 mod island_rows;
 #[cfg(test)]

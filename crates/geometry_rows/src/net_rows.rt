@@ -20,10 +20,10 @@ const TERMINALS: &str = "[[terminal]]\nmetal = \"m1\"\nx = 0\ny = 0\n\
 const ONE_TERMINAL: &str = "[[terminal]]\nmetal = \"m1\"\nx = 5\ny = 5\n";
 
 /// The rectangles of the first metal, the second metal and the cut.
-type Shapes<'a> = [&'a [Rect]; 3];
+pub type Shapes<'a> = [&'a [Rect]; 3];
 
 /// The nets of the rectangles, with these terminals.
-fn nets_of(alloc: Global, terminals: &str, shapes: Shapes) -> Result<Nets, NetFault>
+pub fn nets_of(alloc: Global, terminals: &str, shapes: Shapes) -> Result<Nets, NetFault>
     ensures metals { IfOk result (λ nets. length nets.pieces ≡ 2) }
     ensures cuts { IfOk result (λ nets. length nets.contacts ≡ 1) }
 {
@@ -179,6 +179,48 @@ fn is_anchored(alloc: Global, wire: Rect, pad: Rect) -> bool {
             }
         }
         Err(_) => false,
+    }
+}
+
+/// Terminals at the four corner cells of a wire, not in the order of the cells.
+const CORNERS: &str = "[[terminal]]\nmetal = \"m1\"\nx = 19\ny = 1\n\
+    [[terminal]]\nmetal = \"m1\"\nx = 0\ny = 0\n\
+    [[terminal]]\nmetal = \"m1\"\nx = 19\ny = 0\n\
+    [[terminal]]\nmetal = \"m1\"\nx = 0\ny = 1\n";
+
+/// How many islands of the first metal are handed out, and how many anchors the first of these has.
+fn handed_out(alloc: Global, terminals: &str, shapes: Shapes) -> Option<(usize, usize)> {
+    let nets = nets_of(alloc, terminals, shapes).ok()?;
+    let islands = nets.islands(alloc, 0).ok()?;
+    let anchors = match islands.first() {
+        Some(island) => island.anchors.as_slice().len(),
+        None => 0,
+    };
+    Some((islands.len(), anchors))
+}
+
+#[test]
+fn terminals_at_corner_cells_are_anchors(rt: HostRuntime) {
+    let wire = [Rect::new(0, 0, 20, 2)];
+    let halves = [Rect::new(0, 0, 10, 2), Rect::new(10, 0, 20, 2)];
+    let apart = [Rect::new(0, 0, 10, 2), Rect::new(11, 0, 20, 2)];
+    let stripes = [Rect::new(0, 0, 10, 4), Rect::new(0, 8, 10, 12)];
+    let bar = [Rect::new(0, 0, 4, 12)];
+    let cuts = [Rect::new(0, 0, 2, 2), Rect::new(0, 8, 2, 10)];
+    let cases: [(&str, Shapes, (usize, usize)); 5] = [
+        (CORNERS, [&wire, &[], &[]], (1, 4)),
+        (CORNERS, [&halves, &[], &[]], (1, 4)),
+        (CORNERS, [&apart, &[], &[]], (2, 2)),
+        // one anchor is too few
+        (ONE_TERMINAL, [&[Rect::new(5, 5, 6, 6)], &[], &[]], (0, 0)),
+        // without terminals no island is handed out
+        ("", [&stripes, &bar, &cuts], (0, 0)),
+    ];
+    for (terminals, shapes, wanted) in cases {
+        assert!(rt;
+            handed_out(rt.alloc(), terminals, shapes) == Some(wanted),
+            "{shapes:?}"
+        );
     }
 }
 

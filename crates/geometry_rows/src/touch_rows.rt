@@ -1,7 +1,7 @@
 use super::sides::{Sides, rects_of};
-use geo_core::{FARTHEST_GROWN, NoMemory, Rect, touches};
+use geo_core::{FARTHEST_GROWN, NoMemory, Rect, overlaps, touches};
 use std::alloc::{AllocError, Global};
-use touch_sweep::touch_pairs;
+use touch_sweep::{meetings, touch_pairs};
 
 /// Whether these are the pairs of rectangles that touch, of those with these sides.
 fn have_pairs(alloc: Global, table: &[Sides], wanted: &[(usize, usize)]) -> bool {
@@ -139,6 +139,53 @@ const LONGEST: &[usize] = &[1, 2, 3, 5, 20, 50];
 fn pairs_agree_with_a_comparison_of_all(rt: HostRuntime) {
     for longest in LONGEST {
         assert!(rt; agrees(rt.alloc(), *longest) == Ok(true), "{longest}");
+    }
+}
+
+/// Whether these are the pairs of a rectangle of each list that have a cell in common, each compared.
+fn are_those_that_meet(first: &[Rect], second: &[Rect], pairs: &[(usize, usize)]) -> bool {
+    let mut rest = pairs;
+    for (a, one) in first.iter().enumerate() {
+        for (b, other) in second.iter().enumerate() {
+            if overlaps(*one, *other) {
+                let Some((pair, others)) = rest.split_first() else {
+                    return false;
+                };
+                if *pair != (a, b) {
+                    return false;
+                }
+                rest = others;
+            }
+        }
+    }
+    rest.is_empty()
+}
+
+/// Whether the pairs of two such fields, the second of which is shorter, are those that meet.
+fn meetings_agree(alloc: Global, longest: usize, count: usize) -> Result<bool, NoMemory> {
+    let first = field(alloc, longest)?;
+    let others = field(alloc, 7)?;
+    let second = &others[..count.min(others.len())];
+    let pairs = meetings(alloc, &first, second)?;
+    let turned = meetings(alloc, second, &first)?;
+    Ok(are_those_that_meet(&first, second, &pairs) && are_those_that_meet(second, &first, &turned))
+}
+
+#[test]
+fn meetings_agree_with_a_comparison_of_all(rt: HostRuntime) {
+    for longest in LONGEST {
+        assert!(rt;
+            meetings_agree(rt.alloc(), *longest, 150) == Ok(true),
+            "{longest}"
+        );
+        assert!(rt;
+            meetings_agree(rt.alloc(), *longest, 3) == Ok(true),
+            "{longest}"
+        );
+        assert!(rt;
+            meetings_agree(rt.alloc(), *longest, 0) == Ok(true),
+            "{longest}"
+        );
     }
 }
 

@@ -15,7 +15,7 @@ use Rattle.fault_model.specs.Chains.{IsInUnion}
 use Rattle.layer_map.specs.Lists.{AreDifferent}
 use Rattle.touch_sweep.proofs.ListLaws.{Contains-filter, Contains-from_filter}
 use Rattle.net_extract.specs.AnchoredIslands.{rects_of_island, anchors_of_island, IsIslandNumbered, AreAnchoredIslands, AreDifferentCarried}
-use Rattle.net_extract.specs.IslandLists.{IslandLists, IsAnchoredIsland}
+use Rattle.fault_model.specs.IslandLists.{IslandLists, IsAnchoredIsland}
 use Rattle.net_extract.specs.NetFacts.{AreNets}
 use Rattle.net_extract.specs.NetLists.{NetLists, IsIslandCell, pieces_on}
 use Rattle.net_extract.specs.declared.pieces.Anchor.{Anchor}

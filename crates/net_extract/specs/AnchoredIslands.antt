@@ -4,7 +4,7 @@ use Rattle.std.specs.List.{AllZip}
 use Rattle.geo_core.specs.declared.plane.Cell.{Cell}
 use Rattle.geo_core.specs.declared.plane.Rect.{Rect}
 use Rattle.layer_map.specs.Lists.{AreDifferent}
-use Rattle.net_extract.specs.IslandLists.{IslandLists}
+use Rattle.fault_model.specs.IslandLists.{IslandLists}
 use Rattle.net_extract.specs.NetLists.{NetLists, pieces_on}
 use Rattle.net_extract.specs.declared.pieces.Anchor.{Anchor}
 

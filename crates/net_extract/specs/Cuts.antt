@@ -1,16 +1,24 @@
--- the cuts of a layer map, as nets take them
-use Rattle.std.specs.Prelude.{ℕ, List, map, length}
+-- the cuts of a layer map, as nets and clusters take them
+use Rattle.std.specs.Prelude.{ℕ, List, map, filter, length}
 use Rattle.std.specs.List.{enumerate_from}
 use Rattle.fault_model.specs.Nets.{Cut}
 use Rattle.layer_map.specs.LayerMap.{LayerMap, MappedCut}
 
--- a cut with its number as a layer, and those of its two metals
+-- the cuts, each with its number, which goes on behind those of the metals
+abbrev pub numbered_cuts : LayerMap → List (ℕ × MappedCut)
+numbered_cuts layer_map = enumerate_from (length layer_map.metals) layer_map.cuts
+
+-- a cut, with the numbers of its two metals
 abbrev pub cut_of : ℕ × MappedCut → Cut
 cut_of numbered = record { number = numbered.0; lower = numbered.1.lower; upper = numbered.1.upper }
 
--- all cuts: their numbers go on behind those of the metals
+-- all cuts
 abbrev pub cuts_of : LayerMap → List Cut
-cuts_of layer_map = map cut_of (enumerate_from (length layer_map.metals) layer_map.cuts)
+cuts_of layer_map = map cut_of (numbered_cuts layer_map)
+
+-- the cuts whose clusters are terminals
+abbrev pub terminal_cuts_of : LayerMap → List Cut
+terminal_cuts_of layer_map = map cut_of (filter (λ numbered. numbered.1.has_terminals) (numbered_cuts layer_map))
 
 -- the lower and the upper metal of each cut
 abbrev pub ends_of : LayerMap → List (ℕ × ℕ)

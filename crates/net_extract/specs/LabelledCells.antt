@@ -1,5 +1,5 @@
 -- cells of labelled rectangles, and of contact pieces
-use Rattle.std.specs.Prelude.{ℕ, List, Contains, Some, length, slice_get, ◌+◌, ◌≡◌, ◌↔◌}
+use Rattle.std.specs.Prelude.{ℕ, List, Contains, ◌≡◌, ◌↔◌}
 use Rattle.geo_core.specs.Cells.{Has}
 use Rattle.geo_core.specs.declared.plane.Cell.{Cell}
 use Rattle.geo_core.specs.declared.plane.Labelled.{Labelled}
@@ -26,15 +26,8 @@ pub record HasContact (contacts : List ContactPiece) (lower upper : ℕ) (c : Ce
 abbrev pub AreMeetings : List Labelled → List Labelled → List ContactPiece → Type 0
 AreMeetings lower upper contacts = (i k : ℕ) (c : Cell) → HasContact contacts i k c ↔ (HasLabelled lower i c × HasLabelled upper k c)
 
--- the rectangles with these numbers, one of each list, carry the labels and have the cell; the numbers of the upper
--- list go on behind those of the lower one
-pub record MeetAt (lower upper : List Labelled) (a b : ℕ) (i k : ℕ) (c : Cell) : Type 0 where
-  pub one : Labelled
-  pub other : Labelled
-  pub place : ℕ
-  pub one_at : slice_get lower a ≡ Some one
-  pub other_at : slice_get upper place ≡ Some other
-  pub behind : b ≡ length lower + place
+-- the two rectangles carry these labels, and both have the cell
+pub record AreAt (one other : Labelled) (i k : ℕ) (c : Cell) : Type 0 where
   pub one_carries : one.label ≡ i
   pub other_carries : other.label ≡ k
   pub one_has : Has one.rect c

@@ -5,7 +5,6 @@ pub mod NetLists
 pub mod NetFacts
 pub mod NetFaults
 pub mod Extraction
-pub mod IslandLists
 pub mod AnchoredIslands
 -- what this crate alone cites
 pub mod LabelledCells

@@ -1,12 +1,12 @@
-ghost use Rattle.std.specs.Prelude.{ℕ, ◌≡◌, ◌↔◌, ◌++◌, IfOk, map};
+ghost use Rattle.std.specs.Prelude.{ℕ, ◌≡◌, ◌↔◌, Contains, IfOk, map};
 ghost use Rattle.std.specs.Option.{option_to_list};
 ghost use Rattle.geo_core.specs.declared.plane.Cell.{Cell};
-ghost use Rattle.net_extract.specs.LabelledCells.{AreMeetings, HasContact, MeetAt};
+ghost use Rattle.net_extract.specs.LabelledCells.{AreMeetings, HasContact, AreAt};
+ghost use Rattle.net_extract.specs.declared.pieces.ContactPiece.{ContactPiece as AnyContact};
 
 use super::pieces::ContactPiece;
 use geo_core::{Labelled, NoMemory, Rect, clip};
 use std::alloc::Global;
-use touch_sweep::touch_pairs;
 
 /// Contact pieces where rectangles of both lists have cells in common, with the labels of the two.
 pub fn meetings(
@@ -16,53 +16,46 @@ pub fn meetings(
 ) -> Result<Vec<ContactPiece>, NoMemory>
     ensures { IfOk result (λ contacts. AreMeetings lower.now upper.now contacts.items) }
 {
-    let mut contacts = Vec::new(alloc);
-    if lower.is_empty() {
-        return Ok(contacts);
-    }
-    if upper.is_empty() {
-        return Ok(contacts);
-    }
-    let rects = joined(alloc, lower, upper)?;
-    let pairs = touch_pairs(alloc, &rects)?;
+    let lower_rects = rects_of(alloc, lower)?;
+    let upper_rects = rects_of(alloc, upper)?;
+    let pairs = touch_sweep::meetings(alloc, &lower_rects, &upper_rects)?;
+    let mut contacts = Vec::with_capacity(alloc, pairs.len())?;
     for (a, b) in &pairs {
-        if let Some(contact) = meeting(lower, upper, *a, *b) {
+        if let Some(contact) = meeting(lower[*a], upper[*b]) {
             contacts.push(contact)?;
         }
     }
-    Ok(contacts)
+    Ok(each_once(contacts))
 }
 
-/// The rectangles of both lists in one.
-fn joined(alloc: Global, lower: &[Labelled], upper: &[Labelled]) -> Result<Vec<Rect>, NoMemory>
-    ensures { IfOk result (λ rects. rects.items ≡ map (λ labelled. labelled.rect) (lower.now ++ upper.now)) }
+/// The contact pieces in some order, each once. Without this, equal and nested rectangles of a cut and of both its metals
+/// would come to as many pieces as there are triples of them.
+fn each_once(mut contacts: Vec<ContactPiece>) -> Vec<ContactPiece>
+    ensures { (contact : AnyContact) → Contains result.items contact ↔ Contains contacts.items contact }
 {
-    let mut rects = Vec::new(alloc);
-    'lower: for labelled in lower {
-        rects.push(labelled.rect)?;
-    }
-    'upper: for labelled in upper {
-        rects.push(labelled.rect)?;
+    contacts.sort_unstable_by_key(|contact| {
+        let ContactPiece { rect, lower, upper } = *contact;
+        (lower, upper, (rect.x0, rect.y0, rect.x1, rect.y1))
+    });
+    contacts.dedup();
+    contacts
+}
+
+/// The rectangles without their labels.
+fn rects_of(alloc: Global, labelled: &[Labelled]) -> Result<Vec<Rect>, NoMemory>
+    ensures { IfOk result (λ rects. rects.items ≡ map (λ one. one.rect) labelled.now) }
+{
+    let mut rects = Vec::with_capacity(alloc, labelled.len())?;
+    for one in labelled {
+        rects.push(one.rect)?;
     }
     Ok(rects)
 }
 
-/// What the rectangles with these numbers have in common, where they are one of each list. The numbers of the upper ones
-/// go on behind those of the lower ones.
-fn meeting(lower: &[Labelled], upper: &[Labelled], a: usize, b: usize) -> Option<ContactPiece>
-    ensures { (i k : ℕ) (c : Cell) → HasContact (option_to_list result) i k c ↔ MeetAt lower.now upper.now a b i k c }
+/// What the two rectangles have in common, with their labels.
+fn meeting(one: Labelled, other: Labelled) -> Option<ContactPiece>
+    ensures { (i k : ℕ) (c : Cell) → HasContact (option_to_list result) i k c ↔ AreAt one other i k c }
 {
-    if a >= lower.len() {
-        return None;
-    }
-    if b < lower.len() {
-        return None;
-    }
-    if b - lower.len() >= upper.len() {
-        return None;
-    }
-    let one = lower[a];
-    let other = upper[b - lower.len()];
     let rect = clip(one.rect, other.rect)?;
     Some(ContactPiece {
         rect,

@@ -2,8 +2,8 @@ ghost use Rattle.std.specs.Prelude.{◌≡◌, ◌<◌, All, IfOk, length};
 
 use super::carried::{cells_on, islands_carried, rects_on};
 use super::grouped::{by_island, part_of};
-use super::island::Island;
 use super::pieces::{Anchor, ContactList, ContactPiece, Piece, PieceList};
+use fault_model::Island;
 use geo_core::{CellList, Items, NoMemory, RectList};
 use std::alloc::Global;
 use std::marker::Model;
@@ -45,7 +45,7 @@ impl Model for Nets {
 
 impl Nets {
     ghost use Rattle.net_extract.specs.AnchoredIslands.{AreAnchoredIslands};
-    ghost use Rattle.net_extract.specs.IslandLists.{IsAnchoredIsland};
+    ghost use Rattle.fault_model.specs.IslandLists.{IsAnchoredIsland};
     ghost use Rattle.net_extract.specs.NetFacts.{AreNets};
     ghost use Rattle.net_extract.specs.NetLists.{pieces_on, contacts_of};
 

@@ -6,3 +6,4 @@ pub mod SearchSteps
 pub mod StripSteps
 pub mod EntrySteps
 pub mod PairSteps
+pub mod AcrossSteps

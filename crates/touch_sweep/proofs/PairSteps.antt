@@ -62,15 +62,15 @@ ties p q = grind (arith, nat_tests)
 pub rising_pairs : (sorted pairs : List (ℕ × ℕ)) → IsSorted pair_cmp sorted → pairs ≡ dedup pair_eq sorted → AllPairs ComesBefore pairs
 rising_pairs sorted pairs up e = subst (AllPairs ComesBefore) (sym e) (rising (dedup pair_eq sorted) (IsStrictlySortedBy-dedup pair_cmp_total ties sorted up))
 
-same_pairs : (found sorted pairs : List (ℕ × ℕ)) → IsPermutation found sorted → pairs ≡ dedup pair_eq sorted → (p : ℕ × ℕ) → Contains pairs p ↔ Contains found p
-same_pairs found sorted pairs moved e p = (
-  λ c. Contains-permutation sorted found p (IsPermutation-sym found sorted moved) (Contains-from_dedup pair_eq sorted p (subst (λ ps. Contains ps p) e c)),
-  λ c. subst (λ ps. Contains ps p) (sym e) (Contains-dedup pair_eq_equiv same_pair sorted p (Contains-permutation found sorted p moved c)),
+pub same_pairs : (found sorted pairs : List (ℕ × ℕ)) → IsPermutation found sorted → pairs ≡ dedup pair_eq sorted → (a b : ℕ) → Contains pairs (a, b) ↔ Contains found (a, b)
+same_pairs found sorted pairs moved e a b = (
+  λ c. Contains-permutation sorted found (a, b) (IsPermutation-sym found sorted moved) (Contains-from_dedup pair_eq sorted (a, b) (subst (λ ps. Contains ps (a, b)) e c)),
+  λ c. subst (λ ps. Contains ps (a, b)) (sym e) (Contains-dedup pair_eq_equiv same_pair sorted (a, b) (Contains-permutation found sorted (a, b) moved c)),
 )
 
 -- ---- the pairs of numbers of rectangles that touch
 
-touching_from_match : (rects : List Rect) (entries : List Numbered) → AreNumbered rects entries → (a b : ℕ) → IsMatchOf entries entries (a, b) → AreTouching rects a b
+pub touching_from_match : (rects : List Rect) (entries : List Numbered) → AreNumbered rects entries → (a b : ℕ) → IsMatchOf entries entries (a, b) → AreTouching rects a b
 touching_from_match rects entries all a b m = by_numbers m.match.match.numbers where
   one : Numbered
   one = m.point
@@ -89,7 +89,7 @@ touching_from_match rects entries all a b m = by_numbers m.match.match.numbers w
   by_numbers (inr (less, e)) = subst (λ (p : ℕ × ℕ). AreTouching rects p.0 p.1) (sym e) (record { lesser = less; one = other.rect; other = one.rect; one_at = other_at; other_at = one_at; touch = Touch-sym one.rect other.rect m.match.match.touch })
 
 -- of two that touch, the one that begins no earlier is the point, and the other one is the span
-match_from_touching : (rects : List Rect) (entries : List Numbered) (low high : ℤ) → AreNumbered rects entries → All (λ e. IsIn low high e.rect.x0) entries
+pub match_from_touching : (rects : List Rect) (entries : List Numbered) (low high : ℤ) → AreNumbered rects entries → All (λ e. IsIn low high e.rect.x0) entries
     → (a b : ℕ) → AreTouching rects a b → IsMatchFrom low high entries entries (a, b)
 match_from_touching rects entries low high all within a b t = by_lt_z t.one.x0 t.other.x0 (λ l. second_begins (omega (arith, ints))) first_begins where
   first : Numbered
@@ -126,12 +126,11 @@ match_from_touching rects entries low high all within a b t = by_lt_z t.one.x0 t
     reached = reached;
   }
 
--- what was found, sorted and each once, are the pairs of rectangles that touch
-pub exact_pairs : (rects : List Rect) (entries : List Numbered) (low high : ℤ) (found sorted pairs : List (ℕ × ℕ)) → AreNumbered rects entries → All (λ e. IsIn low high e.rect.x0) entries
-    → Gains (IsMatchFrom low high entries entries) (IsMatchOf entries entries) [] found → IsPermutation found sorted → pairs ≡ dedup pair_eq sorted
+-- what was found are the pairs of rectangles that touch, where these are the same pairs in order
+pub exact_pairs : (rects : List Rect) (entries : List Numbered) (low high : ℤ) (found pairs : List (ℕ × ℕ)) → AreNumbered rects entries → All (λ e. IsIn low high e.rect.x0) entries
+    → Gains (IsMatchFrom low high entries entries) (IsMatchOf entries entries) [] found → ((a b : ℕ) → Contains pairs (a, b) ↔ Contains found (a, b))
     → (a b : ℕ) → Contains pairs (a, b) ↔ AreTouching rects a b
-exact_pairs rects entries low high found sorted pairs all within g moved e a b =
-    let same = same_pairs found sorted pairs moved e (a, b) in (
-      λ c. elim (g.none_else (a, b) (same.0 c)) [ inl d ↦ absurd (Contains-nil (a, b) d) | inr m ↦ touching_from_match rects entries all a b m ],
-      λ t. same.1 (g.all (a, b) (match_from_touching rects entries low high all within a b t)),
-    )
+exact_pairs rects entries low high found pairs all within g same a b = (
+  λ c. elim (g.none_else (a, b) ((same a b).0 c)) [ inl d ↦ absurd (Contains-nil (a, b) d) | inr m ↦ touching_from_match rects entries all a b m ],
+  λ t. (same a b).1 (g.all (a, b) (match_from_touching rects entries low high all within a b t)),
+)

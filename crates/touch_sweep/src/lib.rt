@@ -1,18 +1,22 @@
-//! Which rectangles of a list touch, by a streamed segment tree (Zomorodian and Edelsbrunner, "Fast software for box
+//! Which rectangles of a list touch, and which of two lists meet, by a streamed segment tree (Zomorodian and Edelsbrunner, "Fast software for box
 //! intersections"): the columns are halved again and again, and rectangles that reach over all columns of a part are
 //! paired by a sweep up the rows with those that begin in it. For n rectangles and k pairs: n log n + k log k steps.
 #![tactic(auto)]
 
+mod across;
 mod numbered;
+mod order;
 mod search;
 mod strip;
 mod sweep;
 
 ghost use Rattle.std.specs.Prelude.{ℕ, AllPairs, Contains, IfOk, ◌↔◌};
-ghost use Rattle.touch_sweep.specs.Touching.{AreTouching, ComesBefore};
+ghost use Rattle.touch_sweep.specs.Touching.{AreMeeting, AreTouching, ComesBefore};
 
+use across::{joined, meeting_among, touching_across};
 use geo_core::{NoMemory, Rect};
 use numbered::by_row;
+use order::in_order;
 use search::search;
 use std::alloc::Global;
 use strip::{Strip, beginnings};
@@ -32,7 +36,28 @@ pub fn touch_pairs(alloc: Global, rects: &[Rect]) -> Result<Vec<(usize, usize)>,
     let strip = Strip::around(entries, columns.as_slice());
     let mut pairs = Vec::new(alloc);
     search(alloc, entries, entries, strip, &mut pairs)?;
-    pairs.sort_unstable();
-    pairs.dedup();
-    Ok(pairs)
+    Ok(in_order(pairs))
+}
+
+/// All pairs of a rectangle of the first list and one of the second list that have a cell in common, by their numbers,
+/// which are counted from 0 in each list.
+///
+/// Each pair comes once, and they rise by the first number and then by the second. Pairs within one list are not looked
+/// at. The only error is that no memory is left.
+pub fn meetings(
+    alloc: Global,
+    first: &[Rect],
+    second: &[Rect],
+) -> Result<Vec<(usize, usize)>, NoMemory>
+    ensures exact { IfOk result (λ pairs. (a b : ℕ) →
+        Contains pairs.items (a, b) ↔ AreMeeting first.now second.now a b) }
+    ensures rising { IfOk result (λ pairs. AllPairs ComesBefore pairs.items) }
+{
+    if first.is_empty() || second.is_empty() {
+        return Ok(Vec::new(alloc));
+    }
+    let rects = joined(alloc, first, second)?;
+    let touching = touching_across(alloc, rects.as_slice(), first.len())?;
+    let pairs = meeting_among(alloc, first, second, touching.as_slice())?;
+    Ok(in_order(pairs))
 }

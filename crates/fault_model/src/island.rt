@@ -9,7 +9,7 @@ pub struct Island {
 }
 
 impl Model for Island {
-    ghost use Rattle.net_extract.specs.IslandLists.{IslandLists, IsAnchoredIsland};
+    ghost use Rattle.fault_model.specs.IslandLists.{IslandLists, IsAnchoredIsland};
 
     ghost Value = { IslandLists };
 

@@ -1,0 +1,9 @@
+use Rattle.std.proofs.Common.{◌≡◌, take, nat_lt, not}
+use Rattle.std.specs.Prelude.{filter}
+use Rattle.touch_sweep.proofs.across.parted.Given as goal
+
+abbrev pub invariant-loop-entry : goal.invariant-loop-entry
+invariant-loop-entry l = record {
+  before : l.before.items ≡ filter (λ e. nat_lt e.number l.count) (take l.entry-index l.entries);
+  behind : l.behind.items ≡ filter (λ e. not (nat_lt e.number l.count)) (take l.entry-index l.entries);
+}
