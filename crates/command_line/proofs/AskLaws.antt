@@ -1,12 +1,12 @@
 -- what words ask for, by what they give
-use Rattle.std.proofs.Common.{ℕ, ◌≤◌, List, [], ◌∷◌, ◌≡◌, ◌∙◌, sym, ap, arith, length, subst}
+use Rattle.std.proofs.Common.{ℕ, ◌≤◌, List, [], ◌∷◌, ◌≡◌, ◌∙◌, sym, ap, arith, length, subst, Option, Some, None}
 use Rattle.command_line.specs.declared.option_name.OptionName.{OptionName}
-use Rattle.command_line.specs.declared.option_name.OptionName.TheVariants.{Map, Tile, Workers, Layer, Datatype, Radius}
+use Rattle.command_line.specs.declared.option_name.OptionName.TheVariants.{Map, Top, Tile, Workers, Layer, Datatype, Radius}
 use Rattle.command_line.specs.declared.request.Request.{Request}
 use Rattle.command_line.specs.declared.task.Task.{Task}
 use Rattle.command_line.specs.Arguments.{AreSingle}
 use Rattle.command_line.specs.OptionNames.{Text}
-use Rattle.command_line.specs.Requests.{Ask, HasNoEmptyText, IsNumberOnce, IsNumberOrDefault, as_given, left_out, IsTask, of_one_metal, of_map, IsRequestOf, values_of}
+use Rattle.command_line.specs.Requests.{Ask, HasNoEmptyText, IsNumberOnce, IsNumberOrDefault, IsTextIfGiven, as_given, left_out, IsTask, of_one_metal, of_map, IsRequestOf, values_of}
 use Rattle.command_line.specs.Spelling.{Given, AreSpelled}
 use Rattle.command_line.proofs.SpellingLaws.{spellings_agree}
 
@@ -20,10 +20,10 @@ module _ (v w : OptionName → List Text) (p q : List Text) (same : (name : Opti
   default_moved name default n = subst (λ t. IsNumberOrDefault default t n) (same name)
 
   task_moved : (task : Task) → IsTask v p task → IsTask w q task
-  task_moved task (of_one_metal {layer = a} {datatype = b} {radius = c} layout none layer datatype radius) =
-      of_one_metal (sym at ∙ layout) (sym (same Map) ∙ none) (once_moved Layer a layer) (once_moved Datatype b datatype) (once_moved Radius c radius)
-  task_moved task (of_map layout map layer datatype radius) =
-      of_map (sym at ∙ layout) (sym (same Map) ∙ map) (sym (same Layer) ∙ layer) (sym (same Datatype) ∙ datatype) (sym (same Radius) ∙ radius)
+  task_moved task (of_one_metal {layer = a} {datatype = b} {radius = c} layout none layer datatype radius top) =
+      of_one_metal (sym at ∙ layout) (sym (same Map) ∙ none) (once_moved Layer a layer) (once_moved Datatype b datatype) (once_moved Radius c radius) (sym (same Top) ∙ top)
+  task_moved task (of_map layout map layer datatype radius top) =
+      of_map (sym at ∙ layout) (sym (same Map) ∙ map) (sym (same Layer) ∙ layer) (sym (same Datatype) ∙ datatype) (sym (same Radius) ∙ radius) (sym (same Top) ∙ top)
 
   pub request_moved : (request : Request) → IsRequestOf v p request → IsRequestOf w q request
   request_moved request asked = record {
@@ -47,20 +47,26 @@ default_is_few : (default : ℕ) (values : List Text) (n : ℕ) → IsNumberOrDe
 default_is_few default values n (as_given once) = once_is_few values n once
 default_is_few default values n (left_out e) = none_is_few values e
 
+given_is_few : (values : List Text) (text : Option Text) → IsTextIfGiven values text → length values ≤ 1
+given_is_few values None e = none_is_few values e
+given_is_few values (Some text) e = one_is_few values text e
+
 module _ (values : OptionName → List Text) (positions : List Text) where
   positions_few : (task : Task) → IsTask values positions task → length positions ≤ 1
-  positions_few task (of_one_metal {layout = l} at _ _ _ _) = one_is_few positions l at
-  positions_few task (of_map {layout = l} at _ _ _ _) = one_is_few positions l at
+  positions_few task (of_one_metal {layout = l} at _ _ _ _ _) = one_is_few positions l at
+  positions_few task (of_map {layout = l} at _ _ _ _ _) = one_is_few positions l at
 
   values_few : (request : Request) → IsRequestOf values positions request → (task : Task) → IsTask values positions task → (name : OptionName) → length (values name) ≤ 1
-  values_few request asked task (of_one_metal _ none _ _ _) Map = none_is_few (values Map) none
-  values_few request asked task (of_one_metal {layer = n} _ _ layer _ _) Layer = once_is_few (values Layer) n layer
-  values_few request asked task (of_one_metal {datatype = n} _ _ _ datatype _) Datatype = once_is_few (values Datatype) n datatype
-  values_few request asked task (of_one_metal {radius = n} _ _ _ _ radius) Radius = once_is_few (values Radius) n radius
-  values_few request asked task (of_map {map = m} _ map _ _ _) Map = one_is_few (values Map) m map
-  values_few request asked task (of_map _ _ layer _ _) Layer = none_is_few (values Layer) layer
-  values_few request asked task (of_map _ _ _ datatype _) Datatype = none_is_few (values Datatype) datatype
-  values_few request asked task (of_map _ _ _ _ radius) Radius = none_is_few (values Radius) radius
+  values_few request asked task (of_one_metal _ none _ _ _ _) Map = none_is_few (values Map) none
+  values_few request asked task (of_one_metal {layer = n} _ _ layer _ _ _) Layer = once_is_few (values Layer) n layer
+  values_few request asked task (of_one_metal {datatype = n} _ _ _ datatype _ _) Datatype = once_is_few (values Datatype) n datatype
+  values_few request asked task (of_one_metal {radius = n} _ _ _ _ radius _) Radius = once_is_few (values Radius) n radius
+  values_few request asked task (of_map {map = m} _ map _ _ _ _) Map = one_is_few (values Map) m map
+  values_few request asked task (of_map _ _ layer _ _ _) Layer = none_is_few (values Layer) layer
+  values_few request asked task (of_map _ _ _ datatype _ _) Datatype = none_is_few (values Datatype) datatype
+  values_few request asked task (of_map _ _ _ _ radius _) Radius = none_is_few (values Radius) radius
+  values_few request asked task (of_one_metal {top = t} _ _ _ _ _ top) Top = given_is_few (values Top) t top
+  values_few request asked task (of_map {top = t} _ _ _ _ _ top) Top = given_is_few (values Top) t top
   values_few request asked task _ Tile = default_is_few 65536 (values Tile) request.edge asked.edge
   values_few request asked task _ Workers = default_is_few 4 (values Workers) request.workers asked.workers
 

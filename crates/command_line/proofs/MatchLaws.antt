@@ -16,7 +16,7 @@ use Rattle.clap.specs.declared.builder.value_parser.Reading.TheVariants.{AsWritt
 use Rattle.clap.specs.declared.parser.matches.ValueSource.TheVariants.{CommandLine}
 use Rattle.clap.proofs.OnLiterals.{clap_on_literals}
 use Rattle.command_line.specs.declared.option_name.OptionName.{OptionName}
-use Rattle.command_line.specs.declared.option_name.OptionName.TheVariants.{Map, Tile, Workers, Layer, Datatype, Radius}
+use Rattle.command_line.specs.declared.option_name.OptionName.TheVariants.{Map, Top, Tile, Workers, Layer, Datatype, Radius}
 use Rattle.command_line.specs.OptionNames.{Text, name_of}
 use Rattle.command_line.specs.Requests.{values_of}
 use Rattle.command_line.specs.Spelling.{Given, whole_word}
@@ -75,6 +75,7 @@ rules = top.rules
 met : (name : OptionName) (value : Text) (rows : List Row) → walked rules [] (walk_with rows) (whole_word name value) ≡ walk_with (with_values (name_of name) AsWritten CommandLine (value ∷ []) (without (name_of name) rows))
 unfolding clap_on_literals
 met Map value rows = refl
+met Top value rows = refl
 met Tile value rows = refl
 met Workers value rows = refl
 met Layer value rows = refl
@@ -84,6 +85,7 @@ met Radius value rows = refl
 passes : (name : OptionName) (value : Text) (rows : List Row) → has_row (name_of name) rows ≡ false → turn_passes top [] (walk_with rows) (whole_word name value) ≡ true
 unfolding clap_on_literals
 passes Map value rows h = rw h refl
+passes Top value rows h = rw h refl
 passes Tile value rows h = rw h refl
 passes Workers value rows h = rw h refl
 passes Layer value rows h = rw h refl
@@ -151,6 +153,7 @@ passes_options done (o ∷ os) rest once =
 
 not_layout : (name : OptionName) → bytes_eq (name_of name) (codes "layout") ≡ false
 not_layout Map = refl
+not_layout Top = refl
 not_layout Tile = refl
 not_layout Workers = refl
 not_layout Layer = refl
@@ -189,7 +192,7 @@ pub record EndsWith (w : Walk) (rows : List Row) : Type 0 where
   pub finished_rows : finished rules w.held ≡ rows
 
 rules_have_no_defaults : HaveNoDefaults rules
-rules_have_no_defaults = (refl, (refl, (refl, (refl, (refl, (refl, (refl, (refl, tt))))))))
+rules_have_no_defaults = (refl, (refl, (refl, (refl, (refl, (refl, (refl, (refl, (refl, tt)))))))))
 
 module _ (rows : List Row) (fresh : has_row (codes "layout") rows ≡ false) where
   ends : (positions : List Text) → length positions ≤ 1 → EndsWith (fold (walked rules []) (walk_with rows) (position_words positions)) (rows ++ layout_rows positions)
@@ -249,6 +252,7 @@ taken given single =
 
 not_option : (name : OptionName) → bytes_eq (codes "layout") (name_of name) ≡ false
 not_option Map = refl
+not_option Top = refl
 not_option Tile = refl
 not_option Workers = refl
 not_option Layer = refl

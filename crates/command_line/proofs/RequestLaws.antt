@@ -1,16 +1,16 @@
 -- words ask for one request at most
-use Rattle.std.proofs.Common.{ℕ, List, ◌≡◌, ◌∙◌, sym, ap, refl, subst}
+use Rattle.std.proofs.Common.{ℕ, List, ◌≡◌, ◌∙◌, sym, ap, refl, subst, Some, None}
 use Rattle.std.proofs.Props.{props}
 use Rattle.std.specs.Str.Parse.{digits_value}
 use Rattle.first_refusal.specs.Laws.{IsUnique}
 use Rattle.command_line.specs.declared.option_name.OptionName.{OptionName}
-use Rattle.command_line.specs.declared.option_name.OptionName.TheVariants.{Tile, Workers}
+use Rattle.command_line.specs.declared.option_name.OptionName.TheVariants.{Top, Tile, Workers}
 use Rattle.command_line.specs.declared.request.Request.{Request}
 use Rattle.command_line.specs.declared.task.Task.{Task}
 use Rattle.command_line.specs.Limits.{IsEdge, IsWithinLimits, IsWithinLimits-prop, IsWorkerCount}
 use Rattle.command_line.specs.OptionNames.{Text}
 use Rattle.command_line.specs.Spelling.{Given}
-use Rattle.command_line.specs.Requests.{Ask, IsNumberOnce, IsNumberOrDefault, as_given, left_out, IsTask, of_one_metal, of_map, IsRequestOf, values_of}
+use Rattle.command_line.specs.Requests.{Ask, IsNumberOnce, IsNumberOrDefault, IsTextIfGiven, as_given, left_out, IsTask, of_one_metal, of_map, IsRequestOf, values_of}
 use Rattle.command_line.proofs.SpellingLaws.{spellings_agree}
 
 -- ---- requests of the same parts are one, since their facts hold in one way
@@ -54,19 +54,27 @@ number_or_default_is default values m n (as_given a) (left_out e) = let s = sym 
 number_or_default_is default values m n (left_out e) (as_given a) = let s = sym a.once ∙ e in cc s
 number_or_default_is default values m n (left_out e) (left_out f) = refl
 
+pub text_if_given_is : (values : List Text) → IsUnique (IsTextIfGiven values)
+text_if_given_is values None None e f = refl
+text_if_given_is values None (Some u) e f = let s = sym e ∙ f in cc s
+text_if_given_is values (Some t) None e f = let s = sym e ∙ f in cc s
+text_if_given_is values (Some t) (Some u) e f = let same : t ≡ u = let s = sym e ∙ f in cc s in ap (λ (x : Text). Some x) same
+
 pub task_is : (values : OptionName → List Text) (positions : List Text) → IsUnique (IsTask values positions)
-task_is values positions one other (of_one_metal {layout = l} {layer = a} {datatype = b} {radius = c} p none layer datatype radius) (of_one_metal {layout = m} {layer = d} {datatype = e} {radius = f} q other_none other_layer other_datatype other_radius) =
+task_is values positions one other (of_one_metal {layout = l} {layer = a} {datatype = b} {radius = c} {top = x} p none layer datatype radius top) (of_one_metal {layout = m} {layer = d} {datatype = e} {radius = f} {top = y} q other_none other_layer other_datatype other_radius other_top) =
     let named : l ≡ m = let s = sym p ∙ q in cc s in
     let la : a ≡ d = number_is layer other_layer in
     let da : b ≡ e = number_is datatype other_datatype in
     let ra : c ≡ f = number_is radius other_radius in
-    cc (named, la, da, ra)
-task_is values positions one other (of_one_metal p none layer datatype radius) (of_map q map no_layer no_datatype no_radius) = let s = sym none ∙ map in cc s
-task_is values positions one other (of_map q map no_layer no_datatype no_radius) (of_one_metal p none layer datatype radius) = let s = sym none ∙ map in cc s
-task_is values positions one other (of_map {layout = l} {map = a} p map no_layer no_datatype no_radius) (of_map {layout = m} {map = b} q other_map other_layer other_datatype other_radius) =
+    let ta : x ≡ y = text_if_given_is (values Top) x y top other_top in
+    cc (named, la, da, ra, ta)
+task_is values positions one other (of_one_metal p none layer datatype radius top) (of_map q map no_layer no_datatype no_radius other_top) = let s = sym none ∙ map in cc s
+task_is values positions one other (of_map q map no_layer no_datatype no_radius other_top) (of_one_metal p none layer datatype radius top) = let s = sym none ∙ map in cc s
+task_is values positions one other (of_map {layout = l} {map = a} {top = x} p map no_layer no_datatype no_radius top) (of_map {layout = m} {map = b} {top = y} q other_map other_layer other_datatype other_radius other_top) =
     let named : l ≡ m = let s = sym p ∙ q in cc s in
     let mapped : a ≡ b = let s = sym map ∙ other_map in cc s in
-    cc (named, mapped)
+    let ta : x ≡ y = text_if_given_is (values Top) x y top other_top in
+    cc (named, mapped, ta)
 
 -- options and positional words ask for one request at most
 pub request_is : (values : OptionName → List Text) (positions : List Text) → IsUnique (IsRequestOf values positions)

@@ -6,7 +6,7 @@ use Rattle.std.proofs.lemmas.List.{append-nil}
 use Rattle.std.proofs.lemmas.List.Elements.{All-head, All-tail}
 use Rattle.first_refusal.specs.Laws.{IsUnique}
 use Rattle.command_line.specs.declared.option_name.OptionName.{OptionName}
-use Rattle.command_line.specs.declared.option_name.OptionName.TheVariants.{Map, Tile, Workers, Layer, Datatype, Radius}
+use Rattle.command_line.specs.declared.option_name.OptionName.TheVariants.{Map, Top, Tile, Workers, Layer, Datatype, Radius}
 use Rattle.command_line.specs.OptionNames.{Text, name_of}
 use Rattle.command_line.specs.Spelling.{Argument, in_one_word, in_two_words, positional, name_word, whole_word, words_of, IsPlain, IsClearlySpelled, given_of, last_words, AreSpelled}
 
@@ -15,11 +15,13 @@ use Rattle.command_line.specs.Spelling.{Argument, in_one_word, in_two_words, pos
 -- the option of a name
 abbrev option_named : Text → Option OptionName
 option_named text =
-    if bytes_eq text (codes "map") then Some Map else (if bytes_eq text (codes "tile") then Some Tile else (if bytes_eq text (codes "workers") then Some Workers
-    else (if bytes_eq text (codes "layer") then Some Layer else (if bytes_eq text (codes "datatype") then Some Datatype else (if bytes_eq text (codes "radius") then Some Radius else None)))))
+    if bytes_eq text (codes "map") then Some Map else (if bytes_eq text (codes "top") then Some Top else (if bytes_eq text (codes "tile") then Some Tile
+    else (if bytes_eq text (codes "workers") then Some Workers else (if bytes_eq text (codes "layer") then Some Layer
+    else (if bytes_eq text (codes "datatype") then Some Datatype else (if bytes_eq text (codes "radius") then Some Radius else None))))))
 
 named : (name : OptionName) → option_named (name_of name) ≡ Some name
 named Map = refl
+named Top = refl
 named Tile = refl
 named Workers = refl
 named Layer = refl
@@ -40,6 +42,7 @@ value_in word = after_first is_equals (drop 2 word)
 
 name_is_in : (n : OptionName) (v : Text) → name_in (whole_word n v) ≡ name_of n
 name_is_in Map v = refl
+name_is_in Top v = refl
 name_is_in Tile v = refl
 name_is_in Workers v = refl
 name_is_in Layer v = refl
@@ -48,6 +51,7 @@ name_is_in Radius v = refl
 
 value_is_in : (n : OptionName) (v : Text) → value_in (whole_word n v) ≡ v
 value_is_in Map v = refl
+value_is_in Top v = refl
 value_is_in Tile v = refl
 value_is_in Workers v = refl
 value_is_in Layer v = refl
@@ -56,6 +60,7 @@ value_is_in Radius v = refl
 
 has_equals : (n : OptionName) (v : Text) → list_any is_equals (whole_word n v) ≡ true
 has_equals Map v = refl
+has_equals Top v = refl
 has_equals Tile v = refl
 has_equals Workers v = refl
 has_equals Layer v = refl
@@ -64,6 +69,7 @@ has_equals Radius v = refl
 
 has_no_equals : (n : OptionName) → list_any is_equals (name_word n) ≡ false
 has_no_equals Map = refl
+has_no_equals Top = refl
 has_no_equals Tile = refl
 has_no_equals Workers = refl
 has_no_equals Layer = refl

@@ -22,10 +22,10 @@ pub record IsWorkerCount (n : ℕ) : Type 0 where
 
 -- the numbers of the task are within their limits
 abbrev pub IsWithinLimits : Task → Type 0
-IsWithinLimits (OneMetal layout layer datatype radius) = IsLayerNumber layer × IsLayerNumber datatype × IsRadius radius
-IsWithinLimits (Mapped layout map) = Unit {0}
+IsWithinLimits (OneMetal layout layer datatype radius top) = IsLayerNumber layer × IsLayerNumber datatype × IsRadius radius
+IsWithinLimits (Mapped layout map top) = Unit {0}
 
 -- this holds in one way at most
 pub IsWithinLimits-prop : (task : Task) → IsProp (IsWithinLimits task)
-IsWithinLimits-prop (OneMetal layout layer datatype radius) = hlevel props
-IsWithinLimits-prop (Mapped layout map) = Unit-prop
+IsWithinLimits-prop (OneMetal layout layer datatype radius top) = hlevel props
+IsWithinLimits-prop (Mapped layout map top) = Unit-prop

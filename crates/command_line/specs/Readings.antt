@@ -1,5 +1,5 @@
 -- inside this crate: what its readers of texts answer. No definition above rests on it.
-use Rattle.std.specs.Prelude.{ℕ, List, ◌≤◌, Option, option_map, option_to_list}
+use Rattle.std.specs.Prelude.{ℕ, List, ◌≤◌, Option, None, option_map, option_to_list}
 use Rattle.std.specs.Borrow.{Bor}
 use Rattle.command_line.specs.declared.task.Task.{Task}
 use Rattle.command_line.specs.declared.task.Task.TheVariants.{OneMetal}
@@ -28,8 +28,8 @@ pub record AreNumbers (layer datatype radius : List Text) (numbers : ℕ × ℕ 
   pub layer_is : IsNumberOnce layer numbers.0
   pub datatype_is : IsNumberOnce datatype numbers.1
   pub radius_is : IsNumberOnce radius numbers.2
-  pub limits : (layout : Text) → IsWithinLimits (OneMetal layout numbers.0 numbers.1 numbers.2)
+  pub limits : (layout : Text) → IsWithinLimits (OneMetal layout numbers.0 numbers.1 numbers.2 None)
 
--- the task is that of one metal, of a layout and options of these values
-pub data IsOneMetal (layout : Text) (layer datatype radius : List Text) : Task → Type 0 where
-  of_numbers : (numbers : ℕ × ℕ × ℕ) → AreNumbers layer datatype radius numbers → IsOneMetal layout layer datatype radius (OneMetal layout numbers.0 numbers.1 numbers.2)
+-- the task is that of one metal, of a layout, options of these values and this wanted structure
+pub data IsOneMetal (layout : Text) (layer datatype radius : List Text) (top : Option Text) : Task → Type 0 where
+  of_numbers : (numbers : ℕ × ℕ × ℕ) → AreNumbers layer datatype radius numbers → IsOneMetal layout layer datatype radius top (OneMetal layout numbers.0 numbers.1 numbers.2 top)

@@ -1,8 +1,8 @@
 -- what the words of a command ask for
-use Rattle.std.specs.Prelude.{ℕ, List, [], ◌∷◌, ◌≡◌, ◌<◌, All, length, map, filter}
+use Rattle.std.specs.Prelude.{ℕ, List, [], ◌∷◌, ◌≡◌, ◌<◌, All, Option, length, map, filter, option_to_list}
 use Rattle.std.specs.Str.{bytes_eq}
 use Rattle.command_line.specs.declared.option_name.OptionName.{OptionName}
-use Rattle.command_line.specs.declared.option_name.OptionName.TheVariants.{Map, Tile, Workers, Layer, Datatype, Radius}
+use Rattle.command_line.specs.declared.option_name.OptionName.TheVariants.{Map, Top, Tile, Workers, Layer, Datatype, Radius}
 use Rattle.command_line.specs.declared.request.Request.{Request}
 use Rattle.command_line.specs.declared.task.Task.{Task}
 use Rattle.command_line.specs.declared.task.Task.TheVariants.{OneMetal, Mapped}
@@ -28,18 +28,24 @@ pub data IsNumberOrDefault (default : ℕ) (values : List Text) : ℕ → Type 0
   as_given : {n : ℕ} → IsNumberOnce values n → IsNumberOrDefault default values n
   left_out : values ≡ [] → IsNumberOrDefault default values default
 
+-- the option is given once and this is its value, or it is left out and there is none
+abbrev pub IsTextIfGiven : List Text → Option Text → Type 0
+IsTextIfGiven values text = values ≡ option_to_list text
+
 -- the task of options with these values and of these positional words: the areas of one metal, or those of a layer map
 pub data IsTask (values : OptionName → List Text) (positions : List Text) : Task → Type 0 where
-  of_one_metal : {layout : Text} {layer datatype radius : ℕ}
+  of_one_metal : {layout : Text} {layer datatype radius : ℕ} {top : Option Text}
       → positions ≡ layout ∷ []
       → values Map ≡ []
       → IsNumberOnce (values Layer) layer → IsNumberOnce (values Datatype) datatype → IsNumberOnce (values Radius) radius
-      → IsTask values positions (OneMetal layout layer datatype radius)
-  of_map : {layout map : Text}
+      → IsTextIfGiven (values Top) top
+      → IsTask values positions (OneMetal layout layer datatype radius top)
+  of_map : {layout map : Text} {top : Option Text}
       → positions ≡ layout ∷ []
       → values Map ≡ map ∷ []
       → values Layer ≡ [] → values Datatype ≡ [] → values Radius ≡ []
-      → IsTask values positions (Mapped layout map)
+      → IsTextIfGiven (values Top) top
+      → IsTask values positions (Mapped layout map top)
 
 -- options with these values and these positional words ask for this request. That its numbers are within their limits
 -- is a fact of every request.

@@ -3,6 +3,8 @@
 pub enum OptionName {
     /// `map`: the name of the layer map's file.
     Map,
+    /// `top`: the name of the structure that is analysed.
+    Top,
     /// `tile`: the edge of the tiles.
     Tile,
     /// `workers`: how many workers there are.
@@ -16,8 +18,9 @@ pub enum OptionName {
 }
 
 /// All options.
-pub const OPTIONS: [OptionName; 6] = [
+pub const OPTIONS: [OptionName; 7] = [
     OptionName::Map,
+    OptionName::Top,
     OptionName::Tile,
     OptionName::Workers,
     OptionName::Layer,
@@ -36,6 +39,7 @@ impl OptionName {
     {
         match self {
             OptionName::Map => "map",
+            OptionName::Top => "top",
             OptionName::Tile => "tile",
             OptionName::Workers => "workers",
             OptionName::Layer => "layer",
@@ -51,6 +55,7 @@ impl OptionName {
     {
         match name {
             "map" => Some(OptionName::Map),
+            "top" => Some(OptionName::Top),
             "tile" => Some(OptionName::Tile),
             "workers" => Some(OptionName::Workers),
             "layer" => Some(OptionName::Layer),

@@ -13,6 +13,8 @@ pub enum Task {
         datatype: u16,
         /// The radius of the defects, in database units: from 1 to 1,000,000.
         radius: u32,
+        /// The name of the structure that is analysed, where one is wanted.
+        top: Option<Name>,
     },
     /// The areas of all layers of a layer map, for its sizes of defects.
     Mapped {
@@ -20,5 +22,7 @@ pub enum Task {
         layout: Name,
         /// The name of the layer map's file.
         map: Name,
+        /// The name of the structure that is analysed, where one is wanted.
+        top: Option<Name>,
     },
 }

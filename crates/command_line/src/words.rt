@@ -3,7 +3,7 @@ ghost use Rattle.command_line.specs.Arguments.{AreSingle, given_by};
 ghost use Rattle.command_line.specs.Command.{positions_found, values_found};
 ghost use Rattle.command_line.specs.Limits.{IsWithinLimits};
 ghost use Rattle.command_line.specs.Readings.{AreNumbers, IsCount, IsOnceFrom, IsOneMetal, texts_of};
-ghost use Rattle.command_line.specs.Requests.{Ask, IsRequestOf, IsTask, values_of};
+ghost use Rattle.command_line.specs.Requests.{Ask, IsRequestOf, IsTask, IsTextIfGiven, values_of};
 ghost use Rattle.command_line.specs.declared.request.Request.{Request};
 ghost use Rattle.command_line.specs.declared.task.Task.{Task};
 
@@ -39,6 +39,16 @@ fn name(alloc: Global, text: &str) -> Result<Name, AllocError>
     ensures { IfOk result (λ name. name ≡ text.now) }
 {
     Ok(Name::from_vec(Vec::from_slice(alloc, text.as_bytes())?))
+}
+
+/// The name of an option that may be left out.
+fn name_if_given(alloc: Global, text: Option<&str>) -> Result<Option<Name>, AllocError>
+    ensures { IfOk result (IsTextIfGiven (texts_of text.entry)) }
+{
+    match text {
+        None => Ok(None),
+        Some(text) => Ok(Some(name(alloc, text)?)),
+    }
 }
 
 /// The number of an option that must be given.
@@ -78,18 +88,19 @@ fn numbers(
     Some((layer as u16, datatype as u16, radius))
 }
 
-/// The areas of one metal, of these texts.
+/// The areas of one metal, of these texts and this wanted structure.
 fn one_metal(
     alloc: Global,
     layout: &str,
     layer: Option<&str>,
     datatype: Option<&str>,
     radius: Option<&str>,
+    top: Option<Name>,
 ) -> Result<Task, WordsFault>
     ensures task { IfOk result
-        (IsOneMetal layout.now (texts_of layer.entry) (texts_of datatype.entry) (texts_of radius.entry)) }
+        (IsOneMetal layout.now (texts_of layer.entry) (texts_of datatype.entry) (texts_of radius.entry) top) }
     ensures usage { result ≡ Err WordsFault.Usage → (task : Task) →
-        IsOneMetal layout.now (texts_of layer.entry) (texts_of datatype.entry) (texts_of radius.entry) task → ⊥ }
+        IsOneMetal layout.now (texts_of layer.entry) (texts_of datatype.entry) (texts_of radius.entry) top task → ⊥ }
 {
     let Some((layer, datatype, radius)) = numbers(layer, datatype, radius) else {
         return Err(WordsFault::Usage);
@@ -99,6 +110,7 @@ fn one_metal(
         layer,
         datatype,
         radius,
+        top,
     })
 }
 
@@ -119,11 +131,13 @@ fn task_of(alloc: Global, matches: &ArgMatches<'_>) -> Result<Task, WordsFault>
     let Some(layout) = matches.get_str(LAYOUT) else {
         return Err(WordsFault::Usage);
     };
+    let wanted = text_of(matches, OptionName::Top);
+    let top = name_if_given(alloc, wanted)?;
     let layer = text_of(matches, OptionName::Layer);
     let datatype = text_of(matches, OptionName::Datatype);
     let radius = text_of(matches, OptionName::Radius);
     let Some(map) = text_of(matches, OptionName::Map) else {
-        return one_metal(alloc, layout, layer, datatype, radius);
+        return one_metal(alloc, layout, layer, datatype, radius, top);
     };
     if layer.is_some() || datatype.is_some() || radius.is_some() {
         return Err(WordsFault::Usage);
@@ -131,6 +145,7 @@ fn task_of(alloc: Global, matches: &ArgMatches<'_>) -> Result<Task, WordsFault>
     Ok(Task::Mapped {
         layout: name(alloc, layout)?,
         map: name(alloc, map)?,
+        top,
     })
 }
 
@@ -178,10 +193,10 @@ fn request_given(alloc: Global, arguments: &Arguments<'_>) -> Result<Request, Wo
 ///
 /// | form | options that it must have | options that it may have |
 /// |---|---|---|
-/// | one metal | `layer`, `datatype`, `radius` | `tile`, `workers` |
-/// | layer map | `map` | `tile`, `workers` |
+/// | one metal | `layer`, `datatype`, `radius` | `top`, `tile`, `workers` |
+/// | layer map | `map` | `top`, `tile`, `workers` |
 ///
-/// `layer` and `datatype` are at most 65,535, and `radius` is from 1 to 1,000,000. `tile` is from 1 to 1,000,000,000,
+/// No value is empty. `top` is the name of a structure. `layer` and `datatype` are at most 65,535, and `radius` is from 1 to 1,000,000. `tile` is from 1 to 1,000,000,000,
 /// or 65,536 where it is left out, and `workers` from 1 to 64, or 4.
 pub fn read_words(alloc: Global, words: &[Word]) -> Result<Request, WordsFault>
     ensures request { IfOk result (Ask words.now) }

@@ -1,4 +1,7 @@
-pub mod OutlineLaws
+pub mod RouteEnds
+pub mod CoverReading
+pub mod LayerLaws
+pub mod LibraryNames
 pub mod LayoutLaws
 pub mod ReadingLaws
 pub mod VerdictLaws

@@ -19,13 +19,15 @@ use Rattle.command_line.proofs.RequestLaws.{requests_agree}
 use Rattle.layer_map.specs.LayerMap.{LayerMap, one_metal_map}
 use Rattle.layer_map.specs.declared.map.Map.{Map}
 use Rattle.report.specs.Report.{report_text}
-use Rattle.critical_areas.specs.Coverage.{IsCoveredOn}
 use Rattle.critical_areas.proofs.UniqueLaws.{rows_agree}
 use Rattle.critarea_core.specs.Finding.{IsMapFound, IsMapRead, LayoutMayCome, IsReportFound, of_unread, of_unfit_layout, IsFound, IsPrinted, report_out, report_cut, line_out, line_cut, no_line}
-use Rattle.critarea_core.specs.Input.{Input, Source, file, nothing, told_text, file_name_of, file_names, sources_of, IsTextFrom, IsToldInput, MayBeInput}
+use Rattle.critarea_core.specs.Input.{Input, Source, file, nothing, told_text, file_name_of, file_names, sources_of, wanted_top, IsTextFrom, IsToldInput, MayBeInput}
 use Rattle.critarea_core.specs.Refusals.{usage, map_limit, map_too_long, layout_limit, layout_too_long, of_layout_fault}
 use Rattle.critarea_core.specs.Run.{MapMayCome, Failures, failures, Output, HasRisen, IsCalm, IsReportFor, IsRefusalFor, IsReportDue, IsRefusalDue, IsComplete, NameSomeFile, EndsWith, StartsNamed, MayBeStarted, no_file, map_file, both_files}
 use Rattle.critarea_core.specs.Run as run
+use Rattle.flatten.specs.declared.fault.PlaceFault.TheVariants as place
+use Rattle.rect_cover.specs.declared.fault.CoverFault.TheVariants as cover
+use Rattle.critarea_core.specs.Coverage.{IsCoveredOn}
 use Rattle.gds_syntax.specs.declared.fault.SyntaxFault.TheVariants as syntax
 use Rattle.critarea_core.specs.Layout.{Subject, ShortLayoutComesTo}
 use Rattle.critarea_core.specs.Verdict.{IsSupported, support_checks, has_no_cuts, has_no_terminals, ShortMapComesTo, MapComesTo, IsVerdict, IsReportOn}
@@ -56,51 +58,51 @@ long_text limit (Some all) h = (all, refl, h)
 -- a subject has one report
 pub reports_agree : (subject : Subject) → IsUnique (IsReportOn subject)
 reports_agree subject text other a b =
-    let rows = rows_agree subject.layer_map (IsCoveredOn subject.layer_map subject.shapes) a.rows b.rows a.are_rows b.are_rows in
+    let rows = rows_agree subject.layer_map (IsCoveredOn subject) a.rows b.rows a.are_rows b.are_rows in
     a.is_text ∙ ap (report_text subject.layer_map.letter) rows ∙ sym b.is_text
 
 module _ (told : List ℕ → Option (List ℕ)) where
   -- ---- the map
 
   -- what a map's file that was not read says of the map
-  pub map_unread : (layout name : List ℕ) (before after : ℕ) (started : Type 0) (rest : Option (List ℕ)) (too_long : Refusal) (error : ReadError) → too_long ≡ map_too_long
-      → ReadsWhole (told name) map_limit before after started rest (Err error) → IsMapFound told (Mapped layout name) (failures before after) (Err (of_unread too_long error))
-  map_unread layout name before after started rest too_long read.Fault e (has_failed failed) = (failed.rose, (name, refl))
-  map_unread layout name before after started rest too_long read.TooLong e (is_too_long long calm opened left) =
+  pub map_unread : (layout name : List ℕ) (top : Option (List ℕ)) (before after : ℕ) (started : Type 0) (rest : Option (List ℕ)) (too_long : Refusal) (error : ReadError) → too_long ≡ map_too_long
+      → ReadsWhole (told name) map_limit before after started rest (Err error) → IsMapFound told (Mapped layout name top) (failures before after) (Err (of_unread too_long error))
+  map_unread layout name top before after started rest too_long read.Fault e (has_failed failed) = (failed.rose, (name, refl))
+  map_unread layout name top before after started rest too_long read.TooLong e (is_too_long long calm opened left) =
       let some = long_text map_limit (told name) long in
       (record { text = Some some.0; may_be = some.1; comes = rw e (refused_map_length some.0 some.2) }, calm)
-  map_unread layout name before after started rest too_long read.Memory e (has_no_memory calm opened left) = calm
+  map_unread layout name top before after started rest too_long read.Memory e (has_no_memory calm opened left) = calm
 
   -- what bytes that were read say of it
-  pub map_read : (layout name bytes : List ℕ) (before after : ℕ) (result : Result Map Unreported) → IfSome (told name) (λ all. bytes ≡ all) → length bytes ≤ map_limit → after ≡ before
-      → IsMapRead bytes result → IsMapFound told (Mapped layout name) (failures before after) result
-  map_read layout name bytes before after (Ok map) same short calm is =
+  pub map_read : (layout name : List ℕ) (top : Option (List ℕ)) (bytes : List ℕ) (before after : ℕ) (result : Result Map Unreported) → IfSome (told name) (λ all. bytes ≡ all) → length bytes ≤ map_limit → after ≡ before
+      → IsMapRead bytes result → IsMapFound told (Mapped layout name top) (failures before after) result
+  map_read layout name top bytes before after (Ok map) same short calm is =
       (record { text = Some bytes; may_be = same; comes = short_map bytes _ short is }, calm)
-  map_read layout name bytes before after (Err (Refused refusal)) same short calm is =
+  map_read layout name top bytes before after (Err (Refused refusal)) same short calm is =
       (record { text = Some bytes; may_be = same; comes = short_map bytes _ short is }, calm)
-  map_read layout name bytes before after (Err FilesFailed) same short calm is = absurd is
-  map_read layout name bytes before after (Err Memory) same short calm is = calm
+  map_read layout name top bytes before after (Err FilesFailed) same short calm is = absurd is
+  map_read layout name top bytes before after (Err Memory) same short calm is = calm
 
   -- ---- the layout
 
-  module _ (layer_map : LayerMap) (name : List ℕ) where
+  module _ (layer_map : LayerMap) (wanted : Option (List ℕ)) (name : List ℕ) where
     -- what a layout's file that was not read says of it
     pub layout_unread : (before after : ℕ) (started : Type 0) (rest : Option (List ℕ)) (too_long : Refusal) (error : ReadError) → too_long ≡ layout_too_long
-        → ReadsWhole (told name) layout_limit before after started rest (Err error) → IsReportFound told layer_map name (failures before after) (Err (of_unread too_long error))
+        → ReadsWhole (told name) layout_limit before after started rest (Err error) → IsReportFound told layer_map wanted name (failures before after) (Err (of_unread too_long error))
     layout_unread before after started rest too_long read.Fault e (has_failed failed) = failed.rose
     layout_unread before after started rest too_long read.TooLong e (is_too_long long calm opened left) =
         let some = long_text layout_limit (told name) long in
-        (record { layout = some.0; may_be = some.1; comes = rw e (refused_length layer_map some.0 some.2) }, calm)
+        (record { layout = some.0; may_be = some.1; comes = rw e (refused_length layer_map wanted some.0 some.2) }, calm)
     layout_unread before after started rest too_long read.Memory e (has_no_memory calm opened left) = calm
 
     -- what a layout that is refused says of it
     refused_layout : (files : Failures) (refusal : Refusal) (bytes : List ℕ) → IsCalm files → length bytes ≤ layout_limit → IfSome (told name) (λ all. bytes ≡ all)
-        → ShortLayoutComesTo layer_map bytes (refused refusal) → IsReportFound told layer_map name files (Err (Refused refusal))
+        → ShortLayoutComesTo layer_map wanted bytes (refused refusal) → IsReportFound told layer_map wanted name files (Err (Refused refusal))
     refused_layout files refusal bytes calm short same comes =
-        (record { layout = bytes; may_be = same; comes = short_layout layer_map bytes (refused refusal) short comes }, calm)
+        (record { layout = bytes; may_be = same; comes = short_layout layer_map wanted bytes (refused refusal) short comes }, calm)
 
     pub unfit : (files : Failures) (why : LayoutFault) (bytes : List ℕ) → IsCalm files → length bytes ≤ layout_limit → IfSome (told name) (λ all. bytes ≡ all)
-        → (why ≢ fault.Memory → ShortLayoutComesTo layer_map bytes (refused (of_layout_fault why))) → IsReportFound told layer_map name files (Err (of_unfit_layout why))
+        → (why ≢ fault.Memory → ShortLayoutComesTo layer_map wanted bytes (refused (of_layout_fault why))) → IsReportFound told layer_map wanted name files (Err (of_unfit_layout why))
     unfit files fault.Memory bytes calm short same comes = calm
     unfit files (fault.Syntax syntax.Memory) bytes calm short same comes = calm
     unfit files (fault.Syntax (syntax.Record f)) bytes calm short same comes = refused_layout files _ bytes calm short same (comes (λ same. absurd (cc same)))
@@ -114,22 +116,37 @@ module _ (told : List ℕ → Option (List ℕ)) where
     unfit files (fault.Syntax (syntax.AbsoluteAngle at)) bytes calm short same comes = refused_layout files _ bytes calm short same (comes (λ same. absurd (cc same)))
     unfit files (fault.Syntax (syntax.EmptyArray at)) bytes calm short same comes = refused_layout files _ bytes calm short same (comes (λ same. absurd (cc same)))
     unfit files (fault.Syntax (syntax.UnevenArray at)) bytes calm short same comes = refused_layout files _ bytes calm short same (comes (λ same. absurd (cc same)))
-    unfit files (fault.NotSupported at) bytes calm short same comes = refused_layout files _ bytes calm short same (comes (λ same. absurd (cc same)))
+    unfit files (fault.Place place.Memory) bytes calm short same comes = calm
+    unfit files (fault.Place (place.UnknownStructure at)) bytes calm short same comes = refused_layout files _ bytes calm short same (comes (λ same. absurd (cc same)))
+    unfit files (fault.Place (place.Cycle at)) bytes calm short same comes = refused_layout files _ bytes calm short same (comes (λ same. absurd (cc same)))
+    unfit files (fault.Place place.NoTop) bytes calm short same comes = refused_layout files _ bytes calm short same (comes (λ same. absurd (cc same)))
+    unfit files (fault.Place (place.ManyTops at)) bytes calm short same comes = refused_layout files _ bytes calm short same (comes (λ same. absurd (cc same)))
+    unfit files (fault.Place (place.TooDeep at)) bytes calm short same comes = refused_layout files _ bytes calm short same (comes (λ same. absurd (cc same)))
+    unfit files (fault.Place (place.TooManyShapes at)) bytes calm short same comes = refused_layout files _ bytes calm short same (comes (λ same. absurd (cc same)))
+    unfit files (fault.Place (place.OutOfRange at)) bytes calm short same comes = refused_layout files _ bytes calm short same (comes (λ same. absurd (cc same)))
+    unfit files (fault.Cover cover.Memory) bytes calm short same comes = calm
+    unfit files (fault.Cover (cover.RoundPath at)) bytes calm short same comes = refused_layout files _ bytes calm short same (comes (λ same. absurd (cc same)))
+    unfit files (fault.Cover (cover.BadExtension at)) bytes calm short same comes = refused_layout files _ bytes calm short same (comes (λ same. absurd (cc same)))
+    unfit files (fault.Cover (cover.OddWidth at)) bytes calm short same comes = refused_layout files _ bytes calm short same (comes (λ same. absurd (cc same)))
+    unfit files (fault.Cover (cover.PointPath at)) bytes calm short same comes = refused_layout files _ bytes calm short same (comes (λ same. absurd (cc same)))
+    unfit files (fault.Cover (cover.NotRectilinear at)) bytes calm short same comes = refused_layout files _ bytes calm short same (comes (λ same. absurd (cc same)))
+    unfit files (fault.Cover (cover.Reversal at)) bytes calm short same comes = refused_layout files _ bytes calm short same (comes (λ same. absurd (cc same)))
+    unfit files (fault.Cover (cover.OutOfRange at)) bytes calm short same comes = refused_layout files _ bytes calm short same (comes (λ same. absurd (cc same)))
 
     pub report_found : (files : Failures) (bytes : List ℕ) (text : Vec ℕ Global) (subject : Subject) → IsCalm files → length bytes ≤ layout_limit → IfSome (told name) (λ all. bytes ≡ all)
-        → ShortLayoutComesTo layer_map bytes (value subject) → IsReportOn subject text.items → IsReportFound told layer_map name files (Ok text)
+        → ShortLayoutComesTo layer_map wanted bytes (value subject) → IsReportOn subject text.items → IsReportFound told layer_map wanted name files (Ok text)
     report_found files bytes text subject calm short same is report =
-        (subject, record { layout = bytes; may_be = same; comes = short_layout layer_map bytes (value subject) short is }, report, calm)
+        (subject, record { layout = bytes; may_be = same; comes = short_layout layer_map wanted bytes (value subject) short is }, report, calm)
 
 -- what is found of a layout is the same for sources that tell the same of its file
-pub told_alike : (told other : List ℕ → Option (List ℕ)) (layer_map : LayerMap) (name : List ℕ) (files : Failures) (result : Result (Vec ℕ Global) Unreported) → other name ≡ told name
-    → IsReportFound other layer_map name files result → IsReportFound told layer_map name files result
-told_alike told other layer_map name files (Ok text) e (subject, l, report, calm) =
+pub told_alike : (told other : List ℕ → Option (List ℕ)) (layer_map : LayerMap) (wanted : Option (List ℕ)) (name : List ℕ) (files : Failures) (result : Result (Vec ℕ Global) Unreported) → other name ≡ told name
+    → IsReportFound other layer_map wanted name files result → IsReportFound told layer_map wanted name files result
+told_alike told other layer_map wanted name files (Ok text) e (subject, l, report, calm) =
     (subject, record { layout = l.layout; may_be = subst (λ o. IfSome o (λ all. l.layout ≡ all)) e l.may_be; comes = l.comes }, report, calm)
-told_alike told other layer_map name files (Err (Refused refusal)) e (l, calm) =
+told_alike told other layer_map wanted name files (Err (Refused refusal)) e (l, calm) =
     (record { layout = l.layout; may_be = subst (λ o. IfSome o (λ all. l.layout ≡ all)) e l.may_be; comes = l.comes }, calm)
-told_alike told other layer_map name files (Err FilesFailed) e found = found
-told_alike told other layer_map name files (Err Memory) e found = found
+told_alike told other layer_map wanted name files (Err FilesFailed) e found = found
+told_alike told other layer_map wanted name files (Err Memory) e found = found
 
 -- a good map is supported
 supported : {layer_map : LayerMap} {text : List ℕ} → ShortMapComesTo text (value layer_map) → All (IsSupported layer_map) support_checks
@@ -143,10 +160,10 @@ one_metal_is layer datatype radius =
 pub is_supported : (told : List ℕ → Option (List ℕ)) (task : Task) (layer_map : LayerMap) → MapMayCome told task (value layer_map) → All (IsSupported layer_map) support_checks
 is_supported told task layer_map m = go task m.text m.comes where
   go : (task : Task) (text : Option (List ℕ)) → MapComesTo task text (value layer_map) → All (IsSupported layer_map) support_checks
-  go (OneMetal layout layer datatype radius) text e = let same : layer_map ≡ one_metal_map layer datatype radius = cc e in
+  go (OneMetal layout layer datatype radius top) text e = let same : layer_map ≡ one_metal_map layer datatype radius = cc e in
       subst (λ m. All (IsSupported m) support_checks) (sym same) (one_metal_is layer datatype radius)
-  go (Mapped layout map) (Some text) (goes_on short says) = supported says
-  go (Mapped layout map) None h = absurd h
+  go (Mapped layout map top) (Some text) (goes_on short says) = supported says
+  go (Mapped layout map top) None h = absurd h
 
 -- the one file after the other: what was not calm before or after
 calm_both : {before middle after : ℕ} → middle ≡ before → after ≡ middle → after ≡ before
@@ -177,8 +194,8 @@ module _ (words : List (List ℕ)) (told : List ℕ → Option (List ℕ)) where
     some_text (Some all) = (all, refl)
 
     some_layout : (task : Task) → (text : Option (List ℕ)) × IsTextFrom told (sources_of task).layout text
-    some_layout (OneMetal layout layer datatype radius) = let some = some_text (told layout) in (Some some.0, some.1)
-    some_layout (Mapped layout map) = let some = some_text (told layout) in (Some some.0, some.1)
+    some_layout (OneMetal layout layer datatype radius top) = let some = some_text (told layout) in (Some some.0, some.1)
+    some_layout (Mapped layout map top) = let some = some_text (told layout) in (Some some.0, some.1)
 
     pub map_refused : (refusal : Refusal) → MapMayCome told request.task (refused refusal) → IsRefusalFor words told refusal
     map_refused refusal m =
@@ -193,7 +210,7 @@ module _ (words : List (List ℕ)) (told : List ℕ → Option (List ℕ)) where
     no_map files Memory calm = calm
 
     module _ (layer_map : LayerMap) (good : MapMayCome told request.task (value layer_map)) (name : List ℕ) (named : (sources_of request.task).layout ≡ file name) where
-      both : (outcome : Outcome Subject Refusal) (l : LayoutMayCome told layer_map name outcome) → (input : Input) × MayBeInput words told input × IsVerdict words input outcome
+      both : (outcome : Outcome Subject Refusal) (l : LayoutMayCome told layer_map (wanted_top request.task) name outcome) → (input : Input) × MayBeInput words told input × IsVerdict words input outcome
       both outcome l =
           let input : Input = record { map = good.text; layout = Some l.layout } in
           (input, input_may_be input good.may_be (subst (λ source. IsTextFrom told source (Some l.layout)) (sym named) l.may_be), with_layout words request asked good.text layer_map l.layout outcome good.comes l.comes)
@@ -204,7 +221,7 @@ module _ (words : List (List ℕ)) (told : List ℕ → Option (List ℕ)) where
 
       -- a good map, and what was found of the layout
       pub on_good_map : (before middle after : ℕ) (result : Result (Vec ℕ Global) Unreported) → IsCalm (failures before middle)
-          → IsReportFound told layer_map name (failures middle after) result → IsFound words told (failures before after) result
+          → IsReportFound told layer_map (wanted_top request.task) name (failures middle after) result → IsFound words told (failures before after) result
       on_good_map before middle after (Ok text) first (subject, l, report, calm) =
           let b = both (value subject) l in
           (record { input = b.0; may_be = b.1; subject = subject; verdict = b.2; report = report }, calm_both first calm)

@@ -11,6 +11,8 @@ use Rattle.layer_map.specs.declared.fault.MapFault.{MapFault}
 use Rattle.layer_map.specs.declared.fault.MapFault.TheVariants as map
 use Rattle.layer_map.specs.declared.map.Map.{Map}
 use Rattle.critarea_core.specs.Input.{file, sources_of, file_name_of, IsTextFrom}
+use Rattle.flatten.specs.declared.fault.PlaceFault.TheVariants as place
+use Rattle.rect_cover.specs.declared.fault.CoverFault.TheVariants as cover
 use Rattle.gds_syntax.specs.declared.fault.SyntaxFault.TheVariants as syntax
 use Rattle.critarea_core.specs.declared.fault.LayoutFault.{LayoutFault}
 use Rattle.critarea_core.specs.declared.fault.LayoutFault.TheVariants as fault
@@ -45,24 +47,26 @@ of_bad_map fault = Refused (of_map_fault fault)
 
 -- ---- the layout
 
--- some bytes that the file of this name may have, as far as the files tell it, come to this
-pub record LayoutMayCome (told : List ℕ → Option (List ℕ)) (layer_map : LayerMap) (name : List ℕ) (outcome : Outcome Subject Refusal) : Type 0 where
+-- some bytes that the file of this name may have, as far as the files tell it, come to this, where this top is wanted, or any
+pub record LayoutMayCome (told : List ℕ → Option (List ℕ)) (layer_map : LayerMap) (wanted : Option (List ℕ)) (name : List ℕ) (outcome : Outcome Subject Refusal) : Type 0 where
   pub layout : List ℕ
   pub may_be : IsTextFrom told (file name) (Some layout)
-  pub comes : LayoutComesTo layer_map layout outcome
+  pub comes : LayoutComesTo layer_map wanted layout outcome
 
 -- what is found of the layout: the report on it, or why there is none
-abbrev pub IsReportFound : (List ℕ → Option (List ℕ)) → LayerMap → List ℕ → Failures → Result (Vec ℕ Global) Unreported → Type 0
-IsReportFound told layer_map name files (Ok text) =
-    (subject : Subject) × LayoutMayCome told layer_map name (value subject) × IsReportOn subject text.items × IsCalm files
-IsReportFound told layer_map name files (Err (Refused refusal)) = LayoutMayCome told layer_map name (refused refusal) × IsCalm files
-IsReportFound told layer_map name files (Err FilesFailed) = HasRisen files
-IsReportFound told layer_map name files (Err Memory) = IsCalm files
+abbrev pub IsReportFound : (List ℕ → Option (List ℕ)) → LayerMap → Option (List ℕ) → List ℕ → Failures → Result (Vec ℕ Global) Unreported → Type 0
+IsReportFound told layer_map wanted name files (Ok text) =
+    (subject : Subject) × LayoutMayCome told layer_map wanted name (value subject) × IsReportOn subject text.items × IsCalm files
+IsReportFound told layer_map wanted name files (Err (Refused refusal)) = LayoutMayCome told layer_map wanted name (refused refusal) × IsCalm files
+IsReportFound told layer_map wanted name files (Err FilesFailed) = HasRisen files
+IsReportFound told layer_map wanted name files (Err Memory) = IsCalm files
 
 -- why there is no report where a layout was not read
 abbrev pub of_unfit_layout : LayoutFault → Unreported
 of_unfit_layout fault.Memory = Memory
 of_unfit_layout (fault.Syntax syntax.Memory) = Memory
+of_unfit_layout (fault.Place place.Memory) = Memory
+of_unfit_layout (fault.Cover cover.Memory) = Memory
 of_unfit_layout why = Refused (of_layout_fault why)
 
 -- why there is no map or report where a file was not read; this is the refusal of a file that is too long

@@ -22,8 +22,13 @@ pub record Sources : Type 0 where
 
 -- for one metal there is no map; the layout is in the file that the words name, and so is the map, where they name one
 abbrev pub sources_of : Task → Sources
-sources_of (OneMetal layout layer datatype radius) = record { map = nothing; layout = file layout }
-sources_of (Mapped layout map) = record { map = file map; layout = file layout }
+sources_of (OneMetal layout layer datatype radius top) = record { map = nothing; layout = file layout }
+sources_of (Mapped layout map top) = record { map = file map; layout = file layout }
+
+-- the structure that is wanted as the top, by its name
+abbrev pub wanted_top : Task → Option (List ℕ)
+wanted_top (OneMetal layout layer datatype radius top) = top
+wanted_top (Mapped layout map top) = top
 
 -- the name of the file, where the text comes from one
 abbrev pub file_name_of : Source → List (List ℕ)

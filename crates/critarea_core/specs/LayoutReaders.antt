@@ -1,40 +1,34 @@
--- what readers of a layout answer
-use Rattle.std.specs.Prelude.{List, Option, Some, None, Result, Ok, Err, ◌≡◌}
-use Rattle.first_refusal.specs.Checks.{IsFirstFailing}
-use Rattle.gds_syntax.specs.declared.element.Element.{Element}
-use Rattle.gds_syntax.specs.declared.element.Element.TheVariants.{Shape as shape_element}
-use Rattle.gds_syntax.specs.declared.element.Shape as drawn
-use Rattle.layer_map.specs.LayerMap.{LayerMap}
-use Rattle.critical_areas.specs.declared.shape.Shape.{Shape}
-use Rattle.critarea_core.specs.Layout.{Subject, IsMapped, IsDrawnAs, IsSupportedElement, place_of}
-use Rattle.critarea_core.specs.declared.fault.LayoutFault.{LayoutFault}
-use Rattle.critarea_core.specs.declared.fault.LayoutFault.TheVariants.{NotSupported}
+-- inside this crate: what its readers of a layout answer. No definition above rests on it.
+use Rattle.std.specs.Prelude.{ℕ, List, [], flat_map, filter, All, length, slice_index_or, ◌==◌, ◌≡◌, ◌<◌, ◌↔◌}
+use Rattle.geo_core.specs.Cells.{IsInLayout}
+use Rattle.geo_core.specs.declared.plane.Cell.{Cell}
+use Rattle.geo_core.specs.declared.plane.Rect.{Rect}
+use Rattle.flatten.specs.declared.placed.Placed.{Placed}
+use Rattle.layer_map.specs.LayerMap.{LayerMap, layers_of}
+use Rattle.net_extract.specs.Coverage.{IsCoveredIn}
+use Rattle.critarea_core.specs.Coverage.{IsCoveredOn}
+use Rattle.critarea_core.specs.Layout.{Subject}
 
--- the layer map and these shapes
-abbrev pub subject : LayerMap → List Shape → Subject
-subject layer_map shapes = record { layer_map = layer_map; shapes = shapes }
+-- a placed shape with the rectangles of its cover
+abbrev pub Covered : Type 0
+Covered = Placed × List Rect
 
--- the element is a shape on a layer of the map, of which this is the rectangle
-pub record IsTaken (layer_map : LayerMap) (element : Element) (s : Shape) : Type 0 where
-  pub shape : drawn.Shape
-  pub is_shape : element ≡ shape_element shape
-  pub is_mapped : IsMapped layer_map shape
-  pub drawn_as : IsDrawnAs shape s
+-- the rectangles of the shapes on the layer with this number, in the order of the shapes
+abbrev pub rects_on : ℕ → List Covered → List Rect
+rects_on number covered = flat_map (λ one. one.1) (filter (λ one. one.0.layer == number) covered)
 
--- the element is a shape on no layer of the map
-pub record IsPassedOver (layer_map : LayerMap) (element : Element) : Type 0 where
-  pub shape : drawn.Shape
-  pub is_shape : element ≡ shape_element shape
-  pub not_mapped : IsMapped layer_map shape → ⊥
+-- the first lists: there are so many, and each has the rectangles of the layer with its number
+pub record AreListsUpTo (covered : List Covered) (n : ℕ) (lists : List (List Rect)) : Type 0 where
+  pub as_many : length lists ≡ n
+  pub each : (number : ℕ) → number < n → slice_index_or lists number [] ≡ rects_on number covered
 
--- what is taken of an element
-abbrev pub IsTakenAs : LayerMap → Element → Result (Option Shape) LayoutFault → Type 0
-IsTakenAs layer_map element (Ok (Some s)) = IsTaken layer_map element s
-IsTakenAs layer_map element (Ok None) = IsPassedOver layer_map element
-IsTakenAs layer_map element (Err fault) = (IsSupportedElement layer_map element → ⊥) × (fault ≡ NotSupported (place_of element))
+-- the lists have what the subject's shapes cover, one list for each layer of its map
+pub record AreLayersOf (subject : Subject) (lists : List (List Rect)) : Type 0 where
+  pub one_each : length lists ≡ length (layers_of subject.layer_map)
+  pub within : All (All IsInLayout) lists
+  pub covers : (number : ℕ) (c : Cell) → IsCoveredIn lists number c ↔ IsCoveredOn subject number c
 
--- the fault names the first of the elements that is not supported
-pub record IsFirstUnsupported (layer_map : LayerMap) (elements : List Element) (fault : LayoutFault) : Type 0 where
-  pub element : Element
-  pub is_first : IsFirstFailing (IsSupportedElement layer_map) elements element
-  pub is_fault : fault ≡ NotSupported (place_of element)
+-- the subject on which the report is where a map and a placement are these
+pub record IsLaidOut (layer_map : LayerMap) (subject : Subject) (lists : List (List Rect)) : Type 0 where
+  pub of_map : subject.layer_map ≡ layer_map
+  pub layers : AreLayersOf subject lists

@@ -1,14 +1,13 @@
 -- the texts that a run reads
 pub mod Input
--- the layouts that are read
-pub mod Outline
+-- what a layout comes to
 pub mod Layout
-pub mod LayoutReaders
+pub mod Coverage
 -- what an input comes to, and a run
 pub mod LayoutFaults
 pub mod Refusals
 pub mod Verdict
 pub mod Run
 -- what parts of the code alone cite
-pub mod Edges
+pub mod LayoutReaders
 pub mod Finding

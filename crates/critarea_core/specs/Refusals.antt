@@ -4,6 +4,10 @@ use Rattle.std.specs.Fmt.{decimal}
 use Rattle.std.specs.List.{concat}
 use Rattle.layer_map.specs.MapFaults as map_faults
 use Rattle.layer_map.specs.declared.fault.MapFault.{MapFault}
+use Rattle.flatten.specs.PlaceFaults as place_faults
+use Rattle.flatten.specs.declared.fault.PlaceFault.{PlaceFault}
+use Rattle.rect_cover.specs.CoverFaults as cover_faults
+use Rattle.rect_cover.specs.declared.fault.CoverFault.{CoverFault}
 use Rattle.gds_syntax.specs.SyntaxFaults as syntax_faults
 use Rattle.gds_syntax.specs.declared.fault.SyntaxFault.{SyntaxFault}
 use Rattle.critarea_core.specs.LayoutFaults.{number_of, place_of}
@@ -58,9 +62,13 @@ of_layout_fault fault = of_layout (number_of fault) (place_of fault)
 abbrev pub of_syntax_fault : SyntaxFault → Refusal
 of_syntax_fault fault = of_layout (syntax_faults.number_of fault) (syntax_faults.place_of fault)
 
--- the layout has what is not supported yet, at this offset
-abbrev pub layout_not_supported : ℕ → Refusal
-layout_not_supported at = of_layout 60 at
+-- the shapes of its library are not placed
+abbrev pub of_place_fault : PlaceFault → Refusal
+of_place_fault fault = of_layout (place_faults.number_of fault) (place_faults.place_of fault)
+
+-- one of its placed shapes is not cut into rectangles
+abbrev pub of_cover_fault : CoverFault → Refusal
+of_cover_fault fault = of_layout (cover_faults.number_of fault) (cover_faults.place_of fault)
 
 -- the line that is printed for a refusal
 abbrev pub refusal_text : Refusal → List ℕ

@@ -10,11 +10,11 @@ use Rattle.gds_records.specs.Spelling.{AreBytes}
 use Rattle.layer_map.specs.Documents as document
 use Rattle.layer_map.specs.LayerMap.{LayerMap, one_metal_map}
 use Rattle.layer_map.specs.Paths.{cuts_path, terminals_path}
-use Rattle.critical_areas.specs.Coverage.{IsCoveredOn}
 use Rattle.critical_areas.specs.Rows.{AreRows}
 use Rattle.report.specs.Report.{report_text}
 use Rattle.report.specs.declared.row.Row.{Row}
-use Rattle.critarea_core.specs.Input.{Input, IsThere, sources_of}
+use Rattle.critarea_core.specs.Coverage.{IsCoveredOn}
+use Rattle.critarea_core.specs.Input.{Input, IsThere, sources_of, wanted_top}
 use Rattle.critarea_core.specs.Layout.{Subject, ShortLayoutComesTo}
 use Rattle.critarea_core.specs.Refusals.{usage, map_limit, map_too_long, of_map_fault, map_not_supported, layout_limit, layout_too_long}
 use Rattle.critarea_core.specs.declared.refusal.Refusal.{Refusal}
@@ -57,23 +57,23 @@ MapTextComesTo bytes = Then (Reads (IsShortEnough map_limit bytes) map_too_long)
 
 -- the layer map of a task, where this is the text of the map: that of one metal needs no text
 abbrev pub MapComesTo : Task → Option (List ℕ) → Outcome LayerMap Refusal → Type 0
-MapComesTo (OneMetal layout layer datatype radius) text outcome = outcome ≡ value (one_metal_map layer datatype radius)
-MapComesTo (Mapped layout map) text outcome = IsSomeAnd text (λ bytes. MapTextComesTo bytes outcome)
+MapComesTo (OneMetal layout layer datatype radius top) text outcome = outcome ≡ value (one_metal_map layer datatype radius)
+MapComesTo (Mapped layout map top) text outcome = IsSomeAnd text (λ bytes. MapTextComesTo bytes outcome)
 
 -- the words: a request, or they fit no form of the command
 abbrev pub WordsComeTo : List (List ℕ) → Outcome Request Refusal → Type 0
 WordsComeTo words = Reads (Ask words) usage
 
--- the layout: first its length, and then its bytes
-abbrev pub LayoutComesTo : LayerMap → List ℕ → Outcome Subject Refusal → Type 0
-LayoutComesTo layer_map layout = Then (Reads (IsShortEnough layout_limit layout) layout_too_long) (ShortLayoutComesTo layer_map)
+-- the layout, of which a top is wanted: first its length, and then its bytes
+abbrev pub LayoutComesTo : LayerMap → Option (List ℕ) → List ℕ → Outcome Subject Refusal → Type 0
+LayoutComesTo layer_map wanted layout = Then (Reads (IsShortEnough layout_limit layout) layout_too_long) (ShortLayoutComesTo layer_map wanted)
 
 -- the verdict: first the words, then the map, and then the layout, each of which is looked at only where what stands
 -- before it is good
 abbrev pub IsVerdict : List (List ℕ) → Input → Outcome Subject Refusal → Type 0
 IsVerdict words input =
     Then (WordsComeTo words) (λ request. Then (MapComesTo request.task input.map)
-    (λ layer_map outcome. IsSomeAnd input.layout (λ layout. LayoutComesTo layer_map layout outcome)))
+    (λ layer_map outcome. IsSomeAnd input.layout (λ layout. LayoutComesTo layer_map (wanted_top request.task) layout outcome)))
 
 -- the layout is looked at: the words ask for something, and its map is good
 pub record IsLayoutLookedAt (words : List (List ℕ)) (input : Input) : Type 0 where
@@ -95,5 +95,5 @@ AreBytesThere text = IfSome text AreBytes
 -- the text is the report on the subject
 pub record IsReportOn (subject : Subject) (text : List ℕ) : Type 0 where
   pub rows : List Row
-  pub are_rows : AreRows subject.layer_map (IsCoveredOn subject.layer_map subject.shapes) rows
+  pub are_rows : AreRows subject.layer_map (IsCoveredOn subject) rows
   pub is_text : text ≡ report_text subject.layer_map.letter rows

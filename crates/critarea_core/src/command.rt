@@ -1,10 +1,10 @@
-ghost use Rattle.std.specs.Prelude.{◌≡◌, ◌≢◌, ◌≤◌, ℕ, List, [], ◌∷◌, length, All, IfOk, IfErr};
+ghost use Rattle.std.specs.Prelude.{◌≡◌, ◌≢◌, ◌≤◌, ℕ, List, [], ◌∷◌, length, All, IfOk, IfErr, option_copied};
 ghost use Rattle.first_refusal.specs.Outcomes.{value, refused};
 ghost use Rattle.edge_io.specs.Bytes.{Appends};
 ghost use Rattle.command_line.specs.Requests.{Ask};
 ghost use Rattle.layer_map.specs.MapView.{layer_map_of};
 ghost use Rattle.critarea_core.specs.Finding.{IsFound, IsReportFound};
-ghost use Rattle.critarea_core.specs.Input.{file, sources_of};
+ghost use Rattle.critarea_core.specs.Input.{file, sources_of, wanted_top};
 ghost use Rattle.critarea_core.specs.Refusals.{layout_limit, of_layout_fault};
 ghost use Rattle.critarea_core.specs.Run.{EndsWith, IsComplete, StartsNamed, failures, output};
 ghost use Rattle.critarea_core.specs.Layout.{ShortLayoutComesTo, Subject};
@@ -26,30 +26,40 @@ use report::write_report;
 use std::alloc::Global;
 use std::thread::Threads;
 
-/// The report of the map on the layout with these bytes. The map has no cuts and no terminals.
-fn report_of_bytes(alloc: Global, map: &Map, bytes: &[u8]) -> Result<Vec<u8>, LayoutFault>
-    requires short { length bytes.now ≤ layout_limit }
+/// The report of the map on the layout with these bytes, of which this top is wanted, or any. The map has no cuts and no
+/// terminals.
+fn report_of_bytes(
+    rt: &(impl Threads + Sync),
+    alloc: Global,
+    map: &Map,
+    top: Option<&[u8]>,
+    bytes: Vec<u8>,
+) -> Result<Vec<u8>, LayoutFault>
+    requires short { length bytes.items ≤ layout_limit }
     requires supported { All (IsSupported (layer_map_of map.now)) support_checks }
     ensures report { IfOk result (λ text. (subject : Subject)
-        × ShortLayoutComesTo (layer_map_of map.now) bytes.now (value subject) × IsReportOn subject text.items) }
-    ensures refused { IfErr result (λ fault. fault ≢ Memory → ShortLayoutComesTo (layer_map_of map.now) bytes.now (refused (of_layout_fault fault))) }
+        × ShortLayoutComesTo (layer_map_of map.now) (option_copied top.entry) bytes.items (value subject) × IsReportOn subject text.items) }
+    ensures refused { IfErr result (λ fault. fault ≢ Memory →
+        ShortLayoutComesTo (layer_map_of map.now) (option_copied top.entry) bytes.items (refused (of_layout_fault fault))) }
 {
-    let shapes = read_layout(alloc, map, bytes)?;
-    let rows = critical_areas(alloc, map, shapes.as_slice())?;
+    let layers = read_layout(rt, alloc, map, top, bytes)?;
+    let rows = critical_areas(alloc, map, &layers)?;
     let mut text = Vec::new(alloc);
     write_report(alloc, rows.as_slice(), &mut text)?;
     Ok(text)
 }
 
-/// The report of the map on the layout in the file of this name, or why there is none.
+/// The report of the map on the layout in the file of this name, of which this top is wanted, or any; or why there is none.
 fn report_of_file<F: Files>(
+    rt: &(impl Threads + Sync),
     alloc: Global,
     map: &Map,
+    top: Option<&[u8]>,
     files: &mut F,
     name: &[u8],
 ) -> Result<Vec<u8>, Unreported>
     requires supported { All (IsSupported (layer_map_of map.now)) support_checks }
-    ensures found { IsReportFound (F.holds files.old) (layer_map_of map.now) name.now
+    ensures found { IsReportFound (F.holds files.old) (layer_map_of map.now) (option_copied top.entry) name.now
         (failures (F.faults files.old) (F.faults files.new)) result }
     ensures starts { Appends (F.starts files.old) (F.starts files.new) (name.now ∷ []) }
     ensures holds { (n : List ℕ) → F.holds files.new n ≡ F.holds files.old n }
@@ -61,7 +71,7 @@ fn report_of_file<F: Files>(
             return Err(Unreported::of_unread(error, too_long));
         }
     };
-    match report_of_bytes(alloc, map, bytes.as_slice()) {
+    match report_of_bytes(rt, alloc, map, top, bytes) {
         Ok(text) => Ok(text),
         Err(fault) => Err(Unreported::of_layout(fault)),
     }
@@ -76,8 +86,18 @@ fn layout_of(task: &Task) -> &Name
     }
 }
 
+/// The name of the structure that is wanted as the top, where one is.
+fn top_of(task: &Task) -> Option<&[u8]>
+    ensures { option_copied result ≡ wanted_top task.now }
+{
+    match task {
+        Task::OneMetal { top, .. } | Task::Mapped { top, .. } => top.as_ref().map(Name::as_slice),
+    }
+}
+
 /// The report that is asked for, or why there is none. The map is read first, and the layout only where the map is good.
 fn report_of_request<F: Files>(
+    rt: &(impl Threads + Sync),
     alloc: Global,
     request: &Request,
     files: &mut F,
@@ -89,19 +109,34 @@ fn report_of_request<F: Files>(
     ensures holds { (name : List ℕ) → F.holds files.new name ≡ F.holds files.old name }
 {
     match map_for(alloc, request, files) {
-        Ok(map) => report_of_file(alloc, &map, files, layout_of(&request.task).as_slice()),
+        Ok(map) => {
+            let top = top_of(&request.task);
+            report_of_file(
+                rt,
+                alloc,
+                &map,
+                top,
+                files,
+                layout_of(&request.task).as_slice(),
+            )
+        }
         Err(why) => Err(why),
     }
 }
 
 /// The report that the words ask for, or why there is none.
-fn find<F: Files>(alloc: Global, words: &[Word], files: &mut F) -> Result<Vec<u8>, Unreported>
+fn find<F: Files>(
+    rt: &(impl Threads + Sync),
+    alloc: Global,
+    words: &[Word],
+    files: &mut F,
+) -> Result<Vec<u8>, Unreported>
     ensures found { IsFound words.now (F.holds files.old) (failures (F.faults files.old) (F.faults files.new)) result }
     ensures started { StartsNamed words.now (F.holds files.old) (F.starts files.old) (F.starts files.new) }
     ensures holds { (name : List ℕ) → F.holds files.new name ≡ F.holds files.old name }
 {
     match read_words(alloc, words) {
-        Ok(request) => report_of_request(alloc, &request, files),
+        Ok(request) => report_of_request(rt, alloc, &request, files),
         Err(WordsFault::Usage) => Err(Unreported::Refused(Refusal::of_words(USAGE, 0))),
         Err(WordsFault::Memory) => Err(Unreported::Memory),
     }
@@ -110,8 +145,9 @@ fn find<F: Files>(alloc: Global, words: &[Word], files: &mut F) -> Result<Vec<u8
 /// Does what the words ask for, and answers the exit status.
 ///
 /// The words are the arguments of the program, in any order: a layout's file, and either the options `layer`, `datatype`
-/// and `radius` or the option `map` with the file of a layer map. Both may have `tile` and `workers`, which change nothing
-/// yet. `files` gives the map and the layout, `out` gets the report, and `err` the line of a refusal.
+/// and `radius` or the option `map` with the file of a layer map. Both may have `top`, the name of the structure that is
+/// analysed with all that it places, in place of the one that no reference names, and `tile` and `workers`, which change
+/// nothing yet. `files` gives the map and the layout, `out` gets the report, and `err` the line of a refusal.
 ///
 /// | why it ended | status | printed to `out` | printed to `err` |
 /// |---|---|---|---|
@@ -127,10 +163,10 @@ fn find<F: Files>(alloc: Global, words: &[Word], files: &mut F) -> Result<Vec<u8
 /// tell of the map is refused, the layout's file is not started. A map's refusal has number 39 at 1048576 where the map has more bytes than
 /// that, one of 40 to 47 at a path of its document, and 60 at 6 or 7 where it has cuts or terminals, which are not
 /// supported yet. A layout's refusal has number 9 at 268435456 where the layout has more bytes than that, one of 10 to 23 at an
-/// offset where its bytes are no library, and then 60: at 0 where the library has no structure or more than one, or at the offset
-/// of the first element that is a reference, or is no rectangle and on a layer of the map.
+/// offset where its bytes are no library, one of 24 to 30 where its shapes are not placed, and then one of 30 to 36 at the
+/// offset of the first placed shape, in the order of the routes, that has no cover.
 pub fn run<F: Files, O: Sink, E: Sink>(
-    _rt: &(impl Threads + Sync),
+    rt: &(impl Threads + Sync),
     alloc: Global,
     words: &[Word],
     files: &mut F,
@@ -151,6 +187,6 @@ pub fn run<F: Files, O: Sink, E: Sink>(
     ensures started { StartsNamed words.now (F.holds files.old) (F.starts files.old) (F.starts files.new) }
     ensures holds { (name : List ℕ) → F.holds files.new name ≡ F.holds files.old name }
 {
-    let found = find(alloc, words, files);
+    let found = find(rt, alloc, words, files);
     print(alloc, found, out, err)
 }

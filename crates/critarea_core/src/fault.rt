@@ -1,9 +1,10 @@
 ghost use Rattle.critarea_core.specs.declared.fault.LayoutFault.TheVariants.{Memory};
 ghost use Rattle.std.specs.Prelude.{◌≡◌};
 
+use flatten::PlaceFault;
 use gds_syntax::SyntaxFault;
 use geo_core::NoMemory;
-use std::alloc::AllocFailed;
+use rect_cover::CoverFault;
 use thiserror::Error;
 
 /// Why a layout was not read.
@@ -12,12 +13,12 @@ pub enum LayoutFault {
     /// The bytes are no library.
     #[error("the layout is no library")]
     Syntax(SyntaxFault),
-    /// The library has what is not supported yet.
-    #[error("the layout is not supported yet, at byte {at}")]
-    NotSupported {
-        /// The offset of the element, or 0 where there is no structure or more than one.
-        at: u32,
-    },
+    /// The shapes of its library are not placed.
+    #[error("the layout's shapes are not placed")]
+    Place(PlaceFault),
+    /// One of the placed shapes is not cut into rectangles.
+    #[error("a shape of the layout is not cut into rectangles")]
+    Cover(CoverFault),
     /// Out of memory.
     #[error("out of memory")]
     Memory,
@@ -32,7 +33,8 @@ impl LayoutFault {
     {
         match self {
             LayoutFault::Syntax(fault) => fault.number(),
-            LayoutFault::NotSupported { .. } => 60,
+            LayoutFault::Place(fault) => fault.number(),
+            LayoutFault::Cover(fault) => fault.number(),
             LayoutFault::Memory => 0,
         }
     }
@@ -43,7 +45,8 @@ impl LayoutFault {
     {
         match self {
             LayoutFault::Syntax(fault) => fault.place(),
-            LayoutFault::NotSupported { at } => u64::from(*at),
+            LayoutFault::Place(fault) => u64::from(fault.place()),
+            LayoutFault::Cover(fault) => u64::from(fault.place()),
             LayoutFault::Memory => 0,
         }
     }
@@ -62,11 +65,29 @@ impl From<SyntaxFault> for LayoutFault {
     }
 }
 
-impl<T: Drop> From<AllocFailed<T>> for LayoutFault {
-    ghost from_gives = { λ _ fault. fault ≡ Memory };
+impl From<PlaceFault> for LayoutFault {
+    ghost use Rattle.critarea_core.specs.LayoutFaults.{of_place};
 
-    fn from(_error: AllocFailed<T>) -> LayoutFault {
-        LayoutFault::Memory
+    ghost from_gives = { λ why fault. fault ≡ of_place why };
+
+    fn from(why: PlaceFault) -> LayoutFault {
+        match why {
+            PlaceFault::Memory => LayoutFault::Memory,
+            _ => LayoutFault::Place(why),
+        }
+    }
+}
+
+impl From<CoverFault> for LayoutFault {
+    ghost use Rattle.critarea_core.specs.LayoutFaults.{of_cover};
+
+    ghost from_gives = { λ why fault. fault ≡ of_cover why };
+
+    fn from(why: CoverFault) -> LayoutFault {
+        match why {
+            CoverFault::Memory => LayoutFault::Memory,
+            _ => LayoutFault::Cover(why),
+        }
     }
 }
 

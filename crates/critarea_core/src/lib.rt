@@ -4,9 +4,9 @@
 mod command;
 mod fault;
 pub mod laws;
+mod layers;
 mod layout;
 mod maps;
-mod outline;
 mod printing;
 mod refusal;
 mod unreported;

@@ -1,4 +1,4 @@
-ghost use Rattle.std.specs.Prelude.{◌≡◌, ℕ, List, [], ◌∷◌};
+ghost use Rattle.std.specs.Prelude.{◌≡◌, ℕ, List, [], ◌∷◌, Option};
 ghost use Rattle.edge_io.specs.Bytes.{Appends};
 ghost use Rattle.command_line.specs.declared.task.Task.TheVariants.{Mapped};
 ghost use Rattle.critarea_core.specs.Finding.{IsMapFound, IsMapRead};
@@ -32,7 +32,7 @@ fn supported_map(alloc: Global, bytes: &[u8]) -> Result<Map, Unreported>
 
 /// The map in the file of this name, or why there is none.
 fn map_in<F: Files>(alloc: Global, files: &mut F, name: &[u8]) -> Result<Map, Unreported>
-    ensures found { (layout : List ℕ) → IsMapFound (F.holds files.old) (Mapped layout name.now)
+    ensures found { (layout : List ℕ) (top : Option (List ℕ)) → IsMapFound (F.holds files.old) (Mapped layout name.now top)
         (failures (F.faults files.old) (F.faults files.new)) result }
     ensures starts { Appends (F.starts files.old) (F.starts files.new) (name.now ∷ []) }
     ensures holds { (n : List ℕ) → F.holds files.new n ≡ F.holds files.old n }

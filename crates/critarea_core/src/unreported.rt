@@ -1,9 +1,11 @@
 use super::fault::LayoutFault;
 use super::refusal::Refusal;
 use edge_io::ReadError;
+use flatten::PlaceFault;
 use gds_syntax::SyntaxFault;
 use geo_core::NoMemory;
 use layer_map::MapFault;
+use rect_cover::CoverFault;
 use thiserror::Error;
 
 /// Why no report was made.
@@ -50,7 +52,10 @@ impl Unreported {
         ensures { result ≡ of_unfit_layout fault }
     {
         match fault {
-            LayoutFault::Memory | LayoutFault::Syntax(SyntaxFault::Memory) => Unreported::Memory,
+            LayoutFault::Memory
+            | LayoutFault::Syntax(SyntaxFault::Memory)
+            | LayoutFault::Place(PlaceFault::Memory)
+            | LayoutFault::Cover(CoverFault::Memory) => Unreported::Memory,
             _ => Unreported::Refused(Refusal::of_layout(fault.number(), fault.place())),
         }
     }

@@ -13,7 +13,7 @@ use Rattle.fault_model.proofs.TallyLaws.{Tally-none, Tally-same_all}
 use Rattle.fault_model.proofs.TerminalLaws.{no_terminal, no_vias}
 use Rattle.layer_map.specs.LayerMap.{LayerMap}
 use Rattle.short_area.specs.Labels.{TouchesTwoLabels}
-use Rattle.critical_areas.specs.Cuts.{cut_of, cuts_of, terminal_cuts_of}
+use Rattle.net_extract.specs.Cuts.{cut_of, cuts_of, terminal_cuts_of}
 use Rattle.critical_areas.specs.FaultKinds.{IsFault}
 use Rattle.critical_areas.specs.GainedRows.{IsEmptyRow}
 use Rattle.critical_areas.specs.Pieces.{ArePiecesOf}

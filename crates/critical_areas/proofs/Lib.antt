@@ -1,5 +1,4 @@
 pub mod ListLaws
-pub mod MappedLaws
 pub mod WindowLaws
 pub mod SizeLaws
 pub mod PieceLaws

@@ -17,8 +17,8 @@ use Rattle.fault_model.proofs.NetLaws.{net_is_island}
 use Rattle.islands.specs.Islands.{LabelsAreIslands}
 use Rattle.short_area.specs.Labels.{TouchesLabel, TouchesTwoLabels}
 use Rattle.critical_areas.specs.Pieces.{IsInPieces, ArePiecesOf}
-use Rattle.critical_areas.proofs.ListLaws.{Contains-map, Contains-unmap}
-use Rattle.critical_areas.proofs.MappedLaws.{in_union, among_union}
+use Rattle.net_extract.proofs.ListLaws.{Contains-map, Contains-unmap}
+use Rattle.critical_areas.proofs.WindowLaws.{in_union, among_union}
 
 -- two facts of the value, if there is one
 pub IfOk-both : {T E : Type 0} (r : Result T E) (P Q : T → Type 0) → IfOk r P → IfOk r Q → IfOk r (λ x. P x × Q x)

@@ -5,7 +5,7 @@ use Rattle.fault_model.specs.Nets.{Cut}
 use Rattle.fault_model.specs.Faults.{IsShort, IsViaBlock}
 use Rattle.fault_model.specs.Vias.{IsViasOpen}
 use Rattle.layer_map.specs.LayerMap.{LayerMap}
-use Rattle.critical_areas.specs.Cuts.{cuts_of, terminal_cuts_of}
+use Rattle.net_extract.specs.Cuts.{cuts_of, terminal_cuts_of}
 use Rattle.report.specs.declared.kind.Kind.{Kind}
 use Rattle.report.specs.declared.kind.Kind.TheVariants.{Short, Open, Via}
 

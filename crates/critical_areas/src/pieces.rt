@@ -1,28 +1,21 @@
 ghost use Rattle.std.specs.Prelude.{◌≡◌, ◌+◌, ◌<◌, ◌^◌, IfOk, length, map};
 ghost use Rattle.geo_core.specs.Bounds.{IsRadius};
 ghost use Rattle.fault_model.specs.Areas.{Tally, cells_of_window};
+ghost use Rattle.fault_model.specs.Chains.{IsInUnion};
 ghost use Rattle.short_area.specs.Labels.{TouchesTwoLabels};
-ghost use Rattle.critical_areas.specs.Mapped.{IsCoveredBy};
 ghost use Rattle.critical_areas.specs.Pieces.{ArePiecesOf};
 
-use super::mapped::rects_of;
-use super::mapped_rect::MappedRect;
 use geo_core::{Labelled, NoMemory, Rect};
 use islands::label;
 use short_area::short_area;
 use std::alloc::Global;
 
-/// The rectangles of the metal with this number, each with the label of its island.
-pub fn pieces_of(
-    alloc: Global,
-    mapped: &[MappedRect],
-    number: u32,
-) -> Result<Vec<Labelled>, NoMemory>
-    ensures { IfOk result (λ pieces. ArePiecesOf (IsCoveredBy mapped.now number) pieces.items) }
+/// The rectangles of a metal, each with the label of its island.
+pub fn pieces_of(alloc: Global, rects: &[Rect]) -> Result<Vec<Labelled>, NoMemory>
+    ensures { IfOk result (λ pieces. ArePiecesOf (IsInUnion rects.now) pieces.items) }
 {
-    let rects = rects_of(alloc, mapped, number)?;
-    let labels = label(alloc, &rects)?;
-    with_labels(alloc, &rects, &labels)
+    let labels = label(alloc, rects)?;
+    with_labels(alloc, rects, &labels)
 }
 
 /// Each rectangle with its label.

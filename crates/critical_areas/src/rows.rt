@@ -1,35 +1,36 @@
-ghost use Rattle.std.specs.Prelude.{◌≡◌, ◌<◌, ◌^◌, [], OnOk, length, slice_index};
+ghost use Rattle.std.specs.Prelude.{◌≡◌, ◌<◌, ◌≤◌, ◌^◌, [], OnOk, length, slice_index};
 ghost use Rattle.std.specs.List.{enumerate_from, zip};
 ghost use Rattle.fault_model.specs.Areas.{cells_of_window};
 ghost use Rattle.critical_areas.specs.GainedRows.{GainsRows, IsEmptyRow, IsShortRow};
-ghost use Rattle.critical_areas.specs.Mapped.{IsCoveredBy};
+ghost use Rattle.net_extract.specs.Coverage.{IsCoveredIn};
 ghost use Rattle.critical_areas.specs.Questions.{of_kind};
 ghost use Rattle.critical_areas.specs.Rows.{Answers, IsRowFor};
 ghost use Rattle.layer_map.specs.MapView.{layer_map_of};
 ghost use Rattle.report.specs.declared.kind.Kind.TheVariants.{Short, Open};
 
-use super::mapped_rect::MappedRect;
 use super::pieces::{area_of_shorts, pieces_of};
-use geo_core::{Labelled, NoMemory, Rect};
+use geo_core::{Labelled, NoMemory, Rect, RectList};
 use layer_map::{LayerName, Map};
 use report::{Kind, Row};
 use std::alloc::Global;
 
-/// Adds the rows of shorts: for each metal in order, one for each size.
+/// Adds the rows of shorts: for each metal in order, one for each size. The rectangles of a metal are the list with its
+/// number.
 pub fn push_shorts(
     alloc: Global,
     map: &Map,
-    mapped: &[MappedRect],
+    lists: &[RectList],
     window: Option<Rect>,
     rows: &mut Vec<Row>,
 ) -> Result<(), NoMemory>
-    requires { map.now.cuts ≡ [] }
+    requires no_cuts { map.now.cuts ≡ [] }
+    requires one_each { length map.now.metals ≤ length lists.now }
     ensures { let layer_map = layer_map_of map.now in
-        OnOk result (GainsRows (Answers layer_map (IsCoveredBy mapped.now) (cells_of_window window))
+        OnOk result (GainsRows (Answers layer_map (IsCoveredIn lists.now) (cells_of_window window))
         (of_kind Short (enumerate_from 0 layer_map.metals) layer_map.sizes) rows.old.items rows.new.items) }
 {
     for (number, metal) in map.metals.as_slice().iter().enumerate() {
-        let pieces = pieces_of(alloc, mapped, number as u32)?;
+        let pieces = pieces_of(alloc, lists[number].as_slice())?;
         push_shorts_of(alloc, map, metal.name, &pieces, window, rows)?;
     }
     Ok(())

@@ -1,14 +1,16 @@
-ghost use Rattle.std.specs.Prelude.{pos, ◌≡◌, ◌≤ℤ◌, [], IfSome, IfNone};
+ghost use Rattle.std.specs.Prelude.{pos, ◌≡◌, ◌≤ℤ◌, ◌++◌, List, All};
+ghost use Rattle.std.specs.List.{flat_map};
 ghost use Rattle.geo_core.specs.Bounds.{IsRadius};
 ghost use Rattle.geo_core.specs.Cells.{IsInLayout};
 ghost use Rattle.geo_core.specs.declared.bounds.TheConstants.{GREATEST_REACH};
-ghost use Rattle.fault_model.specs.Areas.{IsBoundsOf, IsCovered, IsWindowOf};
-ghost use Rattle.critical_areas.specs.Mapped.{IsCoveredBy};
+ghost use Rattle.geo_core.specs.declared.plane.Rect.{Rect as Rectangle};
+ghost use Rattle.fault_model.specs.Areas.{IsCovered, IsWindowOf};
+ghost use Rattle.net_extract.specs.Coverage.{IsCoveredIn};
+ghost use Rattle.critical_areas.specs.Bounds.{AreBounds};
 ghost use Rattle.layer_map.specs.LayerMap.{reach_of};
 ghost use Rattle.layer_map.specs.MapView.{layer_map_of};
 
-use super::mapped_rect::MappedRect;
-use geo_core::{Rect, grow, join};
+use geo_core::{Rect, RectList, grow, join};
 use layer_map::Map;
 
 /// How far a defect of the map reaches at most: the greatest radius, which is the last.
@@ -20,25 +22,50 @@ pub fn reach(map: &Map) -> u32
     radii[radii.len() - 1]
 }
 
-/// The least rectangle that has all cells of the rectangles, where there are any.
-fn bounds(mapped: &[MappedRect]) -> Option<Rect>
-    ensures some { IfSome result (λ box. IsBoundsOf (IsCovered (IsCoveredBy mapped.now)) box) }
-    ensures within { IfSome result IsInLayout }
-    ensures none { IfNone result (mapped.now ≡ []) }
+/// The bounds of the rectangles, where there are any.
+fn bounds_of(rects: &[Rect]) -> Option<Rect>
+    requires { All IsInLayout rects.now }
+    ensures { AreBounds rects.now result }
 {
-    let mut bounds = mapped.first()?.rect;
-    for item in mapped {
-        bounds = join(bounds, item.rect);
+    let mut bounds = *rects.first()?;
+    for rect in rects {
+        bounds = join(bounds, *rect);
     }
     Some(bounds)
 }
 
-/// The window: the bounds of the rectangles, grown by the reach of the defects. There is none where there are no
-/// rectangles.
-pub fn window_of(mapped: &[MappedRect], reach: u32) -> Option<Rect>
-    requires { pos reach ≤ℤ GREATEST_REACH }
-    ensures { IsWindowOf (IsCovered (IsCoveredBy mapped.now)) reach result }
+/// The bounds of two lists together, from those of each.
+fn bounds_of_both(one: Option<Rect>, other: Option<Rect>) -> Option<Rect>
+    ensures { (first second : List Rectangle) → AreBounds first one → AreBounds second other → AreBounds (first ++ second) result }
 {
-    let bounds = bounds(mapped)?;
+    let Some(a) = one else {
+        return other;
+    };
+    let Some(b) = other else {
+        return one;
+    };
+    Some(join(a, b))
+}
+
+/// The bounds of all rectangles of the lists, where there are any.
+fn bounds_of_all(lists: &[RectList]) -> Option<Rect>
+    requires { All (All IsInLayout) lists.now }
+    ensures { AreBounds (flat_map (λ list. list) lists.now) result }
+{
+    let mut bounds = None;
+    for list in lists {
+        bounds = bounds_of_both(bounds, bounds_of(list.as_slice()));
+    }
+    bounds
+}
+
+/// The window: the bounds of all rectangles, grown by the reach of the defects. There is none where there are no
+/// rectangles.
+pub fn window_of(lists: &[RectList], reach: u32) -> Option<Rect>
+    requires reach { pos reach ≤ℤ GREATEST_REACH }
+    requires within { All (All IsInLayout) lists.now }
+    ensures { IsWindowOf (IsCovered (IsCoveredIn lists.now)) reach result }
+{
+    let bounds = bounds_of_all(lists)?;
     Some(grow(bounds, reach as i32))
 }

@@ -40,8 +40,6 @@ const NO_OPTION: &[&str] = &[
     "a|--ma|m",
     "a|--maps|m",
     "a|--lay|1|--datatype|0|--radius|3",
-    "a|--map|m|--top|t",
-    "a|--map|m|--top=t",
     "--generate|3",
     "--generate=3",
     "a|--=m",
@@ -50,6 +48,9 @@ const NO_OPTION: &[&str] = &[
     // no value, or one in a word of its own that begins with a dash and is more than the dash
     "a|--map",
     "--map|a",
+    "a|--map|m|--top",
+    "a|--map|m|--top|--tile|7",
+    "a|--map|m|--top|-t",
     "a|--map|--",
     "a|--map|--|m",
     "a|--map|-m",
@@ -59,6 +60,14 @@ const NO_OPTION: &[&str] = &[
     "a|--map|m|--map|m",
     "a|--map=m|--map|n",
     "a|--map|m|--tile=7|--tile=7",
+    "a|--map|m|--top=S|--top|T",
+    "a|--map|m|--top|S|--top|S",
+    // no form of its own, and no other spelling
+    "a|--top|S",
+    "--map|m|--top|S",
+    "a|--map|m|--to|S",
+    "a|--map|m|--tops|S",
+    "a|--map|m|--Top|S",
 ];
 
 /// Words with an empty text.
@@ -69,6 +78,9 @@ const EMPTY: &[&str] = &[
     "--map|m|--|",
     "a|--map|m|",
     "a|--map|m|--tile=",
+    "a|--map|m|--top=",
+    "a|--map|m|--top|",
+    "a|--layer|1|--datatype|0|--radius|3|--top=",
     "a|--layer=|--datatype=0|--radius=3",
     "a|--layer|1|--datatype|0|--radius|",
 ];

@@ -1,4 +1,4 @@
-use super::rows::{Asked, Row, ask_for};
+use super::rows::{Asked, Row, TopRow, ask_for, ask_for_top};
 
 /// Words of the form of one metal.
 const METAL_ROWS: &[Row] = &[
@@ -93,6 +93,35 @@ const MAP_ROWS: &[Row] = &[
     ),
 ];
 
+/// Words of both forms that want a structure.
+const TOP_ROWS: &[TopRow] = &[
+    (
+        "a|--layer|1|--datatype|0|--radius|3|--top|S",
+        Asked::Metal("a", (1, 0, 3)),
+        "S",
+    ),
+    (
+        "--top=S|--layer=1|--datatype=0|--radius=3|a",
+        Asked::Metal("a", (1, 0, 3)),
+        "S",
+    ),
+    ("a|--map|m|--top|S", Asked::Map("a", "m"), "S"),
+    (
+        "--tile|7|--top|CELL_1|--workers|2|--map=m|a",
+        Asked::Map("a", "m"),
+        "CELL_1",
+    ),
+    // any text names a structure, and what looks like a number is one, too
+    ("a|--map|m|--top|7", Asked::Map("a", "m"), "7"),
+    ("a|--map|m|--top|top", Asked::Map("a", "m"), "top"),
+    ("a|--map|m|--top=--map=n", Asked::Map("a", "m"), "--map=n"),
+    ("a|--map|m|--top==", Asked::Map("a", "m"), "="),
+    ("a|--map|m|--top|-", Asked::Map("a", "m"), "-"),
+    ("a|--map|m|--top|a b", Asked::Map("a", "m"), "a b"),
+    // behind two dashes it is a word like any other
+    ("--map|m|--top|S|--|--top", Asked::Map("--top", "m"), "S"),
+];
+
 /// The four arguments of a command in each of their orders, spelled in one word and in two.
 const ORDERS: &[&str] = &[
     "a|--layer|1|--datatype=0|--radius|3",
@@ -140,5 +169,12 @@ fn arguments_come_in_any_order(rt: HostRuntime) {
     let asked = Asked::Metal("a", (1, 0, 3));
     for line in ORDERS {
         assert!(rt; ask_for(rt.alloc(), line, &asked, 65_536, 4), "{line}");
+    }
+}
+
+#[test]
+fn a_structure_is_wanted(rt: HostRuntime) {
+    for (line, asked, top) in TOP_ROWS {
+        assert!(rt; ask_for_top(rt.alloc(), line, asked, top), "{line}");
     }
 }

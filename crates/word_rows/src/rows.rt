@@ -10,8 +10,11 @@ pub enum Asked {
     Map(&'static str, &'static str),
 }
 
-/// A line of words, and what they ask for: the task, the tile and the workers.
+/// A line of words, and what they ask for: the task, the tile and the workers. They want no structure.
 pub type Row = (&'static str, Asked, u32, u32);
+
+/// A line of words, and what they ask for: the task, and the structure that they want.
+pub type TopRow = (&'static str, Asked, &'static str);
 
 /// The words of a line, with a bar between two of them. An empty line has none.
 fn words_of(alloc: Global, line: &str) -> Result<Vec<Word>, AllocError> {
@@ -39,6 +42,7 @@ fn is_metal(task: &Task, name: &str, numbers: (u16, u16, u32)) -> bool {
             layer,
             datatype,
             radius,
+            ..
         } => layout.as_slice() == name.as_bytes() && (*layer, *datatype, *radius) == numbers,
         Task::Mapped { .. } => false,
     }
@@ -48,27 +52,50 @@ fn is_metal(task: &Task, name: &str, numbers: (u16, u16, u32)) -> bool {
 fn is_mapped(task: &Task, name: &str, map_name: &str) -> bool {
     match task {
         Task::OneMetal { .. } => false,
-        Task::Mapped { layout, map } => {
+        Task::Mapped { layout, map, .. } => {
             layout.as_slice() == name.as_bytes() && map.as_slice() == map_name.as_bytes()
         }
     }
 }
 
-/// Whether the request is for this.
-fn is_for(request: &Request, asked: &Asked, edge: u32, workers: u32) -> bool {
-    if request.edge != edge || request.workers != workers {
-        return false;
-    }
+/// Whether the task is this.
+fn is_task(task: &Task, asked: &Asked) -> bool {
     match asked {
-        Asked::Metal(layout, numbers) => is_metal(&request.task, layout, *numbers),
-        Asked::Map(layout, map) => is_mapped(&request.task, layout, map),
+        Asked::Metal(layout, numbers) => is_metal(task, layout, *numbers),
+        Asked::Map(layout, map) => is_mapped(task, layout, map),
     }
 }
 
-/// Whether the words of a line ask for this.
+/// The name of the structure that the task wants, where it wants one.
+fn top_of(task: &Task) -> Option<&[u8]> {
+    match task {
+        Task::OneMetal { top: Some(top), .. } | Task::Mapped { top: Some(top), .. } => {
+            Some(top.as_slice())
+        }
+        _ => None,
+    }
+}
+
+/// Whether the words of a line ask for this, and want no structure.
 pub fn ask_for(alloc: Global, line: &str, asked: &Asked, edge: u32, workers: u32) -> bool {
     match answer(alloc, line) {
-        Ok(request) => is_for(&request, asked, edge, workers),
+        Ok(request) => {
+            is_task(&request.task, asked)
+                && top_of(&request.task).is_none()
+                && request.edge == edge
+                && request.workers == workers
+        }
+        Err(_) => false,
+    }
+}
+
+/// Whether the words of a line ask for this, and want this structure.
+pub fn ask_for_top(alloc: Global, line: &str, asked: &Asked, top: &str) -> bool {
+    match answer(alloc, line) {
+        Ok(request) => {
+            is_task(&request.task, asked)
+                && top_of(&request.task).is_some_and(|name| name == top.as_bytes())
+        }
         Err(_) => false,
     }
 }

@@ -1,4 +1,4 @@
-//! Layouts of the whole grammar: what is read though nothing is asked of it, and what is not supported yet.
+//! Layouts of the whole grammar: what is read though nothing is asked of it, what is not supported yet, and tops.
 
 use super::layouts::{TWO_BARS, layout_of};
 use super::runs::{NO_SHORT, RADIUS_3, SHORT_32, Want, answers, calm, expect};
@@ -54,17 +54,19 @@ const PUT_IN: &[(usize, &[u8], Want)] = &[
     (94, ANNOTATION, SHORT_32),
     (158, NODE, SHORT_32),
     (222, SLANTED, SHORT_32),
-    // not supported yet
-    (94, PATH, NOT_SUPPORTED),
-    (94, BOX, NOT_SUPPORTED),
-    (94, REFERENCE, NOT_SUPPORTED),
+    // beside the left bar, whose net grows by no cell that is nearer to the right one, and on it
+    (94, PATH, SHORT_32),
+    (94, BOX, SHORT_32),
+    // a reference of the structure to itself
+    (
+        94,
+        REFERENCE,
+        Want::BadLayout {
+            number: 25,
+            place: 60,
+        },
+    ),
 ];
-
-/// The first element is not supported.
-const NOT_SUPPORTED: Want = Want::BadLayout {
-    number: 60,
-    place: 94,
-};
 
 /// The file of the two bars with these bytes put in here.
 fn with(alloc: Global, at: usize, bytes: &[u8]) -> Result<Vec<u8>, AllocError> {
@@ -109,25 +111,30 @@ const SECOND: &[u8] = b"\
     \x00\x1C\x05\x02\x00\x00\x00\x00\x00\x00\x00\x00\x00\x00\x00\x00\x00\x00\x00\x00\x00\x00\x00\x00\
     \x00\x00\x00\x00\x00\x06\x06\x06U\x00\x00\x04\x07\x00";
 
-/// A library has one structure.
-const OTHER_NUMBER: Want = Want::BadLayout {
-    number: 60,
+/// A library has no top, or two.
+const NO_TOP: Want = Want::BadLayout {
+    number: 27,
     place: 0,
 };
 
-/// Whether a library without a structure is not supported.
+const TWO_TOPS: Want = Want::BadLayout {
+    number: 28,
+    place: 226,
+};
+
+/// Whether a library without a structure has no top.
 fn no_structure_is_refused(rt: &(impl Threads + Sync), alloc: Global) -> bool {
     match no_structure(alloc) {
-        Ok(layout) => answers(rt, alloc, &calm(RADIUS_3, layout.as_slice()), &OTHER_NUMBER),
+        Ok(layout) => answers(rt, alloc, &calm(RADIUS_3, layout.as_slice()), &NO_TOP),
         Err(_) => false,
     }
 }
 
 #[test]
-fn one_structure_is_read(rt: HostRuntime) {
+fn one_top_is_wanted(rt: HostRuntime) {
     let holds = no_structure_is_refused(&rt, rt.alloc());
     expect(&rt, holds, &"none");
-    let holds = put_in_answers(&rt, rt.alloc(), 226, SECOND, &OTHER_NUMBER);
+    let holds = put_in_answers(&rt, rt.alloc(), 226, SECOND, &TWO_TOPS);
     expect(&rt, holds, &"two");
 }
 

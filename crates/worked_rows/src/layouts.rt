@@ -47,7 +47,12 @@ pub fn layout_of(alloc: Global, elements: &[u8]) -> Result<Vec<u8>, AllocError> 
 }
 
 /// Appends a record: its length, its kind and form, and its body, which is not too long for a record.
-fn push_record(layout: &mut Vec<u8>, kind: u8, form: u8, body: &[u8]) -> Result<(), AllocError> {
+pub fn push_record(
+    layout: &mut Vec<u8>,
+    kind: u8,
+    form: u8,
+    body: &[u8],
+) -> Result<(), AllocError> {
     let length = u16::try_from(body.len().saturating_add(4)).unwrap_or(u16::MAX);
     layout.extend_from_slice(&length.to_be_bytes())?;
     layout.extend_from_slice(&[kind, form])?;
@@ -56,7 +61,7 @@ fn push_record(layout: &mut Vec<u8>, kind: u8, form: u8, body: &[u8]) -> Result<
 }
 
 /// The bytes of these points.
-fn points_of(alloc: Global, points: &[(i32, i32)]) -> Result<Vec<u8>, AllocError> {
+pub fn points_of(alloc: Global, points: &[(i32, i32)]) -> Result<Vec<u8>, AllocError> {
     let mut bytes = Vec::new(alloc);
     for (x, y) in points {
         bytes.extend_from_slice(&x.to_be_bytes())?;
@@ -65,22 +70,41 @@ fn points_of(alloc: Global, points: &[(i32, i32)]) -> Result<Vec<u8>, AllocError
     Ok(bytes)
 }
 
-/// Appends a boundary: BOUNDARY, LAYER, DATATYPE, XY and ENDEL.
-fn push_boundary(
+/// The two kinds of shapes that fill an outline.
+#[derive(Clone, Copy)]
+pub enum Filled {
+    Boundary,
+    BoxElement,
+}
+
+impl Filled {
+    /// The kind of the record that opens the shape, and that of the record with its datatype.
+    fn kinds(self) -> (u8, u8) {
+        match self {
+            Filled::Boundary => (0x08, 0x0E),
+            Filled::BoxElement => (0x2D, 0x2E),
+        }
+    }
+}
+
+/// Appends a boundary or a box: BOUNDARY or BOX, LAYER, DATATYPE or BOXTYPE, XY and ENDEL.
+fn push_filled(
     elements: &mut Vec<u8>,
+    filled: Filled,
     layer: u16,
     datatype: u16,
     points: &[u8],
 ) -> Result<(), AllocError> {
-    push_record(elements, 0x08, 0, &[])?;
+    let (opening, own) = filled.kinds();
+    push_record(elements, opening, 0, &[])?;
     push_record(elements, 0x0D, 2, &layer.to_be_bytes())?;
-    push_record(elements, 0x0E, 2, &datatype.to_be_bytes())?;
+    push_record(elements, own, 2, &datatype.to_be_bytes())?;
     push_record(elements, 0x10, 3, points)?;
     push_record(elements, 0x11, 0, &[])
 }
 
 /// Appends a rectangle, its points counterclockwise from its lower left corner.
-fn push_plate(alloc: Global, elements: &mut Vec<u8>, plate: &Plate) -> Result<(), AllocError> {
+pub fn push_plate(alloc: Global, elements: &mut Vec<u8>, plate: &Plate) -> Result<(), AllocError> {
     let corners = [
         (plate.x0, plate.y0),
         (plate.x1, plate.y0),
@@ -89,7 +113,13 @@ fn push_plate(alloc: Global, elements: &mut Vec<u8>, plate: &Plate) -> Result<()
         (plate.x0, plate.y0),
     ];
     let points = points_of(alloc, &corners)?;
-    push_boundary(elements, plate.layer, plate.datatype, points.as_slice())
+    push_filled(
+        elements,
+        Filled::Boundary,
+        plate.layer,
+        plate.datatype,
+        points.as_slice(),
+    )
 }
 
 /// The file of these rectangles.
@@ -106,7 +136,53 @@ pub fn outline_and_bar(alloc: Global, outline: &[(i32, i32)]) -> Result<Vec<u8>,
     let bars: &[u8] = TWO_BARS;
     let points = points_of(alloc, outline)?;
     let mut elements = Vec::new(alloc);
-    push_boundary(&mut elements, 1, 0, points.as_slice())?;
+    push_filled(&mut elements, Filled::Boundary, 1, 0, points.as_slice())?;
     elements.extend_from_slice(&bars[158..222])?;
+    layout_of(alloc, elements.as_slice())
+}
+
+/// The file of a shape with this outline on layer 1, and of a rectangle.
+pub fn outline_and_plate(
+    alloc: Global,
+    filled: Filled,
+    outline: &[(i32, i32)],
+    plate: &Plate,
+) -> Result<Vec<u8>, AllocError> {
+    let points = points_of(alloc, outline)?;
+    let mut elements = Vec::new(alloc);
+    push_filled(&mut elements, filled, 1, 0, points.as_slice())?;
+    push_plate(alloc, &mut elements, plate)?;
+    layout_of(alloc, elements.as_slice())
+}
+
+/// A path on layer 1: what its records PATHTYPE, WIDTH, BGNEXTN and ENDEXTN say, and its points.
+#[derive(Clone, Copy)]
+pub struct Wire {
+    pub pathtype: i16,
+    pub width: i32,
+    pub begin: i32,
+    pub end: i32,
+    pub points: &'static [(i32, i32)],
+}
+
+/// Appends a path with all of its records.
+pub fn push_wire(alloc: Global, elements: &mut Vec<u8>, wire: &Wire) -> Result<(), AllocError> {
+    let points = points_of(alloc, wire.points)?;
+    push_record(elements, 0x09, 0, &[])?;
+    push_record(elements, 0x0D, 2, &[0, 1])?;
+    push_record(elements, 0x0E, 2, &[0, 0])?;
+    push_record(elements, 0x21, 2, &wire.pathtype.to_be_bytes())?;
+    push_record(elements, 0x0F, 3, &wire.width.to_be_bytes())?;
+    push_record(elements, 0x30, 3, &wire.begin.to_be_bytes())?;
+    push_record(elements, 0x31, 3, &wire.end.to_be_bytes())?;
+    push_record(elements, 0x10, 3, points.as_slice())?;
+    push_record(elements, 0x11, 0, &[])
+}
+
+/// The file of a path and a rectangle.
+pub fn wire_and_plate(alloc: Global, wire: &Wire, plate: &Plate) -> Result<Vec<u8>, AllocError> {
+    let mut elements = Vec::new(alloc);
+    push_wire(alloc, &mut elements, wire)?;
+    push_plate(alloc, &mut elements, plate)?;
     layout_of(alloc, elements.as_slice())
 }

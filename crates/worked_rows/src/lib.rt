@@ -2,6 +2,8 @@
 #![tactic(auto)]
 
 #[cfg(test)]
+mod covers;
+#[cfg(test)]
 mod failures;
 #[cfg(test)]
 mod grammar;
@@ -14,10 +16,16 @@ mod maps;
 #[cfg(test)]
 mod outlines;
 #[cfg(test)]
+mod placements;
+#[cfg(test)]
 mod records;
 #[cfg(test)]
 mod rows;
 #[cfg(test)]
 mod runs;
+#[cfg(test)]
+mod structures;
+#[cfg(test)]
+mod turns;
 #[cfg(test)]
 mod words;

@@ -1,5 +1,5 @@
 use super::layouts::outline_and_bar;
-use super::runs::{RADIUS_3, SHORT_32, Want, answers, calm, expect};
+use super::runs::{NO_SHORT, RADIUS_3, SHORT_32, Want, answers, calm, expect};
 use std::alloc::Global;
 use std::thread::Threads;
 
@@ -20,29 +20,38 @@ const RECTANGLES: &[&[(i32, i32)]] = &[
     &[(0, 10), (10, 10), (10, 0), (0, 0), (0, 10)],
     &[(10, 10), (10, 0), (0, 0), (0, 10), (10, 10)],
     &[(10, 0), (0, 0), (0, 10), (10, 10), (10, 0)],
+    // with a point on a side, and a side that is walked three times
+    &[(0, 0), (5, 0), (10, 0), (10, 10), (0, 10), (0, 0)],
+    &[(0, 0), (10, 0), (0, 0), (10, 0), (10, 10), (0, 10), (0, 0)],
     // as far as a layout goes
     &[(-FAR, -FAR), (10, -FAR), (10, 10), (-FAR, 10), (-FAR, -FAR)],
     &[(0, 0), (10, 0), (10, FAR), (0, FAR), (0, 0)],
     &[(0, 14), (FAR, 14), (FAR, 24), (0, 24), (0, 14)],
 ];
 
-/// Outlines of shapes that are not supported: slanted sides, a bow, a triangle, and there and back; no width, and no height; one
-/// step too far to each side; a triangle of four points, a point on a side, and the shape of an L.
-const NOT_SUPPORTED: &[&[(i32, i32)]] = &[
+/// Outlines with a slanted side: two leaning ones, a bow, and two triangles.
+const SLANTED: &[&[(i32, i32)]] = &[
     &[(0, 0), (10, 0), (11, 10), (1, 10), (0, 0)],
     &[(0, 0), (10, 1), (10, 11), (0, 10), (0, 0)],
     &[(0, 0), (10, 10), (10, 0), (0, 10), (0, 0)],
     &[(0, 0), (10, 0), (10, 10), (0, 0), (0, 0)],
-    &[(0, 0), (10, 0), (10, 10), (10, 0), (0, 0)],
-    &[(0, 0), (0, 0), (0, 10), (0, 10), (0, 0)],
-    &[(0, 0), (10, 0), (10, 0), (0, 0), (0, 0)],
+    &[(0, 0), (10, 0), (10, 10), (0, 0)],
+];
+
+/// Outlines that go one step too far, to each side.
+const TOO_FAR: &[&[(i32, i32)]] = &[
     &[(-PAST, 0), (10, 0), (10, 10), (-PAST, 10), (-PAST, 0)],
     &[(0, -PAST), (10, -PAST), (10, 10), (0, 10), (0, -PAST)],
     &[(0, 14), (PAST, 14), (PAST, 24), (0, 24), (0, 14)],
     &[(0, 0), (10, 0), (10, PAST), (0, PAST), (0, 0)],
-    &[(0, 0), (10, 0), (10, 10), (0, 0)],
-    &[(0, 0), (5, 0), (10, 0), (10, 10), (0, 10), (0, 0)],
-    &[(0, 0), (10, 0), (10, 4), (4, 4), (4, 10), (0, 10), (0, 0)],
+];
+
+/// Outlines that wind round no cell: there and back, without a width, without a height, and of one point.
+const EMPTY: &[&[(i32, i32)]] = &[
+    &[(0, 0), (10, 0), (10, 10), (10, 0), (0, 0)],
+    &[(0, 0), (0, 0), (0, 10), (0, 10), (0, 0)],
+    &[(0, 0), (10, 0), (10, 0), (0, 0), (0, 0)],
+    &[(0, 0), (0, 0), (0, 0), (0, 0)],
 ];
 
 /// Outlines that are not closed.
@@ -93,9 +102,22 @@ fn are_refused(
 }
 
 #[test]
+fn outlines_may_be_empty(rt: HostRuntime) {
+    for (number, points) in EMPTY.iter().enumerate() {
+        expect(
+            &rt,
+            outline_answers(&rt, rt.alloc(), points, &NO_SHORT),
+            &number,
+        );
+    }
+}
+
+#[test]
 fn other_outlines_are_refused(rt: HostRuntime) {
-    let holds = are_refused(&rt, rt.alloc(), NOT_SUPPORTED, 60);
-    expect(&rt, holds, &"no rectangle");
+    let holds = are_refused(&rt, rt.alloc(), SLANTED, 31);
+    expect(&rt, holds, &"slanted");
+    let holds = are_refused(&rt, rt.alloc(), TOO_FAR, 30);
+    expect(&rt, holds, &"too far");
     let holds = are_refused(&rt, rt.alloc(), OPEN, 18);
     expect(&rt, holds, &"not closed");
     let holds = are_refused(&rt, rt.alloc(), TOO_SHORT, 17);

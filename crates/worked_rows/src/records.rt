@@ -4,12 +4,13 @@ use std::alloc::{AllocError, Global};
 use std::thread::Threads;
 
 /// A record of the two bars' file: where it begins, its length, and the refusal of the file without it and of the file in which
-/// it has the kind of a path, each as a number and a place.
+/// it has the kind of a path, each as a number and a place. Where a bar becomes a path, this has no width, and nothing is
+/// refused.
 struct Stretch {
     at: usize,
     length: usize,
     left_out: (u8, usize),
-    as_path: (u8, usize),
+    as_path: Option<(u8, usize)>,
 }
 
 /// The records of the two bars' file. A record is looked at before its place among the others is.
@@ -18,109 +19,109 @@ const RECORDS: &[Stretch] = &[
         at: 0,
         length: 6,
         left_out: (14, 0),
-        as_path: (12, 0),
+        as_path: Some((12, 0)),
     },
     Stretch {
         at: 6,
         length: 28,
         left_out: (14, 6),
-        as_path: (12, 6),
+        as_path: Some((12, 6)),
     },
     Stretch {
         at: 34,
         length: 6,
         left_out: (14, 34),
-        as_path: (12, 34),
+        as_path: Some((12, 34)),
     },
     Stretch {
         at: 40,
         length: 20,
         left_out: (14, 40),
-        as_path: (12, 40),
+        as_path: Some((12, 40)),
     },
     Stretch {
         at: 60,
         length: 28,
         left_out: (14, 60),
-        as_path: (12, 60),
+        as_path: Some((12, 60)),
     },
     Stretch {
         at: 88,
         length: 6,
         left_out: (14, 88),
-        as_path: (12, 88),
+        as_path: Some((12, 88)),
     },
     Stretch {
         at: 94,
         length: 4,
         left_out: (14, 94),
-        as_path: (60, 94),
+        as_path: None,
     },
     Stretch {
         at: 98,
         length: 6,
         left_out: (15, 94),
-        as_path: (12, 98),
+        as_path: Some((12, 98)),
     },
     Stretch {
         at: 104,
         length: 6,
         left_out: (15, 94),
-        as_path: (12, 104),
+        as_path: Some((12, 104)),
     },
     Stretch {
         at: 110,
         length: 44,
         left_out: (15, 94),
-        as_path: (12, 110),
+        as_path: Some((12, 110)),
     },
     Stretch {
         at: 154,
         length: 4,
         left_out: (14, 154),
-        as_path: (14, 154),
+        as_path: Some((14, 154)),
     },
     Stretch {
         at: 158,
         length: 4,
         left_out: (14, 158),
-        as_path: (60, 158),
+        as_path: None,
     },
     Stretch {
         at: 162,
         length: 6,
         left_out: (15, 158),
-        as_path: (12, 162),
+        as_path: Some((12, 162)),
     },
     Stretch {
         at: 168,
         length: 6,
         left_out: (15, 158),
-        as_path: (12, 168),
+        as_path: Some((12, 168)),
     },
     Stretch {
         at: 174,
         length: 44,
         left_out: (15, 158),
-        as_path: (12, 174),
+        as_path: Some((12, 174)),
     },
     Stretch {
         at: 218,
         length: 4,
         left_out: (14, 218),
-        as_path: (14, 218),
+        as_path: Some((14, 218)),
     },
     Stretch {
         at: 222,
         length: 4,
         left_out: (14, 222),
-        as_path: (14, 226),
+        as_path: Some((14, 226)),
     },
     Stretch {
         at: 226,
         length: 4,
         left_out: (10, 226),
-        as_path: (14, 226),
+        as_path: Some((14, 226)),
     },
 ];
 
@@ -246,12 +247,20 @@ fn no_record_stands_twice(rt: HostRuntime) {
     }
 }
 
-/// Whether a layout is refused where the head of a record has a length below that of a head, the kind of a path, or a form
-/// that no record has.
+/// What is wanted where this record has the kind of a path.
+fn want_as_path(record: &Stretch) -> Want {
+    match record.as_path {
+        Some(told) => refusal(told),
+        None => NO_SHORT,
+    }
+}
+
+/// Whether a layout answers as it should where the head of a record has a length below that of a head, the kind of a path, or a
+/// form that no record has.
 fn head_is_read(rt: &(impl Threads + Sync), alloc: Global, record: &Stretch) -> bool {
     let at = record.at;
     changed_answers(rt, alloc, at.saturating_add(1), 3, &refusal((11, at)))
-        && changed_answers(rt, alloc, at.saturating_add(2), 9, &refusal(record.as_path))
+        && changed_answers(rt, alloc, at.saturating_add(2), 9, &want_as_path(record))
         && changed_answers(rt, alloc, at.saturating_add(3), 4, &refusal((12, at)))
 }
 

@@ -18,7 +18,8 @@ const OTHER_WORDS: &[&str] = &[
     "a --layer 1 --datatype 0 --radius 0",
     "a --layer 1 --datatype 0 --radius 1000001",
     "a --layer 65536 --datatype 0 --radius 3",
-    "a --layer 1 --datatype 0 --radius 3 --top T",
+    "a --layer 1 --datatype 0 --radius 3 --top",
+    "a --layer 1 --datatype 0 --radius 3 --top T --top T",
     "--generate 1",
 ];
 
@@ -49,6 +50,8 @@ const WORDS: &[(&str, Want)] = &[
         "a --workers 64 --layer 1 --datatype 0 --radius 3 --tile=7",
         SHORT_32,
     ),
+    // the one structure is the top, also by its name
+    ("a --layer 1 --datatype 0 --radius 3 --top T", SHORT_32),
     // no shape is on the greatest layer, nor on the greatest datatype
     ("a --layer 65535 --datatype 0 --radius 3", NO_SHORT),
     ("a --layer 1 --datatype 65535 --radius 3", NO_SHORT),

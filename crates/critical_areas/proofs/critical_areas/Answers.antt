@@ -7,8 +7,8 @@ use Rattle.fault_model.specs.Areas.{IsWindowOf, cells_of_window}
 use Rattle.layer_map.specs.LayerMap.{radius_size}
 use Rattle.layer_map.specs.Layers.{metal_layer, mapped_cut}
 use Rattle.layer_map.specs.MapView.{layer_map_of, terminal_of}
+use Rattle.net_extract.specs.Coverage.{IsCoveredIn}
 use Rattle.critical_areas.specs.GainedRows.{GainsRows}
-use Rattle.critical_areas.specs.Mapped.{IsCoveredBy}
 use Rattle.critical_areas.specs.Questions.{of_kind}
 use Rattle.critical_areas.specs.Rows.{Answers}
 use Rattle.report.specs.declared.kind.Kind.TheVariants.{Short}
@@ -21,15 +21,15 @@ pub returns-clause-rows : goal.returns-clause-rows
 returns-clause-rows c =
     let given = c.args.map.now in
     let layer_map = layer_map_of given in
-    let mapped = c.in_ok-mapped.mapped.items in
+    let lists = c.args.layers.now.lists.items in
     let window = c.window_of-window.result in
     let mid = c.push_shorts.new.rows.items in
     let asked = of_kind Short (enumerate_from 0 layer_map.metals) layer_map.sizes in
-    let by_reach = subst (λ xs. IsWindowOf (Covered xs) c.reach.result window) c.deref.ensures.value c.window_of-window.ensures in
-    let is_window = subst (λ r. IsWindowOf (Covered mapped) r window) c.reach.ensures.reach by_reach in
-    let by_list = subst (λ xs. GainsRows (Answers layer_map (IsCoveredBy xs) (cells_of_window window)) asked c.new-rows.result.items mid) c.deref-2.ensures.value c.in_ok-push_shorts.ensures in
-    let shorts = subst (λ rows. GainsRows (Answers layer_map (IsCoveredBy mapped) (cells_of_window window)) asked rows mid) c.new-rows.ensures.items by_list in
-    all_rows layer_map (ap (map mapped_cut) c.requires.no_cuts) (ap (map terminal_of) c.requires.no_terminals) c.args.shapes.now mapped c.in_ok-mapped.ensures window mid _ is_window shorts c.in_ok-push_opens.ensures
+    let by_reach = subst (λ ls. IsWindowOf (Covered ls) c.reach.result window) c.as_slice-lists.ensures.value c.window_of-window.ensures in
+    let is_window = subst (λ r. IsWindowOf (Covered lists) r window) c.reach.ensures.reach by_reach in
+    let by_lists = subst (λ ls. GainsRows (Answers layer_map (IsCoveredIn ls) (cells_of_window window)) asked c.new-rows.result.items mid) c.as_slice-lists.ensures.value c.in_ok-push_shorts.ensures in
+    let shorts = subst (λ rows. GainsRows (Answers layer_map (IsCoveredIn lists) (cells_of_window window)) asked rows mid) c.new-rows.ensures.items by_lists in
+    all_rows layer_map (ap (map mapped_cut) c.requires.no_cuts) (ap (map terminal_of) c.requires.no_terminals) (IsCoveredIn lists) window mid _ is_window shorts c.in_ok-push_opens.ensures
 
 pub returns-clause-few : goal.returns-clause-few
 returns-clause-few c =

@@ -13,7 +13,7 @@ returns-in-Ok-clause-found g c words asked =
     let map = c.in-Ok.ensures.found in
     on_good_map words (g.F.Files.holds c.args.files.now) c.args.request.now asked (layer_map_of c.in-Ok.map) map.0 c.as_slice.result.now (rw c.as_slice.ensures c.layout_of.ensures)
     _ _ _ c.report_of_file.result map.1
-    (told_alike (g.F.Files.holds c.args.files.now) _ (layer_map_of c.in-Ok.map) _ _ c.report_of_file.result (c.in-Ok.ensures.holds _) c.report_of_file.ensures.found)
+    (told_alike (g.F.Files.holds c.args.files.now) _ (layer_map_of c.in-Ok.map) _ _ _ c.report_of_file.result (c.in-Ok.ensures.holds _) (rw c.top_of-top.ensures at c.report_of_file.ensures.found))
 
 pub returns-in-Ok-clause-started : goal.returns-in-Ok-clause-started
 returns-in-Ok-clause-started g c words asked =
@@ -21,4 +21,4 @@ returns-in-Ok-clause-started g c words asked =
     (rw c.as_slice.ensures c.layout_of.ensures) c.in-Ok.ensures.starts c.report_of_file.ensures.starts
 
 pub report_of_file-requires : goal.report_of_file-requires
-report_of_file-requires g c = record { supported = is_supported (g.F.Files.holds c.args.files.now) c.args.request.now.task (layer_map_of c.in-Ok.map) c.in-Ok.ensures.found.0 }
+report_of_file-requires g c = (c.type_bounds.sync-typeof-rt, is_supported (g.F.Files.holds c.args.files.now) c.args.request.now.task (layer_map_of c.in-Ok.map) c.in-Ok.ensures.found.0)

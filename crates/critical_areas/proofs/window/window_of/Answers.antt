@@ -1,7 +1,11 @@
-use Rattle.std.proofs.Common.{arith}
+use Rattle.std.proofs.Common.{arith, sym, subst}
 use Rattle.std.proofs.lemmas.Int.{ints}
-use Rattle.critical_areas.proofs.WindowLaws.{Covered, window_from}
+use Rattle.fault_model.specs.Areas.{IsWindowOf}
+use Rattle.critical_areas.proofs.WindowLaws.{Covered, bounds_of_covered, no_window, window_from}
 use Rattle.critical_areas.proofs.window.window_of.Goals as goal
 
 pub returns : goal.returns
-returns c = window_from (Covered c.args.mapped.now) c.in_ok-bounds.bounds _ _ c.args.reach c.in_ok-bounds.ensures.some c.grow.ensures (omega (arith, ints))
+returns c = window_from (Covered c.args.lists.now) c.in_ok-bounds.bounds _ _ c.args.reach (bounds_of_covered c.args.lists.now _ c.in_ok-bounds.ensures.0) c.grow.ensures (omega (arith, ints))
+
+pub returns-in_err-bounds : goal.returns-in_err-bounds
+returns-in_err-bounds c = subst (IsWindowOf (Covered c.args.lists.now) c.args.reach) (sym c.from_residual.ensures) (no_window c.args.lists.now c.in_err-bounds.ensures)

@@ -1,0 +1,184 @@
+-- The lists of rectangles of layers, and what they cover.
+use Rattle.std.proofs.Common.{ℕ, ◌+◌, ◌<◌, ◌≡◌, refl, sym, ap, ◌∙◌, subst, List, [], ◌∷◌, ◌++◌, Bool, true, false, length, take, get_or, append-nil, length-append, inl, inr, arith}
+use Rattle.std.specs.Prelude.{◌==◌, Some, Contains, All, map, filter, flat_map, if◌then◌else◌, slice_get}
+use Rattle.std.specs.List.{AllZip}
+use Rattle.std.proofs.lemmas.Bool.{cases_lt}
+use Rattle.std.proofs.lemmas.Bool.Decides.{Decides-eqb, eqb_tells}
+use Rattle.std.proofs.lemmas.Grind.{flat_map-append}
+use Rattle.std.proofs.lemmas.List.{length-map, get_or_append_left, get_or_past, get_or_push}
+use Rattle.std.proofs.lemmas.List.Elements.{All-contains, All-from_get_or, filter-append}
+use Rattle.std.proofs.lemmas.Option.{slice_get_within}
+use Rattle.paths.proofs.ListLaws.{Contains-none, Contains-first, Contains-rest, Contains-cases, Contains-slice_get}
+use Rattle.geo_core.specs.Cells.{IsInLayout}
+use Rattle.geo_core.specs.declared.plane.Cell.{Cell}
+use Rattle.geo_core.specs.declared.plane.Rect.{Rect}
+use Rattle.layer_map.specs.LayerMap.{IsMappedTo, layers_of}
+use Rattle.layer_map.specs.Layers.{metal_layer, mapped_cut, mapped_layers, pairs_of}
+use Rattle.layer_map.specs.declared.layers.Metal.{Metal}
+use Rattle.layer_map.specs.declared.layers.Cut.{Cut}
+use Rattle.layer_map.specs.Lists.{AreDifferent}
+use Rattle.layer_map.proofs.MappedLaws.{pair_tells_layer}
+use Rattle.flatten.proofs.ListLaws.{all_of_each}
+use Rattle.net_extract.specs.Coverage.{IsCoveredIn}
+use Rattle.net_extract.proofs.ListLaws.{Contains-flat_map, Contains-unflat_map}
+use Rattle.critical_areas.proofs.ListLaws.{taken_at}
+use Rattle.critical_areas.proofs.WindowLaws.{in_union, among_union}
+use Rattle.critarea_core.specs.Coverage.{IsCoveredOn}
+use Rattle.critarea_core.specs.Layout.{Subject}
+use Rattle.critarea_core.specs.LayoutReaders.{Covered, rects_on, AreListsUpTo, AreLayersOf}
+use Rattle.critarea_core.proofs.CoverReading.{IsCoveredAlong}
+
+-- ---- lists
+
+module _ {X : Type 0} (p : X → Bool) where
+  -- a filtered list contains the items that pass
+  filtered_first : (y : X) (xs : List X) (x : X) (b : Bool) → p y ≡ b → (Contains (filter p xs) x → Contains xs x × (p x ≡ true)) → Contains (if b then y ∷ filter p xs else filter p xs) x → Contains (y ∷ xs) x × (p x ≡ true)
+  filtered_first y xs x true e f h = elim (Contains-cases y (filter p xs) x h) [
+    | inl same ↦ (subst (Contains (y ∷ xs)) same (Contains-first y xs), ap p (sym same) ∙ e)
+    | inr rest ↦ let found = f rest in (Contains-rest y xs x found.0, found.1)
+  ]
+  filtered_first y xs x false e f h = let found = f h in (Contains-rest y xs x found.0, found.1)
+
+  pub Contains-unfilter : (xs : List X) (x : X) → Contains (filter p xs) x → Contains xs x × (p x ≡ true)
+  Contains-unfilter [] x h = absurd (Contains-none h)
+  Contains-unfilter (y ∷ xs) x h = filtered_first y xs x (p y) refl (Contains-unfilter xs x) h
+
+  first_filtered : (y : X) (xs : List X) (x : X) (b : Bool) → p y ≡ b → p x ≡ true → (Contains xs x → Contains (filter p xs) x) → Contains (y ∷ xs) x → Contains (if b then y ∷ filter p xs else filter p xs) x
+  first_filtered y xs x true e passes f h = elim (Contains-cases y xs x h) [
+    | inl same ↦ subst (Contains (y ∷ filter p xs)) same (Contains-first y (filter p xs))
+    | inr rest ↦ Contains-rest y (filter p xs) x (f rest)
+  ]
+  first_filtered y xs x false e passes f h = elim (Contains-cases y xs x h) [
+    | inl same ↦ let fails = ap p (sym same) ∙ e in cc (passes, fails)
+    | inr rest ↦ f rest
+  ]
+
+  pub Contains-filter : (xs : List X) (x : X) → p x ≡ true → Contains xs x → Contains (filter p xs) x
+  Contains-filter [] x passes h = absurd (Contains-none h)
+  Contains-filter (y ∷ xs) x passes h = first_filtered y xs x (p y) refl passes (Contains-filter xs x passes) h
+
+-- an item of one of two lists that go side by side has one in the other
+module _ {X Y : Type 0} (R : X → Y → Type 0) where
+  across_from : (xs : List X) (ys : List Y) (x : X) → AllZip R xs ys → Contains xs x → (y : Y) × Contains ys y × R x y
+  across_from [] ys x zipped h = absurd (Contains-none h)
+  across_from (a ∷ xs) [] x zipped h = absurd zipped
+  across_from (a ∷ xs) (b ∷ ys) x zipped h = elim (Contains-cases a xs x h) [
+    | inl same ↦ (b, Contains-first b ys, subst (λ z. R z b) same zipped.0)
+    | inr rest ↦ let found = across_from xs ys x zipped.1 rest in (found.0, Contains-rest b ys found.0 found.1, found.2)
+  ]
+
+  back_from : (xs : List X) (ys : List Y) (y : Y) → AllZip R xs ys → Contains ys y → (x : X) × Contains xs x × R x y
+  back_from xs [] y zipped h = absurd (Contains-none h)
+  back_from [] (b ∷ ys) y zipped h = absurd zipped
+  back_from (a ∷ xs) (b ∷ ys) y zipped h = elim (Contains-cases b ys y h) [
+    | inl same ↦ (a, Contains-first a xs, subst (R a) same zipped.0)
+    | inr rest ↦ let found = back_from xs ys y zipped.1 rest in (found.0, Contains-rest a xs found.0 found.1, found.2)
+  ]
+
+-- ---- the rectangles of one layer
+
+abbrev is_on : ℕ → Covered → Bool
+is_on number one = one.0.layer == number
+
+abbrev rects_in : Covered → List Rect
+rects_in one = one.1
+
+filtered_one : (number : ℕ) (one : Covered) (b : Bool) → is_on number one ≡ b → filter (is_on number) (one ∷ []) ≡ (if b then one ∷ [] else [])
+filtered_one number one b e = rw e refl
+
+-- one shape more, that is on the layer or is not
+module _ (number : ℕ) (covered : List Covered) (k : ℕ) (one : Covered) (at : slice_get covered k ≡ Some one) where
+  next : (b : Bool) → is_on number one ≡ b → rects_on number (take (k + 1) covered) ≡ rects_on number (take k covered) ++ flat_map rects_in (if b then one ∷ [] else [])
+  next b e =
+      ap (rects_on number) (taken_at covered k one at) ∙ ap (flat_map rects_in) (filter-append (is_on number) (take k covered) (one ∷ []) ∙ ap (λ xs. filter (is_on number) (take k covered) ++ xs) (filtered_one number one b e))
+      ∙ flat_map-append rects_in (filter (is_on number) (take k covered)) (if b then one ∷ [] else [])
+
+  pub next_on : one.0.layer ≡ number → rects_on number (take (k + 1) covered) ≡ rects_on number (take k covered) ++ one.1
+  next_on e = next true ((Decides-eqb one.0.layer number).1 e) ∙ ap (λ xs. rects_on number (take k covered) ++ xs) (append-nil one.1)
+
+  pub next_off : (one.0.layer ≡ number → ⊥) → rects_on number (take (k + 1) covered) ≡ rects_on number (take k covered)
+  next_off other = elim (eqb_tells one.0.layer number) [
+    | inl same ↦ absurd (other same.1)
+    | inr tells ↦ next false tells.0 ∙ append-nil (rects_on number (take k covered))
+  ]
+
+on_layer_from : (number : ℕ) (covered : List Covered) (rect : Rect) → Contains (rects_on number covered) rect → (one : Covered) × Contains covered one × (one.0.layer ≡ number) × Contains one.1 rect
+on_layer_from number covered rect h =
+    let found = Contains-unflat_map rects_in (filter (is_on number) covered) rect h in
+    let passed = Contains-unfilter (is_on number) covered found.0 found.1 in
+    (found.0, passed.0, (Decides-eqb found.0.0.layer number).0 passed.1, found.2)
+
+on_layer_to : (number : ℕ) (covered : List Covered) (one : Covered) (rect : Rect) → Contains covered one → one.0.layer ≡ number → Contains one.1 rect → Contains (rects_on number covered) rect
+on_layer_to number covered one rect among e h =
+    Contains-flat_map rects_in (filter (is_on number) covered) one rect (Contains-filter (is_on number) covered one ((Decides-eqb one.0.layer number).1 e) among) h
+
+-- ---- one list for each layer
+
+-- how many layers there are
+pub layer_count : (metals : List Metal) (cuts : List Cut) → length (mapped_layers metals cuts) ≡ length metals + length cuts
+layer_count metals cuts =
+    length-append (map metal_layer metals) (map (λ cut. cut.mapped) (map mapped_cut cuts)) ∙ ap (λ n. n + length (map (λ cut. cut.mapped) (map mapped_cut cuts))) (length-map metals metal_layer)
+    ∙ ap (λ n. length metals + n) (length-map (map mapped_cut cuts) (λ cut. cut.mapped) ∙ length-map cuts mapped_cut)
+
+pub lists_start : (covered : List Covered) → AreListsUpTo covered 0 []
+lists_start covered = record { as_many = refl; each = λ number small. absurd (omega arith) }
+
+pub lists_next : (covered : List Covered) (n : ℕ) (old new : List (List Rect)) (list : List Rect) → new ≡ old ++ list ∷ [] → list ≡ rects_on n covered → AreListsUpTo covered n old → AreListsUpTo covered (n + 1) new
+lists_next covered n old new list e is before = record {
+  as_many = ap length e ∙ length-push ∙ ap (λ k. k + 1) before.as_many;
+  each = λ number small.
+      elim (cases_lt number n) [
+        | inl earlier ↦ ap (λ xs. get_or xs number []) e ∙ get_or_append_left old (list ∷ []) [] number (omega (arith, before.as_many)) ∙ before.each number earlier
+        | inr last ↦
+            let same : n ≡ number = omega arith in
+            ap (λ xs. get_or xs number []) e ∙ get_or_push old list [] number (before.as_many ∙ same) ∙ is ∙ ap (λ k. rects_on k covered) same
+      ];
+}
+  where
+    length-push : length (old ++ list ∷ []) ≡ length old + 1
+    length-push = length-append old (list ∷ [])
+
+-- a list with an item is one of the lists
+listed_below : (lists : List (List Rect)) (number : ℕ) (k : ℕ) (rect : Rect) → slice_get (get_or lists number []) k ≡ Some rect → number < length lists
+listed_below lists number k rect at = elim (cases_lt number (length lists)) [
+  | inl small ↦ small
+  | inr past ↦ absurd (Contains-none (subst (λ xs. Contains xs rect) (get_or_past lists number [] past) (Contains-slice_get (get_or lists number []) k rect at)))
+]
+
+module _ (subject : Subject) (differ : AreDifferent (pairs_of (layers_of subject.layer_map))) (covered : List Covered) (along : AllZip (IsCoveredAlong subject.layer_map) subject.routes covered) (lists : List (List Rect))
+    (made : AreListsUpTo covered (length (layers_of subject.layer_map)) lists) where
+  covers_from : (number : ℕ) (c : Cell) → IsCoveredIn lists number c → IsCoveredOn subject number c
+  covers_from number c v =
+      let small = listed_below lists number v.number v.rect v.at in
+      let is = made.each number (omega (arith, made.as_many)) in
+      let found = on_layer_from number covered v.rect (subst (λ xs. Contains xs v.rect) is (among_union (get_or lists number []) c v)) in
+      let of = back_from (IsCoveredAlong subject.layer_map) subject.routes covered found.0 along found.1 in
+      record {
+        route = of.0;
+        among = of.1;
+        is_mapped = subst (IsMappedTo subject.layer_map (of.0.shape.layer, of.0.shape.datatype)) found.2 of.2.layer;
+        covers = (of.2.cover.same c).0 (record { rect = v.rect; among = found.3; has = v.has });
+      }
+
+  covers_to : (number : ℕ) (c : Cell) → IsCoveredOn subject number c → IsCoveredIn lists number c
+  covers_to number c v =
+      let of = across_from (IsCoveredAlong subject.layer_map) subject.routes covered v.route along v.among in
+      let same = pair_tells_layer (layers_of subject.layer_map) (v.route.shape.layer, v.route.shape.datatype) of.0.0.layer number differ of.2.layer v.is_mapped in
+      let inside = (of.2.cover.same c).1 v.covers in
+      let small = slice_get_within (layers_of subject.layer_map) number v.is_mapped.mapped v.is_mapped.numbered in
+      let listed = on_layer_to number covered of.0 inside.rect of.1 same inside.among in
+      in_union (get_or lists number []) inside.rect c (subst (λ xs. Contains xs inside.rect) (sym (made.each number small)) listed) inside.has
+
+  rects_within : (number : ℕ) → All IsInLayout (rects_on number covered)
+  rects_within number = all_of_each IsInLayout (rects_on number covered) (λ rect h.
+      let found = on_layer_from number covered rect h in
+      let of = back_from (IsCoveredAlong subject.layer_map) subject.routes covered found.0 along found.1 in
+      All-contains IsInLayout found.0.1 rect of.2.cover.within found.3)
+
+  -- the lists have what the shapes cover
+  pub are_layers : AreLayersOf subject lists
+  are_layers = record {
+    one_each = made.as_many;
+    within = All-from_get_or (All IsInLayout) lists [] (λ number small. subst (All IsInLayout) (sym (made.each number (omega (arith, made.as_many)))) (rects_within number));
+    covers = λ number c. (covers_from number c, covers_to number c);
+  }

@@ -1,0 +1,7 @@
+use Rattle.std.proofs.Common.{◌≡◌, take}
+use Rattle.std.specs.List.{zip}
+use Rattle.critarea_core.specs.LayoutReaders.{rects_on}
+use Rattle.critarea_core.proofs.layers.rects_on.Given as goal
+
+abbrev pub invariant-loop-k : goal.invariant-loop-k
+invariant-loop-k l = l.rects.items ≡ rects_on l.number (take l.k (zip l.placed l.covers))

@@ -1,0 +1,352 @@
+//! Shapes of every kind: outlines that wind more than once, boxes, and paths with each kind of end.
+
+use super::layouts::{Filled, Plate, Wire, outline_and_plate, wire_and_plate};
+use super::rows::{LEFT, RIGHT};
+use super::runs::{SHORT_32, Want, answers, calm, expect};
+use std::alloc::Global;
+use std::thread::Threads;
+
+/// The words that ask for layer 1 and datatype 0 at the radius 2.
+const RADIUS_2: &str = "a --layer 1 --datatype 0 --radius 2";
+
+/// A path 4 wide, to the right and then up. Its ends are flush.
+const WIRE: Wire = Wire {
+    pathtype: 0,
+    width: 4,
+    begin: 0,
+    end: 0,
+    points: &[(0, 0), (10, 0), (10, 10)],
+};
+
+/// The same with ends half a width further.
+const SQUARE_ENDS: Wire = Wire {
+    pathtype: 2,
+    ..WIRE
+};
+
+/// The same with ends of its own: half a width further at the first point, and 1 less at the last.
+const OWN_ENDS: Wire = Wire {
+    pathtype: 4,
+    begin: 2,
+    end: -1,
+    ..WIRE
+};
+
+/// A square to the left of the path's first point: it is 2 from ends half a width further, and 4 from flush ones.
+const BEFORE: Plate = Plate {
+    x0: -8,
+    x1: -4,
+    y0: -2,
+    y1: 2,
+    ..LEFT
+};
+
+/// A square above its last point, as far away.
+const BEHIND: Plate = Plate {
+    x0: 8,
+    x1: 12,
+    y0: 14,
+    y1: 18,
+    ..LEFT
+};
+
+/// A square across the corner from the outer side of the path's turn, 2 to the right and 2 below.
+const ROUND_THE_CORNER: Plate = Plate {
+    x0: 14,
+    x1: 18,
+    y0: -8,
+    y1: -4,
+    ..LEFT
+};
+
+/// An area of shorts.
+fn short(area: u64) -> Want {
+    Want::Short { radius: 2, area }
+}
+
+/// Paths, each with a rectangle beside it, and the area of shorts. A path whose end is 2 from the rectangle has 2 columns,
+/// or rows, of 8 cells in common with it where both are grown by 2.
+const WIRES: &[(Wire, Plate, u64)] = &[
+    (WIRE, BEFORE, 0),
+    (SQUARE_ENDS, BEFORE, 16),
+    (OWN_ENDS, BEFORE, 16),
+    (WIRE, BEHIND, 0),
+    (SQUARE_ENDS, BEHIND, 16),
+    (OWN_ENDS, BEHIND, 0),
+    // both pieces reach half a width past the corner, which fills [10,12)x[-2,0): then [12,14)x[-4,-2) is near both
+    (WIRE, ROUND_THE_CORNER, 4),
+    // a sign of the width says nothing of the shape
+    (
+        Wire {
+            width: -4,
+            ..SQUARE_ENDS
+        },
+        BEFORE,
+        16,
+    ),
+    // repeated points and points on the way say nothing either
+    (
+        Wire {
+            points: &[(0, 0), (0, 0), (4, 0), (10, 0), (10, 0), (10, 3), (10, 10)],
+            ..SQUARE_ENDS
+        },
+        BEFORE,
+        16,
+    ),
+    // without a width it covers nothing, whatever its points and ends
+    (Wire { width: 0, ..WIRE }, BEFORE, 0),
+    (
+        Wire {
+            pathtype: 1,
+            width: 0,
+            points: &[(0, 0), (3, 4), (0, 0)],
+            ..WIRE
+        },
+        BEFORE,
+        0,
+    ),
+];
+
+/// Whether a run answers so to a path with a rectangle beside it.
+fn wire_answers(
+    rt: &(impl Threads + Sync),
+    alloc: Global,
+    wire: &Wire,
+    plate: &Plate,
+    want: &Want,
+) -> bool {
+    match wire_and_plate(alloc, wire, plate) {
+        Ok(layout) => answers(rt, alloc, &calm(RADIUS_2, layout.as_slice()), want),
+        Err(_) => false,
+    }
+}
+
+#[test]
+fn paths_cover_their_pieces(rt: HostRuntime) {
+    for (number, (wire, plate, area)) in WIRES.iter().enumerate() {
+        let holds = wire_answers(&rt, rt.alloc(), wire, plate, &short(*area));
+        expect(&rt, holds, &number);
+    }
+}
+
+/// Paths that have no cover, and what is wrong. Where several things are, the order of the checks decides.
+const REFUSED: &[(Wire, u8)] = &[
+    (
+        Wire {
+            pathtype: 1,
+            ..WIRE
+        },
+        32,
+    ),
+    (
+        Wire {
+            pathtype: 3,
+            ..WIRE
+        },
+        35,
+    ),
+    (Wire { width: 5, ..WIRE }, 33),
+    (
+        Wire {
+            points: &[(0, 0), (0, 0)],
+            ..WIRE
+        },
+        36,
+    ),
+    (
+        Wire {
+            points: &[(0, 0)],
+            ..WIRE
+        },
+        36,
+    ),
+    (
+        Wire {
+            points: &[(0, 0), (3, 4)],
+            ..WIRE
+        },
+        31,
+    ),
+    (
+        Wire {
+            points: &[(0, 0), (10, 0), (4, 0)],
+            ..WIRE
+        },
+        34,
+    ),
+    // what its extension takes away, and all that there is
+    (
+        Wire {
+            pathtype: 4,
+            begin: -12,
+            points: &[(0, 0), (10, 0)],
+            ..WIRE
+        },
+        35,
+    ),
+    (
+        Wire {
+            pathtype: 4,
+            begin: -10,
+            points: &[(0, 0), (10, 0)],
+            ..WIRE
+        },
+        35,
+    ),
+    // half a width past the farthest point
+    (
+        Wire {
+            points: &[(999_999_999, 0), (1_000_000_000, 0)],
+            ..SQUARE_ENDS
+        },
+        30,
+    ),
+    // round ends come first, then unknown ends, an odd width, and a way back before a piece that is eaten up
+    (
+        Wire {
+            pathtype: 1,
+            width: 5,
+            ..WIRE
+        },
+        32,
+    ),
+    (
+        Wire {
+            pathtype: 3,
+            width: 5,
+            ..WIRE
+        },
+        35,
+    ),
+    (
+        Wire {
+            width: 5,
+            points: &[(0, 0), (0, 0)],
+            ..WIRE
+        },
+        33,
+    ),
+    (
+        Wire {
+            pathtype: 4,
+            begin: -12,
+            points: &[(0, 0), (10, 0), (4, 0)],
+            ..WIRE
+        },
+        34,
+    ),
+];
+
+#[test]
+fn paths_without_a_cover_are_refused(rt: HostRuntime) {
+    for (case, (wire, number)) in REFUSED.iter().enumerate() {
+        let want = Want::BadLayout {
+            number: *number,
+            place: 94,
+        };
+        let holds = wire_answers(&rt, rt.alloc(), wire, &BEFORE, &want);
+        expect(&rt, holds, &case);
+    }
+}
+
+/// The left bar, of which `[4,10)x[0,10)` is wound round twice.
+const WOUND_TWICE: &[(i32, i32)] = &[
+    (0, 0),
+    (10, 0),
+    (10, 10),
+    (0, 10),
+    (0, 0),
+    (4, 0),
+    (10, 0),
+    (10, 10),
+    (4, 10),
+    (4, 0),
+    (0, 0),
+];
+
+/// A frame 2 wide round the square `[2,18)x[2,18)`, which it winds round once each way.
+const FRAME: &[(i32, i32)] = &[
+    (0, 0),
+    (20, 0),
+    (20, 20),
+    (0, 20),
+    (0, 2),
+    (2, 2),
+    (2, 18),
+    (18, 18),
+    (18, 2),
+    (2, 2),
+    (0, 2),
+    (0, 0),
+];
+
+/// A square in the middle of the frame, 6 from each side.
+const MIDDLE: Plate = Plate {
+    x0: 8,
+    x1: 12,
+    y0: 8,
+    y1: 12,
+    ..LEFT
+};
+
+/// An L whose sides are 4 wide.
+const ANGLE: &[(i32, i32)] = &[(0, 0), (10, 0), (10, 4), (4, 4), (4, 10), (0, 10), (0, 0)];
+
+/// Outlines, each with a rectangle beside it, a radius, and the area of shorts.
+const OUTLINES: &[(&[(i32, i32)], Plate, &str, Want)] = &[
+    // what is wound twice is covered, as the left bar
+    (
+        WOUND_TWICE,
+        RIGHT,
+        "a --layer 1 --datatype 0 --radius 3",
+        SHORT_32,
+    ),
+    // Its inside is left open. [4,16)x[4,16) is near the square at radius 4, and of these 144 cells [6,14)x[6,14) are not
+    // near the frame.
+    (
+        FRAME,
+        MIDDLE,
+        "a --layer 1 --datatype 0 --radius 4",
+        Want::Short {
+            radius: 4,
+            area: 80,
+        },
+    ),
+    // near both are [11,13)x[-3,7)
+    (
+        ANGLE,
+        RIGHT,
+        "a --layer 1 --datatype 0 --radius 3",
+        Want::Short {
+            radius: 3,
+            area: 20,
+        },
+    ),
+];
+
+/// Whether a run of these words answers so to a shape of this outline with a rectangle beside it: as a boundary, and as a
+/// box.
+fn outlines_answer(
+    rt: &(impl Threads + Sync),
+    alloc: Global,
+    row: &(&[(i32, i32)], Plate, &str, Want),
+) -> bool {
+    let (outline, plate, words, want) = row;
+    match (
+        outline_and_plate(alloc, Filled::Boundary, outline, plate),
+        outline_and_plate(alloc, Filled::BoxElement, outline, plate),
+    ) {
+        (Ok(boundary), Ok(box_element)) => {
+            answers(rt, alloc, &calm(words, boundary.as_slice()), want)
+                && answers(rt, alloc, &calm(words, box_element.as_slice()), want)
+        }
+        _ => false,
+    }
+}
+
+#[test]
+fn outlines_cover_what_they_wind_round(rt: HostRuntime) {
+    for (number, row) in OUTLINES.iter().enumerate() {
+        expect(&rt, outlines_answer(&rt, rt.alloc(), row), &number);
+    }
+}

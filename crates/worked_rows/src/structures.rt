@@ -1,0 +1,150 @@
+//! Layouts of several structures, as their bytes.
+
+use super::layouts::{Plate, TWO_BARS, Wire, points_of, push_plate, push_record, push_wire};
+use std::alloc::{AllocError, Global};
+
+/// What a structure has: a rectangle, a path, or a reference.
+#[derive(Clone, Copy)]
+pub enum Part<'a> {
+    Plate(Plate),
+    Wire(Wire),
+    Copies(Copies<'a>),
+}
+
+/// A reference: one copy of another structure, or an array of copies.
+#[derive(Clone, Copy)]
+pub struct Copies<'a> {
+    /// The name of the other structure, of one byte or of two.
+    pub target: &'a [u8],
+    /// Whether it is mirrored in the x axis, before it is turned.
+    pub mirrored: bool,
+    /// The bytes of ANGLE.
+    pub angle: [u8; 8],
+    /// The points of XY: one, or the three of an array.
+    pub points: &'a [(i32, i32)],
+    /// The columns and the rows of an array.
+    pub size: Option<(u16, u16)>,
+}
+
+/// A structure: its name, of one byte or of two, and what it has.
+pub type Structure<'a> = (&'a [u8], &'a [Part<'a>]);
+
+/// No angle, as an eight-byte real.
+pub const ANGLE_0: [u8; 8] = [0, 0, 0, 0, 0, 0, 0, 0];
+
+/// 90 degrees: 90 / 256 times 16 to the second power.
+pub const ANGLE_90: [u8; 8] = [0x42, 0x5A, 0, 0, 0, 0, 0, 0];
+
+/// 180 degrees.
+pub const ANGLE_180: [u8; 8] = [0x42, 0xB4, 0, 0, 0, 0, 0, 0];
+
+/// 270 degrees: 270 / 4096 times 16 to the third power.
+pub const ANGLE_270: [u8; 8] = [0x43, 0x10, 0xE0, 0, 0, 0, 0, 0];
+
+/// -90 degrees.
+pub const ANGLE_MINUS_90: [u8; 8] = [0xC2, 0x5A, 0, 0, 0, 0, 0, 0];
+
+/// One copy of the structure `S`, at the origin and as it is.
+pub const ONE: Copies<'static> = Copies {
+    target: b"S",
+    mirrored: false,
+    angle: ANGLE_0,
+    points: &[(0, 0)],
+    size: None,
+};
+
+/// Appends a name, filled up with a zero to an even length.
+fn push_name(bytes: &mut Vec<u8>, kind: u8, name: &[u8]) -> Result<(), AllocError> {
+    match name {
+        [first] => push_record(bytes, kind, 6, &[*first, 0]),
+        all => push_record(bytes, kind, 6, all),
+    }
+}
+
+/// Appends a reference: SREF or AREF, SNAME, STRANS, ANGLE, COLROW for an array, XY and ENDEL.
+fn push_copies(alloc: Global, bytes: &mut Vec<u8>, copies: &Copies<'_>) -> Result<(), AllocError> {
+    let opening = if copies.size.is_some() { 0x0B } else { 0x0A };
+    push_record(bytes, opening, 0, &[])?;
+    push_name(bytes, 0x12, copies.target)?;
+    let flags = if copies.mirrored { [0x80, 0] } else { [0, 0] };
+    push_record(bytes, 0x1A, 1, &flags)?;
+    push_record(bytes, 0x1C, 5, &copies.angle)?;
+    if let Some((columns, rows)) = copies.size {
+        let [a, b] = columns.to_be_bytes();
+        let [c, d] = rows.to_be_bytes();
+        push_record(bytes, 0x13, 2, &[a, b, c, d])?;
+    }
+    let points = points_of(alloc, copies.points)?;
+    push_record(bytes, 0x10, 3, points.as_slice())?;
+    push_record(bytes, 0x11, 0, &[])
+}
+
+/// Appends a structure: BGNSTR, STRNAME, its parts and ENDSTR.
+fn push_structure(
+    alloc: Global,
+    bytes: &mut Vec<u8>,
+    name: &[u8],
+    parts: &[Part<'_>],
+) -> Result<(), AllocError> {
+    let bars: &[u8] = TWO_BARS;
+    bytes.extend_from_slice(&bars[60..88])?;
+    push_name(bytes, 0x06, name)?;
+    for part in parts {
+        match part {
+            Part::Plate(plate) => push_plate(alloc, bytes, plate)?,
+            Part::Wire(wire) => push_wire(alloc, bytes, wire)?,
+            Part::Copies(copies) => push_copies(alloc, bytes, copies)?,
+        }
+    }
+    bytes.extend_from_slice(&bars[222..226])
+}
+
+/// The file of a structure `T` with these parts, and of other structures behind it. `T` begins at 60, and its first part
+/// at 94.
+pub fn library_with(
+    alloc: Global,
+    parts: &[Part<'_>],
+    others: &[Structure<'_>],
+) -> Result<Vec<u8>, AllocError> {
+    let bars: &[u8] = TWO_BARS;
+    let mut bytes = Vec::from_slice(alloc, &bars[..60])?;
+    push_structure(alloc, &mut bytes, b"T", parts)?;
+    for (name, parts) in others {
+        push_structure(alloc, &mut bytes, name, parts)?;
+    }
+    bytes.extend_from_slice(&bars[226..])?;
+    Ok(bytes)
+}
+
+/// The name of a structure by its number, which is below 256 times 16.
+fn numbered(number: u16) -> [u8; 2] {
+    let high = u8::try_from(number / 16).unwrap_or(0);
+    let low = u8::try_from(number % 16).unwrap_or(0);
+    [b'A'.wrapping_add(high), b'A' + low]
+}
+
+/// The file of structures of which each refers to the next, so many times, and the last has this rectangle.
+pub fn chain_of(alloc: Global, references: u16, last: Plate) -> Result<Vec<u8>, AllocError> {
+    let bars: &[u8] = TWO_BARS;
+    let mut bytes = Vec::from_slice(alloc, &bars[..60])?;
+    for number in 0..references {
+        let next = numbered(number.wrapping_add(1));
+        push_structure(
+            alloc,
+            &mut bytes,
+            &numbered(number),
+            &[Part::Copies(Copies {
+                target: &next,
+                ..ONE
+            })],
+        )?;
+    }
+    push_structure(
+        alloc,
+        &mut bytes,
+        &numbered(references),
+        &[Part::Plate(last)],
+    )?;
+    bytes.extend_from_slice(&bars[226..])?;
+    Ok(bytes)
+}
