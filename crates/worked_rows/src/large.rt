@@ -5,11 +5,11 @@ use geo_core::NoMemory;
 use std::alloc::{AllocError, Global};
 use std::thread::Threads;
 
-/// So many squares of 10 by 10 cells in a row, 4 cells apart.
-fn row_of_squares(alloc: Global, count: u16) -> Result<Vec<Plate>, AllocError> {
+/// So many squares of 10 by 10 cells in a row, 4 cells apart, at most 100,000.
+fn row_of_squares(alloc: Global, count: u32) -> Result<Vec<Plate>, AllocError> {
     let mut squares = Vec::new(alloc);
     for number in 0..count {
-        let x0 = 14 * i32::from(number);
+        let x0 = 14 * (number % 100_000) as i32;
         squares.push(Plate {
             layer: 1,
             datatype: 0,
@@ -23,13 +23,13 @@ fn row_of_squares(alloc: Global, count: u16) -> Result<Vec<Plate>, AllocError> {
 }
 
 /// The file of so many squares in a row.
-fn row_layout(alloc: Global, count: u16) -> Result<Vec<u8>, AllocError> {
+fn row_layout(alloc: Global, count: u32) -> Result<Vec<u8>, AllocError> {
     let squares = row_of_squares(alloc, count)?;
     plates(alloc, squares.as_slice())
 }
 
 /// Whether a run on so many squares in a row answers so.
-fn row_answers(rt: &(impl Threads + Sync), alloc: Global, count: u16, want: &Want) -> bool {
+fn row_answers(rt: &(impl Threads + Sync), alloc: Global, count: u32, want: &Want) -> bool {
     match row_layout(alloc, count) {
         Ok(layout) => answers(rt, alloc, &calm(RADIUS_3, layout.as_slice()), want),
         Err(_) => false,
@@ -41,9 +41,9 @@ fn row_answers(rt: &(impl Threads + Sync), alloc: Global, count: u16, want: &Wan
 fn rows_of_many_squares(rt: HostRuntime) {
     let want = Want::Short {
         radius: 3,
-        area: 159_968,
+        area: 2_239_968,
     };
-    expect(&rt, row_answers(&rt, rt.alloc(), 5000, &want), &"row");
+    expect(&rt, row_answers(&rt, rt.alloc(), 70_000, &want), &"row");
 }
 
 /// Files whose bytes are all zero. Each has so many.
