@@ -1,0 +1,8 @@
+pub mod Totals
+pub mod Powers
+pub mod PartLaws
+pub mod CutLaws
+pub mod WidthLaws
+pub mod ChangeLaws
+pub mod RowLaws
+pub mod DepthLaws

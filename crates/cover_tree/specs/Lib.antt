@@ -1,0 +1,5 @@
+pub mod TreeNodes
+pub mod Columns
+pub mod CoverTrees
+pub mod TreeParts
+pub mod TreeRows

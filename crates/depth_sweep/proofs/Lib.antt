@@ -1,0 +1,12 @@
+pub mod Entries
+pub mod Primitives
+pub mod Searches
+pub mod Joining
+pub mod Resting
+pub mod Adding
+pub mod UnionSteps
+pub mod Finishing
+pub mod Commons
+pub mod Covering
+pub mod TwiceSteps
+pub mod TwiceCovering

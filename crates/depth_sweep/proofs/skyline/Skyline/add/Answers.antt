@@ -1,0 +1,15 @@
+use Rattle.std.proofs.Common.{arith}
+use Rattle.std.proofs.lemmas.Int.{ints}
+use Rattle.depth_sweep.proofs.Adding.{all_added, room_above}
+use Rattle.depth_sweep.proofs.Resting.{activates_at, less_room}
+use Rattle.depth_sweep.proofs.skyline.Skyline.add.Goals as goal
+
+pub start-requires-clause-room : goal.start-requires-clause-room
+start-requires-clause-room c =
+    let a = c.in_ok-end.ensures in
+    less_room c.add_over.new.self c.args.rect.x0 c.in_ok-end.end _ _ c.args.rect
+    (room_above c.add_over.new.self c.args.rect c.args.rect.x0 c.in_ok-end.end a.below (λ x i. a.free x i.from i)) (omega (arith, ints)) (omega (arith, ints))
+
+pub returns-clause-cells : goal.returns-clause-cells
+returns-clause-cells c = (all_added c.args.self.now c.add_over.new.self c.start.new.self c.args.rect c.in_ok-end.end c.in_ok-end.ensures
+    (activates_at _ _ _ _ c.add_over.new.self c.start.new.self c.args.rect c.in_ok-start.ensures (omega (arith, ints)) (omega (arith, ints)))).2

@@ -1,0 +1,106 @@
+use super::counting::{are_runs_of, cells_at};
+use super::sides::{Sides, rects_of};
+use depth_sweep::{NoMemory, Rect, twice_runs, union_runs};
+use std::alloc::Global;
+
+/// Rectangles, how many cells they have together, and how many lie in two of them or more.
+type Row = (&'static [Sides], usize, usize);
+
+const ROWS: &[Row] = &[
+    (&[], 0, 0),
+    (&[(0, 0, 4, 2)], 8, 0),
+    // crossing at a corner
+    (&[(0, 0, 4, 2), (2, 1, 6, 3)], 14, 2),
+    // a cross
+    (&[(0, 4, 12, 6), (5, 0, 7, 10)], 40, 4),
+    // equal, twice and three times
+    (&[(0, 0, 3, 3), (0, 0, 3, 3)], 9, 9),
+    (&[(0, 0, 3, 3), (0, 0, 3, 3), (0, 0, 3, 3)], 9, 9),
+    // nested, the inner one first and last
+    (&[(2, 2, 5, 5), (0, 0, 8, 8)], 64, 9),
+    (&[(0, 0, 8, 8), (2, 2, 5, 5), (3, 3, 4, 4)], 64, 9),
+    // nested from the same lowest row, and with the same top
+    (&[(0, 0, 8, 8), (2, 0, 5, 3), (2, 5, 5, 8)], 64, 18),
+    // abutting at sides, and at a corner
+    (&[(0, 0, 4, 4), (4, 0, 8, 4), (0, 4, 8, 6)], 48, 0),
+    (&[(0, 0, 4, 4), (4, 4, 8, 8)], 32, 0),
+    // one over three, with gaps between, two of which reach higher than it
+    (
+        &[(0, 0, 2, 9), (3, 0, 5, 4), (6, 0, 8, 9), (-2, 2, 10, 6)],
+        72,
+        20,
+    ),
+    // three that have cells in common
+    (&[(0, 0, 6, 6), (3, 3, 9, 9), (2, 4, 7, 5)], 63, 11),
+    // three, each two of which have cells in common
+    (&[(0, 0, 4, 2), (3, 0, 5, 8), (0, 1, 10, 3)], 35, 8),
+    // a stair, and the same stair from its other end
+    (
+        &[(0, 0, 9, 1), (1, 0, 9, 2), (2, 0, 9, 3), (3, 0, 9, 4)],
+        30,
+        21,
+    ),
+    (
+        &[(3, 0, 9, 4), (2, 0, 9, 3), (1, 0, 9, 2), (0, 0, 9, 1)],
+        30,
+        21,
+    ),
+    // a mesh of two bars each way
+    (
+        &[(0, 1, 9, 2), (0, 5, 9, 6), (1, 0, 2, 9), (5, 0, 6, 9)],
+        32,
+        4,
+    ),
+];
+
+/// Whether the runs of the rectangles have just the cells that they should.
+fn have_right_cells(
+    alloc: Global,
+    rects: &[Rect],
+    once: usize,
+    twice: usize,
+) -> Result<bool, NoMemory> {
+    let runs = union_runs(alloc, rects)?;
+    let parts = twice_runs(alloc, rects)?;
+    Ok(
+        cells_at(runs.as_slice(), 1) == once
+            && cells_at(parts.as_slice(), 1) == twice
+            && are_runs_of(runs.as_slice(), rects, 1)
+            && are_runs_of(parts.as_slice(), rects, 2),
+    )
+}
+
+/// The same of a row.
+fn is_right(alloc: Global, row: &Row) -> bool {
+    let (table, once, twice) = *row;
+    match rects_of(alloc, table) {
+        Some(rects) => have_right_cells(alloc, rects.as_slice(), once, twice) == Ok(true),
+        None => false,
+    }
+}
+
+#[test]
+fn runs_have_the_cells_of_the_list(rt: HostRuntime) {
+    for (number, row) in ROWS.iter().enumerate() {
+        assert!(rt; is_right(rt.alloc(), row), "row {number}");
+    }
+}
+
+/// Plates that grow to the left, column by column, as high as each other: these are one plate.
+const GROWING: &[Sides] = &[
+    (5, 0, 9, 9),
+    (4, 0, 9, 9),
+    (3, 0, 9, 9),
+    (2, 0, 9, 9),
+    (0, 0, 12, 9),
+];
+
+#[test]
+fn plates_that_grow_are_one_run(rt: HostRuntime) {
+    let rects = rects_of(rt.alloc(), GROWING);
+    let runs = match rects {
+        Some(rects) => union_runs(rt.alloc(), rects.as_slice()),
+        None => Err(NoMemory),
+    };
+    assert!(rt; runs.is_ok_and(|runs| runs.as_slice() == [Rect::new(0, 0, 12, 9)].as_slice()));
+}
