@@ -4,7 +4,7 @@ use Rattle.std.proofs.lemmas.Grind.{same_number_lists}
 use Rattle.std.proofs.lemmas.Option.{slice_get-get_or}
 use Rattle.paths.proofs.PathLaws.{append, reverse}
 use Rattle.classes.specs.Classes.{IsPair, AreJoined, IsClasses}
-use Rattle.classes.specs.Laws.{EqualWhereJoined, ClassesAgree}
+use Rattle.classes.specs.ClassConsequences.{EqualWhereJoined, ClassesAgree}
 
 IsPair-sym : (pairs : List (ℕ × ℕ)) (a b : ℕ) → IsPair pairs a b → IsPair pairs b a
 IsPair-sym pairs a b (inl c) = inr c

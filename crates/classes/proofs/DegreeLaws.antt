@@ -3,9 +3,9 @@ use Rattle.std.proofs.Common.{ℕ, ◌+◌, ◌<◌, ◌≡◌, ◌≢◌, refl,
 use Rattle.std.specs.Prelude.{Contains}
 use Rattle.std.proofs.lemmas.List.Sums.{sum_by-set}
 use Rattle.std.proofs.lemmas.Bool.Decides.{eqb_tells}
-use Rattle.paths.proofs.ListLaws.{equal_or_not}
 use Rattle.classes.specs.Classes.{AreBelow}
-use Rattle.classes.specs.Degrees.{match_count, degree_of}
+use Rattle.classes.specs.inside.Degrees.{match_count, degree_of}
+use Rattle.lists.proofs.Comparing.{equal_or_not}
 
 -- the i-th pair
 abbrev pub pair_at : List (ℕ × ℕ) → ℕ → ℕ × ℕ
@@ -37,11 +37,14 @@ get_or-raise xs a k h = elim (equal_or_not k a) [
 sum-raise : (xs : List ℕ) (a : ℕ) → a < length xs → sum (raise xs a) ≡ sum xs + 1
 sum-raise xs a h = let e = sum_by-set (λ x. x) xs a (get_or xs a 0 + 1) 0 h in omega arith
 
-pub degree_of-drop : (k : ℕ) (pairs : List (ℕ × ℕ)) (i : ℕ) → i < length pairs → degree_of k (drop i pairs) ≡ match_count k (pair_at pairs i).0 + match_count k (pair_at pairs i).1 + degree_of k (drop (i + 1) pairs)
+pub degree_of-drop : (k : ℕ) (pairs : List (ℕ × ℕ)) (i : ℕ) → i < length pairs → degree_of k (drop i pairs) ≡ match_count k (pair_at pairs i).0 + match_count k (pair_at pairs i).1 + degree_of k
+    (drop (i + 1) pairs)
 degree_of-drop k pairs i h = rw (add-one, drop-cons pairs i (0, 0)) refl
 
 -- the next pair raises the count of both its ends, and the sum by two
-pub counted_more : (ds : List ℕ) (pairs : List (ℕ × ℕ)) (i a b : ℕ) → i < length pairs → a ≡ (pair_at pairs i).0 → b ≡ (pair_at pairs i).1 → a < length ds → b < length ds → ((k : ℕ) → k < length ds → get_or ds k 0 + degree_of k (drop i pairs) ≡ degree_of k pairs) → (k : ℕ) → k < length (raise (raise ds a) b) → get_or (raise (raise ds a) b) k 0 + degree_of k (drop (i + 1) pairs) ≡ degree_of k pairs
+pub counted_more : (ds : List ℕ) (pairs : List (ℕ × ℕ)) (i a b : ℕ) → i < length pairs → a ≡ (pair_at pairs i).0 → b ≡ (pair_at pairs i).1 → a < length ds → b < length ds
+    → ((k : ℕ) → k < length ds → get_or ds k 0 + degree_of k (drop i pairs) ≡ degree_of k pairs) → (k : ℕ) → k < length (raise (raise ds a) b)
+    → get_or (raise (raise ds a) b) k 0 + degree_of k (drop (i + 1) pairs) ≡ degree_of k pairs
 counted_more ds pairs i a b h e f in_a in_b all k small =
     let long = length-set ds a (get_or ds a 0 + 1) in
     let long' = length-set (raise ds a) b (get_or (raise ds a) b 0 + 1) in

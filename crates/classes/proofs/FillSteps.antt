@@ -4,11 +4,12 @@ use Rattle.std.proofs.lemmas.Bool.Decides.{leb_tells}
 use Rattle.std.specs.Prelude.{Contains}
 use Rattle.std.proofs.lemmas.List.{take_more, take_all, drop_all}
 use Rattle.std.proofs.lemmas.List.Elements.{Contains-get_or, Contains-append_left, Contains-push, Contains-push_cases}
-use Rattle.paths.proofs.ListLaws.{equal_or_not}
 use Rattle.classes.specs.Classes.{IsPair}
-use Rattle.classes.specs.Degrees.{match_count, degree_of}
-use Rattle.classes.specs.Index.{IsLaidOut, IsIndexOf}
+use Rattle.classes.specs.inside.Degrees.{match_count, degree_of}
+use Rattle.classes.specs.inside.Index.{IsLaidOut, IsIndexOf}
 use Rattle.classes.proofs.DegreeLaws.{raise, get_or-raise, match_count_same, match_count_other, pair_at, degree_of-drop}
+use Rattle.lists.proofs.Comparing.{equal_or_not}
+use Rattle.lists.proofs.Containing.{Contains-take_cases}
 
 -- a later number does not start before an earlier one
 pub rise : (pairs : List (ℕ × ℕ)) (starts : List ℕ) (size : ℕ) → IsLaidOut pairs starts size → (i n : ℕ) → i + n < length starts → get_or starts i 0 ≤ get_or starts (i + n) 0
@@ -38,7 +39,8 @@ pub record IsFilling (Done : ℕ → ℕ → Type 0) (left : ℕ → ℕ) (start
   pub sound : (k p : ℕ) → suc k < length starts → get_or starts k 0 ≤ p → p < get_or next k 0 → Done k (get_or flat p 0)
   pub complete : (k x : ℕ) → Done k x → IsPut starts next flat k x
 
-module _ {Done : ℕ → ℕ → Type 0} (left : ℕ → ℕ) (starts next flat : List ℕ) (k x : ℕ) (rises : (i j : ℕ) → i ≤ j → j < length starts → get_or starts i 0 ≤ get_or starts j 0) (s : IsFilling Done left starts next flat) (small : suc k < length starts) where
+module _ {Done : ℕ → ℕ → Type 0} (left : ℕ → ℕ) (starts next flat : List ℕ) (k x : ℕ) (rises : (i j : ℕ) → i ≤ j → j < length starts → get_or starts i 0 ≤ get_or starts j 0)
+    (s : IsFilling Done left starts next flat) (small : suc k < length starts) where
   -- k's first free place is filled for no number
   not_next : (j p : ℕ) → 1 ≤ left k → suc j < length starts → get_or starts j 0 ≤ p → p < get_or next j 0 → p ≢ get_or next k 0
   not_next j p more b h l e = elim (equal_or_not j k) [
@@ -53,7 +55,8 @@ module _ {Done : ℕ → ℕ → Type 0} (left : ℕ → ℕ) (starts next flat 
         ]
   ]
 
-  pub put_one : (left' : ℕ → ℕ) → ((j : ℕ) → left j ≡ left' j + match_count j k) → get_or next k 0 < length flat → IsFilling (λ a b. Done a b ⊎ ((a ≡ k) × (b ≡ x))) left' starts (raise next k) (set flat (get_or next k 0) x)
+  pub put_one : (left' : ℕ → ℕ) → ((j : ℕ) → left j ≡ left' j + match_count j k) → get_or next k 0 < length flat
+      → IsFilling (λ a b. Done a b ⊎ ((a ≡ k) × (b ≡ x))) left' starts (raise next k) (set flat (get_or next k 0) x)
   put_one left' fewer room =
       let long = s.one_each in
       let next_of : (j : ℕ) → get_or (raise next k) j 0 ≡ get_or next j 0 + match_count j k = λ j. get_or-raise next k j (omega arith) in
@@ -97,7 +100,8 @@ module _ {Done : ℕ → ℕ → Type 0} (left : ℕ → ℕ) (starts next flat 
       }
 
 -- what is done may be said in other words
-pub reworded : {Done Also : ℕ → ℕ → Type 0} (left : ℕ → ℕ) (starts next flat : List ℕ) → ((a b : ℕ) → Done a b → Also a b) → ((a b : ℕ) → Also a b → Done a b) → IsFilling Done left starts next flat → IsFilling Also left starts next flat
+pub reworded : {Done Also : ℕ → ℕ → Type 0} (left : ℕ → ℕ) (starts next flat : List ℕ) → ((a b : ℕ) → Done a b → Also a b) → ((a b : ℕ) → Also a b → Done a b) → IsFilling Done left starts next flat
+    → IsFilling Also left starts next flat
 reworded left starts next flat to back s = record {
   one_each = s.one_each;
   from = s.from;
@@ -119,9 +123,6 @@ Contains-last pairs i h x y e f =
 Contains-earlier : (pairs : List (ℕ × ℕ)) (i : ℕ) → i < length pairs → (q : ℕ × ℕ) → Contains (take i pairs) q → Contains (take (i + 1) pairs) q
 Contains-earlier pairs i h q c = let t = take_more pairs i (0, 0) h in rw t (Contains-append_left (take i pairs) (pair_at pairs i ∷ []) q c)
 
-Contains-either : (pairs : List (ℕ × ℕ)) (i : ℕ) → i < length pairs → (q : ℕ × ℕ) → Contains (take (i + 1) pairs) q → Contains (take i pairs) q ⊎ (pair_at pairs i ≡ q)
-Contains-either pairs i h q c = let t = take_more pairs i (0, 0) h in Contains-push_cases (take i pairs) (pair_at pairs i) q (rw t at c)
-
 pub to_more : (pairs : List (ℕ × ℕ)) (i : ℕ) → i < length pairs → (x y : ℕ) → Both (IsPair (take i pairs)) (pair_at pairs i).0 (pair_at pairs i).1 x y → IsPair (take (i + 1) pairs) x y
 to_more pairs i h x y (inl (inl (inl c))) = inl (Contains-earlier pairs i h (x, y) c)
 to_more pairs i h x y (inl (inl (inr c))) = inr (Contains-earlier pairs i h (y, x) c)
@@ -129,11 +130,11 @@ to_more pairs i h x y (inl (inr e)) = inl (Contains-last pairs i h x y e.0 e.1)
 to_more pairs i h x y (inr e) = inr (Contains-last pairs i h y x e.1 e.0)
 
 pub from_more : (pairs : List (ℕ × ℕ)) (i : ℕ) → i < length pairs → (x y : ℕ) → IsPair (take (i + 1) pairs) x y → Both (IsPair (take i pairs)) (pair_at pairs i).0 (pair_at pairs i).1 x y
-from_more pairs i h x y (inl c) = elim (Contains-either pairs i h (x, y) c) [
+from_more pairs i h x y (inl c) = elim (Contains-take_cases pairs i (0, 0) (x, y) h c) [
   | inl d ↦ inl (inl (inl d))
   | inr e ↦ inl (inr (ap (λ (q : ℕ × ℕ). q.0) (sym e), ap (λ (q : ℕ × ℕ). q.1) (sym e)))
 ]
-from_more pairs i h x y (inr c) = elim (Contains-either pairs i h (y, x) c) [
+from_more pairs i h x y (inr c) = elim (Contains-take_cases pairs i (0, 0) (y, x) h c) [
   | inl d ↦ inl (inl (inr d))
   | inr e ↦ inr (ap (λ (q : ℕ × ℕ). q.1) (sym e), ap (λ (q : ℕ × ℕ). q.0) (sym e))
 ]
@@ -151,7 +152,8 @@ filled_none pairs starts flat size l = record {
   complete = λ k x d. absurd (elim d [ inl c ↦ let f = c.1 in omega arith | inr c ↦ let f = c.1 in omega arith ]);
 }
 
-pub filled_all : (pairs : List (ℕ × ℕ)) (i : ℕ) (starts next flat : List ℕ) (size : ℕ) → i ≡ length pairs → size ≡ length flat → IsLaidOut pairs starts size → FilledTo pairs i starts next flat → IsIndexOf pairs starts flat
+pub filled_all : (pairs : List (ℕ × ℕ)) (i : ℕ) (starts next flat : List ℕ) (size : ℕ) → i ≡ length pairs → size ≡ length flat → IsLaidOut pairs starts size → FilledTo pairs i starts next flat
+    → IsIndexOf pairs starts flat
 filled_all pairs i starts next flat size e g l s =
     let none : (k : ℕ) → degree_of k (drop i pairs) ≡ 0 = λ k. ap (degree_of k) (drop_all i pairs (omega arith)) in
     let all : take i pairs ≡ pairs = take_all i pairs (omega arith) in
@@ -166,42 +168,45 @@ filled_all pairs i starts next flat size e g l s =
     }
 
 -- the two writes of a pair
-module _ (pairs : List (ℕ × ℕ)) (i : ℕ) (starts next flat : List ℕ) (size : ℕ) (h : i < length pairs) (g : size ≡ length flat) (l : IsLaidOut pairs starts size) (s : FilledTo pairs i starts next flat) where
-  abbrev one : ℕ
-  one = (pair_at pairs i).0
+module _ (pairs : List (ℕ × ℕ)) (i : ℕ) (starts next flat : List ℕ) (size : ℕ) (h : i < length pairs) (g : size ≡ length flat) (l : IsLaidOut pairs starts size) (s : FilledTo pairs i starts next flat)
+  where
+    abbrev one : ℕ
+    one = (pair_at pairs i).0
 
-  abbrev other : ℕ
-  other = (pair_at pairs i).1
+    abbrev other : ℕ
+    other = (pair_at pairs i).1
 
-  pub in_range : (suc one < length starts) × (suc other < length starts)
-  in_range = l.below one other (Contains-get_or pairs i (0, 0) h)
+    pub in_range : (suc one < length starts) × (suc other < length starts)
+    in_range = l.below one other (Contains-get_or pairs i (0, 0) h)
 
-  abbrev left : ℕ → ℕ
-  left j = match_count j other + degree_of j (drop (i + 1) pairs)
+    abbrev left : ℕ → ℕ
+    left j = match_count j other + degree_of j (drop (i + 1) pairs)
 
-  pub first_place : get_or next one 0 < length flat
-  first_place =
-      let b = in_range.0 in
-      let r = s.room one b in
-      let w = l.within (suc one) b in
-      let c = degree_of-drop one pairs i h in
-      let o = match_count_same one one refl in
-      omega arith
+    pub first_place : get_or next one 0 < length flat
+    first_place =
+        let b = in_range.0 in
+        let r = s.room one b in
+        let w = l.within (suc one) b in
+        let c = degree_of-drop one pairs i h in
+        let o = match_count_same one one refl in
+        omega arith
 
-  half_way : IsFilling (λ x y. IsPair (take i pairs) x y ⊎ ((x ≡ one) × (y ≡ other))) left starts (raise next one) (set flat (get_or next one 0) other)
-  half_way = put_one (λ k. degree_of k (drop i pairs)) starts next flat one other (ordered pairs starts size l) s in_range.0 left (λ j. let c = degree_of-drop j pairs i h in omega arith) first_place
+    half_way : IsFilling (λ x y. IsPair (take i pairs) x y ⊎ ((x ≡ one) × (y ≡ other))) left starts (raise next one) (set flat (get_or next one 0) other)
+    half_way = put_one (λ k. degree_of k (drop i pairs)) starts next flat one other (ordered pairs starts size l) s in_range.0 left (λ j. let c = degree_of-drop j pairs i h in omega arith) first_place
 
-  pub second_place : get_or (raise next one) other 0 < length flat
-  second_place =
-      let b = in_range.1 in
-      let r = half_way.room other b in
-      let w = l.within (suc other) b in
-      let o = match_count_same other other refl in
-      omega arith
+    pub second_place : get_or (raise next one) other 0 < length flat
+    second_place =
+        let b = in_range.1 in
+        let r = half_way.room other b in
+        let w = l.within (suc other) b in
+        let o = match_count_same other other refl in
+        omega arith
 
-  pub filled_more : FilledTo pairs (i + 1) starts (raise (raise next one) other) (set (set flat (get_or next one 0) other) (get_or (raise next one) other 0) one)
-  filled_more =
-      let long = length-set flat (get_or next one 0) other in
-      let p = second_place in
-      reworded (λ k. degree_of k (drop (i + 1) pairs)) _ _ _ (to_more pairs i h) (from_more pairs i h)
-      (put_one left starts (raise next one) (set flat (get_or next one 0) other) other one (ordered pairs starts size l) half_way in_range.1 (λ k. degree_of k (drop (i + 1) pairs)) (λ j. omega arith) (omega arith))
+    pub filled_more : FilledTo pairs (i + 1) starts (raise (raise next one) other) (set (set flat (get_or next one 0) other) (get_or (raise next one) other 0) one)
+    filled_more =
+        let long = length-set flat (get_or next one 0) other in
+        let p = second_place in
+        reworded (λ k. degree_of k (drop (i + 1) pairs)) _ _ _ (to_more pairs i h) (from_more pairs i h)
+        (put_one left starts (raise next one) (set flat (get_or next one 0) other) other one (ordered pairs starts size l) half_way in_range.1 (λ k. degree_of k (drop (i + 1) pairs))
+        (λ j. omega arith)
+        (omega arith))

@@ -4,12 +4,14 @@ use Rattle.std.proofs.lemmas.List.{get_or_past}
 use Rattle.std.proofs.lemmas.Bool.Decides.{leb_tells}
 use Rattle.std.proofs.lemmas.List.Sums.{sum_by_more, sum_by-take-le}
 use Rattle.classes.specs.Classes.{AreBelow}
-use Rattle.classes.specs.Degrees.{AreDegrees}
-use Rattle.classes.specs.Index.{IsStarts, IsLaidOut, IsIndexOf}
-use Rattle.classes.specs.Spreading.{IsGraph}
+use Rattle.classes.specs.inside.Degrees.{AreDegrees}
+use Rattle.classes.specs.inside.Index.{IsStarts, IsLaidOut, IsIndexOf}
+use Rattle.classes.specs.inside.Spreading.{IsGraph}
 use Rattle.classes.proofs.DegreeLaws.{pair_below}
+use Rattle.std.proofs.Math.Logic.{⊎_swap}
 
-pub laid_out : (n : ℕ) (pairs : List (ℕ × ℕ)) (degrees starts : List ℕ) (size : ℕ) → AreBelow n pairs → AreDegrees n pairs degrees → IsStarts degrees starts → length pairs + length pairs ≤ size → IsLaidOut pairs starts size
+pub laid_out : (n : ℕ) (pairs : List (ℕ × ℕ)) (degrees starts : List ℕ) (size : ℕ) → AreBelow n pairs → AreDegrees n pairs degrees → IsStarts degrees starts → length pairs + length pairs ≤ size
+    → IsLaidOut pairs starts size
 laid_out n pairs degrees starts size below d s long =
     let one = s.one_more in
     let each = d.one_each in
@@ -27,10 +29,6 @@ laid_out n pairs degrees starts size below d s long =
       within = λ k h. let p = s.summed k (omega arith) in let m = sum_by-take-le (λ x. x) degrees k in omega arith;
     }
 
-swap : {A B : Type 0} → A ⊎ B → B ⊎ A
-swap (inl a) = inr a
-swap (inr b) = inl b
-
 -- a number that has a place has a start and an end
 pub in_starts : (starts : List ℕ) (k place : ℕ) → place < get_or starts (suc k) 0 → suc k < length starts
 in_starts starts k place h = elim (leb_tells (length starts) (suc k)) [
@@ -44,5 +42,5 @@ graph_of n pairs starts neighbours below e i = record {
   rising = λ k h. i.rising k (omega arith);
   within = λ k h. i.within k (omega arith);
   below = λ k x l. elim (i.sound k x (in_starts starts k l.place l.to) l) [ inl c ↦ (pair_below n pairs below k x c).1 | inr c ↦ (pair_below n pairs below x k c).0 ];
-  back = λ k x l. i.complete x k (swap (i.sound k x (in_starts starts k l.place l.to) l));
+  back = λ k x l. i.complete x k (⊎_swap (i.sound k x (in_starts starts k l.place l.to) l));
 }

@@ -7,12 +7,13 @@ use Rattle.std.proofs.lemmas.List.Elements.{Contains-append_left, Contains-push,
 use Rattle.paths.specs.Paths.{Path, stay, step}
 use Rattle.paths.proofs.PathLaws.{append, kept, first, retold}
 use Rattle.classes.specs.Classes.{IsClasses}
-use Rattle.classes.specs.Index.{HasNeighbour, IsIndexOf}
-use Rattle.classes.specs.Spreading.{IsPlaceOf, IsGraph, HasClass, IsSound, IsSettled, IsSpreading, IsMarked}
-use Rattle.paths.proofs.ListLaws.{equal_or_not, Contains-first, Contains-rest, Contains-cases}
+use Rattle.classes.specs.inside.Index.{HasNeighbour, IsIndexOf}
+use Rattle.classes.specs.inside.Spreading.{IsPlaceOf, IsGraph, HasClass, IsSound, IsSettled, IsSpreading, IsMarked}
 use Rattle.std.proofs.lemmas.Bool.Decides.{leb_tells}
 use Rattle.std.proofs.lemmas.List.Sums.{sum_by-set}
 use Rattle.classes.proofs.IndexLaws.{in_starts}
+use Rattle.lists.proofs.Comparing.{equal_or_not}
+use Rattle.lists.proofs.Containing.{Contains-cons_cases, Contains-head, Contains-tail}
 
 pub listed : (starts neighbours : List ℕ) (a place : ℕ) → IsPlaceOf starts a place → HasNeighbour starts neighbours a (get_or neighbours place 0)
 listed starts neighbours a place h = record { place = place; from = h.0; to = h.1; is = refl }
@@ -60,7 +61,8 @@ module _ (starts neighbours classes : List ℕ) (graph : IsGraph (length classes
   fresh_is_late start j earlier free = let f : j < start → get_or classes j 0 < length classes = earlier j in grind (arith, f)
 
   -- a walk begins: its first number gets itself as its class
-  pub begin : (start : ℕ) → start < length classes → length classes ≤ get_or classes start 0 → IsSettled starts neighbours classes start → (any : ℕ) → IsSpreading starts neighbours (set classes start start) (start ∷ []) start any (get_or starts (suc any) 0)
+  pub begin : (start : ℕ) → start < length classes → length classes ≤ get_or classes start 0 → IsSettled starts neighbours classes start → (any : ℕ)
+      → IsSpreading starts neighbours (set classes start start) (start ∷ []) start any (get_or starts (suc any) 0)
   begin start small free s any =
       let l = long start start s.sound small small free in
       let was = as_it_was start start s.sound small small free in
@@ -76,27 +78,32 @@ module _ (starts neighbours classes : List ℕ) (graph : IsGraph (length classes
               let k : HasClass classes (get_or neighbours place 0) = omega arith in
               inl (inr (was (get_or neighbours place 0) k ∙ e ∙ sym (off a n)))
         ];
-        pending = λ a h. elim (Contains-push_cases [] start a h) [ inl k ↦ absurd (let b = k.1 in omega arith) | inr e ↦ (omega arith, subst (λ x. get_or (set classes start start) x 0 ≡ start) e mine) ];
+        pending = λ a h. elim (Contains-push_cases [] start a h) [
+          | inl k ↦ absurd (let b = k.1 in omega arith)
+          | inr e ↦ (omega arith, subst (λ x. get_or (set classes start start) x 0 ≡ start) e mine)
+        ];
         earlier = λ k h. let f = s.earlier k h in let e = was k f in omega arith;
         begun = mine;
       }
 
   -- the first number of the queue is taken out, and none of its neighbours is seen yet
-  pub take_one : (todo rest : List ℕ) (start i any : ℕ) → todo ≡ i ∷ rest → IsSpreading starts neighbours classes todo start any (get_or starts (suc any) 0) → IsSpreading starts neighbours classes rest start i (get_or starts i 0)
+  pub take_one : (todo rest : List ℕ) (start i any : ℕ) → todo ≡ i ∷ rest → IsSpreading starts neighbours classes todo start any (get_or starts (suc any) 0)
+      → IsSpreading starts neighbours classes rest start i (get_or starts i 0)
   take_one todo rest start i any e s = record {
     sound = s.sound;
     closed = λ a place t h. elim (s.closed a place t h) [
-      | inl (inl k) ↦ elim (Contains-cases i rest a (subst (λ x. Contains x a) e k)) [ inl m ↦ inr (sym m, subst (λ x. get_or starts x 0 ≤ place) (sym m) t.0) | inr m ↦ inl (inl m) ]
+      | inl (inl k) ↦ elim (Contains-cons_cases i rest a (subst (λ x. Contains x a) e k)) [ inl m ↦ inr (sym m, subst (λ x. get_or starts x 0 ≤ place) (sym m) t.0) | inr m ↦ inl (inl m) ]
       | inl (inr k) ↦ inl (inr k)
       | inr k ↦ absurd (let b = t.1 in let f = ap (λ x. get_or starts (suc x) 0) k.0 in omega arith)
     ];
-    pending = λ a h. s.pending a (subst (λ x. Contains x a) (sym e) (Contains-rest i rest a h));
+    pending = λ a h. s.pending a (subst (λ x. Contains x a) (sym e) (Contains-tail i rest a h));
     earlier = s.earlier;
     begun = s.begun;
   }
 
-  pub taken : (todo rest : List ℕ) (start i any : ℕ) → todo ≡ i ∷ rest → IsSpreading starts neighbours classes todo start any (get_or starts (suc any) 0) → (i < length classes) × (get_or classes i 0 ≡ start)
-  taken todo rest start i any e s = s.pending i (subst (λ x. Contains x i) (sym e) (Contains-first i rest))
+  pub taken : (todo rest : List ℕ) (start i any : ℕ) → todo ≡ i ∷ rest → IsSpreading starts neighbours classes todo start any (get_or starts (suc any) 0) → (i < length classes)
+      × (get_or classes i 0 ≡ start)
+  taken todo rest start i any e s = s.pending i (subst (λ x. Contains x i) (sym e) (Contains-head i rest))
 
   -- the neighbour at the place `here` is seen
   module _ (todo : List ℕ) (start i here : ℕ) (s : IsSpreading starts neighbours classes todo start i here) (place_of : IsPlaceOf starts i here) where
@@ -109,7 +116,8 @@ module _ (starts neighbours classes : List ℕ) (graph : IsGraph (length classes
       closed = λ a place t h. elim (s.closed a place t h) [
         | inl k ↦ inl k
         | inr k ↦ elim (equal_or_not place here) [
-          | inl e ↦ inl (subst (λ x. Contains todo x ⊎ (get_or classes (get_or neighbours place 0) 0 ≡ get_or classes x 0)) (sym k.0) (subst (λ y. Contains todo i ⊎ (get_or classes (get_or neighbours y 0) 0 ≡ get_or classes i 0)) (sym e)
+          | inl e ↦ inl (subst (λ x. Contains todo x ⊎ (get_or classes (get_or neighbours place 0) 0 ≡ get_or classes x 0)) (sym k.0)
+              (subst (λ y. Contains todo i ⊎ (get_or classes (get_or neighbours y 0) 0 ≡ get_or classes i 0)) (sym e)
               (fine (subst (HasClass classes) k.0 h))))
           | inr n ↦ inr (k.0, omega arith)
         ]
@@ -128,14 +136,16 @@ module _ (starts neighbours classes : List ℕ) (graph : IsGraph (length classes
           | inr k ↦ inr (ap (λ x. get_or classes x 0) k.0)
         ])
 
-    pub class_one : get_or classes i 0 ≡ start → start < length classes → i < length classes → j < length classes → length classes ≤ get_or classes j 0 → IsSpreading starts neighbours (set classes j start) (todo ++ j ∷ []) start i (here + 1)
+    pub class_one : get_or classes i 0 ≡ start → start < length classes → i < length classes → j < length classes → length classes ≤ get_or classes j 0
+        → IsSpreading starts neighbours (set classes j start) (todo ++ j ∷ []) start i (here + 1)
     class_one mine small from to free =
         let l = long start j s.sound small to free in
         let was = as_it_was start j s.sound small to free in
         let off = off_j start j s.sound small to free in
         let set_to = at_j start j s.sound small to free in
         let i_has : HasClass classes i = omega arith in
-        let path : Path (λ k. k < length classes) (HasNeighbour starts neighbours) start i = subst (λ x. Path (λ k. k < length classes) (HasNeighbour starts neighbours) x i) mine (s.sound.joined i from i_has) in
+        let path : Path (λ k. k < length classes) (HasNeighbour starts neighbours) start i =
+        subst (λ x. Path (λ k. k < length classes) (HasNeighbour starts neighbours) x i) mine (s.sound.joined i from i_has) in
         record {
           sound = sound_more start j s.sound small to free (append path (step from (listed starts neighbours i here place_of) (stay to))) (fresh_is_late start j s.earlier free);
           closed = λ a place t h. elim (equal_or_not a j) [
@@ -160,7 +170,8 @@ module _ (starts neighbours classes : List ℕ) (graph : IsGraph (length classes
         }
 
   -- the walk ends with an empty queue
-  pub done : (todo : List ℕ) (start i : ℕ) → length todo ≡ 0 → start < length classes → IsSpreading starts neighbours classes todo start i (get_or starts (suc i) 0) → IsSettled starts neighbours classes (start + 1)
+  pub done : (todo : List ℕ) (start i : ℕ) → length todo ≡ 0 → start < length classes → IsSpreading starts neighbours classes todo start i (get_or starts (suc i) 0)
+      → IsSettled starts neighbours classes (start + 1)
   done todo start i e small s = record {
     sound = s.sound;
     closed = λ a place t h. elim (s.closed a place t h) [
@@ -188,7 +199,8 @@ module _ (starts neighbours classes : List ℕ) (graph : IsGraph (length classes
     joined = λ k m e.
         let b = slice_get_within classes k m e in
         let is = get_or_from_slice_get classes k m 0 e in
-        retold (λ a c h h' l. inr (i.sound a c (in_starts starts a l.place l.to) l)) (subst (λ x. Path (λ y. y < length classes) (HasNeighbour starts neighbours) x k) is (s.sound.joined k b (s.earlier k b)));
+        retold (λ a c h h' l. inr (i.sound a c (in_starts starts a l.place l.to) l)) (subst (λ x. Path (λ y. y < length classes) (HasNeighbour starts neighbours) x k) is
+        (s.sound.joined k b (s.earlier k b)));
     least = λ k m j e path.
         let is = get_or_from_slice_get classes k m 0 e in
         let c : j < length classes = first path in
@@ -196,10 +208,6 @@ module _ (starts neighbours classes : List ℕ) (graph : IsGraph (length classes
         let l = s.sound.low j c (s.earlier j c) in
         omega arith;
   }
-
--- a `Vec` whose slice was written as a whole holds what was written
-pub put_back : (n : ℕ) (new old : List ℕ) → n ≡ length new → take n (new ++ drop (length new) old) ≡ new
-put_back n new old e = let le : n ≤ length new = omega arith in rw take-append-le (let ge : length new ≤ n = omega arith in take_all n new ge)
 
 -- an element that was read is the one that clauses write
 pub read_is : (xs : List ℕ) (i r : ℕ) → i < length xs → r ≡ get_or xs i r → get_or xs i 0 ≡ r
@@ -214,7 +222,9 @@ pub record IsStep (starts neighbours classes todo : List ℕ) (class number plac
   pub state : IsSpreading starts neighbours classes' todo' class number (place + 1)
   pub fewer : sum classes' + length todo' ≤ sum classes + length todo
 
-pub step_on : (starts neighbours classes todo classes' todo' : List ℕ) (class number place : ℕ) → IsGraph (length classes) starts neighbours → class < length classes → number < length classes → get_or neighbours place 0 < length classes → get_or classes number 0 ≡ class → IsPlaceOf starts number place → IsSpreading starts neighbours classes todo class number place → IsMarked classes todo class (get_or neighbours place 0) classes' todo' → IsStep starts neighbours classes todo class number place classes' todo'
+pub step_on : (starts neighbours classes todo classes' todo' : List ℕ) (class number place : ℕ) → IsGraph (length classes) starts neighbours → class < length classes → number < length classes
+    → get_or neighbours place 0 < length classes → get_or classes number 0 ≡ class → IsPlaceOf starts number place → IsSpreading starts neighbours classes todo class number place
+    → IsMarked classes todo class (get_or neighbours place 0) classes' todo' → IsStep starts neighbours classes todo class number place classes' todo'
 step_on starts neighbours classes todo classes' todo' class number place g small from to mine place_of s m = elim (leb_tells (length classes) (get_or classes (get_or neighbours place 0) 0)) [
   | inl y ↦
       let free = y.1 in
@@ -226,7 +236,8 @@ step_on starts neighbours classes todo classes' todo' class number place g small
         state = class_one starts neighbours classes g todo class number place s place_of mine small from to free;
         fewer = omega arith;
       } in
-      subst (λ t. IsStep starts neighbours classes todo class number place classes' t) (sym e.1) (subst (λ x. IsStep starts neighbours classes todo class number place x (todo ++ get_or neighbours place 0 ∷ [])) (sym e.0) built)
+      subst (λ t. IsStep starts neighbours classes todo class number place classes' t) (sym e.1)
+      (subst (λ x. IsStep starts neighbours classes todo class number place x (todo ++ get_or neighbours place 0 ∷ [])) (sym e.0) built)
   | inr y ↦
       let e = m.had y.1 in
       let built : IsStep starts neighbours classes todo class number place classes todo = record {

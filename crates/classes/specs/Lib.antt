@@ -1,5 +1,4 @@
 pub mod Classes
-pub mod Laws
-pub mod Degrees
-pub mod Index
-pub mod Spreading
+pub mod ClassConsequences
+-- what only this crate's proofs and private contracts cite
+pub mod inside

@@ -1,7 +1,7 @@
 ghost use Rattle.std.specs.Prelude.{◌≡◌, ◌+◌, ◌<◌, ◌^◌, length, sum, replicate, slice_index, slice_set, IfOk};
 ghost use Rattle.classes.specs.Classes.{AreBelow};
-ghost use Rattle.classes.specs.Degrees.{AreDegrees};
-ghost use Rattle.classes.specs.Index.{IsStarts, IsLaidOut, IsIndexOf};
+ghost use Rattle.classes.specs.inside.Degrees.{AreDegrees};
+ghost use Rattle.classes.specs.inside.Index.{IsStarts, IsLaidOut, IsIndexOf};
 
 use std::alloc::{AllocError, Global};
 

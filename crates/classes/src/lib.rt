@@ -6,7 +6,7 @@ mod spread;
 
 ghost use Rattle.std.specs.Prelude.{ℕ, List, IfOk};
 ghost use Rattle.classes.specs.Classes.{AreBelow, IsClasses};
-ghost use Rattle.classes.specs.Laws.{ClassesAgree, EqualWhereJoined};
+ghost use Rattle.classes.specs.ClassConsequences.{ClassesAgree, EqualWhereJoined};
 
 use index::index_of;
 use spread::spread;

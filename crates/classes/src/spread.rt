@@ -1,6 +1,6 @@
 ghost use Rattle.std.specs.Prelude.{◌≡◌, ◌+◌, ◌<◌, ◌≤◌, length, sum, slice_index, OnOk};
 ghost use Rattle.std.specs.VecDeque.{deque_len};
-ghost use Rattle.classes.specs.Spreading.{IsGraph, IsSettled, IsSpreading, IsMarked};
+ghost use Rattle.classes.specs.inside.Spreading.{IsGraph, IsSettled, IsSpreading, IsMarked};
 
 use std::alloc::{AllocError, Global};
 use std::collections::VecDeque;

@@ -1,35 +1,35 @@
 -- what words ask for, by what they give
-use Rattle.std.proofs.Common.{ℕ, ◌≤◌, List, [], ◌∷◌, ◌≡◌, ◌∙◌, sym, ap, arith, length, subst, Option, Some, None}
+use Rattle.std.proofs.Common.{ℕ, ◌≤◌, List, refl, [], ◌∷◌, ◌≡◌, ◌∙◌, sym, ap, arith, length, subst, Option, Some, None}
 use Rattle.command_line.specs.declared.option_name.OptionName.{OptionName}
 use Rattle.command_line.specs.declared.option_name.OptionName.TheVariants.{Map, Top, Tile, Workers, Layer, Datatype, Radius}
 use Rattle.command_line.specs.declared.request.Request.{Request}
 use Rattle.command_line.specs.declared.task.Task.{Task}
-use Rattle.command_line.specs.Arguments.{AreSingle}
+use Rattle.command_line.specs.inside.Arguments.{AreSingle}
 use Rattle.command_line.specs.OptionNames.{Text}
-use Rattle.command_line.specs.Requests.{Ask, HasNoEmptyText, IsNumberOnce, IsNumberOrDefault, IsTextIfGiven, as_given, left_out, IsTask, of_one_metal, of_map, IsRequestOf, values_of}
+use Rattle.command_line.specs.Requests.{Ask, GiveNoOther, HasNoEmptyText, IsNumberOnce, IsNumberOrDefault, IsTextIfGiven, as_given, left_out, IsTask, of_one_metal, of_map, options_for, IsRequestOf, values_of}
 use Rattle.command_line.specs.Spelling.{Given, AreSpelled}
 use Rattle.command_line.proofs.SpellingLaws.{spellings_agree}
 
 -- ---- the same values ask for the same
 
 module _ (v w : OptionName → List Text) (p q : List Text) (same : (name : OptionName) → v name ≡ w name) (at : p ≡ q) where
-  once_moved : (name : OptionName) (n : ℕ) → IsNumberOnce (v name) n → IsNumberOnce (w name) n
-  once_moved name n = subst (λ t. IsNumberOnce t n) (same name)
+  once_moved : (name : OptionName) (low high n : ℕ) → IsNumberOnce low high (v name) n → IsNumberOnce low high (w name) n
+  once_moved name low high n = subst (λ t. IsNumberOnce low high t n) (same name)
 
-  default_moved : (name : OptionName) (default n : ℕ) → IsNumberOrDefault default (v name) n → IsNumberOrDefault default (w name) n
-  default_moved name default n = subst (λ t. IsNumberOrDefault default t n) (same name)
+  default_moved : (name : OptionName) (low high default n : ℕ) → IsNumberOrDefault low high default (v name) n → IsNumberOrDefault low high default (w name) n
+  default_moved name low high default n = subst (λ t. IsNumberOrDefault low high default t n) (same name)
 
   task_moved : (task : Task) → IsTask v p task → IsTask w q task
-  task_moved task (of_one_metal {layer = a} {datatype = b} {radius = c} layout none layer datatype radius top) =
-      of_one_metal (sym at ∙ layout) (sym (same Map) ∙ none) (once_moved Layer a layer) (once_moved Datatype b datatype) (once_moved Radius c radius) (sym (same Top) ∙ top)
-  task_moved task (of_map layout map layer datatype radius top) =
-      of_map (sym at ∙ layout) (sym (same Map) ∙ map) (sym (same Layer) ∙ layer) (sym (same Datatype) ∙ datatype) (sym (same Radius) ∙ radius) (sym (same Top) ∙ top)
+  task_moved task (of_one_metal {layer = a} {datatype = b} {radius = c} layout layer datatype radius top) =
+      of_one_metal (sym at ∙ layout) (once_moved Layer 0 65535 a layer) (once_moved Datatype 0 65535 b datatype) (once_moved Radius 1 1000000 c radius) (sym (same Top) ∙ top)
+  task_moved task (of_map layout map top) = of_map (sym at ∙ layout) (sym (same Map) ∙ map) (sym (same Top) ∙ top)
 
   pub request_moved : (request : Request) → IsRequestOf v p request → IsRequestOf w q request
   request_moved request asked = record {
     task = task_moved request.task asked.task;
-    edge = default_moved Tile 65536 request.edge asked.edge;
-    workers = default_moved Workers 4 request.workers asked.workers;
+    edge = default_moved Tile 1 1000000000 65536 request.edge asked.edge;
+    workers = default_moved Workers 1 64 4 request.workers asked.workers;
+    no_other = λ name out. sym (same name) ∙ asked.no_other name out;
   }
 
 -- ---- what is asked for is given once
@@ -40,12 +40,13 @@ one_is_few xs x e = omega (arith, ap length e)
 none_is_few : {A : Type 0} (xs : List A) → xs ≡ [] → length xs ≤ 1
 none_is_few xs e = omega (arith, ap length e)
 
-once_is_few : (values : List Text) (n : ℕ) → IsNumberOnce values n → length values ≤ 1
-once_is_few values n once = one_is_few values once.text once.once
+module _ (low high : ℕ) (values : List Text) (n : ℕ) where
+  once_is_few : IsNumberOnce low high values n → length values ≤ 1
+  once_is_few once = one_is_few values once.text once.once
 
-default_is_few : (default : ℕ) (values : List Text) (n : ℕ) → IsNumberOrDefault default values n → length values ≤ 1
-default_is_few default values n (as_given once) = once_is_few values n once
-default_is_few default values n (left_out e) = none_is_few values e
+  default_is_few : (default : ℕ) → IsNumberOrDefault low high default values n → length values ≤ 1
+  default_is_few default (as_given once) = once_is_few once
+  default_is_few default (left_out e) = none_is_few values e
 
 given_is_few : (values : List Text) (text : Option Text) → IsTextIfGiven values text → length values ≤ 1
 given_is_few values None e = none_is_few values e
@@ -53,22 +54,23 @@ given_is_few values (Some text) e = one_is_few values text e
 
 module _ (values : OptionName → List Text) (positions : List Text) where
   positions_few : (task : Task) → IsTask values positions task → length positions ≤ 1
-  positions_few task (of_one_metal {layout = l} at _ _ _ _ _) = one_is_few positions l at
-  positions_few task (of_map {layout = l} at _ _ _ _ _) = one_is_few positions l at
+  positions_few task (of_one_metal {layout = l} at _ _ _ _) = one_is_few positions l at
+  positions_few task (of_map {layout = l} at _ _) = one_is_few positions l at
 
-  values_few : (request : Request) → IsRequestOf values positions request → (task : Task) → IsTask values positions task → (name : OptionName) → length (values name) ≤ 1
-  values_few request asked task (of_one_metal _ none _ _ _ _) Map = none_is_few (values Map) none
-  values_few request asked task (of_one_metal {layer = n} _ _ layer _ _ _) Layer = once_is_few (values Layer) n layer
-  values_few request asked task (of_one_metal {datatype = n} _ _ _ datatype _ _) Datatype = once_is_few (values Datatype) n datatype
-  values_few request asked task (of_one_metal {radius = n} _ _ _ _ radius _) Radius = once_is_few (values Radius) n radius
-  values_few request asked task (of_map {map = m} _ map _ _ _ _) Map = one_is_few (values Map) m map
-  values_few request asked task (of_map _ _ layer _ _ _) Layer = none_is_few (values Layer) layer
-  values_few request asked task (of_map _ _ _ datatype _ _) Datatype = none_is_few (values Datatype) datatype
-  values_few request asked task (of_map _ _ _ _ radius _) Radius = none_is_few (values Radius) radius
-  values_few request asked task (of_one_metal {top = t} _ _ _ _ _ top) Top = given_is_few (values Top) t top
-  values_few request asked task (of_map {top = t} _ _ _ _ _ top) Top = given_is_few (values Top) t top
-  values_few request asked task _ Tile = default_is_few 65536 (values Tile) request.edge asked.edge
-  values_few request asked task _ Workers = default_is_few 4 (values Workers) request.workers asked.workers
+  values_few : (request : Request) → IsRequestOf values positions request → (task : Task) → IsTask values positions task → GiveNoOther values (options_for task)
+      → (name : OptionName) → length (values name) ≤ 1
+  values_few request asked task (of_one_metal {layer = n} _ layer _ _ _) others Layer = once_is_few 0 65535 (values Layer) n layer
+  values_few request asked task (of_one_metal {datatype = n} _ _ datatype _ _) others Datatype = once_is_few 0 65535 (values Datatype) n datatype
+  values_few request asked task (of_one_metal {radius = n} _ _ _ radius _) others Radius = once_is_few 1 1000000 (values Radius) n radius
+  values_few request asked task (of_one_metal _ _ _ _ _) others Map = none_is_few (values Map) (others Map refl)
+  values_few request asked task (of_map {map = m} _ map _) others Map = one_is_few (values Map) m map
+  values_few request asked task (of_map _ _ _) others Layer = none_is_few (values Layer) (others Layer refl)
+  values_few request asked task (of_map _ _ _) others Datatype = none_is_few (values Datatype) (others Datatype refl)
+  values_few request asked task (of_map _ _ _) others Radius = none_is_few (values Radius) (others Radius refl)
+  values_few request asked task (of_one_metal {top = t} _ _ _ _ top) others Top = given_is_few (values Top) t top
+  values_few request asked task (of_map {top = t} _ _ top) others Top = given_is_few (values Top) t top
+  values_few request asked task _ others Tile = default_is_few 1 1000000000 (values Tile) request.edge 65536 asked.edge
+  values_few request asked task _ others Workers = default_is_few 1 64 (values Workers) request.workers 4 asked.workers
 
 -- ---- words that give this
 
@@ -88,4 +90,7 @@ module _ (words : List Text) (given : Given) (spelled : AreSpelled words given) 
   pub asks_once : Ask words request → AreSingle given
   asks_once asks =
       let asked = asks_for asks in
-      record { options = values_few (values_of given.options) given.positions request asked request.task asked.task; positions = positions_few (values_of given.options) given.positions request.task asked.task }
+      record {
+        options = values_few (values_of given.options) given.positions request asked request.task asked.task asked.no_other;
+        positions = positions_few (values_of given.options) given.positions request.task asked.task;
+      }

@@ -62,10 +62,12 @@ each_listed P all Layer = all 4 Map (omega arith)
 each_listed P all Datatype = all 5 Map (omega arith)
 each_listed P all Radius = all 6 Map (omega arith)
 
-pub options_single : (options : Found) → Decides (list_all (λ name. nat_le (count_by (λ option. bytes_eq (name_of option.0) (name_of name)) options) 1) OPTIONS) ((name : OptionName) → length (values_of (map view options) name) ≤ 1)
+pub options_single : (options : Found) → Decides (list_all (λ name. nat_le (count_by (λ option. bytes_eq (name_of option.0) (name_of name)) options) 1) OPTIONS) ((name : OptionName)
+    → length (values_of (map view options) name) ≤ 1)
 options_single options =
     let times : OptionName → ℕ = λ name. count_by (λ option. bytes_eq (name_of option.0) (name_of name)) options in
-    let all : Decides (list_all (λ name. nat_le (times name) 1) OPTIONS) (All (λ name. times name ≤ 1) OPTIONS) = Decides-by_and (λ name. nat_le (times name) 1) (λ name. times name ≤ 1) (list_all (λ name. nat_le (times name) 1)) (λ name. few (times name)) refl (λ x xs. refl) OPTIONS in (
+    let all : Decides (list_all (λ name. nat_le (times name) 1) OPTIONS) (All (λ name. times name ≤ 1) OPTIONS) =
+    Decides-by_and (λ name. nat_le (times name) 1) (λ name. times name ≤ 1) (list_all (λ name. nat_le (times name) 1)) (λ name. few (times name)) refl (λ x xs. refl) OPTIONS in (
       λ e name. let h : times name ≤ 1 = each_listed (λ name. times name ≤ 1) (all.0 e) name in omega (arith, h, counted options name),
       λ each. all.1 (λ k d within. let h = each (get_or OPTIONS k d) in let e = counted options (get_or OPTIONS k d) in omega (arith, h, e)),
     )

@@ -5,3 +5,4 @@ pub mod ReadingLaws
 pub mod CheckLaws
 pub mod TaskLaws
 pub mod AskLaws
+pub mod LimitLaws

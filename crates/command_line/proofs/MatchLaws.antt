@@ -20,11 +20,12 @@ use Rattle.command_line.specs.declared.option_name.OptionName.TheVariants.{Map, 
 use Rattle.command_line.specs.OptionNames.{Text, name_of}
 use Rattle.command_line.specs.Requests.{values_of}
 use Rattle.command_line.specs.Spelling.{Given, whole_word}
-use Rattle.command_line.specs.Arguments.{AreSingle, one_form, position_words, words_of_options}
-use Rattle.command_line.specs.Command.{HasWhatIsGiven, whole_command, command_without_options, rule_of_option, with_options}
+use Rattle.command_line.specs.inside.Arguments.{AreSingle, one_form, position_words, words_of_options}
+use Rattle.command_line.specs.inside.Command.{HasWhatIsGiven, whole_command, command_without_options, rule_of_option, with_options}
 
 -- a command with one option more
-pub one_option_more : (options : List OptionName) (i : ℕ) (d : OptionName) (old new : App) (rule : Rule) → i < length options → old ≡ with_options (take i options) → rule ≡ rule_of_option (get_or options i d) → new ≡ with_rule old rule → new ≡ with_options (take (i + 1) options)
+pub one_option_more : (options : List OptionName) (i : ℕ) (d : OptionName) (old new : App) (rule : Rule) → i < length options → old ≡ with_options (take i options)
+    → rule ≡ rule_of_option (get_or options i d) → new ≡ with_rule old rule → new ≡ with_options (take (i + 1) options)
 one_option_more options i d old new rule within before is made =
     made ∙ ap₂ with_rule before is ∙ sym (fold_more (λ a name. with_rule a (rule_of_option name)) command_without_options options i d within)
 
@@ -45,7 +46,8 @@ rows_of_options = map (λ option. row (name_of option.0) option.1)
 put_last : (id : Text) (change : Row → List Row) (missing rows : List Row) → has_row id rows ≡ false → at_row id change missing rows ≡ rows ++ missing
 put_last id change missing [] h = refl
 put_last id change missing (r ∷ rs) h = go (bytes_eq r.id id) h (put_last id change missing rs) where
-  go : (b : Bool) → (b || has_row id rs) ≡ false → (has_row id rs ≡ false → at_row id change missing rs ≡ rs ++ missing) → (if b then change r ++ rs else r ∷ at_row id change missing rs) ≡ (r ∷ rs) ++ missing
+  go : (b : Bool) → (b || has_row id rs) ≡ false → (has_row id rs ≡ false → at_row id change missing rs ≡ rs ++ missing)
+      → (if b then change r ++ rs else r ∷ at_row id change missing rs) ≡ (r ∷ rs) ++ missing
   go true e _ = cc
   go false e ih = ap (λ t. r ∷ t) (ih e)
 
@@ -72,7 +74,8 @@ top = (built whole_command).top
 abbrev rules : List Rule
 rules = top.rules
 
-met : (name : OptionName) (value : Text) (rows : List Row) → walked rules [] (walk_with rows) (whole_word name value) ≡ walk_with (with_values (name_of name) AsWritten CommandLine (value ∷ []) (without (name_of name) rows))
+met : (name : OptionName) (value : Text) (rows : List Row) → walked rules [] (walk_with rows) (whole_word name value) ≡ walk_with
+    (with_values (name_of name) AsWritten CommandLine (value ∷ []) (without (name_of name) rows))
 unfolding clap_on_literals
 met Map value rows = refl
 met Top value rows = refl
@@ -101,7 +104,8 @@ bytes_eq-same text = (bytes_eq-Decides text text).1 refl
 no_row : (done : Options) (name : OptionName) → length (values_of done name) ≡ 0 → has_row (name_of name) (rows_of_options done) ≡ false
 no_row [] name h = refl
 no_row (o ∷ os) name h = go (bytes_eq (name_of o.0) (name_of name)) h (no_row os name) where
-  go : (b : Bool) → length (map (λ option. option.1) (if b then o ∷ filter (λ option. bytes_eq (name_of option.0) (name_of name)) os else filter (λ option. bytes_eq (name_of option.0) (name_of name)) os)) ≡ 0 → (length (values_of os name) ≡ 0 → has_row (name_of name) (rows_of_options os) ≡ false) → (b || has_row (name_of name) (rows_of_options os)) ≡ false
+  go : (b : Bool) → length (map (λ option. option.1) (if b then o ∷ filter (λ option. bytes_eq (name_of option.0) (name_of name)) os else filter (λ option. bytes_eq (name_of option.0) (name_of name))
+      os)) ≡ 0 → (length (values_of os name) ≡ 0 → has_row (name_of name) (rows_of_options os) ≡ false) → (b || has_row (name_of name) (rows_of_options os)) ≡ false
   go true e _ = cc
   go false e ih = ih e
 
@@ -112,7 +116,8 @@ given_among : (done : Options) (name : OptionName) (value : Text) (rest : Option
 given_among done name value rest =
     let is_name : OptionName × Text → Bool = λ option. bytes_eq (name_of option.0) (name_of name) in
     let here : filter is_name ((name, value) ∷ rest) ≡ (name, value) ∷ filter is_name rest = rw (bytes_eq-same (name_of name)) refl in
-    ap (map (λ option. option.1)) (filter-append is_name done ((name, value) ∷ rest) ∙ ap (λ t. filter is_name done ++ t) here) ∙ map-append (λ option. option.1) (filter is_name done) ((name, value) ∷ filter is_name rest)
+    ap (map (λ option. option.1)) (filter-append is_name done ((name, value) ∷ rest) ∙ ap (λ t. filter is_name done ++ t) here)
+    ∙ map-append (λ option. option.1) (filter is_name done) ((name, value) ∷ filter is_name rest)
 
 -- an option that is given once at most is not given before
 not_before : (done : Options) (name : OptionName) (value : Text) (rest : Options) → length (values_of (done ++ (name, value) ∷ rest) name) ≤ 1 → has_row (name_of name) (rows_of_options done) ≡ false
@@ -124,30 +129,37 @@ abbrev AreOnce : Options → Type 0
 AreOnce options = (name : OptionName) → length (values_of options name) ≤ 1
 
 -- an option that is given for the first time gives a row
-one_step : (done : Options) (o : OptionName × Text) (rest : Options) → AreOnce (done ++ o ∷ rest) → walked rules [] (walk_with (rows_of_options done)) (whole_word o.0 o.1) ≡ walk_with (rows_of_options (done ++ o ∷ []))
+one_step : (done : Options) (o : OptionName × Text) (rest : Options) → AreOnce (done ++ o ∷ rest)
+    → walked rules [] (walk_with (rows_of_options done)) (whole_word o.0 o.1) ≡ walk_with (rows_of_options (done ++ o ∷ []))
 one_step done o rest once =
-    met o.0 o.1 (rows_of_options done) ∙ ap walk_with (new_row (name_of o.0) o.1 (rows_of_options done) (not_before done o.0 o.1 rest (once o.0)) ∙ sym (map-append (λ option. row (name_of option.0) option.1) done (o ∷ [])))
+    met o.0 o.1 (rows_of_options done) ∙ ap walk_with (new_row (name_of o.0) o.1 (rows_of_options done) (not_before done o.0 o.1 rest (once o.0))
+    ∙ sym (map-append (λ option. row (name_of option.0) option.1) done (o ∷ [])))
 
 step_passes : (done : Options) (o : OptionName × Text) (rest : Options) → AreOnce (done ++ o ∷ rest) → turn_passes top [] (walk_with (rows_of_options done)) (whole_word o.0 o.1) ≡ true
 step_passes done o rest once = passes o.0 o.1 (rows_of_options done) (not_before done o.0 o.1 rest (once o.0))
 
 -- the walk over the words of options gives a row for each
-walk_options : (done options : Options) (rest : List Text) → AreOnce (done ++ options) → fold (walked rules []) (walk_with (rows_of_options done)) (words_of_options options ++ rest) ≡ fold (walked rules []) (walk_with (rows_of_options (done ++ options))) rest
+walk_options : (done options : Options) (rest : List Text) → AreOnce (done ++ options) → fold (walked rules []) (walk_with (rows_of_options done)) (words_of_options options ++ rest) ≡ fold
+    (walked rules []) (walk_with (rows_of_options (done ++ options))) rest
 walk_options done [] rest once = ap (λ d. fold (walked rules []) (walk_with (rows_of_options d)) rest) (sym (append-nil done))
 walk_options done (o ∷ os) rest once =
     let more : (done ++ o ∷ []) ++ os ≡ done ++ o ∷ os = append_assoc done (o ∷ []) os in
-    ap (λ w. fold (walked rules []) w (words_of_options os ++ rest)) (one_step done o os once) ∙ walk_options (done ++ o ∷ []) os rest (subst AreOnce (sym more) once) ∙ ap (λ d. fold (walked rules []) (walk_with (rows_of_options d)) rest) more
+    ap (λ w. fold (walked rules []) w (words_of_options os ++ rest)) (one_step done o os once) ∙ walk_options (done ++ o ∷ []) os rest (subst AreOnce (sym more) once)
+    ∙ ap (λ d. fold (walked rules []) (walk_with (rows_of_options d)) rest) more
 
 -- a word that passes is passed over
-one_passes : (s : Shape) (w next : Walk) (word : Text) (rest : List Text) → turn_passes s [] w word ≡ true → walked s.rules [] w word ≡ next → walk_passes s [] w (word ∷ rest) ≡ walk_passes s [] next rest
+one_passes : (s : Shape) (w next : Walk) (word : Text) (rest : List Text) → turn_passes s [] w word ≡ true → walked s.rules [] w word ≡ next
+    → walk_passes s [] w (word ∷ rest) ≡ walk_passes s [] next rest
 unfolding walk_passes
 one_passes s w next word rest h e = rw (h, e) refl
 
-passes_options : (done options : Options) (rest : List Text) → AreOnce (done ++ options) → walk_passes top [] (walk_with (rows_of_options done)) (words_of_options options ++ rest) ≡ walk_passes top [] (walk_with (rows_of_options (done ++ options))) rest
+passes_options : (done options : Options) (rest : List Text) → AreOnce (done ++ options) → walk_passes top [] (walk_with (rows_of_options done)) (words_of_options options ++ rest) ≡ walk_passes top []
+    (walk_with (rows_of_options (done ++ options))) rest
 passes_options done [] rest once = ap (λ d. walk_passes top [] (walk_with (rows_of_options d)) rest) (sym (append-nil done))
 passes_options done (o ∷ os) rest once =
     let more : (done ++ o ∷ []) ++ os ≡ done ++ o ∷ os = append_assoc done (o ∷ []) os in
-    one_passes top (walk_with (rows_of_options done)) (walk_with (rows_of_options (done ++ o ∷ []))) (whole_word o.0 o.1) (words_of_options os ++ rest) (step_passes done o os once) (one_step done o os once) ∙ passes_options (done ++ o ∷ []) os rest (subst AreOnce (sym more) once) ∙ ap (λ d. walk_passes top [] (walk_with (rows_of_options d)) rest) more
+    one_passes top (walk_with (rows_of_options done)) (walk_with (rows_of_options (done ++ o ∷ []))) (whole_word o.0 o.1) (words_of_options os ++ rest) (step_passes done o os once)
+    (one_step done o os once) ∙ passes_options (done ++ o ∷ []) os rest (subst AreOnce (sym more) once) ∙ ap (λ d. walk_passes top [] (walk_with (rows_of_options d)) rest) more
 
 -- ---- the end of the walk
 
@@ -221,7 +233,8 @@ module _ (rows : List Row) (fresh : has_row (codes "layout") rows ≡ false) whe
 walk_ends : (given : Given) → AreSingle given → EndsWith (walk rules [] nothing_held (one_form given)) (rows_of_options given.options ++ layout_rows given.positions)
 walk_ends given single =
     let rows = rows_of_options given.options in
-    let over : fold (walked rules []) (walk_with []) (one_form given) ≡ fold (walked rules []) (walk_with rows) (position_words given.positions) = walk_options [] given.options (position_words given.positions) single.options in
+    let over : fold (walked rules []) (walk_with []) (one_form given) ≡ fold (walked rules []) (walk_with rows) (position_words given.positions) =
+    walk_options [] given.options (position_words given.positions) single.options in
     subst (λ (w : Walk). EndsWith w (rows ++ layout_rows given.positions)) (sym over) (ends rows (no_layout given.options) given.positions single.positions)
 
 all_pass : (given : Given) → AreSingle given → walk_passes top [] (walk_with []) (one_form given) ≡ true
@@ -273,7 +286,8 @@ no_more [] few = refl
 no_more (text ∷ texts) few = absurd (omega arith)
 
 -- under the name of an option its value is found
-value_found : (name : OptionName) (options : Options) (positions : List Text) → length (values_of options name) ≤ 1 → found (name_of name) (rows_of_options options ++ layout_rows positions) ≡ values_of options name
+value_found : (name : OptionName) (options : Options) (positions : List Text) → length (values_of options name) ≤ 1
+    → found (name_of name) (rows_of_options options ++ layout_rows positions) ≡ values_of options name
 value_found name [] positions few = no_value name positions
 value_found name (o ∷ os) positions few = go (bytes_eq (name_of o.0) (name_of name)) few (value_found name os positions) where
   rest : List Row
@@ -283,7 +297,8 @@ value_found name (o ∷ os) positions few = go (bytes_eq (name_of o.0) (name_of 
   others = filter (λ option. bytes_eq (name_of option.0) (name_of name)) os
 
   go : (b : Bool) → length (map (λ option. option.1) (if b then o ∷ others else others)) ≤ 1 → (length (values_of os name) ≤ 1 → found (name_of name) rest ≡ values_of os name)
-      → option_to_list (option_and_then (λ r. slice_get r.values 0) (if b then Some (row (name_of o.0) o.1) else find (λ r. bytes_eq r.id (name_of name)) rest)) ≡ map (λ option. option.1) (if b then o ∷ others else others)
+      → option_to_list (option_and_then (λ r. slice_get r.values 0) (if b then Some (row (name_of o.0) o.1) else find (λ r. bytes_eq r.id (name_of name)) rest)) ≡ map (λ option. option.1)
+      (if b then o ∷ others else others)
   go true few _ = ap (λ t. o.1 ∷ t) (sym (no_more (map (λ option. option.1) others) few))
   go false few ih = ih few
 
@@ -297,6 +312,7 @@ layout_found (o ∷ os) positions few = rw (not_layout o.0) (layout_found os pos
 -- matches with these rows have what is given
 pub have : (m : ArgMatches) (given : Given) → AreSingle given → rows_of (found_of m) ≡ matches_of whole_command (one_form given) → HasWhatIsGiven given m
 have m given single e = record {
-  values = λ name. ap option_to_list (first_value-rows (found_of m) (name_of name)) ∙ ap (found (name_of name)) (e ∙ matches given single) ∙ value_found name given.options given.positions (single.options name);
+  values = λ name. ap option_to_list (first_value-rows (found_of m) (name_of name)) ∙ ap (found (name_of name)) (e ∙ matches given single)
+      ∙ value_found name given.options given.positions (single.options name);
   positions = ap option_to_list (first_value-rows (found_of m) (codes "layout")) ∙ ap (found (codes "layout")) (e ∙ matches given single) ∙ layout_found given.options given.positions single.positions;
 }

@@ -1,58 +1,18 @@
 -- what readers of texts and of words answer
-use Rattle.std.proofs.Common.{ℕ, ◌≤◌, List, [], ◌∷◌, ◌++◌, ◌≡◌, ◌≢◌, ◌∙◌, sym, ap, ap₂, refl, arith, Option, Some, None, subst, Bor, All, Bool, true, false, not, codes, append_assoc, length, ◌<◌}
+use Rattle.std.proofs.Common.{List, [], ◌∷◌, ◌++◌, ◌≡◌, ◌≢◌, ◌∙◌, sym, ap, ap₂, refl, arith, Option, Some, None, subst, Bor, All, Bool, true, false, not, codes, append_assoc, length, ◌<◌}
 use Rattle.std.specs.List.{flat_map}
 use Rattle.std.specs.Str.{bytes_eq}
 use Rattle.std.proofs.lemmas.Slice.Eq.{bytes_eq-Decides}
 use Rattle.std.proofs.lemmas.List.{append-nil}
 use Rattle.std.proofs.lemmas.List.Elements.{All-append, All-cons, All-head, All-nil}
 use Rattle.std.proofs.lemmas.Grind.{flat_map-append}
-use Rattle.std.proofs.lemmas.Int.{ints}
-use Rattle.geo_core.specs.Bounds.{IsRadius}
 use Rattle.command_line.specs.declared.argument.ReadArgument.{ReadArgument}
 use Rattle.command_line.specs.declared.argument.ReadArgument.TheVariants.{Setting, Position}
 use Rattle.command_line.specs.declared.option_name.OptionName.{OptionName}
-use Rattle.command_line.specs.Arguments.{BeginWith, BeginWithNone, HasRead, option_word, options_read, positions_read}
-use Rattle.command_line.specs.Numbers.{IsNumber, IsNumberFrom}
+use Rattle.command_line.specs.inside.Arguments.{BeginWith, BeginWithNone, HasRead, option_word, options_read, positions_read}
 use Rattle.command_line.specs.OptionNames.{Text}
-use Rattle.command_line.specs.Readings.{AreNumbers, IsCount, IsOnceFrom, texts_of}
-use Rattle.command_line.specs.Requests.{as_given, left_out}
 use Rattle.command_line.specs.Spelling.{Argument, in_one_word, in_two_words, positional, name_word, whole_word, words_of, last_words, IsPlain, IsClearlySpelled, Given, AreSpelled, options_in, positions_in}
 use Rattle.command_line.proofs.SpellingLaws.{Follows, follow, plain_has_no_dashes, whole_is_no_name}
-
--- ---- numbers
-
-pub default_counts : (default most : ℕ) (text : Option (Bor Text)) → text ≡ None → 1 ≤ default → default ≤ most → IsCount default most (texts_of text) default
-default_counts default most text e least within = record { number = left_out (ap texts_of e); least = least; most = within }
-
-pub once_from : (low high : ℕ) (text : Option (Bor Text)) (t : Bor Text) (n : ℕ) → text ≡ Some t → IsNumberFrom low high t.now n → IsOnceFrom low high (texts_of text) n
-once_from low high text t n e from = record {
-  once = record { text = t.now; once = ap texts_of e; number = from.number };
-  least = from.least;
-  most = from.most;
-}
-
-pub from_once : (low high : ℕ) (text : Option (Bor Text)) (t : Bor Text) (n : ℕ) → text ≡ Some t → IsOnceFrom low high (texts_of text) n → IsNumberFrom low high t.now n
-from_once low high text t n e o =
-    let same : o.once.text ≡ t.now = let s = sym o.once.once ∙ ap texts_of e in cc s in
-    record { number = subst (λ w. IsNumber w n) same o.once.number; least = o.least; most = o.most }
-
-pub not_once : (low high : ℕ) (text : Option (Bor Text)) (n : ℕ) → text ≡ None → IsOnceFrom low high (texts_of text) n → ⊥
-not_once low high text n e o = let s = sym o.once.once ∙ ap texts_of e in cc s
-
-pub given_counts : (default most : ℕ) (text : Option (Bor Text)) (t : Bor Text) (n : ℕ) → text ≡ Some t → IsNumberFrom 1 most t.now n → IsCount default most (texts_of text) n
-given_counts default most text t n e from =
-    let o = once_from 1 most text t n e from in
-    record { number = as_given o.once; least = o.least; most = o.most }
-
-module _ {layer datatype radius : List Text} {numbers : ℕ × ℕ × ℕ} (these : AreNumbers layer datatype radius numbers) where
-  pub layer_from : IsOnceFrom 0 65535 layer numbers.0
-  layer_from = record { once = these.layer_is; least = omega arith; most = (these.limits []).0.most }
-
-  pub datatype_from : IsOnceFrom 0 65535 datatype numbers.1
-  datatype_from = record { once = these.datatype_is; least = omega arith; most = (these.limits []).1.most }
-
-  pub radius_from : IsOnceFrom 1 1000000 radius numbers.2
-  radius_from = let limit : IsRadius numbers.2 = (these.limits []).2 in record { once = these.radius_is; least = limit.least; most = omega (arith, ints) }
 
 -- ---- the first argument of words
 
@@ -68,7 +28,8 @@ whole_first words rest word name value e is = record {
   positions = refl;
 }
 
-pub name_first : (words rest more : List Text) (word : Text) (name : OptionName) (value : Bor Text) → words ≡ word ∷ rest → rest ≡ value.now ∷ more → word ≡ name_word name → IsPlain value.now → BeginWith words (Setting name value) more
+pub name_first : (words rest more : List Text) (word : Text) (name : OptionName) (value : Bor Text) → words ≡ word ∷ rest → rest ≡ value.now ∷ more → word ≡ name_word name → IsPlain value.now
+    → BeginWith words (Setting name value) more
 name_first words rest more word name value e next is plain = record {
   argument = in_two_words name value.now;
   words_are = e ∙ ap (λ w. w ∷ rest) is ∙ ap (λ r. name_word name ∷ r) next;
@@ -85,12 +46,14 @@ fewer words rest read first = go first.argument first.words_are where
   go (in_two_words n v) e = omega (arith, ap length e)
   go (positional t) e = omega (arith, ap length e)
 
-pub no_option_first : (words rest : List Text) (word : Text) → words ≡ word ∷ rest → (IsPlain word → ⊥) → ((name : OptionName) (value : Option Text) → word ≢ option_word name value) → BeginWithNone words
+pub no_option_first : (words rest : List Text) (word : Text) → words ≡ word ∷ rest → (IsPlain word → ⊥) → ((name : OptionName) (value : Option Text) → word ≢ option_word name value)
+    → BeginWithNone words
 no_option_first words rest word e not_plain no_option (in_one_word n v) more clear f = let w : word ≡ whole_word n v = let s = sym e ∙ f in cc s in no_option n (Some v) w
 no_option_first words rest word e not_plain no_option (in_two_words n v) more clear f = let w : word ≡ name_word n = let s = sym e ∙ f in cc s in no_option n None w
 no_option_first words rest word e not_plain no_option (positional t) more clear f = let w : t ≡ word = let s = sym e ∙ f in cc s in not_plain (subst IsPlain w clear)
 
-pub no_value_first : (words rest : List Text) (word : Text) (name : OptionName) → words ≡ word ∷ rest → word ≡ name_word name → ((value : Text) (more : List Text) → rest ≡ value ∷ more → IsPlain value → ⊥) → BeginWithNone words
+pub no_value_first : (words rest : List Text) (word : Text) (name : OptionName) → words ≡ word ∷ rest → word ≡ name_word name
+    → ((value : Text) (more : List Text) → rest ≡ value ∷ more → IsPlain value → ⊥) → BeginWithNone words
 no_value_first words rest word name e is no_value (in_one_word n v) more clear f = let w : word ≡ whole_word n v = let s = sym e ∙ f in cc s in whole_is_no_name n name v (sym w ∙ is)
 no_value_first words rest word name e is no_value (in_two_words n v) more clear f = let r : rest ≡ v ∷ more = let s = sym e ∙ f in cc s in no_value v more r clear
 no_value_first words rest word name e is no_value (positional t) more clear f = let w : t ≡ word = let s = sym e ∙ f in cc s in plain_has_no_dashes t _ clear (w ∙ is)
@@ -103,20 +66,24 @@ nothing_read words = record { arguments = []; words_are = refl; clear = All-nil 
 flat_map-last : {A : Type 0} (f : Argument → List A) (xs : List Argument) (x : Argument) → flat_map f (xs ++ x ∷ []) ≡ flat_map f xs ++ f x
 flat_map-last f xs x = flat_map-append f xs (x ∷ []) ∙ ap (λ t. flat_map f xs ++ t) (append-nil (f x))
 
-pub one_more_read : (words rest after : List Text) (given next : Given) (read : ReadArgument) → HasRead words given rest → BeginWith rest read after → next ≡ record { options = given.options ++ options_read read; positions = given.positions ++ positions_read read } → HasRead words next after
+pub one_more_read : (words rest after : List Text) (given next : Given) (read : ReadArgument) → HasRead words given rest → BeginWith rest read after
+    → next ≡ record { options = given.options ++ options_read read; positions = given.positions ++ positions_read read } → HasRead words next after
 one_more_read words rest after given next read so_far first e =
     let before = so_far.arguments in
     let this = first.argument in
     record {
       arguments = before ++ this ∷ [];
-      words_are = so_far.words_are ∙ ap (λ r. flat_map words_of before ++ r) first.words_are ∙ sym (append_assoc (flat_map words_of before) (words_of this) after) ∙ ap (λ t. t ++ after) (sym (flat_map-last words_of before this));
+      words_are = so_far.words_are ∙ ap (λ r. flat_map words_of before ++ r) first.words_are ∙ sym (append_assoc (flat_map words_of before) (words_of this) after)
+          ∙ ap (λ t. t ++ after) (sym (flat_map-last words_of before this));
       clear = All-append IsClearlySpelled before (this ∷ []) so_far.clear (All-cons IsClearlySpelled this [] first.clear (All-nil IsClearlySpelled));
       options = ap (λ (g : Given). g.options) e ∙ ap₂ (λ a b. a ++ b) so_far.options first.options ∙ sym (flat_map-last options_in before this);
       positions = ap (λ (g : Given). g.positions) e ∙ ap₂ (λ a b. a ++ b) so_far.positions first.positions ∙ sym (flat_map-last positions_in before this);
     }
 
-same_given : (given : Given) (options : List (OptionName × Text)) (positions : List Text) → given.options ≡ options → given.positions ≡ positions → given ≡ record { options = options; positions = positions }
-same_given given options positions p q = let made : List (OptionName × Text) → List Text → Given = λ o w. record { options = o; positions = w } in ap (λ o. made o given.positions) p ∙ ap (made options) q
+same_given : (given : Given) (options : List (OptionName × Text)) (positions : List Text) → given.options ≡ options → given.positions ≡ positions
+    → given ≡ record { options = options; positions = positions }
+same_given given options positions p q = let made : List (OptionName × Text) → List Text → Given = λ o w. record { options = o; positions = w } in ap (λ o. made o given.positions) p
+    ∙ ap (made options) q
 
 pub all_read : (words : List Text) (given : Given) → HasRead words given [] → AreSpelled words given
 all_read words given read = record {
@@ -127,7 +94,8 @@ all_read words given read = record {
   given_is = same_given given (flat_map options_in read.arguments) (flat_map positions_in read.arguments ++ []) read.options (read.positions ∙ sym (append-nil (flat_map positions_in read.arguments)));
 }
 
-pub last_read : (words rest positions : List Text) (given whole : Given) → HasRead words given rest → rest ≡ codes "--" ∷ positions → whole ≡ record { options = given.options; positions = given.positions ++ positions } → AreSpelled words whole
+pub last_read : (words rest positions : List Text) (given whole : Given) → HasRead words given rest → rest ≡ codes "--" ∷ positions
+    → whole ≡ record { options = given.options; positions = given.positions ++ positions } → AreSpelled words whole
 last_read words rest positions given whole read e is = record {
   arguments = read.arguments;
   last = Some positions;
@@ -136,7 +104,8 @@ last_read words rest positions given whole read e is = record {
   given_is = is ∙ cc (read.options, read.positions);
 }
 
-pub not_spelled : (words rest more : List Text) (word : Text) (given : Given) → HasRead words given rest → BeginWithNone rest → rest ≡ word ∷ more → word ≢ codes "--" → (other : Given) → AreSpelled words other → ⊥
+pub not_spelled : (words rest more : List Text) (word : Text) (given : Given) → HasRead words given rest → BeginWithNone rest → rest ≡ word ∷ more → word ≢ codes "--" → (other : Given)
+    → AreSpelled words other → ⊥
 not_spelled words rest more word given read none e other_word other spelled = go f.more f.clear f.rest_is where
   f : Follows rest read.arguments spelled.arguments spelled.last
   f = follow read.arguments spelled.arguments rest spelled.last read.clear spelled.clear (sym read.words_are ∙ spelled.words_are)

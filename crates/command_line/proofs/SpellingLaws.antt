@@ -150,7 +150,8 @@ pub record Follows (rest : List Text) (read arguments : List Argument) (last : O
   pub rest_is : rest ≡ flat_map words_of more ++ last_words last
 
 -- words that begin with some arguments begin with no others: the rest is spelled too
-pub follow : (read arguments : List Argument) (rest : List Text) (last : Option (List Text)) → All IsClearlySpelled read → All IsClearlySpelled arguments → flat_map words_of read ++ rest ≡ flat_map words_of arguments ++ last_words last → Follows rest read arguments last
+pub follow : (read arguments : List Argument) (rest : List Text) (last : Option (List Text)) → All IsClearlySpelled read → All IsClearlySpelled arguments
+    → flat_map words_of read ++ rest ≡ flat_map words_of arguments ++ last_words last → Follows rest read arguments last
 follow [] arguments rest last p q e = record { more = arguments; arguments_are = refl; clear = q; rest_is = e }
 follow (a ∷ others) [] rest last p q e =
     absurd (no_last a (flat_map words_of others ++ rest) last (All-head IsClearlySpelled a others p) (sym (append_assoc (words_of a) (flat_map words_of others) rest) ∙ e))

@@ -1,52 +1,60 @@
 -- tasks and requests of texts
-use Rattle.std.proofs.Common.{ℕ, List, [], ◌∷◌, ◌≡◌, ◌∙◌, sym, ap, Option, Some, None, is_some, false, subst, Bor}
+use Rattle.std.proofs.Common.{ℕ, List, [], ◌∷◌, ◌≡◌, ◌∙◌, sym, ap, refl, Option, Some, None, Bor}
 use Rattle.command_line.specs.declared.option_name.OptionName.{OptionName}
 use Rattle.command_line.specs.declared.option_name.OptionName.TheVariants.{Map, Top, Layer, Datatype, Radius}
 use Rattle.command_line.specs.declared.task.Task.{Task}
 use Rattle.command_line.specs.declared.task.Task.TheVariants.{OneMetal, Mapped}
-use Rattle.command_line.specs.Limits.{IsWithinLimits}
+use Rattle.command_line.specs.Numbers.{IsNumber}
 use Rattle.command_line.specs.OptionNames.{Text}
-use Rattle.command_line.proofs.RequestLaws.{text_if_given_is}
-use Rattle.command_line.specs.Readings.{AreNumbers, IsOneMetal, of_numbers, texts_of}
-use Rattle.command_line.specs.Requests.{IsTask, IsTextIfGiven, of_one_metal, of_map}
+use Rattle.command_line.specs.inside.Readings.{AreNumbers, AreNumbersLeftOut, texts_of}
+use Rattle.command_line.specs.Requests.{GiveNoOther, IsNumberOnce, IsNumberOrDefault, as_given, left_out, IsTask, IsTextIfGiven, options_for, of_one_metal, of_map}
 
 -- ---- texts that are found or not
 
-pub one_text : (found : Option (Bor Text)) (values : List Text) (text : Bor Text) → texts_of found ≡ values → found ≡ Some text → values ≡ text.now ∷ []
-one_text found values text e is = sym e ∙ ap texts_of is
+module _ (found : Option (Bor Text)) (values : List Text) (same : texts_of found ≡ values) where
+  pub one_text : (text : Bor Text) → found ≡ Some text → values ≡ text.now ∷ []
+  one_text text is = sym same ∙ ap texts_of is
 
-pub no_text : (found : Option (Bor Text)) (values : List Text) → texts_of found ≡ values → is_some found ≡ false → values ≡ []
-no_text None values e none = sym e
-no_text (Some t) values e none = cc none
+  pub no_text : found ≡ None → values ≡ []
+  no_text is = sym same ∙ ap texts_of is
 
--- ---- the task of one metal
+  module _ (low high : ℕ) where
+    -- the number of a text that is found
+    pub once : (text : Bor Text) (n : ℕ) → found ≡ Some text → IsNumber low high text.now n → IsNumberOnce low high values n
+    once text n is number = record { text = text.now; once = one_text text is; number = number }
 
-pub not_one_metal : (layout : Text) (layer datatype radius : List Text) (top : Option Text) → ((numbers : ℕ × ℕ × ℕ) → AreNumbers layer datatype radius numbers → ⊥) → (task : Task) → IsOneMetal layout layer datatype radius top task → ⊥
-not_one_metal layout layer datatype radius top none task (of_numbers numbers these) = none numbers these
+    pub number_of : (text : Bor Text) (n : ℕ) → found ≡ Some text → IsNumberOnce low high values n → IsNumber low high text.now n
+    number_of text n is o = let e : o.text ≡ text.now = let s = sym o.once ∙ one_text text is in cc s in rw e at o.number
 
-pub metal_limits : (layout : Text) (layer datatype radius : List Text) (top : Option Text) (task : Task) → IsOneMetal layout layer datatype radius top task → IsWithinLimits task
-metal_limits layout layer datatype radius top task (of_numbers numbers these) = these.limits layout
+    pub not_once : (n : ℕ) → found ≡ None → IsNumberOnce low high values n → ⊥
+    not_once n is o = let s = sym o.once ∙ no_text is in cc s
 
-pub metal_moved : (layout : Text) (layer datatype radius other_layer other_datatype other_radius : List Text) (top : Option Text) (task : Task) → layer ≡ other_layer → datatype ≡ other_datatype → radius ≡ other_radius → IsOneMetal layout layer datatype radius top task
-    → IsOneMetal layout other_layer other_datatype other_radius top task
-metal_moved layout layer datatype radius other_layer other_datatype other_radius top task l d r metal = rw (sym l, sym d, sym r) metal
+    pub not_by_default : (text : Bor Text) (default : ℕ) → found ≡ Some text → ((n : ℕ) → IsNumber low high text.now n → ⊥)
+        → (n : ℕ) → IsNumberOrDefault low high default values n → ⊥
+    not_by_default text default is none n (as_given o) = none n (number_of text n is o)
+    not_by_default text default is none n (left_out e) = let s = sym e ∙ one_text text is in cc s
 
-module _ (values : OptionName → List Text) (positions : List Text) (layout : Text) (at : positions ≡ layout ∷ []) (map_is : values Map ≡ []) where
-  module _ (top : Option Text) (top_is : IsTextIfGiven (values Top) top) where
-    pub metal_task : (task : Task) → IsOneMetal layout (values Layer) (values Datatype) (values Radius) top task → IsTask values positions task
-    metal_task task (of_numbers numbers these) = of_one_metal at map_is these.layer_is these.datatype_is these.radius_is top_is
+-- ---- tasks
 
-    pub task_metal : (task : Task) → IsTask values positions task → IsWithinLimits task → IsOneMetal layout (values Layer) (values Datatype) (values Radius) top task
-    task_metal task (of_one_metal {layout = l} {layer = a} {datatype = b} {radius = c} {top = x} p none layer datatype radius other_top) limits =
-        let named : l ≡ layout = let s = sym p ∙ at in cc s in
-        let wanted : x ≡ top = text_if_given_is (values Top) x top other_top top_is in
-        let these : AreNumbers (values Layer) (values Datatype) (values Radius) (a, b, c) = record { layer_is = layer; datatype_is = datatype; radius_is = radius; limits = λ _. limits } in
-        subst (λ t. IsOneMetal layout (values Layer) (values Datatype) (values Radius) top (OneMetal t a b c x)) (sym named)
-        (subst (λ o. IsOneMetal layout (values Layer) (values Datatype) (values Radius) top (OneMetal layout a b c o)) (sym wanted) (of_numbers (a, b, c) these))
-    task_metal task (of_map p given no_layer no_datatype no_radius other_top) limits = let s = sym map_is ∙ given in cc s
+module _ (values : OptionName → List Text) (positions : List Text) where
+  pub no_task_without_numbers : values Map ≡ [] → ((numbers : ℕ × ℕ × ℕ) → AreNumbers values numbers → ⊥)
+      → (task : Task) → IsTask values positions task → ⊥
+  no_task_without_numbers no_map none task (of_one_metal {layer = a} {datatype = b} {radius = c} at layer datatype radius top) =
+      none (a, b, c) (record { layer = layer; datatype = datatype; radius = radius })
+  no_task_without_numbers no_map none task (of_map at map top) = let s = sym no_map ∙ map in cc s
 
--- ---- the task of a map
+  pub no_task_of_both : (map : Text) → values Map ≡ map ∷ [] → (AreNumbersLeftOut values → ⊥)
+      → (task : Task) → IsTask values positions task → GiveNoOther values (options_for task) → ⊥
+  no_task_of_both map given some task (of_one_metal at layer datatype radius top) others = let s = sym given ∙ others Map refl in cc s
+  no_task_of_both map given some task (of_map at also top) others =
+      some (record { layer = others Layer refl; datatype = others Datatype refl; radius = others Radius refl })
 
-pub map_task : (values : OptionName → List Text) (positions : List Text) (layout map layout_name map_name : Text) (top : Option Text) → positions ≡ layout ∷ [] → values Map ≡ map ∷ [] → values Layer ≡ [] → values Datatype ≡ [] → values Radius ≡ [] → layout_name ≡ layout → map_name ≡ map → IsTextIfGiven (values Top) top → IsTask values positions (Mapped layout_name map_name top)
-map_task values positions layout map layout_name map_name top at given no_layer no_datatype no_radius named mapped wanted =
-    of_map (at ∙ ap (λ t. t ∷ []) (sym named)) (given ∙ ap (λ t. t ∷ []) (sym mapped)) no_layer no_datatype no_radius wanted
+  module _ (layout : Text) (at : positions ≡ layout ∷ []) where
+    pub metal_task : (name : Text) (numbers : ℕ × ℕ × ℕ) (top : Option Text) → name ≡ layout → AreNumbers values numbers
+        → IsTextIfGiven (values Top) top → IsTask values positions (OneMetal name numbers.0 numbers.1 numbers.2 top)
+    metal_task name numbers top named are wanted = of_one_metal (at ∙ ap (λ t. t ∷ []) (sym named)) are.layer are.datatype are.radius wanted
+
+    pub map_task : (name map map_name : Text) (top : Option Text) → name ≡ layout → values Map ≡ map ∷ [] → map_name ≡ map
+        → IsTextIfGiven (values Top) top → IsTask values positions (Mapped name map_name top)
+    map_task name map map_name top named given mapped wanted =
+        of_map (at ∙ ap (λ t. t ∷ []) (sym named)) (given ∙ ap (λ t. t ∷ []) (sym mapped)) wanted

@@ -1,9 +1,8 @@
 pub mod OptionNames
 pub mod Spelling
 pub mod Numbers
-pub mod Limits
+pub mod RequestLimits
 pub mod Requests
 pub mod WordsFaults
-pub mod Arguments
-pub mod Command
-pub mod Readings
+-- what only this crate's proofs and private contracts cite
+pub mod inside

@@ -1,5 +1,6 @@
 -- what the words of a command ask for
-use Rattle.std.specs.Prelude.{ℕ, List, [], ◌∷◌, ◌≡◌, ◌<◌, All, Option, length, map, filter, option_to_list}
+use Rattle.std.specs.Prelude.{ℕ, Bool, false, List, [], ◌∷◌, ◌≡◌, ◌<◌, All, Option, length, map, filter, option_to_list}
+use Rattle.std.specs.List.{list_any}
 use Rattle.std.specs.Str.{bytes_eq}
 use Rattle.command_line.specs.declared.option_name.OptionName.{OptionName}
 use Rattle.command_line.specs.declared.option_name.OptionName.TheVariants.{Map, Top, Tile, Workers, Layer, Datatype, Radius}
@@ -17,16 +18,16 @@ values_of options name = map (λ option. option.1) (filter (λ option. bytes_eq 
 -- Below, an option or a positional word is given once where its values are a list of one, and left out where they are
 -- none. So one that is given twice fits nothing.
 
--- the option is given once, and its value is this number
-pub record IsNumberOnce (values : List Text) (n : ℕ) : Type 0 where
+-- the option is given once, and its value is this number, which lies within these bounds
+pub record IsNumberOnce (low high : ℕ) (values : List Text) (n : ℕ) : Type 0 where
   pub text : Text
   pub once : values ≡ text ∷ []
-  pub number : IsNumber text n
+  pub number : IsNumber low high text n
 
 -- the same, or the option is left out and the number is its default
-pub data IsNumberOrDefault (default : ℕ) (values : List Text) : ℕ → Type 0 where
-  as_given : {n : ℕ} → IsNumberOnce values n → IsNumberOrDefault default values n
-  left_out : values ≡ [] → IsNumberOrDefault default values default
+pub data IsNumberOrDefault (low high default : ℕ) (values : List Text) : ℕ → Type 0 where
+  as_given : {n : ℕ} → IsNumberOnce low high values n → IsNumberOrDefault low high default values n
+  left_out : values ≡ [] → IsNumberOrDefault low high default values default
 
 -- the option is given once and this is its value, or it is left out and there is none
 abbrev pub IsTextIfGiven : List Text → Option Text → Type 0
@@ -36,23 +37,40 @@ IsTextIfGiven values text = values ≡ option_to_list text
 pub data IsTask (values : OptionName → List Text) (positions : List Text) : Task → Type 0 where
   of_one_metal : {layout : Text} {layer datatype radius : ℕ} {top : Option Text}
       → positions ≡ layout ∷ []
-      → values Map ≡ []
-      → IsNumberOnce (values Layer) layer → IsNumberOnce (values Datatype) datatype → IsNumberOnce (values Radius) radius
+      → IsNumberOnce 0 65535 (values Layer) layer
+      → IsNumberOnce 0 65535 (values Datatype) datatype
+      → IsNumberOnce 1 1000000 (values Radius) radius
       → IsTextIfGiven (values Top) top
       → IsTask values positions (OneMetal layout layer datatype radius top)
   of_map : {layout map : Text} {top : Option Text}
       → positions ≡ layout ∷ []
       → values Map ≡ map ∷ []
-      → values Layer ≡ [] → values Datatype ≡ [] → values Radius ≡ []
       → IsTextIfGiven (values Top) top
       → IsTask values positions (Mapped layout map top)
 
--- options with these values and these positional words ask for this request. That its numbers are within their limits
--- is a fact of every request.
+-- the options that may be given with each task
+abbrev pub permitted : List OptionName
+permitted = Top ∷ Tile ∷ Workers ∷ []
+
+-- all options that may be given for the task: those that it requires, and those
+abbrev pub options_for : Task → List OptionName
+options_for (OneMetal layout layer datatype radius top) = Layer ∷ Datatype ∷ Radius ∷ permitted
+options_for (Mapped layout map top) = Map ∷ permitted
+
+-- whether the option is one of these
+abbrev pub is_one_of : List OptionName → OptionName → Bool
+is_one_of names name = list_any (λ other. bytes_eq (name_of other) (name_of name)) names
+
+-- each option that is none of these is left out
+abbrev pub GiveNoOther : (OptionName → List Text) → List OptionName → Type 0
+GiveNoOther values names = (name : OptionName) → is_one_of names name ≡ false → values name ≡ []
+
+-- options with these values and these positional words ask for this request
 pub record IsRequestOf (values : OptionName → List Text) (positions : List Text) (request : Request) : Type 0 where
   pub task : IsTask values positions request.task
-  pub edge : IsNumberOrDefault 65536 (values Tile) request.edge
-  pub workers : IsNumberOrDefault 4 (values Workers) request.workers
+  pub edge : IsNumberOrDefault 1 1000000000 65536 (values Tile) request.edge
+  pub workers : IsNumberOrDefault 1 64 4 (values Workers) request.workers
+  pub no_other : GiveNoOther values (options_for request.task)
 
 -- the text has a first byte
 abbrev pub IsNotEmpty : Text → Type 0

@@ -1,5 +1,5 @@
 ghost use Rattle.std.specs.Prelude.{◌≡◌, ◌≢◌, ◌↔◌, Option, IsTrue, IfSome, IfNone, MatchOption, option_map};
-ghost use Rattle.command_line.specs.Arguments.{BeginWith, BeginWithNone, option_word};
+ghost use Rattle.command_line.specs.inside.Arguments.{BeginWith, BeginWithNone, option_word};
 ghost use Rattle.command_line.specs.OptionNames.{Text};
 ghost use Rattle.command_line.specs.Spelling.{IsPlain};
 ghost use Rattle.command_line.specs.declared.option_name.OptionName.{OptionName};

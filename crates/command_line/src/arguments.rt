@@ -21,8 +21,8 @@ impl<'a> Arguments<'a> {
     ghost use Rattle.std.specs.List.{list_all};
     ghost use Rattle.std.specs.Str.{bytes_eq};
     ghost use Rattle.command_line.specs.OptionNames.{name_of};
-    ghost use Rattle.command_line.specs.Arguments.{AreSingle, given_by, one_form, words_of_options};
-    ghost use Rattle.command_line.specs.Arguments.{options_read, positions_read};
+    ghost use Rattle.command_line.specs.inside.Arguments.{AreSingle, given_by, one_form, words_of_options};
+    ghost use Rattle.command_line.specs.inside.Arguments.{options_read, positions_read};
     ghost use Rattle.command_line.specs.Requests.{HasNoEmptyText};
     ghost use Rattle.command_line.specs.Spelling.{AreSpelled, Given};
 

@@ -1,7 +1,7 @@
 ghost use Rattle.std.specs.Prelude.{◌≡◌, IfOk, List, MatchResult, map, string_bytes};
 ghost use Rattle.clap.specs.Words.{app_of, with_rule};
-ghost use Rattle.command_line.specs.Arguments.{AreSingle, one_form};
-ghost use Rattle.command_line.specs.Command.{HasWhatIsGiven, rule_of_option, whole_command};
+ghost use Rattle.command_line.specs.inside.Arguments.{AreSingle, one_form};
+ghost use Rattle.command_line.specs.inside.Command.{HasWhatIsGiven, rule_of_option, whole_command};
 ghost use Rattle.command_line.specs.Spelling.{Given};
 
 use crate::fault::WordsFault;

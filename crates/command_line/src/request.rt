@@ -1,4 +1,4 @@
-ghost use Rattle.command_line.specs.Limits.{IsEdge, IsWithinLimits, IsWithinLimits-prop, IsWorkerCount};
+ghost use Rattle.command_line.specs.RequestLimits.{IsWithin, IsWithinLimits, IsWithinLimits-prop};
 
 use crate::task::Task;
 
@@ -13,6 +13,6 @@ pub struct Request {
     pub workers: u32,
     // A number in `specs/` has no upper bound, so that of a layer and of a datatype is told too.
     pub ghost task_limits: { IsWithinLimits task } by { IsWithinLimits-prop task },
-    pub ghost is_edge: { IsEdge edge },
-    pub ghost is_worker_count: { IsWorkerCount workers },
+    pub ghost edge_limits: { IsWithin 1 1000000000 edge },
+    pub ghost worker_limits: { IsWithin 1 64 workers },
 }

@@ -1,4 +1,4 @@
-use geo_core::Name;
+use lists::Name;
 
 /// What a command is to do.
 #[derive(Drop)]

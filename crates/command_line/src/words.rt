@@ -1,9 +1,8 @@
-ghost use Rattle.std.specs.Prelude.{◌≡◌, ◌≤◌, ℕ, Err, IfOk, IfSome, IfNone, map, option_map, option_to_list};
-ghost use Rattle.command_line.specs.Arguments.{AreSingle, given_by};
-ghost use Rattle.command_line.specs.Command.{positions_found, values_found};
-ghost use Rattle.command_line.specs.Limits.{IsWithinLimits};
-ghost use Rattle.command_line.specs.Readings.{AreNumbers, IsCount, IsOnceFrom, IsOneMetal, texts_of};
-ghost use Rattle.command_line.specs.Requests.{Ask, IsRequestOf, IsTask, IsTextIfGiven, values_of};
+ghost use Rattle.std.specs.Prelude.{◌≡◌, ◌↔◌, ℕ, Err, IfOk, IfSome, IfNone, IsTrue, map, option_map, option_to_list};
+ghost use Rattle.command_line.specs.inside.Arguments.{AreSingle, given_by};
+ghost use Rattle.command_line.specs.inside.Command.{positions_found, values_found};
+ghost use Rattle.command_line.specs.inside.Readings.{AreNumbers, AreNumbersLeftOut, texts_of};
+ghost use Rattle.command_line.specs.Requests.{Ask, GiveNoOther, IsNumberOnce, IsNumberOrDefault, IsRequestOf, IsTask, IsTextIfGiven, options_for, values_of};
 ghost use Rattle.command_line.specs.declared.request.Request.{Request};
 ghost use Rattle.command_line.specs.declared.task.Task.{Task};
 
@@ -16,11 +15,14 @@ use crate::request::Request;
 use crate::task::Task;
 use crate::word::Word;
 use clap::ArgMatches;
-use geo_core::{GREATEST_REACH, Name};
+use lists::Name;
 use std::alloc::{AllocError, Global};
 
 /// The greatest layer and the greatest datatype.
 const GREATEST_LAYER: u32 = 65_535;
+
+/// The greatest radius, in database units.
+const GREATEST_RADIUS: u32 = 1_000_000;
 
 /// The greatest edge of a tile, in database units.
 const GREATEST_EDGE: u32 = 1_000_000_000;
@@ -41,6 +43,13 @@ fn name(alloc: Global, text: &str) -> Result<Name, AllocError>
     Ok(Name::from_vec(Vec::from_slice(alloc, text.as_bytes())?))
 }
 
+/// The text of an option, if it is given.
+fn text_of<'a>(matches: &ArgMatches<'a>, name: OptionName) -> Option<&'a str>
+    ensures { texts_of result ≡ values_found matches.now name }
+{
+    matches.get_str(name.text())
+}
+
 /// The name of an option that may be left out.
 fn name_if_given(alloc: Global, text: Option<&str>) -> Result<Option<Name>, AllocError>
     ensures { IfOk result (IsTextIfGiven (texts_of text.entry)) }
@@ -52,94 +61,71 @@ fn name_if_given(alloc: Global, text: Option<&str>) -> Result<Option<Name>, Allo
 }
 
 /// The number of an option that must be given.
-fn number_given(text: Option<&str>, least: u32, most: u32) -> Option<u32>
-    ensures some { IfSome result (IsOnceFrom least most (texts_of text.entry)) }
-    ensures none { IfNone result ((n : ℕ) → IsOnceFrom least most (texts_of text.entry) n → ⊥) }
+fn number_given(matches: &ArgMatches<'_>, name: OptionName, least: u32, most: u32) -> Option<u32>
+    ensures some { IfSome result (IsNumberOnce least most (values_found matches.now name)) }
+    ensures none { IfNone result ((n : ℕ) → IsNumberOnce least most (values_found matches.now name) n → ⊥) }
 {
-    number(text?, least, most)
+    let text = text_of(matches, name)?;
+    number(text, least, most)
 }
 
 /// The number of an option that may be left out: from 1 to `most`.
-fn number_or(text: Option<&str>, most: u32, default: u32) -> Option<u32>
-    requires least { 1 ≤ default }
-    requires within { default ≤ most }
-    ensures some { IfSome result (IsCount default most (texts_of text.entry)) }
-    ensures none { IfNone result ((n : ℕ) → IsCount default most (texts_of text.entry) n → ⊥) }
+fn number_or(matches: &ArgMatches<'_>, name: OptionName, most: u32, default: u32) -> Option<u32>
+    ensures some { IfSome result (IsNumberOrDefault 1 most default (values_found matches.now name)) }
+    ensures none { IfNone result ((n : ℕ) → IsNumberOrDefault 1 most default (values_found matches.now name) n → ⊥) }
 {
-    match text {
+    match text_of(matches, name) {
         None => Some(default),
         Some(text) => number(text, 1, most),
     }
 }
 
 /// A layer, a datatype and a radius.
-fn numbers(
-    layer: Option<&str>,
-    datatype: Option<&str>,
-    radius: Option<&str>,
-) -> Option<(u16, u16, u32)>
-    ensures some { IfSome result (AreNumbers (texts_of layer.entry) (texts_of datatype.entry) (texts_of radius.entry)) }
-    ensures none { IfNone result ((numbers : ℕ × ℕ × ℕ) →
-        AreNumbers (texts_of layer.entry) (texts_of datatype.entry) (texts_of radius.entry) numbers → ⊥) }
+fn numbers(matches: &ArgMatches<'_>) -> Option<(u16, u16, u32)>
+    ensures some { IfSome result (AreNumbers (values_found matches.now)) }
+    ensures none { IfNone result ((numbers : ℕ × ℕ × ℕ) → AreNumbers (values_found matches.now) numbers → ⊥) }
 {
-    let layer = number_given(layer, 0, GREATEST_LAYER)?;
-    let datatype = number_given(datatype, 0, GREATEST_LAYER)?;
-    let radius = number_given(radius, 1, GREATEST_REACH as u32)?;
+    let layer = number_given(matches, OptionName::Layer, 0, GREATEST_LAYER)?;
+    let datatype = number_given(matches, OptionName::Datatype, 0, GREATEST_LAYER)?;
+    let radius = number_given(matches, OptionName::Radius, 1, GREATEST_RADIUS)?;
     Some((layer as u16, datatype as u16, radius))
 }
 
-/// The areas of one metal, of these texts and this wanted structure.
-fn one_metal(
-    alloc: Global,
-    layout: &str,
-    layer: Option<&str>,
-    datatype: Option<&str>,
-    radius: Option<&str>,
-    top: Option<Name>,
-) -> Result<Task, WordsFault>
-    ensures task { IfOk result
-        (IsOneMetal layout.now (texts_of layer.entry) (texts_of datatype.entry) (texts_of radius.entry) top) }
-    ensures usage { result ≡ Err WordsFault.Usage → (task : Task) →
-        IsOneMetal layout.now (texts_of layer.entry) (texts_of datatype.entry) (texts_of radius.entry) top task → ⊥ }
+/// Whether an option of one metal is given.
+fn has_number(matches: &ArgMatches<'_>) -> bool
+    ensures { IsTrue result ↔ (AreNumbersLeftOut (values_found matches.now) → ⊥) }
 {
-    let Some((layer, datatype, radius)) = numbers(layer, datatype, radius) else {
-        return Err(WordsFault::Usage);
-    };
-    Ok(Task::OneMetal {
-        layout: name(alloc, layout)?,
-        layer,
-        datatype,
-        radius,
-        top,
-    })
-}
-
-/// The text of an option, if it is given.
-fn text_of<'a>(matches: &ArgMatches<'a>, name: OptionName) -> Option<&'a str>
-    ensures { texts_of result ≡ values_found matches.now name }
-{
-    matches.get_str(name.text())
+    text_of(matches, OptionName::Layer).is_some()
+        || text_of(matches, OptionName::Datatype).is_some()
+        || text_of(matches, OptionName::Radius).is_some()
 }
 
 /// The task of these matches.
 fn task_of(alloc: Global, matches: &ArgMatches<'_>) -> Result<Task, WordsFault>
     ensures task { IfOk result (IsTask (values_found matches.now) (positions_found matches.now)) }
-    ensures limits { IfOk result IsWithinLimits }
+    ensures no_other { IfOk result (λ task. GiveNoOther (values_found matches.now) (options_for task)) }
     ensures usage { result ≡ Err WordsFault.Usage → (task : Task) →
-        IsTask (values_found matches.now) (positions_found matches.now) task → IsWithinLimits task → ⊥ }
+        IsTask (values_found matches.now) (positions_found matches.now) task →
+        GiveNoOther (values_found matches.now) (options_for task) → ⊥ }
 {
     let Some(layout) = matches.get_str(LAYOUT) else {
         return Err(WordsFault::Usage);
     };
     let wanted = text_of(matches, OptionName::Top);
     let top = name_if_given(alloc, wanted)?;
-    let layer = text_of(matches, OptionName::Layer);
-    let datatype = text_of(matches, OptionName::Datatype);
-    let radius = text_of(matches, OptionName::Radius);
     let Some(map) = text_of(matches, OptionName::Map) else {
-        return one_metal(alloc, layout, layer, datatype, radius, top);
+        let Some((layer, datatype, radius)) = numbers(matches) else {
+            return Err(WordsFault::Usage);
+        };
+        return Ok(Task::OneMetal {
+            layout: name(alloc, layout)?,
+            layer,
+            datatype,
+            radius,
+            top,
+        });
     };
-    if layer.is_some() || datatype.is_some() || radius.is_some() {
+    if has_number(matches) {
         return Err(WordsFault::Usage);
     }
     Ok(Task::Mapped {
@@ -156,12 +142,11 @@ fn request_of(alloc: Global, matches: &ArgMatches<'_>) -> Result<Request, WordsF
         IsRequestOf (values_found matches.now) (positions_found matches.now) request → ⊥ }
 {
     let task = task_of(alloc, matches)?;
-    let tile = text_of(matches, OptionName::Tile);
-    let workers = text_of(matches, OptionName::Workers);
-    let Some(edge) = number_or(tile, GREATEST_EDGE, DEFAULT_EDGE) else {
+    let Some(edge) = number_or(matches, OptionName::Tile, GREATEST_EDGE, DEFAULT_EDGE) else {
         return Err(WordsFault::Usage);
     };
-    let Some(workers) = number_or(workers, GREATEST_WORKERS, DEFAULT_WORKERS) else {
+    let workers = OptionName::Workers;
+    let Some(workers) = number_or(matches, workers, GREATEST_WORKERS, DEFAULT_WORKERS) else {
         return Err(WordsFault::Usage);
     };
     Ok(Request {

@@ -4,11 +4,11 @@ use Rattle.std.specs.Prelude.{All, slice_get}
 use Rattle.std.proofs.lemmas.Option.{get_or_from_slice_get, slice_get_within}
 use Rattle.std.proofs.lemmas.List.Elements.{All-map}
 use Rattle.geo_core.specs.declared.plane.Point.{Point}
-use Rattle.gds_syntax.specs.Points.{AreWellPointed, IsWellPointed}
-use Rattle.gds_syntax.specs.declared.element.Element.TheVariants.{Shape as shape_element}
-use Rattle.gds_syntax.specs.declared.element.Shape.{Shape}
-use Rattle.gds_syntax.specs.declared.library.Structure.{Structure}
-use Rattle.flatten.specs.Placements.{IsInRange}
+use Rattle.library_model.specs.Points.{AreWellPointed, IsWellPointed}
+use Rattle.library_model.specs.declared.element.Element.TheVariants.{Shape as shape_element}
+use Rattle.library_model.specs.declared.element.Shape.{Shape}
+use Rattle.library_model.specs.declared.library.Structure.{Structure}
+use Rattle.geo_core.specs.Bounds.{IsInRange}
 use Rattle.flatten.specs.declared.placed.Placed.{Placed}
 use Rattle.rect_cover.specs.Coverings.{IsWellPlaced, placed_at}
 

@@ -2,8 +2,8 @@
 
 ghost use Rattle.std.specs.Prelude.{◌≡◌, ◌+ℤ◌, ◌≤ℤ◌, neg_ℤ, true, All, IfSome};
 ghost use Rattle.geo_core.specs.declared.bounds.TheConstants.{FARTHEST};
-ghost use Rattle.gds_syntax.specs.Points.{AreWellPointed};
-ghost use Rattle.flatten.specs.Placements.{IsInRange};
+ghost use Rattle.library_model.specs.Points.{AreWellPointed};
+ghost use Rattle.geo_core.specs.Bounds.{IsInRange};
 ghost use Rattle.rect_cover.specs.Coverings.{IsWellPlaced, placed_at};
 
 use super::stream::{Form, stream_of};

@@ -7,7 +7,7 @@ mod drawing;
 #[cfg(test)]
 mod hostile;
 #[cfg(test)]
-mod outlines;
+mod outline_rows;
 #[cfg(test)]
 mod path_rows;
 #[cfg(test)]

@@ -6,18 +6,22 @@ use Rattle.std.proofs.lemmas.List.Elements.{All-nil, All-cons, All-head, All-tai
 use Rattle.first_refusal.specs.Outcomes.{Outcome, value, refused}
 use Rattle.first_refusal.specs.Checks.{IsRefusalOfFirst, all_hold, one_fails}
 use Rattle.geo_core.specs.declared.plane.Rect.{Rect}
-use Rattle.gds_syntax.specs.declared.element.Shape.{Shape}
-use Rattle.gds_syntax.specs.declared.library.Structure.{Structure}
-use Rattle.layer_map.specs.LayerMap.{LayerMap, IsMappedTo}
+use Rattle.library_model.specs.declared.element.Shape.{Shape}
+use Rattle.library_model.specs.declared.library.Structure.{Structure}
+use Rattle.map_model.specs.LayerMap.{LayerMap, IsMappedTo}
 use Rattle.flatten.specs.Routes.{Route}
 use Rattle.flatten.specs.declared.placed.Placed.{Placed}
 use Rattle.flatten.proofs.ChoiceLaws.{first_said}
 use Rattle.flatten.proofs.FirstLaws.{refused_within}
-use Rattle.rect_cover.specs.Coverings.{ShapeHolds, checks_of, shape_fault, CoverComesTo, IsCover, IsCoverable, IsFirstCoverFault, PlacedComesTo, placed_points}
+use Rattle.rect_cover.specs.Covers.{Covers}
+use Rattle.rect_cover.specs.Coverings.{CoverComesTo, IsCoverable, IsFirstCoverFault, PlacedComesTo, placed_points}
+use Rattle.outlines.specs.Fillings.{IsCover}
+use Rattle.rect_cover.specs.ShapeChecks.{ShapeHolds, checks_of, shape_fault}
 use Rattle.rect_cover.specs.declared.fault.CoverFault.{CoverFault}
 use Rattle.rect_cover.proofs.PlacedLaws.{placed_shapes_agree}
-use Rattle.critarea_core.specs.Layout.{route_points, RouteCheck, RouteHolds, route_checks, route_refusal}
-use Rattle.critarea_core.specs.LayoutReaders.{Covered}
+use Rattle.critarea_core.specs.Coverage.{route_points}
+use Rattle.critarea_core.specs.Layout.{RouteCheck, RouteHolds, route_checks, route_refusal}
+use Rattle.critarea_core.specs.inside.LayoutReaders.{Covered}
 use Rattle.critarea_core.specs.Refusals.{of_cover_fault}
 use Rattle.critarea_core.specs.declared.refusal.Refusal.{Refusal}
 use Rattle.critarea_core.proofs.RouteEnds.{IsPlacedAlong, points_alike}
@@ -27,7 +31,8 @@ abbrev checks_on : Route → List RouteCheck
 checks_on route = map (λ check. (route, check)) (checks_of route.shape.kind)
 
 -- a refusal behind checks that hold
-refused_behind : (before here : List RouteCheck) (refusal : Refusal) → All RouteHolds before → IsRefusalOfFirst RouteHolds here route_refusal refusal → IsRefusalOfFirst RouteHolds (before ++ here) route_refusal refusal
+refused_behind : (before here : List RouteCheck) (refusal : Refusal) → All RouteHolds before → IsRefusalOfFirst RouteHolds here route_refusal refusal
+    → IsRefusalOfFirst RouteHolds (before ++ here) route_refusal refusal
 refused_behind before here refusal all first =
     subst (λ checks. IsRefusalOfFirst RouteHolds (before ++ checks) route_refusal refusal) (append-nil here) (refused_within RouteHolds route_refusal before here [] refusal all first)
 
@@ -36,20 +41,21 @@ module _ (route : Route) where
   pub covered_checks : (rects : List Rect) → CoverComesTo route.shape.kind (route_points route) route.shape.at (value rects) → All RouteHolds (checks_on route)
   covered_checks rects (all_hold all is) = All-map RouteHolds (λ check. (route, check)) (checks_of route.shape.kind) all
 
-  pub cover_of : (rects : List Rect) → CoverComesTo route.shape.kind (route_points route) route.shape.at (value rects) → IsCover route.shape.kind (route_points route) rects
+  pub cover_of : (rects : List Rect) → CoverComesTo route.shape.kind (route_points route) route.shape.at (value rects) → IsCover (Covers route.shape.kind (route_points route)) rects
   cover_of rects (all_hold all is) = is
 
   -- a fault, as the refusal of the first check that fails
-  refused_check : (fault : CoverFault) → CoverComesTo route.shape.kind (route_points route) route.shape.at (refused fault) → IsRefusalOfFirst RouteHolds (checks_on route) route_refusal (of_cover_fault fault)
+  refused_check : (fault : CoverFault) → CoverComesTo route.shape.kind (route_points route) route.shape.at (refused fault)
+      → IsRefusalOfFirst RouteHolds (checks_on route) route_refusal (of_cover_fault fault)
   refused_check fault (one_fails first) =
-      first_said (ShapeHolds route.shape.kind (route_points route)) RouteHolds (λ check. (route, check)) (λ check. of_cover_fault (shape_fault route.shape.at check)) route_refusal
+      first_said (ShapeHolds (route_points route)) RouteHolds (λ check. (route, check)) (λ check. of_cover_fault (shape_fault route.shape.at check)) route_refusal
       (λ check h. h) (λ check h. h) (λ check. refl) (checks_of route.shape.kind) (of_cover_fault fault)
       (record { check = first.check; is_first = first.is_first; is_its_refusal = ap of_cover_fault first.is_its_refusal })
 
 -- a placed shape and its cover, at the end of a route
 pub record IsCoveredAlong (layer_map : LayerMap) (route : Route) (one : Covered) : Type 0 where
   pub layer : IsMappedTo layer_map (route.shape.layer, route.shape.datatype) one.0.layer
-  pub cover : IsCover route.shape.kind (route_points route) one.1
+  pub cover : IsCover (Covers route.shape.kind (route_points route)) one.1
 
 module _ (structures : List Structure) (layer_map : LayerMap) where
   -- what the cover of a placed shape comes to, said of its route
@@ -66,7 +72,8 @@ module _ (structures : List Structure) (layer_map : LayerMap) where
   all_coverable (r ∷ rs) [] along all = absurd along
   all_coverable (r ∷ rs) (p ∷ ps) along all =
       let (rects, comes) = All-head (IsCoverable structures) p ps all in
-      All-append RouteHolds (checks_on r) (route_checks rs) (covered_checks r rects (comes_along r p (value rects) along.0 comes)) (all_coverable rs ps along.1 (All-tail (IsCoverable structures) p ps all))
+      All-append RouteHolds (checks_on r) (route_checks rs) (covered_checks r rects (comes_along r p (value rects) along.0 comes))
+      (all_coverable rs ps along.1 (All-tail (IsCoverable structures) p ps all))
 
   abbrev pub HasCover : Placed → List Rect → Type 0
   HasCover one list = PlacedComesTo structures one (value list)
@@ -76,7 +83,8 @@ module _ (structures : List Structure) (layer_map : LayerMap) where
   listed_coverable (p ∷ ps) [] h = absurd h
   listed_coverable (p ∷ ps) (list ∷ lists) h = All-cons (IsCoverable structures) p ps (list, h.0) (listed_coverable ps lists h.1)
 
-  pub all_covered : (routes : List Route) (placed : List Placed) (lists : List (List Rect)) → AllZip (IsPlacedAlong structures layer_map) routes placed → AllZip HasCover placed lists → All RouteHolds (route_checks routes)
+  pub all_covered : (routes : List Route) (placed : List Placed) (lists : List (List Rect)) → AllZip (IsPlacedAlong structures layer_map) routes placed → AllZip HasCover placed lists
+      → All RouteHolds (route_checks routes)
   all_covered routes placed lists along h = all_coverable routes placed along (listed_coverable placed lists h)
 
   -- the fault of the first shape that has one is the refusal of the first check that fails
@@ -94,10 +102,12 @@ module _ (structures : List Structure) (layer_map : LayerMap) where
   pub first_refused : (routes : List Route) (placed : List Placed) (fault : CoverFault) → AllZip (IsPlacedAlong structures layer_map) routes placed → IsFirstCoverFault structures placed fault
       → IsRefusalOfFirst RouteHolds (route_checks routes) route_refusal (of_cover_fault fault)
   first_refused routes placed fault along first =
-      first_behind routes first.is_first.before first.one first.is_first.after fault (subst (AllZip (IsPlacedAlong structures layer_map) routes) first.is_first.parts along) first.is_first.all_before first.is_its_fault
+      first_behind routes first.is_first.before first.one first.is_first.after fault (subst (AllZip (IsPlacedAlong structures layer_map) routes) first.is_first.parts along)
+      first.is_first.all_before first.is_its_fault
 
   -- each has the cover of what its route ends in
-  pub covered_along : (routes : List Route) (placed : List Placed) (lists : List (List Rect)) → AllZip (IsPlacedAlong structures layer_map) routes placed → AllZip HasCover placed lists → AllZip (IsCoveredAlong layer_map) routes (zip placed lists)
+  pub covered_along : (routes : List Route) (placed : List Placed) (lists : List (List Rect)) → AllZip (IsPlacedAlong structures layer_map) routes placed → AllZip HasCover placed lists
+      → AllZip (IsCoveredAlong layer_map) routes (zip placed lists)
   covered_along [] [] [] along h = tt
   covered_along [] [] (list ∷ lists) along h = absurd h
   covered_along [] (p ∷ ps) lists along h = absurd along

@@ -8,71 +8,44 @@ use Rattle.std.proofs.lemmas.Grind.{flat_map-append}
 use Rattle.std.proofs.lemmas.List.{length-map, get_or_append_left, get_or_past, get_or_push}
 use Rattle.std.proofs.lemmas.List.Elements.{All-contains, All-from_get_or, filter-append}
 use Rattle.std.proofs.lemmas.Option.{slice_get_within}
-use Rattle.paths.proofs.ListLaws.{Contains-none, Contains-first, Contains-rest, Contains-cases, Contains-slice_get}
 use Rattle.geo_core.specs.Cells.{IsInLayout}
 use Rattle.geo_core.specs.declared.plane.Cell.{Cell}
 use Rattle.geo_core.specs.declared.plane.Rect.{Rect}
-use Rattle.layer_map.specs.LayerMap.{IsMappedTo, layers_of}
-use Rattle.layer_map.specs.Layers.{metal_layer, mapped_cut, mapped_layers, pairs_of}
-use Rattle.layer_map.specs.declared.layers.Metal.{Metal}
-use Rattle.layer_map.specs.declared.layers.Cut.{Cut}
-use Rattle.layer_map.specs.Lists.{AreDifferent}
-use Rattle.layer_map.proofs.MappedLaws.{pair_tells_layer}
-use Rattle.flatten.proofs.ListLaws.{all_of_each}
-use Rattle.net_extract.specs.Coverage.{IsCoveredIn}
-use Rattle.net_extract.proofs.ListLaws.{Contains-flat_map, Contains-unflat_map}
-use Rattle.critical_areas.proofs.ListLaws.{taken_at}
+use Rattle.map_model.specs.LayerMap.{IsMappedTo, layers_of}
+use Rattle.map_model.specs.Layers.{metal_layer, mapped_cut, mapped_layers, pairs_of}
+use Rattle.map_model.specs.declared.layers.Metal.{Metal}
+use Rattle.map_model.specs.declared.layers.Cut.{Cut}
+use Rattle.lists.specs.Differing.{AreDifferent}
+use Rattle.map_model.proofs.MappedLaws.{pair_tells_layer}
+use Rattle.geo_core.specs.Unions.{IsCoveredIn}
 use Rattle.critical_areas.proofs.WindowLaws.{in_union, among_union}
 use Rattle.critarea_core.specs.Coverage.{IsCoveredOn}
 use Rattle.critarea_core.specs.Layout.{Subject}
-use Rattle.critarea_core.specs.LayoutReaders.{Covered, rects_on, AreListsUpTo, AreLayersOf}
+use Rattle.critarea_core.specs.inside.LayoutReaders.{Covered, rects_on, AreListsUpTo, AreLayersOf}
 use Rattle.critarea_core.proofs.CoverReading.{IsCoveredAlong}
+use Rattle.lists.proofs.Containing.{Contains-cons_cases, Contains-head, Contains-none, Contains-slice_get, Contains-tail, all_of_each}
+use Rattle.lists.proofs.Filtering.{Contains-filter, Contains-filter_passes, Contains-from_filter}
+use Rattle.lists.proofs.Mapping.{Contains-flat_map, Contains-flat_map_from}
+use Rattle.lists.proofs.Reading.{taken_at}
 
 -- ---- lists
-
-module _ {X : Type 0} (p : X → Bool) where
-  -- a filtered list contains the items that pass
-  filtered_first : (y : X) (xs : List X) (x : X) (b : Bool) → p y ≡ b → (Contains (filter p xs) x → Contains xs x × (p x ≡ true)) → Contains (if b then y ∷ filter p xs else filter p xs) x → Contains (y ∷ xs) x × (p x ≡ true)
-  filtered_first y xs x true e f h = elim (Contains-cases y (filter p xs) x h) [
-    | inl same ↦ (subst (Contains (y ∷ xs)) same (Contains-first y xs), ap p (sym same) ∙ e)
-    | inr rest ↦ let found = f rest in (Contains-rest y xs x found.0, found.1)
-  ]
-  filtered_first y xs x false e f h = let found = f h in (Contains-rest y xs x found.0, found.1)
-
-  pub Contains-unfilter : (xs : List X) (x : X) → Contains (filter p xs) x → Contains xs x × (p x ≡ true)
-  Contains-unfilter [] x h = absurd (Contains-none h)
-  Contains-unfilter (y ∷ xs) x h = filtered_first y xs x (p y) refl (Contains-unfilter xs x) h
-
-  first_filtered : (y : X) (xs : List X) (x : X) (b : Bool) → p y ≡ b → p x ≡ true → (Contains xs x → Contains (filter p xs) x) → Contains (y ∷ xs) x → Contains (if b then y ∷ filter p xs else filter p xs) x
-  first_filtered y xs x true e passes f h = elim (Contains-cases y xs x h) [
-    | inl same ↦ subst (Contains (y ∷ filter p xs)) same (Contains-first y (filter p xs))
-    | inr rest ↦ Contains-rest y (filter p xs) x (f rest)
-  ]
-  first_filtered y xs x false e passes f h = elim (Contains-cases y xs x h) [
-    | inl same ↦ let fails = ap p (sym same) ∙ e in cc (passes, fails)
-    | inr rest ↦ f rest
-  ]
-
-  pub Contains-filter : (xs : List X) (x : X) → p x ≡ true → Contains xs x → Contains (filter p xs) x
-  Contains-filter [] x passes h = absurd (Contains-none h)
-  Contains-filter (y ∷ xs) x passes h = first_filtered y xs x (p y) refl passes (Contains-filter xs x passes) h
 
 -- an item of one of two lists that go side by side has one in the other
 module _ {X Y : Type 0} (R : X → Y → Type 0) where
   across_from : (xs : List X) (ys : List Y) (x : X) → AllZip R xs ys → Contains xs x → (y : Y) × Contains ys y × R x y
   across_from [] ys x zipped h = absurd (Contains-none h)
   across_from (a ∷ xs) [] x zipped h = absurd zipped
-  across_from (a ∷ xs) (b ∷ ys) x zipped h = elim (Contains-cases a xs x h) [
-    | inl same ↦ (b, Contains-first b ys, subst (λ z. R z b) same zipped.0)
-    | inr rest ↦ let found = across_from xs ys x zipped.1 rest in (found.0, Contains-rest b ys found.0 found.1, found.2)
+  across_from (a ∷ xs) (b ∷ ys) x zipped h = elim (Contains-cons_cases a xs x h) [
+    | inl same ↦ (b, Contains-head b ys, subst (λ z. R z b) same zipped.0)
+    | inr rest ↦ let found = across_from xs ys x zipped.1 rest in (found.0, Contains-tail b ys found.0 found.1, found.2)
   ]
 
   back_from : (xs : List X) (ys : List Y) (y : Y) → AllZip R xs ys → Contains ys y → (x : X) × Contains xs x × R x y
   back_from xs [] y zipped h = absurd (Contains-none h)
   back_from [] (b ∷ ys) y zipped h = absurd zipped
-  back_from (a ∷ xs) (b ∷ ys) y zipped h = elim (Contains-cases b ys y h) [
-    | inl same ↦ (a, Contains-first a xs, subst (R a) same zipped.0)
-    | inr rest ↦ let found = back_from xs ys y zipped.1 rest in (found.0, Contains-rest a xs found.0 found.1, found.2)
+  back_from (a ∷ xs) (b ∷ ys) y zipped h = elim (Contains-cons_cases b ys y h) [
+    | inl same ↦ (a, Contains-head a xs, subst (R a) same zipped.0)
+    | inr rest ↦ let found = back_from xs ys y zipped.1 rest in (found.0, Contains-tail a xs found.0 found.1, found.2)
   ]
 
 -- ---- the rectangles of one layer
@@ -90,7 +63,8 @@ filtered_one number one b e = rw e refl
 module _ (number : ℕ) (covered : List Covered) (k : ℕ) (one : Covered) (at : slice_get covered k ≡ Some one) where
   next : (b : Bool) → is_on number one ≡ b → rects_on number (take (k + 1) covered) ≡ rects_on number (take k covered) ++ flat_map rects_in (if b then one ∷ [] else [])
   next b e =
-      ap (rects_on number) (taken_at covered k one at) ∙ ap (flat_map rects_in) (filter-append (is_on number) (take k covered) (one ∷ []) ∙ ap (λ xs. filter (is_on number) (take k covered) ++ xs) (filtered_one number one b e))
+      ap (rects_on number) (taken_at covered k one at) ∙ ap (flat_map rects_in) (filter-append (is_on number) (take k covered) (one ∷ [])
+      ∙ ap (λ xs. filter (is_on number) (take k covered) ++ xs) (filtered_one number one b e))
       ∙ flat_map-append rects_in (filter (is_on number) (take k covered)) (if b then one ∷ [] else [])
 
   pub next_on : one.0.layer ≡ number → rects_on number (take (k + 1) covered) ≡ rects_on number (take k covered) ++ one.1
@@ -104,13 +78,13 @@ module _ (number : ℕ) (covered : List Covered) (k : ℕ) (one : Covered) (at :
 
 on_layer_from : (number : ℕ) (covered : List Covered) (rect : Rect) → Contains (rects_on number covered) rect → (one : Covered) × Contains covered one × (one.0.layer ≡ number) × Contains one.1 rect
 on_layer_from number covered rect h =
-    let found = Contains-unflat_map rects_in (filter (is_on number) covered) rect h in
-    let passed = Contains-unfilter (is_on number) covered found.0 found.1 in
-    (found.0, passed.0, (Decides-eqb found.0.0.layer number).0 passed.1, found.2)
+    let found = Contains-flat_map_from rects_in (filter (is_on number) covered) rect h in
+    let passed = Contains-filter_passes (is_on number) covered found.0 found.1 in
+    (found.0, Contains-from_filter (is_on number) covered found.0 found.1, (Decides-eqb found.0.0.layer number).0 passed, found.2)
 
 on_layer_to : (number : ℕ) (covered : List Covered) (one : Covered) (rect : Rect) → Contains covered one → one.0.layer ≡ number → Contains one.1 rect → Contains (rects_on number covered) rect
 on_layer_to number covered one rect among e h =
-    Contains-flat_map rects_in (filter (is_on number) covered) one rect (Contains-filter (is_on number) covered one ((Decides-eqb one.0.layer number).1 e) among) h
+    Contains-flat_map rects_in (filter (is_on number) covered) one rect (Contains-filter (is_on number) covered one among ((Decides-eqb one.0.layer number).1 e)) h
 
 -- ---- one list for each layer
 
@@ -123,7 +97,8 @@ layer_count metals cuts =
 pub lists_start : (covered : List Covered) → AreListsUpTo covered 0 []
 lists_start covered = record { as_many = refl; each = λ number small. absurd (omega arith) }
 
-pub lists_next : (covered : List Covered) (n : ℕ) (old new : List (List Rect)) (list : List Rect) → new ≡ old ++ list ∷ [] → list ≡ rects_on n covered → AreListsUpTo covered n old → AreListsUpTo covered (n + 1) new
+pub lists_next : (covered : List Covered) (n : ℕ) (old new : List (List Rect)) (list : List Rect) → new ≡ old ++ list ∷ [] → list ≡ rects_on n covered → AreListsUpTo covered n old
+    → AreListsUpTo covered (n + 1) new
 lists_next covered n old new list e is before = record {
   as_many = ap length e ∙ length-push ∙ ap (λ k. k + 1) before.as_many;
   each = λ number small.
@@ -145,9 +120,10 @@ listed_below lists number k rect at = elim (cases_lt number (length lists)) [
   | inr past ↦ absurd (Contains-none (subst (λ xs. Contains xs rect) (get_or_past lists number [] past) (Contains-slice_get (get_or lists number []) k rect at)))
 ]
 
-module _ (subject : Subject) (differ : AreDifferent (pairs_of (layers_of subject.layer_map))) (covered : List Covered) (along : AllZip (IsCoveredAlong subject.layer_map) subject.routes covered) (lists : List (List Rect))
+module _ (subject : Subject) (differ : AreDifferent (pairs_of (layers_of subject.layer_map))) (covered : List Covered) (along : AllZip (IsCoveredAlong subject.layer_map) subject.routes covered)
+    (lists : List (List Rect))
     (made : AreListsUpTo covered (length (layers_of subject.layer_map)) lists) where
-  covers_from : (number : ℕ) (c : Cell) → IsCoveredIn lists number c → IsCoveredOn subject number c
+  covers_from : (number : ℕ) (c : Cell) → IsCoveredIn lists number c → IsCoveredOn subject.layer_map subject.routes number c
   covers_from number c v =
       let small = listed_below lists number v.number v.rect v.at in
       let is = made.each number (omega (arith, made.as_many)) in
@@ -160,7 +136,7 @@ module _ (subject : Subject) (differ : AreDifferent (pairs_of (layers_of subject
         covers = (of.2.cover.same c).0 (record { rect = v.rect; among = found.3; has = v.has });
       }
 
-  covers_to : (number : ℕ) (c : Cell) → IsCoveredOn subject number c → IsCoveredIn lists number c
+  covers_to : (number : ℕ) (c : Cell) → IsCoveredOn subject.layer_map subject.routes number c → IsCoveredIn lists number c
   covers_to number c v =
       let of = across_from (IsCoveredAlong subject.layer_map) subject.routes covered v.route along v.among in
       let same = pair_tells_layer (layers_of subject.layer_map) (v.route.shape.layer, v.route.shape.datatype) of.0.0.layer number differ of.2.layer v.is_mapped in

@@ -4,9 +4,8 @@ use Rattle.first_refusal.specs.Laws.{IsUnique, CannotLack}
 use Rattle.first_refusal.specs.Outcomes.{Retold}
 use Rattle.first_refusal.proofs.CheckLaws.{checks_agree, checks_cannot_lack}
 use Rattle.first_refusal.proofs.StageLaws.{retold_agree, retold_cannot_lack, stages_agree, stages_cannot_lack}
-use Rattle.gds_syntax.specs.Names.{NamesDiffer, names_of}
-use Rattle.gds_syntax.specs.declared.library.Library.{Library}
-use Rattle.layer_map.specs.LayerMap.{LayerMap}
+use Rattle.library_model.specs.declared.library.Library.{Library}
+use Rattle.map_model.specs.LayerMap.{LayerMap}
 use Rattle.flatten.specs.Placements.{Placing}
 use Rattle.flatten.specs.Routes.{Route}
 use Rattle.flatten.proofs.PlacingLaws.{placings_agree, placings_cannot_lack}
@@ -23,8 +22,8 @@ libraries_come_to_one layer_map wanted library =
     (retold_agree of_place_fault (Placing library.structures layer_map wanted) (placings_agree library.structures layer_map wanted))
     (λ routes. checks_agree RouteHolds (route_checks routes) route_refusal (λ subject. subject ≡ subject_of layer_map routes) (λ one other a b. a ∙ sym b))
 
-pub libraries_come_to_something : (layer_map : LayerMap) (wanted : Option (List ℕ)) (library : Library) → NamesDiffer (names_of library.structures) → CannotLack (LibraryComesTo layer_map wanted library)
-libraries_come_to_something layer_map wanted library differ =
+pub libraries_come_to_something : (layer_map : LayerMap) (wanted : Option (List ℕ)) (library : Library) → CannotLack (LibraryComesTo layer_map wanted library)
+libraries_come_to_something layer_map wanted library =
     stages_cannot_lack (Retold of_place_fault (Placing library.structures layer_map wanted)) (RoutesComeTo layer_map)
-    (retold_cannot_lack of_place_fault (Placing library.structures layer_map wanted) (placings_cannot_lack library.structures differ layer_map wanted))
+    (retold_cannot_lack of_place_fault (Placing library.structures layer_map wanted) (placings_cannot_lack library.structures layer_map wanted))
     (λ routes placing. checks_cannot_lack RouteHolds (route_checks routes) route_refusal (λ subject. subject ≡ subject_of layer_map routes) (λ all none. none (subject_of layer_map routes) refl))

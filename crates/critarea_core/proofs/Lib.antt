@@ -1,7 +1,6 @@
 pub mod RouteEnds
 pub mod CoverReading
 pub mod LayerLaws
-pub mod LibraryNames
 pub mod LayoutLaws
 pub mod ReadingLaws
 pub mod VerdictLaws

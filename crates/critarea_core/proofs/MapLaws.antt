@@ -1,32 +1,32 @@
 -- maps that were read, and whether they are supported
-use Rattle.std.proofs.Common.{ℕ, ◌≡◌, ◌≢◌, Bool, true, false, List, [], ◌∷◌, length, refl, sym, ap, ◌∙◌, map, arith}
-use Rattle.std.specs.Prelude.{Err, ◌==◌, All}
+use Rattle.std.proofs.Common.{ℕ, ◌≡◌, Bool, true, false, List, [], ◌∷◌, length, refl, sym, ap, ◌∙◌, map, arith}
+use Rattle.std.specs.Prelude.{Ok, Err, Result, IfOk, Vec, ◌==◌, ◌≤◌, All}
+use Rattle.std.specs.Global.{Global}
 use Rattle.std.proofs.lemmas.Bool.Decides.{Decides-eqb}
 use Rattle.std.proofs.lemmas.List.Elements.{All-cons, All-nil, All-head, All-tail}
-use Rattle.first_refusal.specs.Outcomes.{value, refused, kept, retold, stops, goes_on}
+use Rattle.first_refusal.specs.Outcomes.{value, refused, kept, goes_on}
 use Rattle.first_refusal.specs.Checks.{one_fails, all_hold}
 use Rattle.first_refusal.proofs.CheckLaws.{fails_at_once, fails_later}
 use Rattle.layer_map.specs.Documents as document
-use Rattle.layer_map.specs.MapView.{layer_map_of}
-use Rattle.layer_map.specs.declared.fault.MapFault.{MapFault}
-use Rattle.layer_map.specs.declared.fault.MapFault.TheVariants as fault
-use Rattle.layer_map.specs.declared.map.Map.{Map}
-use Rattle.critarea_core.specs.Finding.{IsMapRead, of_bad_map}
+use Rattle.map_model.specs.MapView.{layer_map_of}
+use Rattle.map_model.specs.declared.map.Map.{Map}
+use Rattle.lists.specs.declared.memory.NoMemory.{NoMemory}
+use Rattle.geo_core.specs.Unions.{IsCoveredIn}
+use Rattle.map_model.specs.LayerMap.{LayerMap}
+use Rattle.map_model.specs.Layers.{mapped_cut}
+use Rattle.map_model.specs.MapView.{terminal_of}
+use Rattle.map_model.specs.declared.layer_lists.Layers.{Layers}
+use Rattle.questions.specs.declared.row.Row.{Row}
+use Rattle.questions.specs.declared.row.TheConstants.{MOST_ROWS}
+use Rattle.critical_areas.specs.Rows.{AreRows}
+use Rattle.critical_areas.proofs.RowLaws.{rows_follow}
+use Rattle.critarea_core.specs.Coverage.{IsCoveredOn}
+use Rattle.critarea_core.specs.inside.Finding.{HasRows}
+use Rattle.critarea_core.specs.Layout.{Subject}
+use Rattle.critarea_core.specs.inside.LayoutReaders.{AreLayersFor}
 use Rattle.critarea_core.specs.Refusals.{map_not_supported}
-use Rattle.layer_map.specs.Paths.{cuts_path, terminals_path}
+use Rattle.layer_map.specs.DocumentPaths.{cuts_path, terminals_path}
 use Rattle.critarea_core.specs.Verdict.{IsSupported, support_checks, has_no_cuts, has_no_terminals, ShortMapComesTo}
-
--- a text that is no map
-pub bad_map : (bytes : List ℕ) (why : MapFault) → (why ≢ fault.Memory → document.MapComesTo bytes (refused why)) → IsMapRead bytes (Err (of_bad_map why))
-bad_map bytes fault.Syntax comes = stops (retold (comes (λ e. cc e)))
-bad_map bytes (fault.BadKey path) comes = stops (retold (comes (λ e. cc e)))
-bad_map bytes (fault.BadValue path) comes = stops (retold (comes (λ e. cc e)))
-bad_map bytes (fault.RepeatedPair path) comes = stops (retold (comes (λ e. cc e)))
-bad_map bytes (fault.RepeatedName path) comes = stops (retold (comes (λ e. cc e)))
-bad_map bytes (fault.UnknownMetal path) comes = stops (retold (comes (λ e. cc e)))
-bad_map bytes (fault.RepeatedTerminal path) comes = stops (retold (comes (λ e. cc e)))
-bad_map bytes (fault.LimitPassed path) comes = stops (retold (comes (λ e. cc e)))
-bad_map bytes fault.Memory comes = tt
 
 -- a list is empty where what it maps to is
 mapped_empty : {X Y : Type 0} (f : X → Y) (xs : List X) → map f xs ≡ [] → xs ≡ []
@@ -69,4 +69,24 @@ module _ (bytes : List ℕ) (made : Map) (comes : document.MapComesTo bytes (val
 
   pub with_neither : made.cuts ≡ [] → made.terminals ≡ [] → ShortMapComesTo bytes (value (layer_map_of made))
   with_neither none neither = goes_on (kept comes) (all_hold
-      (All-cons (IsSupported (layer_map_of made)) has_no_cuts (has_no_terminals ∷ []) (ap (map _) none) (All-cons (IsSupported (layer_map_of made)) has_no_terminals [] (ap (map _) neither) (All-nil _))) refl)
+      (All-cons (IsSupported (layer_map_of made)) has_no_cuts (has_no_terminals ∷ []) (ap (map _) none)
+      (All-cons (IsSupported (layer_map_of made)) has_no_terminals [] (ap (map _) neither) (All-nil _))) refl)
+
+-- the rows over the layers of a map that is supported are those on the subject whose layers these are
+rows_for : (given : Map) → All (IsSupported (layer_map_of given)) support_checks → (layers : Layers) (rows : Vec Row Global)
+    → AreRows (layer_map_of given) (IsCoveredIn layers.lists.items) rows.items → length rows.items ≤ MOST_ROWS
+    → (subject : Subject) → AreLayersFor (layer_map_of given) subject layers → HasRows subject rows
+rows_for given all layers rows are few subject laid =
+    let none : subject.layer_map.cuts ≡ [] = rw laid.of_map (ap (map mapped_cut) (no_cuts given all)) in
+    let neither : subject.layer_map.terminals ≡ [] = rw laid.of_map (ap (map terminal_of) (no_terminals given all)) in
+    let by_lists : AreRows subject.layer_map (IsCoveredIn layers.lists.items) rows.items = rw laid.of_map are in
+    record {
+      are_rows = rows_follow subject.layer_map none neither (IsCoveredIn layers.lists.items) (IsCoveredOn subject.layer_map subject.routes) laid.layers.covers rows.items by_lists;
+      few = few;
+    }
+
+pub rows_are : (given : Map) → All (IsSupported (layer_map_of given)) support_checks → (layers : Layers) (result : Result (Vec Row Global) NoMemory)
+    → IfOk result (λ rows. AreRows (layer_map_of given) (IsCoveredIn layers.lists.items) rows.items) → IfOk result (λ rows. length rows.items ≤ MOST_ROWS)
+    → IfOk result (λ rows. (subject : Subject) → AreLayersFor (layer_map_of given) subject layers → HasRows subject rows)
+rows_are given all layers (Ok rows) are few = rows_for given all layers rows are few
+rows_are given all layers (Err error) are few = tt

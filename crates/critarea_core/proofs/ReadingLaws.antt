@@ -1,74 +1,135 @@
--- What readers of a layout answer, from what they find.
-use Rattle.std.proofs.Common.{ℕ, ◌≢◌, List, refl, Option}
-use Rattle.std.specs.Prelude.{All}
-use Rattle.first_refusal.specs.Checks.{IsRefusalOfFirst, all_hold, one_fails}
-use Rattle.first_refusal.specs.Outcomes.{value, refused, goes_on, stops, kept, retold}
-use Rattle.gds_syntax.specs.FirstFault.{BytesComeTo}
-use Rattle.gds_syntax.specs.declared.fault.SyntaxFault.{SyntaxFault}
-use Rattle.gds_syntax.specs.declared.fault.SyntaxFault.TheVariants as syntax
-use Rattle.gds_syntax.specs.declared.library.Library.{Library}
-use Rattle.flatten.specs.Placements.{Placing}
-use Rattle.flatten.specs.Routes.{Route}
-use Rattle.flatten.specs.declared.fault.PlaceFault.{PlaceFault}
-use Rattle.flatten.specs.declared.fault.PlaceFault.TheVariants as place
-use Rattle.layer_map.specs.LayerMap.{LayerMap}
-use Rattle.rect_cover.specs.declared.fault.CoverFault.{CoverFault}
-use Rattle.rect_cover.specs.declared.fault.CoverFault.TheVariants as cover
-use Rattle.critarea_core.specs.Layout.{RouteHolds, route_checks, route_refusal, ShortLayoutComesTo}
-use Rattle.critarea_core.specs.declared.fault.LayoutFault.TheVariants.{Cover, Place, Memory}
-use Rattle.critarea_core.specs.LayoutFaults.{of_syntax, of_place, of_cover}
-use Rattle.critarea_core.specs.Refusals.{of_cover_fault, of_layout_fault}
+-- what readers answer, from what they find
+use Rattle.std.proofs.Common.{ℕ, ◌≡◌, ◌≢◌, ◌<◌, ◌≤◌, List, [], ◌∷◌, length, zero, suc, refl, sym, ap, subst, arith, if◌then◌else◌, Bool, true, false}
+use Rattle.std.specs.Prelude.{Option, Some, None, IfSome, IsErrAnd, Result, Ok, Err, Vec, vec_len, unwrap_or}
+use Rattle.std.specs.Global.{Global}
+use Rattle.std.specs.Str.{bytes_eq}
+use Rattle.std.proofs.lemmas.List.Elements.{All-cons, All-nil}
+use Rattle.std.proofs.lemmas.Slice.Eq.{bytes_eq-Decides}
+use Rattle.first_refusal.specs.Answers.{gives, refuses, no_memory}
+use Rattle.first_refusal.specs.Outcomes.{Outcome, value, refused}
+use Rattle.lists.specs.ByteLists.{AreBytes, IsByte}
+use Rattle.lists.proofs.Containing.{Contains-head}
+use Rattle.edge_io.specs.ReadAnswers.{ReadsWhole, is_whole, is_too_long, has_no_memory, has_failed}
+use Rattle.edge_io.specs.declared.whole.ReadError.{ReadError}
+use Rattle.edge_io.specs.declared.whole.ReadError.TheVariants as read
+use Rattle.critarea_core.specs.Contents.{MayContain, MayHave}
+use Rattle.command_line.specs.declared.task.Task.{Task}
+use Rattle.command_line.specs.declared.task.Task.TheVariants.{OneMetal, Mapped}
+use Rattle.map_model.specs.LayerMap.{LayerMap, one_metal_map}
+use Rattle.map_model.specs.MapView.{layer_map_of}
+use Rattle.map_model.specs.declared.map.Map.{Map}
+use Rattle.critarea_core.specs.inside.Finding.{IsMapOf, MapMayCome, IsToldAs, as_memory, as_refusal, of_unread, Finds, gives_thing, gives_refusal, FindsInFiles, files_serve, files_fail, IsOneOf}
+use Rattle.critarea_core.specs.Run.{change}
+use Rattle.critarea_core.specs.Verdict.{MapTextComesTo}
+use Rattle.critarea_core.specs.declared.refusal.Refusal.{Refusal}
+use Rattle.critarea_core.specs.declared.unreported.Unreported.{Unreported}
 
--- ---- the library
+-- ---- answers
 
-module _ (layer_map : LayerMap) (wanted : Option (List ℕ)) (bytes : List ℕ) (library : Library) (comes : BytesComeTo bytes (value library)) where
-  -- shapes that are not placed
-  not_placed : (fault : PlaceFault) → Placing library.structures layer_map wanted (refused fault) → ShortLayoutComesTo layer_map wanted bytes (refused (of_layout_fault (Place fault)))
-  not_placed fault is = goes_on {v = library} (kept comes) (stops (retold is))
+module _ {T V : Type 0} (Stage : Outcome V Refusal → Type 0) (IsFor : V → T → Type 0) where
+  told_so : {F : Type 0} (memory : F) (refusal_of : F → Refusal) (fault : F) (told : Unreported) → IsToldAs memory refusal_of fault told
+      → (fault ≢ memory → Stage (refused (refusal_of fault))) → Finds Stage IsFor (Err told)
+  told_so memory refusal_of fault told (as_memory e) known = no_memory
+  told_so memory refusal_of fault told (as_refusal other) known = refuses (gives_refusal (known other))
 
-  pub placing_refused : (why : PlaceFault) → (why ≢ place.Memory → Placing library.structures layer_map wanted (refused why)) → of_place why ≢ Memory
-      → ShortLayoutComesTo layer_map wanted bytes (refused (of_layout_fault (of_place why)))
-  placing_refused place.Memory is known = absurd (known refl)
-  placing_refused (place.UnknownStructure at) is known = not_placed (place.UnknownStructure at) (is (λ same. absurd (cc same)))
-  placing_refused (place.Cycle at) is known = not_placed (place.Cycle at) (is (λ same. absurd (cc same)))
-  placing_refused place.NoTop is known = not_placed place.NoTop (is (λ same. absurd (cc same)))
-  placing_refused (place.ManyTops at) is known = not_placed (place.ManyTops at) (is (λ same. absurd (cc same)))
-  placing_refused (place.TooDeep at) is known = not_placed (place.TooDeep at) (is (λ same. absurd (cc same)))
-  placing_refused (place.TooManyShapes at) is known = not_placed (place.TooManyShapes at) (is (λ same. absurd (cc same)))
-  placing_refused (place.OutOfRange at) is known = not_placed (place.OutOfRange at) (is (λ same. absurd (cc same)))
+  -- the fault of another reader, where it is the refusal of the stage
+  pub not_read : {F : Type 0} (memory : F) (refusal_of : F → Refusal) (fault : F) (result : Result T Unreported)
+      → IsErrAnd result (IsToldAs memory refusal_of fault) → (fault ≢ memory → Stage (refused (refusal_of fault))) → Finds Stage IsFor result
+  not_read memory refusal_of fault (Ok thing) gave known = absurd gave
+  not_read memory refusal_of fault (Err told) gave known = told_so memory refusal_of fault told gave known
 
-  module _ (routes : List Route) (placing : Placing library.structures layer_map wanted (value routes)) where
-    -- all placed shapes have covers
-    pub all_covered_answer : All RouteHolds (route_checks routes) → ShortLayoutComesTo layer_map wanted bytes (value (record { layer_map = layer_map; routes = routes }))
-    all_covered_answer all = goes_on {v = library} (kept comes) (goes_on {v = routes} (kept placing) (all_hold all refl))
+  not_found : {U : Type 0} (IsAlso : V → U → Type 0) (why : Unreported) → Finds Stage IsAlso (Err why) → Finds Stage IsFor (Err why)
+  not_found IsAlso why (refuses (gives_refusal comes)) = refuses (gives_refusal comes)
+  not_found IsAlso why no_memory = no_memory
 
-    -- the first that has none
-    not_covered : (fault : CoverFault) → IsRefusalOfFirst RouteHolds (route_checks routes) route_refusal (of_cover_fault fault) → ShortLayoutComesTo layer_map wanted bytes (refused (of_layout_fault (Cover fault)))
-    not_covered fault first = goes_on {v = library} (kept comes) (goes_on {v = routes} (kept placing) (one_fails first))
+  -- what another reader did not find for the same stage
+  pub not_found_either : {U : Type 0} (IsAlso : V → U → Type 0) (why : Unreported) (result : Result T Unreported) → IsErrAnd result (λ same. same ≡ why)
+      → Finds Stage IsAlso (Err why) → Finds Stage IsFor result
+  not_found_either IsAlso why (Ok thing) gave found = absurd gave
+  not_found_either IsAlso why (Err same) gave found = rw gave (not_found IsAlso why found)
 
-    pub cover_refused : (why : CoverFault) → (why ≢ cover.Memory → IsRefusalOfFirst RouteHolds (route_checks routes) route_refusal (of_cover_fault why)) → of_cover why ≢ Memory
-        → ShortLayoutComesTo layer_map wanted bytes (refused (of_layout_fault (of_cover why)))
-    cover_refused cover.Memory is known = absurd (known refl)
-    cover_refused (cover.RoundPath at) is known = not_covered (cover.RoundPath at) (is (λ same. absurd (cc same)))
-    cover_refused (cover.BadExtension at) is known = not_covered (cover.BadExtension at) (is (λ same. absurd (cc same)))
-    cover_refused (cover.OddWidth at) is known = not_covered (cover.OddWidth at) (is (λ same. absurd (cc same)))
-    cover_refused (cover.PointPath at) is known = not_covered (cover.PointPath at) (is (λ same. absurd (cc same)))
-    cover_refused (cover.NotRectilinear at) is known = not_covered (cover.NotRectilinear at) (is (λ same. absurd (cc same)))
-    cover_refused (cover.Reversal at) is known = not_covered (cover.Reversal at) (is (λ same. absurd (cc same)))
-    cover_refused (cover.OutOfRange at) is known = not_covered (cover.OutOfRange at) (is (λ same. absurd (cc same)))
+  -- what was found is for some value of the stage
+  pub found_for : (thing : T) → Finds Stage IsFor (Ok thing) → (v : V) × Stage (value v) × IsFor v thing
+  found_for thing (gives (gives_thing {v = v} comes is)) = (v, comes, is)
 
--- bytes that are no library
-pub bytes_refused : (layer_map : LayerMap) (wanted : Option (List ℕ)) (bytes : List ℕ) (why : SyntaxFault) → (why ≢ syntax.Memory → BytesComeTo bytes (refused why)) → of_syntax why ≢ Memory
-    → ShortLayoutComesTo layer_map wanted bytes (refused (of_layout_fault (of_syntax why)))
-bytes_refused layer_map wanted bytes syntax.Memory comes known = absurd (known refl)
-bytes_refused layer_map wanted bytes (syntax.Record f) comes known = stops (retold (comes (λ same. absurd (cc same))))
-bytes_refused layer_map wanted bytes (syntax.Unexpected at k) comes known = stops (retold (comes (λ same. absurd (cc same))))
-bytes_refused layer_map wanted bytes (syntax.Missing at k) comes known = stops (retold (comes (λ same. absurd (cc same))))
-bytes_refused layer_map wanted bytes (syntax.RepeatedStructure at) comes known = stops (retold (comes (λ same. absurd (cc same))))
-bytes_refused layer_map wanted bytes (syntax.PointCount at) comes known = stops (retold (comes (λ same. absurd (cc same))))
-bytes_refused layer_map wanted bytes (syntax.NotClosed at) comes known = stops (retold (comes (λ same. absurd (cc same))))
-bytes_refused layer_map wanted bytes (syntax.Magnified at) comes known = stops (retold (comes (λ same. absurd (cc same))))
-bytes_refused layer_map wanted bytes (syntax.BadAngle at) comes known = stops (retold (comes (λ same. absurd (cc same))))
-bytes_refused layer_map wanted bytes (syntax.AbsoluteAngle at) comes known = stops (retold (comes (λ same. absurd (cc same))))
-bytes_refused layer_map wanted bytes (syntax.EmptyArray at) comes known = stops (retold (comes (λ same. absurd (cc same))))
-bytes_refused layer_map wanted bytes (syntax.UnevenArray at) comes known = stops (retold (comes (λ same. absurd (cc same))))
+  -- the same of another stage that comes to all that this one does
+  pub restaged : (Other : Outcome V Refusal → Type 0) → ((outcome : Outcome V Refusal) → Stage outcome → Other outcome)
+      → (result : Result T Unreported) → Finds Stage IsFor result → Finds Other IsFor result
+  restaged Other each result (gives (gives_thing {v = v} comes is)) = gives (gives_thing (each (value v) comes) is)
+  restaged Other each result (refuses (gives_refusal {refusal = r} comes)) = refuses (gives_refusal (each (refused r) comes))
+  restaged Other each result no_memory = no_memory
+
+-- ---- what a file may have
+
+-- some bytes that a file may have
+pub may_have_some : (told : Option (List ℕ)) → MayHave told (unwrap_or told [])
+may_have_some (Some all) = refl
+may_have_some None = All-nil IsByte
+
+-- bytes that were read
+may_have_read : (told : Option (List ℕ)) (bytes : List ℕ) → IfSome told (λ all. bytes ≡ all) → AreBytes bytes → MayHave told bytes
+may_have_read (Some all) bytes same are = same
+may_have_read None bytes same are = are
+
+-- bytes longer than a number
+longer : (n : ℕ) → (bytes : List ℕ) × AreBytes bytes × (n < length bytes)
+longer zero = (0 ∷ [], All-cons IsByte 0 [] (omega arith) (All-nil IsByte), omega arith)
+longer (suc n) = let (bytes, are, h) = longer n in (0 ∷ bytes, All-cons IsByte 0 bytes (omega arith) are, omega arith)
+
+-- of a file with more bytes than a limit, some such bytes
+long_bytes : (limit : ℕ) (told : Option (List ℕ)) → IfSome told (λ all. limit < length all) → (bytes : List ℕ) × MayHave told bytes × (limit < length bytes)
+long_bytes limit None h = longer limit
+long_bytes limit (Some all) h = (all, refl, h)
+
+module _ (told : List ℕ → Option (List ℕ)) (name text : List ℕ) where
+  -- contents of files of which the one of this name has this text
+  pub with_text : List ℕ → List ℕ
+  with_text other = if bytes_eq other name then text else unwrap_or (told other) []
+
+  pub text_is_there : with_text name ≡ text
+  unfolding with_text
+  text_is_there = let same = (bytes_eq-Decides name name).1 refl in rw same refl
+
+  pub with_text_may_be : MayHave (told name) text → MayContain told with_text
+  unfolding with_text
+  with_text_may_be may other = go (bytes_eq other name) refl where
+    go : (b : Bool) → bytes_eq other name ≡ b → MayHave (told other) (if b then text else unwrap_or (told other) [])
+    go true e = let same : other ≡ name = (bytes_eq-Decides other name).0 e in subst (λ n. MayHave (told n) text) (sym same) may
+    go false e = may_have_some (told other)
+
+-- ---- files that are read whole
+
+module _ (told : Option (List ℕ)) (limit before after : ℕ) (started : Type 0) (rest : Option (List ℕ)) where
+  -- a file that was read: its bytes are no more than the limit, and nothing failed
+  pub file_read : (bytes : Vec ℕ Global) → ReadsWhole told limit before after started rest (Ok bytes)
+      → MayHave told bytes.items × (vec_len bytes ≤ limit) × (after ≡ before)
+  file_read bytes (is_whole whole are short calm opened left) = (may_have_read told bytes.items whole are, short, calm)
+
+  module _ {T V : Type 0} (Stage : Outcome V Refusal → Type 0) (IsFor : V → T → Type 0) where
+    -- a file that was not read: it failed, or the stage refuses some bytes that it may have
+    pub file_unread : (name : List ℕ) (too_long : Refusal) (error : ReadError) → ReadsWhole told limit before after started rest (Err error)
+        → ((bytes : List ℕ) → MayHave told bytes → limit < length bytes → Stage (refused too_long))
+        → FindsInFiles (change before after) (IsOneOf (name ∷ [])) Stage IsFor (Err (of_unread too_long error))
+    file_unread name too_long read.Fault (has_failed failed) long = files_fail failed.rose (name, Contains-head name [])
+    file_unread name too_long read.TooLong (is_too_long more calm opened left) long =
+        let (bytes, may, h) = long_bytes limit told more in files_serve calm (refuses (gives_refusal (long bytes may h)))
+    file_unread name too_long read.Memory (has_no_memory calm opened left) long = files_serve calm no_memory
+
+-- ---- maps
+
+module _ (told : List ℕ → Option (List ℕ)) where
+  -- the text of a map that a file may have
+  pub map_of_text : (layout name : List ℕ) (top : Option (List ℕ)) (text : List ℕ) → MayHave (told name) text
+      → (outcome : Outcome LayerMap Refusal) → MapTextComesTo text outcome → MapMayCome told (Mapped layout name top) outcome
+  map_of_text layout name top text may outcome comes = record {
+    bytes = with_text told name text;
+    may_be = with_text_may_be told name text may;
+    comes = rw (text_is_there told name text) comes;
+  }
+
+  -- the map of one metal
+  pub one_metal_found : (task : Task) (layout : List ℕ) (layer datatype radius : ℕ) (top : Option (List ℕ)) (made : Map)
+      → task ≡ OneMetal layout layer datatype radius top → layer_map_of made ≡ one_metal_map layer datatype radius → Finds (MapMayCome told task) IsMapOf (Ok made)
+  one_metal_found task layout layer datatype radius top made is same = gives (gives_thing {v = layer_map_of made} may refl) where
+    may : MapMayCome told task (value (layer_map_of made))
+    may = record { bytes = λ name. unwrap_or (told name) []; may_be = λ name. may_have_some (told name); comes = rw is (ap value same) }

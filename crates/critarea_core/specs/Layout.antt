@@ -2,14 +2,13 @@
 use Rattle.std.specs.Prelude.{ℕ, List, map, flat_map, Option, ◌≡◌}
 use Rattle.first_refusal.specs.Outcomes.{Outcome, Retold, Then}
 use Rattle.first_refusal.specs.Checks.{Checks}
-use Rattle.geo_core.specs.Turns.{PlanePoint}
-use Rattle.gds_syntax.specs.FirstFault.{BytesComeTo}
-use Rattle.gds_syntax.specs.declared.library.Library.{Library}
-use Rattle.layer_map.specs.LayerMap.{LayerMap}
+use Rattle.library_grammar.specs.FirstFault.{BytesComeTo}
+use Rattle.library_model.specs.declared.library.Library.{Library}
+use Rattle.map_model.specs.LayerMap.{LayerMap}
 use Rattle.flatten.specs.Placements.{Placing}
 use Rattle.flatten.specs.Routes.{Route}
-use Rattle.flatten.specs.Steps.{moved_along, plane_point}
-use Rattle.rect_cover.specs.Coverings.{ShapeCheck, ShapeHolds, checks_of, shape_fault}
+use Rattle.rect_cover.specs.ShapeChecks.{ShapeCheck, ShapeHolds, checks_of, shape_fault}
+use Rattle.critarea_core.specs.Coverage.{route_points}
 use Rattle.critarea_core.specs.Refusals.{of_cover_fault, of_place_fault, of_syntax_fault}
 use Rattle.critarea_core.specs.declared.refusal.Refusal.{Refusal}
 
@@ -17,10 +16,6 @@ use Rattle.critarea_core.specs.declared.refusal.Refusal.{Refusal}
 pub record Subject : Type 0 where
   pub layer_map : LayerMap
   pub routes : List Route
-
--- where a route moves the points of its shape
-abbrev pub route_points : Route → List PlanePoint
-route_points route = map (λ point. moved_along route.steps (plane_point point)) route.shape.points
 
 -- a check of the shape in which a route ends
 abbrev pub RouteCheck : Type 0
@@ -32,7 +27,7 @@ route_checks = flat_map (λ route. map (λ check. (route, check)) (checks_of rou
 
 -- what each demands of the shape where it is placed
 abbrev pub RouteHolds : RouteCheck → Type 0
-RouteHolds of_route = ShapeHolds of_route.0.shape.kind (route_points of_route.0) of_route.1
+RouteHolds of_route = ShapeHolds (route_points of_route.0) of_route.1
 
 -- the refusal that each gives where it fails
 abbrev pub route_refusal : RouteCheck → Refusal
@@ -40,11 +35,13 @@ route_refusal of_route = of_cover_fault (shape_fault of_route.0.shape.at of_rout
 
 -- the routes to shapes on layers of the map: whether each shape has a cover, and what a report on them is on
 abbrev pub RoutesComeTo : LayerMap → List Route → Outcome Subject Refusal → Type 0
-RoutesComeTo layer_map routes = Checks RouteHolds (route_checks routes) route_refusal (λ subject. subject ≡ record { layer_map = layer_map; routes = routes })
+RoutesComeTo layer_map routes =
+    Checks RouteHolds (route_checks routes) route_refusal (λ subject. subject ≡ record { layer_map = layer_map; routes = routes })
 
 -- a library, of which the structure of this name is wanted, or any: the routes to what it places, and then those
 abbrev pub LibraryComesTo : LayerMap → Option (List ℕ) → Library → Outcome Subject Refusal → Type 0
-LibraryComesTo layer_map wanted library = Then (Retold of_place_fault (Placing library.structures layer_map wanted)) (RoutesComeTo layer_map)
+LibraryComesTo layer_map wanted library =
+    Then (Retold of_place_fault (Placing library.structures layer_map wanted)) (RoutesComeTo layer_map)
 
 -- the bytes of a layout that is short enough: the library that they come to, and then that
 abbrev pub ShortLayoutComesTo : LayerMap → Option (List ℕ) → List ℕ → Outcome Subject Refusal → Type 0

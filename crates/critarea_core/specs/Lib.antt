@@ -1,13 +1,17 @@
--- the texts that a run reads
-pub mod Input
--- what a layout comes to
-pub mod Layout
+-- what files contain, and which texts a run reads
+pub mod Contents
+-- what a layout covers, and what it comes to
 pub mod Coverage
--- what an input comes to, and a run
-pub mod LayoutFaults
+pub mod Layout
+-- what words and contents come to, and a run
 pub mod Refusals
 pub mod Verdict
 pub mod Run
--- what parts of the code alone cite
-pub mod LayoutReaders
-pub mod Finding
+-- what the words ask for
+pub use Rattle.command_line.specs.OptionNames
+pub use Rattle.command_line.specs.Spelling
+pub use Rattle.command_line.specs.Numbers
+pub use Rattle.command_line.specs.Requests
+pub use Rattle.command_line.specs.WordsFaults
+-- what only this crate's proofs and private contracts cite
+pub mod inside

@@ -8,10 +8,8 @@ use Rattle.flatten.specs.PlaceFaults as place_faults
 use Rattle.flatten.specs.declared.fault.PlaceFault.{PlaceFault}
 use Rattle.rect_cover.specs.CoverFaults as cover_faults
 use Rattle.rect_cover.specs.declared.fault.CoverFault.{CoverFault}
-use Rattle.gds_syntax.specs.SyntaxFaults as syntax_faults
-use Rattle.gds_syntax.specs.declared.fault.SyntaxFault.{SyntaxFault}
-use Rattle.critarea_core.specs.LayoutFaults.{number_of, place_of}
-use Rattle.critarea_core.specs.declared.fault.LayoutFault.{LayoutFault}
+use Rattle.library_grammar.specs.SyntaxFaults as syntax_faults
+use Rattle.library_grammar.specs.declared.fault.SyntaxFault.{SyntaxFault}
 use Rattle.critarea_core.specs.declared.refusal.Refusal.{Refusal}
 
 -- a refusal of the words
@@ -53,10 +51,6 @@ layout_limit = 268435456
 -- the layout has more
 abbrev pub layout_too_long : Refusal
 layout_too_long = of_layout 9 layout_limit
-
--- the layout has a fault
-abbrev pub of_layout_fault : LayoutFault → Refusal
-of_layout_fault fault = of_layout (number_of fault) (place_of fault)
 
 -- its bytes are no library
 abbrev pub of_syntax_fault : SyntaxFault → Refusal

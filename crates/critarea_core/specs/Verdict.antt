@@ -1,20 +1,19 @@
--- the verdict on words and on the input that they name: the first refusal, or what a report is on
-use Rattle.std.specs.Prelude.{ℕ, List, [], ◌∷◌, ◌≡◌, ◌≤◌, length, Option, IfSome, IsSomeAnd}
+-- the verdict on words and on what files contain: the first refusal, or what a report is on
+use Rattle.std.specs.Prelude.{ℕ, List, [], ◌∷◌, ◌≡◌, ◌≤◌, length, Option}
 use Rattle.first_refusal.specs.Outcomes.{Outcome, value, Reads, Retold, Then}
 use Rattle.first_refusal.specs.Checks.{Checks}
 use Rattle.command_line.specs.Requests.{Ask}
 use Rattle.command_line.specs.declared.request.Request.{Request}
 use Rattle.command_line.specs.declared.task.Task.{Task}
 use Rattle.command_line.specs.declared.task.Task.TheVariants.{OneMetal, Mapped}
-use Rattle.gds_records.specs.Spelling.{AreBytes}
 use Rattle.layer_map.specs.Documents as document
-use Rattle.layer_map.specs.LayerMap.{LayerMap, one_metal_map}
-use Rattle.layer_map.specs.Paths.{cuts_path, terminals_path}
+use Rattle.map_model.specs.LayerMap.{LayerMap, one_metal_map}
+use Rattle.layer_map.specs.DocumentPaths.{cuts_path, terminals_path}
 use Rattle.critical_areas.specs.Rows.{AreRows}
 use Rattle.report.specs.Report.{report_text}
-use Rattle.report.specs.declared.row.Row.{Row}
+use Rattle.questions.specs.declared.row.Row.{Row}
 use Rattle.critarea_core.specs.Coverage.{IsCoveredOn}
-use Rattle.critarea_core.specs.Input.{Input, IsThere, sources_of, wanted_top}
+use Rattle.critarea_core.specs.Contents.{Contents, bytes_from, layout_source, wanted_top}
 use Rattle.critarea_core.specs.Layout.{Subject, ShortLayoutComesTo}
 use Rattle.critarea_core.specs.Refusals.{usage, map_limit, map_too_long, of_map_fault, map_not_supported, layout_limit, layout_too_long}
 use Rattle.critarea_core.specs.declared.refusal.Refusal.{Refusal}
@@ -55,10 +54,10 @@ ShortMapComesTo text = Then (Retold of_map_fault (document.MapComesTo text)) Rea
 abbrev pub MapTextComesTo : List ℕ → Outcome LayerMap Refusal → Type 0
 MapTextComesTo bytes = Then (Reads (IsShortEnough map_limit bytes) map_too_long) ShortMapComesTo
 
--- the layer map of a task, where this is the text of the map: that of one metal needs no text
-abbrev pub MapComesTo : Task → Option (List ℕ) → Outcome LayerMap Refusal → Type 0
-MapComesTo (OneMetal layout layer datatype radius top) text outcome = outcome ≡ value (one_metal_map layer datatype radius)
-MapComesTo (Mapped layout map top) text outcome = IsSomeAnd text (λ bytes. MapTextComesTo bytes outcome)
+-- the layer map of a task, where files that are read as maps contain this: that of one metal needs no file
+abbrev pub MapComesTo : Task → (List ℕ → List ℕ) → Outcome LayerMap Refusal → Type 0
+MapComesTo (OneMetal layout layer datatype radius top) bytes outcome = outcome ≡ value (one_metal_map layer datatype radius)
+MapComesTo (Mapped layout map top) bytes outcome = MapTextComesTo (bytes map) outcome
 
 -- the words: a request, or they fit no form of the command
 abbrev pub WordsComeTo : List (List ℕ) → Outcome Request Refusal → Type 0
@@ -66,34 +65,22 @@ WordsComeTo words = Reads (Ask words) usage
 
 -- the layout, of which a top is wanted: first its length, and then its bytes
 abbrev pub LayoutComesTo : LayerMap → Option (List ℕ) → List ℕ → Outcome Subject Refusal → Type 0
-LayoutComesTo layer_map wanted layout = Then (Reads (IsShortEnough layout_limit layout) layout_too_long) (ShortLayoutComesTo layer_map wanted)
+LayoutComesTo layer_map wanted layout =
+    Then (Reads (IsShortEnough layout_limit layout) layout_too_long) (ShortLayoutComesTo layer_map wanted)
 
--- the verdict: first the words, then the map, and then the layout, each of which is looked at only where what stands
--- before it is good
-abbrev pub IsVerdict : List (List ℕ) → Input → Outcome Subject Refusal → Type 0
-IsVerdict words input =
-    Then (WordsComeTo words) (λ request. Then (MapComesTo request.task input.map)
-    (λ layer_map outcome. IsSomeAnd input.layout (λ layout. LayoutComesTo layer_map (wanted_top request.task) layout outcome)))
+-- the verdict on words, where files contain this: first the words, then the map, and then the layout, each of which is looked
+-- at only where what stands before it is good
+abbrev pub IsVerdict : List (List ℕ) → Contents → Outcome Subject Refusal → Type 0
+IsVerdict words contents =
+    Then (WordsComeTo words) (λ request. Then (MapComesTo request.task contents.map)
+    (λ layer_map. LayoutComesTo layer_map (wanted_top request.task) (bytes_from contents.layout (layout_source request.task))))
 
--- the layout is looked at: the words ask for something, and its map is good
-pub record IsLayoutLookedAt (words : List (List ℕ)) (input : Input) : Type 0 where
-  pub request : Request
-  pub asked : Ask words request
-  pub layer_map : LayerMap
-  pub good : MapComesTo request.task input.map (value layer_map)
+-- the rows answer the questions of the subject's layer map on what its routes cover
+abbrev pub AreRowsOn : Subject → List Row → Type 0
+AreRowsOn subject = AreRows subject.layer_map (IsCoveredOn subject.layer_map subject.routes)
 
--- the input has each text that the words name and that is looked at
-abbrev pub HasTexts : List (List ℕ) → Input → Type 0
-HasTexts words input =
-    (request : Request) → Ask words request
-    → IsThere (sources_of request.task).map input.map × (IsLayoutLookedAt words input → IsThere (sources_of request.task).layout input.layout)
-
--- the layout, where it is there, is a string of bytes
-abbrev pub AreBytesThere : Option (List ℕ) → Type 0
-AreBytesThere text = IfSome text AreBytes
-
--- the text is the report on the subject
+-- the text is the report on the subject: that of its rows
 pub record IsReportOn (subject : Subject) (text : List ℕ) : Type 0 where
   pub rows : List Row
-  pub are_rows : AreRows subject.layer_map (IsCoveredOn subject) rows
-  pub is_text : text ≡ report_text subject.layer_map.letter rows
+  pub are_rows : AreRowsOn subject rows
+  pub is_text : text ≡ report_text rows

@@ -2,25 +2,33 @@
 
 ghost use Rattle.std.specs.Prelude.{ℕ, ◌≡◌, List, Option};
 ghost use Rattle.first_refusal.specs.Laws.{IsUnique, CannotLack};
-ghost use Rattle.critarea_core.specs.Input.{Input};
+ghost use Rattle.first_refusal.specs.Outcomes.{value};
+ghost use Rattle.critarea_core.specs.Contents.{Contents, bytes_from, layout_source};
+ghost use Rattle.command_line.specs.Requests.{Ask};
+ghost use Rattle.command_line.specs.declared.request.Request.{Request};
+ghost use Rattle.lists.specs.ByteLists.{AreBytes};
 ghost use Rattle.critarea_core.specs.Layout.{Subject};
-ghost use Rattle.critarea_core.specs.Verdict.{AreBytesThere, HasTexts, IsReportOn, IsVerdict, LayoutComesTo};
-ghost use Rattle.layer_map.specs.LayerMap.{LayerMap};
+ghost use Rattle.critarea_core.specs.Verdict.{IsReportOn, IsVerdict, LayoutComesTo, MapComesTo};
+ghost use Rattle.map_model.specs.LayerMap.{LayerMap};
 
 /// A layer map, a top that is wanted or not, and the bytes of a layout come to one subject, or to one refusal, at most.
 pub fn layouts_agree()
     ensures { (layer_map : LayerMap) (wanted : Option (List ℕ)) (bytes : List ℕ) → IsUnique (LayoutComesTo layer_map wanted bytes) }
 {}
 
-/// Words and an input have one verdict at most.
+/// Words have one verdict at most, where files contain this.
 pub fn verdicts_agree()
-    ensures { (words : List (List ℕ)) (input : Input) → IsUnique (IsVerdict words input) }
+    ensures { (words : List (List ℕ)) (contents : Contents) → IsUnique (IsVerdict words contents) }
 {}
 
-/// Words and an input that has the texts which are looked at, each a string of bytes, have a verdict: it cannot be that they have
-/// none.
-pub fn inputs_have_verdicts()
-    ensures { (words : List (List ℕ)) (input : Input) → HasTexts words input → AreBytesThere input.layout → CannotLack (IsVerdict words input) }
+/// Words have a verdict where the layout that they ask for is a string of bytes, if it is looked at, as it is where the map
+/// is good: it cannot be that they have none.
+pub fn contents_have_verdicts()
+    ensures { (words : List (List ℕ)) (contents : Contents) →
+        ((request : Request) (layer_map : LayerMap) → Ask words request →
+        MapComesTo request.task contents.map (value layer_map) →
+        AreBytes (bytes_from contents.layout (layout_source request.task))) →
+        CannotLack (IsVerdict words contents) }
 {}
 
 /// A subject has one report at most.

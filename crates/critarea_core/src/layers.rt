@@ -1,10 +1,10 @@
 ghost use Rattle.std.specs.Prelude.{◌≡◌, ◌≤◌, ◌+◌, IfOk, length};
 ghost use Rattle.std.specs.List.{zip};
-ghost use Rattle.critarea_core.specs.LayoutReaders.{AreListsUpTo, rects_on as rects_on_layer};
+ghost use Rattle.critarea_core.specs.inside.LayoutReaders.{AreListsUpTo, rects_on as rects_on_layer};
 
 use flatten::Placed;
 use geo_core::{NoMemory, RectList};
-use net_extract::Layers;
+use map_model::Layers;
 use std::alloc::Global;
 
 /// The rectangles of the placed shapes that are on the layer with this number. The shapes have these covers.

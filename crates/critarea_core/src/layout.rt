@@ -1,17 +1,15 @@
-ghost use Rattle.std.specs.Prelude.{◌≡◌, ◌≢◌, ◌≤◌, ◌+◌, length, IfOk, IfErr, option_copied};
-ghost use Rattle.first_refusal.specs.Outcomes.{value, refused};
-ghost use Rattle.layer_map.specs.MapView.{layer_map_of};
-ghost use Rattle.critarea_core.specs.Layout.{ShortLayoutComesTo, Subject};
-ghost use Rattle.critarea_core.specs.LayoutReaders.{IsLaidOut};
-ghost use Rattle.critarea_core.specs.Refusals.{layout_limit, of_layout_fault};
-ghost use Rattle.critarea_core.specs.declared.fault.LayoutFault.TheVariants.{Memory};
+ghost use Rattle.std.specs.Prelude.{◌≡◌, ◌≤◌, ◌+◌, length, option_copied};
+ghost use Rattle.map_model.specs.MapView.{layer_map_of};
+ghost use Rattle.critarea_core.specs.inside.Finding.{Finds};
+ghost use Rattle.critarea_core.specs.Layout.{ShortLayoutComesTo};
+ghost use Rattle.critarea_core.specs.inside.LayoutReaders.{AreLayersFor};
+ghost use Rattle.critarea_core.specs.Refusals.{layout_limit};
 
-use super::fault::LayoutFault;
 use super::layers::layers_of;
+use super::unreported::Unreported;
 use flatten::place;
 use gds_syntax::read_library;
-use layer_map::Map;
-use net_extract::Layers;
+use map_model::{Layers, Map};
 use rect_cover::cover_all;
 use std::alloc::Global;
 use std::mem::drop;
@@ -25,21 +23,18 @@ fn count_of(map: &Map) -> u32
 }
 
 /// Rectangles of all cells that the shapes of a layout cover, a list for each layer of the map. The shapes are those that
-/// the top places: the structure of the wanted name, or the one that no reference names. The error is the first fault of
-/// the bytes, of the placement, or of the covers of the placed shapes. The bytes are let go once the library is read.
+/// the top places: the structure of the wanted name, or the one that no reference names. The refusal is that of the first
+/// fault of the bytes, of the placement, or of the covers of the placed shapes. The bytes are let go once the library is
+/// read.
 pub fn read_layout(
     rt: &(impl Threads + Sync),
     alloc: Global,
     map: &Map,
     top: Option<&[u8]>,
     bytes: Vec<u8>,
-) -> Result<Layers, LayoutFault>
+) -> Result<Layers, Unreported>
     requires { length bytes.items ≤ layout_limit }
-    ensures layers { IfOk result (λ layers. (subject : Subject)
-        × ShortLayoutComesTo (layer_map_of map.now) (option_copied top.entry) bytes.items (value subject)
-        × IsLaidOut (layer_map_of map.now) subject layers.lists.items) }
-    ensures refused { IfErr result (λ fault. fault ≢ Memory →
-        ShortLayoutComesTo (layer_map_of map.now) (option_copied top.entry) bytes.items (refused (of_layout_fault fault))) }
+    ensures { Finds (ShortLayoutComesTo (layer_map_of map.now) (option_copied top.entry) bytes.items) (AreLayersFor (layer_map_of map.now)) result }
 {
     let library = read_library(alloc, bytes.as_slice())?;
     drop(bytes);

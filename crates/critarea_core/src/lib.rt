@@ -2,7 +2,6 @@
 #![tactic(auto)]
 
 mod command;
-mod fault;
 pub mod laws;
 mod layers;
 mod layout;
@@ -12,4 +11,4 @@ mod refusal;
 mod unreported;
 
 pub use command::run;
-pub use command_line::Word;
+pub use command_line::{Request, Task, Word, WordsFault, read_words};

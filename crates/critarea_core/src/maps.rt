@@ -1,26 +1,25 @@
-ghost use Rattle.std.specs.Prelude.{◌≡◌, ℕ, List, [], ◌∷◌, Option};
+ghost use Rattle.std.specs.Prelude.{◌≡◌, ◌≤◌, ℕ, List, [], ◌∷◌, Option};
 ghost use Rattle.edge_io.specs.Bytes.{Appends};
 ghost use Rattle.command_line.specs.declared.task.Task.TheVariants.{Mapped};
-ghost use Rattle.critarea_core.specs.Finding.{IsMapFound, IsMapRead};
-ghost use Rattle.critarea_core.specs.Input.{file_name_of, sources_of};
-ghost use Rattle.critarea_core.specs.Run.{failures};
+ghost use Rattle.critarea_core.specs.Contents.{map_names};
+ghost use Rattle.critarea_core.specs.inside.Finding.{Finds, FindsInFiles, IsMapOf, IsOneOf, IsRadiusOf, MapMayCome};
+ghost use Rattle.critarea_core.specs.Run.{change};
+ghost use Rattle.critarea_core.specs.Verdict.{ShortMapComesTo};
 
 use super::refusal::{MAP_LIMIT, MAP_TOO_LONG, NOT_SUPPORTED, Refusal};
 use super::unreported::Unreported;
 use command_line::{Request, Task};
 use edge_io::{Files, read_whole};
 use layer_map::paths::{CUTS, TERMINALS};
-use layer_map::{Map, one_metal, read_map};
+use layer_map::read_map;
+use map_model::{Map, one_metal};
 use std::alloc::Global;
 
 /// The map that the bytes say, where it has no cuts and no terminals, which are not supported yet.
 fn supported_map(alloc: Global, bytes: &[u8]) -> Result<Map, Unreported>
-    ensures { IsMapRead bytes.now result }
+    ensures { Finds (ShortMapComesTo bytes.now) IsMapOf result }
 {
-    let map = match read_map(alloc, bytes) {
-        Ok(map) => map,
-        Err(fault) => return Err(Unreported::of_map(fault)),
-    };
+    let map = read_map(alloc, bytes)?;
     if !map.cuts.as_slice().is_empty() {
         return Err(Unreported::Refused(Refusal::of_map(NOT_SUPPORTED, u64::from(CUTS))));
     }
@@ -32,8 +31,8 @@ fn supported_map(alloc: Global, bytes: &[u8]) -> Result<Map, Unreported>
 
 /// The map in the file of this name, or why there is none.
 fn map_in<F: Files>(alloc: Global, files: &mut F, name: &[u8]) -> Result<Map, Unreported>
-    ensures found { (layout : List ℕ) (top : Option (List ℕ)) → IsMapFound (F.holds files.old) (Mapped layout name.now top)
-        (failures (F.faults files.old) (F.faults files.new)) result }
+    ensures found { (layout : List ℕ) (top : Option (List ℕ)) → FindsInFiles (change (F.faults files.old) (F.faults files.new))
+        (IsOneOf (name.now ∷ [])) (MapMayCome (F.holds files.old) (Mapped layout name.now top)) IsMapOf result }
     ensures starts { Appends (F.starts files.old) (F.starts files.new) (name.now ∷ []) }
     ensures holds { (n : List ℕ) → F.holds files.new n ≡ F.holds files.old n }
 {
@@ -50,8 +49,10 @@ fn map_in<F: Files>(alloc: Global, files: &mut F, name: &[u8]) -> Result<Map, Un
 /// The map that is asked for, or why there is none: that of one metal is made, and any other is in the file that is
 /// named.
 pub fn map_for<F: Files>(alloc: Global, request: &Request, files: &mut F) -> Result<Map, Unreported>
-    ensures found { IsMapFound (F.holds files.old) request.now.task (failures (F.faults files.old) (F.faults files.new)) result }
-    ensures starts { Appends (F.starts files.old) (F.starts files.new) (file_name_of (sources_of request.now.task).map) }
+    requires { IsRadiusOf request.now.task }
+    ensures found { FindsInFiles (change (F.faults files.old) (F.faults files.new)) (IsOneOf (map_names request.now.task))
+        (MapMayCome (F.holds files.old) request.now.task) IsMapOf result }
+    ensures starts { Appends (F.starts files.old) (F.starts files.new) (map_names request.now.task) }
     ensures holds { (name : List ℕ) → F.holds files.new name ≡ F.holds files.old name }
 {
     match &request.task {

@@ -1,10 +1,9 @@
-use super::fault::LayoutFault;
 use super::refusal::Refusal;
 use edge_io::ReadError;
 use flatten::PlaceFault;
 use gds_syntax::SyntaxFault;
-use geo_core::NoMemory;
 use layer_map::MapFault;
+use lists::NoMemory;
 use rect_cover::CoverFault;
 use thiserror::Error;
 
@@ -22,6 +21,22 @@ pub enum Unreported {
     Memory,
 }
 
+impl Unreported {
+    ghost use Rattle.std.specs.Prelude.{◌≡◌};
+    ghost use Rattle.critarea_core.specs.inside.Finding.{of_unread};
+
+    /// Why there is no report where a file was not read. `too_long` is the refusal of a file that is too long.
+    pub fn of_unread(error: ReadError, too_long: Refusal) -> Unreported
+        ensures { result ≡ of_unread too_long error }
+    {
+        match error {
+            ReadError::Fault => Unreported::FilesFailed,
+            ReadError::TooLong => Unreported::Refused(too_long),
+            ReadError::Memory => Unreported::Memory,
+        }
+    }
+}
+
 impl From<NoMemory> for Unreported {
     ghost use Rattle.std.specs.Prelude.{◌≡◌};
     ghost use Rattle.critarea_core.specs.declared.unreported.Unreported.TheVariants.{Memory};
@@ -33,41 +48,62 @@ impl From<NoMemory> for Unreported {
     }
 }
 
-impl Unreported {
-    ghost use Rattle.std.specs.Prelude.{◌≡◌};
-    ghost use Rattle.critarea_core.specs.Finding.{of_bad_map, of_unfit_layout, of_unread};
+impl From<MapFault> for Unreported {
+    ghost use Rattle.critarea_core.specs.inside.Finding.{IsToldAs};
+    ghost use Rattle.critarea_core.specs.Refusals.{of_map_fault};
+    ghost use Rattle.layer_map.specs.declared.fault.MapFault.TheVariants.{Memory as map_memory};
 
-    /// Why there is no report where a map was not read.
-    pub fn of_map(fault: MapFault) -> Unreported
-        ensures { result ≡ of_bad_map fault }
-    {
+    ghost from_gives = { λ fault why. IsToldAs map_memory of_map_fault fault why };
+
+    fn from(fault: MapFault) -> Unreported {
         match fault {
             MapFault::Memory => Unreported::Memory,
             _ => Unreported::Refused(Refusal::of_map(fault.number(), fault.place())),
         }
     }
+}
 
-    /// Why there is no report where a layout was not read.
-    pub fn of_layout(fault: LayoutFault) -> Unreported
-        ensures { result ≡ of_unfit_layout fault }
-    {
+impl From<SyntaxFault> for Unreported {
+    ghost use Rattle.critarea_core.specs.inside.Finding.{IsToldAs};
+    ghost use Rattle.critarea_core.specs.Refusals.{of_syntax_fault};
+    ghost use Rattle.library_grammar.specs.declared.fault.SyntaxFault.TheVariants.{Memory as syntax_memory};
+
+    ghost from_gives = { λ fault why. IsToldAs syntax_memory of_syntax_fault fault why };
+
+    fn from(fault: SyntaxFault) -> Unreported {
         match fault {
-            LayoutFault::Memory
-            | LayoutFault::Syntax(SyntaxFault::Memory)
-            | LayoutFault::Place(PlaceFault::Memory)
-            | LayoutFault::Cover(CoverFault::Memory) => Unreported::Memory,
+            SyntaxFault::Memory => Unreported::Memory,
             _ => Unreported::Refused(Refusal::of_layout(fault.number(), fault.place())),
         }
     }
+}
 
-    /// Why there is no report where a file was not read. `too_long` is the refusal of a file that is too long.
-    pub fn of_unread(error: ReadError, too_long: Refusal) -> Unreported
-        ensures { result ≡ of_unread too_long error }
-    {
-        match error {
-            ReadError::Fault => Unreported::FilesFailed,
-            ReadError::TooLong => Unreported::Refused(too_long),
-            ReadError::Memory => Unreported::Memory,
+impl From<PlaceFault> for Unreported {
+    ghost use Rattle.critarea_core.specs.inside.Finding.{IsToldAs};
+    ghost use Rattle.critarea_core.specs.Refusals.{of_place_fault};
+    ghost use Rattle.flatten.specs.declared.fault.PlaceFault.TheVariants.{Memory as place_memory};
+
+    ghost from_gives = { λ fault why. IsToldAs place_memory of_place_fault fault why };
+
+    fn from(fault: PlaceFault) -> Unreported {
+        match fault {
+            PlaceFault::Memory => Unreported::Memory,
+            _ => Unreported::Refused(Refusal::of_layout(fault.number(), fault.place())),
+        }
+    }
+}
+
+impl From<CoverFault> for Unreported {
+    ghost use Rattle.critarea_core.specs.inside.Finding.{IsToldAs};
+    ghost use Rattle.critarea_core.specs.Refusals.{of_cover_fault};
+    ghost use Rattle.rect_cover.specs.declared.fault.CoverFault.TheVariants.{Memory as cover_memory};
+
+    ghost from_gives = { λ fault why. IsToldAs cover_memory of_cover_fault fault why };
+
+    fn from(fault: CoverFault) -> Unreported {
+        match fault {
+            CoverFault::Memory => Unreported::Memory,
+            _ => Unreported::Refused(Refusal::of_layout(fault.number(), fault.place())),
         }
     }
 }

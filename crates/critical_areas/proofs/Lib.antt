@@ -1,9 +1,7 @@
-pub mod ListLaws
 pub mod WindowLaws
 pub mod SizeLaws
 pub mod PieceLaws
-pub mod GainLaws
+pub mod PartLaws
 pub mod FaultLaws
-pub mod QuestionLaws
 pub mod RowLaws
 pub mod UniqueLaws

@@ -1,54 +1,29 @@
--- the rows of shorts and of opens are the rows of a layer map without cuts and terminals
-use Rattle.std.proofs.Common.{ℕ, ◌≡◌, sym, ap, ◌∙◌, subst, List, [], ◌∷◌, ◌++◌, length, append-nil}
-use Rattle.std.specs.Prelude.{Option, map, ◌↔◌}
-use Rattle.std.specs.List.{AllZip, enumerate_from}
+-- rows by amounts, and what rows of a layer map without cuts and terminals stand on
+use Rattle.std.proofs.Common.{ℕ, ◌≡◌, sym, subst, List, [], ◌∷◌}
+use Rattle.std.specs.Prelude.{map, ◌↔◌}
+use Rattle.std.specs.List.{AllZip}
 use Rattle.geo_core.specs.declared.plane.Cell.{Cell}
-use Rattle.geo_core.specs.declared.plane.Labelled.{Labelled}
-use Rattle.geo_core.specs.declared.plane.Rect.{Rect}
-use Rattle.fault_model.specs.Areas.{IsCovered, IsWindowOf, cells_of_window}
-use Rattle.fault_model.proofs.TallyLaws.{Tally-same_all}
+use Rattle.fault_model.specs.Areas.{IsCovered, cells_of_window}
 use Rattle.fault_model.proofs.WindowLaws.{IsWindowOf-same}
-use Rattle.layer_map.specs.LayerMap.{LayerMap, MappedLayer, radius_size, reach_of}
-use Rattle.critical_areas.specs.GainedRows.{GainsRows, IsShortRow, IsEmptyRow}
-use Rattle.critical_areas.specs.Pieces.{ArePiecesOf}
-use Rattle.critical_areas.specs.Questions.{Question, question_of, of_kind, questions}
-use Rattle.critical_areas.specs.Rows.{Answers, AreRows}
-use Rattle.critical_areas.proofs.GainLaws.{GainsRows-append}
-use Rattle.report.specs.declared.kind.Kind.TheVariants.{Short, Open, Via}
-use Rattle.report.specs.declared.row.Row.{Row}
-use Rattle.critical_areas.proofs.FaultLaws.{touch_is_short, answers_follow, empty_answers}
-use Rattle.critical_areas.proofs.QuestionLaws.{GainsRows-sizes, GainsRows-same}
+use Rattle.map_model.specs.LayerMap.{LayerMap, reach_of}
+use Rattle.questions.specs.Questions.{IsRowFor, questions}
+use Rattle.questions.specs.declared.question.Question.{Question}
+use Rattle.critical_areas.specs.Rows.{Answers, AreRows, AreRowsOf, IsAmount}
+use Rattle.questions.specs.declared.row.Row.{Row}
+use Rattle.critical_areas.proofs.FaultLaws.{answers_follow}
 
--- the rows of shorts of one metal answer its questions
-pub GainsRows-shorts : (layer_map : LayerMap) → layer_map.cuts ≡ [] → (covers : ℕ → Cell → Type 0) (m : ℕ) (layer : MappedLayer) (pieces : List Labelled) (cells : List Cell) → ArePiecesOf (covers m) pieces → (weighed : List (ℕ × ℕ)) (old new : List Row) → GainsRows (IsShortRow layer.name pieces cells) weighed old new → GainsRows (Answers layer_map covers cells) (map (question_of Short (m, layer)) (map radius_size weighed)) old new
-GainsRows-shorts layer_map no_cuts covers m layer pieces cells are = GainsRows-sizes (IsShortRow layer.name pieces cells) (Answers layer_map covers cells) Short (m, layer)
-    (λ weighed row s. record { is_for = s.is_for; area = Tally-same_all cells row.area (touch_is_short layer_map no_cuts covers m pieces are weighed.0) s.area })
+-- rows that name what the questions do, with the amounts as their areas, answer the questions
+pub rows_answer : (layer_map : LayerMap) (covers : ℕ → Cell → Type 0) (cells : List Cell) (qs : List Question) (amounts : List ℕ) (rows : List Row)
+    → AreRowsOf qs amounts rows → AllZip (IsAmount layer_map covers cells) qs amounts → AllZip (Answers layer_map covers cells) qs rows
+rows_answer layer_map covers cells qs amounts rows are counted = each qs rows are.named (subst (AllZip (IsAmount layer_map covers cells) qs) (sym are.areas) counted) where
+  each : (qs : List Question) (rows : List Row) → AllZip IsRowFor qs rows → AllZip (IsAmount layer_map covers cells) qs (map (λ (row : Row). row.area) rows)
+      → AllZip (Answers layer_map covers cells) qs rows
+  each [] [] h g = tt
+  each [] (row ∷ rows) h g = absurd h
+  each (q ∷ qs) [] h g = absurd h
+  each (q ∷ qs) (row ∷ rows) h g = (record { is_for = h.0; area = g.0 }, each qs rows h.1 g.1)
 
 module _ (layer_map : LayerMap) (no_cuts : layer_map.cuts ≡ []) (no_terminals : layer_map.terminals ≡ []) where
-  module _ (covers : ℕ → Cell → Type 0) (window : Option Rect) (mid rows : List Row) where
-    abbrev shorts : List Question
-    shorts = of_kind Short (enumerate_from 0 layer_map.metals) layer_map.sizes
-
-    abbrev opens : List Question
-    opens = of_kind Open (enumerate_from 0 layer_map.metals) layer_map.sizes
-
-    abbrev Answered : Question → Row → Type 0
-    Answered = Answers layer_map covers (cells_of_window window)
-
-    asked : questions layer_map ≡ shorts ++ opens
-    asked = ap (λ cuts. shorts ++ opens ++ of_kind Via (enumerate_from (length layer_map.metals) (map (λ cut. cut.mapped) cuts)) layer_map.sizes) no_cuts ∙ append-nil (shorts ++ opens)
-
-    -- the rows of shorts, and then those of opens, are the rows of the report
-    pub all_rows : IsWindowOf (IsCovered covers) (reach_of layer_map) window → GainsRows Answered shorts [] mid → GainsRows (λ q. IsEmptyRow Open q.name q.size q.weight) opens mid rows → AreRows layer_map covers rows
-    all_rows is_window front q =
-        let back = GainsRows-same Open (λ question. IsEmptyRow Open question.name question.size question.weight) Answered (λ question row. empty_answers layer_map no_cuts no_terminals covers (cells_of_window window) question row) (enumerate_from 0 layer_map.metals) layer_map.sizes mid rows q in
-        let whole = GainsRows-append Answered shorts opens [] mid rows front back in
-        record {
-          window = window;
-          is_window = is_window;
-          answers = subst (λ qs. AllZip Answered qs rows) (sym asked) (subst (λ rs. AllZip Answered (shorts ++ opens) rs) (sym whole.appended) whole.suits);
-        }
-
   module _ (one other : ℕ → Cell → Type 0) (same : (number : ℕ) (c : Cell) → one number c ↔ other number c) where
     all_follow : (cells : List Cell) (qs : List Question) (rows : List Row) → AllZip (Answers layer_map one cells) qs rows → AllZip (Answers layer_map other cells) qs rows
     all_follow cells [] [] h = tt

@@ -1,31 +1,19 @@
 -- the sizes of a map, which are radii with their weights
 use Rattle.std.proofs.Common.{ℕ, suc, ◌+◌, ◌-◌, ◌/◌, ◌≤◌, ◌<◌, ◌≡◌, refl, sym, ap, subst, ◌∙◌, List, [], ◌∷◌, length, get_or, arith}
-use Rattle.std.specs.Prelude.{Some, map, fold, max, slice_get}
-use Rattle.std.specs.List.{zip}
+use Rattle.std.specs.Prelude.{map, fold, max}
 use Rattle.std.specs.List.Sorted.{IsStrictlyIncreasing}
-use Rattle.std.proofs.lemmas.Option.{slice_get-get_or}
-use Rattle.std.proofs.lemmas.Slice.Zip.{length-zip}
-use Rattle.layer_map.specs.MapView.{sizes_of}
-use Rattle.critical_areas.proofs.ListLaws.{slice_get-zip}
+use Rattle.map_model.specs.MapView.{sizes_of}
+use Rattle.map_model.specs.Measures.{side_of}
 
 half_twice : (n : ℕ) → (n + n) / 2 ≡ n
 half_twice n = omega arith
 
--- the radius and the weight at one place, and that there are no more of them than radii
-module _ (radii weights : List ℕ) (as_many : length weights ≡ length radii) (k : ℕ) where
-  pub size_at : k < length radii → slice_get (zip radii weights) k ≡ Some (get_or radii k 0, get_or weights k 0)
-  size_at small =
-      let within : k < length weights = omega arith in
-      slice_get-zip radii weights k (get_or radii k 0) (get_or weights k 0) (slice_get-get_or radii k 0 small) (slice_get-get_or weights k 0 within)
-
-  pub past_sizes : length radii ≤ k → length (zip radii weights) ≤ k
-  past_sizes past = omega (arith, length-zip radii weights)
-
 -- half of each side is the radius
-halves : (radii weights : List ℕ) → length weights ≡ length radii → map (λ size. size.side / 2) (sizes_of radii weights) ≡ radii
+halves : (radii weights : List ℕ) → length weights ≡ length radii → map (λ size. side_of size.measure / 2) (sizes_of radii weights) ≡ radii
 halves [] weights e = refl
 halves (r ∷ radii) [] e = absurd (omega arith)
-halves (r ∷ radii) (w ∷ weights) e = let rest = halves radii weights (omega arith) in ap (λ x. x ∷ map (λ size. size.side / 2) (sizes_of radii weights)) (half_twice r) ∙ ap (λ xs. r ∷ xs) rest
+halves (r ∷ radii) (w ∷ weights) e = let rest = halves radii weights (omega arith) in ap (λ x. x ∷ map (λ size. side_of size.measure / 2) (sizes_of radii weights)) (half_twice r)
+    ∙ ap (λ xs. r ∷ xs) rest
 
 -- the greatest of rising numbers is the last
 rest_rises : (x : ℕ) (xs : List ℕ) → IsStrictlyIncreasing (x ∷ xs) → IsStrictlyIncreasing xs
@@ -40,7 +28,8 @@ last_is_greatest a x (y ∷ xs) low rising =
     let next : x < y = rising 0 (omega arith) in
     last_is_greatest (max a x) y xs (omega arith) (rest_rises x (y ∷ xs) rising)
 
-pub greatest_radius : (radii weights : List ℕ) → 1 ≤ length radii → length weights ≡ length radii → IsStrictlyIncreasing radii → get_or radii (length radii - 1) 0 ≡ fold max 0 (map (λ size. size.side / 2) (sizes_of radii weights))
+pub greatest_radius : (radii weights : List ℕ) → 1 ≤ length radii → length weights ≡ length radii → IsStrictlyIncreasing radii
+    → get_or radii (length radii - 1) 0 ≡ fold max 0 (map (λ size. side_of size.measure / 2) (sizes_of radii weights))
 greatest_radius [] weights some e rising = absurd (omega arith)
 greatest_radius (r ∷ radii) weights some e rising =
     let last : length (r ∷ radii) - 1 ≡ length radii = omega arith in

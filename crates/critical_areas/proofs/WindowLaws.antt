@@ -6,16 +6,17 @@ use Rattle.std.proofs.lemmas.Grind.{flat_map-append}
 use Rattle.std.proofs.lemmas.List.{take_more}
 use Rattle.std.proofs.lemmas.List.Elements.{Contains-append_left, Contains-append_right, Contains-append_cases, Contains-push_cases}
 use Rattle.std.proofs.lemmas.Option.{get_or_from_slice_get, slice_get-get_or}
-use Rattle.paths.proofs.ListLaws.{Contains-none, Contains-first, Contains-rest, Contains-slice_get, number_of}
-use Rattle.geo_core.specs.Cells.{Has, ComesNear, IsJoin}
+use Rattle.geo_core.specs.Cells.{Has, ComesNear, IsInLayout, IsJoin}
 use Rattle.geo_core.specs.declared.plane.Cell.{Cell}
 use Rattle.geo_core.specs.declared.plane.Rect.{Rect}
 use Rattle.geo_core.proofs.RectLaws.{join_in_layout}
 use Rattle.fault_model.specs.Areas.{IsCovered, IsBoundsOf, IsWindow}
-use Rattle.fault_model.specs.Chains.{IsInUnion}
-use Rattle.net_extract.specs.Coverage.{IsCoveredIn}
-use Rattle.net_extract.proofs.ListLaws.{Contains-flat_map, Contains-unflat_map, taken_more}
-use Rattle.critical_areas.specs.Bounds.{AreBounds}
+use Rattle.geo_core.specs.Unions.{IsInUnion}
+use Rattle.geo_core.specs.Unions.{IsCoveredIn}
+use Rattle.critical_areas.specs.inside.LayoutBounds.{AreBounds}
+use Rattle.lists.proofs.Containing.{Contains-head, Contains-none, Contains-one, Contains-slice_get, Contains-tail, number_of}
+use Rattle.lists.proofs.Mapping.{Contains-flat_map, Contains-flat_map_from}
+use Rattle.lists.proofs.Reading.{taken_more}
 
 -- the union of rectangles, by what their list contains
 pub in_union : (rects : List Rect) (rect : Rect) (c : Cell) → Contains rects rect → Has rect c → IsInUnion rects c
@@ -24,32 +25,15 @@ in_union rects rect c among has = let number = number_of rects rect among in rec
 pub among_union : (rects : List Rect) (c : Cell) → (v : IsInUnion rects c) → Contains rects v.rect
 among_union rects c v = Contains-slice_get rects v.number v.rect v.at
 
--- ---- one list
-
--- bounds of the first rectangles, among all of them
-pub record AreBoundsUpTo (rects : List Rect) (n : ℕ) (box : Rect) : Type 0 where
-  pub all_in : (rect : Rect) → Contains (take n rects) rect → (c : Cell) → Has rect c → Has box c
-  pub least : (other : Rect) → ((c : Cell) → IsInUnion rects c → Has other c) → (c : Cell) → Has box c → Has other c
-
-pub bounds_start : (rects : List Rect) (first : Rect) → Contains rects first → AreBoundsUpTo rects 0 first
-bounds_start rects first among = record { all_in = λ rect h. absurd (Contains-none h); least = λ other f c h. f c (in_union rects first c among h) }
-
-pub bounds_more : (rects : List Rect) (n : ℕ) (rect box joined : Rect) → n < length rects → rect ≡ get_or rects n rect → IsJoin box rect joined → AreBoundsUpTo rects n box → AreBoundsUpTo rects (n + 1) joined
-bounds_more rects n rect box joined small is j b = record {
-  all_in = λ other h c has.
-      let more = take_more rects n rect small ∙ ap (λ x. take n rects ++ x ∷ []) (sym is) in
-      elim (Contains-push_cases (take n rects) rect other (subst (λ xs. Contains xs other) more h)) [
-        | inl before ↦ j.first c (b.all_in other before c has)
-        | inr here ↦ j.second c (subst (λ (x : Rect). Has x c) (sym here) has)
-      ];
-  least = λ other f. j.least other (b.least other f) (λ c h. f c (in_union rects rect c (n, small, sym is) h));
-}
-
-pub bounds_end : (rects : List Rect) (n : ℕ) (box : Rect) → length rects ≤ n → AreBoundsUpTo rects n box → IsBoundsOf (IsInUnion rects) box
-bounds_end rects n box past b = record {
-  all_in = λ c v. b.all_in v.rect (subst (λ xs. Contains xs v.rect) (sym (take_all n rects past)) (among_union rects c v)) c v.has;
-  least = b.least;
-}
+-- the bounds of one rectangle
+pub one_bounds : (rect : Rect) → IsInLayout rect → AreBounds (rect ∷ []) (Some rect)
+one_bounds rect within = (
+  record {
+    all_in = λ c v. subst (λ (one : Rect). Has one c) (sym (Contains-one rect v.rect (among_union (rect ∷ []) c v))) v.has;
+    least = λ other f c has. f c (in_union (rect ∷ []) rect c (Contains-head rect []) has);
+  },
+  within,
+)
 
 -- ---- two lists
 
@@ -101,13 +85,13 @@ read_list lists number list small is = get_or_from_slice_get lists number list [
 -- a list with an item is one of the lists
 is_listed : (lists : List (List Rect)) (number : ℕ) (rect : Rect) → Contains (get_or lists number []) rect → Contains lists (get_or lists number [])
 is_listed [] number rect h = absurd (Contains-none h)
-is_listed (list ∷ lists) zero rect h = Contains-first list lists
-is_listed (list ∷ lists) (suc number) rect h = Contains-rest list lists (get_or lists number []) (is_listed lists number rect h)
+is_listed (list ∷ lists) zero rect h = Contains-head list lists
+is_listed (list ∷ lists) (suc number) rect h = Contains-tail list lists (get_or lists number []) (is_listed lists number rect h)
 
 pub covered_is : (lists : List (List Rect)) (c : Cell) → IsInUnion (rects_of lists) c ↔ Covered lists c
 covered_is lists c = (
   λ v.
-      let found = Contains-unflat_map (λ list. list) lists v.rect (among_union (rects_of lists) c v) in
+      let found = Contains-flat_map_from (λ list. list) lists v.rect (among_union (rects_of lists) c v) in
       let number = number_of lists found.0 found.1 in
       let is : get_or lists number.0 [] ≡ found.0 = get_or_from_slice_get lists number.0 found.0 [] number.1 in
       (number.0, in_union (get_or lists number.0 []) v.rect c (subst (λ list. Contains list v.rect) (sym is) found.2) v.has),
@@ -130,5 +114,6 @@ no_window lists e c h =
     Contains-none (subst (λ xs. Contains xs v.rect) e (among_union (rects_of lists) c v))
 
 -- the bounds, grown
-pub window_from : (covered : Cell → Type 0) (box window : Rect) (by : ℤ) (reach : ℕ) → IsBoundsOf covered box → ((c : Cell) → Has window c ↔ ComesNear box by c) → by ≡ pos reach → IsWindow covered reach window
+pub window_from : (covered : Cell → Type 0) (box window : Rect) (by : ℤ) (reach : ℕ) → IsBoundsOf covered box → ((c : Cell) → Has window c ↔ ComesNear box by c) → by ≡ pos reach
+    → IsWindow covered reach window
 window_from covered box window by reach bounds grown e = record { box = box; bounds = bounds; grown = λ c. subst (λ x. Has window c ↔ ComesNear box x c) e (grown c) }

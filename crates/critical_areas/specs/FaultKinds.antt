@@ -4,14 +4,16 @@ use Rattle.geo_core.specs.declared.plane.Cell.{Cell}
 use Rattle.fault_model.specs.Nets.{Cut}
 use Rattle.fault_model.specs.Faults.{IsShort, IsViaBlock}
 use Rattle.fault_model.specs.Vias.{IsViasOpen}
-use Rattle.layer_map.specs.LayerMap.{LayerMap}
+use Rattle.map_model.specs.LayerMap.{LayerMap}
 use Rattle.net_extract.specs.Cuts.{cuts_of, terminal_cuts_of}
-use Rattle.report.specs.declared.kind.Kind.{Kind}
-use Rattle.report.specs.declared.kind.Kind.TheVariants.{Short, Open, Via}
+use Rattle.questions.specs.declared.kind.Kind.{Kind}
+use Rattle.questions.specs.declared.kind.Kind.TheVariants.{Short, Open, Via}
 
 -- a defect of this side at the cell makes this fault on the metal or at the cut with this number, where each metal and
 -- each cut covers what `covers` says
 abbrev pub IsFault : LayerMap → (ℕ → Cell → Type 0) → Kind → ℕ → ℕ → Cell → Type 0
 IsFault layer_map covers Short number side c = IsShort covers (cuts_of layer_map) number side c
-IsFault layer_map covers Open number side c = IsViasOpen covers (terminal_cuts_of layer_map) (λ d. Contains layer_map.terminals (number, d)) number side c
-IsFault layer_map covers Via number side c = (cut : Cut) × Contains (cuts_of layer_map) cut × (cut.number ≡ number) × IsViaBlock covers cut side c
+IsFault layer_map covers Open number side c = IsViasOpen covers (terminal_cuts_of layer_map) (λ d. Contains layer_map.terminals (number, d))
+    number side c
+IsFault layer_map covers Via number side c = (cut : Cut) × Contains (cuts_of layer_map) cut × (cut.number ≡ number)
+    × IsViaBlock covers cut side c

@@ -1,8 +1,7 @@
 -- what contracts of other crates cite
+pub use Rattle.questions.specs.Questions
 pub mod FaultKinds
-pub mod Questions
+pub mod AreaParts
 pub mod Rows
--- what this crate alone cites
-pub mod Bounds
-pub mod Pieces
-pub mod GainedRows
+-- what only this crate's proofs and private contracts cite
+pub mod inside

@@ -1,26 +1,34 @@
 -- the rows that answer the questions of a layer map
-use Rattle.std.specs.Prelude.{ℕ, ◌≡◌, List, Option}
+use Rattle.std.specs.Prelude.{ℕ, ◌≡◌, List, Option, map}
 use Rattle.std.specs.List.{AllZip}
 use Rattle.geo_core.specs.declared.plane.Cell.{Cell}
 use Rattle.geo_core.specs.declared.plane.Rect.{Rect}
 use Rattle.fault_model.specs.Areas.{Tally, IsCovered, IsWindowOf, cells_of_window}
+use Rattle.map_model.specs.LayerMap.{LayerMap, reach_of}
+use Rattle.map_model.specs.Measures.{side_of}
+use Rattle.questions.specs.Questions.{IsRowFor, questions}
+use Rattle.questions.specs.declared.question.Question.{Question}
+use Rattle.questions.specs.declared.row.Row.{Row}
 use Rattle.critical_areas.specs.FaultKinds.{IsFault}
-use Rattle.layer_map.specs.LayerMap.{LayerMap, reach_of}
-use Rattle.critical_areas.specs.Questions.{Question, questions}
-use Rattle.report.specs.declared.kind.Kind.{Kind}
-use Rattle.report.specs.declared.row.Row.{Row}
 
--- the row is of this kind of fault, on the layer of this name, for defects of the size that is listed and its weight
-pub record IsRowFor (fault : Kind) (name : List ℕ) (listed weighing : ℕ) (row : Row) : Type 0 where
-  pub kind : row.kind ≡ fault
-  pub layer : row.layer ≡ name
-  pub size : row.size ≡ listed
-  pub weight : row.weight ≡ weighing
+-- so many of the cells have the fault that the question names
+abbrev pub IsAmount : LayerMap → (ℕ → Cell → Type 0) → List Cell → Question → ℕ → Type 0
+IsAmount layer_map covers cells question =
+    Tally (IsFault layer_map covers question.kind question.number (side_of question.measure)) cells
+
+-- one amount over the cells for each question of the map, in order
+abbrev pub AreAmounts : LayerMap → (ℕ → Cell → Type 0) → List Cell → List ℕ → Type 0
+AreAmounts layer_map covers cells = AllZip (IsAmount layer_map covers cells) (questions layer_map)
 
 -- the row has what the question names, and its area is how many of the cells have the fault
 pub record Answers (layer_map : LayerMap) (covers : ℕ → Cell → Type 0) (cells : List Cell) (question : Question) (row : Row) : Type 0 where
-  pub is_for : IsRowFor question.kind question.name question.size question.weight row
-  pub area : Tally (IsFault layer_map covers question.kind question.number question.side) cells row.area
+  pub is_for : IsRowFor question row
+  pub area : IsAmount layer_map covers cells question row.area
+
+-- one row for each question, in order, which names what the question does, and these amounts as the areas
+pub record AreRowsOf (asked : List Question) (amounts : List ℕ) (rows : List Row) : Type 0 where
+  pub named : AllZip IsRowFor asked rows
+  pub areas : map (λ row. row.area) rows ≡ amounts
 
 -- the window: what is covered, grown by the reach of the defects; there is none where nothing is covered
 abbrev pub IsWindowFor : LayerMap → (ℕ → Cell → Type 0) → Option Rect → Type 0

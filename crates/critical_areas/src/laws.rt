@@ -2,7 +2,7 @@
 
 ghost use Rattle.first_refusal.specs.Laws.{IsUnique};
 ghost use Rattle.critical_areas.specs.Rows.{AreRows};
-ghost use Rattle.layer_map.specs.LayerMap.{LayerMap};
+ghost use Rattle.map_model.specs.LayerMap.{LayerMap};
 
 use fault_model::Layout;
 

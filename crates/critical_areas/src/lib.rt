@@ -1,32 +1,39 @@
-//! The critical areas of a layer map over what its layers cover: the rows of a report.
+//! The critical areas of a layer map over what its layers cover, in three parts that also stand alone: `prepare` makes
+//! once what all areas need, `amounts` counts over any window, and `rows` puts amounts into the rows of a report.
 #![tactic(auto)]
 
+mod answering;
+mod counting;
 pub mod laws;
-mod pieces;
-mod rows;
+mod parts;
+mod preparing;
+mod shorts;
 mod window;
 
 ghost use Rattle.std.specs.Prelude.{[], ◌≡◌, ◌≤◌, ◌+◌, IfOk, All, length};
 ghost use Rattle.geo_core.specs.Cells.{IsInLayout};
-ghost use Rattle.net_extract.specs.Coverage.{IsCoveredIn};
+ghost use Rattle.geo_core.specs.Unions.{IsCoveredIn};
 ghost use Rattle.critical_areas.specs.Rows.{AreRows};
-ghost use Rattle.layer_map.specs.MapView.{layer_map_of};
-ghost use Rattle.report.specs.declared.row.TheConstants.{MOST_ROWS};
+ghost use Rattle.map_model.specs.MapView.{layer_map_of};
+ghost use Rattle.questions.specs.declared.row.TheConstants.{MOST_ROWS};
 
-use geo_core::NoMemory;
-use layer_map::Map;
-use net_extract::Layers;
-use report::Row;
-use rows::{push_opens, push_shorts};
+pub use answering::rows;
+pub use counting::amounts;
+use lists::NoMemory;
+use map_model::{Layers, Map};
+pub use parts::{Parts, PieceList};
+pub use preparing::prepare;
+use preparing::prepare_without_terminals;
+use questions::Row;
 use std::alloc::Global;
 use window::{reach, window_of};
 
 /// The rows of the report on what the rectangles cover, of which there is one list for each layer of the map: shorts of
 /// each metal, and then opens of each, for each size in order.
 ///
-/// An area is a number of cells of the window, which is what all layers cover, grown by the greatest radius. Each metal is
-/// judged by its own islands, so the map may have no cuts, and as it has no terminals either, all areas of opens are 0.
-/// The only error is that no memory is left.
+/// An area is a number of cells of the window, which is what all layers cover, grown by the greatest radius. Blocks of
+/// cuts and opens are not counted yet: the map may have no cuts and no terminals, and so all areas of opens are 0. The
+/// only error is that no memory is left.
 pub fn critical_areas(alloc: Global, map: &Map, layers: &Layers) -> Result<Vec<Row>, NoMemory>
     requires no_cuts { map.now.cuts ≡ [] }
     requires no_terminals { map.now.terminals ≡ [] }
@@ -35,10 +42,8 @@ pub fn critical_areas(alloc: Global, map: &Map, layers: &Layers) -> Result<Vec<R
     ensures rows { IfOk result (λ rows. AreRows (layer_map_of map.now) (IsCoveredIn layers.now.lists.items) rows.items) }
     ensures few { IfOk result (λ rows. length rows.items ≤ MOST_ROWS) }
 {
-    let lists = layers.lists.as_slice();
-    let window = window_of(lists, reach(map));
-    let mut rows = Vec::new(alloc);
-    push_shorts(alloc, map, lists, window, &mut rows)?;
-    push_opens(map, &mut rows)?;
-    Ok(rows)
+    let window = window_of(layers.lists.as_slice(), reach(map));
+    let parts = prepare_without_terminals(alloc, map, layers)?;
+    let amounts = amounts(alloc, &parts, window)?;
+    rows(alloc, &parts, &amounts)
 }

@@ -5,13 +5,13 @@ ghost use Rattle.geo_core.specs.Cells.{IsInLayout};
 ghost use Rattle.geo_core.specs.declared.bounds.TheConstants.{GREATEST_REACH};
 ghost use Rattle.geo_core.specs.declared.plane.Rect.{Rect as Rectangle};
 ghost use Rattle.fault_model.specs.Areas.{IsCovered, IsWindowOf};
-ghost use Rattle.net_extract.specs.Coverage.{IsCoveredIn};
-ghost use Rattle.critical_areas.specs.Bounds.{AreBounds};
-ghost use Rattle.layer_map.specs.LayerMap.{reach_of};
-ghost use Rattle.layer_map.specs.MapView.{layer_map_of};
+ghost use Rattle.geo_core.specs.Unions.{IsCoveredIn};
+ghost use Rattle.critical_areas.specs.inside.LayoutBounds.{AreBounds};
+ghost use Rattle.map_model.specs.LayerMap.{reach_of};
+ghost use Rattle.map_model.specs.MapView.{layer_map_of};
 
 use geo_core::{Rect, RectList, grow, join};
-use layer_map::Map;
+use map_model::Map;
 
 /// How far a defect of the map reaches at most: the greatest radius, which is the last.
 pub fn reach(map: &Map) -> u32
@@ -27,11 +27,11 @@ fn bounds_of(rects: &[Rect]) -> Option<Rect>
     requires { All IsInLayout rects.now }
     ensures { AreBounds rects.now result }
 {
-    let mut bounds = *rects.first()?;
+    let mut bounds = None;
     for rect in rects {
-        bounds = join(bounds, *rect);
+        bounds = bounds_of_both(bounds, Some(*rect));
     }
-    Some(bounds)
+    bounds
 }
 
 /// The bounds of two lists together, from those of each.

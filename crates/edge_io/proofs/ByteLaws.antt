@@ -47,5 +47,6 @@ appends_more (Some told) b c bytes at n h k =
     k ∙ ap (option_map (λ xs. xs ++ take n (drop at bytes))) h ∙ ap Some (simp (append_assoc, take-add at n bytes))
 
 -- the same, where the next bytes are those of the slice from `at` on
-pub written_more : (a b c : Option (List ℕ)) (bytes : List ℕ) (at n : ℕ) → Appends a b (take at bytes) → Appends b c (take n (take (length bytes - at) (drop at bytes))) → Appends a c (take (at + n) bytes)
+pub written_more : (a b c : Option (List ℕ)) (bytes : List ℕ) (at n : ℕ) → Appends a b (take at bytes) → Appends b c (take n (take (length bytes - at) (drop at bytes)))
+    → Appends a c (take (at + n) bytes)
 written_more a b c bytes at n h k = appends_more a b c bytes at n h (rw take_rest at k)

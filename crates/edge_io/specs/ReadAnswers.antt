@@ -1,6 +1,7 @@
 -- what the calls that read files come to
 use Rattle.std.specs.Prelude.{ℕ, ◌+◌, ◌≡◌, ◌≤◌, ◌<◌, List, length, Option, None, IfSome, Result, Ok, Err, Vec, vec_len}
 use Rattle.std.specs.Global.{Global}
+use Rattle.lists.specs.ByteLists.{AreBytes}
 use Rattle.edge_io.specs.Bytes.{Drops, DropsUpTo}
 use Rattle.edge_io.specs.FailureCounts.{Rose}
 use Rattle.edge_io.specs.declared.whole.ReadError.{ReadError}
@@ -14,9 +15,10 @@ pub record HasFailed (old new : ℕ) (started : Type 0) (rest : Option (List ℕ
 
 -- What a file that is read whole comes to, where these are its contents, if they are told: the answer, the count of
 -- failures before and after, whether the file is still started, and what is unread of it.
-pub data ReadsWhole (told : Option (List ℕ)) (limit before after : ℕ) (started : Type 0) (rest : Option (List ℕ)) : Result (Vec ℕ Global) ReadError → Type 0 where
+pub data ReadsWhole (told : Option (List ℕ)) (limit before after : ℕ) (started : Type 0) (rest : Option (List ℕ))
+    : Result (Vec ℕ Global) ReadError → Type 0 where
   -- these are all bytes, no more than the limit
-  is_whole : {bytes : Vec ℕ Global} → IfSome told (λ all. bytes.items ≡ all) → vec_len bytes ≤ limit
+  is_whole : {bytes : Vec ℕ Global} → IfSome told (λ all. bytes.items ≡ all) → AreBytes bytes.items → vec_len bytes ≤ limit
       → after ≡ before → started → Drops told rest (vec_len bytes) → ReadsWhole told limit before after started rest (Ok bytes)
   -- there are more than the limit, and one more was read
   is_too_long : IfSome told (λ all. limit < length all)

@@ -6,7 +6,7 @@ ghost use Rattle.edge_io.specs.Held.{contents_of, beginning_of, place_after, res
 
 use super::counts::{count_up, failure, is_listed};
 use super::files::{Failed, Files};
-use geo_core::Name;
+use lists::Name;
 
 /// Files in memory. Where two have one name, the first is meant.
 #[derive(Drop)]

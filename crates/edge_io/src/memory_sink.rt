@@ -3,7 +3,7 @@ ghost use Rattle.std.specs.Prelude.{◌≡◌, ◌≤◌, ◌<◌, ◌↔◌, �
 use super::counts::{count_up, failure, is_listed};
 use super::files::Failed;
 use super::sink::Sink;
-use geo_core::NoMemory;
+use lists::NoMemory;
 use std::alloc::Global;
 
 /// A sink in memory, of a fixed size: `with` takes all the memory that it will ever use.

@@ -1,4 +1,5 @@
 ghost use Rattle.std.specs.Prelude.{◌≡◌, ◌≤◌, ◌^◌, List, [], ◌∷◌, ℕ, OnOk, OnErr};
+ghost use Rattle.lists.specs.ByteLists.{AreBytes};
 ghost use Rattle.edge_io.specs.Bytes.{Appends, AppendsPrefix};
 ghost use Rattle.edge_io.specs.FailureCounts.{Rose};
 ghost use Rattle.edge_io.specs.ReadAnswers.{ReadsWhole};
@@ -60,11 +61,19 @@ pub fn read_whole<F: Files>(
         let room = buf.len().min(limit + 1 - whole.len());
         let count = files.read(&mut buf[..room])?;
         if count == 0 {
+            tell_bytes(whole.as_slice());
             return Ok(whole);
         }
         whole.extend_from_slice(&buf[..count])?;
     }
     Err(ReadError::TooLong)
+}
+
+/// Tells of items that they are bytes: contracts see a `u8` as a number without a bound.
+fn tell_bytes(bytes: &[u8])
+    ensures { AreBytes bytes.now }
+{
+    let _bytes = bytes;
 }
 
 /// Writes all bytes, and takes no memory.

@@ -28,13 +28,15 @@ row_1 c x (suc n) p q = by_lt_z x c.i
     (λ l. miss (λ e. let f = ap (λ (d : Cell). d.i) e in absurd (omega (arith, ints, f))) (row_1 c (x +ℤ pos 1) n (omega (arith, ints)) (omega (arith, ints))))
     (λ l. hit (same_cell (cell c.j x) c (omega (arith, ints)) refl) (row_0 c c.j (x +ℤ pos 1) n (λ i a b e. let f = ap (λ (d : Cell). d.i) e in absurd (omega (arith, ints, f)))))
 
-rows_0 : (c : Cell) (rect : Rect) (y : ℤ) (n : ℕ) → ((i j : ℤ) → y ≤ℤ j → j <ℤ (y +ℤ pos n) → rect.x0 ≤ℤ i → i <ℤ (rect.x0 +ℤ pos (or_zero (rect.x1 -ℤ rect.x0))) → cell j i ≡ c → ⊥) → Tally (Is c) (flat_map (row rect) (from y n)) 0
+rows_0 : (c : Cell) (rect : Rect) (y : ℤ) (n : ℕ) → ((i j : ℤ) → y ≤ℤ j → j <ℤ (y +ℤ pos n) → rect.x0 ≤ℤ i → i <ℤ (rect.x0 +ℤ pos (or_zero (rect.x1 -ℤ rect.x0))) → cell j i ≡ c → ⊥)
+    → Tally (Is c) (flat_map (row rect) (from y n)) 0
 rows_0 c rect y zero f = none
 rows_0 c rect y (suc n) f = Tally-append (row rect y) _ 0 0
     (row_0 c y rect.x0 (or_zero (rect.x1 -ℤ rect.x0)) (λ i p q. f i y (omega (arith, ints)) (omega (arith, ints)) p q))
     (rows_0 c rect (y +ℤ pos 1) n (λ i j p q. f i j (omega (arith, ints)) (omega (arith, ints))))
 
-rows_1 : (c : Cell) (rect : Rect) (y : ℤ) (n : ℕ) → rect.x0 ≤ℤ c.i → c.i <ℤ (rect.x0 +ℤ pos (or_zero (rect.x1 -ℤ rect.x0))) → y ≤ℤ c.j → c.j <ℤ (y +ℤ pos n) → Tally (Is c) (flat_map (row rect) (from y n)) 1
+rows_1 : (c : Cell) (rect : Rect) (y : ℤ) (n : ℕ) → rect.x0 ≤ℤ c.i → c.i <ℤ (rect.x0 +ℤ pos (or_zero (rect.x1 -ℤ rect.x0))) → y ≤ℤ c.j → c.j <ℤ (y +ℤ pos n)
+    → Tally (Is c) (flat_map (row rect) (from y n)) 1
 rows_1 c rect y zero a b p q = absurd (omega (arith, ints))
 rows_1 c rect y (suc n) a b p q = by_lt_z y c.j
     (λ l. Tally-append (row rect y) _ 0 1

@@ -10,7 +10,8 @@ use Rattle.geo_core.specs.declared.plane.Rect.{Rect}
 use Rattle.geo_core.proofs.RectLaws.{Touch-sym}
 use Rattle.fault_model.specs.Halves.{LiesIn, IsOn, Neighbours}
 use Rattle.fault_model.specs.Walks.{Walk}
-use Rattle.fault_model.specs.Chains.{HasNumber, IsInUnion, IsAt, TouchAt, AreChained}
+use Rattle.fault_model.specs.RectChains.{IsAt, TouchAt, AreChained}
+use Rattle.geo_core.specs.Unions.{HasNumber, IsInUnion}
 use Rattle.fault_model.proofs.HalfLaws.{one_cell, some_half, cells_of_neighbours, edge_halves}
 use Rattle.fault_model.proofs.LineLaws.{walk_in_rect}
 
@@ -54,7 +55,8 @@ walk_at : (rects : List Rect) (k : ℕ) (a : Rect) → HasNumber rects k a → (
 walk_at rects k a s p q h g = within (covered_by rects k a s) (walk_in_rect a p q h g)
 
 -- on from the one rectangle to the next
-cross : (rects : List Rect) (i : ℕ) (a b : Rect) (p q : Half) → HasNumber rects i a → IsOn (Has a) p → Bridge a b → ((x : Half) → IsOn (Has b) x → Walk (IsOn (IsInUnion rects)) x q) → Walk (IsOn (IsInUnion rects)) p q
+cross : (rects : List Rect) (i : ℕ) (a b : Rect) (p q : Half) → HasNumber rects i a → IsOn (Has a) p → Bridge a b → ((x : Half) → IsOn (Has b) x → Walk (IsOn (IsInUnion rects)) x q)
+    → Walk (IsOn (IsInUnion rects)) p q
 cross rects i a b p q s h (x, y, on_a, on_b, inl e) go = append (walk_at rects i a s p x h on_a) (go x (subst (IsOn (Has b)) (sym e) on_b))
 cross rects i a b p q s h (x, y, on_a, on_b, inr n) go = append (walk_at rects i a s p x h on_a) (step (covered_by rects i a s x on_a) n (go y on_b))
 

@@ -8,7 +8,7 @@ use Rattle.geo_core.specs.declared.plane.Half.{Half}
 use Rattle.fault_model.specs.Halves.{LiesIn, IsOn, IsTouched, IsSwallowed}
 use Rattle.fault_model.specs.Nets.{Cut, IsContact}
 use Rattle.fault_model.specs.Faults.{IsShort, IsOpen, IsViaBlock, IsSameCluster}
-use Rattle.fault_model.specs.Laws.{IsNearTwoNets, IsNearCluster}
+use Rattle.fault_model.specs.FaultConsequences.{IsNearTwoNets, IsNearCluster}
 use Rattle.paths.proofs.PathLaws.{append, within}
 use Rattle.geo_core.proofs.RectLaws.{same_cell}
 use Rattle.fault_model.proofs.HalfLaws.{cell_on}
@@ -36,7 +36,8 @@ module _ (covers : ℕ → Cell → Type 0) (s t : ℕ) (c : Cell) (larger : s �
   }
 
 -- what a larger defect spares, a smaller one spares
-pub open_grows : {Name : Type 0} (covered : Cell → Type 0) (Differ : Name → Name → Type 0) (terminal : Name → Half → Type 0) (s t : ℕ) (c : Cell) → s ≤ t → IsOpen covered Differ terminal s c → IsOpen covered Differ terminal t c
+pub open_grows : {Name : Type 0} (covered : Cell → Type 0) (Differ : Name → Name → Type 0) (terminal : Name → Half → Type 0) (s t : ℕ) (c : Cell) → s ≤ t → IsOpen covered Differ terminal s c
+    → IsOpen covered Differ terminal t c
 open_grows covered Differ terminal s t c larger o = record {
   one = o.one;
   other = o.other;

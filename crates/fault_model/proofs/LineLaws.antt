@@ -65,3 +65,6 @@ walk_in_rect a p q s t =
           let i = whole_in a.x0 a.x1 h.u x in
           let j = whole_in a.y0 a.y1 h.v y in
           (record { i = i.0; j = j.0 }, (i.1, j.1), record { across = i.2; up = j.2 })
+
+-- walks turn round
+pub ruleset turned_walks = (Walk-reverse)

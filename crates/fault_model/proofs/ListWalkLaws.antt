@@ -5,7 +5,7 @@ use Rattle.geo_core.specs.declared.plane.Half.{Half}
 use Rattle.fault_model.specs.Halves.{Neighbours}
 use Rattle.paths.specs.Paths.{stay, step}
 use Rattle.fault_model.specs.Walks.{Walk}
-use Rattle.fault_model.specs.Laws.{IsListWalk}
+use Rattle.fault_model.specs.FaultConsequences.{IsListWalk}
 
 some_is : (a b : Half) → Some a ≡ Some b → a ≡ b
 some_is a b e = cc e
@@ -36,7 +36,8 @@ pub to_list : {S : Half → Type 0} {p q : Half} → Walk S p q → IsListWalk S
 to_list (stay h) = alone h
 to_list (step h n w) = longer h n (to_list w)
 
-from : {S : Half → Type 0} (q : Half) (xs : List Half) (p : Half) (n : ℕ) → length xs ≡ suc n → slice_get xs 0 ≡ Some p → slice_get xs n ≡ Some q → ((k : ℕ) (h : Half) → slice_get xs k ≡ Some h → S h) → ((k : ℕ) (h g : Half) → slice_get xs k ≡ Some h → slice_get xs (suc k) ≡ Some g → Neighbours h g) → Walk S p q
+from : {S : Half → Type 0} (q : Half) (xs : List Half) (p : Half) (n : ℕ) → length xs ≡ suc n → slice_get xs 0 ≡ Some p → slice_get xs n ≡ Some q → ((k : ℕ) (h : Half) → slice_get xs k ≡ Some h → S h)
+    → ((k : ℕ) (h g : Half) → slice_get xs k ≡ Some h → slice_get xs (suc k) ≡ Some g → Neighbours h g) → Walk S p q
 from q [] p n l e f i m = absurd (omega arith)
 from {S} q (x ∷ []) p zero l e f i m = subst (Walk S p) (some_is p q (sym e ∙ f)) (stay (i 0 p e))
 from q (x ∷ []) p (suc n) l e f i m = absurd (cc f)

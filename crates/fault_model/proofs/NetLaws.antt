@@ -6,12 +6,12 @@ use Rattle.geo_core.specs.declared.plane.Half.{Half}
 use Rattle.fault_model.specs.Halves.{LiesIn, IsOn}
 use Rattle.paths.specs.Paths.{stay, step}
 use Rattle.fault_model.specs.Walks.{Walk, IsSameIsland}
-use Rattle.fault_model.specs.Laws.{IsEquivalenceOn}
+use Rattle.fault_model.specs.FaultConsequences.{IsEquivalenceOn}
 use Rattle.fault_model.specs.Nets.{Cut, Place, Joins, JoinMetals, NetStep, along, through, IsOnMetal, NetWalk, IsContact, IsSameNetOn}
 use Rattle.paths.proofs.PathLaws.{first, last, append, reverse}
 use Rattle.fault_model.proofs.HalfLaws.{Neighbours-sym}
 use Rattle.fault_model.proofs.LineLaws.{in_cell}
-use Rattle.paths.proofs.ListLaws.{Contains-none}
+use Rattle.lists.proofs.Containing.{Contains-none}
 
 end_below : (cut : Cut) (m n metals : ℕ) → (cut.lower < metals) × (cut.upper < metals) → Joins cut m n → n < metals
 end_below cut m n metals b (inl j) = omega arith

@@ -3,9 +3,9 @@ use Rattle.std.proofs.Common.{ℕ, suc, ◌≤◌, ◌≡◌, refl, subst, List,
 use Rattle.std.specs.Prelude.{Contains}
 use Rattle.geo_core.specs.declared.plane.Cell.{Cell}
 use Rattle.fault_model.specs.Areas.{Tally, none, hit, miss}
-use Rattle.paths.proofs.ListLaws.{Contains-first, Contains-cases}
 use Rattle.geo_core.proofs.RectLaws.{cells_equal_or_not}
-use Rattle.fault_model.proofs.TallyLaws.{Tally-unique, Tally-some, Tally-counts}
+use Rattle.fault_model.proofs.TallyLaws.{Tally-append, Tally-counts, Tally-grows, Tally-le-length, Tally-none, Tally-same, Tally-some, Tally-test, Tally-unique}
+use Rattle.lists.proofs.Containing.{Contains-cons_cases, Contains-head}
 
 abbrev Is : Cell → Cell → Type 0
 Is c = λ d. d ≡ c
@@ -25,7 +25,7 @@ Taken c es = (ds : List Cell) × IsInserted c ds es
 
 taken : (c : Cell) (es : List Cell) → Contains es c → Taken c es
 taken c [] (k, small, e) = absurd (omega arith)
-taken c (d ∷ es) h = elim (Contains-cases d es c h) [
+taken c (d ∷ es) h = elim (Contains-cons_cases d es c h) [
   | inl e ↦ subst (λ x. Taken x (d ∷ es)) e (es, front)
   | inr rest ↦ let t = taken c es rest in (d ∷ t.0, later t.1)
 ]
@@ -60,6 +60,9 @@ rest_as_often c cs ds es i same d k t = let found = times d ds in elim (cells_eq
 
 pub Tally-as_often : {P : Cell → Type 0} (cs ds : List Cell) (n : ℕ) → HasAsOften cs ds → Tally P cs n → Tally P ds n
 Tally-as_often [] [] n same none = none
-Tally-as_often [] (d ∷ ds) n same none = let h : 1 ≤ 0 = Tally-counts (d ∷ ds) 0 d (Contains-first d ds) refl (same d 0 none) in absurd (omega (arith, h))
+Tally-as_often [] (d ∷ ds) n same none = let h : 1 ≤ 0 = Tally-counts (d ∷ ds) 0 d (Contains-head d ds) refl (same d 0 none) in absurd (omega (arith, h))
 Tally-as_often (c ∷ cs) ds n same (hit {n = k} h t) = let o = out c cs ds same in counted k o.1 h (Tally-as_often cs o.0 k (rest_as_often c cs o.0 ds o.1 same) t)
 Tally-as_often (c ∷ cs) ds n same (miss h t) = let o = out c cs ds same in passed n o.1 h (Tally-as_often cs o.0 n (rest_as_often c cs o.0 ds o.1 same) t)
+
+-- the laws of tallies
+pub ruleset tally_laws = (Tally-append, Tally-unique, Tally-le-length, Tally-same, Tally-grows, Tally-none, Tally-test, Tally-as_often)

@@ -4,11 +4,11 @@ use Rattle.std.specs.Prelude.{ℤ, pos, negsuc, ◌+ℤ◌, ◌-ℤ◌, ◌≤�
 use Rattle.std.specs.List.{flat_map}
 use Rattle.std.proofs.lemmas.Int.{ints}
 use Rattle.std.proofs.lemmas.List.{length-append}
-use Rattle.paths.proofs.ListLaws.{Contains-none, Contains-first, Contains-rest, Contains-cases}
 use Rattle.geo_core.specs.Intervals.{IsIn}
 use Rattle.geo_core.specs.declared.plane.Cell.{Cell}
 use Rattle.fault_model.specs.Areas.{Tally, none, hit, miss, from, or_zero, range}
 use Rattle.fault_model.proofs.TallyLaws.{Tally-append}
+use Rattle.lists.proofs.Containing.{Contains-cons_cases, Contains-head, Contains-none, Contains-tail}
 
 -- ---- ranges
 
@@ -45,7 +45,7 @@ length-range low high n e = let a = or_zero_is (high -ℤ low) (omega (arith, in
 
 in_from : (x : ℤ) (n : ℕ) (y : ℤ) → Contains (from x n) y → IsIn x (x +ℤ pos n) y
 in_from x zero y h = absurd (Contains-none h)
-in_from x (suc n) y h = elim (Contains-cases x (from (x +ℤ pos 1) n) y h) [
+in_from x (suc n) y h = elim (Contains-cons_cases x (from (x +ℤ pos 1) n) y h) [
   | inl e ↦ record { from = omega (arith, ints); before = omega (arith, ints) }
   | inr rest ↦ let k = in_from (x +ℤ pos 1) n y rest in let a = k.from in let b = k.before in record { from = omega (arith, ints); before = omega (arith, ints) }
 ]
@@ -62,11 +62,11 @@ Contains-range low high some x h =
 module _ (P : Cell → Type 0) (cell : ℤ → Cell) where
   pub Tally-all : (xs : List ℤ) → ((x : ℤ) → Contains xs x → P (cell x)) → Tally P (map cell xs) (length xs)
   Tally-all [] all = none
-  Tally-all (x ∷ xs) all = hit (all x (Contains-first x xs)) (Tally-all xs (λ y h. all y (Contains-rest x xs y h)))
+  Tally-all (x ∷ xs) all = hit (all x (Contains-head x xs)) (Tally-all xs (λ y h. all y (Contains-tail x xs y h)))
 
   pub Tally-never : (xs : List ℤ) → ((x : ℤ) → Contains xs x → P (cell x) → ⊥) → Tally P (map cell xs) 0
   Tally-never [] never = none
-  Tally-never (x ∷ xs) never = miss (never x (Contains-first x xs)) (Tally-never xs (λ y h. never y (Contains-rest x xs y h)))
+  Tally-never (x ∷ xs) never = miss (never x (Contains-head x xs)) (Tally-never xs (λ y h. never y (Contains-tail x xs y h)))
 
 -- two properties that hold of the same of these cells have the same tally
 pub Tally-alike : (P Q : Cell → Type 0) (cell : ℤ → Cell) (xs : List ℤ) (n : ℕ) → ((x : ℤ) → P (cell x) ↔ Q (cell x)) → Tally P (map cell xs) n → Tally Q (map cell xs) n
@@ -79,7 +79,7 @@ pub Tally-times : (P : Cell → Type 0) (cells : ℤ → List Cell) (xs : List �
 Tally-times P cells [] n each = let e : 0 * n ≡ 0 = omega arith in rw e none
 Tally-times P cells (x ∷ xs) n each =
     let e : suc (length xs) * n ≡ n + length xs * n = omega arith in
-    rw e (Tally-append (cells x) _ n (length xs * n) (each x (Contains-first x xs)) (Tally-times P cells xs n (λ y h. each y (Contains-rest x xs y h))))
+    rw e (Tally-append (cells x) _ n (length xs * n) (each x (Contains-head x xs)) (Tally-times P cells xs n (λ y h. each y (Contains-tail x xs y h))))
 
 -- lists of the same length
 pub length-times : (cells : ℤ → List Cell) (xs : List ℤ) (n : ℕ) → ((x : ℤ) → length (cells x) ≡ n) → length (flat_map cells xs) ≡ length xs * n
@@ -95,5 +95,6 @@ module _ (P : Cell → Type 0) (cells : List ℤ → List Cell) where
   pub Tally-start : cells [] ≡ [] → (low low' : ℤ) → low' ≡ low → Tally P (cells (range low low')) 0
   Tally-start begins low low' e = rw (e, range-none low, begins) none
 
-  pub Tally-join : ((xs ys : List ℤ) → cells (xs ++ ys) ≡ cells xs ++ cells ys) → (low mid high : ℤ) (m n : ℕ) → low ≤ℤ mid → mid ≤ℤ high → Tally P (cells (range low mid)) m → Tally P (cells (range mid high)) n → Tally P (cells (range low high)) (m + n)
+  pub Tally-join : ((xs ys : List ℤ) → cells (xs ++ ys) ≡ cells xs ++ cells ys) → (low mid high : ℤ) (m n : ℕ) → low ≤ℤ mid → mid ≤ℤ high → Tally P (cells (range low mid)) m
+      → Tally P (cells (range mid high)) n → Tally P (cells (range low high)) (m + n)
   Tally-join splits low mid high m n h k s t = let e = ap cells (range-join low mid high h k) ∙ splits (range low mid) (range mid high) in rw e (Tally-append _ _ m n s t)

@@ -2,9 +2,9 @@
 use Rattle.std.proofs.Common.{ℕ, suc, ◌+◌, ◌≤◌, ◌≡◌, refl, sym, ap, subst, List, [], ◌∷◌, ◌++◌, length, Bool, true, false, cond, zero-add, arith, inl, inr}
 use Rattle.std.specs.Prelude.{Contains, IsTrue, count_by, ◌↔◌}
 use Rattle.std.proofs.lemmas.List.Sums.{sum_by-cons}
-use Rattle.paths.proofs.ListLaws.{Contains-first, Contains-rest, Contains-cases}
 use Rattle.geo_core.specs.declared.plane.Cell.{Cell}
 use Rattle.fault_model.specs.Areas.{Tally, none, hit, miss}
+use Rattle.lists.proofs.Containing.{Contains-cons_cases, Contains-head, Contains-tail}
 
 pub Tally-unique : {P : Cell → Type 0} (cells : List Cell) (m n : ℕ) → Tally P cells m → Tally P cells n → m ≡ n
 Tally-unique [] m n none none = refl
@@ -21,13 +21,13 @@ Tally-append (c ∷ cs) ds m n (miss h s) t = miss h (Tally-append cs ds m n s t
 -- the tally of a property that holds of no cell of the list
 pub Tally-none : {P : Cell → Type 0} (cells : List Cell) → ((c : Cell) → Contains cells c → P c → ⊥) → Tally P cells 0
 Tally-none [] never = none
-Tally-none (c ∷ cs) never = miss (never c (Contains-first c cs)) (Tally-none cs (λ d h. never d (Contains-rest c cs d h)))
+Tally-none (c ∷ cs) never = miss (never c (Contains-head c cs)) (Tally-none cs (λ d h. never d (Contains-tail c cs d h)))
 
 -- two properties that hold of the same cells of the list have the same tally
 pub Tally-same : {P Q : Cell → Type 0} (cells : List Cell) (n : ℕ) → ((c : Cell) → Contains cells c → P c ↔ Q c) → Tally P cells n → Tally Q cells n
 Tally-same [] n same none = none
-Tally-same (c ∷ cs) n same (hit {n = k} h t) = hit ((same c (Contains-first c cs)).0 h) (Tally-same cs k (λ d i. same d (Contains-rest c cs d i)) t)
-Tally-same (c ∷ cs) n same (miss h t) = miss (λ q. h ((same c (Contains-first c cs)).1 q)) (Tally-same cs n (λ d i. same d (Contains-rest c cs d i)) t)
+Tally-same (c ∷ cs) n same (hit {n = k} h t) = hit ((same c (Contains-head c cs)).0 h) (Tally-same cs k (λ d i. same d (Contains-tail c cs d i)) t)
+Tally-same (c ∷ cs) n same (miss h t) = miss (λ q. h ((same c (Contains-head c cs)).1 q)) (Tally-same cs n (λ d i. same d (Contains-tail c cs d i)) t)
 
 -- and so have two that hold of the same cells everywhere
 pub Tally-same_all : {P Q : Cell → Type 0} (cells : List Cell) (n : ℕ) → ((c : Cell) → P c ↔ Q c) → Tally P cells n → Tally Q cells n
@@ -36,10 +36,10 @@ Tally-same_all cells n same t = Tally-same cells n (λ c i. same c) t
 -- a property that holds wherever another does has no smaller tally
 pub Tally-grows : {P Q : Cell → Type 0} (cells : List Cell) (m n : ℕ) → ((c : Cell) → Contains cells c → P c → Q c) → Tally P cells m → Tally Q cells n → m ≤ n
 Tally-grows [] m n more none none = omega arith
-Tally-grows (c ∷ cs) m n more (hit {n = k} h s) (hit {n = l} i t) = let rest = Tally-grows cs k l (λ d a. more d (Contains-rest c cs d a)) s t in omega arith
-Tally-grows (c ∷ cs) m n more (hit h s) (miss i t) = absurd (i (more c (Contains-first c cs) h))
-Tally-grows (c ∷ cs) m n more (miss h s) (hit {n = l} i t) = let rest = Tally-grows cs m l (λ d a. more d (Contains-rest c cs d a)) s t in omega arith
-Tally-grows (c ∷ cs) m n more (miss h s) (miss i t) = Tally-grows cs m n (λ d a. more d (Contains-rest c cs d a)) s t
+Tally-grows (c ∷ cs) m n more (hit {n = k} h s) (hit {n = l} i t) = let rest = Tally-grows cs k l (λ d a. more d (Contains-tail c cs d a)) s t in omega arith
+Tally-grows (c ∷ cs) m n more (hit h s) (miss i t) = absurd (i (more c (Contains-head c cs) h))
+Tally-grows (c ∷ cs) m n more (miss h s) (hit {n = l} i t) = let rest = Tally-grows cs m l (λ d a. more d (Contains-tail c cs d a)) s t in omega arith
+Tally-grows (c ∷ cs) m n more (miss h s) (miss i t) = Tally-grows cs m n (λ d a. more d (Contains-tail c cs d a)) s t
 
 pub Tally-le-length : {P : Cell → Type 0} (cells : List Cell) (n : ℕ) → Tally P cells n → n ≤ length cells
 Tally-le-length [] n none = omega arith
@@ -62,12 +62,12 @@ module _ (test : Cell → Bool) where
 -- where a tally is not 0, the property holds of a cell of the list
 pub Tally-some : {P : Cell → Type 0} (cells : List Cell) (n : ℕ) → 1 ≤ n → Tally P cells n → (c : Cell) × Contains cells c × P c
 Tally-some [] n some none = absurd (omega arith)
-Tally-some (c ∷ cs) n some (hit h t) = (c, Contains-first c cs, h)
-Tally-some (c ∷ cs) n some (miss h t) = let rest = Tally-some cs n some t in (rest.0, Contains-rest c cs rest.0 rest.1, rest.2)
+Tally-some (c ∷ cs) n some (hit h t) = (c, Contains-head c cs, h)
+Tally-some (c ∷ cs) n some (miss h t) = let rest = Tally-some cs n some t in (rest.0, Contains-tail c cs rest.0 rest.1, rest.2)
 
 -- where it holds of one, the tally is not 0
 pub Tally-counts : {P : Cell → Type 0} (cells : List Cell) (n : ℕ) (d : Cell) → Contains cells d → P d → Tally P cells n → 1 ≤ n
 Tally-counts [] n d (k, small, e) p none = absurd (omega arith)
 Tally-counts (c ∷ cs) n d i p (hit h t) = omega arith
 Tally-counts {P} (c ∷ cs) n d i p (miss h t) =
-    elim (Contains-cases c cs d i) [ inl e ↦ absurd (h (subst P (sym e) p)) | inr rest ↦ Tally-counts cs n d rest p t ]
+    elim (Contains-cons_cases c cs d i) [ inl e ↦ absurd (h (subst P (sym e) p)) | inr rest ↦ Tally-counts cs n d rest p t ]

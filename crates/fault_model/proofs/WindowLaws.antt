@@ -18,7 +18,14 @@ use Rattle.fault_model.proofs.SizeLaws.{reached}
 
 -- one column and one row of cells
 abbrev one_cell_at : (x : ℕ) → x ≤ 1 → Rect
-one_cell_at x small = record { x0 = pos x; y0 = pos 0; x1 = pos (x + 1); y1 = pos 1; across = record { some = omega (arith, ints); least = omega (arith, ints); most = omega (arith, ints) }; up = record { some = omega (arith, ints); least = omega (arith, ints); most = omega (arith, ints) } }
+one_cell_at x small = record {
+  x0 = pos x;
+  y0 = pos 0;
+  x1 = pos (x + 1);
+  y1 = pos 1;
+  across = record { some = omega (arith, ints); least = omega (arith, ints); most = omega (arith, ints) };
+  up = record { some = omega (arith, ints); least = omega (arith, ints); most = omega (arith, ints) };
+}
 
 corner : (a : Rect) → Has a (record { i = a.x0; j = a.y0 })
 corner a = let w = a.across.some in let h = a.up.some in record { across = record { from = omega (arith, ints); before = w }; up = record { from = omega (arith, ints); before = h } }
@@ -56,7 +63,8 @@ module _ (covered : Cell → Type 0) where
   hit_from_window reach s window c h w small on hit = touch_from_window reach s window c on.0 w small on.2 (h, on.1, hit)
 
 -- a defect that parts two terminals of one island covers a half square of the island
-open_touches : {Name : Type 0} (covered : Cell → Type 0) (Differ : Name → Name → Type 0) (terminal : Name → Half → Type 0) (s : ℕ) (c : Cell) → IsOpen covered Differ terminal s c → (h : Half) × IsOn covered h × IsInFootprint c s h
+open_touches : {Name : Type 0} (covered : Cell → Type 0) (Differ : Name → Name → Type 0) (terminal : Name → Half → Type 0) (s : ℕ) (c : Cell) → IsOpen covered Differ terminal s c → (h : Half)
+    × IsOn covered h × IsInFootprint c s h
 open_touches covered Differ terminal s c o =
     let t = o.tied in
     elim (within_or_over (hit_or_not c s) t.4) [ inl spared ↦ absurd (o.parted t.0 t.1 t.2 t.3 spared) | inr over ↦ over ]

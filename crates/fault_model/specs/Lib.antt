@@ -5,7 +5,7 @@ pub mod Nets
 pub mod Faults
 pub mod Vias
 pub mod Areas
-pub mod Chains
+pub mod RectChains
 pub mod IslandLists
 -- what the laws of this crate alone cite
-pub mod Laws
+pub mod FaultConsequences

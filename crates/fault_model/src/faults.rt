@@ -5,7 +5,7 @@ ghost use Rattle.geo_core.specs.declared.plane.Cell.{Cell};
 ghost use Rattle.fault_model.specs.Nets.{Cut};
 ghost use Rattle.fault_model.specs.Faults.{IsShort, IsCellsOpen, IsViaBlock};
 ghost use Rattle.fault_model.specs.Vias.{IsViasOpen};
-ghost use Rattle.fault_model.specs.Laws.{IsNearTwoNets, IsNearCluster};
+ghost use Rattle.fault_model.specs.FaultConsequences.{IsNearTwoNets, IsNearCluster};
 
 use super::sets::{Layout, Property};
 

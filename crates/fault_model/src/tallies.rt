@@ -1,4 +1,5 @@
 //! Laws of tallies.
+#![tactic(auto, using(crate::proofs::OrderLaws::tally_laws))]
 
 ghost use Rattle.std.specs.Prelude.{ℕ, Bool, IsTrue, List, Contains, count_by, length, ◌++◌, ◌+◌, ◌≤◌, ◌≡◌, ◌↔◌};
 ghost use Rattle.geo_core.specs.declared.plane.Cell.{Cell};

@@ -11,11 +11,13 @@ ghost use Rattle.fault_model.specs.Vias.{IsViasOpen};
 use super::sets::{Layout, Property};
 
 /// Where no cell is named as a terminal, nothing is open.
+#[tactic(auto, using(crate::proofs::TerminalLaws::no_terminal))]
 pub fn no_terminal_is_parted<P: Property, T: Property>()
     ensures { (s : ℕ) (c : Cell) → ((d : Cell) → T.holds d → ⊥) → IsCellsOpen P.holds T.holds s c → ⊥ }
 {}
 
 /// Where one cell alone is named as a terminal, nothing is open.
+#[tactic(auto, using(crate::proofs::TerminalLaws::one_terminal))]
 pub fn one_terminal_is_not_parted<P: Property, T: Property>()
     ensures { (s : ℕ) (c : Cell) →
         ((d e : Cell) → T.holds d → T.holds e → d ≡ e) → IsCellsOpen P.holds T.holds s c → ⊥ }
@@ -38,6 +40,7 @@ pub fn cells_are_tied_as_wholes<P: Property>()
 {}
 
 /// Where there are no cuts, the terminals with via clusters among them are the named cells.
+#[tactic(auto, using(crate::proofs::TerminalLaws::no_vias))]
 pub fn no_vias_are_cells<L: Layout, T: Property>()
     ensures { (m s : ℕ) (c : Cell) → IsViasOpen L.covers [] T.holds m s c ↔ IsCellsOpen (L.covers m) T.holds s c }
 {}

@@ -20,6 +20,7 @@ pub fn cells_are_listed_once()
 {}
 
 /// There is at most one window, and none exactly where no cell is covered, so its cells are listed in one way.
+#[tactic(auto, using(crate::proofs::WindowLaws::agree))]
 pub fn windows_agree<P: Property>()
     ensures { (reach : ℕ) (v w : Option Rect) →
         IsWindowOf P.holds reach v → IsWindowOf P.holds reach w → cells_of_window v ≡ cells_of_window w }

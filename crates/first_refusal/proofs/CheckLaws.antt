@@ -12,7 +12,13 @@ module _ {N : Type 0} (Holds : N → Type 0) where
   fails_at_once check checks fails = record { before = []; after = checks; parts = refl; all_before = All-nil Holds; fails = fails }
 
   pub fails_later : (first : N) (checks : List N) (check : N) → Holds first → IsFirstFailing Holds checks check → IsFirstFailing Holds (first ∷ checks) check
-  fails_later first checks check h f = record { before = first ∷ f.before; after = f.after; parts = ap (λ xs. first ∷ xs) f.parts; all_before = All-cons Holds first f.before h f.all_before; fails = f.fails }
+  fails_later first checks check h f = record {
+    before = first ∷ f.before;
+    after = f.after;
+    parts = ap (λ xs. first ∷ xs) f.parts;
+    all_before = All-cons Holds first f.before h f.all_before;
+    fails = f.fails;
+  }
 
   one_in : (before : List N) (check : N) (after : List N) → All Holds (before ++ check ∷ after) → Holds check
   one_in [] check after all = All-head Holds check after all
@@ -22,7 +28,8 @@ module _ {N : Type 0} (Holds : N → Type 0) where
   none_fails checks all check f = f.fails (one_in f.before check f.after (subst (All Holds) f.parts all))
 
   -- a list is parted at a check that fails behind checks that hold in one way
-  parted_alike : (before before' : List N) (one other : N) (after after' : List N) → before ++ one ∷ after ≡ before' ++ other ∷ after' → All Holds before → All Holds before' → (Holds one → ⊥) → (Holds other → ⊥) → one ≡ other
+  parted_alike : (before before' : List N) (one other : N) (after after' : List N) → before ++ one ∷ after ≡ before' ++ other ∷ after' → All Holds before → All Holds before' → (Holds one → ⊥)
+      → (Holds other → ⊥) → one ≡ other
   parted_alike [] [] one other after after' e p q fails also = cc e
   parted_alike [] (b ∷ before') one other after after' e p q fails also =
       let same : b ≡ one = cc e in absurd (fails (subst Holds same (All-head Holds b before' q)))
@@ -62,4 +69,5 @@ module _ {N V R : Type 0} (Holds : N → Type 0) (checks : List N) (refusal_of :
 
   pub checks_cannot_lack : (All Holds checks → CannotLack Is) → CannotLack (Checks Holds checks refusal_of Is)
   checks_cannot_lack some none =
-      cannot_lack_both Holds checks (λ all. some all (λ v is. none (value v) (all_hold all is))) (λ c f. none (refused (refusal_of c)) (one_fails (record { check = c; is_first = f; is_its_refusal = refl })))
+      cannot_lack_both Holds checks (λ all. some all (λ v is. none (value v) (all_hold all is)))
+      (λ c f. none (refused (refusal_of c)) (one_fails (record { check = c; is_first = f; is_its_refusal = refl })))

@@ -38,12 +38,14 @@ pub fn first_refusals_agree<N, R, C: CheckList<N>>()
 {}
 
 /// Checks have at most one outcome where at most one value can be read.
+#[tactic(auto, using(crate::proofs::CheckLaws::checks_agree))]
 pub fn checks_agree<N, V, R, C: CheckList<N>, T: Readable<V>>()
     ensures { (checks : List N) (refusal_of : N → R) → IsUnique T.reads_as →
         IsUnique (Checks C.holds checks refusal_of T.reads_as) }
 {}
 
 /// Checks cannot lack an outcome where, if all of them hold, a value cannot be lacking.
+#[tactic(auto, using(crate::proofs::CheckLaws::checks_cannot_lack))]
 pub fn checks_cannot_lack_an_outcome<N, V, R, C: CheckList<N>, T: Readable<V>>()
     ensures { (checks : List N) (refusal_of : N → R) → (All C.holds checks → CannotLack T.reads_as) →
         CannotLack (Checks C.holds checks refusal_of T.reads_as) }

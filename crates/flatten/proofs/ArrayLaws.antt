@@ -7,7 +7,7 @@ use Rattle.std.proofs.lemmas.List.{length-take-le}
 use Rattle.std.proofs.lemmas.List.FromFn.{length-range_with_len, length-map-range_with_len, get_or-range_with_len, get_or-map-range_with_len}
 use Rattle.std.proofs.lemmas.List.Concat.{get_or-flat_map}
 use Rattle.std.proofs.lemmas.Option.{slice_get-get_or}
-use Rattle.gds_syntax.specs.declared.element.Reference.{Reference}
+use Rattle.library_model.specs.declared.element.Reference.{Reference}
 use Rattle.flatten.specs.Steps.{Step, steps_of, steps_in_row, rows_of, columns_of}
 
 module _ (reference : Reference) where
@@ -39,7 +39,8 @@ module _ (reference : Reference) where
     here = get_or-range_with_len 0 (rows_of reference.lattice) row 0 rows ∙ omega arith
 
     in_row : get_or (steps_in_row reference row) column step_there ≡ step_there
-    in_row = get_or-map-range_with_len (λ c. let step : Step = record { reference = reference; column = c; row = row } in step) 0 (columns_of reference.lattice) column column step_there columns (omega arith)
+    in_row = get_or-map-range_with_len (λ c. let step : Step = record { reference = reference; column = c; row = row } in step) 0 (columns_of reference.lattice) column column step_there columns
+        (omega arith)
 
     -- and so many steps stand before it
     before : length (flat_map (steps_in_row reference) (take row all_rows)) ≡ row * columns_of reference.lattice
@@ -54,7 +55,8 @@ module _ (reference : Reference) where
     found : get_or (steps_of reference) (row * columns_of reference.lattice + column) step_there ≡ step_there
     found =
         ap (λ n. get_or (steps_of reference) (n + column) step_there) (sym before)
-        ∙ get_or-flat_map (steps_in_row reference) all_rows row column 0 step_there (omega (arith, length-range_with_len 0 (rows_of reference.lattice))) (omega (arith, row_long (get_or all_rows row 0)))
+        ∙ get_or-flat_map (steps_in_row reference) all_rows row column 0 step_there (omega (arith, length-range_with_len 0 (rows_of reference.lattice)))
+        (omega (arith, row_long (get_or all_rows row 0)))
         ∙ ap (λ r. get_or (steps_in_row reference r) column step_there) here ∙ in_row
 
     pub stands_there : slice_get (steps_of reference) (row * columns_of reference.lattice + column) ≡ Some step_there

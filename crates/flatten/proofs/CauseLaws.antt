@@ -1,15 +1,16 @@
 -- a refusal tells its cause
-use Rattle.std.proofs.Common.{ℕ, suc, ◌<◌, ◌≤◌, ◌≡◌, ◌⊎◌, inl, inr, Bool, true, false, List, [], ◌∷◌, length, map, Option, Some, None, refl, sym, subst, arith}
-use Rattle.std.specs.Prelude.{Contains, IsSome, bytes_eq}
+use Rattle.std.proofs.Common.{ℕ, suc, ◌<◌, ◌≤◌, ◌≡◌, ◌⊎◌, inl, inr, List, [], ◌∷◌, length, map, Option, Some, None, refl, sym, subst, arith}
+use Rattle.std.specs.Prelude.{Contains, IsSome}
+use Rattle.std.specs.List.{range_with_len}
 use Rattle.std.proofs.lemmas.Bool.{cases_lt}
-use Rattle.std.proofs.lemmas.Slice.Eq.{bytes_eq-Decides}
 use Rattle.std.proofs.lemmas.List.Elements.{Contains-append_cases, Contains-append_right}
 use Rattle.first_refusal.specs.Outcomes.{refused, value, stops, goes_on}
 use Rattle.first_refusal.specs.Checks.{IsRefusalOfFirst, all_hold, one_fails}
-use Rattle.gds_syntax.specs.declared.library.Structure.{Structure}
-use Rattle.layer_map.specs.LayerMap.{LayerMap}
-use Rattle.flatten.specs.Structures.{all_references, numbered, structure_named}
-use Rattle.flatten.specs.Chains.{StartsChain, IsEndless}
+use Rattle.library_model.specs.Names.{names_of, place_of}
+use Rattle.library_model.specs.declared.library.Structure.{Structure}
+use Rattle.map_model.specs.LayerMap.{LayerMap}
+use Rattle.flatten.specs.Structures.{all_references, all_targets, numbers_of, target_of}
+use Rattle.flatten.specs.ReferenceChains.{StartsChain, IsEndless}
 use Rattle.flatten.specs.Tops.{HasTop, IsNoOtherTop, IsTop, IsUnnamed}
 use Rattle.flatten.specs.Routes.{Route, point_count}
 use Rattle.flatten.specs.Placements.{LibraryCheck, has_its_target, leads_to_no_cycle, has_top, is_no_other_top, LibraryHolds, library_checks, library_fault, TopCheck, is_shallow, is_small, is_in_range, IsSmall, TopHolds, top_checks, top_fault, Choosing, PlacingFrom, Placing, placed_routes}
@@ -17,54 +18,31 @@ use Rattle.flatten.specs.Causes.{IsSecondTop, Tells}
 use Rattle.flatten.specs.declared.limits.TheConstants.{MOST_STEPS, MOST_SHAPES, MOST_POINTS}
 use Rattle.flatten.specs.declared.fault.PlaceFault.{PlaceFault}
 use Rattle.flatten.specs.declared.fault.PlaceFault.TheVariants.{NoTop}
+use Rattle.flatten.proofs.NumberLaws.{number_below, number_there, one_or_none}
 use Rattle.flatten.proofs.ChainLaws.{chain_or_not, no_longer}
-use Rattle.flatten.proofs.ListLaws.{Contains-none, Contains-head, Contains-tail, Contains-cons_cases, Contains-map_from}
+use Rattle.lists.proofs.Comparing.{equal_or_not}
+use Rattle.lists.proofs.Containing.{Contains-cons_cases, Contains-head}
+use Rattle.lists.proofs.Mapping.{Contains-map_from}
 
 -- ---- what can be decided
 
-module _ {X : Type 0} where
-  none_there : (o : Option X) → (IsSome o → ⊥) → o ≡ None
-  none_there None h = refl
-  none_there (Some x) h = absurd (h refl)
+none_there : {X : Type 0} (o : Option X) → (IsSome o → ⊥) → o ≡ None
+none_there None h = refl
+none_there (Some x) h = absurd (h refl)
 
-  -- one item of a list has a property, or none has, where each has it or not
-  one_or_none : (P : X → Type 0) → ((x : X) → P x ⊎ (P x → ⊥)) → (xs : List X) → ((x : X) × Contains xs x × P x) ⊎ ((x : X) → Contains xs x → P x → ⊥)
-  one_or_none P each [] = inr (λ x there has. Contains-none x there)
-  one_or_none P each (x ∷ xs) = elim (each x) [
-    | inl has ↦ inl (x, Contains-head x xs, has)
-    | inr lacks ↦ elim (one_or_none P each xs) [
-      | inl (y, there, has) ↦ inl (y, Contains-tail x xs y there, has)
-      | inr none ↦ inr (λ y there has. elim (Contains-cons_cases x xs y there) [ inl same ↦ lacks (subst P (sym same) has) | inr behind ↦ none y behind has ])
-    ]
-  ]
-
-  -- the first check that fails is one of the checks
-  is_among : {R : Type 0} (Holds : X → Type 0) (checks : List X) (fault_of : X → R) (fault : R) (first : IsRefusalOfFirst Holds checks fault_of fault) → Contains checks first.check
-  is_among Holds checks fault_of fault first =
-      subst (λ l. Contains l first.check) (sym first.is_first.parts)
-      (Contains-append_right first.is_first.before (first.check ∷ first.is_first.after) first.check (Contains-head first.check first.is_first.after))
-
-name_or_not : (name other : List ℕ) → (other ≡ name) ⊎ (other ≡ name → ⊥)
-name_or_not name other = by_test (bytes_eq other name) refl
-  where
-    by_test : (b : Bool) → bytes_eq other name ≡ b → (other ≡ name) ⊎ (other ≡ name → ⊥)
-    by_test true t = inl ((bytes_eq-Decides other name).0 t)
-    by_test false f = inr (λ same. let t : bytes_eq other name ≡ true = (bytes_eq-Decides other name).1 same in cc)
-
--- a list of names has the name or not
-listed_or_not : (names : List (List ℕ)) (name : List ℕ) → Contains names name ⊎ (Contains names name → ⊥)
-listed_or_not names name = elim (one_or_none (λ other. other ≡ name) (name_or_not name) names) [
-  | inl (other, there, same) ↦ inl (subst (Contains names) same there)
-  | inr none ↦ inr (λ there. none name there refl)
-]
+-- the first check that fails is one of the checks
+is_among : {X R : Type 0} (Holds : X → Type 0) (checks : List X) (fault_of : X → R) (fault : R) (first : IsRefusalOfFirst Holds checks fault_of fault) → Contains checks first.check
+is_among Holds checks fault_of fault first =
+    subst (λ l. Contains l first.check) (sym first.is_first.parts)
+    (Contains-append_right first.is_first.before (first.check ∷ first.is_first.after) first.check (Contains-head first.check first.is_first.after))
 
 module _ (structures : List Structure) where
   -- where it cannot be that chains end, they do not
-  endless : (one : ℕ × Structure) → ((IsEndless structures one → ⊥) → ⊥) → IsEndless structures one
+  endless : (one : ℕ) → ((IsEndless structures one → ⊥) → ⊥) → IsEndless structures one
   endless one h n = elim (chain_or_not structures n one) [ inl chain ↦ chain | inr none ↦ absurd (h (λ chains. none (chains n))) ]
 
   -- where not each chain is so short, one is longer
-  longer : (most : ℕ) (one : ℕ × Structure) → (((n : ℕ) → StartsChain structures n one → n ≤ most) → ⊥) → StartsChain structures (suc most) one
+  longer : (most : ℕ) (one : ℕ) → (((n : ℕ) → StartsChain structures n one → n ≤ most) → ⊥) → StartsChain structures (suc most) one
   longer most one h = elim (chain_or_not structures (suc most) one) [
     | inl chain ↦ chain
     | inr none ↦ absurd (h (λ n chain.
@@ -76,28 +54,18 @@ module _ (structures : List Structure) where
       at_most : (n : ℕ) → n ≤ suc most → (n ≡ suc most → ⊥) → n ≤ most
       at_most n near not_it = elim (cases_lt most n) [ inl more ↦ absurd (not_it (omega arith)) | inr less ↦ omega arith ]
 
-  unnamed_or_not : (one : ℕ × Structure) → IsUnnamed structures one ⊎ (IsUnnamed structures one → ⊥)
-  unnamed_or_not one = elim (listed_or_not (map (λ reference. reference.target) (all_references structures)) one.1.name) [
-    | inl named ↦ inr (λ unnamed. unnamed named)
-    | inr unnamed ↦ inl unnamed
+  unnamed_or_not : (one : ℕ) → IsUnnamed structures one ⊎ (IsUnnamed structures one → ⊥)
+  unnamed_or_not one = elim (one_or_none (λ other. other ≡ one) (λ other. equal_or_not other one) (all_targets structures)) [
+    | inl (other, there, same) ↦ inr (λ unnamed. unnamed (subst (Contains (all_targets structures)) same there))
+    | inr none ↦ inl (λ there. none one there refl)
   ]
 
-  -- an earlier structure that no reference names
-  abbrev IsEarlierTop : ℕ × Structure → ℕ × Structure → Type 0
-  IsEarlierTop one earlier = (earlier.0 < one.0) × IsUnnamed structures earlier
-
-  earlier_or_not : (one earlier : ℕ × Structure) → IsEarlierTop one earlier ⊎ (IsEarlierTop one earlier → ⊥)
-  earlier_or_not one earlier = elim (cases_lt earlier.0 one.0) [
-    | inl before ↦ elim (unnamed_or_not earlier) [ inl unnamed ↦ inl (before, unnamed) | inr named ↦ inr (λ (_, unnamed). named unnamed) ]
-    | inr behind ↦ inr (λ (before, _). absurd (omega arith))
-  ]
-
-  second_top : (one : ℕ × Structure) → Contains (numbered structures) one → (IsNoOtherTop structures None one → ⊥) → (earlier : ℕ × Structure) × IsSecondTop structures earlier one
+  second_top : (one : ℕ) → one < length structures → (IsNoOtherTop structures None one → ⊥) → (earlier : ℕ) × IsSecondTop structures earlier one
   second_top one there fails = elim (unnamed_or_not one) [
     | inr named ↦ absurd (fails (λ unnamed. absurd (named unnamed)))
-    | inl unnamed ↦ elim (one_or_none (IsEarlierTop one) (earlier_or_not one) (numbered structures)) [
-      | inl (earlier, earlier_there, is) ↦ (earlier, record { there = there; unnamed = unnamed; earlier_there = earlier_there; earlier_unnamed = is.1; before = is.0 })
-      | inr none ↦ absurd (fails (λ free earlier earlier_there before earlier_free. none earlier earlier_there (before, earlier_free)))
+    | inl unnamed ↦ elim (one_or_none (IsUnnamed structures) unnamed_or_not (range_with_len 0 one)) [
+      | inl (earlier, among, free) ↦ (earlier, record { there = there; unnamed = unnamed; earlier_unnamed = free; before = number_below one earlier among })
+      | inr none ↦ absurd (fails (λ free earlier before earlier_free. none earlier (number_there one earlier before) earlier_free))
     ]
   ]
 
@@ -107,18 +75,18 @@ module _ (structures : List Structure) (layer_map : LayerMap) (wanted : Option (
   -- of what each check is
   abbrev IsOf : LibraryCheck → Type 0
   IsOf (has_its_target reference) = Contains (all_references structures) reference
-  IsOf (leads_to_no_cycle one) = Contains (numbered structures) one
+  IsOf (leads_to_no_cycle one) = one < length structures
   IsOf has_top = Unit {0}
-  IsOf (is_no_other_top one) = Contains (numbered structures) one
+  IsOf (is_no_other_top one) = one < length structures
 
   is_of : (check : LibraryCheck) → Contains (library_checks structures) check → IsOf check
   is_of check there = elim (Contains-append_cases (map has_its_target (all_references structures)) _ check there) [
     | inl targets ↦ let from = Contains-map_from has_its_target (all_references structures) check targets in subst IsOf from.2 from.1
-    | inr others ↦ elim (Contains-append_cases (map leads_to_no_cycle (numbered structures)) (has_top ∷ map is_no_other_top (numbered structures)) check others) [
-      | inl cycles ↦ let from = Contains-map_from leads_to_no_cycle (numbered structures) check cycles in subst IsOf from.2 from.1
-      | inr tops ↦ elim (Contains-cons_cases has_top (map is_no_other_top (numbered structures)) check tops) [
+    | inr others ↦ elim (Contains-append_cases (map leads_to_no_cycle (numbers_of structures)) (has_top ∷ map is_no_other_top (numbers_of structures)) check others) [
+      | inl cycles ↦ let from = Contains-map_from leads_to_no_cycle (numbers_of structures) check cycles in subst IsOf from.2 (number_below (length structures) from.0 from.1)
+      | inr tops ↦ elim (Contains-cons_cases has_top (map is_no_other_top (numbers_of structures)) check tops) [
         | inl same ↦ subst IsOf same tt
-        | inr rest ↦ let from = Contains-map_from is_no_other_top (numbered structures) check rest in subst IsOf from.2 from.1
+        | inr rest ↦ let from = Contains-map_from is_no_other_top (numbers_of structures) check rest in subst IsOf from.2 (number_below (length structures) from.0 from.1)
       ]
     ]
   ]
@@ -129,14 +97,15 @@ module _ (structures : List Structure) (layer_map : LayerMap) (wanted : Option (
       by_list : (list : List Structure) → (1 ≤ length list → ⊥) → list ≡ []
       by_list [] h = refl
       by_list (s ∷ list) h = absurd (h (omega arith))
-  no_top (Some name) fails = none_there (structure_named structures name) fails
+  no_top (Some name) fails = none_there (place_of (names_of structures) name) fails
 
-  other_top : (wanted : Option (List ℕ)) (one : ℕ × Structure) → Contains (numbered structures) one → (IsNoOtherTop structures wanted one → ⊥) → Tells structures layer_map wanted (library_fault (is_no_other_top one))
+  other_top : (wanted : Option (List ℕ)) (one : ℕ) → one < length structures → (IsNoOtherTop structures wanted one → ⊥)
+      → Tells structures layer_map wanted (library_fault structures (is_no_other_top one))
   other_top None one there fails = let second = second_top structures one there fails in (refl, second.0, one, refl, second.1)
   other_top (Some name) one there fails = absurd (fails tt)
 
-  library_tells : (check : LibraryCheck) → IsOf check → (LibraryHolds structures wanted check → ⊥) → Tells structures layer_map wanted (library_fault check)
-  library_tells (has_its_target reference) there fails = (reference, there, refl, none_there (structure_named structures reference.target) fails)
+  library_tells : (check : LibraryCheck) → IsOf check → (LibraryHolds structures wanted check → ⊥) → Tells structures layer_map wanted (library_fault structures check)
+  library_tells (has_its_target reference) there fails = (reference, there, refl, none_there (target_of structures reference) fails)
   library_tells (leads_to_no_cycle one) there fails = (one, there, refl, endless structures one fails)
   library_tells has_top there fails = no_top wanted fails
   library_tells (is_no_other_top one) there fails = other_top wanted one there fails
@@ -144,11 +113,11 @@ module _ (structures : List Structure) (layer_map : LayerMap) (wanted : Option (
   choosing_tells : (fault : PlaceFault) → Choosing structures wanted (refused fault) → Tells structures layer_map wanted fault
   choosing_tells fault (one_fails first) =
       subst (Tells structures layer_map wanted) (sym first.is_its_refusal)
-      (library_tells first.check (is_of first.check (is_among (LibraryHolds structures wanted) (library_checks structures) library_fault fault first)) first.is_first.fails)
+      (library_tells first.check (is_of first.check (is_among (LibraryHolds structures wanted) (library_checks structures) (library_fault structures) fault first)) first.is_first.fails)
 
   -- ---- what the checks of the top tell
 
-  module _ (top : ℕ × Structure) (is_top : IsTop structures wanted top) where
+  module _ (top : ℕ) (is_top : IsTop structures wanted top) where
     abbrev placed : List Route
     placed = placed_routes structures layer_map top
 
@@ -175,7 +144,7 @@ module _ (structures : List Structure) (layer_map : LayerMap) (wanted : Option (
       ]
     ]
 
-    top_tells : (check : TopCheck) → IsOfTop check → (TopHolds structures top placed check → ⊥) → Tells structures layer_map wanted (top_fault top check)
+    top_tells : (check : TopCheck) → IsOfTop check → (TopHolds structures top placed check → ⊥) → Tells structures layer_map wanted (top_fault structures top check)
     top_tells is_shallow of fails = (top, is_top, refl, record { references = suc MOST_STEPS; more = omega arith; chain = longer structures MOST_STEPS top fails })
     top_tells is_small of fails = (top, is_top, refl, too_many fails)
     top_tells (is_in_range route) of fails = (top, is_top, route, of, refl, fails)
@@ -183,9 +152,9 @@ module _ (structures : List Structure) (layer_map : LayerMap) (wanted : Option (
     from_top_tells : (fault : PlaceFault) → PlacingFrom structures top placed (refused fault) → Tells structures layer_map wanted fault
     from_top_tells fault (one_fails first) =
         subst (Tells structures layer_map wanted) (sym first.is_its_refusal)
-        (top_tells first.check (is_of_top first.check (is_among (TopHolds structures top placed) (top_checks placed) (top_fault top) fault first)) first.is_first.fails)
+        (top_tells first.check (is_of_top first.check (is_among (TopHolds structures top placed) (top_checks placed) (top_fault structures top) fault first)) first.is_first.fails)
 
-  chosen_is_top : (top : ℕ × Structure) → Choosing structures wanted (value top) → IsTop structures wanted top
+  chosen_is_top : (top : ℕ) → Choosing structures wanted (value top) → IsTop structures wanted top
   chosen_is_top top (all_hold all is) = is
 
   pub refusal_tells : (fault : PlaceFault) → Placing structures layer_map wanted (refused fault) → Tells structures layer_map wanted fault

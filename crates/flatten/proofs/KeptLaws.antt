@@ -1,7 +1,7 @@
 -- sums that stand still at a number
 use Rattle.std.proofs.Common.{ℕ, zero, suc, ◌+◌, ◌*◌, ◌≤◌, ◌≡◌, inl, inr, min, ap, ◌∙◌, arith}
 use Rattle.std.proofs.lemmas.Bool.{cases_lt}
-use Rattle.flatten.specs.Weights.{StandsFor, kept_of}
+use Rattle.flatten.specs.inside.Weights.{StandsFor, kept_of}
 use Rattle.flatten.specs.declared.limits.TheConstants.{MOST_POINTS}
 
 both_full : (a b most : ℕ) → most ≤ a → most ≤ b → min a most ≡ min b most

@@ -5,8 +5,8 @@ use Rattle.std.specs.List.{list_any}
 use Rattle.std.proofs.lemmas.Bool.{eqb-true, eq-eqb}
 use Rattle.std.proofs.lemmas.List.Folds.{Any-from_list_any, list_any-from_Any}
 use Rattle.std.proofs.lemmas.Option.{slice_get_read, slice_get_within, get_or_from_slice_get}
-use Rattle.gds_syntax.specs.declared.element.Shape.{Shape}
-use Rattle.layer_map.specs.LayerMap.{LayerMap, MappedLayer, IsMappedTo, layers_of}
+use Rattle.library_model.specs.declared.element.Shape.{Shape}
+use Rattle.map_model.specs.LayerMap.{LayerMap, MappedLayer, IsMappedTo, layers_of}
 use Rattle.flatten.specs.Structures.{is_mapped}
 
 both : (a b : Bool) → (a && b) ≡ true → (a ≡ true) × (b ≡ true)
@@ -58,8 +58,14 @@ is_mapped-is layer_map shape = (to, from)
         )
 
     from : ((number : ℕ) × IsMappedTo layer_map (shape.layer, shape.datatype) number) → is_mapped layer_map shape ≡ true
-    from (number, mapped_to) = list_any-from_Any (has_pair shape.layer shape.datatype) (layers_of layer_map)
-        (number, mapped_to.mapped, slice_get_within (layers_of layer_map) number mapped_to.mapped mapped_to.numbered, get_or_from_slice_get (layers_of layer_map) number mapped_to.mapped mapped_to.mapped mapped_to.numbered, has_pair-there shape.layer shape.datatype mapped_to.mapped mapped_to.among)
+    from (number, mapped_to) = list_any-from_Any (has_pair shape.layer shape.datatype) (layers_of layer_map) (
+      number,
+      mapped_to.mapped,
+      slice_get_within (layers_of layer_map) number mapped_to.mapped mapped_to.numbered,
+      get_or_from_slice_get (layers_of layer_map)
+          number mapped_to.mapped mapped_to.mapped mapped_to.numbered,
+      has_pair-there shape.layer shape.datatype mapped_to.mapped mapped_to.among,
+    )
 
 -- a shape that has no layer is not mapped, and one that has a layer is
 pub is_mapped-none : (layer_map : LayerMap) (shape : Shape) → ((number : ℕ) → IsMappedTo layer_map (shape.layer, shape.datatype) number → ⊥) → is_mapped layer_map shape ≡ false

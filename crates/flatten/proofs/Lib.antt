@@ -1,6 +1,5 @@
-pub mod ListLaws
 pub mod RouteLaws
-pub mod NameLaws
+pub mod NumberLaws
 pub mod ChainLaws
 pub mod PlacingLaws
 pub mod PlacedLists

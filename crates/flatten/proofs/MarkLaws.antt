@@ -4,21 +4,22 @@ use Rattle.std.specs.Prelude.{Contains}
 use Rattle.std.specs.Borrow.{Bor}
 use Rattle.std.proofs.lemmas.List.{take_more, get_or-set_same, get_or-set_other}
 use Rattle.std.proofs.lemmas.List.Elements.{Contains-append_left, Contains-append_right, Contains-append_cases}
-use Rattle.paths.proofs.ListLaws.{equal_or_not}
 use Rattle.std.specs.Global.{Global}
 use Rattle.std.specs.Option.{option_map_or}
 use Rattle.std.proofs.lemmas.Bool.{cases_lt}
 use Rattle.std.proofs.lemmas.Option.{slice_get_past}
-use Rattle.flatten.specs.Parts.{LeadsTo, parts_at}
-use Rattle.std.specs.Prelude.{MatchOption, slice_get, Option, Some, None}
+use Rattle.flatten.specs.inside.Parts.{LeadsTo, parts_at}
+use Rattle.std.specs.Prelude.{MatchOption, Option, Some, None}
 use Rattle.std.specs.Option.{is_some}
-use Rattle.gds_syntax.specs.declared.library.Structure.{Structure}
+use Rattle.library_model.specs.declared.library.Structure.{Structure}
 use Rattle.flatten.specs.declared.fault.PlaceFault.TheVariants.{ManyTops}
-use Rattle.flatten.specs.Marks.{IsMarked, IsOnlyUnmarked, IsTopFault, second_unmarked}
-use Rattle.gds_syntax.specs.declared.element.Reference.{Reference}
+use Rattle.flatten.specs.Structures.{offset_of}
+use Rattle.flatten.specs.inside.Marks.{IsMarked, IsOnlyUnmarked, IsTopFault, second_unmarked}
+use Rattle.library_model.specs.declared.element.Reference.{Reference}
 use Rattle.flatten.specs.declared.part.Part.{Part}
 use Rattle.flatten.specs.declared.part.Part.TheVariants.{Copies}
-use Rattle.flatten.proofs.ListLaws.{Contains-none, Contains-head, Contains-cons_cases}
+use Rattle.lists.proofs.Comparing.{equal_or_not}
+use Rattle.lists.proofs.Containing.{Contains-cons_cases, Contains-head, Contains-none}
 
 -- one mark more
 module _ (marks : List Bool) (target : ℕ) (within : target < length marks) where
@@ -27,12 +28,6 @@ module _ (marks : List Bool) (target : ℕ) (within : target < length marks) whe
 
   pub marked_now : IsMarked more target
   marked_now = get_or-set_same marks target true false within
-
-  pub marks_kept : (one : ℕ) → IsMarked marks one → IsMarked more one
-  marks_kept one h = elim (equal_or_not one target) [
-    | inl e ↦ subst (IsMarked more) (sym e) marked_now
-    | inr n ↦ get_or-set_other marks target one true false n ∙ h
-  ]
 
   pub only_more : (one : ℕ) → IsMarked more one → IsMarked marks one ⊎ (one ≡ target)
   only_more one h = elim (equal_or_not one target) [
@@ -44,17 +39,11 @@ module _ (marks : List Bool) (target : ℕ) (within : target < length marks) whe
 pub leads_alone : (reference : Bor Reference) (target one : ℕ) → LeadsTo (Copies reference target ∷ []) one → one ≡ target
 leads_alone reference target one (r, there) = elim (Contains-cons_cases (Copies reference target) [] (Copies r one) there) [
   | inl same ↦ sym (let e : target ≡ one = cc same in e)
-  | inr nothing ↦ absurd (Contains-none (Copies r one) nothing)
+  | inr nothing ↦ absurd (Contains-none nothing)
 ]
 
 pub leads_to_it : (reference : Bor Reference) (target one : ℕ) → one ≡ target → LeadsTo (Copies reference target ∷ []) one
 leads_to_it reference target one e = (reference, subst (λ t. Contains (Copies reference target ∷ []) (Copies reference t)) (sym e) (Contains-head (Copies reference target) []))
-
-pub leads_nowhere : (one : ℕ) (part : Part) → ((reference : Bor Reference) (target : ℕ) → part ≡ Copies reference target → ⊥) → LeadsTo (part ∷ []) one → ⊥
-leads_nowhere one part none (r, there) = elim (Contains-cons_cases part [] (Copies r one) there) [
-  | inl same ↦ none r one same
-  | inr nothing ↦ Contains-none (Copies r one) nothing
-]
 
 -- one part more
 module _ (parts : List Part) (i : ℕ) (part : Part) (within : i < length parts) (is : part ≡ get_or parts i part) (one : ℕ) where
@@ -77,12 +66,12 @@ module _ (parts : List Part) (i : ℕ) (part : Part) (within : i < length parts)
 pub leads_within : (nodes : List (Vec Part Global)) (other one : ℕ) → LeadsTo (parts_at nodes other) one → other < length nodes
 leads_within nodes other one (r, there) = elim (cases_lt other (length nodes)) [
   | inl within ↦ within
-  | inr past ↦ absurd (Contains-none (Copies r one) (subst (λ o. Contains (option_map_or (λ (p : Vec Part Global). p.items) o []) (Copies r one)) (slice_get_past nodes other past) there))
+  | inr past ↦ absurd (Contains-none (subst (λ o. Contains (option_map_or (λ (p : Vec Part Global). p.items) o []) (Copies r one)) (slice_get_past nodes other past) there))
 ]
 
 -- a second number that is not marked
-pub second_fault : (structures : List Structure) (marks : List Bool) (number : ℕ) (structure : Structure) (top : Option ℕ) → is_some top ≡ true
+pub second_fault : (structures : List Structure) (marks : List Bool) (number : ℕ) (top : Option ℕ) → is_some top ≡ true
     → MatchOption top ((one : ℕ) → one < number → IsMarked marks one) (λ first. IsOnlyUnmarked number marks first)
-    → slice_get structures number ≡ Some structure → (IsMarked marks number → ⊥) → IsTopFault structures marks (ManyTops structure.at)
-second_fault structures marks number structure None some first is unmarked = cc some
-second_fault structures marks number structure (Some top) some first is unmarked = second_unmarked is unmarked first
+    → number < length structures → (IsMarked marks number → ⊥) → IsTopFault structures marks (ManyTops (offset_of structures number))
+second_fault structures marks number None some first within unmarked = cc some
+second_fault structures marks number (Some top) some first within unmarked = second_unmarked within unmarked first

@@ -2,10 +2,11 @@
 use Rattle.std.proofs.Common.{ℕ, zero, suc, ◌+◌, ◌-◌, ◌%◌, ◌<◌, ◌≡◌, Bool, true, false, not, List, [], ◌∷◌, refl, sym, ap, ◌∙◌, arith}
 use Rattle.std.specs.Prelude.{ℤ, pos, negsuc, ◌+ℤ◌, if◌then◌else◌}
 use Rattle.std.proofs.lemmas.Int.{ints}
-use Rattle.geo_core.specs.Turns.{PlanePoint, mirror_image, quarter_turn, quarter_turns, image_under}
+use Rattle.geo_core.specs.Turns.{mirror_image, quarter_turn, quarter_turns, image_under}
+use Rattle.geo_core.specs.declared.plane.Point.{Point}
 use Rattle.geo_core.specs.declared.plane.Turn.{Turn}
 use Rattle.geo_core.proofs.TurnLaws.{after_mirror, after_plain}
-use Rattle.gds_syntax.proofs.SameParts.{same_turn}
+use Rattle.library_model.proofs.SameParts.{same_turn}
 use Rattle.flatten.specs.Steps.{Step, shifted, shift_of, moved_by}
 use Rattle.flatten.specs.Motions.{MovesAlong, image_by}
 use Rattle.flatten.specs.declared.motion.Motion.{Motion}
@@ -15,7 +16,7 @@ use Rattle.flatten.proofs.MotionLaws.{at, same_at, moves_behind}
 
 -- a turn, and then one that mirrors if this holds and goes so many quarters, are one turn
 turned_behind : (b : Bool) (m : ℕ) (inner : Turn)
-    → (both : Turn) × ((p : PlanePoint) → image_under both p ≡ quarter_turns m (if b then mirror_image (image_under inner p) else image_under inner p))
+    → (both : Turn) × ((p : Point) → image_under both p ≡ quarter_turns m (if b then mirror_image (image_under inner p) else image_under inner p))
 turned_behind true m inner = (
   record { reflect = not inner.reflect; quarters = (4 + m - inner.quarters) % 4; whole = omega arith },
   λ p. after_mirror m inner.quarters inner.reflect p inner.whole,
@@ -36,15 +37,15 @@ one_motion (step ∷ steps) =
     let outer : Turn = step.reference.turn in
     let inner : Turn = rest.0.turn in
     let both = turned_behind outer.reflect outer.quarters inner in
-    let inner_by : PlanePoint = at rest.0.dx rest.0.dy in
-    let by : PlanePoint = shifted (shift_of step) (image_under outer inner_by) in (
+    let inner_by : Point = at rest.0.dx rest.0.dy in
+    let by : Point = shifted (shift_of step) (image_under outer inner_by) in (
       record { turn = both.0; dx = by.x; dy = by.y },
       λ p. moves_behind outer inner both.0 (shift_of step) inner_by by both.1 refl refl p ∙ ap (moved_by step) (rest.1 p),
     )
 
 -- ---- and no other
 
-abbrev origin : PlanePoint
+abbrev origin : Point
 origin = at (pos 0) (pos 0)
 
 -- the origin stays where it is
@@ -65,7 +66,7 @@ shift_shows motion =
     ap (shifted (at motion.dx motion.dy)) (origin_stays motion.turn) ∙ same_at (pos 0 +ℤ motion.dx) (pos 0 +ℤ motion.dy) motion.dx motion.dy (omega (arith, ints)) (omega (arith, ints))
 
 -- equal shifts leave points as they differ
-unshifted : (by p q : PlanePoint) → shifted by p ≡ shifted by q → p ≡ q
+unshifted : (by p q : Point) → shifted by p ≡ shifted by q → p ≡ q
 unshifted by p q e =
     let across : p.x +ℤ by.x ≡ q.x +ℤ by.x = ap (λ r. r.x) e in
     let up : p.y +ℤ by.y ≡ q.y +ℤ by.y = ap (λ r. r.y) e in
@@ -78,10 +79,10 @@ quarters_to (pos zero) (pos y) = 1
 quarters_to (pos zero) (negsuc y) = 3
 quarters_to (negsuc x) y = 2
 
-abbrev right : PlanePoint
+abbrev right : Point
 right = at (pos 1) (pos 0)
 
-abbrev above : PlanePoint
+abbrev above : Point
 above = at (pos 0) (pos 1)
 
 quarters_show : (n : ℕ) → n < 4 → let p = quarter_turns n right in quarters_to p.x p.y ≡ n
@@ -113,7 +114,7 @@ right_under turn = by_mirror turn.reflect
     by_mirror true = refl
     by_mirror false = refl
 
-turns_agree : (one other : Turn) → ((p : PlanePoint) → image_under one p ≡ image_under other p) → one ≡ other
+turns_agree : (one other : Turn) → ((p : Point) → image_under one p ≡ image_under other p) → one ≡ other
 turns_agree one other same = same_turn one other mirrors quarters
   where
     lead : quarter_turns one.quarters right ≡ quarter_turns other.quarters right
@@ -126,10 +127,10 @@ turns_agree one other same = same_turn one other mirrors quarters
     mirrors = mirrors_agree one.quarters one.whole one.reflect other.reflect
         (same above ∙ ap (λ n. quarter_turns n (if other.reflect then mirror_image above else above)) (sym quarters))
 
-pub motions_agree : (one other : Motion) → ((p : PlanePoint) → image_by one p ≡ image_by other p) → one ≡ other
+pub motions_agree : (one other : Motion) → ((p : Point) → image_by one p ≡ image_by other p) → one ≡ other
 motions_agree one other same = ap (moving one.turn) shifts ∙ ap (λ turn. moving turn (at other.dx other.dy)) turns
   where
-    moving : Turn → PlanePoint → Motion
+    moving : Turn → Point → Motion
     moving turn by = record { turn = turn; dx = by.x; dy = by.y }
 
     shifts : at one.dx one.dy ≡ at other.dx other.dy

@@ -1,25 +1,24 @@
 -- the parts of structures
 use Rattle.std.proofs.Common.{ℕ, ◌+◌, ◌<◌, ◌≡◌, List, [], ◌∷◌, ◌++◌, length, get_or, take, refl, sym, ap, subst, ◌∙◌, arith}
-use Rattle.std.specs.Prelude.{All, false, Option, Some, None, option_to_list}
+use Rattle.std.specs.Prelude.{IsSome, false, Option, Some, None, option_to_list}
 use Rattle.std.specs.Borrow.{Bor}
 use Rattle.std.specs.List.{enumerate_from}
 use Rattle.std.proofs.lemmas.List.{take_more}
-use Rattle.std.proofs.lemmas.List.Elements.{All-nil, All-cons}
 use Rattle.first_refusal.specs.Checks.{IsRefusalOfFirst}
 use Rattle.first_refusal.proofs.CheckLaws.{fails_at_once}
-use Rattle.gds_syntax.specs.Names.{StandsAt}
-use Rattle.gds_syntax.specs.declared.element.Element.TheVariants.{Shape as shape_element, Reference as reference_element}
-use Rattle.gds_syntax.specs.declared.element.Shape.{Shape}
-use Rattle.gds_syntax.specs.declared.element.Reference.{Reference}
-use Rattle.layer_map.specs.LayerMap.{IsMappedTo}
+use Rattle.library_model.specs.Names.{place_of}
+use Rattle.library_model.specs.declared.element.Element.TheVariants.{Shape as shape_element, Reference as reference_element}
+use Rattle.library_model.specs.declared.element.Shape.{Shape}
+use Rattle.library_model.specs.declared.element.Reference.{Reference}
+use Rattle.map_model.specs.LayerMap.{IsMappedTo}
 use Rattle.flatten.specs.Structures.{is_mapped, references_in}
 use Rattle.flatten.specs.declared.fault.PlaceFault.TheVariants.{UnknownStructure}
 use Rattle.flatten.specs.declared.part.Part.TheVariants.{End, Copies}
 use Rattle.std.proofs.lemmas.List.FromFn.{length-enumerate_from, get_or-enumerate_from}
-use Rattle.gds_syntax.specs.declared.element.Element.{Element}
-use Rattle.layer_map.specs.LayerMap.{LayerMap}
+use Rattle.library_model.specs.declared.element.Element.{Element}
+use Rattle.map_model.specs.LayerMap.{LayerMap}
 use Rattle.flatten.specs.declared.part.Part.{Part}
-use Rattle.flatten.specs.Parts.{AreParts, IsKnown, no_more, passed_over, ends_there, goes_on}
+use Rattle.flatten.specs.inside.Parts.{AreParts, IsKnown, no_more, passed_over, ends_there, goes_on}
 
 module _ (names : List (List ℕ)) (layer_map : LayerMap) where
   pub AreParts-append : (elements others : List (ℕ × Element)) (parts rest : List Part) → AreParts names layer_map elements parts → AreParts names layer_map others rest
@@ -53,18 +52,12 @@ module _ (names : List (List ℕ)) (layer_map : LayerMap) where
       → IsMappedTo layer_map (shape.now.layer, shape.now.datatype) layer → AreParts names layer_map ((number, element) ∷ []) (option_to_list part)
   end_part number layer element shape part is some mapped = rw (is, some) (ends_there mapped no_more)
 
-  pub copies_part : (number target : ℕ) (element : Element) (reference : Bor Reference) → element ≡ reference_element reference.now → StandsAt names reference.now.target target
+  pub copies_part : (number target : ℕ) (element : Element) (reference : Bor Reference) → element ≡ reference_element reference.now → place_of names reference.now.target ≡ Some target
       → AreParts names layer_map ((number, element) ∷ []) (Copies reference target ∷ [])
-  copies_part number target element reference is stands = rw is (goes_on stands no_more)
+  copies_part number target element reference is found = rw is (goes_on found no_more)
 
--- the reference that an element is, if it is known
-pub known_in_shape : (names : List (List ℕ)) (element : Element) (shape : Shape) → element ≡ shape_element shape → All (IsKnown names) (references_in element)
-known_in_shape names element shape is = rw is (All-nil (IsKnown names))
-
-pub known_in_reference : (names : List (List ℕ)) (element : Element) (reference : Reference) → element ≡ reference_element reference → IsKnown names reference → All (IsKnown names) (references_in element)
-known_in_reference names element reference is known = rw is (All-cons (IsKnown names) reference [] known (All-nil (IsKnown names)))
-
-pub unknown_in_reference : (names : List (List ℕ)) (element : Element) (reference : Reference) → element ≡ reference_element reference → (IsKnown names reference → ⊥)
+-- a reference that names no structure
+pub unknown_in_reference : (names : List (List ℕ)) (element : Element) (reference : Reference) → element ≡ reference_element reference → place_of names reference.target ≡ None
     → IsRefusalOfFirst (IsKnown names) (references_in element) (λ r. UnknownStructure r.at) (UnknownStructure reference.at)
-unknown_in_reference names element reference is unknown =
-    rw is (record { check = reference; is_first = fails_at_once (IsKnown names) reference [] unknown; is_its_refusal = refl })
+unknown_in_reference names element reference is none =
+    rw is (record { check = reference; is_first = fails_at_once (IsKnown names) reference [] (λ known. let no = subst IsSome none known in cc no); is_its_refusal = refl })

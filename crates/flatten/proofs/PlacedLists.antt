@@ -4,11 +4,11 @@ use Rattle.std.specs.List.{AllZip}
 use Rattle.first_refusal.specs.Laws.{IsUnique}
 use Rattle.first_refusal.specs.Outcomes.{value, goes_on}
 use Rattle.first_refusal.specs.Checks.{all_hold}
-use Rattle.gds_syntax.specs.declared.library.Structure.{Structure}
-use Rattle.layer_map.specs.LayerMap.{LayerMap, layers_of}
-use Rattle.layer_map.specs.Layers.{pairs_of}
-use Rattle.layer_map.specs.Lists.{AreDifferent}
-use Rattle.layer_map.proofs.MappedLaws.{pair_tells_layer}
+use Rattle.library_model.specs.declared.library.Structure.{Structure}
+use Rattle.map_model.specs.LayerMap.{LayerMap, layers_of}
+use Rattle.map_model.specs.Layers.{pairs_of}
+use Rattle.lists.specs.Differing.{AreDifferent}
+use Rattle.map_model.proofs.MappedLaws.{pair_tells_layer}
 use Rattle.flatten.specs.Structures.{is_mapped}
 use Rattle.flatten.specs.Routes.{Route, mapped_routes, routes as all_routes}
 use Rattle.flatten.specs.Placements.{Placing, PlacingFrom, placed_routes}
@@ -81,10 +81,11 @@ module _ (layer_map : LayerMap) where
   have_ends (route ∷ routes) = one_end_more route (mapped_routes layer_map routes) (have_ends routes) (is_mapped layer_map route.shape) refl
 
   module _ (structures : List Structure) where
-    ends_from : (top : ℕ × Structure) (routes : List Route) → PlacingFrom structures top (placed_routes structures layer_map top) (value routes) → HaveEnds routes
+    ends_from : (top : ℕ) (routes : List Route) → PlacingFrom structures top (placed_routes structures layer_map top) (value routes) → HaveEnds routes
     ends_from top _ (all_hold {v = routes} all is) = subst HaveEnds (sym is) (have_ends (all_routes structures MOST_STEPS top))
 
-    pub placed_shapes_exist : (wanted : Option (List ℕ)) (routes : List Route) → Placing structures layer_map wanted (value routes) → (placed : List Placed) × ArePlaced structures layer_map wanted placed
+    pub placed_shapes_exist : (wanted : Option (List ℕ)) (routes : List Route) → Placing structures layer_map wanted (value routes) → (placed : List Placed)
+        × ArePlaced structures layer_map wanted placed
     placed_shapes_exist wanted routes placing = let ends = ends_of routes placing in (ends.0, record { routes = routes; placing = placing; ends = ends.1 })
       where
         ends_of : (routes : List Route) → Placing structures layer_map wanted (value routes) → HaveEnds routes

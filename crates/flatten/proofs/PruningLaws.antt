@@ -1,26 +1,19 @@
 -- structures that place nothing
 use Rattle.std.proofs.Common.{ℕ, zero, suc, ◌+◌, ◌*◌, ◌≤◌, ◌≡◌, List, [], ◌∷◌, ◌++◌, map, Vec, Option, Some, None, refl, ap, ◌∙◌, arith}
-use Rattle.std.specs.Prelude.{Contains, flat_map, slice_get}
+use Rattle.std.specs.Prelude.{Contains, flat_map}
 use Rattle.std.specs.Borrow.{Bor}
 use Rattle.std.specs.Global.{Global}
-use Rattle.std.specs.List.{enumerate_from}
-use Rattle.std.specs.Option.{option_map_or}
-use Rattle.gds_syntax.specs.Names.{NamesDiffer, names_of}
-use Rattle.gds_syntax.specs.declared.element.Lattice.{Lattice}
-use Rattle.gds_syntax.specs.declared.element.Reference.{Reference}
-use Rattle.gds_syntax.specs.declared.library.Structure.{Structure}
-use Rattle.layer_map.specs.LayerMap.{LayerMap}
+use Rattle.library_model.specs.declared.element.Lattice.{Lattice}
+use Rattle.library_model.specs.declared.element.Reference.{Reference}
 use Rattle.flatten.specs.Steps.{Step, steps_of, rows_of, columns_of}
-use Rattle.flatten.specs.Routes.{Route, behind_step, routes, mapped_routes}
-use Rattle.flatten.specs.Parts.{AreNodes}
-use Rattle.flatten.specs.Parts.{parts_at}
-use Rattle.flatten.specs.Weights.{Weight, weight_over, Weighs, weighs, copies_of}
-use Rattle.flatten.specs.Ends.{routes_from, part_routes}
+use Rattle.flatten.specs.Routes.{Route, behind_step}
+use Rattle.flatten.specs.inside.Parts.{parts_at}
+use Rattle.flatten.specs.inside.Weights.{Weight, weight_over, Weighs, weighs, copies_of}
+use Rattle.flatten.specs.inside.Ends.{node_routes, part_routes, routes_below}
 use Rattle.flatten.specs.declared.part.Part.{Part}
 use Rattle.flatten.specs.declared.part.Part.TheVariants.{End, Copies}
-use Rattle.flatten.proofs.ListLaws.{Contains-head, Contains-tail}
-use Rattle.flatten.proofs.GraphLaws.{named_at, leads_on, parts_of_at}
-use Rattle.flatten.proofs.CountLaws.{parts_last, parts_on}
+use Rattle.flatten.proofs.CountLaws.{node_routes-is}
+use Rattle.lists.proofs.Containing.{Contains-head, Contains-tail}
 
 -- a reference makes a copy at least
 product : (a b : ℕ) → 1 ≤ a → 1 ≤ b → 1 ≤ a * b
@@ -49,20 +42,24 @@ nothing_in one of from (End element layer shape ∷ parts) none barren = let no 
 nothing_in one of from (Copies reference target ∷ parts) none barren =
     let here : copies_of reference.now * (of target).shapes ≡ 0 = let both : copies_of reference.now * (of target).shapes + (weight_over of parts).shapes ≡ 0 = none in omega arith in
     let behind : (weight_over of parts).shapes ≡ 0 = let both : copies_of reference.now * (of target).shapes + (weight_over of parts).shapes ≡ 0 = none in omega arith in
-    let target_barren : from target ≡ [] = barren reference target (Contains-head (Copies reference target) parts) (no_shapes (copies_of reference.now) (of target).shapes (some_copies reference.now.lattice) here) in
+    let target_barren : from target ≡ [] = barren reference target (Contains-head (Copies reference target) parts)
+    (no_shapes (copies_of reference.now) (of target).shapes (some_copies reference.now.lattice) here) in
     let rest : flat_map (part_routes from one) parts ≡ [] = nothing_in one of from parts behind (λ r t there. barren r t (Contains-tail (Copies reference target) parts (Copies r t) there)) in
     ap (λ routes. flat_map (λ step. map (behind_step step) routes) (steps_of reference.now) ++ flat_map (part_routes from one) parts) target_barren
     ∙ ap (λ routes. routes ++ flat_map (part_routes from one) parts) (no_routes (steps_of reference.now)) ∙ rest
 
-module _ (structures : List Structure) (layer_map : LayerMap) (differ : NamesDiffer (names_of structures)) (nodes : List (Vec Part Global)) (are_nodes : AreNodes (names_of structures) layer_map structures nodes) where
-  -- a structure that weighs no shapes has no mapped routes, however many steps they may have
-  pub barren : (one : ℕ) (w : Weight) → Weighs nodes one w → w.shapes ≡ 0 → (s : Structure) → slice_get structures one ≡ Some s → (k : ℕ) → mapped_routes layer_map (routes structures k (one, s)) ≡ []
-  barren one w (weighs of each) none s is zero =
-      parts_last structures layer_map differ nodes are_nodes one s is ∙ nothing_in one of (λ target. []) (parts_at nodes one) none (λ reference target there no. refl)
-  barren one w (weighs of each) none s is (suc k) =
-      parts_on structures layer_map differ nodes are_nodes k one s is ∙ nothing_in one of (routes_from structures layer_map k) (parts_at nodes one) none
-      (λ reference target there no.
-      let known = leads_on structures layer_map differ (enumerate_from 0 s.elements) (parts_at nodes one) (parts_of_at structures layer_map differ nodes are_nodes one s is) reference target there in
-      let own = named_at structures layer_map differ reference.now target known.1 in
-      ap (λ o. option_map_or (λ structure. mapped_routes layer_map (routes structures k (target, structure))) o []) own.1
-      ∙ barren target (of target) (each target (reference, there)) no own.0 own.1 k)
+module _ (nodes : List (Vec Part Global)) where
+  below : (target : ℕ) → ((k : ℕ) → node_routes nodes k target ≡ []) → (k : ℕ) → routes_below nodes k target ≡ []
+  below target none zero = refl
+  below target none (suc k) = none k
+
+  -- a structure that weighs no shapes has no routes, however many steps they may have
+  pub barren : (one : ℕ) (w : Weight) → Weighs nodes one w → w.shapes ≡ 0 → (k : ℕ) → node_routes nodes k one ≡ []
+  barren one w (weighs of each) none k =
+      node_routes-is nodes k one
+      ∙ nothing_in one of (routes_below nodes k) (parts_at nodes one) none (λ reference target there no. below target (barren target (of target) (each target (reference, there)) no) k)
+
+  -- copies of a structure that has no routes have none
+  pub nothing_there : (k one target : ℕ) (reference : Bor Reference) → ((j : ℕ) → node_routes nodes j target ≡ []) → part_routes (routes_below nodes k) one (Copies reference target) ≡ []
+  nothing_there k one target reference none =
+      ap (λ routes. flat_map (λ step. map (behind_step step) routes) (steps_of reference.now)) (below target none k) ∙ no_routes (steps_of reference.now)

@@ -1,16 +1,16 @@
 -- ranges of placed points
-use Rattle.std.proofs.Common.{◌≡◌, ◌↔◌, Bool, sym, subst}
+use Rattle.std.proofs.Common.{◌≡◌, ◌↔◌, Bool, false, sym, subst}
 use Rattle.std.specs.Prelude.{ℤ, neg_ℤ, ◌≤ℤ◌, IsTrue}
 use Rattle.geo_core.specs.declared.bounds.TheConstants.{FARTHEST}
-use Rattle.geo_core.specs.Turns.{PlanePoint}
-use Rattle.flatten.specs.Placements.{IsInRange}
+use Rattle.geo_core.specs.declared.plane.Point.{Point}
+use Rattle.geo_core.specs.Bounds.{IsInRange}
 
 -- the coordinate is near enough to 0
 abbrev pub IsNear : ℤ → Type 0
 IsNear a = (neg_ℤ FARTHEST ≤ℤ a) × (a ≤ℤ FARTHEST)
 
 -- a point is in range where both of its coordinates are
-module _ (p : PlanePoint) (x y : ℤ) (across : x ≡ p.x) (up : y ≡ p.y) where
+module _ (p : Point) (x y : ℤ) (across : x ≡ p.x) (up : y ≡ p.y) where
   pub in_range_both : (b : Bool) → IsNear x → IsTrue b ↔ IsNear y → IsTrue b ↔ IsInRange p
   in_range_both b near is = (to, from)
     where
@@ -22,3 +22,7 @@ module _ (p : PlanePoint) (x y : ℤ) (across : x ≡ p.x) (up : y ≡ p.y) wher
 
       from : IsInRange p → IsTrue b
       from r = is.1 (subst IsNear (sym up) (r.bottom, r.top))
+
+-- and it is not where one of them is not
+pub beyond_across : (p : Point) (x : ℤ) → x ≡ p.x → (b : Bool) → b ≡ false → IsTrue b ↔ IsNear x → IsTrue b ↔ IsInRange p
+beyond_across p x across b f is = (λ t. absurd (let no : ⊥ = cc in no), λ r. is.1 (subst IsNear (sym across) (r.left, r.right)))

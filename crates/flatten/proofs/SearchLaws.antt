@@ -11,21 +11,22 @@ use Rattle.std.proofs.lemmas.Option.{slice_get_read}
 use Rattle.std.proofs.lemmas.List.{get_or-set_same, get_or-set_other, get_or_default}
 use Rattle.std.proofs.lemmas.List.Sums.{sum_by-set}
 use Rattle.std.proofs.lemmas.List.Elements.{All-append, All-cons, All-nil, Contains-append_left, Contains-append_right, Contains-append_cases}
-use Rattle.paths.proofs.ListLaws.{equal_or_not}
-use Rattle.gds_syntax.specs.declared.element.Reference.{Reference}
+use Rattle.library_model.specs.declared.element.Reference.{Reference}
 use Rattle.flatten.specs.declared.part.Part.{Part}
 use Rattle.flatten.specs.declared.part.Part.TheVariants.{Copies}
 use Rattle.flatten.specs.declared.summary.Summary.{Summary}
 use Rattle.flatten.specs.declared.summary.State.{State}
 use Rattle.flatten.specs.declared.summary.State.TheVariants.{New, Open, Done}
-use Rattle.flatten.specs.Parts.{LeadsTo, parts_at, Leads}
-use Rattle.flatten.specs.Weights.{Weight, no_weight, weight_over, Weighs, weighs, IsKept}
-use Rattle.flatten.specs.Surveys.{state_of, AreTrue, AreWeighed, AreSettled, KeepsDone}
-use Rattle.flatten.specs.Searches.{IsDoneBefore, IsWay, IsSearch, steps_left, steps_of_state}
-use Rattle.flatten.proofs.ListLaws.{Contains-none, Contains-head, Contains-cons_cases}
+use Rattle.flatten.specs.inside.Parts.{LeadsTo, parts_at, Leads}
+use Rattle.flatten.specs.inside.Weights.{Weight, no_weight, weight_over, Weighs, weighs, IsKept}
+use Rattle.flatten.specs.inside.Surveys.{state_of, AreTrue, AreWeighed, AreSettled, KeepsDone}
+use Rattle.flatten.specs.inside.Searches.{IsDoneBefore, IsWay, IsSearch, steps_left, steps_of_state}
+use Rattle.lists.proofs.Comparing.{equal_or_not}
+use Rattle.lists.proofs.Containing.{Contains-cons_cases, Contains-head, Contains-none}
 
 -- the parts that are read at a number
-pub parts_read : (nodes : List (Vec Part Global)) (one : ℕ) (parts : Vec Part Global) (got : List Part) → got ≡ parts.items → one < length nodes → parts ≡ get_or nodes one parts → got ≡ parts_at nodes one
+pub parts_read : (nodes : List (Vec Part Global)) (one : ℕ) (parts : Vec Part Global) (got : List Part) → got ≡ parts.items → one < length nodes → parts ≡ get_or nodes one parts
+    → got ≡ parts_at nodes one
 parts_read nodes one parts got e h is = e ∙ sym (ap (λ o. option_map_or (λ p. p.items) o []) (slice_get_read nodes (length nodes) one parts refl h is))
 
 -- what is neither open nor done is new
@@ -70,6 +71,20 @@ module _ (nodes : List (Vec Part Global)) (states : List State) (are_true : AreT
     weigh_all one e = subst (λ p. Weighs nodes one (weight_over weight_at p)) (sym e) (weighs weight_at (λ other leads.
         let known = done_at leads.0 other (subst (λ p. Contains p (Copies leads.0 other)) (sym e) leads.1) in (told_at other known.0 known.1).0))
 
+-- states of which one is set: that one, and the others as they were
+at_set : (states : List State) (one : ℕ) (state : State) → one < length states → state_of (set states one state) one ≡ state
+at_set states one state within = get_or-set_same states one state New within
+
+off_set : (states : List State) (one : ℕ) (state : State) (other : ℕ) → other ≢ one → state_of (set states one state) other ≡ state_of states other
+off_set states one state other apart = get_or-set_other states one other state New apart
+
+by_set : (states : List State) (one : ℕ) (state : State) → one < length states → (P : ℕ → State → Type 0) → P one state → ((other : ℕ) → other ≢ one → P other (state_of states other)) → (other : ℕ)
+    → P other (state_of (set states one state) other)
+by_set states one state within P for_one for_rest other = elim (equal_or_not other one) [
+  | inl e ↦ subst (λ y. P y (state_of (set states one state) y)) (sym e) (subst (P one) (sym (at_set states one state within)) for_one)
+  | inr apart ↦ subst (P other) (sym (off_set states one state other apart)) (for_rest other apart)
+]
+
 module _ (nodes : List (Vec Part Global)) (root : ℕ) (states : List State) (before : List ℕ) (one : ℕ) (search : IsSearch nodes root states (before ++ one ∷ [])) where
   abbrev stack : List ℕ
   stack = before ++ one ∷ []
@@ -83,14 +98,18 @@ module _ (nodes : List (Vec Part Global)) (root : ℕ) (states : List State) (be
   first_are : (i d : ℕ) → i < length before → get_or stack i d ≡ get_or before i d
   first_are i d h = get_or-append before (one ∷ []) d i h
 
-  pub one_in_nodes : one < length nodes
+  one_in_nodes : one < length nodes
   one_in_nodes = subst (λ x. x < length nodes) (last_is one) (search.in_nodes (length before) one (omega (arith, stack-long)))
+
+  -- the parts that are read of it
+  pub parts_last : (parts : Vec Part Global) (got : List Part) → got ≡ parts.items → parts ≡ get_or nodes one parts → got ≡ parts_at nodes one
+  parts_last parts got e is = parts_read nodes one parts got e one_in_nodes is
 
   -- a structure on the stack that is not the last is one before it
   on_before : (x : ℕ) → Contains stack x → x ≢ one → Contains before x
   on_before x there other = elim (Contains-append_cases before (one ∷ []) x there) [
     | inl h ↦ h
-    | inr h ↦ elim (Contains-cons_cases one [] x h) [ inl e ↦ absurd (other (sym e)) | inr nothing ↦ absurd (Contains-none x nothing) ]
+    | inr h ↦ elim (Contains-cons_cases one [] x h) [ inl e ↦ absurd (other (sym e)) | inr nothing ↦ absurd (Contains-none nothing) ]
   ]
 
   way_before : IsWay nodes before
@@ -137,49 +156,30 @@ module _ (nodes : List (Vec Part Global)) (root : ℕ) (states : List State) (be
     pub chains_from_root : (n : ℕ) → Leads nodes n root
     chains_from_root n = chains n root (0, omega (arith, stack-long), search.begins root (omega (arith, stack-long)))
 
-  -- states that change at one place
-  module _ (state : State) where
-    abbrev after : List State
-    after = set states one state
-
-    at_one : state_of after one ≡ state
-    at_one = get_or-set_same states one state New (omega (arith, search.long, one_in_nodes))
-
-    elsewhere : (x : ℕ) → x ≢ one → state_of after x ≡ state_of states x
-    elsewhere x other = get_or-set_other states one x state New other
+  one_within : one < length states
+  one_within = omega (arith, search.long, one_in_nodes)
 
   -- the last structure is done
   module _ (summary : Summary) (was_open : (s : Summary) → state_of states one ≡ Done s → ⊥) (now_true : (weight : Weight) × Weighs nodes one weight × IsKept weight summary) where
+    abbrev by_change : (P : ℕ → State → Type 0) → P one (Done summary) → ((other : ℕ) → other ≢ one → P other (state_of states other)) → (other : ℕ)
+        → P other (state_of (set states one (Done summary)) other)
+    by_change = by_set states one (Done summary) one_within
+
     pub keeps_done : KeepsDone states (set states one (Done summary))
-    keeps_done x s done = elsewhere (Done summary) x (λ e. was_open s (subst (λ y. state_of states y ≡ Done s) e done)) ∙ done
+    keeps_done = by_change (λ x state. (s : Summary) → state_of states x ≡ Done s → state ≡ Done s) (λ s d. absurd (was_open s d)) (λ x apart s d. d)
 
     pub done_now : IsSearch nodes root (set states one (Done summary)) before
     done_now = record {
       long = length-set states one (Done summary) ∙ search.long;
-      are_true = λ x s done. elim (equal_or_not x one) [
-        | inl e ↦
-            let here : state_of (set states one (Done summary)) one ≡ Done s = subst (λ y. state_of (set states one (Done summary)) y ≡ Done s) e done in
-            let same : summary ≡ s = cc (at_one (Done summary)) in
-            (now_true.0, subst (λ y. Weighs nodes y now_true.0) (sym e) now_true.1, subst (IsKept now_true.0) same now_true.2)
-        | inr apart ↦ search.are_true x s (sym (elsewhere (Done summary) x apart) ∙ done)
-      ];
-      done_before = λ x next is_open. elim (equal_or_not x one) [
-        | inl e ↦ absurd (let here : state_of (set states one (Done summary)) one ≡ Open next = subst (λ y. state_of (set states one (Done summary)) y ≡ Open next) e is_open in let there = at_one (Done summary) in cc)
-        | inr apart ↦ λ k reference target h is.
-            let was = search.done_before x next (sym (elsewhere (Done summary) x apart) ∙ is_open) k reference target h is in
-            (was.0, keeps_done target was.0 was.1)
-      ];
-      open_on_stack = λ x next is_open. elim (equal_or_not x one) [
-        | inl e ↦ absurd (let here : state_of (set states one (Done summary)) one ≡ Open next = subst (λ y. state_of (set states one (Done summary)) y ≡ Open next) e is_open in let there = at_one (Done summary) in cc)
-        | inr apart ↦ on_before x (search.open_on_stack x next (sym (elsewhere (Done summary) x apart) ∙ is_open)) apart
-      ];
+      are_true = by_change (λ x state. (s : Summary) → state ≡ Done s → (weight : Weight) × Weighs nodes x weight × IsKept weight s)
+          (λ s d. let same : summary ≡ s = cc d in (now_true.0, now_true.1, subst (IsKept now_true.0) same now_true.2)) (λ x apart. search.are_true x);
+      done_before = by_change (λ x state. (next : ℕ) → state ≡ Open next → IsDoneBefore (set states one (Done summary)) (parts_at nodes x) next) (λ next e. cc e)
+          (λ x apart next is_open k reference target h is. let was = search.done_before x next is_open k reference target h is in (was.0, keeps_done target was.0 was.1));
+      open_on_stack = by_change (λ x state. (next : ℕ) → state ≡ Open next → Contains before x) (λ next e. cc e) (λ x apart next is_open. on_before x (search.open_on_stack x next is_open) apart);
       way = way_before;
       in_nodes = in_nodes_before;
       begins = begins_before;
-      reached = λ new. elim (equal_or_not root one) [
-        | inl e ↦ let here : state_of (set states one (Done summary)) one ≡ New = subst (λ y. state_of (set states one (Done summary)) y ≡ New) e new in let there = at_one (Done summary) in cc
-        | inr apart ↦ search.reached (sym (elsewhere (Done summary) root apart) ∙ new)
-      ];
+      reached = by_change (λ x state. x ≡ root → state ≢ New) (λ e new. cc new) (λ x apart e new. search.reached (subst (λ y. state_of states y ≡ New) e new)) root refl;
     }
 
   -- the last structure refers to a new one, on which the search goes on
@@ -197,24 +197,14 @@ module _ (nodes : List (Vec Part Global)) (root : ℕ) (states : List State) (be
     long_pushed : length pushed ≡ length nodes
     long_pushed = length-set opened other (Open 0) ∙ length-set states one (Open place) ∙ search.long
 
-    at_other : state_of pushed other ≡ Open 0
-    at_other = get_or-set_same opened other (Open 0) New (omega (arith, within, search.long, length-set states one (Open place)))
-
-    at_last : state_of pushed one ≡ Open place
-    at_last = get_or-set_other opened other one (Open 0) New (λ e. apart (sym e)) ∙ at_one (Open place)
-
-    at_rest : (x : ℕ) → x ≢ other → x ≢ one → state_of pushed x ≡ state_of states x
-    at_rest x n m = get_or-set_other opened other x (Open 0) New n ∙ elsewhere (Open place) x m
+    other_within : other < length opened
+    other_within = omega (arith, within, search.long, length-set states one (Open place))
 
     -- what the state of a structure is now, by which it is
     by_place : (P : ℕ → State → Type 0) → P other (Open 0) → P one (Open place) → ((x : ℕ) → x ≢ other → x ≢ one → P x (state_of states x)) → (x : ℕ) → P x (state_of pushed x)
-    by_place P for_other for_one for_rest x = elim (equal_or_not x other) [
-      | inl e ↦ subst (λ y. P y (state_of pushed y)) (sym e) (subst (P other) (sym at_other) for_other)
-      | inr n ↦ elim (equal_or_not x one) [
-        | inl e ↦ subst (λ y. P y (state_of pushed y)) (sym e) (subst (P one) (sym at_last) for_one)
-        | inr m ↦ subst (P x) (sym (at_rest x n m)) (for_rest x n m)
-      ]
-    ]
+    by_place P for_other for_one for_rest =
+        by_set opened other (Open 0) other_within P for_other
+        (λ x n. by_set states one (Open place) one_within (λ y state. y ≢ other → P y state) (λ m. for_one) (λ y m k. for_rest y k m) x n)
 
     pub keeps_done_pushed : KeepsDone states pushed
     keeps_done_pushed = by_place (λ x state. (s : Summary) → state_of states x ≡ Done s → state ≡ Done s)
@@ -269,27 +259,24 @@ module _ (nodes : List (Vec Part Global)) (root : ℕ) (states : List State) (be
 
     pub fewer_left : steps_left pushed longer ≤ steps_left states before
     fewer_left =
-        let first : sum_by steps_of_state opened + steps_of_state (state_of states one) ≡ sum_by steps_of_state states + 0 = sum_by-set steps_of_state states one (Open place) New (omega (arith, search.long, one_in_nodes)) in
-        let second : sum_by steps_of_state pushed + steps_of_state (state_of opened other) ≡ sum_by steps_of_state opened + 0 = sum_by-set steps_of_state opened other (Open 0) New (omega (arith, within, search.long, length-set states one (Open place))) in
-        let two : steps_of_state (state_of opened other) ≡ 2 = ap steps_of_state (elsewhere (Open place) other apart ∙ new) in
+        let first : sum_by steps_of_state opened + steps_of_state (state_of states one) ≡ sum_by steps_of_state states + 0 =
+        sum_by-set steps_of_state states one (Open place) New (omega (arith, search.long, one_in_nodes)) in
+        let second : sum_by steps_of_state pushed + steps_of_state (state_of opened other) ≡ sum_by steps_of_state opened + 0 =
+        sum_by-set steps_of_state opened other (Open 0) New (omega (arith, within, search.long, length-set states one (Open place))) in
+        let two : steps_of_state (state_of opened other) ≡ 2 = ap steps_of_state (off_set states one (Open place) other apart ∙ new) in
         omega (arith, stack-long, longer-long)
 
 -- a search begins at a new structure
-module _ (nodes : List (Vec Part Global)) (root : ℕ) (states : List State) (long : length states ≡ length nodes) (within : root < length nodes) (new : state_of states root ≡ New) (settled : AreSettled nodes states) where
+module _ (nodes : List (Vec Part Global)) (root : ℕ) (states : List State) (long : length states ≡ length nodes) (within : root < length nodes) (new : state_of states root ≡ New)
+    (settled : AreSettled nodes states) where
   abbrev begun : List State
   begun = set states root (Open 0)
 
-  at_root : state_of begun root ≡ Open 0
-  at_root = get_or-set_same states root (Open 0) New (omega (arith, long))
-
-  off_root : (x : ℕ) → x ≢ root → state_of begun x ≡ state_of states x
-  off_root x other = get_or-set_other states root x (Open 0) New other
+  root_within : root < length states
+  root_within = omega (arith, long)
 
   by_root : (P : ℕ → State → Type 0) → P root (Open 0) → ((x : ℕ) → x ≢ root → P x (state_of states x)) → (x : ℕ) → P x (state_of begun x)
-  by_root P for_root for_rest x = elim (equal_or_not x root) [
-    | inl e ↦ subst (λ y. P y (state_of begun y)) (sym e) (subst (P root) (sym at_root) for_root)
-    | inr n ↦ subst (P x) (sym (off_root x n)) (for_rest x n)
-  ]
+  by_root = by_set states root (Open 0) root_within
 
   pub begins_keeping : KeepsDone states begun
   begins_keeping = by_root (λ x state. (s : Summary) → state_of states x ≡ Done s → state ≡ Done s) (λ s d. cc new) (λ x n s d. d)
@@ -305,7 +292,7 @@ module _ (nodes : List (Vec Part Global)) (root : ℕ) (states : List State) (lo
     way = λ i d h. absurd (omega arith);
     in_nodes = All-cons (λ x. x < length nodes) root [] within (All-nil (λ x. x < length nodes));
     begins = λ d h. refl;
-    reached = λ e. cc at_root;
+    reached = λ e. let new : Open 0 ≡ New = sym (at_set states root (Open 0) root_within) ∙ e in cc new;
   }
 
 -- a search that has come to its end
@@ -313,7 +300,7 @@ module _ (nodes : List (Vec Part Global)) (root : ℕ) (states : List State) (st
   pub ends_settled : AreSettled nodes states
   ends_settled = record {
     are_true = search.are_true;
-    none_open = λ x next is_open. Contains-none x (subst (λ l. Contains l x) empty (search.open_on_stack x next is_open));
+    none_open = λ x next is_open. Contains-none (subst (λ l. Contains l x) empty (search.open_on_stack x next is_open));
   }
 
   pub ends_done : (summary : Summary) × (state_of states root ≡ Done summary)

@@ -2,13 +2,14 @@
 use Rattle.std.proofs.Common.{ℕ, ◌≡◌, ◌↔◌, Bool, true, false, List, [], ◌∷◌, refl, sym, subst}
 use Rattle.std.specs.Prelude.{All, IsTrue}
 use Rattle.std.proofs.lemmas.List.Elements.{All-weaker}
-use Rattle.gds_syntax.specs.declared.element.Shape.{Shape}
+use Rattle.library_model.specs.declared.element.Shape.{Shape}
 use Rattle.first_refusal.proofs.CheckLaws.{fails_at_once}
-use Rattle.flatten.specs.Steps.{Step, plane_point, moved_along}
+use Rattle.flatten.specs.Steps.{Step, moved_along}
 use Rattle.flatten.specs.Routes.{Route}
 use Rattle.flatten.specs.Motions.{MovesAlong, image_by}
-use Rattle.flatten.specs.Placements.{IsInRange, PlacesInRange}
-use Rattle.flatten.specs.Expansions.{IsFirstBeyond}
+use Rattle.flatten.specs.Placements.{PlacesInRange}
+use Rattle.geo_core.specs.Bounds.{IsInRange}
+use Rattle.flatten.specs.inside.Expansions.{IsFirstBeyond}
 use Rattle.flatten.specs.declared.fault.PlaceFault.TheVariants.{OutOfRange}
 use Rattle.flatten.specs.declared.motion.Motion.{Motion}
 
@@ -18,13 +19,10 @@ module _ (motion : Motion) (steps : List Step) (structure element : ℕ) (shape 
   route = record { steps = steps; structure = structure; element = element; shape = shape }
 
   abbrev AreNear : Type 0
-  AreNear = All (λ point. IsInRange (image_by motion (plane_point point))) shape.points
-
-  in_range_along : AreNear → PlacesInRange route
-  in_range_along = All-weaker (λ point. IsInRange (image_by motion (plane_point point))) (λ point. IsInRange (moved_along steps (plane_point point))) (λ point h. subst IsInRange (moves (plane_point point)) h) shape.points
+  AreNear = All (λ point. IsInRange (image_by motion point)) shape.points
 
   in_range_by : PlacesInRange route → AreNear
-  in_range_by = All-weaker (λ point. IsInRange (moved_along steps (plane_point point))) (λ point. IsInRange (image_by motion (plane_point point))) (λ point h. subst IsInRange (sym (moves (plane_point point))) h) shape.points
+  in_range_by = All-weaker (λ point. IsInRange (moved_along steps point)) (λ point. IsInRange (image_by motion point)) (λ point h. subst IsInRange (sym (moves point)) h) shape.points
 
   module _ (test : Bool) (decides : IsTrue test ↔ AreNear) where
     pub beyond : test ≡ false → IsFirstBeyond (route ∷ []) (OutOfRange shape.at)

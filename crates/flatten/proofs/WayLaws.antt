@@ -1,17 +1,17 @@
 -- one step further
 use Rattle.std.proofs.Common.{ℕ, suc, ◌+◌, ◌*◌, ◌-◌, ◌^◌, ◌≤◌, ◌≡◌, List, [], ◌∷◌, ◌++◌, refl, ap, sym, ◌∙◌, arith}
-use Rattle.geo_core.specs.Turns.{PlanePoint}
+use Rattle.geo_core.specs.declared.plane.Point.{Point}
 use Rattle.flatten.specs.Steps.{Step, moved_by, moved_along}
 use Rattle.flatten.specs.Motions.{MovesAlong, image_by}
 use Rattle.flatten.specs.declared.motion.Motion.{Motion}
 
 -- the last step moves a point first
-pub moved_along-last : (steps : List Step) (step : Step) (p : PlanePoint) → moved_along (steps ++ step ∷ []) p ≡ moved_along steps (moved_by step p)
+pub moved_along-last : (steps : List Step) (step : Step) (p : Point) → moved_along (steps ++ step ∷ []) p ≡ moved_along steps (moved_by step p)
 moved_along-last [] step p = refl
 moved_along-last (first ∷ steps) step p = ap (moved_by first) (moved_along-last steps step p)
 
-pub moves_on : (motion inner both : Motion) (steps : List Step) (step : Step) → MovesAlong motion steps → ((p : PlanePoint) → image_by inner p ≡ moved_by step p)
-    → ((p : PlanePoint) → image_by both p ≡ image_by motion (image_by inner p)) → MovesAlong both (steps ++ step ∷ [])
+pub moves_on : (motion inner both : Motion) (steps : List Step) (step : Step) → MovesAlong motion steps → ((p : Point) → image_by inner p ≡ moved_by step p)
+    → ((p : Point) → image_by both p ≡ image_by motion (image_by inner p)) → MovesAlong both (steps ++ step ∷ [])
 moves_on motion inner both steps step moves one two p =
     two p ∙ ap (image_by motion) (one p) ∙ moves (moved_by step p) ∙ sym (moved_along-last steps step p)
 

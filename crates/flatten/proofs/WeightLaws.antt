@@ -4,14 +4,14 @@ use Rattle.std.specs.Prelude.{Contains}
 use Rattle.std.specs.Borrow.{Bor}
 use Rattle.std.proofs.Math.Seq.{drop-cons}
 use Rattle.std.proofs.lemmas.List.{drop_all}
-use Rattle.gds_syntax.specs.declared.element.Reference.{Reference}
+use Rattle.library_model.specs.declared.element.Reference.{Reference}
 use Rattle.flatten.specs.declared.part.Part.{Part}
 use Rattle.flatten.specs.declared.part.Part.TheVariants.{Copies}
 use Rattle.flatten.specs.declared.summary.State.{State}
-use Rattle.flatten.specs.Parts.{AreBelow}
-use Rattle.flatten.specs.Weights.{Weight, no_weight, both_weights, weight_of, weight_over}
-use Rattle.flatten.specs.Surveys.{AreWeighed}
-use Rattle.flatten.proofs.ListLaws.{Contains-none, Contains-cons_cases}
+use Rattle.flatten.specs.inside.Parts.{AreBelow}
+use Rattle.flatten.specs.inside.Weights.{Weight, no_weight, both_weights, weight_of, weight_over}
+use Rattle.flatten.specs.inside.Surveys.{AreWeighed}
+use Rattle.lists.proofs.Containing.{Contains-cons_cases, Contains-none}
 
 -- equal numbers, equal weights
 pub same_weights : (h h' s s' p p' : ℕ) → h ≡ h' → s ≡ s' → p ≡ p'
@@ -50,7 +50,8 @@ module _ (of : ℕ → Weight) (parts : List Part) (i : ℕ) (weight : Weight) (
       ∙ ap (both_weights weight) (sym parted) ∙ before
     where
       parted : weight_over of (drop i parts) ≡ both_weights (weight_of of part) (weight_over of (drop (i + 1) parts))
-      parted = ap (weight_over of) (drop-cons parts i part more ∙ ap (λ x. x ∷ drop (suc i) parts) (sym is)) ∙ ap (λ k. both_weights (weight_of of part) (weight_over of (drop k parts))) (sym (add-one i))
+      parted = ap (weight_over of) (drop-cons parts i part more ∙ ap (λ x. x ∷ drop (suc i) parts) (sym is))
+          ∙ ap (λ k. both_weights (weight_of of part) (weight_over of (drop k parts))) (sym (add-one i))
 
   -- and past the last
   pub weight_all : length parts ≤ i → weight ≡ all
@@ -61,7 +62,7 @@ module _ (parts : List Part) (i : ℕ) (part : Part) (more : i < length parts) (
   one_there : (reference : Bor Reference) (target : ℕ) → Contains (part ∷ []) (Copies reference target) → Contains parts (Copies reference target)
   one_there reference target there = elim (Contains-cons_cases part [] (Copies reference target) there) [
     | inl e ↦ subst (Contains parts) e (i, more, sym is)
-    | inr there_none ↦ absurd (Contains-none (Copies reference target) there_none)
+    | inr there_none ↦ absurd (Contains-none there_none)
   ]
 
   pub below_one : (count : ℕ) → AreBelow count parts → AreBelow count (part ∷ [])

@@ -3,9 +3,9 @@ use Rattle.std.specs.Prelude.{pos, negsuc, true, false, List, [], ◌∷◌, Som
 use Rattle.std.proofs.Common.{lit<, lit≤}
 use Rattle.std.proofs.Math.Facts.{sfits_lit}
 use Rattle.std.proofs.lemmas.List.Elements.{All-nil}
-use Rattle.geo_core.specs.Turns.{PlanePoint}
-use Rattle.gds_syntax.specs.declared.element.Lattice.{Lattice}
-use Rattle.gds_syntax.specs.declared.element.Reference.{Reference}
+use Rattle.geo_core.specs.declared.plane.Point.{Point}
+use Rattle.library_model.specs.declared.element.Lattice.{Lattice}
+use Rattle.library_model.specs.declared.element.Reference.{Reference}
 use Rattle.flatten.specs.Steps.{Step}
 
 -- two columns, 10 apart to the right, and two rows, 20 apart upwards
@@ -52,18 +52,18 @@ quarter_step = record {
 }
 
 -- the point (3, 1) of the structure that is placed
-abbrev pub corner : PlanePoint
+abbrev pub corner : Point
 corner = record { x = pos 3; y = pos 1 }
 
 -- Where the array places it. Mirrored it is (3, -1), and turned (1, 3). Columns go to the right and rows go up, although the
 -- structure is turned.
-abbrev pub placed_corners : List PlanePoint
+abbrev pub placed_corners : List Point
 placed_corners =
     record { x = pos 101; y = pos 53 } ∷ record { x = pos 111; y = pos 53 }
     ∷ record { x = pos 101; y = pos 73 } ∷ record { x = pos 111; y = pos 73 } ∷ []
 
 -- Where the turned placement of the array places it: each of those points turned, so that columns go up and rows to the left.
-abbrev pub turned_corners : List PlanePoint
+abbrev pub turned_corners : List Point
 turned_corners =
     record { x = negsuc 52; y = pos 101 } ∷ record { x = negsuc 52; y = pos 111 }
     ∷ record { x = negsuc 72; y = pos 101 } ∷ record { x = negsuc 72; y = pos 111 } ∷ []

@@ -3,18 +3,12 @@ pub mod Steps
 pub mod ArrayExample
 pub mod Routes
 pub mod OneRoute
-pub mod Chains
+pub mod ReferenceChains
 pub mod Tops
 pub mod Placements
 pub mod PlaceFaults
 pub mod Causes
 pub mod Motions
 pub mod Placed
-pub mod Parts
-pub mod Weights
-pub mod Surveys
-pub mod Searches
-pub mod Ends
-pub mod Marks
-pub mod Plans
-pub mod Expansions
+-- what only this crate's proofs and private contracts cite
+pub mod inside

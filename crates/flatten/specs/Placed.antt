@@ -2,8 +2,8 @@
 use Rattle.std.specs.Prelude.{ℕ, List, Option, ◌≡◌}
 use Rattle.std.specs.List.{AllZip}
 use Rattle.first_refusal.specs.Outcomes.{value}
-use Rattle.gds_syntax.specs.declared.library.Structure.{Structure}
-use Rattle.layer_map.specs.LayerMap.{LayerMap, IsMappedTo}
+use Rattle.library_model.specs.declared.library.Structure.{Structure}
+use Rattle.map_model.specs.LayerMap.{LayerMap, IsMappedTo}
 use Rattle.flatten.specs.Routes.{Route}
 use Rattle.flatten.specs.Motions.{MovesAlong}
 use Rattle.flatten.specs.Placements.{Placing}

@@ -2,12 +2,13 @@
 use Rattle.std.specs.Prelude.{ℕ, zero, suc, List, [], ◌∷◌, map, flat_map, filter, length, sum_by}
 use Rattle.std.specs.List.{enumerate_from}
 use Rattle.std.specs.Option.{option_map_or}
-use Rattle.gds_syntax.specs.declared.element.Element.{Element}
-use Rattle.gds_syntax.specs.declared.element.Element.TheVariants.{Shape as shape_element, Reference as reference_element}
-use Rattle.gds_syntax.specs.declared.element.Shape.{Shape}
-use Rattle.gds_syntax.specs.declared.library.Structure.{Structure}
-use Rattle.layer_map.specs.LayerMap.{LayerMap}
-use Rattle.flatten.specs.Structures.{structure_named, is_mapped}
+use Rattle.library_model.specs.declared.element.Element.{Element}
+use Rattle.library_model.specs.declared.element.Element.TheVariants.{Shape as shape_element, Reference as reference_element}
+use Rattle.library_model.specs.declared.element.Reference.{Reference}
+use Rattle.library_model.specs.declared.element.Shape.{Shape}
+use Rattle.library_model.specs.declared.library.Structure.{Structure}
+use Rattle.map_model.specs.LayerMap.{LayerMap}
+use Rattle.flatten.specs.Structures.{elements_of, is_mapped, target_of}
 use Rattle.flatten.specs.Steps.{Step, steps_of}
 
 -- a route: its steps, and the shape in which it ends, with the numbers of the shape's structure and element
@@ -23,19 +24,27 @@ behind_step step route = record route { steps = step ∷ route.steps }
 
 -- The routes that begin at one element of the structure with this number. A shape is the end of a route without steps.
 -- Each step of a reference goes on by each of the routes that its target has.
-abbrev pub routes_at : (List ℕ → List Route) → ℕ → ℕ × Element → List Route
-routes_at routes_from_target structure (number, shape_element shape) = record { steps = []; structure = structure; element = number; shape = shape } ∷ []
-routes_at routes_from_target structure (number, reference_element reference) = flat_map (λ step. map (behind_step step) (routes_from_target reference.target)) (steps_of reference)
+abbrev pub routes_at : (Reference → List Route) → ℕ → ℕ × Element → List Route
+routes_at routes_from_target structure (number, shape_element shape) = record {
+  steps = [];
+  structure = structure;
+  element = number;
+  shape = shape;
+} ∷ []
+routes_at routes_from_target structure (number, reference_element reference) =
+    flat_map (λ step. map (behind_step step) (routes_from_target reference)) (steps_of reference)
 
 -- the routes from a structure, its elements in file order
-abbrev pub routes_through : (List ℕ → List Route) → ℕ × Structure → List Route
-routes_through routes_from_target start = flat_map (routes_at routes_from_target start.0) (enumerate_from 0 start.1.elements)
+abbrev pub routes_through : List Structure → (Reference → List Route) → ℕ → List Route
+routes_through structures routes_from_target start = flat_map (routes_at routes_from_target start)
+    (enumerate_from 0 (elements_of structures start))
 
 -- The routes from a structure that have at most so many steps: where no step is left, references lead nowhere, and else
 -- on by one step less. A name that no structure has leads nowhere.
-unfoldable pub routes : List Structure → ℕ → ℕ × Structure → List Route
-routes structures zero = routes_through (λ name. [])
-routes structures (suc steps) = routes_through (λ name. option_map_or (routes structures steps) (structure_named structures name) [])
+unfoldable pub routes : List Structure → ℕ → ℕ → List Route
+routes structures zero = routes_through structures (λ reference. [])
+routes structures (suc steps) = routes_through structures (λ reference. option_map_or (routes structures steps)
+    (target_of structures reference) [])
 
 -- those of them that end in a shape of a mapped layer
 abbrev pub mapped_routes : LayerMap → List Route → List Route

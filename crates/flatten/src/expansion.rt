@@ -1,21 +1,12 @@
 //! The expansion of structures: from the top, each part in turn, down to each shape.
 
 ghost use Rattle.std.specs.Prelude.{ℕ, [], ◌∷◌, ◌≡◌, ◌≢◌, ◌≤◌, ◌<◌, ◌-◌, ◌^◌, Contains, List, length, IfOk, IfErr};
-ghost use Rattle.layer_map.specs.LayerMap.{LayerMap, IsMappedTo};
+ghost use Rattle.map_model.specs.LayerMap.{LayerMap, IsMappedTo};
 ghost use Rattle.flatten.specs.Steps.{Step, columns_of, rows_of, steps_in_row, steps_of};
 ghost use Rattle.flatten.specs.Motions.{MovesAlong};
-ghost use Rattle.flatten.specs.Parts.{parts_at};
-ghost use Rattle.flatten.specs.Expansions.{
-  Adds,
-  AddsEnds,
-  HasLibrary,
-  IsFirstBeyond,
-  Refuses,
-  copy_routes_behind,
-  part_routes_behind,
-  route_to,
-  routes_behind,
-};
+ghost use Rattle.flatten.specs.inside.Parts.{parts_at};
+ghost use Rattle.flatten.specs.inside.Ends.{node_routes, part_routes, routes_below};
+ghost use Rattle.flatten.specs.inside.Expansions.{Adds, AddsEnds, HasLibrary, IsFirstBeyond, Refuses, copy_routes, route_to};
 ghost use Rattle.flatten.specs.declared.fault.PlaceFault.TheVariants.{Memory};
 
 use super::fault::PlaceFault;
@@ -25,7 +16,7 @@ use super::plan::Plan;
 use super::pruning::is_barren;
 use super::ranges::are_in_range;
 use super::way::Way;
-use gds_syntax::{Reference, Shape};
+use library_model::{Reference, Shape};
 
 /// Places the shape that is this element of this structure. The way leads to the structure.
 fn place_shape(
@@ -94,9 +85,9 @@ fn expand_row(
     requires more { 1 ≤ way.left }
     requires few { row < 2 ^ 15 }
     ensures placed { IfOk result (λ _.
-        Adds plan.now way.motion (copy_routes_behind (way.left - 1) target (steps_in_row reference.now row)) placed.old.items placed.new.items) }
+        Adds plan.now.nodes.items way.motion (copy_routes plan.now.nodes.items (way.left - 1) target (steps_in_row reference.now row)) placed.old.items placed.new.items) }
     ensures refused { IfErr result (λ fault.
-        Refuses plan.now way.motion (copy_routes_behind (way.left - 1) target (steps_in_row reference.now row)) fault) }
+        Refuses way.motion (copy_routes plan.now.nodes.items (way.left - 1) target (steps_in_row reference.now row)) fault) }
 {
     for column in 0..columns(reference) {
         expand(plan, placed, way.on(reference, column, row), target)?;
@@ -117,9 +108,9 @@ fn expand_copies(
     requires there { target < length plan.now.nodes.items }
     requires more { 1 ≤ way.left }
     ensures placed { IfOk result (λ _.
-        Adds plan.now way.motion (copy_routes_behind (way.left - 1) target (steps_of reference.now)) placed.old.items placed.new.items) }
+        Adds plan.now.nodes.items way.motion (copy_routes plan.now.nodes.items (way.left - 1) target (steps_of reference.now)) placed.old.items placed.new.items) }
     ensures refused { IfErr result (λ fault.
-        Refuses plan.now way.motion (copy_routes_behind (way.left - 1) target (steps_of reference.now)) fault) }
+        Refuses way.motion (copy_routes plan.now.nodes.items (way.left - 1) target (steps_of reference.now)) fault) }
 {
     for row in 0..rows(reference) {
         expand_row(plan, placed, way, reference, target, row)?;
@@ -140,8 +131,8 @@ fn expand_part(
     requires planned { HasLibrary plan.now }
     requires there { Contains (parts_at plan.now.nodes.items one) part.now }
     ensures placed { IfOk result (λ _.
-        Adds plan.now way.motion (part_routes_behind way.left one part.now) placed.old.items placed.new.items) }
-    ensures refused { IfErr result (λ fault. Refuses plan.now way.motion (part_routes_behind way.left one part.now) fault) }
+        Adds plan.now.nodes.items way.motion (part_routes (routes_below plan.now.nodes.items way.left) one part.now) placed.old.items placed.new.items) }
+    ensures refused { IfErr result (λ fault. Refuses way.motion (part_routes (routes_below plan.now.nodes.items way.left) one part.now) fault) }
 {
     match part {
         Part::End {
@@ -170,8 +161,8 @@ pub fn expand(
 ) -> Result<(), PlaceFault>
     requires planned { HasLibrary plan.now }
     requires there { one < length plan.now.nodes.items }
-    ensures placed { IfOk result (λ _. Adds plan.now way.motion (routes_behind way.left one) placed.old.items placed.new.items) }
-    ensures refused { IfErr result (λ fault. Refuses plan.now way.motion (routes_behind way.left one) fault) }
+    ensures placed { IfOk result (λ _. Adds plan.now.nodes.items way.motion (node_routes plan.now.nodes.items way.left one) placed.old.items placed.new.items) }
+    ensures refused { IfErr result (λ fault. Refuses way.motion (node_routes plan.now.nodes.items way.left one) fault) }
 {
     let nodes = plan.nodes.as_slice();
     for part in nodes[one as usize].as_slice() {

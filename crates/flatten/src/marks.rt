@@ -1,6 +1,6 @@
 ghost use Rattle.std.specs.Prelude.{ℕ, [], ◌∷◌, ◌⊎◌, ◌≡◌, ◌<◌, IfOk, length, true};
-ghost use Rattle.flatten.specs.Parts.{AreBelow, AreNodesBelow, LeadsTo, parts_at};
-ghost use Rattle.flatten.specs.Marks.{IsMarked};
+ghost use Rattle.flatten.specs.inside.Parts.{AreBelow, AreNodesBelow, LeadsTo, parts_at};
+ghost use Rattle.flatten.specs.inside.Marks.{IsMarked};
 
 use super::part::Part;
 use geo_core::NoMemory;

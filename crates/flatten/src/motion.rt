@@ -1,6 +1,6 @@
 use super::offset::{both_shifts, lattice_offset};
-use gds_syntax::{Lattice, Reference};
 use geo_core::{Turn, after, turn_point};
+use library_model::{Lattice, Reference};
 
 /// A motion of the plane: a turn, and then a shift to the right and up, in database units.
 #[derive(Clone, Copy, Debug, PartialEq, Eq)]
@@ -12,7 +12,7 @@ pub struct Motion {
 
 impl Motion {
     ghost use Rattle.std.specs.Prelude.{ℕ, suc, [], ◌≡◌, ◌≤◌, ◌<◌, ◌^◌};
-    ghost use Rattle.geo_core.specs.Turns.{PlanePoint};
+    ghost use Rattle.geo_core.specs.declared.plane.Point.{Point as PlanePoint};
     ghost use Rattle.flatten.specs.Steps.{moved_by};
     ghost use Rattle.flatten.specs.Motions.{MovesAlong, ShiftsAtMost, image_by};
 

@@ -1,4 +1,4 @@
-use gds_syntax::{Reference, Shape};
+use library_model::{Reference, Shape};
 
 /// What is followed of an element.
 #[derive(Clone, Copy, Drop)]

@@ -1,15 +1,15 @@
 ghost use Rattle.std.specs.Prelude.{◌≡◌, ◌≢◌, IfOk, IfErr, All, [], ◌∷◌, option_to_list};
 ghost use Rattle.std.specs.List.{enumerate_from};
 ghost use Rattle.first_refusal.specs.Checks.{IsRefusalOfFirst};
-ghost use Rattle.layer_map.specs.MapView.{layer_map_of};
-ghost use Rattle.flatten.specs.Structures.{all_references, references_in, references_of};
-ghost use Rattle.flatten.specs.Parts.{AreNodes, AreParts, IsKnown};
+ghost use Rattle.map_model.specs.MapView.{layer_map_of};
+ghost use Rattle.flatten.specs.Structures.{all_references, references_among, references_in};
+ghost use Rattle.flatten.specs.inside.Parts.{AreNodes, AreParts, IsKnown};
 ghost use Rattle.flatten.specs.declared.fault.PlaceFault.TheVariants.{UnknownStructure, Memory};
 
 use super::fault::PlaceFault;
 use super::part::Part;
-use gds_syntax::{Element, NameIndex, Structure};
-use layer_map::Map;
+use library_model::{Element, NameIndex, Structure};
+use map_model::Map;
 use std::alloc::Global;
 
 /// The part that the element with this number is, if it is one.
@@ -49,9 +49,9 @@ pub fn parts_of<'a>(
 ) -> Result<Vec<Part<'a>>, PlaceFault>
     ensures parts { IfOk result (λ parts.
         AreParts index.now (layer_map_of map.now) (enumerate_from 0 structure.now.elements) parts.items) }
-    ensures known { IfOk result (λ parts. All (IsKnown index.now) (references_of structure.now)) }
+    ensures known { IfOk result (λ parts. All (IsKnown index.now) (references_among structure.now.elements)) }
     ensures unknown { IfErr result (λ fault. fault ≢ Memory →
-        IsRefusalOfFirst (IsKnown index.now) (references_of structure.now) (λ reference. UnknownStructure reference.at) fault) }
+        IsRefusalOfFirst (IsKnown index.now) (references_among structure.now.elements) (λ reference. UnknownStructure reference.at) fault) }
 {
     let elements = structure.elements.as_slice();
     let mut parts = Vec::with_capacity(alloc, elements.len())?;

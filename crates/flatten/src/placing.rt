@@ -1,13 +1,13 @@
-ghost use Rattle.std.specs.Prelude.{[], ◌≡◌, ◌≢◌, List, IfOk, IfErr, option_copied};
+ghost use Rattle.std.specs.Prelude.{[], ◌≡◌, ◌≢◌, IfOk, IfErr, option_copied};
 ghost use Rattle.first_refusal.specs.Outcomes.{refused};
-ghost use Rattle.gds_syntax.specs.Names.{NamesDiffer, names_of};
-ghost use Rattle.gds_syntax.specs.declared.library.Structure.{Structure};
-ghost use Rattle.layer_map.specs.LayerMap.{LayerMap};
-ghost use Rattle.layer_map.specs.MapView.{layer_map_of};
+ghost use Rattle.lists.specs.Differing.{AreDifferent};
+ghost use Rattle.library_model.specs.Names.{names_of};
+ghost use Rattle.map_model.specs.LayerMap.{LayerMap};
+ghost use Rattle.map_model.specs.MapView.{layer_map_of};
 ghost use Rattle.flatten.specs.Placements.{Placing};
 ghost use Rattle.flatten.specs.Placed.{ArePlaced};
-ghost use Rattle.flatten.specs.Plans.{IsPlanOf};
-ghost use Rattle.flatten.specs.Expansions.{AddsEnds, HasLibrary, IsFirstBeyond, routes_behind};
+ghost use Rattle.flatten.specs.inside.Ends.{node_routes};
+ghost use Rattle.flatten.specs.inside.Expansions.{AddsEnds, HasLibrary, HaveLayers, IsFirstBeyond};
 ghost use Rattle.flatten.specs.declared.fault.PlaceFault.TheVariants.{Memory};
 
 use super::expansion::expand;
@@ -17,8 +17,8 @@ use super::plan::{Plan, plan_of};
 use super::size::check_size;
 use super::summary::State;
 use super::way::Way;
-use gds_syntax::Library;
-use layer_map::Map;
+use library_model::Library;
+use map_model::Map;
 use std::alloc::Global;
 
 /// How many shapes the top places, to take memory for all of them at once.
@@ -35,10 +35,9 @@ fn shape_count(plan: &Plan<'_>) -> usize
 /// All that the top places.
 fn expanded(alloc: Global, plan: &Plan<'_>) -> Result<Vec<Placed>, PlaceFault>
     requires { HasLibrary plan.now }
-    ensures placed { IfOk result (λ placed. (structures : List Structure) (layer_map : LayerMap) → IsPlanOf structures layer_map plan.now →
-        AddsEnds layer_map (routes_behind 256 plan.now.top structures layer_map []) [] placed.items) }
-    ensures refused { IfErr result (λ fault. (structures : List Structure) (layer_map : LayerMap) → IsPlanOf structures layer_map plan.now → fault ≢ Memory →
-        IsFirstBeyond (routes_behind 256 plan.now.top structures layer_map []) fault) }
+    ensures placed { IfOk result (λ placed. (layer_map : LayerMap) → HaveLayers layer_map plan.now.nodes.items →
+        AddsEnds layer_map (node_routes plan.now.nodes.items 256 plan.now.top) [] placed.items) }
+    ensures refused { IfErr result (λ fault. fault ≢ Memory → IsFirstBeyond (node_routes plan.now.nodes.items 256 plan.now.top) fault) }
 {
     let mut placed = Vec::with_capacity(alloc, shape_count(plan))?;
     expand(plan, &mut placed, Way::at_top(), plan.top)?;
@@ -62,7 +61,7 @@ pub fn place(
     map: &Map,
     top: Option<&[u8]>,
 ) -> Result<Vec<Placed>, PlaceFault>
-    requires differ { NamesDiffer (names_of library.now.structures) }
+    requires differ { AreDifferent (names_of library.now.structures) }
     ensures placed { IfOk result (λ placed. ArePlaced library.now.structures (layer_map_of map.now) (option_copied top.entry) placed.items) }
     ensures refused { IfErr result (λ fault. fault ≢ Memory →
         Placing library.now.structures (layer_map_of map.now) (option_copied top.entry) (refused fault)) }

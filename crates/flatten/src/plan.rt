@@ -1,10 +1,11 @@
 ghost use Rattle.std.specs.Prelude.{ℕ, ◌≡◌, ◌≢◌, ◌<◌, ◌^◌, IfOk, IfErr, Option, length, option_copied};
-ghost use Rattle.gds_syntax.specs.Names.{NamesDiffer, names_of};
-ghost use Rattle.layer_map.specs.LayerMap.{LayerMap};
-ghost use Rattle.layer_map.specs.MapView.{layer_map_of};
+ghost use Rattle.lists.specs.Differing.{AreDifferent};
+ghost use Rattle.library_model.specs.Names.{names_of};
+ghost use Rattle.map_model.specs.LayerMap.{LayerMap};
+ghost use Rattle.map_model.specs.MapView.{layer_map_of};
 ghost use Rattle.first_refusal.specs.Outcomes.{refused};
 ghost use Rattle.flatten.specs.Placements.{Choosing};
-ghost use Rattle.flatten.specs.Plans.{AreIndexed, AreSurveyed, IsChosen, IsPlan};
+ghost use Rattle.flatten.specs.inside.Plans.{AreIndexed, AreSurveyed, IsChosen, IsPlan};
 ghost use Rattle.flatten.specs.declared.fault.PlaceFault.TheVariants.{Memory};
 
 use super::fault::PlaceFault;
@@ -14,8 +15,8 @@ use super::parts::nodes_of;
 use super::summary::State;
 use super::survey::survey;
 use super::tops::only_unmarked;
-use gds_syntax::{Library, NameIndex, Structure};
-use layer_map::Map;
+use library_model::{Library, NameIndex, Structure};
+use map_model::Map;
 use std::alloc::Global;
 
 /// The number of the top: the structure of the wanted name, or the only one to which no reference leads.
@@ -80,7 +81,7 @@ pub fn plan_of<'a>(
     map: &Map,
     wanted: Option<&[u8]>,
 ) -> Result<Plan<'a>, PlaceFault>
-    requires { NamesDiffer (names_of library.now.structures) }
+    requires { AreDifferent (names_of library.now.structures) }
     ensures planned { IfOk result (λ plan. IsPlan library.now.structures (layer_map_of map.now) (option_copied wanted.entry) plan) }
     ensures refused { IfErr result (λ fault. fault ≢ Memory →
         Choosing library.now.structures (option_copied wanted.entry) (refused fault)) }

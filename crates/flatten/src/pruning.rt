@@ -1,9 +1,6 @@
-ghost use Rattle.std.specs.Prelude.{ℕ, [], ◌≡◌, ◌<◌, IsTrue, List, length};
-ghost use Rattle.gds_syntax.specs.declared.library.Structure.{Structure};
-ghost use Rattle.layer_map.specs.LayerMap.{LayerMap};
-ghost use Rattle.flatten.specs.Ends.{routes_from};
-ghost use Rattle.flatten.specs.Expansions.{HasLibrary};
-ghost use Rattle.flatten.specs.Plans.{IsPlanOf};
+ghost use Rattle.std.specs.Prelude.{ℕ, [], ◌≡◌, ◌<◌, IsTrue, length};
+ghost use Rattle.flatten.specs.inside.Ends.{node_routes};
+ghost use Rattle.flatten.specs.inside.Expansions.{HasLibrary};
 
 use super::plan::Plan;
 use super::summary::State;
@@ -12,8 +9,7 @@ use super::summary::State;
 pub fn is_barren(plan: &Plan<'_>, one: u32) -> bool
     requires planned { HasLibrary plan.now }
     requires there { one < length plan.now.nodes.items }
-    ensures { (structures : List Structure) (layer_map : LayerMap) (left : ℕ) → IsPlanOf structures layer_map plan.now →
-        IsTrue result → routes_from structures layer_map left one ≡ [] }
+    ensures { (left : ℕ) → IsTrue result → node_routes plan.now.nodes.items left one ≡ [] }
 {
     let states = plan.states.as_slice();
     match states[one as usize] {

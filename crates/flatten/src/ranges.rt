@@ -2,9 +2,8 @@
 
 ghost use Rattle.std.specs.Prelude.{pos, neg_ℤ, ◌↔◌, ◌≤◌, ◌≤ℤ◌, ◌+ℤ◌, ◌^◌, All, IsTrue, nat_abs};
 ghost use Rattle.geo_core.specs.declared.bounds.TheConstants.{FARTHEST};
-ghost use Rattle.flatten.specs.Steps.{plane_point};
 ghost use Rattle.flatten.specs.Motions.{ShiftsAtMost, image_by};
-ghost use Rattle.flatten.specs.Placements.{IsInRange};
+ghost use Rattle.geo_core.specs.Bounds.{IsInRange};
 
 use super::motion::{Motion, turned};
 use geo_core::{FARTHEST, Point};
@@ -22,7 +21,7 @@ fn is_near(coordinate: i64, shift: i64) -> bool
 /// Whether a point is in range where the motion moves it.
 fn is_in_range(motion: Motion, point: Point) -> bool
     requires { ShiftsAtMost 256 motion }
-    ensures { IsTrue result ↔ IsInRange (image_by motion (plane_point point)) }
+    ensures { IsTrue result ↔ IsInRange (image_by motion point) }
 {
     let (x, y) = turned(motion.turn, i64::from(point.x), i64::from(point.y));
     is_near(x, motion.dx) && is_near(y, motion.dy)
@@ -31,7 +30,7 @@ fn is_in_range(motion: Motion, point: Point) -> bool
 /// Whether all of the points are in range where the motion moves them.
 pub fn are_in_range(motion: Motion, points: &[Point]) -> bool
     requires { ShiftsAtMost 256 motion }
-    ensures { IsTrue result ↔ All (λ point. IsInRange (image_by motion (plane_point point))) points.now }
+    ensures { IsTrue result ↔ All (λ point. IsInRange (image_by motion point)) points.now }
 {
     points.iter().all(|point| is_in_range(motion, *point))
 }

@@ -1,25 +1,22 @@
-ghost use Rattle.std.specs.Prelude.{ℕ, [], ◌∷◌, ◌≡◌, All, IfOk, IfErr, Some, slice_get};
-ghost use Rattle.gds_syntax.specs.declared.library.Structure.{Structure};
-ghost use Rattle.layer_map.specs.LayerMap.{LayerMap};
+ghost use Rattle.std.specs.Prelude.{[], ◌∷◌, All, IfOk, IfErr};
+ghost use Rattle.map_model.specs.LayerMap.{LayerMap};
 ghost use Rattle.first_refusal.specs.Outcomes.{refused};
 ghost use Rattle.flatten.specs.Placements.{PlacingFrom, TopHolds, is_shallow, is_small, placed_routes};
-ghost use Rattle.flatten.specs.Plans.{IsPlanOf};
+ghost use Rattle.flatten.specs.inside.Plans.{IsPlanOf};
 
 use super::fault::PlaceFault;
 use super::limits::{MOST_POINTS, MOST_SHAPES, MOST_STEPS};
 use super::plan::Plan;
 use super::summary::State;
-use gds_syntax::Structure;
+use library_model::Structure;
 
 /// Checks how deep the top is, and how much it places, before anything is placed.
 pub fn check_size(structures: &[Structure], plan: &Plan<'_>) -> Result<(), PlaceFault>
     requires { (layer_map : LayerMap) × IsPlanOf structures.now layer_map plan.now }
-    ensures kept { (layer_map : LayerMap) (top : Structure) →
-        IsPlanOf structures.now layer_map plan.now → slice_get structures.now plan.now.top ≡ Some top →
-        IfOk result (λ _. All (TopHolds structures.now (plan.now.top, top) (placed_routes structures.now layer_map (plan.now.top, top))) (is_shallow ∷ is_small ∷ [])) }
-    ensures refused { (layer_map : LayerMap) (top : Structure) →
-        IsPlanOf structures.now layer_map plan.now → slice_get structures.now plan.now.top ≡ Some top →
-        IfErr result (λ fault. PlacingFrom structures.now (plan.now.top, top) (placed_routes structures.now layer_map (plan.now.top, top)) (refused fault)) }
+    ensures kept { (layer_map : LayerMap) → IsPlanOf structures.now layer_map plan.now → IfOk result (λ _.
+        All (TopHolds structures.now plan.now.top (placed_routes structures.now layer_map plan.now.top)) (is_shallow ∷ is_small ∷ [])) }
+    ensures refused { (layer_map : LayerMap) → IsPlanOf structures.now layer_map plan.now → IfErr result (λ fault.
+        PlacingFrom structures.now plan.now.top (placed_routes structures.now layer_map plan.now.top) (refused fault)) }
 {
     let at = structures[plan.top as usize].at;
     let states = plan.states.as_slice();

@@ -1,12 +1,12 @@
 ghost use Rattle.std.specs.Prelude.{ℕ, [], ◌∷◌, ◌+◌, ◌≡◌, ◌≤◌, ◌<◌, ◌*◌, ◌^◌, length};
-ghost use Rattle.flatten.specs.Parts.{AreBelow};
-ghost use Rattle.flatten.specs.Weights.{Weight, IsKept, StandsFor, both_weights, copies_of, kept_of, no_weight, weight_of, times_weight, weight_over};
-ghost use Rattle.flatten.specs.Surveys.{AreWeighed};
+ghost use Rattle.flatten.specs.inside.Parts.{AreBelow};
+ghost use Rattle.flatten.specs.inside.Weights.{Weight, IsKept, StandsFor, both_weights, copies_of, kept_of, no_weight, weight_of, times_weight, weight_over};
+ghost use Rattle.flatten.specs.inside.Surveys.{AreWeighed};
 
 use super::limits::{MOST_POINTS, MOST_STEPS};
 use super::part::Part;
 use super::summary::{State, Summary};
-use gds_syntax::Reference;
+use library_model::Reference;
 
 /// How many copies a reference makes: one, unless it is an array.
 fn copies(reference: &Reference) -> u64

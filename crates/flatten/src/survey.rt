@@ -1,7 +1,7 @@
 ghost use Rattle.std.specs.Prelude.{ℕ, ◌≡◌, ◌≢◌, ◌<◌, ◌^◌, length, IfOk, IfErr};
 ghost use Rattle.std.specs.Bool.{OnTrue, OnFalse};
-ghost use Rattle.flatten.specs.Parts.{AreNodesBelow, Leads};
-ghost use Rattle.flatten.specs.Surveys.{AreSettled, IsFirstEndless, KeepsDone, state_of};
+ghost use Rattle.flatten.specs.inside.Parts.{AreNodesBelow, Leads};
+ghost use Rattle.flatten.specs.inside.Surveys.{AreSettled, IsFirstEndless, KeepsDone, state_of};
 ghost use Rattle.flatten.specs.declared.summary.Summary.{Summary};
 ghost use Rattle.flatten.specs.declared.summary.State.TheVariants.{Done};
 ghost use Rattle.flatten.specs.declared.fault.PlaceFault.TheVariants.{Memory};
@@ -10,8 +10,8 @@ use super::fault::PlaceFault;
 use super::part::Part;
 use super::search::search;
 use super::summary::State;
-use gds_syntax::Structure;
 use geo_core::NoMemory;
+use library_model::Structure;
 use std::alloc::Global;
 
 /// Surveys the structure `root`, if it is not done. The answer is whether its references lead to an end.

@@ -1,8 +1,8 @@
 ghost use Rattle.std.specs.Prelude.{◌≡◌, ◌<◌, ◌^◌, IfOk, IfErr, length};
-ghost use Rattle.flatten.specs.Marks.{IsOnlyUnmarked, IsTopFault};
+ghost use Rattle.flatten.specs.inside.Marks.{IsOnlyUnmarked, IsTopFault};
 
 use super::fault::PlaceFault;
-use gds_syntax::Structure;
+use library_model::Structure;
 
 /// The number of the only structure that is not marked.
 pub fn only_unmarked(structures: &[Structure], marks: &[bool]) -> Result<u32, PlaceFault>

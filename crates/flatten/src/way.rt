@@ -2,7 +2,7 @@ ghost use Rattle.std.specs.Prelude.{◌+◌, ◌*◌, ◌≤◌, ◌^◌, nat_ab
 
 use super::limits::MOST_STEPS;
 use super::motion::Motion;
-use gds_syntax::Reference;
+use library_model::Reference;
 
 /// How far an expansion has come.
 #[derive(Clone, Copy)]

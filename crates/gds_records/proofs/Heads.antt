@@ -3,7 +3,8 @@ use Rattle.std.proofs.Common.{◌≡◌, ℕ, ◌+◌, ◌-◌, ◌/◌, ◌%◌
 use Rattle.std.proofs.lemmas.List.{take_at, drop_at, take-append-drop, length-take-le, length-drop, drop-drop}
 use Rattle.std.proofs.lemmas.List.Elements.{All-take, All-drop, All-from_get_or}
 use Rattle.byteorder.specs.Numbers.{big_number-reads_back}
-use Rattle.gds_records.specs.Spelling.{Entry, IsByte, HasSpelling, AreBytes, spelling}
+use Rattle.gds_records.specs.Spelling.{Entry, HasSpelling, spelling}
+use Rattle.lists.specs.ByteLists.{IsByte, AreBytes}
 use Rattle.gds_records.specs.Profile.{IsInProfile}
 use Rattle.gds_records.specs.Table.{IsPermitted}
 use Rattle.gds_records.specs.RecordChecks.{length_field, kind_field, form_field}
@@ -27,7 +28,8 @@ spellings_agree e o rest others he ho eq =
     let bodies : e.body ≡ o.body = sym (take_at e.body rest (length e.body) refl) ∙ ap (take (length e.body)) tails ∙ take_at o.body others (length e.body) len in
     let rests : rest ≡ others = sym (drop_at e.body rest (length e.body) refl) ∙ ap (drop (length e.body)) tails ∙ drop_at o.body others (length e.body) len in
     let first : e ≡ record { kind = o.kind; form = e.form; body = e.body } = ap (λ (k : ℕ). record { kind = k; form = e.form; body = e.body }) kinds in
-    let second : record { kind = o.kind; form = e.form; body = e.body } ≡ record { kind = o.kind; form = o.form; body = e.body } = ap (λ (f : ℕ). record { kind = o.kind; form = f; body = e.body }) forms in
+    let second : record { kind = o.kind; form = e.form; body = e.body } ≡ record { kind = o.kind; form = o.form; body = e.body } =
+    ap (λ (f : ℕ). record { kind = o.kind; form = f; body = e.body }) forms in
     let third : record { kind = o.kind; form = o.form; body = e.body } ≡ o = ap (λ (b : List ℕ). record { kind = o.kind; form = o.form; body = b }) bodies in
     (first ∙ second ∙ third, rests)
 

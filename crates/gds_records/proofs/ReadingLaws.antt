@@ -45,7 +45,8 @@ went_on new at is_last others end place last s =
     subst (λ (a : ℕ). GoesOn a (left_in new) is_last others end) place here
 
 -- the bytes behind a record are those that are left when the reader has moved past it
-left_behind : (old new : Reading) (e : Entry) (after : List ℕ) → left_in old ≡ spelling e ++ after → new.bytes ≡ old.bytes → new.at ≡ old.at + length (spelling e) → left_in old ≡ spelling e ++ left_in new
+left_behind : (old new : Reading) (e : Entry) (after : List ℕ) → left_in old ≡ spelling e ++ after → new.bytes ≡ old.bytes → new.at ≡ old.at + length (spelling e)
+    → left_in old ≡ spelling e ++ left_in new
 left_behind old new e after parts bytes place =
     let n : ℕ = length (spelling e) in
     let left : left_in new ≡ drop (old.at + n) old.bytes = rw (place, bytes) refl in

@@ -5,7 +5,8 @@ use Rattle.std.proofs.lemmas.List.{length-append}
 use Rattle.first_refusal.proofs.CheckLaws.{fails_at_once, fails_later, all_hold_or_one_fails, first_refusals_agree}
 use Rattle.gds_records.specs.declared.fault.RecordFault.{RecordFault}
 use Rattle.gds_records.specs.declared.fault.RecordFault.TheVariants.{Truncated, BadLength, BadRecord, BadSize}
-use Rattle.gds_records.specs.Spelling.{Entry, AreBytes, spelling}
+use Rattle.gds_records.specs.Spelling.{Entry, spelling}
+use Rattle.lists.specs.ByteLists.{AreBytes}
 use Rattle.gds_records.specs.Profile.{IsInProfile}
 use Rattle.gds_records.specs.Table.{IsListed, IsPermitted}
 use Rattle.gds_records.specs.RecordChecks.{length_field, kind_field, form_field, RecordCheck, head_is_there, length_counts_head, length_is_even, body_is_there, form_is_listed, size_is_permitted, record_checks, Holds, fault_at, IsFaultOf}
@@ -85,7 +86,12 @@ module _ (offset : ℕ) (rest : List ℕ) where
 
       module _ (even : length_field rest % 2 ≡ 0) where
         pub truncated_in_body : length rest < length_field rest → IsFaultOf offset rest (Truncated offset)
-        truncated_in_body short = record { check = body_is_there; is_first = fails_later _ _ _ _ head (fails_later _ _ _ _ counts_head (fails_later _ _ _ _ even (fails_at_once _ _ _ (λ h. omega arith)))); is_its_refusal = refl }
+        truncated_in_body short = record {
+          check = body_is_there;
+          is_first = fails_later _ _ _ _ head
+              (fails_later _ _ _ _ counts_head (fails_later _ _ _ _ even (fails_at_once _ _ _ (λ h. omega arith))));
+          is_its_refusal = refl;
+        }
 
         module _ (body : length_field rest ≤ length rest) where
           pub bad_record : (IsListed (kind_field rest) (form_field rest) → ⊥) → IsFaultOf offset rest (BadRecord offset (kind_field rest) (form_field rest))
@@ -96,7 +102,8 @@ module _ (offset : ℕ) (rest : List ℕ) where
                 is_its_refusal = refl;
               }
 
-          pub bad_size : (n : ℕ) → n ≡ length_field rest → IsListed (kind_field rest) (form_field rest) → (IsPermitted (kind_field rest) (form_field rest) (n - 4) → ⊥) → IsFaultOf offset rest (BadSize offset)
+          pub bad_size : (n : ℕ) → n ≡ length_field rest → IsListed (kind_field rest) (form_field rest) → (IsPermitted (kind_field rest) (form_field rest) (n - 4) → ⊥)
+              → IsFaultOf offset rest (BadSize offset)
           bad_size n field listed refused =
               let refuses = subst (λ (m : ℕ). IsPermitted (kind_field rest) (form_field rest) (m - 4) → ⊥) field refused in
               record {

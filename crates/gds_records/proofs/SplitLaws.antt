@@ -5,7 +5,8 @@ use Rattle.std.proofs.lemmas.Bool.{eqb-true, eqb-false, eq-eqb, ne_eqb}
 use Rattle.std.proofs.lemmas.List.{append_assoc, append_cancel_left, length-append}
 use Rattle.std.proofs.lemmas.List.Elements.{All-nil, All-cons, All-head, All-tail, All-drop}
 use Rattle.gds_records.specs.declared.fault.RecordFault.{RecordFault}
-use Rattle.gds_records.specs.Spelling.{Entry, IsByte, IsEndlib, IsNoEndlib, AreBytes, spelling, spellings}
+use Rattle.gds_records.specs.Spelling.{Entry, IsEndlib, IsNoEndlib, spelling, spellings}
+use Rattle.lists.specs.ByteLists.{IsByte, AreBytes}
 use Rattle.gds_records.specs.Profile.{IsInProfile}
 use Rattle.gds_records.specs.RecordChecks.{IsFaultOf}
 use Rattle.gds_records.specs.Split.{End, whole, stops, EndsWithEndlib, Splits, HasSplit}
@@ -64,10 +65,17 @@ splits_on offset bytes e after others (stops f) begins s =
     let joined = behind bytes e after others s.rest begins s.joined in
     let is_none : IsNoEndlib e = All-head IsNoEndlib e others s.ends.0 in
     rw (ne_eqb e.kind 4 is_none)
-    (record { rest = s.rest; joined = joined; each = All-tail IsInProfile e others s.each; ends = (All-tail IsNoEndlib e others s.ends.0, subst (λ (o : ℕ). IsFaultOf o s.rest f) (offset_on offset e others) s.ends.1) })
+    (record {
+      rest = s.rest;
+      joined = joined;
+      each = All-tail IsInProfile e others s.each;
+      ends =
+          (All-tail IsNoEndlib e others s.ends.0, subst (λ (o : ℕ). IsFaultOf o s.rest f) (offset_on offset e others) s.ends.1);
+    })
 
 -- a record before a split
-joined_on : (bytes : List ℕ) (e : Entry) (after : List ℕ) (others : List Entry) (rest : List ℕ) → bytes ≡ spelling e ++ after → after ≡ spellings others ++ rest → bytes ≡ spellings (e ∷ others) ++ rest
+joined_on : (bytes : List ℕ) (e : Entry) (after : List ℕ) (others : List Entry) (rest : List ℕ) → bytes ≡ spelling e ++ after → after ≡ spellings others ++ rest
+    → bytes ≡ spellings (e ∷ others) ++ rest
 joined_on bytes e after others rest begins joined =
     begins ∙ ap (λ (x : List ℕ). spelling e ++ x) joined ∙ sym (append_assoc (spelling e) (spellings others) rest)
 
@@ -78,7 +86,13 @@ more_splits offset bytes e after others whole in_profile is_none begins s =
       rest = s.rest;
       joined = joined_on bytes e after others s.rest begins s.joined;
       each = All-cons IsInProfile e others in_profile s.each;
-      ends = record { before = e ∷ s.ends.before; last = s.ends.last; parts = ap (λ (x : List Entry). e ∷ x) s.ends.parts; none_before = All-cons IsNoEndlib e s.ends.before is_none s.ends.none_before; is_endlib = s.ends.is_endlib };
+      ends = record {
+        before = e ∷ s.ends.before;
+        last = s.ends.last;
+        parts = ap (λ (x : List Entry). e ∷ x) s.ends.parts;
+        none_before = All-cons IsNoEndlib e s.ends.before is_none s.ends.none_before;
+        is_endlib = s.ends.is_endlib;
+      };
     }
 more_splits offset bytes e after others (stops f) in_profile is_none begins s =
     record {
@@ -128,7 +142,8 @@ agree_on : (is_last : Bool) (offset : ℕ) (after : List ℕ) (e : Entry) (entri
 agree_on true offset after e entries others end other step (n, w) (m, v) = (ap (λ (x : List Entry). e ∷ x) (n ∙ sym m), w ∙ sym v)
 agree_on false offset after e entries others end other step s t = let h = step s t in (ap (λ (x : List Entry). e ∷ x) h.0, h.1)
 
-pub splits_agree : (entries : List Entry) (offset : ℕ) (bytes : List ℕ) (others : List Entry) (end other : End) → Splits offset bytes entries end → Splits offset bytes others other → (entries ≡ others) × (end ≡ other)
+pub splits_agree : (entries : List Entry) (offset : ℕ) (bytes : List ℕ) (others : List Entry) (end other : End) → Splits offset bytes entries end → Splits offset bytes others other
+    → (entries ≡ others) × (end ≡ other)
 splits_agree [] offset bytes [] end other s t =
     let f = nothing_splits offset bytes end s in
     let g = nothing_splits offset bytes other t in
@@ -140,8 +155,10 @@ splits_agree [] offset bytes (o ∷ others) end other s t =
 splits_agree (e ∷ entries) offset bytes others end other s t =
     let begins : bytes ≡ spelling e ++ (spellings entries ++ s.rest) = s.joined ∙ append_assoc (spelling e) (spellings entries) s.rest in
     let first = first_is offset bytes e (spellings entries ++ s.rest) others other (All-head IsInProfile e entries s.each) begins t in
-    let step = λ (p : Splits (offset + length (spelling e)) (spellings entries ++ s.rest) entries end) (q : Splits (offset + length (spelling e)) (spellings entries ++ s.rest) first.0 other). splits_agree entries (offset + length (spelling e)) (spellings entries ++ s.rest) first.0 end other p q in
-    let both = agree_on (eqb e.kind 4) (offset + length (spelling e)) (spellings entries ++ s.rest) e entries first.0 end other step (splits_on offset bytes e (spellings entries ++ s.rest) entries end begins s) first.2 in
+    let step = λ (p : Splits (offset + length (spelling e)) (spellings entries ++ s.rest) entries end) (q : Splits (offset + length (spelling e)) (spellings entries ++ s.rest) first.0 other).
+    splits_agree entries (offset + length (spelling e)) (spellings entries ++ s.rest) first.0 end other p q in
+    let both = agree_on (eqb e.kind 4) (offset + length (spelling e)) (spellings entries ++ s.rest) e entries first.0 end other step
+    (splits_on offset bytes e (spellings entries ++ s.rest) entries end begins s) first.2 in
     (both.0 ∙ sym first.1, both.1)
 
 -- ---- one split at least

@@ -19,8 +19,10 @@ no_longer body text other t o =
       | inr le ↦ le
       | inl longer ↦
           let is_last : suc (length other - 1) ≡ length other = omega arith in
-          let in_other : get_or body (length other - 1) 0 ≡ get_or other (length other - 1) 0 = ap (λ (xs : List ℕ). get_or xs (length other - 1) 0) o.parts ∙ get_or_append_left other o.zeros 0 (length other - 1) (omega arith) in
-          let in_zeros : get_or body (length other - 1) 0 ≡ get_or t.zeros (length other - 1 - length text) 0 = ap (λ (xs : List ℕ). get_or xs (length other - 1) 0) t.parts ∙ get_or-append_right text t.zeros (length text) (length other - 1) 0 refl (omega arith) in
+          let in_other : get_or body (length other - 1) 0 ≡ get_or other (length other - 1) 0 = ap (λ (xs : List ℕ). get_or xs (length other - 1) 0) o.parts
+          ∙ get_or_append_left other o.zeros 0 (length other - 1) (omega arith) in
+          let in_zeros : get_or body (length other - 1) 0 ≡ get_or t.zeros (length other - 1 - length text) 0 = ap (λ (xs : List ℕ). get_or xs (length other - 1) 0) t.parts
+          ∙ get_or-append_right text t.zeros (length text) (length other - 1) 0 refl (omega arith) in
           let long : length other + length o.zeros ≡ length text + length t.zeros = sym (length-append other o.zeros) ∙ ap length (sym o.parts ∙ t.parts) ∙ length-append text t.zeros in
           let is_zero : get_or t.zeros (length other - 1 - length text) 0 ≡ 0 = t.each_zero (length other - 1 - length text) 0 (omega arith) in
           let zero_last : get_or other (length other - 1) 0 ≡ 0 = sym in_other ∙ in_zeros ∙ is_zero in

@@ -1,5 +1,3 @@
-pub mod Kinds
-pub mod Forms
 pub mod Table
 pub mod Spelling
 pub mod Profile

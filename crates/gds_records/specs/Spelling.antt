@@ -2,21 +2,14 @@
 use Rattle.std.specs.Prelude.{◌≡◌, ◌≢◌, ℕ, ◌+◌, ◌%◌, ◌^◌, ◌<◌, List, ◌∷◌, ◌++◌, length, All}
 use Rattle.std.specs.List.{flat_map}
 use Rattle.byteorder.specs.Endian.{big_bytes}
-use Rattle.gds_records.specs.Kinds as kind
+use Rattle.lists.specs.ByteLists.{IsByte, AreBytes}
+use Rattle.gds_records.specs.declared.kinds.TheConstants as kind
 
 -- the contents of a record, wherever it lies: its kind, the form of its data, and its body
 pub record Entry : Type 0 where
   pub kind : ℕ
   pub form : ℕ
   pub body : List ℕ
-
--- the number fits a byte
-abbrev pub IsByte : ℕ → Type 0
-IsByte b = b < 256
-
--- a string of bytes
-abbrev pub AreBytes : List ℕ → Type 0
-AreBytes bytes = All IsByte bytes
 
 -- how the record is spelled: two bytes for its length in bytes, the higher first, then the kind, the form and the body.
 -- The length counts the head, which is these two bytes, the kind and the form.
@@ -37,8 +30,8 @@ pub record HasSpelling (e : Entry) : Type 0 where
 
 -- the record ends a library
 abbrev pub IsEndlib : Entry → Type 0
-IsEndlib e = e.kind ≡ kind.endlib
+IsEndlib e = e.kind ≡ kind.ENDLIB
 
 -- the record is of any other kind
 abbrev pub IsNoEndlib : Entry → Type 0
-IsNoEndlib e = e.kind ≢ kind.endlib
+IsNoEndlib e = e.kind ≢ kind.ENDLIB

@@ -1,8 +1,8 @@
 -- The table of records: each kind that is taken, with the form of its data and the sizes of its body.
 use Rattle.std.specs.Prelude.{◌≡◌, ℕ, ◌%◌, List, [], ◌∷◌, Option, Some, None, Contains, nat_eq}
 use Rattle.std.specs.Map.{lookup}
-use Rattle.gds_records.specs.Kinds as kind
-use Rattle.gds_records.specs.Forms as form
+use Rattle.gds_records.specs.declared.kinds.TheConstants as kind
+use Rattle.gds_records.specs.declared.forms.TheConstants as form
 use Rattle.gds_records.specs.declared.table.Rule.{Rule}
 use Rattle.gds_records.specs.declared.table.Sizes.{Sizes}
 use Rattle.gds_records.specs.declared.table.Sizes.TheVariants.{Any, Exactly, MultipleOfEight}
@@ -17,54 +17,54 @@ of_any_form k sizes = (k, record { form = None; sizes = sizes })
 -- the table, by the manual's codes
 unfoldable pub table : List (ℕ × Rule)
 table =
-    of_form kind.header form.two_byte_numbers Any ∷
-    of_form kind.bgnlib form.two_byte_numbers Any ∷
-    of_form kind.libname form.text Any ∷
-    of_form kind.units form.eight_byte_reals (Exactly 16) ∷
-    of_form kind.endlib form.no_data (Exactly 0) ∷
-    of_form kind.bgnstr form.two_byte_numbers Any ∷
-    of_form kind.strname form.text Any ∷
-    of_form kind.endstr form.no_data (Exactly 0) ∷
-    of_form kind.boundary form.no_data (Exactly 0) ∷
-    of_form kind.path form.no_data (Exactly 0) ∷
-    of_form kind.sref form.no_data (Exactly 0) ∷
-    of_form kind.aref form.no_data (Exactly 0) ∷
-    of_form kind.text form.no_data (Exactly 0) ∷
-    of_form kind.layer form.two_byte_numbers (Exactly 2) ∷
-    of_form kind.datatype form.two_byte_numbers (Exactly 2) ∷
-    of_form kind.width form.four_byte_numbers (Exactly 4) ∷
-    of_form kind.xy form.four_byte_numbers MultipleOfEight ∷
-    of_form kind.endel form.no_data (Exactly 0) ∷
-    of_form kind.sname form.text Any ∷
-    of_form kind.colrow form.two_byte_numbers (Exactly 4) ∷
-    of_form kind.node form.no_data (Exactly 0) ∷
-    of_form kind.texttype form.two_byte_numbers Any ∷
-    of_form kind.presentation form.bits Any ∷
-    of_form kind.string form.text Any ∷
-    of_form kind.strans form.bits (Exactly 2) ∷
-    of_form kind.mag form.eight_byte_reals (Exactly 8) ∷
-    of_form kind.angle form.eight_byte_reals (Exactly 8) ∷
-    of_form kind.reflibs form.text Any ∷
-    of_form kind.fonts form.text Any ∷
-    of_form kind.pathtype form.two_byte_numbers (Exactly 2) ∷
-    of_form kind.generations form.two_byte_numbers Any ∷
-    of_form kind.attrtable form.text Any ∷
-    of_form kind.elflags form.bits Any ∷
-    of_form kind.nodetype form.two_byte_numbers Any ∷
-    of_form kind.propattr form.two_byte_numbers Any ∷
-    of_form kind.propvalue form.text Any ∷
-    of_form kind.box form.no_data (Exactly 0) ∷
-    of_form kind.boxtype form.two_byte_numbers (Exactly 2) ∷
-    of_form kind.plex form.four_byte_numbers Any ∷
-    of_form kind.bgnextn form.four_byte_numbers (Exactly 4) ∷
-    of_form kind.endextn form.four_byte_numbers (Exactly 4) ∷
-    of_any_form kind.strclass Any ∷
-    of_form kind.format form.two_byte_numbers Any ∷
-    of_form kind.mask form.text Any ∷
-    of_form kind.endmasks form.no_data (Exactly 0) ∷
-    of_any_form kind.libdirsize Any ∷
-    of_any_form kind.srfname Any ∷
-    of_any_form kind.libsecur Any ∷
+    of_form kind.HEADER form.TWO_BYTE_NUMBERS Any ∷
+    of_form kind.BGNLIB form.TWO_BYTE_NUMBERS Any ∷
+    of_form kind.LIBNAME form.TEXT Any ∷
+    of_form kind.UNITS form.EIGHT_BYTE_REALS (Exactly 16) ∷
+    of_form kind.ENDLIB form.NO_DATA (Exactly 0) ∷
+    of_form kind.BGNSTR form.TWO_BYTE_NUMBERS Any ∷
+    of_form kind.STRNAME form.TEXT Any ∷
+    of_form kind.ENDSTR form.NO_DATA (Exactly 0) ∷
+    of_form kind.BOUNDARY form.NO_DATA (Exactly 0) ∷
+    of_form kind.PATH form.NO_DATA (Exactly 0) ∷
+    of_form kind.SREF form.NO_DATA (Exactly 0) ∷
+    of_form kind.AREF form.NO_DATA (Exactly 0) ∷
+    of_form kind.TEXT form.NO_DATA (Exactly 0) ∷
+    of_form kind.LAYER form.TWO_BYTE_NUMBERS (Exactly 2) ∷
+    of_form kind.DATATYPE form.TWO_BYTE_NUMBERS (Exactly 2) ∷
+    of_form kind.WIDTH form.FOUR_BYTE_NUMBERS (Exactly 4) ∷
+    of_form kind.XY form.FOUR_BYTE_NUMBERS MultipleOfEight ∷
+    of_form kind.ENDEL form.NO_DATA (Exactly 0) ∷
+    of_form kind.SNAME form.TEXT Any ∷
+    of_form kind.COLROW form.TWO_BYTE_NUMBERS (Exactly 4) ∷
+    of_form kind.NODE form.NO_DATA (Exactly 0) ∷
+    of_form kind.TEXTTYPE form.TWO_BYTE_NUMBERS Any ∷
+    of_form kind.PRESENTATION form.BITS Any ∷
+    of_form kind.STRING form.TEXT Any ∷
+    of_form kind.STRANS form.BITS (Exactly 2) ∷
+    of_form kind.MAG form.EIGHT_BYTE_REALS (Exactly 8) ∷
+    of_form kind.ANGLE form.EIGHT_BYTE_REALS (Exactly 8) ∷
+    of_form kind.REFLIBS form.TEXT Any ∷
+    of_form kind.FONTS form.TEXT Any ∷
+    of_form kind.PATHTYPE form.TWO_BYTE_NUMBERS (Exactly 2) ∷
+    of_form kind.GENERATIONS form.TWO_BYTE_NUMBERS Any ∷
+    of_form kind.ATTRTABLE form.TEXT Any ∷
+    of_form kind.ELFLAGS form.BITS Any ∷
+    of_form kind.NODETYPE form.TWO_BYTE_NUMBERS Any ∷
+    of_form kind.PROPATTR form.TWO_BYTE_NUMBERS Any ∷
+    of_form kind.PROPVALUE form.TEXT Any ∷
+    of_form kind.BOX form.NO_DATA (Exactly 0) ∷
+    of_form kind.BOXTYPE form.TWO_BYTE_NUMBERS (Exactly 2) ∷
+    of_form kind.PLEX form.FOUR_BYTE_NUMBERS Any ∷
+    of_form kind.BGNEXTN form.FOUR_BYTE_NUMBERS (Exactly 4) ∷
+    of_form kind.ENDEXTN form.FOUR_BYTE_NUMBERS (Exactly 4) ∷
+    of_any_form kind.STRCLASS Any ∷
+    of_form kind.FORMAT form.TWO_BYTE_NUMBERS Any ∷
+    of_form kind.MASK form.TEXT Any ∷
+    of_form kind.ENDMASKS form.NO_DATA (Exactly 0) ∷
+    of_any_form kind.LIBDIRSIZE Any ∷
+    of_any_form kind.SRFNAME Any ∷
+    of_any_form kind.LIBSECUR Any ∷
     []
 
 -- the rule of a kind, where the table has it

@@ -2,7 +2,6 @@
 //! number 4, are in no use.
 
 ghost use Rattle.std.specs.Prelude.{◌≡◌};
-ghost use Rattle.gds_records.specs.Forms as form;
 
 /// No data.
 pub const NO_DATA: u8 = 0x00;
@@ -17,12 +16,12 @@ pub const EIGHT_BYTE_REALS: u8 = 0x05;
 /// A text, filled up to an even number of bytes with a zero byte.
 pub const TEXT: u8 = 0x06;
 
-/// The constants are the numbers by which the definitions name the forms.
+/// The numbers of all forms, as the manual has them. Definitions name them by the constants.
 pub fn forms_are_numbered()
-    ensures { (NO_DATA ≡ form.no_data) ×
-        (BITS ≡ form.bits) ×
-        (TWO_BYTE_NUMBERS ≡ form.two_byte_numbers) ×
-        (FOUR_BYTE_NUMBERS ≡ form.four_byte_numbers) ×
-        (EIGHT_BYTE_REALS ≡ form.eight_byte_reals) ×
-        (TEXT ≡ form.text) }
+    ensures { (NO_DATA ≡ 0x00) ×
+        (BITS ≡ 0x01) ×
+        (TWO_BYTE_NUMBERS ≡ 0x02) ×
+        (FOUR_BYTE_NUMBERS ≡ 0x03) ×
+        (EIGHT_BYTE_REALS ≡ 0x05) ×
+        (TEXT ≡ 0x06) }
 {}

@@ -1,7 +1,6 @@
 //! The kinds of records, as the GDSII Stream Format Manual, Release 6.0, numbers them.
 
 ghost use Rattle.std.specs.Prelude.{◌≡◌};
-ghost use Rattle.gds_records.specs.Kinds as kind;
 
 /// The version of the stream format.
 pub const HEADER: u8 = 0x00;
@@ -100,54 +99,54 @@ pub const SRFNAME: u8 = 0x3A;
 /// Who may use the library.
 pub const LIBSECUR: u8 = 0x3B;
 
-/// The constants are the numbers by which the definitions name the kinds.
+/// The numbers of all kinds, as the manual's table of records has them. Definitions name them by the constants.
 pub fn kinds_are_numbered()
-    ensures { (HEADER ≡ kind.header) ×
-        (BGNLIB ≡ kind.bgnlib) ×
-        (LIBNAME ≡ kind.libname) ×
-        (UNITS ≡ kind.units) ×
-        (ENDLIB ≡ kind.endlib) ×
-        (BGNSTR ≡ kind.bgnstr) ×
-        (STRNAME ≡ kind.strname) ×
-        (ENDSTR ≡ kind.endstr) ×
-        (BOUNDARY ≡ kind.boundary) ×
-        (PATH ≡ kind.path) ×
-        (SREF ≡ kind.sref) ×
-        (AREF ≡ kind.aref) ×
-        (TEXT ≡ kind.text) ×
-        (LAYER ≡ kind.layer) ×
-        (DATATYPE ≡ kind.datatype) ×
-        (WIDTH ≡ kind.width) ×
-        (XY ≡ kind.xy) ×
-        (ENDEL ≡ kind.endel) ×
-        (SNAME ≡ kind.sname) ×
-        (COLROW ≡ kind.colrow) ×
-        (NODE ≡ kind.node) ×
-        (TEXTTYPE ≡ kind.texttype) ×
-        (PRESENTATION ≡ kind.presentation) ×
-        (STRING ≡ kind.string) ×
-        (STRANS ≡ kind.strans) ×
-        (MAG ≡ kind.mag) ×
-        (ANGLE ≡ kind.angle) ×
-        (REFLIBS ≡ kind.reflibs) ×
-        (FONTS ≡ kind.fonts) ×
-        (PATHTYPE ≡ kind.pathtype) ×
-        (GENERATIONS ≡ kind.generations) ×
-        (ATTRTABLE ≡ kind.attrtable) ×
-        (ELFLAGS ≡ kind.elflags) ×
-        (NODETYPE ≡ kind.nodetype) ×
-        (PROPATTR ≡ kind.propattr) ×
-        (PROPVALUE ≡ kind.propvalue) ×
-        (BOX ≡ kind.box) ×
-        (BOXTYPE ≡ kind.boxtype) ×
-        (PLEX ≡ kind.plex) ×
-        (BGNEXTN ≡ kind.bgnextn) ×
-        (ENDEXTN ≡ kind.endextn) ×
-        (STRCLASS ≡ kind.strclass) ×
-        (FORMAT ≡ kind.format) ×
-        (MASK ≡ kind.mask) ×
-        (ENDMASKS ≡ kind.endmasks) ×
-        (LIBDIRSIZE ≡ kind.libdirsize) ×
-        (SRFNAME ≡ kind.srfname) ×
-        (LIBSECUR ≡ kind.libsecur) }
+    ensures { (HEADER ≡ 0x00) ×
+        (BGNLIB ≡ 0x01) ×
+        (LIBNAME ≡ 0x02) ×
+        (UNITS ≡ 0x03) ×
+        (ENDLIB ≡ 0x04) ×
+        (BGNSTR ≡ 0x05) ×
+        (STRNAME ≡ 0x06) ×
+        (ENDSTR ≡ 0x07) ×
+        (BOUNDARY ≡ 0x08) ×
+        (PATH ≡ 0x09) ×
+        (SREF ≡ 0x0A) ×
+        (AREF ≡ 0x0B) ×
+        (TEXT ≡ 0x0C) ×
+        (LAYER ≡ 0x0D) ×
+        (DATATYPE ≡ 0x0E) ×
+        (WIDTH ≡ 0x0F) ×
+        (XY ≡ 0x10) ×
+        (ENDEL ≡ 0x11) ×
+        (SNAME ≡ 0x12) ×
+        (COLROW ≡ 0x13) ×
+        (NODE ≡ 0x15) ×
+        (TEXTTYPE ≡ 0x16) ×
+        (PRESENTATION ≡ 0x17) ×
+        (STRING ≡ 0x19) ×
+        (STRANS ≡ 0x1A) ×
+        (MAG ≡ 0x1B) ×
+        (ANGLE ≡ 0x1C) ×
+        (REFLIBS ≡ 0x1F) ×
+        (FONTS ≡ 0x20) ×
+        (PATHTYPE ≡ 0x21) ×
+        (GENERATIONS ≡ 0x22) ×
+        (ATTRTABLE ≡ 0x23) ×
+        (ELFLAGS ≡ 0x26) ×
+        (NODETYPE ≡ 0x2A) ×
+        (PROPATTR ≡ 0x2B) ×
+        (PROPVALUE ≡ 0x2C) ×
+        (BOX ≡ 0x2D) ×
+        (BOXTYPE ≡ 0x2E) ×
+        (PLEX ≡ 0x2F) ×
+        (BGNEXTN ≡ 0x30) ×
+        (ENDEXTN ≡ 0x31) ×
+        (STRCLASS ≡ 0x34) ×
+        (FORMAT ≡ 0x36) ×
+        (MASK ≡ 0x37) ×
+        (ENDMASKS ≡ 0x38) ×
+        (LIBDIRSIZE ≡ 0x39) ×
+        (SRFNAME ≡ 0x3A) ×
+        (LIBSECUR ≡ 0x3B) }
 {}

@@ -5,9 +5,9 @@ use Rattle.std.proofs.lemmas.List.Elements.{All-nil, All-cons}
 use Rattle.first_refusal.proofs.CheckLaws.{fails_at_once, fails_later}
 use Rattle.geo_core.specs.declared.plane.Point.{Point}
 use Rattle.gds_records.specs.Spelling.{Entry}
-use Rattle.gds_syntax.specs.ElementChecks.{ElementCheck, ElementHolds, IsFaultOfFirst, array_checks, has_columns_and_rows, has_whole_steps}
-use Rattle.gds_syntax.specs.OwnRecords.{columns_of, rows_of, Leads, HasSteps}
-use Rattle.gds_syntax.specs.declared.fault.SyntaxFault.TheVariants.{EmptyArray, UnevenArray}
+use Rattle.library_grammar.specs.ElementChecks.{ElementCheck, ElementHolds, IsFaultOfFirst, array_checks, has_columns_and_rows, has_whole_steps}
+use Rattle.library_grammar.specs.OwnRecords.{columns_of, rows_of, Leads, HasSteps}
+use Rattle.library_grammar.specs.declared.fault.SyntaxFault.TheVariants.{EmptyArray, UnevenArray}
 
 -- steps between the same points
 pub leads_alike : (count told_count : ℤ) (from told_from to told_to : Point) (step : ℤ × ℤ) → told_count ≡ count → told_from ≡ from → told_to ≡ to
@@ -20,8 +20,7 @@ module _ (own : List Entry) where
       → All (ElementHolds own) array_checks
   array_checks_hold column_step row_step columns rows steps =
       let Holds : ElementCheck → Type 0 = ElementHolds own in
-      All-cons Holds has_columns_and_rows (has_whole_steps ∷ []) (columns, rows)
-      (All-cons Holds has_whole_steps [] (column_step, row_step, steps) (All-nil Holds))
+      All-cons Holds has_columns_and_rows (has_whole_steps ∷ []) (columns, rows) (All-cons Holds has_whole_steps [] (column_step, row_step, steps) (All-nil Holds))
 
   module _ (at : ℕ) where
     pub fault_where_empty : ((pos 1 ≤ℤ columns_of own) × (pos 1 ≤ℤ rows_of own) → ⊥) → IsFaultOfFirst at own array_checks (EmptyArray at)

@@ -5,10 +5,10 @@ use Rattle.std.proofs.lemmas.List.{map-append, take-append-drop, drop_more, take
 use Rattle.std.proofs.lemmas.List.Elements.{All-append, All-map, All-more}
 use Rattle.first_refusal.specs.Checks.{IsRefusalOfFirst}
 use Rattle.gds_records.specs.Spelling.{Entry}
-use Rattle.gds_syntax.specs.ElementForms.{ElementForm}
-use Rattle.gds_syntax.specs.ElementChecks.{has, ElementHolds, element_fault}
-use Rattle.gds_syntax.specs.Shape.{kinds_of}
-use Rattle.gds_syntax.specs.declared.fault.SyntaxFault.TheVariants.{Missing}
+use Rattle.library_grammar.specs.ElementForms.{ElementForm}
+use Rattle.library_grammar.specs.ElementChecks.{has, ElementHolds, element_fault}
+use Rattle.library_grammar.specs.Grammar.{kinds_of}
+use Rattle.library_grammar.specs.declared.fault.SyntaxFault.TheVariants.{Missing}
 
 -- ---- parts of a list of checks
 

@@ -1,17 +1,20 @@
 -- What bytes come to, from what a reader found in them.
-use Rattle.std.proofs.Common.{◌≡◌, ℕ, List, [], ◌∷◌, ◌++◌, length, refl, sym, ap, subst, ◌∙◌, true, arith}
-use Rattle.std.proofs.lemmas.List.{append_assoc, append-nil}
+use Rattle.std.proofs.Common.{◌≡◌, ℕ, List, [], ◌∷◌, ◌++◌, length, refl, ap, subst, ◌∙◌, true, arith}
+use Rattle.std.proofs.lemmas.List.{append-nil}
 use Rattle.first_refusal.specs.Outcomes.{value, refused}
 use Rattle.gds_records.specs.Reading.{Reading, start_of, IsLeft}
-use Rattle.gds_records.specs.Spelling.{AreBytes, Entry}
+use Rattle.gds_records.specs.Spelling.{Entry}
+use Rattle.lists.specs.ByteLists.{AreBytes}
 use Rattle.gds_records.specs.Split.{End, whole, Splits}
 use Rattle.gds_records.proofs.SplitLaws.{all_bytes_split}
-use Rattle.gds_syntax.specs.FirstFault.{BytesComeTo, are_library, have_fault, NoneShows}
-use Rattle.gds_syntax.specs.Libraries.{AreStructures}
-use Rattle.gds_syntax.specs.Places.{before_header, between_structures}
-use Rattle.gds_syntax.specs.Readers.{standing, IsAt, Stops, ReadsHead, ReadsStructures}
-use Rattle.gds_syntax.specs.declared.fault.SyntaxFault.{SyntaxFault}
-use Rattle.gds_syntax.specs.declared.library.Library.{Library}
+use Rattle.library_grammar.specs.FirstFault.{BytesComeTo, are_library, have_fault, NoneShows}
+use Rattle.library_grammar.specs.Grammar.{LibraryParts, library_head, IsInGrammar}
+use Rattle.library_grammar.specs.Libraries.{behind, SayStructures, IsLibrary}
+use Rattle.library_grammar.specs.Places.{before_header, between_structures}
+use Rattle.gds_syntax.specs.LibraryReaders.{standing, IsAt, Stops, ReadsHead, ReadsStructures}
+use Rattle.library_grammar.specs.declared.fault.SyntaxFault.{SyntaxFault}
+use Rattle.library_model.specs.declared.library.Library.{Library}
+use Rattle.library_model.specs.declared.library.Structure.{Structure}
 use Rattle.gds_syntax.proofs.ReaderLaws.{stops_later}
 
 -- no records are in front of the stream
@@ -38,11 +41,59 @@ bytes_have_fault bytes fault are stops =
 pub bytes_have_later_fault : (bytes : List ℕ) (mid : Reading) (name units : List ℕ) (fault : SyntaxFault) → AreBytes bytes → ReadsHead (start_of bytes) mid name units
     → Stops mid (standing between_structures []) fault → BytesComeTo bytes (refused fault)
 bytes_have_later_fault bytes mid name units fault are head stops =
-    bytes_have_fault bytes fault are (stops_later (start_of bytes) mid (standing before_header []) (standing between_structures []) head.entries fault head.advances stops)
+    bytes_have_fault bytes fault are (stops_later head.advances stops)
 
 -- what is left behind the end
 none_left : (reading : Reading) (entries : List Entry) (end : End) → reading.ended ≡ true → IsLeft reading entries end → (entries ≡ []) × (end ≡ whole)
 none_left reading entries end ended left = rw ended at left
+
+-- the parts that a reader read
+abbrev parts_read : {old mid new : Reading} {name units : List ℕ} {structures : List Structure} → ReadsHead old mid name units → ReadsStructures mid new structures → LibraryParts
+parts_read head rest =
+    record {
+      version = head.is_head.version;
+      opening = head.is_head.opening;
+      before_name = head.is_head.before_name;
+      name = head.is_head.name;
+      before_units = head.is_head.before_units;
+      units = head.is_head.units;
+      structures = rest.are_structures.parts;
+      last = rest.last;
+    }
+
+parts_in_grammar : {old mid new : Reading} {name units : List ℕ} {structures : List Structure} (head : ReadsHead old mid name units) (rest : ReadsStructures mid new structures)
+    → IsInGrammar (parts_read head rest)
+parts_in_grammar head rest =
+    record {
+      version = head.is_head.is_version;
+      opens = head.is_head.opens;
+      before_name = head.is_head.are_before_name;
+      names = head.is_head.names;
+      before_units = head.is_head.are_before_units;
+      units = head.is_head.are_units;
+      structures = rest.are_structures.in_grammar;
+      ends = rest.is_last;
+    }
+
+-- the library that they say
+library_of_parts : (bytes : List ℕ) (mid new : Reading) (library : Library) (head : ReadsHead (start_of bytes) mid library.name library.units)
+    (rest : ReadsStructures mid new library.structures) → IsLibrary (head.entries ++ (rest.entries ++ rest.last ∷ [])) library
+library_of_parts bytes mid new library head rest =
+    let parts : LibraryParts = parts_read head rest in
+    let are = rest.are_structures in
+    let place : mid.at ≡ behind 0 (library_head parts) = head.advances.takes.offset ∙ ap (λ (es : List Entry). behind 0 es) head.is_head.are_its in
+    record {
+      in_shape = record {
+        library = parts;
+        in_grammar = parts_in_grammar head rest;
+        are_its = ap (λ (es : List Entry). es ++ (rest.entries ++ rest.last ∷ [])) head.is_head.are_its ∙ ap (λ (es : List Entry). library_head parts ++ (es ++ rest.last ∷ [])) are.are_theirs;
+      };
+      says = record {
+        name = head.is_head.has_name;
+        units = head.is_head.has_units;
+        structures = subst (λ (n : ℕ). SayStructures n are.parts library.structures) place are.say;
+      };
+    }
 
 -- the library that a reader read is that of the bytes
 pub bytes_are_library : (bytes : List ℕ) (mid new : Reading) (library : Library) → AreBytes bytes → ReadsHead (start_of bytes) mid library.name library.units
@@ -55,13 +106,6 @@ bytes_are_library bytes mid new library are head rest =
     let all : entries ≡ head.entries ++ (rest.entries ++ rest.last ∷ []) =
     parts ∙ ap (λ (x : List Entry). head.entries ++ x) (more_parts ∙ ap (λ (x : List Entry). (rest.entries ++ rest.last ∷ []) ++ x) none ∙ append-nil (rest.entries ++ rest.last ∷ [])) in
     let quiet : NoneShows (head.entries ++ (rest.entries ++ rest.last ∷ [])) = (rest.advances.stands head.entries (head.advances.stands [] (starts bytes))).none_shows in
-    let whole_split : Splits 0 bytes (head.entries ++ (rest.entries ++ rest.last ∷ [])) whole = subst (λ (x : List Entry). Splits 0 bytes x whole) all (subst (λ (x : End). Splits 0 bytes entries x) is_whole split) in
-    are_library whole_split quiet (record {
-      head = head.entries;
-      is_head = head.is_head;
-      structures = rest.entries;
-      has_structures = subst (λ (at : ℕ). AreStructures at rest.entries library.structures) head.advances.takes.offset rest.are_structures;
-      last = rest.last;
-      ends = rest.is_last;
-      parts = sym (append_assoc head.entries rest.entries (rest.last ∷ []));
-    })
+    let whole_split : Splits 0 bytes (head.entries ++ (rest.entries ++ rest.last ∷ [])) whole =
+    subst (λ (x : List Entry). Splits 0 bytes x whole) all (subst (λ (x : End). Splits 0 bytes entries x) is_whole split) in
+    are_library whole_split quiet (library_of_parts bytes mid new library head rest)

@@ -6,8 +6,8 @@ use Rattle.std.proofs.lemmas.Bool.{eqb-true, eq-eqb}
 use Rattle.std.proofs.lemmas.Bool.Decides.{Decides-eqb}
 use Rattle.std.proofs.lemmas.List.Elements.{Contains-append_right, Contains-append_cases, contains_decides, Decides-contains}
 use Rattle.gds_records.specs.Spelling.{Entry}
-use Rattle.gds_syntax.specs.OwnRecords.{field}
-use Rattle.gds_syntax.specs.Shape.{kinds_of}
+use Rattle.library_grammar.specs.OwnRecords.{field}
+use Rattle.library_grammar.specs.Grammar.{kinds_of}
 
 -- what a slice answers where it is asked for a number
 pub contains_as_asked : (kinds : List ℕ) (k : ℕ) (b : Bool) → IsAnyAnswer (λ y t. (y == k) ≡ t) kinds b → IsTrue b ↔ Contains kinds k

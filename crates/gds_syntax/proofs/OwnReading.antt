@@ -1,52 +1,65 @@
 -- How a reader goes through the own records of an element.
-use Rattle.std.proofs.Common.{◌≡◌, ◌≢◌, ℕ, List, [], ◌∷◌, ◌++◌, refl, ◌∙◌, false, Some, None}
+use Rattle.std.proofs.Common.{◌≡◌, ◌≢◌, ℕ, List, [], ◌∷◌, ◌++◌, refl, sym, subst, ◌∙◌, false, Some, None, arith}
 use Rattle.std.specs.Prelude.{Contains, not, ◌&&◌}
 use Rattle.std.proofs.lemmas.Bool.{ne_eqb}
 use Rattle.std.proofs.lemmas.List.{map-append}
 use Rattle.std.proofs.lemmas.List.Elements.{All-nil, All-append, All-cons}
-use Rattle.gds_records.specs.Kinds as kind
+use Rattle.lists.specs.Differing.{AreDifferent}
+use Rattle.lists.proofs.Differing.{different_more}
+use Rattle.gds_records.specs.declared.kinds.TheConstants as kind
 use Rattle.gds_records.specs.Reading.{Reading, entry_of}
 use Rattle.gds_records.specs.Spelling.{Entry}
 use Rattle.gds_records.specs.declared.record.Record.{Record}
-use Rattle.gds_syntax.specs.ElementForms.{ElementForm, own_kinds}
-use Rattle.gds_syntax.specs.ElementKinds.{form_for}
-use Rattle.gds_syntax.specs.Places.{among_own, has_kind, next_place, out_of_element}
-use Rattle.gds_syntax.specs.Readers.{TakesRecord, standing, Advances, Stops, ReadsOwnSoFar}
-use Rattle.gds_syntax.specs.Shape.{kinds_of}
+use Rattle.library_grammar.specs.ElementForms.{ElementForm, element_forms, own_kinds}
+use Rattle.gds_syntax.specs.inside.ElementKinds.{form_for}
+use Rattle.library_grammar.specs.Places.{among_own, has_kind, next_place, out_of_element}
+use Rattle.gds_syntax.specs.LibraryReaders.{TakesRecord, standing, Advances, Stops, ReadsOwnSoFar}
+use Rattle.library_grammar.specs.Grammar.{kinds_of}
 use Rattle.gds_syntax.specs.declared.element_kind.ElementKind.{ElementKind}
-use Rattle.gds_syntax.specs.declared.fault.SyntaxFault.TheVariants.{Unexpected}
-use Rattle.gds_syntax.proofs.PlaceEndings.{contains_kind}
-use Rattle.gds_syntax.proofs.PlaceRuns.{has_contained}
-use Rattle.gds_syntax.proofs.PlainKinds.{own_is_plain}
+use Rattle.gds_syntax.specs.declared.element_kind.ElementKind.TheVariants.{Boundary, Path, Sref, Aref, Text, Node, BoxElement}
+use Rattle.library_grammar.specs.declared.fault.SyntaxFault.TheVariants.{Unexpected}
+use Rattle.library_grammar.proofs.PlaceEndings.{contains_kind}
+use Rattle.library_grammar.proofs.PlaceRuns.{has_contained}
+use Rattle.library_grammar.proofs.PlainKinds.{own_is_plain}
 use Rattle.gds_syntax.proofs.ReaderLaws.{is_false, Advances-append, advances_plain, stops_later, stops_unexpected}
 
 -- the kinds of one record more
 kinds_and_one : (own : List Entry) (e : Entry) → kinds_of (own ++ e ∷ []) ≡ kinds_of own ++ e.kind ∷ []
 kinds_and_one own e = map-append (λ (x : Entry). x.kind) own (e ∷ [])
 
+-- the form of an element is one of the forms
+form_listed : (element : ElementKind) → Contains element_forms (form_for element)
+form_listed Boundary = (0, omega arith, refl)
+form_listed Path = (1, omega arith, refl)
+form_listed Sref = (2, omega arith, refl)
+form_listed Aref = (3, omega arith, refl)
+form_listed Text = (4, omega arith, refl)
+form_listed Node = (5, omega arith, refl)
+form_listed BoxElement = (6, omega arith, refl)
+
 -- the reader goes on by an own record that the element has not yet
-pub own_further : (old mid : Reading) (element : ElementKind) (own : List Entry) (found : Record) → Contains (own_kinds (form_for element)) found.kind
+pub own_further : {old mid : Reading} (element : ElementKind) {own : List Entry} {found : Record} → Contains (own_kinds (form_for element)) found.kind
     → (Contains (kinds_of own) found.kind → ⊥) → ReadsOwnSoFar old mid (form_for element) own found → (names : List (List ℕ))
     → Advances old mid (standing (among_own (form_for element) []) names) (standing (among_own (form_for element) (kinds_of (own ++ entry_of found ∷ []))) names) (own ++ entry_of found ∷ [])
-own_further old mid element own found owned fresh so_far names =
+own_further element {own = own} {found = found} owned fresh so_far names =
     let form : ElementForm = form_for element in
     let next : next_place (among_own form (kinds_of own)) found.kind ≡ Some (among_own form (kinds_of own ++ found.kind ∷ [])) =
     rw (has_contained (own_kinds form) found.kind owned, is_false (has_kind (kinds_of own) found.kind) (λ has. fresh (contains_kind (kinds_of own) found.kind has))) refl in
-    let one = advances_plain so_far.between mid found (standing (among_own form (kinds_of own)) names) (among_own form (kinds_of own ++ found.kind ∷ [])) so_far.takes next (own_is_plain element found.kind owned) in
-    rw (kinds_and_one own (entry_of found))
-    (Advances-append old so_far.between mid (standing (among_own form []) names) (standing (among_own form (kinds_of own)) names) (standing (among_own form (kinds_of own ++ found.kind ∷ [])) names)
-    own (entry_of found ∷ []) (so_far.advances names) one)
+    let one = advances_plain (standing (among_own form (kinds_of own)) names) (among_own form (kinds_of own ++ found.kind ∷ [])) so_far.takes next
+    (own_is_plain form (form_listed element) found.kind owned) in
+    rw (kinds_and_one own (entry_of found)) (Advances-append (so_far.advances names) one)
 
 -- one own record more
-pub own_goes_on : (old mid new : Reading) (element : ElementKind) (own : List Entry) (found next : Record) → Contains (own_kinds (form_for element)) found.kind
+pub own_goes_on : {old mid new : Reading} (element : ElementKind) {own : List Entry} {found next : Record} → Contains (own_kinds (form_for element)) found.kind
     → (Contains (kinds_of own) found.kind → ⊥) → ReadsOwnSoFar old mid (form_for element) own found → TakesRecord mid new next
     → ReadsOwnSoFar old new (form_for element) (own ++ entry_of found ∷ []) next
-own_goes_on old mid new element own found next owned fresh so_far takes =
+own_goes_on {mid = mid} element {own = own} {found = found} owned fresh so_far takes =
     let Has : Entry → Type 0 = λ e. Contains (own_kinds (form_for element)) e.kind in
     record {
       between = mid;
       are_own = All-append Has own (entry_of found ∷ []) so_far.are_own (All-cons Has (entry_of found) [] owned (All-nil Has));
-      advances = own_further old mid element own found owned fresh so_far;
+      once = subst AreDifferent (sym (kinds_and_one own (entry_of found))) (different_more (kinds_of own) found.kind so_far.once fresh);
+      advances = own_further element owned fresh so_far;
       takes = takes;
     }
 
@@ -55,23 +68,23 @@ own_leaves : (form : ElementForm) (own : List ℕ) (k : ℕ) → (has_kind (own_
 own_leaves form own k leaves = rw leaves refl
 
 -- and stops the reader unless it is PROPATTR or ENDEL
-own_stops : (old new : Reading) (form : ElementForm) (own : List Entry) (found : Record) → (has_kind (own_kinds form) found.kind && not (has_kind (kinds_of own) found.kind)) ≡ false
-    → found.kind ≢ kind.propattr → found.kind ≢ kind.endel → ReadsOwnSoFar old new form own found → (names : List (List ℕ))
+own_stops : {old new : Reading} {form : ElementForm} {own : List Entry} {found : Record} → (has_kind (own_kinds form) found.kind && not (has_kind (kinds_of own) found.kind)) ≡ false
+    → found.kind ≢ kind.PROPATTR → found.kind ≢ kind.ENDEL → ReadsOwnSoFar old new form own found → (names : List (List ℕ))
     → Stops old (standing (among_own form []) names) (Unexpected found.at found.kind)
-own_stops old new form own found leaves no_attribute no_end so_far names =
-    let none : out_of_element found.kind ≡ None = rw (ne_eqb found.kind kind.propattr no_attribute, ne_eqb found.kind kind.endel no_end) refl in
-    stops_later old so_far.between (standing (among_own form []) names) (standing (among_own form (kinds_of own)) names) own (Unexpected found.at found.kind) (so_far.advances names)
-    (stops_unexpected so_far.between new (standing (among_own form (kinds_of own)) names) found so_far.takes (own_leaves form (kinds_of own) found.kind leaves ∙ none))
+own_stops {form = form} {own = own} {found = found} leaves no_attribute no_end so_far names =
+    let none : out_of_element found.kind ≡ None = rw (ne_eqb found.kind kind.PROPATTR no_attribute, ne_eqb found.kind kind.ENDEL no_end) refl in
+    stops_later (so_far.advances names)
+    (stops_unexpected (standing (among_own form (kinds_of own)) names) so_far.takes (own_leaves form (kinds_of own) found.kind leaves ∙ none))
 
 -- the two ways in which it is none that may follow
-pub foreign_stops : (old new : Reading) (form : ElementForm) (own : List Entry) (found : Record) → (Contains (own_kinds form) found.kind → ⊥)
-    → found.kind ≢ kind.propattr → found.kind ≢ kind.endel → ReadsOwnSoFar old new form own found → (names : List (List ℕ))
+pub foreign_stops : {old new : Reading} {form : ElementForm} {own : List Entry} {found : Record} → (Contains (own_kinds form) found.kind → ⊥)
+    → found.kind ≢ kind.PROPATTR → found.kind ≢ kind.ENDEL → ReadsOwnSoFar old new form own found → (names : List (List ℕ))
     → Stops old (standing (among_own form []) names) (Unexpected found.at found.kind)
-foreign_stops old new form own found foreign no_attribute no_end so_far names =
-    own_stops old new form own found (rw (is_false (has_kind (own_kinds form) found.kind) (λ has. foreign (contains_kind (own_kinds form) found.kind has))) refl) no_attribute no_end so_far names
+foreign_stops {form = form} {found = found} foreign no_attribute no_end so_far names =
+    own_stops (rw (is_false (has_kind (own_kinds form) found.kind) (λ has. foreign (contains_kind (own_kinds form) found.kind has))) refl) no_attribute no_end so_far names
 
-pub repeated_stops : (old new : Reading) (form : ElementForm) (own : List Entry) (found : Record) → Contains (own_kinds form) found.kind → Contains (kinds_of own) found.kind
-    → found.kind ≢ kind.propattr → found.kind ≢ kind.endel → ReadsOwnSoFar old new form own found → (names : List (List ℕ))
+pub repeated_stops : {old new : Reading} {form : ElementForm} {own : List Entry} {found : Record} → Contains (own_kinds form) found.kind → Contains (kinds_of own) found.kind
+    → found.kind ≢ kind.PROPATTR → found.kind ≢ kind.ENDEL → ReadsOwnSoFar old new form own found → (names : List (List ℕ))
     → Stops old (standing (among_own form []) names) (Unexpected found.at found.kind)
-repeated_stops old new form own found owned repeated no_attribute no_end so_far names =
-    own_stops old new form own found (rw (has_contained (own_kinds form) found.kind owned, has_contained (kinds_of own) found.kind repeated) refl) no_attribute no_end so_far names
+repeated_stops {form = form} {own = own} {found = found} owned repeated no_attribute no_end so_far names =
+    own_stops (rw (has_contained (own_kinds form) found.kind owned, has_contained (kinds_of own) found.kind repeated) refl) no_attribute no_end so_far names

@@ -1,13 +1,8 @@
 -- angles of whole quarters of a circle
-use Rattle.std.proofs.Common.{◌≡◌, ◌⊎◌, inl, inr, refl, sym, subst, ℕ, ℤ, pos, negsuc, int_eq, ◌+ℤ◌, ◌*ℤ◌, ◌≤ℤ◌, ◌<◌, arith}
+use Rattle.std.proofs.Common.{◌≡◌, inl, inr, refl, sym, subst, ℕ, ℤ, pos, negsuc, ◌+ℤ◌, ◌*ℤ◌, ◌≤ℤ◌, ◌<◌, arith}
 use Rattle.std.proofs.lemmas.Int.{ints}
-use Rattle.std.proofs.lemmas.Bool.{cases_Bool}
-use Rattle.std.proofs.lemmas.Bool.Decides.{Decides-int_eq}
-use Rattle.gds_syntax.specs.Quarters.{ComesTo}
-
-same_or_not : (x y : ℤ) → (x ≡ y) ⊎ (x ≡ y → ⊥)
-same_or_not x y =
-    elim (cases_Bool (int_eq x y)) [ inl e ↦ inl ((Decides-int_eq x y).0 e) | inr e ↦ inr (λ h. cc ((Decides-int_eq x y).1 h)) ]
+use Rattle.gds_syntax.specs.inside.Quarters.{ComesTo}
+use Rattle.lists.proofs.Comparing.{same_or_not}
 
 -- an angle of one of two values comes to the quarters of both
 comes_to_either : (degrees one other : ℤ) (n : ℕ) → ComesTo one n → ComesTo other n → ((degrees ≡ one → ⊥) → degrees ≡ other) → ComesTo degrees n
@@ -43,22 +38,19 @@ comes_to_none degrees either =
 -- n quarters back from a whole circle, or n forward
 pub comes_to_one : (degrees : ℤ) → ((degrees ≡ negsuc 269 → ⊥) → degrees ≡ pos 90) → ComesTo degrees 1
 comes_to_one degrees either =
-    comes_to_either degrees (negsuc 269) (pos 90) 1
-    (quarters_with (negsuc 269) (negsuc 0) 1 refl (omega (arith, ints)) (omega (arith, ints)) (omega arith))
+    comes_to_either degrees (negsuc 269) (pos 90) 1 (quarters_with (negsuc 269) (negsuc 0) 1 refl (omega (arith, ints)) (omega (arith, ints)) (omega arith))
     (quarters_with (pos 90) (pos 0) 1 refl (omega (arith, ints)) (omega (arith, ints)) (omega arith))
     either
 
 pub comes_to_two : (degrees : ℤ) → ((degrees ≡ negsuc 179 → ⊥) → degrees ≡ pos 180) → ComesTo degrees 2
 comes_to_two degrees either =
-    comes_to_either degrees (negsuc 179) (pos 180) 2
-    (quarters_with (negsuc 179) (negsuc 0) 2 refl (omega (arith, ints)) (omega (arith, ints)) (omega arith))
+    comes_to_either degrees (negsuc 179) (pos 180) 2 (quarters_with (negsuc 179) (negsuc 0) 2 refl (omega (arith, ints)) (omega (arith, ints)) (omega arith))
     (quarters_with (pos 180) (pos 0) 2 refl (omega (arith, ints)) (omega (arith, ints)) (omega arith))
     either
 
 pub comes_to_three : (degrees : ℤ) → ((degrees ≡ negsuc 89 → ⊥) → degrees ≡ pos 270) → ComesTo degrees 3
 comes_to_three degrees either =
-    comes_to_either degrees (negsuc 89) (pos 270) 3
-    (quarters_with (negsuc 89) (negsuc 0) 3 refl (omega (arith, ints)) (omega (arith, ints)) (omega arith))
+    comes_to_either degrees (negsuc 89) (pos 270) 3 (quarters_with (negsuc 89) (negsuc 0) 3 refl (omega (arith, ints)) (omega (arith, ints)) (omega arith))
     (quarters_with (pos 270) (pos 0) 3 refl (omega (arith, ints)) (omega (arith, ints)) (omega arith))
     either
 

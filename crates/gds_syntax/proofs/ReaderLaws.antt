@@ -1,30 +1,24 @@
 -- How a reader goes on record by record, and where it stops.
-use Rattle.std.proofs.Common.{◌≡◌, ◌≢◌, ℕ, ◌+◌, ◌-◌, ◌<◌, ◌≤◌, inl, inr, List, [], ◌∷◌, ◌++◌, length, refl, sym, ap, subst, ◌∙◌, arith, Bool, true, false, Some, None, Result, Ok, Err, IsTrue}
-use Rattle.std.proofs.lemmas.List.{append_assoc, append-nil, length-append, map-append}
-use Rattle.std.proofs.lemmas.Grind.{flat_map-append}
+use Rattle.std.proofs.Common.{◌≡◌, ◌≢◌, ℕ, ◌+◌, ◌-◌, ◌<◌, ◌≤◌, List, [], ◌∷◌, ◌++◌, length, refl, sym, ap, subst, ◌∙◌, arith, Bool, true, false, Some, None, Ok, Err, IsTrue}
+use Rattle.std.proofs.lemmas.List.{append_assoc, append-nil}
 use Rattle.std.proofs.lemmas.Bool.{ne_eqb}
-use Rattle.gds_records.specs.Kinds as kind
+use Rattle.gds_records.specs.declared.kinds.TheConstants as kind
 use Rattle.gds_records.specs.Reading.{Reading, IsLeft, IsGivenOrLeft, MovesPast, entry_of}
 use Rattle.gds_records.specs.Spelling.{Entry, spelling, spellings}
 use Rattle.gds_records.specs.Split.{End}
 use Rattle.gds_records.specs.declared.fault.RecordFault.{RecordFault}
 use Rattle.gds_records.specs.declared.record.Record.{Record}
-use Rattle.gds_syntax.specs.FirstFault.{IsFirstFault, at_record, at_end, NoneShows, Shows, may_not_stand as shows_unexpected, repeats, is_faulty}
-use Rattle.gds_syntax.specs.Libraries.{behind}
-use Rattle.gds_syntax.specs.Places.{Place, before_header, next_place, place_behind}
-use Rattle.gds_syntax.specs.Readers.{Takes, TakesRecord, Standing, standing, AreNamesIn, IsAt, Advances, Stops, IsReady, IsPlain, most_bytes}
-use Rattle.gds_syntax.specs.Shape.{kinds_of}
-use Rattle.gds_syntax.specs.declared.fault.SyntaxFault.{SyntaxFault}
-use Rattle.gds_syntax.specs.declared.fault.SyntaxFault.TheVariants.{Record as record_fault, Unexpected}
-use Rattle.std.specs.Prelude.{IsErrAnd, IfErr, if◌then◌else◌, ◌==◌}
+use Rattle.library_grammar.specs.FirstFault.{IsFirstFault, at_record, at_end, Shows, may_not_stand as shows_unexpected}
+use Rattle.library_grammar.specs.Libraries.{behind}
+use Rattle.library_grammar.specs.Places.{Place, next_place}
+use Rattle.gds_syntax.specs.LibraryReaders.{Takes, TakesRecord, Standing, standing, IsAt, Advances, Stops, IsReady, most_bytes}
+use Rattle.library_grammar.specs.Places.{IsPlain}
+use Rattle.library_grammar.specs.declared.fault.SyntaxFault.{SyntaxFault}
+use Rattle.library_grammar.specs.declared.fault.SyntaxFault.TheVariants.{Record as record_fault, Unexpected}
+use Rattle.std.specs.Prelude.{if◌then◌else◌, ◌==◌}
 use Rattle.std.proofs.Math.Nat.{add-zero}
-use Rattle.std.proofs.lemmas.Result.{err_from_is_err_and}
-use Rattle.gds_syntax.proofs.ListLaws.{last_or_before}
-use Rattle.gds_syntax.proofs.PlaceLaws.{place_behind-append, may_stand, may_not_stand}
-
--- the offset behind two lists of records, one after the other
-pub behind-append : (at : ℕ) (front more : List Entry) → behind at (front ++ more) ≡ behind (behind at front) more
-behind-append at front more = omega (arith, ap length (flat_map-append spelling front more), length-append (spellings front) (spellings more))
+use Rattle.library_grammar.proofs.PlaceLaws.{may_not_stand}
+use Rattle.library_grammar.proofs.NextRecords.{behind-append, NoneShows-snoc, AreNamesIn-snoc, place_after, plain_shows_nothing}
 
 -- a reader that moved past a record took it
 pub takes_one : (old new : Reading) (r : Record) → MovesPast old new r
@@ -46,7 +40,7 @@ pub further : (old new : Reading) (r : Record) → MovesPast old new r → old.a
 further old new r moved = omega (arith, moved.moves)
 
 -- and can read on unless the record is ENDLIB
-pub goes_on : (old new : Reading) (r : Record) → MovesPast old new r → IsReady old → r.kind ≢ kind.endlib → IsReady new
+pub goes_on : (old new : Reading) (r : Record) → MovesPast old new r → IsReady old → r.kind ≢ kind.ENDLIB → IsReady new
 goes_on old new r moved ready other =
     record {
       runs = is_false new.ended (λ is_true. other (moved.ends.0 is_true));
@@ -62,8 +56,8 @@ stops_at_end old new from why split before here entries end left =
     rw (none, stopped, append-nil before) (at_end here.none_shows)
 
 -- what one reader took and then another
-pub Takes-append : (old mid new : Reading) (one other : List Entry) → Takes old mid one → Takes mid new other → Takes old new (one ++ other)
-Takes-append old mid new one other first second =
+pub Takes-append : {old mid new : Reading} {one other : List Entry} → Takes old mid one → Takes mid new other → Takes old new (one ++ other)
+Takes-append {old = old} {one = one} {other = other} first second =
     record {
       left = λ entries end left.
           let (others, parts, mid_left) = first.left entries end left in
@@ -73,74 +67,38 @@ Takes-append old mid new one other first second =
       bytes = second.bytes ∙ first.bytes;
     }
 
-pub Advances-append : (old mid new : Reading) (from via to : Standing) (one other : List Entry) → Advances old mid from via one
+pub Advances-append : {old mid new : Reading} {from via to : Standing} {one other : List Entry} → Advances old mid from via one
     → Advances mid new via to other → Advances old new from to (one ++ other)
-Advances-append old mid new from via to one other first second =
+Advances-append {new = new} {to = to} {one = one} {other = other} first second =
     record {
-      takes = Takes-append old mid new one other first.takes second.takes;
+      takes = Takes-append first.takes second.takes;
       stands = λ before here. subst (λ (x : List Entry). IsAt new x to) (append_assoc before one other) (second.stands (before ++ one) (first.stands before here));
     }
 
 -- a fault that is found further on
-pub stops_later : (old mid : Reading) (from via : Standing) (taken : List Entry) (fault : SyntaxFault) → Advances old mid from via taken
+pub stops_later : {old mid : Reading} {from via : Standing} {taken : List Entry} {fault : SyntaxFault} → Advances old mid from via taken
     → Stops mid via fault → Stops old from fault
-stops_later old mid from via taken fault first second =
+stops_later {taken = taken} {fault = fault} first second =
     λ before here entries end left.
     let (others, parts, mid_left) = first.takes.left entries end left in
     let found : IsFirstFault ((before ++ taken) ++ others) end fault = second (before ++ taken) (first.stands before here) others end mid_left in
     rw parts (subst (λ (x : List Entry). IsFirstFault x end fault) (append_assoc before taken others) found)
 
 -- a record that may not stand there
-pub stops_unexpected : (old new : Reading) (from : Standing) (r : Record) → TakesRecord old new r → next_place from.place r.kind ≡ None
+pub stops_unexpected : {old new : Reading} (from : Standing) {r : Record} → TakesRecord old new r → next_place from.place r.kind ≡ None
     → Stops old from (Unexpected r.at r.kind)
-stops_unexpected old new from r taken none before here entries end left =
+stops_unexpected from {r = r} taken none before here entries end left =
     let (others, parts, _) = taken.takes.left entries end left in
     let place : r.at ≡ behind 0 before = taken.place ∙ here.offset in
-    let shown : Shows before (entry_of r) (Unexpected (behind 0 before) r.kind) = shows_unexpected (may_not_stand (kinds_of before) r.kind from.place here.place none) in
+    let shown : Shows before (entry_of r) (Unexpected (behind 0 before) r.kind) = shows_unexpected (may_not_stand before (entry_of r) from.place here.place none) in
     let parts_of_all : before ++ entries ≡ before ++ entry_of r ∷ others = ap (λ (x : List Entry). before ++ x) parts in
     rw place (at_record before others (entry_of r) parts_of_all here.none_shows shown)
 
--- none of these records shows a fault, and neither does one more
-pub NoneShows-snoc : (before : List Entry) (e : Entry) → NoneShows before → ((fault : SyntaxFault) → Shows before e fault → ⊥) → NoneShows (before ++ e ∷ [])
-NoneShows-snoc before e none quiet =
-    λ front back other fault parts shown.
-    elim (last_or_before before e front other back parts) [
-      | inl (fronts, same, _) ↦ quiet fault (subst (λ (x : Entry). Shows before x fault) (sym same) (subst (λ (x : List Entry). Shows x other fault) (sym fronts) shown))
-      | inr (more, fronts, _) ↦ none front more other fault fronts shown
-    ]
-
--- a record that names no structure changes no names
-pub AreNamesIn-snoc : (before : List Entry) (e : Entry) (names : List (List ℕ)) → e.kind ≢ kind.strname → AreNamesIn before names → AreNamesIn (before ++ e ∷ []) names
-AreNamesIn-snoc before e names other are =
-    λ name. (
-      λ has.
-          let found = (are name).0 has in
-          record {
-            earlier = found.earlier;
-            record_of_name = found.record_of_name;
-            later = found.later ++ e ∷ [];
-            parts = ap (λ (x : List Entry). x ++ e ∷ []) found.parts ∙ append_assoc found.earlier (found.record_of_name ∷ found.later) (e ∷ []);
-            names = found.names;
-            is_text = found.is_text;
-          },
-      λ found.
-          elim (last_or_before before e found.earlier found.record_of_name found.later found.parts) [
-            | inl (_, same, _) ↦ absurd (other (ap (λ (x : Entry). x.kind) same ∙ found.names))
-            | inr (more, fronts, _) ↦ (are name).1 (record { earlier = found.earlier; record_of_name = found.record_of_name; later = more; parts = fronts; names = found.names; is_text = found.is_text })
-          ],
-    )
-
--- where one record more leads
-pub place_after : (before : List Entry) (e : Entry) (from to : Place) → place_behind before_header (kinds_of before) ≡ Some from → next_place from e.kind ≡ Some to
-    → place_behind before_header (kinds_of (before ++ e ∷ [])) ≡ Some to
-place_after before e from to here next =
-    rw (map-append (λ (x : Entry). x.kind) before (e ∷ []), place_behind-append before_header (kinds_of before) (e.kind ∷ []), here, next) refl
-
 -- a reader stands behind one record more, which shows no fault
-pub IsAt-snoc : (old new : Reading) (r : Record) (from : Standing) (to : Place) (before : List Entry) → TakesRecord old new r → next_place from.place r.kind ≡ Some to
-    → r.kind ≢ kind.strname → IsAt old before from → ((fault : SyntaxFault) → Shows before (entry_of r) fault → ⊥)
+pub IsAt-snoc : {old new : Reading} {r : Record} (from : Standing) (to : Place) (before : List Entry) → TakesRecord old new r → next_place from.place r.kind ≡ Some to
+    → r.kind ≢ kind.STRNAME → IsAt old before from → ((fault : SyntaxFault) → Shows before (entry_of r) fault → ⊥)
     → IsAt new (before ++ entry_of r ∷ []) (standing to from.names)
-IsAt-snoc old new r from to before taken next names_nothing here quiet =
+IsAt-snoc {r = r} from to before taken next names_nothing here quiet =
     record {
       place = place_after before (entry_of r) from.place to here.place next;
       none_shows = NoneShows-snoc before (entry_of r) here.none_shows quiet;
@@ -149,28 +107,20 @@ IsAt-snoc old new r from to before taken next names_nothing here quiet =
     }
 
 -- a reader goes on by one record that shows no fault
-pub advances_by : (old new : Reading) (r : Record) (from : Standing) (to : Place) → TakesRecord old new r → next_place from.place r.kind ≡ Some to
-    → r.kind ≢ kind.strname → ((before : List Entry) → IsAt old before from → (fault : SyntaxFault) → Shows before (entry_of r) fault → ⊥)
+pub advances_by : {old new : Reading} {r : Record} (from : Standing) (to : Place) → TakesRecord old new r → next_place from.place r.kind ≡ Some to
+    → r.kind ≢ kind.STRNAME → ((before : List Entry) → IsAt old before from → (fault : SyntaxFault) → Shows before (entry_of r) fault → ⊥)
     → Advances old new from (standing to from.names) (entry_of r ∷ [])
-advances_by old new r from to taken next names_nothing quiet =
+advances_by from to taken next names_nothing quiet =
     record {
       takes = taken.takes;
-      stands = λ before here. IsAt-snoc old new r from to before taken next names_nothing here (quiet before here);
+      stands = λ before here. IsAt-snoc from to before taken next names_nothing here (quiet before here);
     }
 
--- a plain record that may stand shows no fault
-plain_shows_nothing : (before : List Entry) (e : Entry) (from to : Place) (fault : SyntaxFault) → place_behind before_header (kinds_of before) ≡ Some from
-    → next_place from e.kind ≡ Some to → IsPlain e.kind → Shows before e fault → ⊥
-plain_shows_nothing before e from to fault here next plain (shows_unexpected may_not) = may_not (may_stand (kinds_of before) e.kind from to here next)
-plain_shows_nothing before e from to fault here next plain (repeats may names is_text in_before) = plain.names_nothing names
-plain_shows_nothing before e from to fault here next plain (is_faulty may ends fails) =
-    elim ends.ends [ inl attribute ↦ plain.is_no_attribute attribute | inr end ↦ plain.is_no_end end ]
-
 -- so does it by a plain one that may stand there
-pub advances_plain : (old new : Reading) (r : Record) (from : Standing) (to : Place) → TakesRecord old new r → next_place from.place r.kind ≡ Some to
+pub advances_plain : {old new : Reading} {r : Record} (from : Standing) (to : Place) → TakesRecord old new r → next_place from.place r.kind ≡ Some to
     → IsPlain r.kind → Advances old new from (standing to from.names) (entry_of r ∷ [])
-advances_plain old new r from to taken next plain =
-    advances_by old new r from to taken next plain.names_nothing (λ before here fault shown. plain_shows_nothing before (entry_of r) from.place to fault here.place next plain shown)
+advances_plain {r = r} from to taken next plain =
+    advances_by from to taken next plain.names_nothing (λ before here fault shown. plain_shows_nothing before (entry_of r) from.place to fault here.place next plain shown)
 
 -- nothing was taken yet
 pub Advances-none : (reading : Reading) (from : Standing) → Advances reading reading from from []
@@ -180,26 +130,20 @@ Advances-none reading from =
       stands = λ before here. rw (append-nil before) here;
     }
 
--- what the exit of a `?` returns has what was shown of the error that it was given
-pub handed_on : {T E : Type 0} (result : Result T E) (error : E) (P : E → Type 0) → IsErrAnd result (λ y. y ≡ error) → P error → IfErr result P
-handed_on result error P gave holds =
-    let found = err_from_is_err_and result gave in
-    rw (found.1, found.2) holds
-
 -- a reader goes on by one plain record of a kind that may stand there
-pub advances_kind : (old new : Reading) (r : Record) (k : ℕ) (p q : Place) (names : List (List ℕ)) → TakesRecord old new r → r.kind ≡ k
+pub advances_kind : {old new : Reading} {r : Record} (k : ℕ) (p q : Place) (names : List (List ℕ)) → TakesRecord old new r → r.kind ≡ k
     → next_place p k ≡ Some q → IsPlain k → Advances old new (standing p names) (standing q names) (entry_of r ∷ [])
-advances_kind old new r k p q names taken same next plain =
-    advances_plain old new r (standing p names) q taken (ap (next_place p) same ∙ next) (subst IsPlain (sym same) plain)
+advances_kind k p q names taken same next plain =
+    advances_plain (standing p names) q taken (ap (next_place p) same ∙ next) (subst IsPlain (sym same) plain)
 
 -- where a place goes on by one kind alone, no other may follow
 pub only_one : (k : ℕ) (q : Place) (other : ℕ) → other ≢ k → (if other == k then Some q else None) ≡ None
 only_one k q other differs = rw (ne_eqb other k differs) refl
 
 -- a reader that is further on has less to read
-pub has_less_left : (old mid new : Reading) (taken : List Entry) → Takes old mid taken → mid.at < new.at → new.bytes ≡ mid.bytes → new.at ≤ length new.bytes
+pub has_less_left : {old mid : Reading} (new : Reading) {taken : List Entry} → Takes old mid taken → mid.at < new.at → new.bytes ≡ mid.bytes → new.at ≤ length new.bytes
     → length new.bytes - new.at < length old.bytes - old.at
-has_less_left old mid new taken first further same within =
+has_less_left {old = old} {mid = mid} new {taken = taken} first further same within =
     let count : length new.bytes ≡ length old.bytes = ap length (same ∙ first.bytes) in
     less_left old.at mid.at new.at (length (spellings taken)) (length old.bytes) (length new.bytes) first.offset further count within
   where

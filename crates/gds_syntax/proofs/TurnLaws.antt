@@ -10,14 +10,14 @@ use Rattle.std.proofs.lemmas.Option.{MatchOption-at_some}
 use Rattle.std.proofs.lemmas.List.Elements.{All-nil, All-cons}
 use Rattle.std.proofs.lemmas.Nat.Bits.{and_pow}
 use Rattle.first_refusal.proofs.CheckLaws.{fails_at_once, fails_later}
-use Rattle.gds_records.specs.Kinds as kind
+use Rattle.gds_records.specs.declared.kinds.TheConstants as kind
 use Rattle.gds_records.specs.Reals.{HasValue}
 use Rattle.gds_records.specs.Spelling.{Entry}
 use Rattle.gds_records.proofs.RealLaws.{values_agree}
-use Rattle.gds_syntax.specs.ElementChecks.{IsFaultOfFirst, ElementCheck, ElementHolds, reference_checks, is_not_magnified, angle_is_not_absolute, turns_by_quarters}
-use Rattle.gds_syntax.specs.OwnRecords.{field, unsigned_of, HasQuarters, HasAbsoluteAngle}
-use Rattle.gds_syntax.specs.Quarters.{AreQuarters, ComesTo, IsAngle}
-use Rattle.gds_syntax.specs.declared.fault.SyntaxFault.TheVariants.{Magnified, AbsoluteAngle, BadAngle}
+use Rattle.library_grammar.specs.ElementChecks.{IsFaultOfFirst, ElementCheck, ElementHolds, reference_checks, is_not_magnified, angle_is_not_absolute, turns_by_quarters}
+use Rattle.library_grammar.specs.OwnRecords.{field, unsigned_of, HasQuarters, HasAbsoluteAngle}
+use Rattle.gds_syntax.specs.inside.Quarters.{AreQuarters, ComesTo, IsAngle}
+use Rattle.library_grammar.specs.declared.fault.SyntaxFault.TheVariants.{Magnified, AbsoluteAngle, BadAngle}
 
 -- ---- whole values of reals
 
@@ -30,22 +30,22 @@ one_where_value body (Some z) b some none e = (
 )
 one_where_value body None b some none e = (λ t. cc (sym e ∙ t), λ h. absurd (none (pos 1) (omega arith) h))
 
-pub as_large_where_one : (own : List Entry) (body : List ℕ) (r : Option ℤ) (b : Bool) → Some body ≡ field kind.mag own → IfSome r (HasValue body)
+pub as_large_where_one : (own : List Entry) (body : List ℕ) (r : Option ℤ) (b : Bool) → Some body ≡ field kind.MAG own → IfSome r (HasValue body)
     → IfNone r ((z : ℤ) → FitsSigned w64 z → HasValue body z → ⊥) → b ≡ option_eq int_eq r (Some (pos 1))
-    → IsTrue b ↔ IfSome (field kind.mag own) (λ body. HasValue body (pos 1))
+    → IsTrue b ↔ IfSome (field kind.MAG own) (λ body. HasValue body (pos 1))
 as_large_where_one own body r b at some none e =
     subst (λ (o : Option (List ℕ)). IsTrue b ↔ IfSome o (λ body. HasValue body (pos 1))) at (one_where_value body r b some none e)
 
 -- ---- the angle
 
-pub no_quarters_of_body : (own : List Entry) (body : List ℕ) (z : ℤ) (r : Option ℕ) → Some body ≡ field kind.angle own → HasValue body z
+pub no_quarters_of_body : (own : List Entry) (body : List ℕ) (z : ℤ) (r : Option ℕ) → Some body ≡ field kind.ANGLE own → HasValue body z
     → IfNone r ((quarters : ℤ) → AreQuarters z quarters → ⊥) → IfNone r ((degrees quarters : ℤ) → IsAngle own degrees → AreQuarters degrees quarters → ⊥)
 no_quarters_of_body own body z (Some n) at value none = tt
 no_quarters_of_body own body z None at value none = λ degrees quarters angle are.
     let its : HasValue body degrees = MatchOption-at_some (degrees ≡ pos 0) (λ b. HasValue b degrees) body (sym at) angle in
     none quarters (subst (λ d. AreQuarters d quarters) (values_agree body degrees z its value) are)
 
-pub none_is_no_angle : (own : List Entry) → None ≡ field kind.angle own → IsAngle own (pos 0)
+pub none_is_no_angle : (own : List Entry) → None ≡ field kind.ANGLE own → IsAngle own (pos 0)
 none_is_no_angle own none = subst (λ (o : Option (List ℕ)). MatchOption o (pos 0 ≡ pos 0) (λ body. HasValue body (pos 0))) none refl
 
 quarters_of_angle : (o : Option (List ℕ)) (degrees quarters : ℤ) → MatchOption o (degrees ≡ pos 0) (λ body. HasValue body degrees)
@@ -71,16 +71,16 @@ turned_by_quarters : (own : List Entry) (n : ℕ) → (degrees : ℤ) × IsAngle
 turned_by_quarters own n (degrees, angle, comes) =
     let are = comes.are_quarters in
     let quarters : ℤ = pos n +ℤ (pos 4 *ℤ comes.circles) in
-    (quarters, quarters_of_angle (field kind.angle own) degrees quarters angle are.whole, are.from_back, are.to_front)
+    (quarters, quarters_of_angle (field kind.ANGLE own) degrees quarters angle are.whole, are.from_back, are.to_front)
 
-module _ (own : List Entry) (strans : ℕ) (is : strans ≡ unsigned_of kind.strans own) where
+module _ (own : List Entry) (strans : ℕ) (is : strans ≡ unsigned_of kind.STRANS own) where
   not_absolute : bit_and strans 2 ≡ 0 → HasAbsoluteAngle own → ⊥
   not_absolute clear set = bit_is_clear strans clear (subst (λ n. n / 2 % 2 ≡ 1) (sym is) set)
 
   absolute : (bit_and strans 2 ≡ 0 → ⊥) → HasAbsoluteAngle own
   absolute set = subst (λ n. n / 2 % 2 ≡ 1) is (bit_is_set strans set)
 
-  pub reference_checks_hold : (n : ℕ) → IfSome (field kind.mag own) (λ body. HasValue body (pos 1)) → bit_and strans 2 ≡ 0
+  pub reference_checks_hold : (n : ℕ) → IfSome (field kind.MAG own) (λ body. HasValue body (pos 1)) → bit_and strans 2 ≡ 0
       → (degrees : ℤ) × IsAngle own degrees × ComesTo degrees n → All (ElementHolds own) reference_checks
   reference_checks_hold n large clear angle =
       let Holds : ElementCheck → Type 0 = ElementHolds own in
@@ -88,7 +88,7 @@ module _ (own : List Entry) (strans : ℕ) (is : strans ≡ unsigned_of kind.str
       (All-cons Holds angle_is_not_absolute (turns_by_quarters ∷ []) (not_absolute clear)
       (All-cons Holds turns_by_quarters [] (turned_by_quarters own n angle) (All-nil Holds)))
 
-  module _ (at : ℕ) (large : IfSome (field kind.mag own) (λ body. HasValue body (pos 1))) where
+  module _ (at : ℕ) (large : IfSome (field kind.MAG own) (λ body. HasValue body (pos 1))) where
     pub fault_where_absolute : (bit_and strans 2 ≡ 0 → ⊥) → IsFaultOfFirst at own reference_checks (AbsoluteAngle at)
     fault_where_absolute set = record {
       check = angle_is_not_absolute;
@@ -104,11 +104,11 @@ module _ (own : List Entry) (strans : ℕ) (is : strans ≡ unsigned_of kind.str
       is_first = fails_later (ElementHolds own) is_not_magnified _ turns_by_quarters large
           (fails_later (ElementHolds own) angle_is_not_absolute _ turns_by_quarters (not_absolute clear)
           (fails_at_once (ElementHolds own) turns_by_quarters [] (λ (quarters, has, back, front).
-          none (pos 90 *ℤ quarters) quarters (angle_of_quarters (field kind.angle own) quarters has) (record { whole = refl; from_back = back; to_front = front }))));
+          none (pos 90 *ℤ quarters) quarters (angle_of_quarters (field kind.ANGLE own) quarters has) (record { whole = refl; from_back = back; to_front = front }))));
       is_its_refusal = refl;
     }
 
-pub fault_where_magnified : (own : List Entry) (at : ℕ) → (IfSome (field kind.mag own) (λ body. HasValue body (pos 1)) → ⊥)
+pub fault_where_magnified : (own : List Entry) (at : ℕ) → (IfSome (field kind.MAG own) (λ body. HasValue body (pos 1)) → ⊥)
     → IsFaultOfFirst at own reference_checks (Magnified at)
 fault_where_magnified own at not =
     record { check = is_not_magnified; is_first = fails_at_once (ElementHolds own) is_not_magnified _ not; is_its_refusal = refl }

@@ -1,16 +1,5 @@
-pub mod Ranges
-pub mod ElementForms
-pub mod Shape
-pub mod OwnRecords
-pub mod Sizes
-pub mod ElementChecks
-pub mod ElementKinds
-pub mod Elements
-pub mod Points
-pub mod Libraries
-pub mod SyntaxFaults
-pub mod Places
-pub mod FirstFault
-pub mod Readers
-pub mod Names
-pub mod Quarters
+pub use Rattle.library_grammar.specs.FirstFault
+pub use Rattle.library_grammar.specs.SyntaxFaults
+pub mod LibraryReaders
+-- what only this crate's proofs and private contracts cite
+pub mod inside

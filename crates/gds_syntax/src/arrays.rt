@@ -1,15 +1,15 @@
 ghost use Rattle.std.specs.Prelude.{◌≡◌, ◌≤◌, ◌^◌, ◌+ℤ◌, ◌*ℤ◌, ◌≤ℤ◌, ℤ, pos, nat_abs, All, IfErr, IfNone, IfOk, IfSome, OnOk, length};
-ghost use Rattle.gds_syntax.specs.ElementChecks.{ElementHolds, IsFaultOfFirst, array_checks};
-ghost use Rattle.gds_syntax.specs.Elements.{IsLattice};
-ghost use Rattle.gds_syntax.specs.OwnRecords.{HasSteps, Leads, columns_of, points_of, rows_of};
-ghost use Rattle.gds_syntax.specs.Ranges.{IsStep};
+ghost use Rattle.library_grammar.specs.ElementChecks.{ElementHolds, IsFaultOfFirst, array_checks};
+ghost use Rattle.library_grammar.specs.Elements.{IsLattice};
+ghost use Rattle.library_grammar.specs.OwnRecords.{HasSteps, Leads, columns_of, points_of, rows_of};
+ghost use Rattle.library_model.specs.Ranges.{IsStep};
 
-use super::element::Lattice;
-use super::fault::SyntaxFault;
 use super::own_records::OwnRecords;
 use super::points::point_of;
 use gds_records::{i16_at, kinds};
 use geo_core::Point;
+use library_grammar::fault::SyntaxFault;
+use library_model::element::Lattice;
 
 /// How many columns and rows an array has, with sign, or 0 and 0 where it does not say.
 fn columns_and_rows(own: &OwnRecords<'_>) -> (i16, i16)

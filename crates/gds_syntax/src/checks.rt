@@ -1,13 +1,13 @@
 ghost use Rattle.std.specs.Prelude.{◌≡◌, ◌↔◌, All, IfErr, IsTrue, OnOk, map};
 ghost use Rattle.first_refusal.specs.Checks.{IsRefusalOfFirst};
-ghost use Rattle.gds_syntax.specs.ElementChecks.{ElementHolds, element_fault, has};
-ghost use Rattle.gds_syntax.specs.ElementKinds.{form_for};
-ghost use Rattle.gds_syntax.specs.OwnRecords.{IsClosed};
+ghost use Rattle.library_grammar.specs.ElementChecks.{ElementHolds, element_fault, has};
+ghost use Rattle.gds_syntax.specs.inside.ElementKinds.{form_for};
+ghost use Rattle.geo_core.specs.Circuits.{IsClosed};
 
 use super::element_kind::ElementKind;
-use super::fault::SyntaxFault;
 use super::own_records::OwnRecords;
 use geo_core::Point;
+use library_grammar::fault::SyntaxFault;
 
 /// That the records that the element needs are there, or the least of them that is missing.
 pub fn check_required(at: u32, kind: ElementKind, own: &OwnRecords<'_>) -> Result<(), SyntaxFault>

@@ -1,21 +1,21 @@
 ghost use Rattle.std.specs.Prelude.{◌≡◌, ◌≢◌, [], ◌∷◌, ◌++◌, ℕ, List, IfOk, IfErr, option_to_list};
 ghost use Rattle.gds_records.specs.Reading.{entry_of};
 ghost use Rattle.gds_records.specs.Spelling.{Entry};
-ghost use Rattle.gds_syntax.specs.ElementForms.{Opens};
-ghost use Rattle.gds_syntax.specs.ElementKinds.{form_for};
-ghost use Rattle.gds_syntax.specs.Libraries.{behind};
-ghost use Rattle.gds_syntax.specs.Places.{among_own, behind_attribute, behind_strname};
-ghost use Rattle.gds_syntax.specs.Readers.{IsAt, IsFirstBehind, IsReady, ReadsElement, ReadsElements, ReadsElementsSoFar, ReadsOwn, ReadsProperties, Stops, standing};
-ghost use Rattle.gds_syntax.specs.declared.fault.SyntaxFault.TheVariants.{Memory};
+ghost use Rattle.library_grammar.specs.ElementForms.{Opens};
+ghost use Rattle.gds_syntax.specs.inside.ElementKinds.{form_for};
+ghost use Rattle.library_grammar.specs.Libraries.{behind};
+ghost use Rattle.library_grammar.specs.Places.{among_own, behind_attribute, behind_strname};
+ghost use Rattle.gds_syntax.specs.LibraryReaders.{IsAt, IsFirstBehind, IsReady, ReadsElement, ReadsElements, ReadsElementsSoFar, ReadsOwn, ReadsProperties, Stops, standing};
+ghost use Rattle.library_grammar.specs.declared.fault.SyntaxFault.TheVariants.{Memory};
 
-use super::element::Element;
 use super::element_kind::ElementKind;
-use super::fault::SyntaxFault;
 use super::kept::kept_of;
 use super::own_records::OwnRecords;
 use super::records::{expect, next_record, unexpected};
 use gds_records::{Record, Records, kinds};
 use geo_core::NoMemory;
+use library_grammar::fault::SyntaxFault;
+use library_model::element::Element;
 use std::alloc::Global;
 
 /// Reads the own records of an element, and gives the record behind them, which ends them.

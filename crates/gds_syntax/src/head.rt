@@ -1,14 +1,14 @@
 ghost use Rattle.std.specs.Prelude.{◌≡◌, ◌≢◌, ◌↔◌, [], IsTrue, Contains, IfOk, IfErr, length};
-ghost use Rattle.gds_records.specs.Spelling.{AreBytes};
-ghost use Rattle.gds_syntax.specs.Places.{Place, before_header};
-ghost use Rattle.gds_syntax.specs.Readers.{IsHeadPlace, IsReady, ReadsHead, ReadsHeadRecords, Standing, Stops, standing};
-ghost use Rattle.gds_syntax.specs.Shape.{head_kinds};
-ghost use Rattle.gds_syntax.specs.declared.fault.SyntaxFault.TheVariants.{Memory};
+ghost use Rattle.lists.specs.ByteLists.{AreBytes};
+ghost use Rattle.library_grammar.specs.Places.{Place, before_header};
+ghost use Rattle.gds_syntax.specs.LibraryReaders.{IsHeadPlace, IsReady, ReadsHead, ReadsHeadRecords, Standing, Stops, standing};
+ghost use Rattle.library_grammar.specs.Grammar.{head_kinds};
+ghost use Rattle.library_grammar.specs.declared.fault.SyntaxFault.TheVariants.{Memory};
 
-use super::fault::SyntaxFault;
 use super::records::{expect, next_record, unexpected};
 use gds_records::{Record, Records, kinds, text};
 use geo_core::Name;
+use library_grammar::fault::SyntaxFault;
 use std::alloc::Global;
 
 /// What a library's head says: its name, and its units as they stand there.

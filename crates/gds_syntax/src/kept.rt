@@ -1,24 +1,23 @@
-ghost use Rattle.std.specs.Prelude.{◌≡◌, ◌≢◌, ◌<◌, All, IfOk, IfErr, length};
-ghost use Rattle.gds_records.specs.Kinds as kind;
-ghost use Rattle.gds_syntax.specs.ElementChecks.{ElementHolds, IsElementFault, Judges, checks_of_sort, element_checks};
-ghost use Rattle.gds_syntax.specs.ElementForms.{IsCount, array, outline, reference};
-ghost use Rattle.gds_syntax.specs.ElementKinds.{form_for};
-ghost use Rattle.gds_syntax.specs.Elements.{IsKept, IsShape};
-ghost use Rattle.gds_syntax.specs.OwnRecords.{points_of};
-ghost use Rattle.gds_syntax.specs.Ranges.{IsKind};
-ghost use Rattle.gds_syntax.specs.Sizes.{BodiesHave};
-ghost use Rattle.gds_syntax.specs.declared.fault.SyntaxFault.TheVariants.{Memory};
+ghost use Rattle.std.specs.Prelude.{◌≡◌, ◌<◌, length};
+ghost use Rattle.gds_records.specs.declared.kinds.TheConstants as kind;
+ghost use Rattle.library_grammar.specs.ElementChecks.{Judges, checks_of_sort, element_checks};
+ghost use Rattle.library_grammar.specs.ElementForms.{IsCount, array, outline, reference};
+ghost use Rattle.gds_syntax.specs.inside.ElementKinds.{form_for};
+ghost use Rattle.library_grammar.specs.Elements.{IsKept, IsShape};
+ghost use Rattle.library_grammar.specs.OwnRecords.{points_of};
+ghost use Rattle.library_model.specs.Ranges.{IsKind};
+ghost use Rattle.library_grammar.specs.Sizes.{BodiesHave};
 
 use super::arrays::lattice_of;
 use super::checks::{check_required, is_closed};
-use super::element::{Element, Reference, Shape, ShapeKind};
 use super::element_kind::ElementKind;
-use super::fault::SyntaxFault;
 use super::own_records::OwnRecords;
 use super::points::point_count;
 use super::references::{reference_of, turn_of};
 use super::shapes::{path_kind_of, shape_of};
 use gds_records::kinds;
+use library_grammar::fault::SyntaxFault;
+use library_model::element::{Element, Reference, Shape, ShapeKind};
 use std::alloc::Global;
 
 /// The shape of this kind that begins at `at`, if it is closed. Its datatype is in the record of kind `datatype`.
@@ -44,7 +43,7 @@ fn outline_of(
 fn single_of(alloc: Global, at: u32, own: &OwnRecords<'_>) -> Result<Reference, SyntaxFault>
     requires { 0 < length (points_of own.now) }
     ensures { Judges at own.now (checks_of_sort reference)
-        (λ single. IsKept at own.now kind.sref (Some (Element.Reference single))) result }
+        (λ single. IsKept at own.now kind.SREF (Some (Element.Reference single))) result }
 {
     let turn = turn_of(at, own)?;
     Ok(reference_of(alloc, at, own, turn, None)?)
@@ -54,7 +53,7 @@ fn single_of(alloc: Global, at: u32, own: &OwnRecords<'_>) -> Result<Reference, 
 fn array_of(alloc: Global, at: u32, own: &OwnRecords<'_>) -> Result<Reference, SyntaxFault>
     requires { length (points_of own.now) ≡ 3 }
     ensures { Judges at own.now (checks_of_sort array)
-        (λ repeated. IsKept at own.now kind.aref (Some (Element.Reference repeated))) result }
+        (λ repeated. IsKept at own.now kind.AREF (Some (Element.Reference repeated))) result }
 {
     let turn = turn_of(at, own)?;
     let lattice = lattice_of(at, own)?;
@@ -98,9 +97,7 @@ pub fn kept_of(
     kind: ElementKind,
     own: &OwnRecords<'_>,
 ) -> Result<Option<Element>, SyntaxFault>
-    ensures sound { IfOk result (λ _. All (ElementHolds own.now) (element_checks (form_for kind))) }
-    ensures kept { IfOk result (λ kept. IsKept at own.now (form_for kind).opening kept) }
-    ensures faulty { IfErr result (λ fault. fault ≢ Memory → IsElementFault at (form_for kind) own.now fault) }
+    ensures { Judges at own.now (element_checks (form_for kind)) (IsKept at own.now (form_for kind).opening) result }
 {
     check_required(at, kind, own)?;
     if !kind.takes_points(point_count(own)) {

@@ -4,15 +4,10 @@
 
 mod arrays;
 mod checks;
-pub mod element;
 mod element_kind;
 mod elements;
-pub mod fault;
 mod head;
 mod kept;
-pub mod laws;
-pub mod library;
-pub mod name_index;
 mod own_records;
 mod points;
 pub mod read;
@@ -21,8 +16,11 @@ mod references;
 mod shapes;
 mod structures;
 
-pub use element::{Element, Elements, Lattice, Reference, Shape, ShapeKind};
-pub use fault::SyntaxFault;
-pub use library::{Library, Structure, Structures};
-pub use name_index::NameIndex;
+pub use library_grammar::{
+    SyntaxFault, bytes_come_to_something, libraries_agree, places_say_what_may_stand,
+};
+pub use library_model::{
+    Element, Elements, Lattice, Library, NameIndex, Reference, Shape, ShapeKind, Structure,
+    Structures,
+};
 pub use read::read_library;

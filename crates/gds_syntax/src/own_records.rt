@@ -2,10 +2,10 @@ ghost use Rattle.std.specs.Prelude.{◌≡◌, ◌↔◌, [], ◌∷◌, ◌++�
 ghost use Rattle.gds_records.specs.Fields.{IsText};
 ghost use Rattle.gds_records.specs.Profile.{IsInProfile};
 ghost use Rattle.gds_records.specs.Reading.{entry_of};
-ghost use Rattle.gds_records.specs.Spelling.{AreBytes};
-ghost use Rattle.gds_syntax.specs.OwnRecords.{body_of, field, long_of, short_of, unsigned_of};
-ghost use Rattle.gds_syntax.specs.Shape.{kinds_of};
-ghost use Rattle.gds_syntax.specs.Sizes.{BodiesHave};
+ghost use Rattle.lists.specs.ByteLists.{AreBytes};
+ghost use Rattle.library_grammar.specs.OwnRecords.{body_of, field, long_of, short_of, unsigned_of};
+ghost use Rattle.library_grammar.specs.Grammar.{kinds_of};
+ghost use Rattle.library_grammar.specs.Sizes.{BodiesHave};
 
 use gds_records::{Record, i16_at, i32_at, text, u16_at};
 use geo_core::NoMemory;

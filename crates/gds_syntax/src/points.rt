@@ -1,7 +1,7 @@
 ghost use Rattle.std.specs.Prelude.{◌≡◌, ◌<◌, ◌*◌, ◌/◌, IfOk, length};
 ghost use Rattle.gds_records.specs.Fields.{HasItem};
-ghost use Rattle.gds_records.specs.Kinds as kind;
-ghost use Rattle.gds_syntax.specs.OwnRecords.{body_of, point_in, points_in, points_of};
+ghost use Rattle.gds_records.specs.declared.kinds.TheConstants as kind;
+ghost use Rattle.library_grammar.specs.OwnRecords.{body_of, point_in, points_in, points_of};
 
 use super::own_records::OwnRecords;
 use gds_records::{Record, i32_at, kinds};
@@ -47,7 +47,7 @@ pub fn point_count(own: &OwnRecords<'_>) -> usize
 /// Point `k` of the element, counted from 0.
 pub fn point_of(own: &OwnRecords<'_>, k: usize) -> Point
     requires { k < length (points_of own.now) }
-    ensures { result ≡ point_in (body_of kind.xy own.now) k }
+    ensures { result ≡ point_in (body_of kind.XY own.now) k }
 {
     match own.find(kinds::XY) {
         Some(xy) => point_at(&xy, k),

@@ -1,17 +1,18 @@
 ghost use Rattle.std.specs.Prelude.{◌≢◌, ◌≤◌, ◌<◌, ◌^◌, length, All, IfOk, IfErr};
 ghost use Rattle.first_refusal.specs.Outcomes.{value, refused};
-ghost use Rattle.gds_syntax.specs.FirstFault.{BytesComeTo};
-ghost use Rattle.gds_syntax.specs.Names.{NamesDiffer, names_of};
-ghost use Rattle.gds_syntax.specs.Points.{AreWellPointed};
-ghost use Rattle.gds_syntax.specs.Readers.{most_bytes};
-ghost use Rattle.gds_syntax.specs.declared.fault.SyntaxFault.TheVariants.{Memory};
+ghost use Rattle.library_grammar.specs.FirstFault.{BytesComeTo};
+ghost use Rattle.lists.specs.Differing.{AreDifferent};
+ghost use Rattle.library_model.specs.Names.{names_of};
+ghost use Rattle.library_model.specs.Points.{AreWellPointed};
+ghost use Rattle.gds_syntax.specs.LibraryReaders.{most_bytes};
+ghost use Rattle.library_grammar.specs.declared.fault.SyntaxFault.TheVariants.{Memory};
 
-use super::fault::SyntaxFault;
 use super::head::{Head, read_head};
-use super::library::Library;
 use super::structures::read_structures;
 use gds_records::Records;
 use geo_core::Items;
+use library_grammar::fault::SyntaxFault;
+use library_model::library::Library;
 use std::alloc::Global;
 
 /// The library that the bytes say, at most 268,435,456 of them.
@@ -25,7 +26,7 @@ pub fn read_library(alloc: Global, bytes: &[u8]) -> Result<Library, SyntaxFault>
     ensures faulty { IfErr result (λ fault. fault ≢ Memory → BytesComeTo bytes.now (refused fault)) }
 
     // What the library has besides. This follows from the bytes.
-    ensures names_differ { IfOk result (λ library. NamesDiffer (names_of library.structures)) }
+    ensures names_differ { IfOk result (λ library. AreDifferent (names_of library.structures)) }
     ensures few_structures { IfOk result (λ library. length library.structures < 2 ^ 32) }
     ensures few_elements { IfOk result (λ library. All (λ structure. length structure.elements < 2 ^ 32) library.structures) }
     ensures pointed { IfOk result (λ library. AreWellPointed library.structures) }

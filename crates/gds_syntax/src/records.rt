@@ -1,13 +1,13 @@
 ghost use Rattle.std.specs.Prelude.{◌≡◌, ◌≢◌, ◌<◌, ◌^◌, ℕ, List, [], ◌∷◌, ◌++◌, None, Some, IfOk, IfErr, false, length, All, Contains, if◌then◌else◌, ◌==◌};
-ghost use Rattle.gds_records.specs.Kinds as kind;
+ghost use Rattle.gds_records.specs.declared.kinds.TheConstants as kind;
 ghost use Rattle.gds_records.specs.Reading.{entry_of};
 ghost use Rattle.gds_records.specs.Spelling.{Entry};
-ghost use Rattle.gds_syntax.specs.Places.{next_place};
-ghost use Rattle.gds_syntax.specs.Readers.{IsReady, Standing, Stops, TakesRecord};
-ghost use Rattle.gds_syntax.specs.Shape.{head_kinds};
+ghost use Rattle.library_grammar.specs.Places.{next_place};
+ghost use Rattle.gds_syntax.specs.LibraryReaders.{IsReady, Standing, Stops, TakesRecord};
+ghost use Rattle.library_grammar.specs.Grammar.{head_kinds};
 
-use super::fault::SyntaxFault;
 use gds_records::{Record, Records, kinds};
+use library_grammar::fault::SyntaxFault;
 
 /// The fault of a record that may not stand where it does.
 pub fn unexpected(found: &Record<'_>) -> SyntaxFault

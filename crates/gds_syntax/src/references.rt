@@ -1,19 +1,19 @@
 ghost use Rattle.std.specs.Prelude.{◌≡◌, ◌↔◌, ◌<◌, ℤ, pos, All, IsTrue, IfErr, IfNone, IfOk, IfSome, OnOk, length};
 ghost use Rattle.gds_records.specs.Fields.{IsText};
-ghost use Rattle.gds_records.specs.Kinds as kind;
+ghost use Rattle.gds_records.specs.declared.kinds.TheConstants as kind;
 ghost use Rattle.gds_records.specs.Reals.{HasValue};
-ghost use Rattle.gds_records.specs.Spelling.{AreBytes};
-ghost use Rattle.gds_syntax.specs.ElementChecks.{ElementHolds, IsFaultOfFirst, reference_checks};
-ghost use Rattle.gds_syntax.specs.Elements.{IsReference, IsTurn};
-ghost use Rattle.gds_syntax.specs.OwnRecords.{body_of, field, points_of};
-ghost use Rattle.gds_syntax.specs.Quarters.{AreQuarters, ComesTo, IsAngle};
+ghost use Rattle.lists.specs.ByteLists.{AreBytes};
+ghost use Rattle.library_grammar.specs.ElementChecks.{ElementHolds, IsFaultOfFirst, reference_checks};
+ghost use Rattle.library_grammar.specs.Elements.{IsReference, IsTurn};
+ghost use Rattle.library_grammar.specs.OwnRecords.{body_of, field, points_of};
+ghost use Rattle.gds_syntax.specs.inside.Quarters.{AreQuarters, ComesTo, IsAngle};
 
-use super::element::{Lattice, Reference};
-use super::fault::SyntaxFault;
 use super::own_records::OwnRecords;
 use super::points::point_of;
 use gds_records::{kinds, real_whole};
 use geo_core::{Name, NoMemory, Turn};
+use library_grammar::fault::SyntaxFault;
+use library_model::element::{Lattice, Reference};
 use std::alloc::Global;
 
 /// The bit of STRANS that mirrors a reference.
@@ -24,7 +24,7 @@ const ABSOLUTE_ANGLE: u16 = 0x0002;
 
 /// Whether a reference is as large as its structure: its MAG is 1, or there is none.
 fn is_as_large(own: &OwnRecords<'_>) -> bool
-    ensures { IsTrue result ↔ IfSome (field kind.mag own.now) (λ body. HasValue body (pos 1)) }
+    ensures { IsTrue result ↔ IfSome (field kind.MAG own.now) (λ body. HasValue body (pos 1)) }
 {
     match own.find(kinds::MAG) {
         Some(mag) => real_whole(&mag, 0) == Some(1),
@@ -82,7 +82,7 @@ pub fn turn_of(at: u32, own: &OwnRecords<'_>) -> Result<Turn, SyntaxFault>
 
 /// The name of the structure that a reference places.
 fn target_of(alloc: Global, own: &OwnRecords<'_>) -> Result<Name, NoMemory>
-    ensures text { IfOk result (IsText (body_of kind.sname own.now)) }
+    ensures text { IfOk result (IsText (body_of kind.SNAME own.now)) }
     ensures bytes { IfOk result AreBytes }
 {
     Ok(Name::from_vec(Vec::from_slice(alloc, own.text_in(kinds::SNAME))?))

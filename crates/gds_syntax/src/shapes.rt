@@ -1,14 +1,15 @@
 ghost use Rattle.std.specs.Prelude.{◌≡◌, ◌≢◌, IfErr, IfOk, OnOk};
-ghost use Rattle.gds_syntax.specs.Elements.{IsShape, path_kind};
-ghost use Rattle.gds_syntax.specs.OwnRecords.{IsClosed, points_of};
-ghost use Rattle.gds_syntax.specs.Ranges.{IsKind};
-ghost use Rattle.gds_syntax.specs.Sizes.{BodiesHave};
+ghost use Rattle.library_grammar.specs.Elements.{IsShape, path_kind};
+ghost use Rattle.library_grammar.specs.OwnRecords.{points_of};
+ghost use Rattle.geo_core.specs.Circuits.{IsClosed};
+ghost use Rattle.library_model.specs.Ranges.{IsKind};
+ghost use Rattle.library_grammar.specs.Sizes.{BodiesHave};
 
-use super::element::{Shape, ShapeKind};
 use super::own_records::OwnRecords;
 use super::points::points_of;
 use gds_records::kinds;
 use geo_core::NoMemory;
+use library_model::element::{Shape, ShapeKind};
 use std::alloc::Global;
 
 /// The kind of a path: its ends, its width and its extensions.

@@ -1,19 +1,20 @@
 ghost use Rattle.std.specs.Prelude.{◌≡◌, ◌≢◌, ◌≤◌, [], ◌∷◌, length, IfOk, IfErr};
 ghost use Rattle.gds_records.specs.Reading.{entry_of};
-ghost use Rattle.gds_syntax.specs.Libraries.{behind, IsOfKind};
-ghost use Rattle.gds_records.specs.Kinds as kind;
-ghost use Rattle.gds_syntax.specs.Places.{before_strname, between_structures};
-ghost use Rattle.gds_syntax.specs.Readers.{IsReady, ReadsStructure, ReadsStructures, Stops, standing};
-ghost use Rattle.gds_syntax.specs.declared.fault.SyntaxFault.TheVariants.{Memory};
+ghost use Rattle.library_grammar.specs.Grammar.{IsOfKind};
+ghost use Rattle.library_grammar.specs.Libraries.{behind};
+ghost use Rattle.gds_records.specs.declared.kinds.TheConstants as kind;
+ghost use Rattle.library_grammar.specs.Places.{before_strname, between_structures};
+ghost use Rattle.gds_syntax.specs.LibraryReaders.{IsReady, ReadsStructure, ReadsStructures, Stops, standing};
+ghost use Rattle.library_grammar.specs.declared.fault.SyntaxFault.TheVariants.{Memory};
 
 use super::elements::read_elements;
-use super::fault::SyntaxFault;
-use super::library::Structure;
-use super::name_index::NameIndex;
 use super::own_records::OwnRecords;
 use super::records::{expect, next_record, unexpected};
 use gds_records::{Record, Records, kinds, text};
 use geo_core::{Items, Name};
+use library_grammar::fault::SyntaxFault;
+use library_model::library::Structure;
+use library_model::name_index::NameIndex;
 use std::alloc::Global;
 
 /// Reads a structure behind the record that opens it, and puts its name behind those of the structures before it.
@@ -25,7 +26,7 @@ fn read_structure<'a>(
     own: &mut OwnRecords<'a>,
 ) -> Result<Structure, SyntaxFault>
     requires ready { IsReady records.old }
-    requires opens { IsOfKind kind.bgnstr (entry_of opening.now) }
+    requires opens { IsOfKind kind.BGNSTR (entry_of opening.now) }
     requires place { records.old.at ≡ behind opening.now.at (entry_of opening.now ∷ []) }
     requires few { length names.old ≤ records.old.at }
     ensures structure { IfOk result (ReadsStructure records.old records.new names.old names.new opening.now) }

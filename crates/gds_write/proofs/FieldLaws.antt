@@ -14,8 +14,8 @@ use Rattle.std.proofs.lemmas.List.Sums.{AllPass-from_list_all}
 use Rattle.std.proofs.lemmas.Map.Made.{AllPairs-from_IsDistinct, IsDistinct-from_count}
 use Rattle.std.proofs.lemmas.Map.Views.{Contains-from_any}
 use Rattle.gds_records.specs.Spelling.{Entry}
-use Rattle.gds_syntax.specs.OwnRecords.{field}
-use Rattle.gds_syntax.specs.Shape.{kinds_of}
+use Rattle.library_grammar.specs.OwnRecords.{field}
+use Rattle.library_grammar.specs.Grammar.{kinds_of}
 use Rattle.gds_write.specs.Bodies.{entry_if, is_not_zero}
 
 -- ---- fields

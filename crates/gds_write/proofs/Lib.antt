@@ -7,7 +7,6 @@ pub mod MoveLaws
 pub mod ShapeLaws
 pub mod ReferenceLaws
 pub mod ElementLaws
-pub mod OrderLaws
 pub mod ReadLaws
 pub mod QuietLaws
 pub mod WrittenLaws

@@ -13,8 +13,8 @@ use Rattle.byteorder.specs.Endian.{big_bytes, big_number}
 use Rattle.byteorder.specs.Numbers.{big_number-reads_back}
 use Rattle.geo_core.specs.declared.plane.Point.{Point}
 use Rattle.gds_records.specs.Fields.{item}
-use Rattle.gds_syntax.specs.OwnRecords.{point_in, points_in}
-use Rattle.gds_syntax.specs.Ranges.{IsPoint, ArePoints}
+use Rattle.library_grammar.specs.OwnRecords.{point_in, points_in}
+use Rattle.library_model.specs.Ranges.{IsPoint, ArePoints}
 use Rattle.gds_write.specs.Bodies.{long_bytes, point_bytes}
 use Rattle.gds_write.proofs.ProfileLaws.{length-points}
 

@@ -8,22 +8,22 @@ use Rattle.std.proofs.lemmas.List.Elements.{All-append, All-cons, All-replicate}
 use Rattle.byteorder.specs.Endian.{big_bytes}
 use Rattle.geo_core.specs.declared.plane.Point.{Point}
 use Rattle.gds_records.specs.Fields.{IsText}
-use Rattle.gds_records.specs.Forms as form
-use Rattle.gds_records.specs.Kinds as kind
+use Rattle.gds_records.specs.declared.forms.TheConstants as form
+use Rattle.gds_records.specs.declared.kinds.TheConstants as kind
 use Rattle.gds_records.specs.Profile.{IsInProfile}
-use Rattle.gds_records.specs.Spelling.{IsByte, AreBytes}
+use Rattle.lists.specs.ByteLists.{IsByte, AreBytes}
 use Rattle.gds_records.specs.Table.{table, IsPermitted}
 use Rattle.gds_records.proofs.TableLaws.{permits_any, permits_exactly, permits_multiple_of_eight}
 use Rattle.geo_core.specs.declared.plane.Turn.{Turn}
-use Rattle.gds_syntax.specs.declared.element.Element.{Element}
-use Rattle.gds_syntax.specs.declared.element.Element.TheVariants.{Shape as shape_element, Reference as reference_element}
-use Rattle.gds_syntax.specs.declared.element.Lattice.{Lattice}
-use Rattle.gds_syntax.specs.declared.element.Reference.{Reference}
-use Rattle.gds_syntax.specs.declared.element.Shape.{Shape}
-use Rattle.gds_syntax.specs.declared.element.ShapeKind.{ShapeKind}
-use Rattle.gds_syntax.specs.declared.element.ShapeKind.TheVariants.{Boundary, BoxElement, Path}
-use Rattle.gds_syntax.specs.declared.library.Library.{Library}
-use Rattle.gds_syntax.specs.declared.library.Structure.{Structure}
+use Rattle.library_model.specs.declared.element.Element.{Element}
+use Rattle.library_model.specs.declared.element.Element.TheVariants.{Shape as shape_element, Reference as reference_element}
+use Rattle.library_model.specs.declared.element.Lattice.{Lattice}
+use Rattle.library_model.specs.declared.element.Reference.{Reference}
+use Rattle.library_model.specs.declared.element.Shape.{Shape}
+use Rattle.library_model.specs.declared.element.ShapeKind.{ShapeKind}
+use Rattle.library_model.specs.declared.element.ShapeKind.TheVariants.{Boundary, BoxElement, Path}
+use Rattle.library_model.specs.declared.library.Library.{Library}
+use Rattle.library_model.specs.declared.library.Structure.{Structure}
 use Rattle.gds_write.specs.Bodies.{entry, bare, padded, text_entry, unsigned_entry, long_bytes, long_entry, short_entry, date_entry, point_bytes, points_entry, is_not_zero}
 use Rattle.gds_write.proofs.Every.{Every, none, more, one, both, each_part, maybe}
 use Rattle.gds_write.specs.WellFormed.{IsWritableName, IsWritableShape, IsWritableReference, IsWritableElement, IsWritableStructure, IsWellFormed}
@@ -92,44 +92,44 @@ taken k f body kind_fits form_fits bytes even short permitted =
       permitted = permitted;
     }
 
-bare_taken : (k : ℕ) → k < 256 → IsPermitted k form.no_data 0 → IsInProfile (bare k)
-bare_taken k fits permitted = taken k form.no_data [] fits (omega arith) (λ i d l. absurd (omega arith)) refl (omega arith) permitted
+bare_taken : (k : ℕ) → k < 256 → IsPermitted k form.NO_DATA 0 → IsInProfile (bare k)
+bare_taken k fits permitted = taken k form.NO_DATA [] fits (omega arith) (λ i d l. absurd (omega arith)) refl (omega arith) permitted
 
-date_taken : (k : ℕ) → k < 256 → IsPermitted k form.two_byte_numbers 24 → IsInProfile (date_entry k)
-date_taken k fits permitted = taken k form.two_byte_numbers _ fits (omega arith) (All-replicate IsByte 24 0 (omega arith)) refl (omega arith) permitted
+date_taken : (k : ℕ) → k < 256 → IsPermitted k form.TWO_BYTE_NUMBERS 24 → IsInProfile (date_entry k)
+date_taken k fits permitted = taken k form.TWO_BYTE_NUMBERS _ fits (omega arith) (All-replicate IsByte 24 0 (omega arith)) refl (omega arith) permitted
 
-text_taken : (k : ℕ) (text : List ℕ) → k < 256 → ((n : ℕ) → IsPermitted k form.text n) → IsWritableName text → AreBytes text → IsInProfile (text_entry k text)
+text_taken : (k : ℕ) (text : List ℕ) → k < 256 → ((n : ℕ) → IsPermitted k form.TEXT n) → IsWritableName text → AreBytes text → IsInProfile (text_entry k text)
 text_taken k text fits permitted name bytes =
     let fills = padded_fills text name bytes in
-    taken k form.text (padded text) fits (omega arith) fills.bytes fills.even fills.short (permitted (length (padded text)))
+    taken k form.TEXT (padded text) fits (omega arith) fills.bytes fills.even fills.short (permitted (length (padded text)))
 
-unsigned_taken : (k n : ℕ) → k < 256 → IsPermitted k form.two_byte_numbers 2 → IsInProfile (unsigned_entry k n)
-unsigned_taken k n fits permitted = taken k form.two_byte_numbers (big_bytes 2 n) fits (omega arith) (big_bytes_are_bytes 2 n) refl (omega arith) permitted
+unsigned_taken : (k n : ℕ) → k < 256 → IsPermitted k form.TWO_BYTE_NUMBERS 2 → IsInProfile (unsigned_entry k n)
+unsigned_taken k n fits permitted = taken k form.TWO_BYTE_NUMBERS (big_bytes 2 n) fits (omega arith) (big_bytes_are_bytes 2 n) refl (omega arith) permitted
 
-long_taken : (k : ℕ) (z : ℤ) → k < 256 → IsPermitted k form.four_byte_numbers 4 → IsInProfile (long_entry k z)
+long_taken : (k : ℕ) (z : ℤ) → k < 256 → IsPermitted k form.FOUR_BYTE_NUMBERS 4 → IsInProfile (long_entry k z)
 long_taken k z fits permitted =
-    taken k form.four_byte_numbers (long_bytes z) fits (omega arith) (big_bytes_are_bytes 4 (cast_unsigned w32 z)) refl (omega arith) permitted
+    taken k form.FOUR_BYTE_NUMBERS (long_bytes z) fits (omega arith) (big_bytes_are_bytes 4 (cast_unsigned w32 z)) refl (omega arith) permitted
 
 points_taken : (points : List Point) → length points ≤ 8191 → IsInProfile (points_entry points)
 unfolding table
 points_taken points few =
     let size = length-points points in
-    taken kind.xy form.four_byte_numbers (flat_map point_bytes points) (omega arith) (omega arith) (points_are_bytes points)
-    (omega arith) (omega arith) (permits_multiple_of_eight kind.xy form.four_byte_numbers _ refl (omega arith))
+    taken kind.XY form.FOUR_BYTE_NUMBERS (flat_map point_bytes points) (omega arith) (omega arith) (points_are_bytes points)
+    (omega arith) (omega arith) (permits_multiple_of_eight kind.XY form.FOUR_BYTE_NUMBERS _ refl (omega arith))
 
 -- ---- a library's parts
 
 opening_of_shape_taken : (kind : ShapeKind) → IsInProfile (bare (opening_of_shape kind))
 unfolding table
-opening_of_shape_taken Boundary = bare_taken kind.boundary (omega arith) (permits_exactly kind.boundary form.no_data 0 0 refl refl)
-opening_of_shape_taken BoxElement = bare_taken kind.box (omega arith) (permits_exactly kind.box form.no_data 0 0 refl refl)
-opening_of_shape_taken (Path pathtype width begin end) = bare_taken kind.path (omega arith) (permits_exactly kind.path form.no_data 0 0 refl refl)
+opening_of_shape_taken Boundary = bare_taken kind.BOUNDARY (omega arith) (permits_exactly kind.BOUNDARY form.NO_DATA 0 0 refl refl)
+opening_of_shape_taken BoxElement = bare_taken kind.BOX (omega arith) (permits_exactly kind.BOX form.NO_DATA 0 0 refl refl)
+opening_of_shape_taken (Path pathtype width begin end) = bare_taken kind.PATH (omega arith) (permits_exactly kind.PATH form.NO_DATA 0 0 refl refl)
 
 datatype_taken : (kind : ShapeKind) (n : ℕ) → IsInProfile (unsigned_entry (datatype_kind kind) n)
 unfolding table
-datatype_taken Boundary n = unsigned_taken kind.datatype n (omega arith) (permits_exactly kind.datatype form.two_byte_numbers 2 2 refl refl)
-datatype_taken BoxElement n = unsigned_taken kind.boxtype n (omega arith) (permits_exactly kind.boxtype form.two_byte_numbers 2 2 refl refl)
-datatype_taken (Path pathtype width begin end) n = unsigned_taken kind.datatype n (omega arith) (permits_exactly kind.datatype form.two_byte_numbers 2 2 refl refl)
+datatype_taken Boundary n = unsigned_taken kind.DATATYPE n (omega arith) (permits_exactly kind.DATATYPE form.TWO_BYTE_NUMBERS 2 2 refl refl)
+datatype_taken BoxElement n = unsigned_taken kind.BOXTYPE n (omega arith) (permits_exactly kind.BOXTYPE form.TWO_BYTE_NUMBERS 2 2 refl refl)
+datatype_taken (Path pathtype width begin end) n = unsigned_taken kind.DATATYPE n (omega arith) (permits_exactly kind.DATATYPE form.TWO_BYTE_NUMBERS 2 2 refl refl)
 
 path_taken : (kind : ShapeKind) → Every IsInProfile (path_records kind)
 unfolding table
@@ -138,15 +138,16 @@ path_taken BoxElement = none
 path_taken (Path pathtype width begin end) =
     both
     (both
-    (both (maybe (is_not_zero pathtype) (short_entry kind.pathtype pathtype) (unsigned_taken kind.pathtype (cast_unsigned w16 pathtype) (omega arith) (permits_exactly kind.pathtype form.two_byte_numbers 2 2 refl refl)))
-    (maybe (is_not_zero width) (long_entry kind.width width) (long_taken kind.width width (omega arith) (permits_exactly kind.width form.four_byte_numbers 4 4 refl refl))))
-    (maybe (is_not_zero begin) (long_entry kind.bgnextn begin) (long_taken kind.bgnextn begin (omega arith) (permits_exactly kind.bgnextn form.four_byte_numbers 4 4 refl refl))))
-    (maybe (is_not_zero end) (long_entry kind.endextn end) (long_taken kind.endextn end (omega arith) (permits_exactly kind.endextn form.four_byte_numbers 4 4 refl refl)))
+    (both (maybe (is_not_zero pathtype) (short_entry kind.PATHTYPE pathtype) (unsigned_taken kind.PATHTYPE (cast_unsigned w16 pathtype) (omega arith)
+    (permits_exactly kind.PATHTYPE form.TWO_BYTE_NUMBERS 2 2 refl refl)))
+    (maybe (is_not_zero width) (long_entry kind.WIDTH width) (long_taken kind.WIDTH width (omega arith) (permits_exactly kind.WIDTH form.FOUR_BYTE_NUMBERS 4 4 refl refl))))
+    (maybe (is_not_zero begin) (long_entry kind.BGNEXTN begin) (long_taken kind.BGNEXTN begin (omega arith) (permits_exactly kind.BGNEXTN form.FOUR_BYTE_NUMBERS 4 4 refl refl))))
+    (maybe (is_not_zero end) (long_entry kind.ENDEXTN end) (long_taken kind.ENDEXTN end (omega arith) (permits_exactly kind.ENDEXTN form.FOUR_BYTE_NUMBERS 4 4 refl refl)))
 
 own_of_shape_taken : (shape : Shape) → IsWritableShape shape → Every IsInProfile (own_of_shape shape)
 unfolding table
 own_of_shape_taken shape writable =
-    more (unsigned_taken kind.layer shape.layer (omega arith) (permits_exactly kind.layer form.two_byte_numbers 2 2 refl refl))
+    more (unsigned_taken kind.LAYER shape.layer (omega arith) (permits_exactly kind.LAYER form.TWO_BYTE_NUMBERS 2 2 refl refl))
     (more (datatype_taken shape.kind shape.datatype) (both (path_taken shape.kind) (one (points_taken shape.points writable.few))))
 
 turn_taken : (turn : Turn) → Every IsInProfile (turn_records turn)
@@ -154,35 +155,36 @@ unfolding table
 turn_taken turn =
     both
     (maybe (turn.reflect || not (turn.quarters == 0)) (strans_entry turn.reflect)
-    (taken kind.strans form.bits (strans_entry turn.reflect).body (omega arith) (omega arith) (big_bytes_are_bytes 2 (if turn.reflect then 0x8000 else 0)) refl (omega arith) (permits_exactly kind.strans form.bits 2 2 refl refl)))
+    (taken kind.STRANS form.BITS (strans_entry turn.reflect).body (omega arith) (omega arith) (big_bytes_are_bytes 2 (if turn.reflect then 0x8000 else 0)) refl (omega arith)
+    (permits_exactly kind.STRANS form.BITS 2 2 refl refl)))
     (maybe (not (turn.quarters == 0)) (angle_entry turn.quarters)
-    (taken kind.angle form.eight_byte_reals (angle_entry turn.quarters).body (omega arith) (omega arith)
-    (big_bytes_are_bytes 8 (angle_bits turn.quarters)) refl (omega arith) (permits_exactly kind.angle form.eight_byte_reals 8 8 refl refl)))
+    (taken kind.ANGLE form.EIGHT_BYTE_REALS (angle_entry turn.quarters).body (omega arith) (omega arith)
+    (big_bytes_are_bytes 8 (angle_bits turn.quarters)) refl (omega arith) (permits_exactly kind.ANGLE form.EIGHT_BYTE_REALS 8 8 refl refl)))
 
 placing_taken : (origin : Point) (lattice : Option Lattice) → Every IsInProfile (placing_records origin lattice)
 unfolding table
 placing_taken origin None = one (points_taken (origin ∷ []) (omega arith))
 placing_taken origin (Some lattice) =
     more
-    (taken kind.colrow form.two_byte_numbers (big_bytes 2 lattice.columns ++ big_bytes 2 lattice.rows) (omega arith) (omega arith)
+    (taken kind.COLROW form.TWO_BYTE_NUMBERS (big_bytes 2 lattice.columns ++ big_bytes 2 lattice.rows) (omega arith) (omega arith)
     (All-append IsByte (big_bytes 2 lattice.columns) (big_bytes 2 lattice.rows) (big_bytes_are_bytes 2 lattice.columns) (big_bytes_are_bytes 2 lattice.rows)) refl (omega arith)
-    (permits_exactly kind.colrow form.two_byte_numbers 4 4 refl refl))
+    (permits_exactly kind.COLROW form.TWO_BYTE_NUMBERS 4 4 refl refl))
     (one (points_taken (array_points origin lattice) (omega arith)))
 
 own_of_reference_taken : (reference : Reference) → IsWritableReference reference → Every IsInProfile (own_of_reference reference)
 unfolding table
 own_of_reference_taken reference writable =
-    more (text_taken kind.sname reference.target (omega arith) (λ n. permits_any kind.sname form.text n refl) writable.target reference.target_fits)
+    more (text_taken kind.SNAME reference.target (omega arith) (λ n. permits_any kind.SNAME form.TEXT n refl) writable.target reference.target_fits)
     (both (turn_taken reference.turn) (placing_taken reference.origin reference.lattice))
 
 opening_of_reference_taken : (lattice : Option Lattice) → IsInProfile (bare (opening_of_reference lattice))
 unfolding table
-opening_of_reference_taken None = bare_taken kind.sref (omega arith) (permits_exactly kind.sref form.no_data 0 0 refl refl)
-opening_of_reference_taken (Some lattice) = bare_taken kind.aref (omega arith) (permits_exactly kind.aref form.no_data 0 0 refl refl)
+opening_of_reference_taken None = bare_taken kind.SREF (omega arith) (permits_exactly kind.SREF form.NO_DATA 0 0 refl refl)
+opening_of_reference_taken (Some lattice) = bare_taken kind.AREF (omega arith) (permits_exactly kind.AREF form.NO_DATA 0 0 refl refl)
 
-endel_taken : IsInProfile (bare kind.endel)
+endel_taken : IsInProfile (bare kind.ENDEL)
 unfolding table
-endel_taken = bare_taken kind.endel (omega arith) (permits_exactly kind.endel form.no_data 0 0 refl refl)
+endel_taken = bare_taken kind.ENDEL (omega arith) (permits_exactly kind.ENDEL form.NO_DATA 0 0 refl refl)
 
 element_taken : (element : Element) → IsWritableElement element → Every IsInProfile (written_element element)
 element_taken (shape_element shape) writable =
@@ -193,18 +195,19 @@ element_taken (reference_element reference) writable =
 structure_taken : (structure : Structure) → IsWritableStructure structure → Every IsInProfile (written_structure structure)
 unfolding table
 structure_taken structure writable =
-    more (date_taken kind.bgnstr (omega arith) (permits_any kind.bgnstr form.two_byte_numbers 24 refl))
-    (more (text_taken kind.strname structure.name (omega arith) (λ n. permits_any kind.strname form.text n refl) writable.name structure.name_fits)
+    more (date_taken kind.BGNSTR (omega arith) (permits_any kind.BGNSTR form.TWO_BYTE_NUMBERS 24 refl))
+    (more (text_taken kind.STRNAME structure.name (omega arith) (λ n. permits_any kind.STRNAME form.TEXT n refl) writable.name structure.name_fits)
     (both (each_part IsWritableElement written_element element_taken structure.elements writable.elements)
-    (one (bare_taken kind.endstr (omega arith) (permits_exactly kind.endstr form.no_data 0 0 refl refl)))))
+    (one (bare_taken kind.ENDSTR (omega arith) (permits_exactly kind.ENDSTR form.NO_DATA 0 0 refl refl)))))
 
 pub library_taken : (library : Library) → IsWellFormed library → Every IsInProfile (written library)
 unfolding table
 library_taken library well_formed =
     let count = library.units_count in
-    more (taken kind.header form.two_byte_numbers (big_bytes 2 600) (omega arith) (omega arith) (big_bytes_are_bytes 2 600) refl (omega arith) (permits_any kind.header form.two_byte_numbers 2 refl))
-    (more (date_taken kind.bgnlib (omega arith) (permits_any kind.bgnlib form.two_byte_numbers 24 refl))
-    (more (text_taken kind.libname library.name (omega arith) (λ n. permits_any kind.libname form.text n refl) well_formed.name library.name_fits)
-    (more (taken kind.units form.eight_byte_reals library.units (omega arith) (omega arith) library.units_fit (omega arith) (omega arith) (permits_exactly kind.units form.eight_byte_reals (length library.units) 16 refl count))
+    more (taken kind.HEADER form.TWO_BYTE_NUMBERS (big_bytes 2 600) (omega arith) (omega arith) (big_bytes_are_bytes 2 600) refl (omega arith) (permits_any kind.HEADER form.TWO_BYTE_NUMBERS 2 refl))
+    (more (date_taken kind.BGNLIB (omega arith) (permits_any kind.BGNLIB form.TWO_BYTE_NUMBERS 24 refl))
+    (more (text_taken kind.LIBNAME library.name (omega arith) (λ n. permits_any kind.LIBNAME form.TEXT n refl) well_formed.name library.name_fits)
+    (more (taken kind.UNITS form.EIGHT_BYTE_REALS library.units (omega arith) (omega arith) library.units_fit (omega arith) (omega arith)
+    (permits_exactly kind.UNITS form.EIGHT_BYTE_REALS (length library.units) 16 refl count))
     (both (each_part IsWritableStructure written_structure structure_taken library.structures well_formed.structures)
-    (one (bare_taken kind.endlib (omega arith) (permits_exactly kind.endlib form.no_data 0 0 refl refl)))))))
+    (one (bare_taken kind.ENDLIB (omega arith) (permits_exactly kind.ENDLIB form.NO_DATA 0 0 refl refl)))))))

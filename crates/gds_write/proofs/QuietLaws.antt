@@ -4,30 +4,33 @@ use Rattle.std.specs.List.{flat_map, list_any, list_all}
 use Rattle.std.proofs.lemmas.Bool.{eq-eqb, eqb-false}
 use Rattle.std.proofs.lemmas.List.{append-nil, length-append, length-map, get_or-map}
 use Rattle.std.proofs.Math.Seq.{get_or-append_seam}
-use Rattle.std.proofs.lemmas.List.Elements.{All-contains, All-from_recursion, All-head, All-map, All-tail, filter-append}
+use Rattle.std.proofs.lemmas.List.Elements.{All-contains, All-head, All-map, All-tail, filter-append}
 use Rattle.std.proofs.lemmas.List.Sums.{AllPass-from_list_all}
 use Rattle.gds_records.specs.Fields.{IsText}
-use Rattle.gds_records.specs.Kinds as kind
+use Rattle.gds_records.specs.declared.kinds.TheConstants as kind
 use Rattle.gds_records.specs.Spelling.{Entry}
 use Rattle.gds_records.proofs.TextLaws.{texts_agree}
-use Rattle.gds_syntax.specs.ElementChecks.{ElementHolds, element_checks}
-use Rattle.gds_syntax.specs.ElementForms.{ElementForm, element_forms, own_kinds, Opens}
-use Rattle.gds_syntax.specs.FirstFault.{IsNameIn, Shows, may_not_stand, repeats, is_faulty, NoneShows}
-use Rattle.gds_syntax.specs.Names.{NamesDiffer, names_of}
-use Rattle.gds_syntax.specs.Places.{form_of}
-use Rattle.gds_syntax.specs.Shape.{kinds_of, IsInShape}
-use Rattle.gds_syntax.specs.declared.element.Element.{Element}
-use Rattle.gds_syntax.specs.declared.fault.SyntaxFault.{SyntaxFault}
-use Rattle.gds_syntax.specs.declared.library.Library.{Library}
-use Rattle.gds_syntax.specs.declared.library.Structure.{Structure}
-use Rattle.gds_syntax.proofs.ListLaws.{last_or_before}
+use Rattle.library_grammar.specs.ElementChecks.{ElementHolds, element_checks}
+use Rattle.library_grammar.specs.ElementForms.{ElementForm, element_forms, own_kinds, Opens}
+use Rattle.library_grammar.specs.FirstFault.{IsNameIn, Shows, may_not_stand, repeats, is_faulty, NoneShows}
+use Rattle.lists.specs.Differing.{AreDifferent}
+use Rattle.library_model.specs.Names.{names_of}
+use Rattle.library_grammar.specs.Places.{form_of}
+use Rattle.library_grammar.specs.Grammar.{kinds_of, IsInShape}
+use Rattle.library_model.specs.declared.element.Element.{Element}
+use Rattle.library_grammar.specs.declared.fault.SyntaxFault.{SyntaxFault}
+use Rattle.library_model.specs.declared.library.Library.{Library}
+use Rattle.library_model.specs.declared.library.Structure.{Structure}
 use Rattle.gds_write.specs.Bodies.{bare, date_entry, text_entry, padded}
 use Rattle.gds_write.specs.WellFormed.{IsWritableElement, IsWritableStructure, IsWellFormed}
 use Rattle.gds_write.specs.Written.{opening_of, own_of, written_element, written_structure, written_head, written}
-use Rattle.gds_write.proofs.ElementLaws.{IsRead, element_reads}
-use Rattle.gds_write.proofs.Every.{Every, none, more, one, both, all_of, every_of, each_part}
-use Rattle.gds_write.proofs.OrderLaws.{kinds-append, library_in_shape}
+use Rattle.gds_write.proofs.ElementLaws.{IsRead, element_reads, form_of_element}
+use Rattle.gds_write.proofs.Every.{Every, none, more, one, both, all_of, each_part}
+use Rattle.gds_write.proofs.ReadLaws.{library_in_shape}
+use Rattle.library_grammar.proofs.PartsAgree.{form_test, form_is_found, not_true}
+use Rattle.first_refusal.proofs.CheckLaws.{none_fails}
 use Rattle.gds_write.proofs.ProfileLaws.{padded_fills}
+use Rattle.lists.proofs.Reading.{last_or_before}
 
 -- ---- lists
 
@@ -79,9 +82,9 @@ abbrev opens : ℕ → Bool
 opens k = list_any (λ (form : ElementForm). form.opening == k) element_forms
 
 abbrev ends : ℕ → Bool
-ends k = k == kind.propattr || k == kind.endel
+ends k = k == kind.PROPATTR || k == kind.ENDEL
 
-is_end : (k : ℕ) → (k ≡ kind.propattr) ⊎ (k ≡ kind.endel) → ends k ≡ true
+is_end : (k : ℕ) → (k ≡ kind.PROPATTR) ⊎ (k ≡ kind.ENDEL) → ends k ≡ true
 is_end k (inl attribute) = subst (λ (n : ℕ). ends n ≡ true) (sym attribute) refl
 is_end k (inr last) = subst (λ (n : ℕ). ends n ≡ true) (sym last) refl
 
@@ -95,43 +98,31 @@ own_test test all form listed k own =
     (AllPass-from_list_all (λ (f : ElementForm). list_all test (own_kinds f)) element_forms all) listed))
     own
 
-form_test : (test : ElementForm → Bool) → list_all test element_forms ≡ true → (form : ElementForm) → Contains element_forms form → test form ≡ true
-form_test test all form listed = All-contains (λ (f : ElementForm). test f ≡ true) element_forms form (AllPass-from_list_all test element_forms all) listed
-
-is_not : (b : Bool) → not b ≡ true → b ≡ false
-is_not true e = sym e
-is_not false e = refl
-
 module _ (form : ElementForm) (listed : Contains element_forms form) where
   opening_opens : opens form.opening ≡ true
   opening_opens = form_test (λ f. opens f.opening) refl form listed
 
   opening_ends_nothing : ends form.opening ≡ false
-  opening_ends_nothing = is_not (ends form.opening) (form_test (λ f. not (ends f.opening)) refl form listed)
+  opening_ends_nothing = not_true (ends form.opening) (form_test (λ f. not (ends f.opening)) refl form listed)
 
-  opening_names_nothing : (form.opening == kind.strname) ≡ false
-  opening_names_nothing = is_not (form.opening == kind.strname) (form_test (λ f. not (f.opening == kind.strname)) refl form listed)
+  opening_names_nothing : (form.opening == kind.STRNAME) ≡ false
+  opening_names_nothing = not_true (form.opening == kind.STRNAME) (form_test (λ f. not (f.opening == kind.STRNAME)) refl form listed)
 
-  pub opening_ends_no_library : form.opening ≢ kind.endlib
-  opening_ends_no_library = eqb-false form.opening kind.endlib (is_not (form.opening == kind.endlib) (form_test (λ f. not (f.opening == kind.endlib)) refl form listed))
-
-  form_is_found : form_of form.opening ≡ Some form
-  form_is_found =
-      All-contains (λ (f : ElementForm). form_of f.opening ≡ Some f) element_forms form
-      (All-from_recursion (λ (f : ElementForm). form_of f.opening ≡ Some f) element_forms (refl, (refl, (refl, (refl, (refl, (refl, (refl, tt)))))))) listed
+  pub opening_ends_no_library : form.opening ≢ kind.ENDLIB
+  opening_ends_no_library = eqb-false form.opening kind.ENDLIB (not_true (form.opening == kind.ENDLIB) (form_test (λ f. not (f.opening == kind.ENDLIB)) refl form listed))
 
   module _ (k : ℕ) (own : Contains (own_kinds form) k) where
     own_opens_nothing : opens k ≡ true → ⊥
-    own_opens_nothing e = true≢false (sym e ∙ is_not (opens k) (own_test (λ n. not (opens n)) refl form listed k own))
+    own_opens_nothing e = true≢false (sym e ∙ not_true (opens k) (own_test (λ n. not (opens n)) refl form listed k own))
 
     own_ends_nothing : ends k ≡ false
-    own_ends_nothing = is_not (ends k) (own_test (λ n. not (ends n)) refl form listed k own)
+    own_ends_nothing = not_true (ends k) (own_test (λ n. not (ends n)) refl form listed k own)
 
-    pub own_ends_no_library : k ≢ kind.endlib
-    own_ends_no_library = eqb-false k kind.endlib (is_not (k == kind.endlib) (own_test (λ n. not (n == kind.endlib)) refl form listed k own))
+    pub own_ends_no_library : k ≢ kind.ENDLIB
+    own_ends_no_library = eqb-false k kind.ENDLIB (not_true (k == kind.ENDLIB) (own_test (λ n. not (n == kind.ENDLIB)) refl form listed k own))
 
-    own_names_nothing : (k == kind.strname) ≡ false
-    own_names_nothing = is_not (k == kind.strname) (own_test (λ n. not (n == kind.strname)) refl form listed k own)
+    own_names_nothing : (k == kind.STRNAME) ≡ false
+    own_names_nothing = not_true (k == kind.STRNAME) (own_test (λ n. not (n == kind.STRNAME)) refl form listed k own)
 
 -- ---- the elements' own checks
 
@@ -139,7 +130,7 @@ module _ (form : ElementForm) (listed : Contains element_forms form) where
 -- that element holds.
 IsFine : List Entry → Type 0
 IsFine xs =
-    (front back : List Entry) (e : Entry) → xs ≡ front ++ e ∷ back → (e.kind ≡ kind.propattr) ⊎ (e.kind ≡ kind.endel)
+    (front back : List Entry) (e : Entry) → xs ≡ front ++ e ∷ back → (e.kind ≡ kind.PROPATTR) ⊎ (e.kind ≡ kind.ENDEL)
     → (lead earlier own : List Entry) (opening : Entry) (form : ElementForm) → lead ++ front ≡ earlier ++ opening ∷ own → Opens opening.kind form
     → All (λ o. Contains (own_kinds form) o.kind) own → All (ElementHolds own) (element_checks form)
 
@@ -172,26 +163,26 @@ module _ (element : Element) (reads : IsRead element) (Q : ℕ → Type 0) where
       → ((form : ElementForm) → Contains element_forms form → (k : ℕ) → Contains (own_kinds form) k → Q k)
       → Every (λ e. Q e.kind) (bare (opening_of element) ∷ own_of element)
   each_front of_opening of_own =
-      more (subst Q (sym reads.opening) (of_opening reads.form reads.listed))
-      (each_own (Contains (own_kinds reads.form)) Q (of_own reads.form reads.listed) (own_of element) reads.are_own)
+      more (subst Q (sym reads.opens.opening) (of_opening (form_of_element element) reads.opens.listed))
+      (each_own (Contains (own_kinds (form_of_element element))) Q (of_own (form_of_element element) reads.opens.listed) (own_of element) reads.are_own)
 
 fine_element : (element : Element) → IsWritableElement element → IsFine (written_element element)
 unfolding IsFine
 fine_element element writable front back e same is_last lead earlier own opening form parts opened are_own =
     let reads = element_reads element writable in
-    elim (last_or_before (bare (opening_of element) ∷ own_of element) (bare kind.endel) front e back same) [
+    elim (last_or_before (bare (opening_of element) ∷ own_of element) (bare kind.ENDEL) front e back same) [
       | inl (fronts, _, _) ↦
           let there = last_such (λ (o : Entry). opens o.kind ≡ true) lead earlier (bare (opening_of element)) opening (own_of element) own
           (ap (λ (v : List Entry). lead ++ v) fronts ∙ parts)
-          (subst (λ (k : ℕ). opens k ≡ true) (sym reads.opening) (opening_opens reads.form reads.listed))
+          (subst (λ (k : ℕ). opens k ≡ true) (sym reads.opens.opening) (opening_opens (form_of_element element) reads.opens.listed))
           (subst (λ (k : ℕ). opens k ≡ true) (sym opened.opening) (opening_opens form opened.listed))
-          (all_of (each_own (Contains (own_kinds reads.form)) (λ k. opens k ≡ true → ⊥) (own_opens_nothing reads.form reads.listed) (own_of element) reads.are_own))
+          (all_of (each_own (Contains (own_kinds (form_of_element element))) (λ k. opens k ≡ true → ⊥) (own_opens_nothing (form_of_element element) reads.opens.listed) (own_of element) reads.are_own))
           (λ i d l. own_opens_nothing form opened.listed _ (are_own i d l)) in
-          let same_opening : reads.form.opening ≡ form.opening = sym reads.opening ∙ ap (λ (o : Entry). o.kind) there.0 ∙ opened.opening in
-          let found : Some reads.form ≡ Some form = sym (form_is_found reads.form reads.listed) ∙ ap form_of same_opening ∙ form_is_found form opened.listed in
-          let same_form : reads.form ≡ form = cc in
+          let same_opening : (form_of_element element).opening ≡ form.opening = sym reads.opens.opening ∙ ap (λ (o : Entry). o.kind) there.0 ∙ opened.opening in
+          let found : Some (form_of_element element) ≡ Some form = sym (form_is_found (form_of_element element) reads.opens.listed) ∙ ap form_of same_opening ∙ form_is_found form opened.listed in
+          let same_form : (form_of_element element) ≡ form = cc in
           subst (λ (f : ElementForm). All (ElementHolds own) (element_checks f)) same_form
-          (subst (λ (o : List Entry). All (ElementHolds o) (element_checks reads.form)) there.1 reads.holds)
+          (subst (λ (o : List Entry). All (ElementHolds o) (element_checks (form_of_element element))) there.1 reads.holds)
       | inr (behind, fronts, _) ↦
           absurd
           (true≢false
@@ -202,23 +193,23 @@ fine_element element writable front back e same is_last lead earlier own opening
 
 fine_structure : (structure : Structure) → IsWritableStructure structure → IsFine (written_structure structure)
 fine_structure structure writable =
-    fine_both (date_entry kind.bgnstr ∷ text_entry kind.strname structure.name ∷ []) (flat_map written_element structure.elements ++ bare kind.endstr ∷ [])
+    fine_both (date_entry kind.BGNSTR ∷ text_entry kind.STRNAME structure.name ∷ []) (flat_map written_element structure.elements ++ bare kind.ENDSTR ∷ [])
     (fine_plain _ (more refl (one refl)))
-    (fine_both (flat_map written_element structure.elements) (bare kind.endstr ∷ [])
+    (fine_both (flat_map written_element structure.elements) (bare kind.ENDSTR ∷ [])
     (fine_parts IsWritableElement written_element fine_element structure.elements writable.elements) (fine_plain _ (one refl)))
 
 fine_library : (library : Library) → IsWellFormed library → IsFine (written library)
 fine_library library well_formed =
-    fine_both (written_head library) (flat_map written_structure library.structures ++ bare kind.endlib ∷ [])
+    fine_both (written_head library) (flat_map written_structure library.structures ++ bare kind.ENDLIB ∷ [])
     (fine_plain _ (more refl (more refl (more refl (one refl)))))
-    (fine_both (flat_map written_structure library.structures) (bare kind.endlib ∷ [])
+    (fine_both (flat_map written_structure library.structures) (bare kind.ENDLIB ∷ [])
     (fine_parts IsWritableStructure written_structure fine_structure library.structures well_formed.structures) (fine_plain _ (one refl)))
 
 -- ---- names
 
 -- whether the record names a structure
 abbrev names : Entry → Bool
-names e = e.kind == kind.strname
+names e = e.kind == kind.STRNAME
 
 no_names : (xs : List Entry) → Every (λ e. names e ≡ false) xs → filter names xs ≡ []
 no_names [] none = refl
@@ -226,51 +217,51 @@ no_names (x ∷ xs) (more other rest) = rw (other, no_names xs rest) refl
 
 names_nothing : (element : Element) → IsWritableElement element → Every (λ e. names e ≡ false) (written_element element)
 names_nothing element writable =
-    both (each_front element (element_reads element writable) (λ k. (k == kind.strname) ≡ false) opening_names_nothing own_names_nothing) (one refl)
+    both (each_front element (element_reads element writable) (λ k. (k == kind.STRNAME) ≡ false) opening_names_nothing own_names_nothing) (one refl)
 
-names_of_structure : (structure : Structure) → IsWritableStructure structure → filter names (written_structure structure) ≡ text_entry kind.strname structure.name ∷ []
+names_of_structure : (structure : Structure) → IsWritableStructure structure → filter names (written_structure structure) ≡ text_entry kind.STRNAME structure.name ∷ []
 names_of_structure structure writable =
-    ap (λ (v : List Entry). text_entry kind.strname structure.name ∷ v)
-    (no_names (flat_map written_element structure.elements ++ bare kind.endstr ∷ [])
+    ap (λ (v : List Entry). text_entry kind.STRNAME structure.name ∷ v)
+    (no_names (flat_map written_element structure.elements ++ bare kind.ENDSTR ∷ [])
     (both (each_part IsWritableElement written_element names_nothing structure.elements writable.elements) (one refl)))
 
 names_of_structures : (structures : List Structure) → All IsWritableStructure structures
-    → filter names (flat_map written_structure structures) ≡ map (text_entry kind.strname) (names_of structures)
+    → filter names (flat_map written_structure structures) ≡ map (text_entry kind.STRNAME) (names_of structures)
 names_of_structures [] h = refl
 names_of_structures (structure ∷ structures) h =
     filter-append names (written_structure structure) (flat_map written_structure structures)
     ∙ ap (λ (v : List Entry). v ++ filter names (flat_map written_structure structures)) (names_of_structure structure (All-head IsWritableStructure structure structures h))
-    ∙ ap (λ (v : List Entry). text_entry kind.strname structure.name ∷ v) (names_of_structures structures (All-tail IsWritableStructure structure structures h))
+    ∙ ap (λ (v : List Entry). text_entry kind.STRNAME structure.name ∷ v) (names_of_structures structures (All-tail IsWritableStructure structure structures h))
 
-names_of_library : (library : Library) → IsWellFormed library → filter names (written library) ≡ map (text_entry kind.strname) (names_of library.structures)
+names_of_library : (library : Library) → IsWellFormed library → filter names (written library) ≡ map (text_entry kind.STRNAME) (names_of library.structures)
 names_of_library library well_formed =
-    filter-append names (flat_map written_structure library.structures) (bare kind.endlib ∷ [])
+    filter-append names (flat_map written_structure library.structures) (bare kind.ENDLIB ∷ [])
     ∙ append-nil (filter names (flat_map written_structure library.structures))
     ∙ names_of_structures library.structures well_formed.structures
 
 -- no two records name structures alike
-no_repeat : (texts : List (List ℕ)) (before after : List Entry) (e : Entry) (name : List ℕ) → filter names (before ++ e ∷ after) ≡ map (text_entry kind.strname) texts
-    → NamesDiffer texts → All (λ text. IsText (padded text) text) texts → e.kind ≡ kind.strname → IsText e.body name → IsNameIn before name → ⊥
+no_repeat : (texts : List (List ℕ)) (before after : List Entry) (e : Entry) (name : List ℕ) → filter names (before ++ e ∷ after) ≡ map (text_entry kind.STRNAME) texts
+    → AreDifferent texts → All (λ text. IsText (padded text) text) texts → e.kind ≡ kind.STRNAME → IsText e.body name → IsNameIn before name → ⊥
 no_repeat texts before after e name listed differ are_texts names_it is_text in_before =
     let a : List Entry = filter names in_before.earlier in
     let b : List Entry = filter names in_before.later in
     let c : List Entry = filter names after in
     let r : Entry = in_before.record_of_name in
     let first : filter names before ≡ a ++ r ∷ b =
-    ap (filter names) in_before.parts ∙ filter-append names in_before.earlier (r ∷ in_before.later) ∙ rw (eq-eqb r.kind kind.strname in_before.names) refl in
+    ap (filter names) in_before.parts ∙ filter-append names in_before.earlier (r ∷ in_before.later) ∙ rw (eq-eqb r.kind kind.STRNAME in_before.names) refl in
     let whole : filter names (before ++ e ∷ after) ≡ (a ++ r ∷ b) ++ e ∷ c =
-    filter-append names before (e ∷ after) ∙ rw (first, eq-eqb e.kind kind.strname names_it) refl in
-    let all : map (text_entry kind.strname) texts ≡ (a ++ r ∷ b) ++ e ∷ c = sym listed ∙ whole in
+    filter-append names before (e ∷ after) ∙ rw (first, eq-eqb e.kind kind.STRNAME names_it) refl in
+    let all : map (text_entry kind.STRNAME) texts ≡ (a ++ r ∷ b) ++ e ∷ c = sym listed ∙ whole in
     let i : ℕ = length a in
     let j : ℕ = length (a ++ r ∷ b) in
     let before_j : i < j = omega (arith, length-append a (r ∷ b)) in
-    let count : length texts ≡ length ((a ++ r ∷ b) ++ e ∷ c) = sym (length-map texts (text_entry kind.strname)) ∙ ap length all in
+    let count : length texts ≡ length ((a ++ r ∷ b) ++ e ∷ c) = sym (length-map texts (text_entry kind.STRNAME)) ∙ ap length all in
     let j_within : j < length texts = omega (arith, count, length-append (a ++ r ∷ b) (e ∷ c)) in
     let i_within : i < length texts = omega arith in
-    let at_i : text_entry kind.strname (get_or texts i name) ≡ r =
-    sym (get_or-map (text_entry kind.strname) texts i name r i_within) ∙ ap (λ (v : List Entry). get_or v i r) (all ∙ append_assoc a (r ∷ b) (e ∷ c)) ∙ get_or-append_seam a r (b ++ e ∷ c) r in
-    let at_j : text_entry kind.strname (get_or texts j name) ≡ e =
-    sym (get_or-map (text_entry kind.strname) texts j name e j_within) ∙ ap (λ (v : List Entry). get_or v j e) all ∙ get_or-append_seam (a ++ r ∷ b) e c e in
+    let at_i : text_entry kind.STRNAME (get_or texts i name) ≡ r =
+    sym (get_or-map (text_entry kind.STRNAME) texts i name r i_within) ∙ ap (λ (v : List Entry). get_or v i r) (all ∙ append_assoc a (r ∷ b) (e ∷ c)) ∙ get_or-append_seam a r (b ++ e ∷ c) r in
+    let at_j : text_entry kind.STRNAME (get_or texts j name) ≡ e =
+    sym (get_or-map (text_entry kind.STRNAME) texts j name e j_within) ∙ ap (λ (v : List Entry). get_or v j e) all ∙ get_or-append_seam (a ++ r ∷ b) e c e in
     let name_i : get_or texts i name ≡ name =
     texts_agree (padded (get_or texts i name)) (get_or texts i name) name (are_texts i name i_within) (subst (λ (o : Entry). IsText o.body name) (sym at_i) in_before.is_text) in
     let name_j : get_or texts j name ≡ name =
@@ -283,7 +274,7 @@ shows_nothing : (library : Library) → IsWellFormed library → (before after :
     → Shows before e fault → ⊥
 unfolding IsFine
 shows_nothing library well_formed before after e fault same (may_not_stand may_not) =
-    may_not (record { after = kinds_of after; in_shape = subst IsInShape (ap kinds_of same ∙ kinds-append before (e ∷ after)) (library_in_shape library well_formed) })
+    may_not (record { after = after; in_shape = subst IsInShape same (library_in_shape library well_formed) })
 shows_nothing library well_formed before after e fault same (repeats {name} may names_it is_text in_before) =
     no_repeat (names_of library.structures) before after e name (ap (filter names) (sym same) ∙ names_of_library library well_formed) well_formed.differ
     (All-map (λ text. IsText (padded text) text) (λ structure. structure.name) library.structures
@@ -291,8 +282,7 @@ shows_nothing library well_formed before after e fault same (repeats {name} may 
     names_it is_text in_before
 shows_nothing library well_formed before after e fault same (is_faulty {at} {form} {own} may last fails) =
     let holds = fine_library library well_formed before after e same last.ends [] last.earlier own last.opening form last.parts last.opens last.are_own in
-    let first = fails.is_first in
-    first.fails (every_at (ElementHolds own) first.before first.after fails.check (element_checks form) first.parts (every_of (ElementHolds own) (element_checks form) holds))
+    none_fails (ElementHolds own) (element_checks form) holds fails.check fails.is_first
 
 pub none_shows : (library : Library) → IsWellFormed library → NoneShows (written library)
 none_shows library well_formed before after e fault same shown = shows_nothing library well_formed before after e fault same shown

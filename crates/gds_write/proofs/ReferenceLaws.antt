@@ -9,18 +9,18 @@ use Rattle.byteorder.specs.Endian.{big_bytes}
 use Rattle.geo_core.specs.declared.plane.Point.{Point}
 use Rattle.geo_core.specs.declared.plane.Turn.{Turn}
 use Rattle.gds_records.specs.Fields.{item}
-use Rattle.gds_records.specs.Kinds as kind
+use Rattle.gds_records.specs.declared.kinds.TheConstants as kind
 use Rattle.gds_records.specs.Reals.{HasValue}
 use Rattle.gds_records.specs.Spelling.{Entry}
-use Rattle.gds_syntax.specs.ElementChecks.{ElementHolds, element_checks}
-use Rattle.gds_syntax.specs.ElementForms.{sref_form, aref_form}
-use Rattle.gds_syntax.specs.Elements.{IsTurn, IsReference, IsKept, sref as keeps_sref, aref as keeps_aref}
-use Rattle.gds_syntax.specs.OwnRecords.{field, body_of, point_in, points_of, unsigned_of, HasQuarters, columns_of, rows_of, Leads, HasSteps}
-use Rattle.gds_syntax.specs.Ranges.{IsPoint, ArePoints}
-use Rattle.gds_syntax.specs.Shape.{kinds_of}
-use Rattle.gds_syntax.specs.declared.element.Element.TheVariants.{Reference as reference_element}
-use Rattle.gds_syntax.specs.declared.element.Lattice.{Lattice}
-use Rattle.gds_syntax.specs.declared.element.Reference.{Reference}
+use Rattle.library_grammar.specs.ElementChecks.{ElementHolds, element_checks}
+use Rattle.library_grammar.specs.ElementForms.{sref_form, aref_form}
+use Rattle.library_grammar.specs.Elements.{IsTurn, IsReference, IsKept, sref as keeps_sref, aref as keeps_aref}
+use Rattle.library_grammar.specs.OwnRecords.{field, body_of, point_in, points_of, unsigned_of, HasQuarters, columns_of, rows_of, Leads, HasSteps}
+use Rattle.library_model.specs.Ranges.{IsPoint, ArePoints}
+use Rattle.library_grammar.specs.Grammar.{kinds_of}
+use Rattle.library_model.specs.declared.element.Element.TheVariants.{Reference as reference_element}
+use Rattle.library_model.specs.declared.element.Lattice.{Lattice}
+use Rattle.library_model.specs.declared.element.Reference.{Reference}
 use Rattle.gds_write.specs.Bodies.{text_entry, point_bytes, entry_if}
 use Rattle.gds_write.specs.WellFormed.{IsWritableReference}
 use Rattle.gds_write.specs.Written.{strans_entry, angle_entry, turn_records, moved_by, array_points, placing_records}
@@ -64,7 +64,7 @@ placing_points origin (Some lattice) = array_points origin lattice
 
 -- the own records of a reference that is repeated so
 abbrev pub reference_own : List ℕ → Turn → Point → Option Lattice → List Entry
-reference_own target turn origin lattice = text_entry kind.sname target ∷ turn_records turn ++ placing_records origin lattice
+reference_own target turn origin lattice = text_entry kind.SNAME target ∷ turn_records turn ++ placing_records origin lattice
 
 module _ (target : List ℕ) (turn : Turn) (origin : Point) (lattice : Option Lattice) where
   abbrev own : List Entry
@@ -82,46 +82,46 @@ module _ (target : List ℕ) (turn : Turn) (origin : Point) (lattice : Option La
   abbrev behind_strans : List Entry
   behind_strans = entry_if turns (angle_entry turn.quarters) ++ placing
 
-  reference_field : (k : ℕ) (o : Option (List ℕ)) → (kind.sname == k) ≡ false → field k (entry_if mirrors (strans_entry turn.reflect) ++ behind_strans) ≡ o → field k own ≡ o
+  reference_field : (k : ℕ) (o : Option (List ℕ)) → (kind.SNAME == k) ≡ false → field k (entry_if mirrors (strans_entry turn.reflect) ++ behind_strans) ≡ o → field k own ≡ o
   reference_field k o no_name has =
       rw no_name (ap (field k) (append_assoc (entry_if mirrors (strans_entry turn.reflect)) (entry_if turns (angle_entry turn.quarters)) placing) ∙ has)
 
-  past_strans : (k : ℕ) → (kind.strans == k) ≡ false → field k (entry_if mirrors (strans_entry turn.reflect) ++ behind_strans) ≡ field k behind_strans
+  past_strans : (k : ℕ) → (kind.STRANS == k) ≡ false → field k (entry_if mirrors (strans_entry turn.reflect) ++ behind_strans) ≡ field k behind_strans
   past_strans k other = past k mirrors (strans_entry turn.reflect) behind_strans other
 
-  past_angle : (k : ℕ) → (kind.angle == k) ≡ false → field k behind_strans ≡ field k placing
+  past_angle : (k : ℕ) → (kind.ANGLE == k) ≡ false → field k behind_strans ≡ field k placing
   past_angle k other = past k turns (angle_entry turn.quarters) placing other
 
-  placing_xy : (l : Option Lattice) → field kind.xy (placing_records origin l) ≡ Some (flat_map point_bytes (placing_points origin l))
+  placing_xy : (l : Option Lattice) → field kind.XY (placing_records origin l) ≡ Some (flat_map point_bytes (placing_points origin l))
   placing_xy None = refl
   placing_xy (Some l) = refl
 
-  not_placing : (k : ℕ) → (kind.xy == k) ≡ false → (kind.colrow == k) ≡ false → (l : Option Lattice) → field k (placing_records origin l) ≡ None
+  not_placing : (k : ℕ) → (kind.XY == k) ≡ false → (kind.COLROW == k) ≡ false → (l : Option Lattice) → field k (placing_records origin l) ≡ None
   not_placing k no_xy no_colrow None = rw no_xy refl
   not_placing k no_xy no_colrow (Some l) = rw (no_colrow, no_xy) refl
 
-  has_xy : field kind.xy own ≡ Some (flat_map point_bytes (placing_points origin lattice))
-  has_xy = reference_field kind.xy _ refl (past_strans kind.xy refl ∙ past_angle kind.xy refl ∙ placing_xy lattice)
+  has_xy : field kind.XY own ≡ Some (flat_map point_bytes (placing_points origin lattice))
+  has_xy = reference_field kind.XY _ refl (past_strans kind.XY refl ∙ past_angle kind.XY refl ∙ placing_xy lattice)
 
-  has_strans : field kind.strans own ≡ then_some mirrors (strans_entry turn.reflect).body
+  has_strans : field kind.STRANS own ≡ then_some mirrors (strans_entry turn.reflect).body
   has_strans =
-      reference_field kind.strans _ refl
-      (found_where kind.strans mirrors (strans_entry turn.reflect) behind_strans refl (past_angle kind.strans refl ∙ not_placing kind.strans refl refl lattice))
+      reference_field kind.STRANS _ refl
+      (found_where kind.STRANS mirrors (strans_entry turn.reflect) behind_strans refl (past_angle kind.STRANS refl ∙ not_placing kind.STRANS refl refl lattice))
 
-  has_angle : field kind.angle own ≡ then_some turns (angle_entry turn.quarters).body
+  has_angle : field kind.ANGLE own ≡ then_some turns (angle_entry turn.quarters).body
   has_angle =
-      reference_field kind.angle _ refl
-      (past_strans kind.angle refl ∙ found_where kind.angle turns (angle_entry turn.quarters) placing refl (not_placing kind.angle refl refl lattice))
+      reference_field kind.ANGLE _ refl
+      (past_strans kind.ANGLE refl ∙ found_where kind.ANGLE turns (angle_entry turn.quarters) placing refl (not_placing kind.ANGLE refl refl lattice))
 
-  has_no_mag : field kind.mag own ≡ None
-  has_no_mag = reference_field kind.mag _ refl (past_strans kind.mag refl ∙ past_angle kind.mag refl ∙ not_placing kind.mag refl refl lattice)
+  has_no_mag : field kind.MAG own ≡ None
+  has_no_mag = reference_field kind.MAG _ refl (past_strans kind.MAG refl ∙ past_angle kind.MAG refl ∙ not_placing kind.MAG refl refl lattice)
 
-  xy_body : body_of kind.xy own ≡ flat_map point_bytes (placing_points origin lattice)
+  xy_body : body_of kind.XY own ≡ flat_map point_bytes (placing_points origin lattice)
   xy_body = ap (λ (o : Option (List ℕ)). unwrap_or o []) has_xy
 
   -- ---- the turn as it is read
 
-  word_is : unsigned_of kind.strans own ≡ item 2 0 (unwrap_or (then_some mirrors (strans_entry turn.reflect).body) [])
+  word_is : unsigned_of kind.STRANS own ≡ item 2 0 (unwrap_or (then_some mirrors (strans_entry turn.reflect).body) [])
   word_is = ap (λ (o : Option (List ℕ)). item 2 0 (unwrap_or o [])) has_strans
 
   is_written : turn.reflect ≡ true → mirrors ≡ true
@@ -133,10 +133,10 @@ module _ (target : List ℕ) (turn : Turn) (origin : Point) (lattice : Option La
   turn_is_read : IsTurn own turn
   turn_is_read = record { mirrors = rw word_is (mirrors_by turn.reflect mirrors is_written); circles = pos 0; turns = has_quarters }
 
-  not_magnified : IfSome (field kind.mag own) (λ body. HasValue body (pos 1))
+  not_magnified : IfSome (field kind.MAG own) (λ body. HasValue body (pos 1))
   not_magnified = rw has_no_mag tt
 
-  not_absolute : unsigned_of kind.strans own / 2 % 2 ≡ 1 → ⊥
+  not_absolute : unsigned_of kind.STRANS own / 2 % 2 ≡ 1 → ⊥
   not_absolute = rw word_is (not_absolute_by turn.reflect mirrors)
 
   by_quarters : (quarters : ℤ) × HasQuarters own quarters × (negsuc 3 ≤ℤ quarters) × (quarters ≤ℤ pos 4)
@@ -159,7 +159,7 @@ module _ (at : ℕ) (reference : Reference) (lattice : Option Lattice) (writable
   points_fit : ArePoints (placing_points reference.origin lattice)
   points_fit = placed_points_fit lattice (subst (λ (l : Option Lattice). IfSome l (λ some. ArePoints (array_points reference.origin some))) is writable.lattice)
 
-  point_is : (k : ℕ) → k < length (placing_points reference.origin lattice) → point_in (body_of kind.xy own_records) k ≡ get_or (placing_points reference.origin lattice) k reference.origin
+  point_is : (k : ℕ) → k < length (placing_points reference.origin lattice) → point_in (body_of kind.XY own_records) k ≡ get_or (placing_points reference.origin lattice) k reference.origin
   point_is k within = rw (xy_body reference.target reference.turn reference.origin lattice) (point_reads (placing_points reference.origin lattice) k reference.origin points_fit within)
 
   points_are : points_of own_records ≡ placing_points reference.origin lattice
@@ -179,12 +179,12 @@ module _ (at : ℕ) (reference : Reference) (lattice : Option Lattice) (writable
         is_origin = sym (point_is 0 first.0 ∙ first.1);
       }
 
-  has_points_xy : Contains (kinds_of own_records) kind.xy
-  has_points_xy = has_found kind.xy own_records _ (has_xy reference.target reference.turn reference.origin lattice)
+  has_points_xy : Contains (kinds_of own_records) kind.XY
+  has_points_xy = has_found kind.XY own_records _ (has_xy reference.target reference.turn reference.origin lattice)
 
 -- a reference that is not repeated
 module _ (at : ℕ) (reference : Reference) (writable : IsWritableReference reference) (is : reference.lattice ≡ None) where
-  pub sref_kept : IsKept at (reference_own reference.target reference.turn reference.origin None) kind.sref (Some (reference_element (reference_at at reference)))
+  pub sref_kept : IsKept at (reference_own reference.target reference.turn reference.origin None) kind.SREF (Some (reference_element (reference_at at reference)))
   sref_kept = keeps_sref (is_reference at reference None writable is) is
 
   pub sref_holds : All (ElementHolds (reference_own reference.target reference.turn reference.origin None)) (element_checks sref_form)
@@ -212,11 +212,11 @@ module _ (at : ℕ) (reference : Reference) (lattice : Lattice) (writable : IsWr
   abbrev array_own : List Entry
   array_own = reference_own reference.target reference.turn reference.origin (Some lattice)
 
-  has_colrow : field kind.colrow array_own ≡ Some (big_bytes 2 lattice.columns ++ big_bytes 2 lattice.rows)
+  has_colrow : field kind.COLROW array_own ≡ Some (big_bytes 2 lattice.columns ++ big_bytes 2 lattice.rows)
   has_colrow =
-      reference_field reference.target reference.turn reference.origin (Some lattice) kind.colrow _ refl
-      (past_strans reference.target reference.turn reference.origin (Some lattice) kind.colrow refl
-      ∙ past_angle reference.target reference.turn reference.origin (Some lattice) kind.colrow refl)
+      reference_field reference.target reference.turn reference.origin (Some lattice) kind.COLROW _ refl
+      (past_strans reference.target reference.turn reference.origin (Some lattice) kind.COLROW refl
+      ∙ past_angle reference.target reference.turn reference.origin (Some lattice) kind.COLROW refl)
 
   columns_are : columns_of array_own ≡ pos lattice.columns
   columns_are = rw has_colrow (columns_read lattice.columns lattice.rows lattice.few_columns)
@@ -235,7 +235,7 @@ module _ (at : ℕ) (reference : Reference) (lattice : Lattice) (writable : IsWr
         rows = leads lattice.rows lattice.row_step _ _ _ rows_are (point 0 (omega arith)) (point 2 (omega arith));
       }
 
-  pub aref_kept : IsKept at array_own kind.aref (Some (reference_element (reference_at at reference)))
+  pub aref_kept : IsKept at array_own kind.AREF (Some (reference_element (reference_at at reference)))
   aref_kept =
       keeps_aref (is_reference at reference (Some lattice) writable is) is
       (record { columns = sym columns_are; rows = sym rows_are; steps = has_steps })
@@ -249,7 +249,7 @@ module _ (at : ℕ) (reference : Reference) (lattice : Lattice) (writable : IsWr
         (
           (0, omega arith, refl),
           (
-            has_found kind.colrow array_own _ has_colrow,
+            has_found kind.COLROW array_own _ has_colrow,
             (
               ap length (points_are at reference (Some lattice) writable is),
               (

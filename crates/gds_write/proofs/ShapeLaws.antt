@@ -8,19 +8,20 @@ use Rattle.std.proofs.lemmas.Bool.{eqb-true}
 use Rattle.std.proofs.lemmas.List.Elements.{All-from_recursion}
 use Rattle.geo_core.specs.declared.plane.Point.{Point}
 use Rattle.gds_records.specs.Fields.{item}
-use Rattle.gds_records.specs.Kinds as kind
+use Rattle.gds_records.specs.declared.kinds.TheConstants as kind
 use Rattle.gds_records.specs.Spelling.{Entry}
-use Rattle.gds_syntax.specs.ElementChecks.{ElementHolds, element_checks}
-use Rattle.gds_syntax.specs.ElementForms.{ElementForm, boundary_form, path_form, box_form}
-use Rattle.gds_syntax.specs.Elements.{path_kind, IsKept, boundary as keeps_boundary, path as keeps_path, box as keeps_box}
-use Rattle.gds_syntax.specs.OwnRecords.{field, points_in, points_of, short_of, long_of, IsClosed}
-use Rattle.gds_syntax.specs.Points.{HasItsPoints}
-use Rattle.gds_syntax.specs.Ranges.{ArePoints, IsKind}
-use Rattle.gds_syntax.specs.Shape.{kinds_of}
-use Rattle.gds_syntax.specs.declared.element.Element.TheVariants.{Shape as shape_element}
-use Rattle.gds_syntax.specs.declared.element.Shape.{Shape}
-use Rattle.gds_syntax.specs.declared.element.ShapeKind.{ShapeKind}
-use Rattle.gds_syntax.specs.declared.element.ShapeKind.TheVariants.{Boundary, BoxElement, Path}
+use Rattle.library_grammar.specs.ElementChecks.{ElementHolds, element_checks}
+use Rattle.library_grammar.specs.ElementForms.{ElementForm, boundary_form, path_form, box_form}
+use Rattle.library_grammar.specs.Elements.{path_kind, IsKept, boundary as keeps_boundary, path as keeps_path, box as keeps_box}
+use Rattle.library_grammar.specs.OwnRecords.{field, points_in, points_of, short_of, long_of}
+use Rattle.geo_core.specs.Circuits.{IsClosed}
+use Rattle.library_model.specs.Points.{HasItsPoints}
+use Rattle.library_model.specs.Ranges.{ArePoints, IsKind}
+use Rattle.library_grammar.specs.Grammar.{kinds_of}
+use Rattle.library_model.specs.declared.element.Element.TheVariants.{Shape as shape_element}
+use Rattle.library_model.specs.declared.element.Shape.{Shape}
+use Rattle.library_model.specs.declared.element.ShapeKind.{ShapeKind}
+use Rattle.library_model.specs.declared.element.ShapeKind.TheVariants.{Boundary, BoxElement, Path}
 use Rattle.gds_write.specs.Bodies.{unsigned_entry, short_entry, long_entry, long_bytes, point_bytes, points_entry, entry_if, is_not_zero}
 use Rattle.gds_write.specs.Written.{opening_of_shape, datatype_kind, path_records}
 use Rattle.gds_write.proofs.FieldLaws.{past, found_where, number_reads_by}
@@ -46,70 +47,70 @@ form_of_shape (Path pathtype width begin end) = path_form
 -- the own records of a shape of this kind
 abbrev pub shape_own : ℕ → ℕ → List Point → ShapeKind → List Entry
 shape_own layer datatype points shape_kind =
-    unsigned_entry kind.layer layer ∷ unsigned_entry (datatype_kind shape_kind) datatype ∷ path_records shape_kind ++ points_entry points ∷ []
+    unsigned_entry kind.LAYER layer ∷ unsigned_entry (datatype_kind shape_kind) datatype ∷ path_records shape_kind ++ points_entry points ∷ []
 
 module _ (layer datatype : ℕ) (points : List Point) where
   module _ (pathtype width begin end : ℤ) where
     pub nested : shape_own layer datatype points (Path pathtype width begin end)
-        ≡ unsigned_entry kind.layer layer ∷ unsigned_entry kind.datatype datatype
-        ∷ (entry_if (is_not_zero pathtype) (short_entry kind.pathtype pathtype) ++ (entry_if (is_not_zero width) (long_entry kind.width width)
-        ++ (entry_if (is_not_zero begin) (long_entry kind.bgnextn begin) ++ (entry_if (is_not_zero end) (long_entry kind.endextn end) ++ points_entry points ∷ []))))
+        ≡ unsigned_entry kind.LAYER layer ∷ unsigned_entry kind.DATATYPE datatype
+        ∷ (entry_if (is_not_zero pathtype) (short_entry kind.PATHTYPE pathtype) ++ (entry_if (is_not_zero width) (long_entry kind.WIDTH width)
+        ++ (entry_if (is_not_zero begin) (long_entry kind.BGNEXTN begin) ++ (entry_if (is_not_zero end) (long_entry kind.ENDEXTN end) ++ points_entry points ∷ []))))
     nested = simp append_assoc
 
     -- what stands behind each of its own
     abbrev behind_begin : List Entry
-    behind_begin = entry_if (is_not_zero end) (long_entry kind.endextn end) ++ points_entry points ∷ []
+    behind_begin = entry_if (is_not_zero end) (long_entry kind.ENDEXTN end) ++ points_entry points ∷ []
 
     abbrev behind_width : List Entry
-    behind_width = entry_if (is_not_zero begin) (long_entry kind.bgnextn begin) ++ behind_begin
+    behind_width = entry_if (is_not_zero begin) (long_entry kind.BGNEXTN begin) ++ behind_begin
 
     abbrev behind_pathtype : List Entry
-    behind_pathtype = entry_if (is_not_zero width) (long_entry kind.width width) ++ behind_width
+    behind_pathtype = entry_if (is_not_zero width) (long_entry kind.WIDTH width) ++ behind_width
 
-    path_field : (k : ℕ) (o : Option (List ℕ)) → (kind.layer == k) ≡ false → (kind.datatype == k) ≡ false
-        → field k (entry_if (is_not_zero pathtype) (short_entry kind.pathtype pathtype) ++ behind_pathtype) ≡ o
+    path_field : (k : ℕ) (o : Option (List ℕ)) → (kind.LAYER == k) ≡ false → (kind.DATATYPE == k) ≡ false
+        → field k (entry_if (is_not_zero pathtype) (short_entry kind.PATHTYPE pathtype) ++ behind_pathtype) ≡ o
         → field k (shape_own layer datatype points (Path pathtype width begin end)) ≡ o
     path_field k o no_layer no_datatype has = ap (field k) nested ∙ rw (no_layer, no_datatype) has
 
-    past_pathtype : (k : ℕ) → (kind.pathtype == k) ≡ false
-        → field k (entry_if (is_not_zero pathtype) (short_entry kind.pathtype pathtype) ++ behind_pathtype) ≡ field k behind_pathtype
-    past_pathtype k other = past k (is_not_zero pathtype) (short_entry kind.pathtype pathtype) behind_pathtype other
+    past_pathtype : (k : ℕ) → (kind.PATHTYPE == k) ≡ false
+        → field k (entry_if (is_not_zero pathtype) (short_entry kind.PATHTYPE pathtype) ++ behind_pathtype) ≡ field k behind_pathtype
+    past_pathtype k other = past k (is_not_zero pathtype) (short_entry kind.PATHTYPE pathtype) behind_pathtype other
 
-    past_width : (k : ℕ) → (kind.width == k) ≡ false → field k behind_pathtype ≡ field k behind_width
-    past_width k other = past k (is_not_zero width) (long_entry kind.width width) behind_width other
+    past_width : (k : ℕ) → (kind.WIDTH == k) ≡ false → field k behind_pathtype ≡ field k behind_width
+    past_width k other = past k (is_not_zero width) (long_entry kind.WIDTH width) behind_width other
 
-    past_begin : (k : ℕ) → (kind.bgnextn == k) ≡ false → field k behind_width ≡ field k behind_begin
-    past_begin k other = past k (is_not_zero begin) (long_entry kind.bgnextn begin) behind_begin other
+    past_begin : (k : ℕ) → (kind.BGNEXTN == k) ≡ false → field k behind_width ≡ field k behind_begin
+    past_begin k other = past k (is_not_zero begin) (long_entry kind.BGNEXTN begin) behind_begin other
 
-    past_end : (k : ℕ) → (kind.endextn == k) ≡ false → field k behind_begin ≡ field k (points_entry points ∷ [])
-    past_end k other = past k (is_not_zero end) (long_entry kind.endextn end) (points_entry points ∷ []) other
+    past_end : (k : ℕ) → (kind.ENDEXTN == k) ≡ false → field k behind_begin ≡ field k (points_entry points ∷ [])
+    past_end k other = past k (is_not_zero end) (long_entry kind.ENDEXTN end) (points_entry points ∷ []) other
 
-    path_xy : field kind.xy (shape_own layer datatype points (Path pathtype width begin end)) ≡ Some (flat_map point_bytes points)
-    path_xy = path_field kind.xy _ refl refl (past_pathtype kind.xy refl ∙ past_width kind.xy refl ∙ past_begin kind.xy refl ∙ past_end kind.xy refl)
+    path_xy : field kind.XY (shape_own layer datatype points (Path pathtype width begin end)) ≡ Some (flat_map point_bytes points)
+    path_xy = path_field kind.XY _ refl refl (past_pathtype kind.XY refl ∙ past_width kind.XY refl ∙ past_begin kind.XY refl ∙ past_end kind.XY refl)
 
-    has_pathtype : field kind.pathtype (shape_own layer datatype points (Path pathtype width begin end)) ≡ then_some (is_not_zero pathtype) (short_entry kind.pathtype pathtype).body
+    has_pathtype : field kind.PATHTYPE (shape_own layer datatype points (Path pathtype width begin end)) ≡ then_some (is_not_zero pathtype) (short_entry kind.PATHTYPE pathtype).body
     has_pathtype =
-        path_field kind.pathtype _ refl refl
-        (found_where kind.pathtype (is_not_zero pathtype) (short_entry kind.pathtype pathtype) behind_pathtype refl
-        (past_width kind.pathtype refl ∙ past_begin kind.pathtype refl ∙ past_end kind.pathtype refl))
+        path_field kind.PATHTYPE _ refl refl
+        (found_where kind.PATHTYPE (is_not_zero pathtype) (short_entry kind.PATHTYPE pathtype) behind_pathtype refl
+        (past_width kind.PATHTYPE refl ∙ past_begin kind.PATHTYPE refl ∙ past_end kind.PATHTYPE refl))
 
-    has_width : field kind.width (shape_own layer datatype points (Path pathtype width begin end)) ≡ then_some (is_not_zero width) (long_bytes width)
+    has_width : field kind.WIDTH (shape_own layer datatype points (Path pathtype width begin end)) ≡ then_some (is_not_zero width) (long_bytes width)
     has_width =
-        path_field kind.width _ refl refl
-        (past_pathtype kind.width refl ∙ found_where kind.width (is_not_zero width) (long_entry kind.width width) behind_width refl
-        (past_begin kind.width refl ∙ past_end kind.width refl))
+        path_field kind.WIDTH _ refl refl
+        (past_pathtype kind.WIDTH refl ∙ found_where kind.WIDTH (is_not_zero width) (long_entry kind.WIDTH width) behind_width refl
+        (past_begin kind.WIDTH refl ∙ past_end kind.WIDTH refl))
 
-    has_begin : field kind.bgnextn (shape_own layer datatype points (Path pathtype width begin end)) ≡ then_some (is_not_zero begin) (long_bytes begin)
+    has_begin : field kind.BGNEXTN (shape_own layer datatype points (Path pathtype width begin end)) ≡ then_some (is_not_zero begin) (long_bytes begin)
     has_begin =
-        path_field kind.bgnextn _ refl refl
-        (past_pathtype kind.bgnextn refl ∙ past_width kind.bgnextn refl
-        ∙ found_where kind.bgnextn (is_not_zero begin) (long_entry kind.bgnextn begin) behind_begin refl (past_end kind.bgnextn refl))
+        path_field kind.BGNEXTN _ refl refl
+        (past_pathtype kind.BGNEXTN refl ∙ past_width kind.BGNEXTN refl
+        ∙ found_where kind.BGNEXTN (is_not_zero begin) (long_entry kind.BGNEXTN begin) behind_begin refl (past_end kind.BGNEXTN refl))
 
-    has_end : field kind.endextn (shape_own layer datatype points (Path pathtype width begin end)) ≡ then_some (is_not_zero end) (long_bytes end)
+    has_end : field kind.ENDEXTN (shape_own layer datatype points (Path pathtype width begin end)) ≡ then_some (is_not_zero end) (long_bytes end)
     has_end =
-        path_field kind.endextn _ refl refl
-        (past_pathtype kind.endextn refl ∙ past_width kind.endextn refl ∙ past_begin kind.endextn refl
-        ∙ found_where kind.endextn (is_not_zero end) (long_entry kind.endextn end) (points_entry points ∷ []) refl refl)
+        path_field kind.ENDEXTN _ refl refl
+        (past_pathtype kind.ENDEXTN refl ∙ past_width kind.ENDEXTN refl ∙ past_begin kind.ENDEXTN refl
+        ∙ found_where kind.ENDEXTN (is_not_zero end) (long_entry kind.ENDEXTN end) (points_entry points ∷ []) refl refl)
 
     -- they are read as they were
     path_reads : IsKind (Path pathtype width begin end) → Path pathtype width begin end ≡ path_kind (shape_own layer datatype points (Path pathtype width begin end))
@@ -117,20 +118,20 @@ module _ (layer datatype : ℕ) (points : List Point) where
         let own : List Entry = shape_own layer datatype points (Path pathtype width begin end) in
         let short : List ℕ → ℤ = λ body. cast_signed w16 (item 2 0 body) in
         let long : List ℕ → ℤ = λ body. cast_signed w32 (item 4 0 body) in
-        let a : short_of kind.pathtype own ≡ pathtype =
+        let a : short_of kind.PATHTYPE own ≡ pathtype =
         ap (λ (o : Option (List ℕ)). unwrap_or (option_map short o) (pos 0)) has_pathtype
-        ∙ number_reads_by short (short_entry kind.pathtype pathtype).body pathtype (is_not_zero pathtype) refl (short_reads pathtype fit.0) in
-        let b : long_of kind.width own ≡ width =
+        ∙ number_reads_by short (short_entry kind.PATHTYPE pathtype).body pathtype (is_not_zero pathtype) refl (short_reads pathtype fit.0) in
+        let b : long_of kind.WIDTH own ≡ width =
         ap (λ (o : Option (List ℕ)). unwrap_or (option_map long o) (pos 0)) has_width ∙ number_reads_by long (long_bytes width) width (is_not_zero width) refl (long_reads width fit.1) in
-        let c : long_of kind.bgnextn own ≡ begin =
+        let c : long_of kind.BGNEXTN own ≡ begin =
         ap (λ (o : Option (List ℕ)). unwrap_or (option_map long o) (pos 0)) has_begin ∙ number_reads_by long (long_bytes begin) begin (is_not_zero begin) refl (long_reads begin fit.2) in
-        let d : long_of kind.endextn own ≡ end =
+        let d : long_of kind.ENDEXTN own ≡ end =
         ap (λ (o : Option (List ℕ)). unwrap_or (option_map long o) (pos 0)) has_end ∙ number_reads_by long (long_bytes end) end (is_not_zero end) refl (long_reads end fit.3) in
         sym (λ i. Path (a i) (b i) (c i) (d i))
 
   -- ---- a shape's
 
-  has_xy : (shape_kind : ShapeKind) → field kind.xy (shape_own layer datatype points shape_kind) ≡ Some (flat_map point_bytes points)
+  has_xy : (shape_kind : ShapeKind) → field kind.XY (shape_own layer datatype points shape_kind) ≡ Some (flat_map point_bytes points)
   has_xy Boundary = refl
   has_xy BoxElement = refl
   has_xy (Path pathtype width begin end) = path_xy pathtype width begin end
@@ -171,11 +172,11 @@ module _ (layer datatype : ℕ) (points : List Point) where
       let own : List Entry = shape_own layer datatype points (Path pathtype width begin end) in
       let same = sym (points_are (Path pathtype width begin end) fit) in
       All-from_recursion (ElementHolds own) (element_checks path_form) (
-        has_found kind.layer own _ refl,
+        has_found kind.LAYER own _ refl,
         (
-          has_found kind.datatype own _ refl,
+          has_found kind.DATATYPE own _ refl,
           (
-            has_found kind.xy own _ (path_xy pathtype width begin end),
+            has_found kind.XY own _ (path_xy pathtype width begin end),
             (subst (λ (ps : List Point). 1 ≤ length ps) same some, tt),
           ),
         ),

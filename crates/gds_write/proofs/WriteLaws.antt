@@ -5,8 +5,8 @@ use Rattle.std.proofs.lemmas.List.{append-nil, take_all, take_more}
 use Rattle.std.proofs.lemmas.Grind.{flat_map-append}
 use Rattle.byteorder.specs.Endian.{big_bytes}
 use Rattle.geo_core.specs.declared.plane.Point.{Point}
-use Rattle.gds_records.specs.Forms as form
-use Rattle.gds_records.specs.Kinds as kind
+use Rattle.gds_records.specs.declared.forms.TheConstants as form
+use Rattle.gds_records.specs.declared.kinds.TheConstants as kind
 use Rattle.gds_records.specs.Spelling.{Entry, spelling, spellings}
 use Rattle.gds_write.specs.Bodies.{point_bytes, points_entry}
 use Rattle.gds_write.proofs.ProfileLaws.{length-points}
@@ -39,7 +39,7 @@ point_written points i d old now new more before one =
 
 -- all points are written, behind the head of their record
 pub points_written : (points : List Point) (i size : ℕ) (old now new : List ℕ) → length points ≤ i → size ≡ 8 * length points
-    → now ≡ old ++ big_bytes 2 (size + 4) ++ kind.xy ∷ form.four_byte_numbers ∷ [] → new ≡ now ++ flat_map point_bytes (take i points)
+    → now ≡ old ++ big_bytes 2 (size + 4) ++ kind.XY ∷ form.FOUR_BYTE_NUMBERS ∷ [] → new ≡ now ++ flat_map point_bytes (take i points)
     → new ≡ old ++ spelling (points_entry points)
 points_written points i size old now new all is_size head body =
     let whole : take i points ≡ points = take_all i points all in

@@ -3,13 +3,13 @@ use Rattle.std.proofs.Common.{◌≢◌, [], ◌++◌, refl, sym, arith}
 use Rattle.std.specs.List.{flat_map}
 use Rattle.std.proofs.lemmas.List.{append-nil}
 use Rattle.first_refusal.specs.Outcomes.{value}
-use Rattle.gds_records.specs.Kinds as kind
+use Rattle.gds_records.specs.declared.kinds.TheConstants as kind
 use Rattle.gds_records.specs.Spelling.{IsNoEndlib, spellings}
 use Rattle.gds_records.specs.Split.{whole, Splits}
-use Rattle.gds_syntax.specs.FirstFault.{BytesComeTo, are_library}
-use Rattle.gds_syntax.specs.declared.element.Element.{Element}
-use Rattle.gds_syntax.specs.declared.library.Library.{Library}
-use Rattle.gds_syntax.specs.declared.library.Structure.{Structure}
+use Rattle.library_grammar.specs.FirstFault.{BytesComeTo, are_library}
+use Rattle.library_model.specs.declared.element.Element.{Element}
+use Rattle.library_model.specs.declared.library.Library.{Library}
+use Rattle.library_model.specs.declared.library.Structure.{Structure}
 use Rattle.gds_write.specs.Bodies.{bare}
 use Rattle.gds_write.specs.SameLibrary.{IsSameButOffsets}
 use Rattle.gds_write.specs.WellFormed.{IsWritableElement, IsWritableStructure, IsWellFormed}
@@ -22,7 +22,7 @@ use Rattle.gds_write.proofs.ReadLaws.{library_read, same_library, library_is_rea
 
 element_goes_on : (element : Element) → IsWritableElement element → Every IsNoEndlib (written_element element)
 element_goes_on element writable =
-    both (each_front element (element_reads element writable) (λ k. k ≢ kind.endlib) opening_ends_no_library own_ends_no_library) (one (λ same. absurd (omega arith)))
+    both (each_front element (element_reads element writable) (λ k. k ≢ kind.ENDLIB) opening_ends_no_library own_ends_no_library) (one (λ same. absurd (omega arith)))
 
 structure_goes_on : (structure : Structure) → IsWritableStructure structure → Every IsNoEndlib (written_structure structure)
 structure_goes_on structure writable =
@@ -42,7 +42,7 @@ splits library well_formed =
       each = all_of (library_taken library well_formed);
       ends = record {
         before = written_head library ++ flat_map written_structure library.structures;
-        last = bare kind.endlib;
+        last = bare kind.ENDLIB;
         parts = refl;
         none_before = all_of (before_end library well_formed);
         is_endlib = refl;

@@ -5,8 +5,8 @@ use Rattle.std.specs.List.{flat_map}
 use Rattle.std.specs.Ordering.{int_eq}
 use Rattle.byteorder.specs.Endian.{big_bytes}
 use Rattle.geo_core.specs.declared.plane.Point.{Point}
-use Rattle.gds_records.specs.Forms as form
-use Rattle.gds_records.specs.Kinds as kind
+use Rattle.gds_records.specs.declared.forms.TheConstants as form
+use Rattle.gds_records.specs.declared.kinds.TheConstants as kind
 use Rattle.gds_records.specs.Spelling.{Entry}
 
 -- the record of this kind, whose data has this form
@@ -15,7 +15,7 @@ entry k f body = record { kind = k; form = f; body = body }
 
 -- a record without data
 abbrev pub bare : ℕ → Entry
-bare k = entry k form.no_data []
+bare k = entry k form.NO_DATA []
 
 -- a text, which gets a zero byte where its length is odd
 abbrev pub padded : List ℕ → List ℕ
@@ -23,11 +23,11 @@ padded text = if length text % 2 == 0 then text else text ++ 0 ∷ []
 
 -- a record of a text
 abbrev pub text_entry : ℕ → List ℕ → Entry
-text_entry k text = entry k form.text (padded text)
+text_entry k text = entry k form.TEXT (padded text)
 
 -- a record of one number of two bytes, without sign
 abbrev pub unsigned_entry : ℕ → ℕ → Entry
-unsigned_entry k n = entry k form.two_byte_numbers (big_bytes 2 n)
+unsigned_entry k n = entry k form.TWO_BYTE_NUMBERS (big_bytes 2 n)
 
 -- the same with sign
 abbrev pub short_entry : ℕ → ℤ → Entry
@@ -39,11 +39,11 @@ long_bytes z = big_bytes 4 (cast_unsigned w32 z)
 
 -- a record of one such number
 abbrev pub long_entry : ℕ → ℤ → Entry
-long_entry k z = entry k form.four_byte_numbers (long_bytes z)
+long_entry k z = entry k form.FOUR_BYTE_NUMBERS (long_bytes z)
 
 -- the date of a library or a structure: twelve numbers that are 0
 abbrev pub date_entry : ℕ → Entry
-date_entry k = entry k form.two_byte_numbers (replicate 24 0)
+date_entry k = entry k form.TWO_BYTE_NUMBERS (replicate 24 0)
 
 -- a point: how far across and how far up
 abbrev pub point_bytes : Point → List ℕ
@@ -51,11 +51,11 @@ point_bytes p = long_bytes p.x ++ long_bytes p.y
 
 -- the record of an element's points
 abbrev pub points_entry : List Point → Entry
-points_entry points = entry kind.xy form.four_byte_numbers (flat_map point_bytes points)
+points_entry points = entry kind.XY form.FOUR_BYTE_NUMBERS (flat_map point_bytes points)
 
 -- the record of how many columns and rows an array has
 abbrev pub counts_entry : ℕ → ℕ → Entry
-counts_entry columns rows = entry kind.colrow form.two_byte_numbers (big_bytes 2 columns ++ big_bytes 2 rows)
+counts_entry columns rows = entry kind.COLROW form.TWO_BYTE_NUMBERS (big_bytes 2 columns ++ big_bytes 2 rows)
 
 -- the record where it is to be written, or none
 abbrev pub entry_if : Bool → Entry → List Entry

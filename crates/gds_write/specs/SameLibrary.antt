@@ -1,12 +1,12 @@
 -- Libraries that are the same, but for the offsets at which their parts begin.
 use Rattle.std.specs.Prelude.{◌≡◌}
 use Rattle.std.specs.List.{AllZip}
-use Rattle.gds_syntax.specs.declared.element.Element.{Element}
-use Rattle.gds_syntax.specs.declared.element.Element.TheVariants.{Shape as shape_element, Reference as reference_element}
-use Rattle.gds_syntax.specs.declared.element.Reference.{Reference}
-use Rattle.gds_syntax.specs.declared.element.Shape.{Shape}
-use Rattle.gds_syntax.specs.declared.library.Library.{Library}
-use Rattle.gds_syntax.specs.declared.library.Structure.{Structure}
+use Rattle.library_model.specs.declared.element.Element.{Element}
+use Rattle.library_model.specs.declared.element.Element.TheVariants.{Shape as shape_element, Reference as reference_element}
+use Rattle.library_model.specs.declared.element.Reference.{Reference}
+use Rattle.library_model.specs.declared.element.Shape.{Shape}
+use Rattle.library_model.specs.declared.library.Library.{Library}
+use Rattle.library_model.specs.declared.library.Structure.{Structure}
 
 -- two shapes
 pub record IsSameShape (one other : Shape) : Type 0 where

@@ -1,14 +1,15 @@
 -- Which libraries can be written so that their bytes read back.
 use Rattle.std.specs.Prelude.{◌≢◌, ℕ, ◌≤◌, List, [], ◌∷◌, ◌++◌, length, All, IfSome}
-use Rattle.gds_syntax.specs.Names.{NamesDiffer, names_of}
-use Rattle.gds_syntax.specs.Points.{HasItsPoints}
-use Rattle.gds_syntax.specs.Ranges.{ArePoints}
-use Rattle.gds_syntax.specs.declared.element.Element.{Element}
-use Rattle.gds_syntax.specs.declared.element.Element.TheVariants.{Shape as shape_element, Reference as reference_element}
-use Rattle.gds_syntax.specs.declared.element.Reference.{Reference}
-use Rattle.gds_syntax.specs.declared.element.Shape.{Shape}
-use Rattle.gds_syntax.specs.declared.library.Library.{Library}
-use Rattle.gds_syntax.specs.declared.library.Structure.{Structure}
+use Rattle.lists.specs.Differing.{AreDifferent}
+use Rattle.library_model.specs.Names.{names_of}
+use Rattle.library_model.specs.Points.{HasItsPoints}
+use Rattle.library_model.specs.Ranges.{ArePoints}
+use Rattle.library_model.specs.declared.element.Element.{Element}
+use Rattle.library_model.specs.declared.element.Element.TheVariants.{Shape as shape_element, Reference as reference_element}
+use Rattle.library_model.specs.declared.element.Reference.{Reference}
+use Rattle.library_model.specs.declared.element.Shape.{Shape}
+use Rattle.library_model.specs.declared.library.Library.{Library}
+use Rattle.library_model.specs.declared.library.Structure.{Structure}
 use Rattle.gds_write.specs.Written.{array_points}
 
 -- the name has at most 65,530 bytes, of which the last is not zero
@@ -40,5 +41,5 @@ pub record IsWritableStructure (structure : Structure) : Type 0 where
 -- the library's name and its structures can be written, and no two structures have one name
 pub record IsWellFormed (library : Library) : Type 0 where
   pub name : IsWritableName library.name
-  pub differ : NamesDiffer (names_of library.structures)
+  pub differ : AreDifferent (names_of library.structures)
   pub structures : All IsWritableStructure library.structures

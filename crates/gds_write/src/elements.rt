@@ -3,7 +3,7 @@
 ghost use Rattle.std.specs.Prelude.{◌≡◌, ◌++◌, ◌≤◌, ◌<◌, ◌^◌, ◌+ℤ◌, ◌*ℤ◌, FitsSigned, IfOk, IfSome, nat_abs, pos};
 ghost use Rattle.std.specs.Int.{w32};
 ghost use Rattle.gds_records.specs.Spelling.{spellings};
-ghost use Rattle.gds_syntax.specs.Ranges.{ArePoints, IsKind, IsPoint, IsStep};
+ghost use Rattle.library_model.specs.Ranges.{ArePoints, IsKind, IsPoint, IsStep};
 ghost use Rattle.gds_write.specs.WellFormed.{IsWritableElement, IsWritableReference, IsWritableShape};
 ghost use Rattle.gds_write.specs.Written as written;
 ghost use Rattle.gds_write.specs.Written.{
@@ -24,8 +24,8 @@ use super::bodies::{
 use byteorder::{BigEndian, ByteOrder};
 use gds_records::forms::{BITS, EIGHT_BYTE_REALS};
 use gds_records::kinds;
-use gds_syntax::{Element, Lattice, Reference, Shape, ShapeKind};
 use geo_core::{NoMemory, Point, Turn};
+use library_model::{Element, Lattice, Reference, Shape, ShapeKind};
 
 /// STRANS of a turn that mirrors.
 const MIRRORED: u16 = 0x8000;

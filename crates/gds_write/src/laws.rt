@@ -3,10 +3,8 @@
 ghost use Rattle.std.specs.Prelude.{ℕ, List};
 ghost use Rattle.first_refusal.specs.Outcomes.{value};
 ghost use Rattle.gds_records.specs.Spelling.{spellings};
-ghost use Rattle.gds_syntax.specs.FirstFault.{BytesComeTo};
-ghost use Rattle.gds_syntax.specs.Names.{NamesDiffer, names_of};
-ghost use Rattle.gds_syntax.specs.Points.{AreWellPointed};
-ghost use Rattle.gds_syntax.specs.declared.library.Library.{Library};
+ghost use Rattle.library_grammar.specs.FirstFault.{BytesComeTo};
+ghost use Rattle.library_model.specs.declared.library.Library.{Library};
 ghost use Rattle.gds_write.specs.SameLibrary.{IsSameButOffsets};
 ghost use Rattle.gds_write.specs.WellFormed.{IsWellFormed};
 ghost use Rattle.gds_write.specs.Written.{written};
@@ -17,9 +15,7 @@ pub fn written_reads()
         (read : Library) × IsSameButOffsets library read × BytesComeTo (spellings (written library)) (value read) }
 {}
 
-/// A library that bytes come to is well formed, so that it can be written: its names differ and its shapes have their points, as
-/// `gds_syntax::read_library` tells of each library that it gives.
+/// A library that bytes come to is well formed, so that it can be written.
 pub fn read_is_well_formed()
-    ensures { (bytes : List ℕ) (library : Library) → BytesComeTo bytes (value library) → NamesDiffer (names_of library.structures) →
-        AreWellPointed library.structures → IsWellFormed library }
+    ensures { (bytes : List ℕ) (library : Library) → BytesComeTo bytes (value library) → IsWellFormed library }
 {}

@@ -140,7 +140,8 @@ rows_in a b inside y h =
 pub all_in : (a b : Rect) → IsPartOf a.x0 a.x1 b.x0 b.x1 → IsPartOf a.y0 a.y1 b.y0 b.y1 → AllIn a b
 all_in a b across up c h = record { across = across c.i h.across; up = up c.j h.up }
 
-join_at : {a0 a1 b0 b1 low high : ℤ} (a0' a1' b0' b1' low' high' : ℤ) → a0' ≡ a0 → a1' ≡ a1 → b0' ≡ b0 → b1' ≡ b1 → low' ≡ low → high' ≡ high → IsIntervalJoin a0 a1 b0 b1 low high → IsIntervalJoin a0' a1' b0' b1' low' high'
+join_at : {a0 a1 b0 b1 low high : ℤ} (a0' a1' b0' b1' low' high' : ℤ) → a0' ≡ a0 → a1' ≡ a1 → b0' ≡ b0 → b1' ≡ b1 → low' ≡ low → high' ≡ high → IsIntervalJoin a0 a1 b0 b1 low high
+    → IsIntervalJoin a0' a1' b0' b1' low' high'
 join_at a0' a1' b0' b1' low' high' p q r s t u j = rw (p, q, r, s, t, u) j
 
 joined_sides : {a b r : Rect} → IsIntervalJoin a.x0 a.x1 b.x0 b.x1 r.x0 r.x1 → IsIntervalJoin a.y0 a.y1 b.y0 b.y1 r.y0 r.y1 → IsJoin a b r
@@ -155,7 +156,8 @@ joined_sides {a} {b} {r} across up = record {
 -- one that has the joined columns and the joined rows
 pub joined : {a b r : Rect} {a_columns a_rows b_columns b_rows columns rows : Interval} → HasSides a a_columns a_rows → HasSides b b_columns b_rows → HasSides r columns rows
     → IsIntervalJoin a_columns.low a_columns.high b_columns.low b_columns.high columns.low columns.high → IsIntervalJoin a_rows.low a_rows.high b_rows.low b_rows.high rows.low rows.high → IsJoin a b r
-joined {a} {b} {r} s t u across_axis up_axis = joined_sides (join_at a.x0 a.x1 b.x0 b.x1 r.x0 r.x1 s.left s.right t.left t.right u.left u.right across_axis) (join_at a.y0 a.y1 b.y0 b.y1 r.y0 r.y1 s.bottom s.top t.bottom t.top u.bottom u.top up_axis)
+joined {a} {b} {r} s t u across_axis up_axis = joined_sides (join_at a.x0 a.x1 b.x0 b.x1 r.x0 r.x1 s.left s.right t.left t.right u.left u.right across_axis)
+    (join_at a.y0 a.y1 b.y0 b.y1 r.y0 r.y1 s.bottom s.top t.bottom t.top u.bottom u.top up_axis)
 
 -- the whole of what a layout may cover
 abbrev layout_rect : Rect

@@ -1,5 +1,6 @@
 ghost use Rattle.std.specs.Prelude.{pos, negsuc, ◌≡◌, ◌-◌, ◌≤ℤ◌, ◌<ℤ◌, ◌^◌};
-ghost use Rattle.geo_core.specs.Turns.{PlanePoint, image_under};
+ghost use Rattle.geo_core.specs.Turns.{image_under};
+ghost use Rattle.geo_core.specs.declared.plane.Point.{Point as PlanePoint};
 
 use super::plane::Turn;
 

@@ -13,11 +13,11 @@ mod flood_rows;
 #[cfg(test)]
 mod island_rows;
 #[cfg(test)]
-mod lists;
-#[cfg(test)]
 mod many_squares;
 #[cfg(test)]
 mod net_rows;
+#[cfg(test)]
+mod rect_lists;
 #[cfg(test)]
 mod rects;
 #[cfg(test)]

@@ -6,15 +6,15 @@ use Rattle.std.proofs.lemmas.Option.{slice_get_within}
 use Rattle.geo_core.specs.Cells.{Touch, ShareEdge}
 use Rattle.geo_core.specs.declared.plane.Cell.{Cell}
 use Rattle.geo_core.specs.declared.plane.Rect.{Rect}
-use Rattle.fault_model.specs.Chains.{TouchAt, AreChained, IsLabelling}
+use Rattle.fault_model.specs.RectChains.{TouchAt, AreChained, IsLabelling}
 use Rattle.fault_model.proofs.ChainLaws.{chain_from_walk, walk_from_chain, TouchAt-sym}
 use Rattle.paths.proofs.PathLaws.{retold}
-use Rattle.paths.proofs.ListLaws.{equal_or_not}
 use Rattle.classes.specs.Classes.{AreBelow, IsPair, AreJoined, IsClasses}
-use Rattle.classes.specs.Laws.{EqualWhereJoined}
+use Rattle.classes.specs.ClassConsequences.{EqualWhereJoined}
 use Rattle.islands.specs.Islands.{LabelsAreIslands}
 use Rattle.std.specs.Prelude.{Contains, ◌↔◌}
 use Rattle.touch_sweep.specs.Touching.{AreTouching}
+use Rattle.lists.proofs.Comparing.{equal_or_not}
 
 -- exactly the touching pairs, the lesser number first
 abbrev pub TellTouching : List Rect → List (ℕ × ℕ) → Type 0

@@ -2,7 +2,8 @@
 use Rattle.std.specs.Prelude.{ℕ, List, Some, slice_get, ◌≡◌, ◌↔◌}
 use Rattle.geo_core.specs.declared.plane.Half.{Half}
 use Rattle.geo_core.specs.declared.plane.Rect.{Rect}
-use Rattle.fault_model.specs.Chains.{IsInUnion, IsAt}
+use Rattle.fault_model.specs.RectChains.{IsAt}
+use Rattle.geo_core.specs.Unions.{IsInUnion}
 use Rattle.fault_model.specs.Walks.{IsSameIsland}
 
 -- half squares in two of the rectangles are of one island exactly where the labels of the two are the same; islands are

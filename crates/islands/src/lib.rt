@@ -2,7 +2,7 @@
 #![tactic(auto)]
 
 ghost use Rattle.std.specs.Prelude.{IfOk};
-ghost use Rattle.fault_model.specs.Chains.{IsLabelling};
+ghost use Rattle.fault_model.specs.RectChains.{IsLabelling};
 ghost use Rattle.islands.specs.Islands.{LabelsAreIslands};
 
 use classes::classes;

@@ -4,7 +4,8 @@ use Rattle.std.specs.Int.Signed.{lt_z, le_z}
 use Rattle.std.proofs.lemmas.Int.{ints, to_z-of_z}
 use Rattle.std.proofs.lemmas.Option.{same_Some}
 use Rattle.toml.specs.Data.{Data, integer, as_integer}
-use Rattle.layer_map.specs.Readers.{Finds, finds, lacks, IsCellNumberIn, IsCellNumberThere}
+use Rattle.layer_map.specs.inside.ReadValues.{Finds, finds, lacks}
+use Rattle.layer_map.specs.inside.ReadTerminals.{IsCellNumberIn, IsCellNumberThere}
 use Rattle.layer_map.specs.TerminalChecks.{IsCellNumber}
 use Rattle.layer_map.proofs.ValueLaws.{integer_is}
 

@@ -9,16 +9,16 @@ use Rattle.toml.specs.Data.{Data, string, table, Members, get_member}
 use Rattle.layer_map.specs.CutChecks.{CutHolds, cut_fault, end_checks, ends_differ, of_lower, of_upper}
 use Rattle.layer_map.specs.Documents.{NamesMetal}
 use Rattle.layer_map.specs.ItemChecks.{ReferenceHolds, reference_checks, reference_fault}
-use Rattle.layer_map.specs.LayerMap.{MappedLayer}
-use Rattle.layer_map.specs.Layers.{metal_layer, names_of}
-use Rattle.layer_map.specs.Lists.{AreDifferent}
-use Rattle.layer_map.specs.Paths.{lower_at, upper_at}
-use Rattle.layer_map.specs.Readers.{TakesEnds}
+use Rattle.map_model.specs.LayerMap.{MappedLayer}
+use Rattle.map_model.specs.Layers.{metal_layer, names_of}
+use Rattle.lists.specs.Differing.{AreDifferent}
+use Rattle.layer_map.specs.DocumentPaths.{lower_at, upper_at}
+use Rattle.layer_map.specs.inside.ReadCuts.{TakesEnds}
 use Rattle.layer_map.specs.Values.{lower_of_item, upper_of_item}
 use Rattle.layer_map.specs.declared.fault.MapFault.{MapFault}
-use Rattle.layer_map.specs.declared.fault.MapFault.TheVariants.{BadValue}
-use Rattle.layer_map.specs.declared.layers.Metal.{Metal}
-use Rattle.layer_map.proofs.CheckedLaws.{Judges, fails_first, goes_on, passed, passes, renamed, stops}
+use Rattle.layer_map.specs.declared.fault.MapFault.TheVariants.{BadValue, Memory}
+use Rattle.map_model.specs.declared.layers.Metal.{Metal}
+use Rattle.first_refusal.proofs.JudgeLaws.{Judges, fails_first, goes_on, passed, passes, renamed, stops}
 
 -- where the names of metals differ, what stands there names one metal
 pub one_metal_named : (metals : List MappedLayer) (there : Option Data) (one other : ℕ) → AreDifferent (names_of metals) → NamesMetal metals there one → NamesMetal metals there other → one ≡ other
@@ -53,53 +53,69 @@ module _ (items earlier : List Data) (item : Data) (path : ℕ) (members : Membe
   upper_is = sym (ap upper_of_item told)
 
   module _ {T : Type 0} (Is : T → Type 0) (result : Result T MapFault) where
-    lower_stage : Judges (ReferenceHolds items (get_member (codes "lower") members)) reference_checks (reference_fault (lower_at path)) Is result → Judges (CutHolds items earlier item) (map of_lower reference_checks) (cut_fault path) Is result
+    lower_stage : Judges Memory (ReferenceHolds items (get_member (codes "lower") members)) reference_checks (reference_fault (lower_at path)) Is result
+        → Judges Memory (CutHolds items earlier item) (map of_lower reference_checks) (cut_fault path) Is result
     lower_stage h = renamed (ReferenceHolds items (get_member (codes "lower") members)) (CutHolds items earlier item) (reference_fault (lower_at path)) (cut_fault path) of_lower
-        (λ check holds. subst (λ (there : Option Data). ReferenceHolds items there check) lower_is holds) (λ check holds. subst (λ (there : Option Data). ReferenceHolds items there check) (sym lower_is) holds) (λ check. refl) Is reference_checks result h
+        (λ check holds. subst (λ (there : Option Data). ReferenceHolds items there check) lower_is holds)
+        (λ check holds. subst (λ (there : Option Data). ReferenceHolds items there check) (sym lower_is) holds) (λ check. refl) Is reference_checks result h
 
-    upper_stage : Judges (ReferenceHolds items (get_member (codes "upper") members)) reference_checks (reference_fault (upper_at path)) Is result → Judges (CutHolds items earlier item) (map of_upper reference_checks) (cut_fault path) Is result
+    upper_stage : Judges Memory (ReferenceHolds items (get_member (codes "upper") members)) reference_checks (reference_fault (upper_at path)) Is result
+        → Judges Memory (CutHolds items earlier item) (map of_upper reference_checks) (cut_fault path) Is result
     upper_stage h = renamed (ReferenceHolds items (get_member (codes "upper") members)) (CutHolds items earlier item) (reference_fault (upper_at path)) (cut_fault path) of_upper
-        (λ check holds. subst (λ (there : Option Data). ReferenceHolds items there check) upper_is holds) (λ check holds. subst (λ (there : Option Data). ReferenceHolds items there check) (sym upper_is) holds) (λ check. refl) Is reference_checks result h
+        (λ check holds. subst (λ (there : Option Data). ReferenceHolds items there check) upper_is holds)
+        (λ check holds. subst (λ (there : Option Data). ReferenceHolds items there check) (sym upper_is) holds) (λ check. refl) Is reference_checks result h
 
   module _ {U : Type 0} (Js : U → Type 0) where
-    pub lower_stops : {T : Type 0} (Is : T → Type 0) (fault : MapFault) → Judges (ReferenceHolds items (get_member (codes "lower") members)) reference_checks (reference_fault (lower_at path)) Is (Err fault) → Judges (CutHolds items earlier item) end_checks (cut_fault path) Js (Err fault)
-    lower_stops Is fault h = stops (CutHolds items earlier item) (cut_fault path) Is Js (map of_lower reference_checks) (map of_upper reference_checks ++ ends_differ ∷ []) fault (lower_stage Is (Err fault) h)
+    pub lower_stops : {T : Type 0} (Is : T → Type 0) (fault : MapFault) → Judges Memory (ReferenceHolds items (get_member (codes "lower") members)) reference_checks (reference_fault (lower_at path))
+        Is (Err fault) → Judges Memory (CutHolds items earlier item) end_checks (cut_fault path) Js (Err fault)
+    lower_stops Is fault h = stops (CutHolds items earlier item) (cut_fault path) Is Js (map of_lower reference_checks) (map of_upper reference_checks ++ ends_differ ∷ []) fault
+        (lower_stage Is (Err fault) h)
 
-    module _ {T : Type 0} (Is : T → Type 0) (lower : T) (lower_told : Judges (ReferenceHolds items (get_member (codes "lower") members)) reference_checks (reference_fault (lower_at path)) Is (Ok lower)) where
+    module _ {T : Type 0} (Is : T → Type 0) (lower : T) (lower_told : Judges Memory (ReferenceHolds items (get_member (codes "lower") members)) reference_checks (reference_fault (lower_at path)) Is
+        (Ok lower)) where
       lower_holds : All (CutHolds items earlier item) (map of_lower reference_checks)
-      lower_holds = passed (CutHolds items earlier item) (cut_fault path) Is (map of_lower reference_checks) lower (lower_stage Is (Ok lower) lower_told)
+      lower_holds = passed (lower_stage Is (Ok lower) lower_told)
 
-      pub upper_stops : {V : Type 0} (Ks : V → Type 0) (fault : MapFault) → Judges (ReferenceHolds items (get_member (codes "upper") members)) reference_checks (reference_fault (upper_at path)) Ks (Err fault) → Judges (CutHolds items earlier item) end_checks (cut_fault path) Js (Err fault)
+      pub upper_stops : {V : Type 0} (Ks : V → Type 0) (fault : MapFault) → Judges Memory (ReferenceHolds items (get_member (codes "upper") members)) reference_checks (reference_fault (upper_at path))
+          Ks (Err fault) → Judges Memory (CutHolds items earlier item) end_checks (cut_fault path) Js (Err fault)
       upper_stops Ks fault h =
           goes_on (CutHolds items earlier item) (cut_fault path) Js (map of_lower reference_checks) (map of_upper reference_checks ++ ends_differ ∷ []) (Err fault) lower_holds
           (stops (CutHolds items earlier item) (cut_fault path) Ks Js (map of_upper reference_checks) (ends_differ ∷ []) fault (upper_stage Ks (Err fault) h))
 
-      module _ {V : Type 0} (Ks : V → Type 0) (upper : V) (upper_told : Judges (ReferenceHolds items (get_member (codes "upper") members)) reference_checks (reference_fault (upper_at path)) Ks (Ok upper)) where
+      module _ {V : Type 0} (Ks : V → Type 0) (upper : V) (upper_told : Judges Memory (ReferenceHolds items (get_member (codes "upper") members)) reference_checks (reference_fault (upper_at path)) Ks
+          (Ok upper)) where
         upper_holds : All (CutHolds items earlier item) (map of_upper reference_checks)
-        upper_holds = passed (CutHolds items earlier item) (cut_fault path) Ks (map of_upper reference_checks) upper (upper_stage Ks (Ok upper) upper_told)
+        upper_holds = passed (upper_stage Ks (Ok upper) upper_told)
 
-        last_decides : (result : Result U MapFault) → Judges (CutHolds items earlier item) (ends_differ ∷ []) (cut_fault path) Js result → Judges (CutHolds items earlier item) end_checks (cut_fault path) Js result
+        last_decides : (result : Result U MapFault) → Judges Memory (CutHolds items earlier item) (ends_differ ∷ []) (cut_fault path) Js result
+            → Judges Memory (CutHolds items earlier item) end_checks (cut_fault path) Js result
         last_decides result h =
             goes_on (CutHolds items earlier item) (cut_fault path) Js (map of_lower reference_checks) (map of_upper reference_checks ++ ends_differ ∷ []) result lower_holds
             (goes_on (CutHolds items earlier item) (cut_fault path) Js (map of_upper reference_checks) (ends_differ ∷ []) result upper_holds h)
 
-        pub same_ends : (upper_of_item item ≡ lower_of_item item) → Judges (CutHolds items earlier item) end_checks (cut_fault path) Js (Err (BadValue (upper_at path)))
+        pub same_ends : (upper_of_item item ≡ lower_of_item item) → Judges Memory (CutHolds items earlier item) end_checks (cut_fault path) Js (Err (BadValue (upper_at path)))
         same_ends same = last_decides _ (fails_first (CutHolds items earlier item) (cut_fault path) Js ends_differ [] (λ differ. differ same))
 
-        pub other_ends : (thing : U) → (upper_of_item item ≢ lower_of_item item) → Js thing → Judges (CutHolds items earlier item) end_checks (cut_fault path) Js (Ok thing)
-        other_ends thing differ is = last_decides (Ok thing) (passes (CutHolds items earlier item) (cut_fault path) Js (ends_differ ∷ []) thing (All-from_recursion (CutHolds items earlier item) (ends_differ ∷ []) (differ, tt)) is)
+        pub other_ends : (thing : U) → (upper_of_item item ≢ lower_of_item item) → Js thing → Judges Memory (CutHolds items earlier item) end_checks (cut_fault path) Js (Ok thing)
+        other_ends thing differ is = last_decides (Ok thing) (passes (CutHolds items earlier item) (cut_fault path) Js (ends_differ ∷ []) thing
+            (All-from_recursion (CutHolds items earlier item) (ends_differ ∷ []) (differ, tt)) is)
 
   -- what the two references name, at the item
-  module _ (metals : List Metal) (differ : AreDifferent (map (λ metal. metal.name) metals)) (lower upper : ℕ) (lower_names : NamesMetal (map metal_layer metals) (get_member (codes "lower") members) lower) (upper_names : NamesMetal (map metal_layer metals) (get_member (codes "upper") members) upper) where
-    pub takes_ends : TakesEnds metals item (lower, upper)
-    takes_ends = record { lower = subst (λ (there : Option Data). NamesMetal (map metal_layer metals) there lower) lower_is lower_names; upper = subst (λ (there : Option Data). NamesMetal (map metal_layer metals) there upper) upper_is upper_names }
+  module _ (metals : List Metal) (differ : AreDifferent (map (λ metal. metal.name) metals)) (lower upper : ℕ)
+      (lower_names : NamesMetal (map metal_layer metals) (get_member (codes "lower") members) lower) (upper_names : NamesMetal (map metal_layer metals) (get_member (codes "upper") members) upper)
+    where
+      pub takes_ends : TakesEnds metals item (lower, upper)
+      takes_ends = record {
+        lower = subst (λ (there : Option Data). NamesMetal (map metal_layer metals) there lower) lower_is lower_names;
+        upper = subst (λ (there : Option Data). NamesMetal (map metal_layer metals) there upper) upper_is upper_names;
+      }
 
-    pub one_end : lower ≡ upper → upper_of_item item ≡ lower_of_item item
-    one_end same =
-        let same_metal : lower_names.metal ≡ upper_names.metal = same_Some _ _ (sym lower_names.numbered ∙ ap (slice_get (map metal_layer metals)) same ∙ upper_names.numbered) in
-        sym upper_is ∙ upper_names.named ∙ ap (λ (m : MappedLayer). Some (string m.name)) (sym same_metal) ∙ sym lower_names.named ∙ lower_is
+      pub one_end : lower ≡ upper → upper_of_item item ≡ lower_of_item item
+      one_end same =
+          let same_metal : lower_names.metal ≡ upper_names.metal = same_Some _ _ (sym lower_names.numbered ∙ ap (slice_get (map metal_layer metals)) same ∙ upper_names.numbered) in
+          sym upper_is ∙ upper_names.named ∙ ap (λ (m : MappedLayer). Some (string m.name)) (sym same_metal) ∙ sym lower_names.named ∙ lower_is
 
-    pub two_ends : (lower ≡ upper → ⊥) → upper_of_item item ≢ lower_of_item item
-    two_ends not same = not (one_metal_named (map metal_layer metals) (upper_of_item item) lower upper (subst AreDifferent (sym (names_fuse metals)) differ)
-        (subst (λ (there : Option Data). NamesMetal (map metal_layer metals) there lower) (lower_is ∙ sym same) lower_names)
-        (subst (λ (there : Option Data). NamesMetal (map metal_layer metals) there upper) upper_is upper_names))
+      pub two_ends : (lower ≡ upper → ⊥) → upper_of_item item ≢ lower_of_item item
+      two_ends not same = not (one_metal_named (map metal_layer metals) (upper_of_item item) lower upper (subst AreDifferent (sym (names_fuse metals)) differ)
+          (subst (λ (there : Option Data). NamesMetal (map metal_layer metals) there lower) (lower_is ∙ sym same) lower_names)
+          (subst (λ (there : Option Data). NamesMetal (map metal_layer metals) there upper) upper_is upper_names))

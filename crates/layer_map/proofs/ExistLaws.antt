@@ -3,7 +3,6 @@ use Rattle.std.proofs.Common.{◌≡◌, ℕ, zero, suc, ◌+◌, ◌<◌, List,
 use Rattle.std.specs.Prelude.{All, Contains, flat_map, slice_get}
 use Rattle.std.specs.List.{AllZip, range_with_len}
 use Rattle.std.proofs.lemmas.List.{get_or-map, length-map, get_or-take, length-take-le}
-use Rattle.std.proofs.lemmas.List.Elements.{All-head, All-nil, All-tail, All-cons}
 use Rattle.std.proofs.lemmas.Option.{slice_get-get_or, slice_get_within}
 use Rattle.geo_core.specs.declared.plane.Cell.{Cell}
 use Rattle.first_refusal.specs.Laws.{CannotLack}
@@ -13,33 +12,28 @@ use Rattle.toml.specs.Data.{Data, Members}
 use Rattle.layer_map.specs.CutChecks.{cut_checks}
 use Rattle.layer_map.specs.Documents.{DocumentComesTo, GivesCut, GivesLayer, GivesMap, GivesTerminal, IsDocument, MapComesTo, NamesMetal}
 use Rattle.layer_map.specs.LayerChecks.{layer_checks}
-use Rattle.layer_map.specs.LayerMap.{LayerMap, MappedCut, MappedLayer}
-use Rattle.layer_map.specs.Layers.{names_of}
-use Rattle.layer_map.specs.Lists.{AreDifferent}
+use Rattle.map_model.specs.LayerMap.{LayerMap, MappedCut, MappedLayer}
+use Rattle.map_model.specs.Layers.{names_of}
+use Rattle.lists.specs.Differing.{AreDifferent}
 use Rattle.layer_map.specs.MapChecks.{Holds, checks_of, checks_of_cuts, checks_of_each, checks_of_metals, checks_of_terminals, fault_of, first_checks, of_cut, of_metal, of_terminal, has_known_keys, has_metals, metals_are_few, cuts_are_array, cuts_are_few, terminals_are_array, terminals_are_few}
-use Rattle.layer_map.specs.MapView.{sizes_of}
-use Rattle.layer_map.specs.Readers.{written_name}
+use Rattle.map_model.specs.MapView.{sizes_of}
+use Rattle.layer_map.specs.inside.ReadLayers.{written_name}
 use Rattle.layer_map.specs.TerminalChecks.{terminal_checks}
 use Rattle.layer_map.specs.Values.{cuts_in, metals_in, name_of_item, terminals_in}
 use Rattle.layer_map.specs.declared.fault.MapFault.TheVariants.{Syntax}
-use Rattle.layer_map.proofs.SeenLaws.{name_tells, written_different}
-
--- the parts of a list of which all items are so
-all_front : {A : Type 0} (P : A → Type 0) (xs ys : List A) → All P (xs ++ ys) → All P xs
-all_front P [] ys all = All-nil P
-all_front P (x ∷ xs) ys all = All-cons P x xs (All-head P x (xs ++ ys) all) (all_front P xs ys (All-tail P x (xs ++ ys) all))
-
-all_back : {A : Type 0} (P : A → Type 0) (xs ys : List A) → All P (xs ++ ys) → All P ys
-all_back P [] ys all = all
-all_back P (x ∷ xs) ys all = all_back P xs ys (All-tail P x (xs ++ ys) all)
+use Rattle.lists.proofs.Containing.{All-back, All-front}
+use Rattle.lists.proofs.Differing.{AreDifferent-unmap}
 
 -- the checks of the item with one number
-all_of_one : {A : Type 0} (P : A → Type 0) (checks_at : ℕ → List A) (first count number : ℕ) → number < count → All P (flat_map checks_at (range_with_len first count)) → All P (checks_at (first + number))
+all_of_one : {A : Type 0} (P : A → Type 0) (checks_at : ℕ → List A) (first count number : ℕ) → number < count → All P (flat_map checks_at (range_with_len first count))
+    → All P (checks_at (first + number))
 all_of_one P checks_at first zero number within all = absurd (omega arith)
-all_of_one P checks_at first (suc count) zero within all = subst (λ (n : ℕ). All P (checks_at n)) (sym (add-zero first)) (all_front P (checks_at first) (flat_map checks_at (range_with_len (first + 1) count)) all)
+all_of_one P checks_at first (suc count) zero within all = subst (λ (n : ℕ). All P (checks_at n)) (sym (add-zero first))
+    (All-front P (checks_at first) (flat_map checks_at (range_with_len (first + 1) count)) all)
 all_of_one P checks_at first (suc count) (suc number) within all =
     let same : (first + 1) + number ≡ first + suc number = omega arith in
-    subst (λ (n : ℕ). All P (checks_at n)) same (all_of_one P checks_at (first + 1) count number (omega arith) (all_back P (checks_at first) (flat_map checks_at (range_with_len (first + 1) count)) all))
+    subst (λ (n : ℕ). All P (checks_at n)) same (all_of_one P checks_at (first + 1) count number (omega arith)
+    (All-back P (checks_at first) (flat_map checks_at (range_with_len (first + 1) count)) all))
 
 all_of_number : {A : Type 0} (P : A → Type 0) (checks_at : ℕ → List A) (count number : ℕ) → number < count → All P (flat_map checks_at (range_with_len 0 count)) → All P (checks_at number)
 all_of_number P checks_at count number within all = subst (λ (n : ℕ). All P (checks_at n)) (zero-add number) (all_of_one P checks_at 0 count number within all)
@@ -65,14 +59,16 @@ new_names_differ ds new i j o below within same =
     let j_in : j < length ds = omega (arith, length-map ds name_of_item) in
     let i_in : i < length ds = omega arith in
     differs ds new i j o below i_in j_in same where
-      differs : (ds : List Data) → ((k : ℕ) (d : Data) → slice_get ds k ≡ Some d → Contains (map name_of_item (take k ds)) (name_of_item d) → ⊥) → (i j : ℕ) (o : Option Data) → i < j → i < length ds → j < length ds → get_or (map name_of_item ds) i o ≡ get_or (map name_of_item ds) j o → ⊥
+      differs : (ds : List Data) → ((k : ℕ) (d : Data) → slice_get ds k ≡ Some d → Contains (map name_of_item (take k ds)) (name_of_item d) → ⊥) → (i j : ℕ) (o : Option Data) → i < j → i < length ds
+          → j < length ds → get_or (map name_of_item ds) i o ≡ get_or (map name_of_item ds) j o → ⊥
       differs [] new i j o below i_in j_in same = omega arith
       differs (d ∷ ds) new i j o below i_in j_in same =
           let there : slice_get (d ∷ ds) j ≡ Some (get_or (d ∷ ds) j d) = slice_get-get_or (d ∷ ds) j d j_in in
           let name_j : get_or (map name_of_item (d ∷ ds)) j o ≡ name_of_item (get_or (d ∷ ds) j d) = get_or-map name_of_item (d ∷ ds) j d o j_in in
           let name_i : get_or (map name_of_item (d ∷ ds)) i o ≡ name_of_item (get_or (d ∷ ds) i d) = get_or-map name_of_item (d ∷ ds) i d o i_in in
           let room : i < length (take j (d ∷ ds)) = omega (arith, length-take-le j (d ∷ ds)) in
-          let early : get_or (map name_of_item (take j (d ∷ ds))) i (name_of_item (get_or (d ∷ ds) j d)) ≡ name_of_item (get_or (take j (d ∷ ds)) i d) = get_or-map name_of_item (take j (d ∷ ds)) i d _ room in
+          let early : get_or (map name_of_item (take j (d ∷ ds))) i (name_of_item (get_or (d ∷ ds) j d)) ≡ name_of_item (get_or (take j (d ∷ ds)) i d) =
+          get_or-map name_of_item (take j (d ∷ ds)) i d _ room in
           new j (get_or (d ∷ ds) j d) there (i, omega (arith, length-map (take j (d ∷ ds)) name_of_item), early ∙ ap name_of_item (get_or-take j (d ∷ ds) i d below) ∙ sym name_i ∙ same ∙ name_j)
 
 -- a name that stands in one of the items names its layer
@@ -87,28 +83,29 @@ names_one (d ∷ ds) (l ∷ ls) there all (suc k, within, same) =
 
 module _ (document : Members) (all : All (Holds document) (checks_of document)) where
   first_hold : All (Holds document) first_checks
-  first_hold = all_front (Holds document) first_checks (checks_of_metals document ++ (checks_of_cuts document ++ checks_of_terminals document)) all
+  first_hold = All-front (Holds document) first_checks (checks_of_metals document ++ (checks_of_cuts document ++ checks_of_terminals document)) all
 
   rest_holds : All (Holds document) (checks_of_metals document ++ (checks_of_cuts document ++ checks_of_terminals document))
-  rest_holds = all_back (Holds document) first_checks (checks_of_metals document ++ (checks_of_cuts document ++ checks_of_terminals document)) all
+  rest_holds = All-back (Holds document) first_checks (checks_of_metals document ++ (checks_of_cuts document ++ checks_of_terminals document)) all
 
   metals_hold : All (Holds document) (checks_of_each of_metal layer_checks (metals_in document))
-  metals_hold = all_back (Holds document) (has_metals ∷ metals_are_few ∷ []) (checks_of_each of_metal layer_checks (metals_in document))
-      (all_front (Holds document) (checks_of_metals document) (checks_of_cuts document ++ checks_of_terminals document) rest_holds)
+  metals_hold = All-back (Holds document) (has_metals ∷ metals_are_few ∷ []) (checks_of_each of_metal layer_checks (metals_in document))
+      (All-front (Holds document) (checks_of_metals document) (checks_of_cuts document ++ checks_of_terminals document) rest_holds)
 
   behind_metals_hold : All (Holds document) (checks_of_cuts document ++ checks_of_terminals document)
-  behind_metals_hold = all_back (Holds document) (checks_of_metals document) (checks_of_cuts document ++ checks_of_terminals document) rest_holds
+  behind_metals_hold = All-back (Holds document) (checks_of_metals document) (checks_of_cuts document ++ checks_of_terminals document) rest_holds
 
   cuts_hold : All (Holds document) (checks_of_each of_cut cut_checks (cuts_in document))
-  cuts_hold = all_back (Holds document) (cuts_are_array ∷ cuts_are_few ∷ []) (checks_of_each of_cut cut_checks (cuts_in document))
-      (all_front (Holds document) (checks_of_cuts document) (checks_of_terminals document) behind_metals_hold)
+  cuts_hold = All-back (Holds document) (cuts_are_array ∷ cuts_are_few ∷ []) (checks_of_each of_cut cut_checks (cuts_in document))
+      (All-front (Holds document) (checks_of_cuts document) (checks_of_terminals document) behind_metals_hold)
 
   terminals_hold : All (Holds document) (checks_of_each of_terminal terminal_checks (terminals_in document))
-  terminals_hold = all_back (Holds document) (terminals_are_array ∷ terminals_are_few ∷ []) (checks_of_each of_terminal terminal_checks (terminals_in document))
-      (all_back (Holds document) (checks_of_cuts document) (checks_of_terminals document) behind_metals_hold)
+  terminals_hold = All-back (Holds document) (terminals_are_array ∷ terminals_are_few ∷ []) (checks_of_each of_terminal terminal_checks (terminals_in document))
+      (All-back (Holds document) (checks_of_cuts document) (checks_of_terminals document) behind_metals_hold)
 
   metal_hold : (number : ℕ) (item : Data) → slice_get (metals_in document) number ≡ Some item → All (Holds document) (map (of_metal number) layer_checks)
-  metal_hold number item there = all_of_number (Holds document) (λ n. map (of_metal n) layer_checks) (length (metals_in document)) number (slice_get_within (metals_in document) number item there) metals_hold
+  metal_hold number item there = all_of_number (Holds document) (λ n. map (of_metal n) layer_checks) (length (metals_in document)) number (slice_get_within (metals_in document) number item there)
+      metals_hold
 
   a_metal : (number : ℕ) (item : Data) → slice_get (metals_in document) number ≡ Some item → (layer : MappedLayer) × GivesLayer item layer
   a_metal number item there =
@@ -121,7 +118,7 @@ module _ (document : Members) (all : All (Holds document) (checks_of document)) 
   metals = list_for GivesLayer (metals_in document) a_metal
 
   names_differ : AreDifferent (names_of metals.0)
-  names_differ = written_different written_name name_tells (names_of metals.0) (subst AreDifferent (names_zip (metals_in document) metals.0 metals.1)
+  names_differ = AreDifferent-unmap written_name (names_of metals.0) (subst AreDifferent (names_zip (metals_in document) metals.0 metals.1)
       (new_names_differ (metals_in document) (λ k d there. rw there at (metal_hold k d there 3 has_known_keys (omega arith)))))
 
   a_cut : (number : ℕ) (item : Data) → slice_get (cuts_in document) number ≡ Some item → (cut : MappedCut) × GivesCut metals.0 item cut
@@ -137,7 +134,8 @@ module _ (document : Members) (all : All (Holds document) (checks_of document)) 
 
   a_terminal : (number : ℕ) (item : Data) → slice_get (terminals_in document) number ≡ Some item → (terminal : ℕ × Cell) × GivesTerminal metals.0 item terminal
   a_terminal number item there =
-      let checks = all_of_number (Holds document) (λ n. map (of_terminal n) terminal_checks) (length (terminals_in document)) number (slice_get_within (terminals_in document) number item there) terminals_hold in
+      let checks = all_of_number (Holds document) (λ n. map (of_terminal n) terminal_checks) (length (terminals_in document)) number (slice_get_within (terminals_in document) number item there)
+      terminals_hold in
       let (metal, names) = names_one (metals_in document) metals.0 _ metals.1 (rw there at (checks 3 has_known_keys (omega arith))) in
       let x = rw there at (checks 4 has_known_keys (omega arith)) in
       let y = rw there at (checks 5 has_known_keys (omega arith)) in
@@ -149,14 +147,13 @@ module _ (document : Members) (all : All (Holds document) (checks_of document)) 
       let weights = first_hold 5 has_known_keys (omega arith) in
       let cuts = list_for (GivesCut metals.0) (cuts_in document) a_cut in
       let terminals = list_for (GivesTerminal metals.0) (terminals_in document) a_terminal in (
-        record { metals = metals.0; cuts = cuts.0; letter = codes "r"; sizes = sizes_of radii.0 weights.0; terminals = terminals.0 },
+        record { metals = metals.0; cuts = cuts.0; sizes = sizes_of radii.0 weights.0; terminals = terminals.0 },
         record {
           radii = radii.0;
           weights = weights.0;
           has_radii = radii.1;
           has_weights = weights.1;
           sizes = refl;
-          letter = refl;
           metals = metals.1;
           names_differ = names_differ;
           cuts = cuts.1;

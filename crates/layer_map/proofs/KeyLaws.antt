@@ -21,7 +21,8 @@ module _ (P : List ℕ → Type 0) (table : BTreeMap (String Global) Value) wher
   -- what holds of each key that was yielded holds of each key, where these are all
   pub all_keys : (yielded : List (Bor (String Global))) → map deref yielded ≡ keys table → All (λ key. P (string_bytes key.now)) yielded → All P (keys_in (table_view table))
   all_keys yielded whole each =
-      let of_keys : All (λ key. P (string_bytes key)) (keys table) = subst (All (λ (key : String Global). P (string_bytes key))) whole (All-map (λ (key : String Global). P (string_bytes key)) deref yielded each) in
+      let of_keys : All (λ key. P (string_bytes key)) (keys table) = subst (All (λ (key : String Global). P (string_bytes key))) whole
+      (All-map (λ (key : String Global). P (string_bytes key)) deref yielded each) in
       subst (All P) (sym (keys_in-table table)) (All-map P string_bytes (keys table) of_keys)
 
   -- what does not hold of one key does not hold of each

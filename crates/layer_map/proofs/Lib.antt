@@ -1,12 +1,9 @@
 pub mod NameLaws
-pub mod ListLaws
-pub mod MappedLaws
 pub mod ValueLaws
 pub mod FindLaws
 pub mod SpelledLaws
 pub mod SearchLaws
 pub mod KeyLaws
-pub mod CheckedLaws
 pub mod ReferenceLaws
 pub mod TableLaws
 pub mod PairLaws

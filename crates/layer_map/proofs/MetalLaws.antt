@@ -10,20 +10,23 @@ use Rattle.std.proofs.lemmas.Slice.Zip.{AllZip-long, all_zipped_more}
 use Rattle.toml.specs.Data.{Data, Members}
 use Rattle.layer_map.specs.Documents.{GivesLayer}
 use Rattle.layer_map.specs.LayerChecks.{LayerCheck, LayerHolds, layer_checks, layer_fault, metal_keys}
-use Rattle.layer_map.specs.LayerMap.{MappedLayer}
-use Rattle.layer_map.specs.Layers.{metal_layer, names_of, pairs_of}
+use Rattle.map_model.specs.LayerMap.{MappedLayer}
+use Rattle.map_model.specs.Layers.{metal_layer, names_of, pairs_of}
 use Rattle.layer_map.specs.MapChecks.{MapCheck, Holds, checks_of_each, checks_of_metals, fault_of, has_metals, metals_are_few, of_metal}
-use Rattle.layer_map.specs.Paths.{metal_path}
-use Rattle.layer_map.specs.Readers.{AreSeen, TakesLayer, TakesMetals}
+use Rattle.layer_map.specs.DocumentPaths.{metal_path}
+use Rattle.layer_map.specs.inside.ReadLayers.{AreSeen, TakesLayer}
+use Rattle.layer_map.specs.inside.ReadMetals.{TakesMetals}
 use Rattle.layer_map.specs.Values.{metals_in}
 use Rattle.layer_map.specs.declared.fault.MapFault.{MapFault}
-use Rattle.layer_map.specs.declared.fault.MapFault.TheVariants.{BadValue, LimitPassed}
-use Rattle.layer_map.specs.declared.layers.Metal.{Metal}
-use Rattle.layer_map.specs.declared.limits.TheConstants.{MOST_METALS}
+use Rattle.layer_map.specs.declared.fault.MapFault.TheVariants.{BadValue, LimitPassed, Memory}
+use Rattle.map_model.specs.declared.layers.Metal.{Metal}
+use Rattle.map_model.specs.declared.limits.TheConstants.{MOST_METALS}
 use Rattle.layer_map.specs.declared.seen.Layer.{Layer}
 use Rattle.layer_map.specs.declared.seen.Seen.{Seen}
-use Rattle.layer_map.proofs.CheckedLaws.{Judges, all_renamed, fails_first, given, goes_on, passed, passes, renamed}
-use Rattle.layer_map.proofs.EachLaws.{HoldsSoFar, all_of_them, further, left, left_more, left_none, nothing_yet, part_stops, take_one_more}
+use Rattle.first_refusal.proofs.JudgeLaws.{Judges, all_renamed, fails_first, given, goes_on, passed, passes, renamed}
+use Rattle.first_refusal.proofs.StepLaws.{HoldsSoFar, all_of_them, further, nothing_yet, part_stops}
+use Rattle.layer_map.proofs.EachLaws.{left, left_more, left_none}
+use Rattle.lists.proofs.Reading.{taken_at}
 
 -- the checks of one metal
 abbrev pub checks_of_one : ℕ → List MapCheck
@@ -45,19 +48,21 @@ nothing_written written (x ∷ xs) h = cc h
 
 module _ (document : Members) where
   module _ {T : Type 0} (Is : T → Type 0) where
-    pub no_metals : (1 ≤ length (metals_in document) → ⊥) → Judges (Holds document) (checks_of_metals document) fault_of Is (Err (BadValue 5))
+    pub no_metals : (1 ≤ length (metals_in document) → ⊥) → Judges Memory (Holds document) (checks_of_metals document) fault_of Is (Err (BadValue 5))
     no_metals not = fails_first (Holds document) fault_of Is has_metals (metals_are_few ∷ checks_of_each of_metal layer_checks (metals_in document)) not
 
-    pub too_many_metals : 1 ≤ length (metals_in document) → MOST_METALS < length (metals_in document) → Judges (Holds document) (checks_of_metals document) fault_of Is (Err (LimitPassed 5))
+    pub too_many_metals : 1 ≤ length (metals_in document) → MOST_METALS < length (metals_in document) → Judges Memory (Holds document) (checks_of_metals document) fault_of Is (Err (LimitPassed 5))
     too_many_metals some many =
-        goes_on (Holds document) fault_of Is (has_metals ∷ []) (metals_are_few ∷ checks_of_each of_metal layer_checks (metals_in document)) _ (All-from_recursion (Holds document) (has_metals ∷ []) (some, tt))
+        goes_on (Holds document) fault_of Is (has_metals ∷ []) (metals_are_few ∷ checks_of_each of_metal layer_checks (metals_in document)) _
+        (All-from_recursion (Holds document) (has_metals ∷ []) (some, tt))
         (fails_first (Holds document) fault_of Is metals_are_few (checks_of_each of_metal layer_checks (metals_in document)) (λ few. omega (arith, few)))
 
   pub no_metal_yet : (seen : Seen) → 1 ≤ length (metals_in document) → length (metals_in document) ≤ MOST_METALS → AreSeen [] seen → MetalsSoFar document 0 [] seen
   no_metal_yet seen some few none = record {
     some = some;
     few = few;
-    holds = further (Holds document) (checks_of_metals document) (has_metals ∷ metals_are_few ∷ []) (left checks_of_one (metals_in document) 0) (nothing_yet (Holds document) (checks_of_metals document))
+    holds = further (Holds document) (checks_of_metals document) (has_metals ∷ metals_are_few ∷ []) (left checks_of_one (metals_in document) 0)
+        (nothing_yet (Holds document) (checks_of_metals document))
         (All-from_recursion (Holds document) (has_metals ∷ metals_are_few ∷ []) (some, (few, tt)));
     gives_them = tt;
     are_seen = none;
@@ -73,34 +78,43 @@ module _ (document : Members) where
     back check h = subst (λ (o : Option Data). IsSomeAnd o (λ d. LayerHolds metal_keys (take number (metals_in document)) d check)) there h
 
     pub metal_stops : {T U : Type 0} (Is : T → Type 0) (Js : U → Type 0) (metals : List Metal) (seen : Seen) (fault : MapFault) → MetalsSoFar document number metals seen
-        → Judges (LayerHolds metal_keys (take number (metals_in document)) item) layer_checks (layer_fault (metal_path number)) Is (Err fault) → Judges (Holds document) (checks_of_metals document) fault_of Js (Err fault)
+        → Judges Memory (LayerHolds metal_keys (take number (metals_in document)) item) layer_checks (layer_fault (metal_path number)) Is (Err fault)
+        → Judges Memory (Holds document) (checks_of_metals document) fault_of Js (Err fault)
     metal_stops Is Js metals seen fault far told =
         let within = slice_get_within (metals_in document) number item there in
         part_stops (Holds document) fault_of Is Js (checks_of_metals document) (checks_of_one number) (left checks_of_one (metals_in document) (number + 1)) fault
         (subst (HoldsSoFar (Holds document) (checks_of_metals document)) (left_more checks_of_one (metals_in document) number within) far.holds)
-        (renamed (LayerHolds metal_keys (take number (metals_in document)) item) (Holds document) (layer_fault (metal_path number)) fault_of (of_metal number) onward back (λ check. refl) Is layer_checks (Err fault) told)
+        (renamed (LayerHolds metal_keys (take number (metals_in document)) item) (Holds document) (layer_fault (metal_path number)) fault_of (of_metal number) onward back (λ check. refl)
+        Is layer_checks (Err fault) told)
 
-    pub one_metal_more : (metals : List Metal) (old new : Seen) (layer : Layer) (metal : Metal) → metal_layer metal ≡ record { name = layer.name; pairs = layer.pairs } → MetalsSoFar document number metals old
-        → Judges (LayerHolds metal_keys (take number (metals_in document)) item) layer_checks (layer_fault (metal_path number)) (TakesLayer (take number (metals_in document)) item old new) (Ok layer) → MetalsSoFar document (number + 1) (metals ++ metal ∷ []) new
+    pub one_metal_more : (metals : List Metal) (old new : Seen) (layer : Layer) (metal : Metal) → metal_layer metal ≡ record { name = layer.name; pairs = layer.pairs }
+        → MetalsSoFar document number metals old
+        → Judges Memory (LayerHolds metal_keys (take number (metals_in document)) item) layer_checks (layer_fault (metal_path number)) (TakesLayer (take number (metals_in document)) item old new)
+        (Ok layer) → MetalsSoFar document (number + 1) (metals ++ metal ∷ []) new
     one_metal_more metals old new layer metal same far told =
         let within = slice_get_within (metals_in document) number item there in
-        let more = take_one_more (metals_in document) number item there in
+        let more = taken_at (metals_in document) number item there in
         let holds = LayerHolds metal_keys (take number (metals_in document)) item in
-        let takes = given holds (layer_fault (metal_path number)) (TakesLayer (take number (metals_in document)) item old new) layer_checks layer told in
-        let last : map metal_layer (metals ++ metal ∷ []) ≡ map metal_layer metals ++ record { name = layer.name; pairs = layer.pairs } ∷ [] = map-append metal_layer metals (metal ∷ []) ∙ ap (λ (l : MappedLayer). map metal_layer metals ++ l ∷ []) same in
+        let takes = given told in
+        let last : map metal_layer (metals ++ metal ∷ []) ≡ map metal_layer metals ++ record { name = layer.name; pairs = layer.pairs } ∷ [] = map-append metal_layer metals (metal ∷ [])
+        ∙ ap (λ (l : MappedLayer). map metal_layer metals ++ l ∷ []) same in
         record {
           some = far.some;
           few = far.few;
           holds = further (Holds document) (checks_of_metals document) (checks_of_one number) (left checks_of_one (metals_in document) (number + 1))
               (subst (HoldsSoFar (Holds document) (checks_of_metals document)) (left_more checks_of_one (metals_in document) number within) far.holds)
-              (all_renamed holds (Holds document) (layer_fault (metal_path number)) fault_of (of_metal number) onward back (λ check. refl) layer_checks (passed holds (layer_fault (metal_path number)) (TakesLayer (take number (metals_in document)) item old new) layer_checks layer told));
-          gives_them = rw (more, last) (all_zipped_more GivesLayer (take number (metals_in document)) (map metal_layer metals) item (record { name = layer.name; pairs = layer.pairs }) far.gives_them takes.gives_it);
+              (all_renamed holds (Holds document) (layer_fault (metal_path number)) fault_of (of_metal number) onward back (λ check. refl) layer_checks (passed told));
+          gives_them = rw (more, last) (all_zipped_more GivesLayer (take number (metals_in document)) (map metal_layer metals) item (record { name = layer.name; pairs = layer.pairs })
+              far.gives_them takes.gives_it);
           are_seen = rw more takes.are_seen;
-          names = takes.names ∙ ap (λ xs. xs ++ layer.name ∷ []) far.names ∙ sym (map-append (λ l. l.name) (map metal_layer metals) (record { name = layer.name; pairs = layer.pairs } ∷ [])) ∙ ap names_of (sym last);
-          pairs = takes.pairs ∙ ap (λ xs. xs ++ layer.pairs) far.pairs ∙ ap (λ xs. pairs_of (map metal_layer metals) ++ xs) (sym (append-nil layer.pairs)) ∙ sym (flat_map-append (λ l. l.pairs) (map metal_layer metals) (record { name = layer.name; pairs = layer.pairs } ∷ [])) ∙ ap pairs_of (sym last);
+          names = takes.names ∙ ap (λ xs. xs ++ layer.name ∷ []) far.names ∙ sym (map-append (λ l. l.name) (map metal_layer metals) (record { name = layer.name; pairs = layer.pairs } ∷ []))
+              ∙ ap names_of (sym last);
+          pairs = takes.pairs ∙ ap (λ xs. xs ++ layer.pairs) far.pairs ∙ ap (λ xs. pairs_of (map metal_layer metals) ++ xs) (sym (append-nil layer.pairs))
+              ∙ sym (flat_map-append (λ l. l.pairs) (map metal_layer metals) (record { name = layer.name; pairs = layer.pairs } ∷ [])) ∙ ap pairs_of (sym last);
         }
 
-  pub all_metals : {T : Type 0} (Is : T → Type 0) (number : ℕ) (metals : List Metal) (seen : Seen) (thing : T) → length (metals_in document) ≤ number → MetalsSoFar document number metals seen → (TakesMetals document seen metals → Is thing) → Judges (Holds document) (checks_of_metals document) fault_of Is (Ok thing)
+  pub all_metals : {T : Type 0} (Is : T → Type 0) (number : ℕ) (metals : List Metal) (seen : Seen) (thing : T) → length (metals_in document) ≤ number → MetalsSoFar document number metals seen
+      → (TakesMetals document seen metals → Is thing) → Judges Memory (Holds document) (checks_of_metals document) fault_of Is (Ok thing)
   all_metals Is number metals seen thing all far is =
       let whole : take number (metals_in document) ≡ metals_in document = take_all number (metals_in document) all in
       let gives_them : AllZip GivesLayer (metals_in document) (map metal_layer metals) = subst (λ (ds : List Data). AllZip GivesLayer ds (map metal_layer metals)) whole far.gives_them in

@@ -8,14 +8,15 @@ use Rattle.std.proofs.lemmas.Option.{same_Some}
 use Rattle.toml.specs.Data.{Data, array, as_array}
 use Rattle.toml.specs.View.{items_of, items_view, view}
 use Rattle.toml.specs.declared.value.Value.{Value}
-use Rattle.layer_map.specs.Limits.{IsPair}
-use Rattle.layer_map.specs.Lists.{AreDifferent}
+use Rattle.map_model.specs.Limits.{IsPair}
+use Rattle.lists.specs.Differing.{AreDifferent}
 use Rattle.layer_map.specs.Values.{whole_number, pair_value, pairs_value, values_in}
-use Rattle.layer_map.specs.Readers.{IsWholeIn, IsPairIn, ArePairsIn, ArePairsThere, Finds, finds, lacks}
-use Rattle.layer_map.specs.declared.limits.TheConstants.{GREATEST_PAIR_NUMBER, MOST_PAIRS}
-use Rattle.layer_map.proofs.ListLaws.{different_apart}
+use Rattle.layer_map.specs.inside.ReadValues.{IsWholeIn, Finds, finds, lacks}
+use Rattle.layer_map.specs.inside.ReadLayers.{IsPairIn, ArePairsIn, ArePairsThere}
+use Rattle.map_model.specs.declared.limits.TheConstants.{GREATEST_PAIR_NUMBER, MOST_PAIRS}
 use Rattle.layer_map.proofs.SpelledLaws.{written_at, map-take-more}
 use Rattle.layer_map.proofs.ValueLaws.{listed-items_of}
+use Rattle.lists.proofs.Differing.{different_apart}
 
 -- the values of an array that writes a list are that list
 pub values_of_list : (vs : List Value) (ds : List Data) → array (items_view vs) ≡ array (items_of ds) → map view vs ≡ ds
@@ -43,7 +44,8 @@ module _ (numbers : List Value) where
         let (room, told) = written_at view whole_number numbers (pair.0 ∷ pair.1 ∷ []) (two_are pair is) 1 second 0 (omega arith) is_second in
         not pair.1 (record { is_whole = told; least = omega arith; most = is.is_pair.datatype }))
 
-pub is_pair : (numbers : List Value) (first second : Value) (layer datatype : ℕ) → length numbers ≡ 2 → first ≡ get_or numbers 0 first → second ≡ get_or numbers 1 second → IsWholeIn 0 GREATEST_PAIR_NUMBER (view first) layer → IsWholeIn 0 GREATEST_PAIR_NUMBER (view second) datatype → Finds (IsPairIn (array (items_view numbers))) (Some (layer, datatype))
+pub is_pair : (numbers : List Value) (first second : Value) (layer datatype : ℕ) → length numbers ≡ 2 → first ≡ get_or numbers 0 first → second ≡ get_or numbers 1 second
+    → IsWholeIn 0 GREATEST_PAIR_NUMBER (view first) layer → IsWholeIn 0 GREATEST_PAIR_NUMBER (view second) datatype → Finds (IsPairIn (array (items_view numbers))) (Some (layer, datatype))
 is_pair [] first second layer datatype two f s is also = absurd (omega arith)
 is_pair (a ∷ []) first second layer datatype two f s is also = absurd (omega arith)
 is_pair (a ∷ b ∷ c ∷ more) first second layer datatype two f s is also = absurd (omega arith)
@@ -75,7 +77,8 @@ pub record ArePairsSoFar (values : List Data) (pairs : List (ℕ × ℕ)) : Type
 pub no_pairs_so_far : ArePairsSoFar [] []
 no_pairs_so_far = record { written = refl; each = All-nil IsPair }
 
-pub one_pair_more : (vs : List Value) (i : ℕ) (v : Value) (pairs : List (ℕ × ℕ)) (pair : ℕ × ℕ) → i < length vs → v ≡ get_or vs i v → ArePairsSoFar (map view (take i vs)) pairs → IsPairIn (view v) pair → ArePairsSoFar (map view (take (i + 1) vs)) (pairs ++ pair ∷ [])
+pub one_pair_more : (vs : List Value) (i : ℕ) (v : Value) (pairs : List (ℕ × ℕ)) (pair : ℕ × ℕ) → i < length vs → v ≡ get_or vs i v → ArePairsSoFar (map view (take i vs)) pairs
+    → IsPairIn (view v) pair → ArePairsSoFar (map view (take (i + 1) vs)) (pairs ++ pair ∷ [])
 one_pair_more vs i v pairs pair within is far here = record {
   written = map-take-more view vs i v within is ∙ ap (λ ds. ds ++ view v ∷ []) far.written ∙ ap (λ d. map pair_value pairs ++ d ∷ []) here.written ∙ sym (map-append pair_value pairs (pair ∷ []));
   each = All-push IsPair pairs pair far.each here.is_pair;
@@ -101,7 +104,8 @@ pub stands_earlier : (old more now : List (ℕ × ℕ)) (i : ℕ) → i < length
 stands_earlier old more now i within far there differ =
     let parts : old ++ more ≡ (old ++ take i more) ++ drop i more = ap (λ xs. old ++ xs) (sym (take-append-drop i more)) ∙ sym (append_assoc old (take i more) (drop i more)) in
     let behind : Contains (drop i more) (get_or more i (0, 0)) = (0, omega (arith, length-drop i more), drop_first more i within) in
-    different_apart (old ++ take i more) (drop i more) (get_or more i (0, 0)) (subst AreDifferent parts differ) (subst (λ (xs : List (ℕ × ℕ)). Contains xs (get_or more i (0, 0))) far.added there) behind where
+    different_apart (old ++ take i more) (drop i more) (get_or more i (0, 0)) (subst AreDifferent parts differ) (subst (λ (xs : List (ℕ × ℕ)). Contains xs (get_or more i (0, 0))) far.added there)
+    behind where
       drop_first : (xs : List (ℕ × ℕ)) (i : ℕ) → i < length xs → get_or (drop i xs) 0 (get_or xs i (0, 0)) ≡ get_or xs i (0, 0)
       drop_first [] i h = absurd (omega arith)
       drop_first (x ∷ xs) zero h = refl
@@ -111,7 +115,8 @@ pub all_added : (old more now : List (ℕ × ℕ)) (i : ℕ) → length more ≤
 all_added old more now i all far = far.added ∙ ap (λ xs. old ++ xs) (take_all i more all)
 
 -- the pairs that stand at a key, where an array does, and where none does
-pub pairs_there : (there : Option Data) (vs : List Value) (pairs : Option (List (ℕ × ℕ))) → there ≡ Some (array (items_view vs)) → Finds (ArePairsIn (map view vs)) pairs → Finds (ArePairsThere there) pairs
+pub pairs_there : (there : Option Data) (vs : List Value) (pairs : Option (List (ℕ × ℕ))) → there ≡ Some (array (items_view vs)) → Finds (ArePairsIn (map view vs)) pairs
+    → Finds (ArePairsThere there) pairs
 pairs_there there vs (Some pairs) told (finds are) = finds (record { written = told ∙ ap (λ (ds : List Data). Some (array (items_of ds))) are.written; are_pairs = are.are_pairs })
 pairs_there there vs None told (lacks not) =
     lacks (λ pairs are. not pairs (record { written = values_of_list vs (map pair_value pairs) (same_Some _ _ (sym told ∙ are.written)); are_pairs = are.are_pairs }))

@@ -7,8 +7,8 @@ use Rattle.std.specs.Ordering.{int_eq}
 use Rattle.std.proofs.lemmas.Bool.{and_parts, cases_Bool}
 use Rattle.std.proofs.lemmas.Bool.Decides.{Decides-eqb, Decides-int_eq}
 use Rattle.indexmap.proofs.CallerLemmas.{Contains-list_any}
-use Rattle.layer_map.specs.Readers.{AddsPlace, place_of_terminal}
-use Rattle.layer_map.specs.declared.layers.Terminal.{Terminal}
+use Rattle.layer_map.specs.inside.ReadTerminals.{AddsPlace, place_of_terminal}
+use Rattle.map_model.specs.declared.layers.Terminal.{Terminal}
 use Rattle.std.proofs.lemmas.Int.{to_z-of_z}
 
 abbrev Place : Type 0
@@ -35,7 +35,8 @@ any_from_contains [] p (k, within, same) = absurd (omega arith)
 any_from_contains (q ∷ ps) p (zero, within, same) = rw (same, test_from_same p) refl
 any_from_contains (q ∷ ps) p (suc k, within, same) = rw (any_from_contains ps p (k, omega arith, same), or-true (same_place p q)) refl
 
-pub adds_place : (old new : List Place) (place : Place) (is_new : Bool) → is_new ≡ not (list_any (same_place place) old) → new ≡ (if list_any (same_place place) old then old else old ++ place ∷ []) → AddsPlace is_new old new place
+pub adds_place : (old new : List Place) (place : Place) (is_new : Bool) → is_new ≡ not (list_any (same_place place) old) → new ≡ (if list_any (same_place place) old then old else old ++ place ∷ [])
+    → AddsPlace is_new old new place
 adds_place old new place is_new added keys =
     elim (cases_Bool (list_any (same_place place) old)) [
       | inl there ↦

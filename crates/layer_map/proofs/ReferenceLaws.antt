@@ -4,11 +4,11 @@ use Rattle.std.specs.Prelude.{Contains, slice_get}
 use Rattle.std.proofs.lemmas.Option.{slice_get-get_or, slice_get_within, get_or_from_slice_get, same_Some}
 use Rattle.toml.specs.Data.{Data, string, integer, float, boolean, datetime, array, table, as_str}
 use Rattle.layer_map.specs.Documents.{NamesMetal}
-use Rattle.layer_map.specs.Layers.{metal_layer}
+use Rattle.map_model.specs.Layers.{metal_layer}
 use Rattle.layer_map.specs.Values.{name_of_item}
 use Rattle.layer_map.specs.ItemChecks.{ReferenceHolds, is_text, is_metal}
-use Rattle.layer_map.specs.Readers.{HaveNamesOf}
-use Rattle.layer_map.specs.declared.layers.Metal.{Metal}
+use Rattle.layer_map.specs.inside.ReadMetals.{HaveNamesOf}
+use Rattle.map_model.specs.declared.layers.Metal.{Metal}
 
 pub text_is : (there : Option Data) (text : List ℕ) → Some text ≡ option_and_then as_str there → there ≡ Some (string text)
 text_is (Some (string s)) text h = ap (λ t. Some (string t)) (sym (same_Some _ _ h))
@@ -45,13 +45,19 @@ module _ (items : List Data) (metals : List Metal) (there : Option Data) (text :
         let option_there : slice_get (map (λ (metal : Metal). Some (string metal.name)) metals) number ≡ Some (Some (string text)) = option_names metals number named in
         subst (Contains (map name_of_item items)) (sym (text_is there text told))
         (subst (λ (ds : List (Option Data)). Contains ds (Some (string text))) (sym have) (number, slice_get_within _ number _ option_there, get_or_from_slice_get _ number _ _ option_there)) where
-          option_names : (ms : List Metal) (k : ℕ) → slice_get (map (λ metal. metal.name) ms) k ≡ Some text → slice_get (map (λ (metal : Metal). Some (string metal.name)) ms) k ≡ Some (Some (string text))
+          option_names : (ms : List Metal) (k : ℕ) → slice_get (map (λ metal. metal.name) ms) k ≡ Some text
+              → slice_get (map (λ (metal : Metal). Some (string metal.name)) ms) k ≡ Some (Some (string text))
           option_names [] k h = cc h
           option_names (m ∷ ms) zero h = let e : m.name ≡ text = cc h in ap (λ t. Some (Some (string t))) e
           option_names (m ∷ ms) (suc k) h = option_names ms k h
 
     pub names_metal : NamesMetal (map metal_layer metals) there number
-    names_metal = let (metal, numbered, same) = at metals number named in record { metal = metal_layer metal; numbered = numbered; named = text_is there text told ∙ ap (λ t. Some (string t)) (sym same) } where
+    names_metal = let (metal, numbered, same) = at metals number named in record {
+      metal = metal_layer metal;
+      numbered = numbered;
+      named = text_is there text told
+          ∙ ap (λ t. Some (string t)) (sym same);
+    } where
       at : (ms : List Metal) (k : ℕ) → slice_get (map (λ metal. metal.name) ms) k ≡ Some text → (metal : Metal) × (slice_get (map metal_layer ms) k ≡ Some (metal_layer metal)) × (metal.name ≡ text)
       at [] k h = cc h
       at (m ∷ ms) zero h = (m, refl, cc h)

@@ -1,15 +1,14 @@
 -- the sample: its document, each of its checks, and its map
-use Rattle.std.proofs.Common.{◌≡◌, ◌≢◌, ℕ, zero, suc, ◌+◌, ◌≤◌, pos, List, [], ◌∷◌, codes, map, Option, Some, refl, arith, IsAscii, Bool, true, false, ◌==◌, ◌*◌, ◌++◌, ◌∙◌, ap, sym, subst, get_or, nat_lt, unwrap_or, option_and_then}
+use Rattle.std.proofs.Common.{◌≡◌, ◌≢◌, ℕ, zero, suc, ◌+◌, ◌*◌, ◌<◌, ◌≤◌, pos, List, [], ◌∷◌, ◌++◌, ◌&&◌, ◌==◌, ◌∙◌, codes, map, Option, Some, refl, arith, Bool, true, false, not, ap, sym, subst, get_or, nat_lt, unwrap_or, option_and_then}
 use Rattle.std.specs.List.{list_all}
-use Rattle.std.proofs.lemmas.Bool.{and_parts}
-use Rattle.std.proofs.lemmas.Bool.Decides.{nat_tests}
-use Rattle.std.proofs.lemmas.Bool.{eq-eqb}
+use Rattle.std.proofs.lemmas.Bool.{and_parts, eq-eqb, ltb-true, not-true}
 use Rattle.std.specs.Prelude.{All, Contains}
 use Rattle.std.specs.List.Sorted.{IsStrictlyIncreasing}
 use Rattle.std.proofs.lemmas.Int.{ints}
-use Rattle.std.proofs.lemmas.List.Elements.{All-from_recursion}
+use Rattle.std.proofs.lemmas.List.Elements.{All-append, All-cons, All-contains, All-from_recursion, All-nil, All-weaker}
 use Rattle.std.proofs.lemmas.List.Kept.{AllPairs-cons}
 use Rattle.std.proofs.lemmas.Str.{IsUtf8-from_ascii}
+use Rattle.std.proofs.lemmas.Str.Ascii.{IsAscii-from_all}
 use Rattle.first_refusal.specs.Outcomes.{value}
 use Rattle.first_refusal.specs.Checks.{all_hold}
 use Rattle.geo_core.specs.Bounds.{IsRadius}
@@ -17,24 +16,27 @@ use Rattle.toml.specs.Data.{Data, Members, no_members, member, string, table, as
 use Rattle.toml.specs.Parse.{parse_document}
 use Rattle.toml.proofs.OnLiterals.{toml_on_literals}
 use Rattle.layer_map.specs.Documents.{GivesMap, IsDocument, MapComesTo}
-use Rattle.layer_map.specs.Limits.{AreRadii, AreWeights, IsPair, ArePairs}
-use Rattle.layer_map.specs.Lists.{AreDifferent}
-use Rattle.layer_map.specs.MapChecks.{Holds, checks_of, map_keys}
-use Rattle.layer_map.specs.LayerChecks.{metal_keys}
-use Rattle.layer_map.specs.CutChecks.{cut_keys}
-use Rattle.layer_map.specs.TerminalChecks.{terminal_keys}
-use Rattle.layer_map.specs.Names.{IsLayerName, is_name_byte}
+use Rattle.map_model.specs.Limits.{AreRadii, AreWeights, IsPair, ArePairs}
+use Rattle.lists.specs.Differing.{AreDifferent}
+use Rattle.layer_map.specs.MapChecks.{MapCheck, Holds, checks_of, checks_of_cuts, checks_of_metals, checks_of_terminals, cuts_are_array, cuts_are_few, first_checks, has_metals, map_keys, metals_are_few, of_cut, of_metal, of_terminal, terminals_are_array, terminals_are_few}
+use Rattle.layer_map.specs.LayerChecks.{layer_checks, metal_keys}
+use Rattle.layer_map.specs.CutChecks.{as_layer, cut_checks, cut_keys, end_checks}
+use Rattle.layer_map.specs.TerminalChecks.{IsCellNumber, terminal_checks, terminal_keys}
+use Rattle.map_model.specs.LayerNames.{IsLayerName, is_name_byte}
+use Rattle.layer_map.specs.inside.ReadLayers.{written_name}
 use Rattle.layer_map.specs.Sample.{sample_map, sample_text}
-use Rattle.layer_map.specs.Values.{array_of, pair_value, pairs_value, whole_number, whole_numbers}
-use Rattle.layer_map.proofs.ListLaws.{different_front}
+use Rattle.layer_map.specs.Values.{StandsAs, array_of, pair_value, pairs_value, whole_number, whole_numbers}
 use Rattle.layer_map.proofs.MapLaws.{document_decides}
-use Rattle.layer_map.proofs.SeenLaws.{different_written, pair_tells}
+use Rattle.layer_map.proofs.SeenLaws.{pair_tells}
+use Rattle.lists.proofs.Containing.{Contains-none}
+use Rattle.lists.proofs.Differing.{AreDifferent-map, different_front}
 
 abbrev layer_value : List ℕ → List (ℕ × ℕ) → Data
 layer_value name pairs = table (member (codes "name") (string name) (member (codes "pairs") (pairs_value pairs) no_members))
 
 abbrev cut_value : Data
-cut_value = table (member (codes "lower") (string (codes "m1")) (member (codes "name") (string (codes "v1")) (member (codes "pairs") (pairs_value ((2, 0) ∷ [])) (member (codes "upper") (string (codes "m2")) no_members))))
+cut_value = table (member (codes "lower") (string (codes "m1")) (member (codes "name") (string (codes "v1"))
+    (member (codes "pairs") (pairs_value ((2, 0) ∷ [])) (member (codes "upper") (string (codes "m2")) no_members))))
 
 abbrev terminal_value : Data
 terminal_value = table (member (codes "metal") (string (codes "m1")) (member (codes "x") (whole_number 0) (member (codes "y") (whole_number 0) no_members)))
@@ -53,30 +55,46 @@ parsed : parse_document sample_text ≡ Some sample_document
 unfolding toml_on_literals
 parsed = refl
 
--- a text is ASCII where each byte passes the test
-ascii : (bs : List ℕ) → list_all (λ b. nat_lt b 128) bs ≡ true → IsAscii bs
-ascii [] h i = omega arith
-ascii (b ∷ bs) h zero = let (here, more) = and_parts (nat_lt b 128) (list_all (λ c. nat_lt c 128) bs) h in grind (arith, nat_tests, here)
-ascii (b ∷ bs) h (suc i) = let (here, more) = and_parts (nat_lt b 128) (list_all (λ c. nat_lt c 128) bs) h in ascii bs more i
+-- what passes a test of each item
+module _ {A : Type 0} (test : A → Bool) where
+  all_pass : (xs : List A) → list_all test xs ≡ true → All (λ x. test x ≡ true) xs
+  all_pass [] h = All-nil (λ x. test x ≡ true)
+  all_pass (x ∷ xs) h = let parts = and_parts (test x) (list_all test xs) h in All-cons (λ y. test y ≡ true) x xs parts.0 (all_pass xs parts.1)
 
--- what passes a test and what does not are two things
-told_apart : {A : Type 0} (test : A → Bool) (one other : A) → test one ≡ true → test other ≡ false → one ≢ other
-told_apart test one other p q same = let e : true ≡ false = sym p ∙ ap test same ∙ q in cc e
+-- things that are told apart by a number of each
+module _ {A : Type 0} (code : A → ℕ) where
+  abbrev differ : A → A → Bool
+  differ one other = not (code one == code other)
 
-m1_is_not_m2 : codes "m1" ≢ codes "m2"
-m1_is_not_m2 = told_apart (λ (text : List ℕ). get_or text 1 0 == 49) (codes "m1") (codes "m2") refl refl
+  apart : (one other : A) → differ one other ≡ true → one ≢ other
+  apart one other h e = let both : true ≡ false = sym (eq-eqb (code one) (code other) (ap code e)) ∙ not-true (code one == code other) h in cc both
 
-m1_is_not_v1 : codes "m1" ≢ codes "v1"
-m1_is_not_v1 = told_apart (λ (text : List ℕ). get_or text 0 0 == 109) (codes "m1") (codes "v1") refl refl
+  abbrev all_apart : List A → Bool
+  all_apart [] = true
+  all_apart (x ∷ xs) = list_all (differ x) xs && all_apart xs
 
-m2_is_not_v1 : codes "m2" ≢ codes "v1"
-m2_is_not_v1 = told_apart (λ (text : List ℕ). get_or text 0 0 == 109) (codes "m2") (codes "v1") refl refl
+  are_different : (xs : List A) → all_apart xs ≡ true → AreDifferent xs
+  are_different [] h = λ i j d below within. absurd (omega arith)
+  are_different (x ∷ xs) h =
+      let parts = and_parts (list_all (differ x) xs) (all_apart xs) h in
+      AllPairs-cons (λ p q. p ≢ q) x xs (All-weaker (λ y. differ x y ≡ true) (λ y. x ≢ y) (apart x) xs (all_pass (differ x) xs parts.0)) (are_different xs parts.1)
 
-abbrev text_of : Option Data → List ℕ
-text_of there = unwrap_or (option_and_then as_str there) []
+  not_among : (x : A) (xs : List A) → list_all (differ x) xs ≡ true → Contains xs x → ⊥
+  not_among x xs h among = apart x x (All-contains (λ y. differ x y ≡ true) xs x (all_pass (differ x) xs h) among) refl
+
+-- a name of the sample as a number, and the text that stands somewhere
+abbrev name_code : List ℕ → ℕ
+name_code name = 256 * get_or name 0 0 + get_or name 1 0
+
+abbrev code_of : Option Data → ℕ
+code_of there = name_code (unwrap_or (option_and_then as_str there) [])
 
 is_document : IsDocument sample_text sample_document
-is_document = record { is_text = IsUtf8-from_ascii sample_text (ascii sample_text refl); parsed = parsed }
+is_document = record {
+  is_text = IsUtf8-from_ascii sample_text (IsAscii-from_all sample_text (All-weaker (λ b. nat_lt b 128 ≡ true) (λ b. b < 128) (λ b. ltb-true b 128) sample_text
+      (all_pass (λ b. nat_lt b 128) sample_text refl)));
+  parsed = parsed;
+}
 
 -- what the checks are about
 radii_are : AreRadii (2 ∷ 5 ∷ [])
@@ -96,6 +114,9 @@ weights_are = record { as_many = refl; each = All-from_recursion (λ (w : ℕ). 
 short_name : (a b : ℕ) → is_name_byte a ≡ true → is_name_byte b ≡ true → IsLayerName (a ∷ b ∷ [])
 short_name a b p q = record { some = omega arith; few = omega arith; each = All-from_recursion (λ c. is_name_byte c ≡ true) (a ∷ b ∷ []) (p, (q, tt)) }
 
+named : (a b : ℕ) → is_name_byte a ≡ true → is_name_byte b ≡ true → StandsAs string IsLayerName (Some (string (a ∷ b ∷ [])))
+named a b p q = (a ∷ b ∷ [], refl, short_name a b p q)
+
 one_pair : (a b : ℕ) → a ≤ 65535 → b ≤ 65535 → ArePairs ((a, b) ∷ [])
 one_pair a b p q = record { some = omega arith; few = omega arith; each = All-from_recursion IsPair ((a, b) ∷ []) (record { layer = p; datatype = q }, tt) }
 
@@ -110,150 +131,120 @@ two_pairs = record {
 abbrev all_pairs : List (ℕ × ℕ)
 all_pairs = (1, 0) ∷ (1, 20) ∷ (3, 0) ∷ (2, 0) ∷ []
 
-pairs_differ : AreDifferent all_pairs
-pairs_differ =
-    AllPairs-cons (λ p q. p ≢ q) (1, 0) ((1, 20) ∷ (3, 0) ∷ (2, 0) ∷ []) (All-from_recursion (λ q. (1, 0) ≢ q) ((1, 20) ∷ (3, 0) ∷ (2, 0) ∷ []) (other (1, 0) (1, 20) refl, (other (1, 0) (3, 0) refl, (other (1, 0) (2, 0) refl, tt))))
-    (AllPairs-cons (λ p q. p ≢ q) (1, 20) ((3, 0) ∷ (2, 0) ∷ []) (All-from_recursion (λ q. (1, 20) ≢ q) ((3, 0) ∷ (2, 0) ∷ []) (other (1, 20) (3, 0) refl, (other (1, 20) (2, 0) refl, tt)))
-    (AllPairs-cons (λ p q. p ≢ q) (3, 0) ((2, 0) ∷ []) (All-from_recursion (λ q. (3, 0) ≢ q) ((2, 0) ∷ []) (other (3, 0) (2, 0) refl, tt))
-    (AllPairs-cons (λ p q. p ≢ q) (2, 0) [] (All-from_recursion (λ q. (2, 0) ≢ q) [] tt) (λ i j d below within. absurd (omega arith))))) where
-      other : (p q : ℕ × ℕ) → (100 * p.0 + p.1 == 100 * q.0 + q.1) ≡ false → p ≢ q
-      other p q differ = told_apart (λ (r : ℕ × ℕ). 100 * p.0 + p.1 == 100 * r.0 + r.1) p q (eq-eqb (100 * p.0 + p.1) (100 * p.0 + p.1) refl) differ
-
 written_differ : (pairs more : List (ℕ × ℕ)) → pairs ++ more ≡ all_pairs → AreDifferent (map pair_value pairs)
-written_differ pairs more whole = different_written pair_value pair_tells pairs (different_front pairs more (subst AreDifferent (sym whole) pairs_differ))
+written_differ pairs more whole = AreDifferent-map pair_value pairs pair_tells (different_front pairs more
+    (subst AreDifferent (sym whole) (are_different (λ (p : ℕ × ℕ). 100 * p.0 + p.1) all_pairs refl)))
 
--- names and places that do not stand earlier
-not_in_none : {A : Type 0} (x : A) → Contains [] x → ⊥
-not_in_none x (k, within, same) = omega arith
+-- the checks that hold
+abbrev Sound : MapCheck → Type 0
+Sound = Holds sample_document
 
-other_name : (one other : List ℕ) → (one ≡ other → ⊥) → Contains (Some (string one) ∷ []) (Some (string other)) → ⊥
-other_name one other differ (zero, within, same) = differ (cc same)
-other_name one other differ (suc k, within, same) = omega arith
+head_holds : All Sound first_checks
+head_holds = All-from_recursion Sound first_checks (keys, (refl, (refl, (omega arith, ((2 ∷ 5 ∷ [], refl, radii_are), ((10 ∷ 1 ∷ [], refl, weights_are), tt)))))) where
+  keys : All (Contains map_keys) (codes "cut" ∷ codes "metal" ∷ codes "radii" ∷ codes "terminal" ∷ codes "version" ∷ codes "weights" ∷ [])
+  keys = All-from_recursion (Contains map_keys) (codes "cut" ∷ codes "metal" ∷ codes "radii" ∷ codes "terminal" ∷ codes "version" ∷ codes "weights" ∷ [])
+      ((4, omega arith, refl), ((3, omega arith, refl), ((1, omega arith, refl), ((5, omega arith, refl), ((0, omega arith, refl), ((2, omega arith, refl), tt))))))
 
-another_name : (one two other : List ℕ) → (one ≡ other → ⊥) → (two ≡ other → ⊥) → Contains (Some (string one) ∷ Some (string two) ∷ []) (Some (string other)) → ⊥
-another_name one two other p q (zero, within, same) = p (cc same)
-another_name one two other p q (suc zero, within, same) = q (cc same)
-another_name one two other p q (suc (suc k), within, same) = omega arith
+-- the keys and the name of an item and its pairs
+metal_keys_known : All (Contains metal_keys) (codes "name" ∷ codes "pairs" ∷ [])
+metal_keys_known = All-from_recursion (Contains metal_keys) (codes "name" ∷ codes "pairs" ∷ []) ((0, omega arith, refl), ((1, omega arith, refl), tt))
 
-sample_holds : All (Holds sample_document) (checks_of sample_document)
-sample_holds = All-from_recursion (Holds sample_document) (checks_of sample_document) (
-  All-from_recursion (Contains map_keys) (codes "cut" ∷ codes "metal" ∷ codes "radii" ∷ codes "terminal" ∷ codes "version" ∷ codes "weights" ∷ [])
-      ((4, omega arith, refl), ((3, omega arith, refl), ((1, omega arith, refl), ((5, omega arith, refl), ((0, omega arith, refl), ((2, omega arith, refl), tt)))))),
+first_metal_holds : All Sound (map (of_metal 0) layer_checks)
+first_metal_holds = All-from_recursion Sound (map (of_metal 0) layer_checks) (
+  refl,
   (
-    refl,
+    metal_keys_known,
     (
-      refl,
+      named 109 49 refl refl,
       (
-        omega arith,
+        Contains-none,
         (
-          (2 ∷ 5 ∷ [], refl, radii_are),
-          (
-            (10 ∷ 1 ∷ [], refl, weights_are),
-            (
-              omega arith,
-              (
-                omega arith,
-                -- the metals
-                (
-                  refl,
-                  (
-                    metal_keys_known,
-                    (
-                      (codes "m1", refl, short_name 109 49 refl refl),
-                      (
-                        not_in_none _,
-                        (
-                          ((1, 0) ∷ (1, 20) ∷ [], refl, two_pairs),
-                          (
-                            written_differ ((1, 0) ∷ (1, 20) ∷ []) ((3, 0) ∷ (2, 0) ∷ []) refl,
-                            (
-                              refl,
-                              (
-                                metal_keys_known,
-                                (
-                                  (codes "m2", refl, short_name 109 50 refl refl),
-                                  (
-                                    other_name (codes "m1") (codes "m2") m1_is_not_m2,
-                                    (
-                                      ((3, 0) ∷ [], refl, one_pair 3 0 (omega arith) (omega arith)),
-                                      (
-                                        written_differ ((1, 0) ∷ (1, 20) ∷ (3, 0) ∷ []) ((2, 0) ∷ []) refl,
-                                        -- the cut
-                                        (
-                                          refl,
-                                          (
-                                            omega arith,
-                                            (
-                                              refl,
-                                              (
-                                                cut_keys_known,
-                                                (
-                                                  (codes "v1", refl, short_name 118 49 refl refl),
-                                                  (
-                                                    another_name (codes "m1") (codes "m2") (codes "v1") m1_is_not_v1 m2_is_not_v1,
-                                                    (
-                                                      ((2, 0) ∷ [], refl, one_pair 2 0 (omega arith) (omega arith)),
-                                                      (
-                                                        written_differ all_pairs [] refl,
-                                                        (
-                                                          (codes "m1", refl, tt),
-                                                          (
-                                                            (0, omega arith, refl),
-                                                            (
-                                                              (codes "m2", refl, tt),
-                                                              (
-                                                                (1, omega arith, refl),
-                                                                (
-                                                                  (λ same. m1_is_not_m2 (sym (ap text_of same))),
-                                                                  -- the terminal
-                                                                  (
-                                                                    refl,
-                                                                    (
-                                                                      omega arith,
-                                                                      (refl, (terminal_keys_known, ((codes "m1", refl, tt), ((0, omega arith, refl), ((pos 0, refl, record { least = omega (arith, ints); most = omega (arith, ints) }), ((pos 0, refl, record { least = omega (arith, ints); most = omega (arith, ints) }), (not_in_none _, tt))))))),
-                                                                    ),
-                                                                  ),
-                                                                ),
-                                                              ),
-                                                            ),
-                                                          ),
-                                                        ),
-                                                      ),
-                                                    ),
-                                                  ),
-                                                ),
-                                              ),
-                                            ),
-                                          ),
-                                        ),
-                                      ),
-                                    ),
-                                  ),
-                                ),
-                              ),
-                            ),
-                          ),
-                        ),
-                      ),
-                    ),
-                  ),
-                ),
-              ),
-            ),
-          ),
+          ((1, 0) ∷ (1, 20) ∷ [], refl, two_pairs),
+          (written_differ ((1, 0) ∷ (1, 20) ∷ []) ((3, 0) ∷ (2, 0) ∷ []) refl, tt),
+        ),
+      ),
+    ),
+  ),
+)
+
+second_metal_holds : All Sound (map (of_metal 1) layer_checks)
+second_metal_holds = All-from_recursion Sound (map (of_metal 1) layer_checks) (
+  refl,
+  (
+    metal_keys_known,
+    (
+      named 109 50 refl refl,
+      (
+        not_among code_of (written_name (codes "m2")) (written_name (codes "m1") ∷ []) refl,
+        (
+          ((3, 0) ∷ [], refl, one_pair 3 0 (omega arith) (omega arith)),
+          (written_differ ((1, 0) ∷ (1, 20) ∷ (3, 0) ∷ []) ((2, 0) ∷ []) refl, tt),
+        ),
+      ),
+    ),
+  ),
+)
+
+cut_layer_holds : All Sound (map (of_cut 0) (map as_layer layer_checks))
+cut_layer_holds = All-from_recursion Sound (map (of_cut 0) (map as_layer layer_checks)) (
+  refl,
+  (
+    keys,
+    (
+      named 118 49 refl refl,
+      (
+        not_among code_of (written_name (codes "v1")) (written_name (codes "m1") ∷ written_name (codes "m2") ∷ []) refl,
+        (
+          ((2, 0) ∷ [], refl, one_pair 2 0 (omega arith) (omega arith)),
+          (written_differ all_pairs [] refl, tt),
         ),
       ),
     ),
   ),
 ) where
-  metal_keys_known : All (Contains metal_keys) (codes "name" ∷ codes "pairs" ∷ [])
-  metal_keys_known = All-from_recursion (Contains metal_keys) (codes "name" ∷ codes "pairs" ∷ []) ((0, omega arith, refl), ((1, omega arith, refl), tt))
+  keys : All (Contains cut_keys) (codes "lower" ∷ codes "name" ∷ codes "pairs" ∷ codes "upper" ∷ [])
+  keys = All-from_recursion (Contains cut_keys) (codes "lower" ∷ codes "name" ∷ codes "pairs" ∷ codes "upper" ∷ [])
+      ((2, omega arith, refl), ((0, omega arith, refl), ((1, omega arith, refl), ((3, omega arith, refl), tt))))
 
-  cut_keys_known : All (Contains cut_keys) (codes "lower" ∷ codes "name" ∷ codes "pairs" ∷ codes "upper" ∷ [])
-  cut_keys_known = All-from_recursion (Contains cut_keys) (codes "lower" ∷ codes "name" ∷ codes "pairs" ∷ codes "upper" ∷ []) ((2, omega arith, refl), ((0, omega arith, refl), ((1, omega arith, refl), ((3, omega arith, refl), tt))))
+cut_ends_hold : All Sound (map (of_cut 0) end_checks)
+cut_ends_hold = All-from_recursion Sound (map (of_cut 0) end_checks) (
+  (codes "m1", refl, tt),
+  ((0, omega arith, refl), ((codes "m2", refl, tt), ((1, omega arith, refl), (apart code_of (written_name (codes "m2")) (written_name (codes "m1")) refl, tt)))),
+)
 
-  terminal_keys_known : All (Contains terminal_keys) (codes "metal" ∷ codes "x" ∷ codes "y" ∷ [])
-  terminal_keys_known = All-from_recursion (Contains terminal_keys) (codes "metal" ∷ codes "x" ∷ codes "y" ∷ []) ((0, omega arith, refl), ((1, omega arith, refl), ((2, omega arith, refl), tt)))
+terminal_holds : All Sound (map (of_terminal 0) terminal_checks)
+terminal_holds = All-from_recursion Sound (map (of_terminal 0) terminal_checks)
+    (refl, (keys, ((codes "m1", refl, tt), ((0, omega arith, refl), ((pos 0, refl, zero_is), ((pos 0, refl, zero_is), (Contains-none, tt))))))) where
+      keys : All (Contains terminal_keys) (codes "metal" ∷ codes "x" ∷ codes "y" ∷ [])
+      keys = All-from_recursion (Contains terminal_keys) (codes "metal" ∷ codes "x" ∷ codes "y" ∷ []) ((0, omega arith, refl), ((1, omega arith, refl), ((2, omega arith, refl), tt)))
+
+      zero_is : IsCellNumber (pos 0)
+      zero_is = record { least = omega (arith, ints); most = omega (arith, ints) }
+
+-- of each array, first that it is one of so many items, and then what holds of the items
+metals_hold : All Sound (checks_of_metals sample_document)
+metals_hold =
+    All-append Sound (has_metals ∷ metals_are_few ∷ []) (map (of_metal 0) layer_checks ++ map (of_metal 1) layer_checks)
+    (All-from_recursion Sound (has_metals ∷ metals_are_few ∷ []) (omega arith, (omega arith, tt)))
+    (All-append Sound (map (of_metal 0) layer_checks) (map (of_metal 1) layer_checks) first_metal_holds second_metal_holds)
+
+cuts_hold : All Sound (checks_of_cuts sample_document)
+cuts_hold =
+    All-append Sound (cuts_are_array ∷ cuts_are_few ∷ []) (map (of_cut 0) cut_checks)
+    (All-from_recursion Sound (cuts_are_array ∷ cuts_are_few ∷ []) (refl, (omega arith, tt)))
+    (All-append Sound (map (of_cut 0) (map as_layer layer_checks)) (map (of_cut 0) end_checks) cut_layer_holds cut_ends_hold)
+
+terminals_hold : All Sound (checks_of_terminals sample_document)
+terminals_hold =
+    All-append Sound (terminals_are_array ∷ terminals_are_few ∷ []) (map (of_terminal 0) terminal_checks)
+    (All-from_recursion Sound (terminals_are_array ∷ terminals_are_few ∷ []) (refl, (omega arith, tt))) terminal_holds
+
+sample_holds : All Sound (checks_of sample_document)
+sample_holds =
+    let metals = checks_of_metals sample_document in
+    let cuts = checks_of_cuts sample_document in
+    let terminals = checks_of_terminals sample_document in
+    All-append Sound first_checks (metals ++ (cuts ++ terminals)) head_holds (All-append Sound metals (cuts ++ terminals) metals_hold (All-append Sound cuts terminals cuts_hold terminals_hold))
 
 sample_gives : GivesMap sample_document sample_map
 sample_gives = record {
@@ -262,10 +253,8 @@ sample_gives = record {
   has_radii = refl;
   has_weights = refl;
   sizes = refl;
-  letter = refl;
   metals = (record { name = refl; pairs = refl }, (record { name = refl; pairs = refl }, tt));
-  names_differ = AllPairs-cons (λ p q. p ≢ q) (codes "m1") (codes "m2" ∷ []) (All-from_recursion (λ q. codes "m1" ≢ q) (codes "m2" ∷ []) (m1_is_not_m2, tt))
-      (AllPairs-cons (λ p q. p ≢ q) (codes "m2") [] (All-from_recursion (λ q. codes "m2" ≢ q) [] tt) (λ i j d below within. absurd (omega arith)));
+  names_differ = are_different name_code (codes "m1" ∷ codes "m2" ∷ []) refl;
   cuts = (
     record {
       layer = record { name = refl; pairs = refl };

@@ -8,13 +8,14 @@ use Rattle.std.proofs.lemmas.Option.{same_Some}
 use Rattle.toml.specs.Data.{Data, Members, array, as_array}
 use Rattle.toml.specs.View.{items_of, items_view, view}
 use Rattle.toml.specs.declared.value.Value.{Value}
-use Rattle.layer_map.specs.Limits.{AreWeights}
+use Rattle.map_model.specs.Limits.{AreWeights}
 use Rattle.layer_map.specs.MapChecks.{Holds, fault_of, has_radii, has_weights, radii_are_array, radii_are_few}
-use Rattle.layer_map.specs.Readers.{AreRadiiIn, AreRadiiThere, AreWeightsIn, AreWeightsThere, AreWholesIn, Finds, finds, lacks}
+use Rattle.layer_map.specs.inside.ReadValues.{AreWholesIn, Finds, finds, lacks}
+use Rattle.layer_map.specs.inside.ReadSizes.{AreRadiiIn, AreRadiiThere, AreWeightsIn, AreWeightsThere}
 use Rattle.layer_map.specs.Values.{radii_in, values_in, weights_in, whole_number, whole_numbers}
-use Rattle.layer_map.specs.declared.fault.MapFault.TheVariants.{BadValue, LimitPassed}
-use Rattle.layer_map.specs.declared.limits.TheConstants.{MOST_SIZES}
-use Rattle.layer_map.proofs.CheckedLaws.{Judges, fails_first, goes_on, passes}
+use Rattle.layer_map.specs.declared.fault.MapFault.TheVariants.{BadValue, LimitPassed, Memory}
+use Rattle.map_model.specs.declared.limits.TheConstants.{MOST_SIZES}
+use Rattle.first_refusal.proofs.JudgeLaws.{Judges, fails_first, goes_on, passes}
 use Rattle.layer_map.proofs.PairLaws.{values_of_list}
 use Rattle.layer_map.proofs.ValueLaws.{values_in-array}
 
@@ -82,7 +83,8 @@ radii_there there vs (Some radii) told (finds are) = finds (record { written = t
 radii_there there vs None told (lacks not) =
     lacks (λ radii are. not radii (record { written = values_of_list vs (map whole_number radii) (same_Some _ _ (sym told ∙ are.written)); are_radii = are.are_radii }))
 
-pub weights_there : (count : ℕ) (there : Option Data) (vs : List Value) (weights : Option (List ℕ)) → there ≡ Some (array (items_view vs)) → Finds (AreWeightsIn count (map view vs)) weights → Finds (AreWeightsThere count there) weights
+pub weights_there : (count : ℕ) (there : Option Data) (vs : List Value) (weights : Option (List ℕ)) → there ≡ Some (array (items_view vs)) → Finds (AreWeightsIn count (map view vs)) weights
+    → Finds (AreWeightsThere count there) weights
 weights_there count there vs (Some weights) told (finds are) = finds (record { written = told ∙ ap (λ (ds : List Data). Some (array (items_of ds))) are.written; are_weights = are.are_weights })
 weights_there count there vs None told (lacks not) =
     lacks (λ weights are. not weights (record { written = values_of_list vs (map whole_number weights) (same_Some _ _ (sym told ∙ are.written)); are_weights = are.are_weights }))
@@ -92,14 +94,14 @@ no_weights_there count there h = lacks (λ weights are. let e : None ≡ as_arra
 
 -- the answers to the checks of radii and weights
 module _ (document : Members) {T : Type 0} (Is : T → Type 0) where
-  pub radii_no_array : (Holds document radii_are_array → ⊥) → Judges (Holds document) (radii_are_array ∷ radii_are_few ∷ has_radii ∷ []) fault_of Is (Err (BadValue 3))
+  pub radii_no_array : (Holds document radii_are_array → ⊥) → Judges Memory (Holds document) (radii_are_array ∷ radii_are_few ∷ has_radii ∷ []) fault_of Is (Err (BadValue 3))
   radii_no_array not = fails_first (Holds document) fault_of Is radii_are_array (radii_are_few ∷ has_radii ∷ []) not
 
   module _ (vs : List Value) (told : radii_in document ≡ Some (array (items_view vs))) where
     are_array : Holds document radii_are_array
     are_array = rw told refl
 
-    pub too_many_radii : MOST_SIZES < length vs → Judges (Holds document) (radii_are_array ∷ radii_are_few ∷ has_radii ∷ []) fault_of Is (Err (LimitPassed 3))
+    pub too_many_radii : MOST_SIZES < length vs → Judges Memory (Holds document) (radii_are_array ∷ radii_are_few ∷ has_radii ∷ []) fault_of Is (Err (LimitPassed 3))
     too_many_radii many =
         goes_on (Holds document) fault_of Is (radii_are_array ∷ []) (radii_are_few ∷ has_radii ∷ []) _ (All-from_recursion (Holds document) (radii_are_array ∷ []) (are_array, tt))
         (fails_first (Holds document) fault_of Is radii_are_few (has_radii ∷ []) (λ few. let count = ap length (values_in-array (radii_in document) vs told) in omega (arith, length-map vs view)))
@@ -108,21 +110,25 @@ module _ (document : Members) {T : Type 0} (Is : T → Type 0) where
       are_few : Holds document radii_are_few
       are_few = let count = ap length (values_in-array (radii_in document) vs told) in omega (arith, length-map vs view)
 
-      pub bad_radii : ((radii : List ℕ) → AreRadiiIn (map view vs) radii → ⊥) → Judges (Holds document) (radii_are_array ∷ radii_are_few ∷ has_radii ∷ []) fault_of Is (Err (BadValue 3))
+      pub bad_radii : ((radii : List ℕ) → AreRadiiIn (map view vs) radii → ⊥) → Judges Memory (Holds document) (radii_are_array ∷ radii_are_few ∷ has_radii ∷ []) fault_of Is (Err (BadValue 3))
       bad_radii not =
-          goes_on (Holds document) fault_of Is (radii_are_array ∷ radii_are_few ∷ []) (has_radii ∷ []) _ (All-from_recursion (Holds document) (radii_are_array ∷ radii_are_few ∷ []) (are_array, (are_few, tt)))
+          goes_on (Holds document) fault_of Is (radii_are_array ∷ radii_are_few ∷ []) (has_radii ∷ []) _
+          (All-from_recursion (Holds document) (radii_are_array ∷ radii_are_few ∷ []) (are_array, (are_few, tt)))
           (fails_first (Holds document) fault_of Is has_radii []
           (λ h. not h.0 (record { written = values_of_list vs (map whole_number h.0) (same_Some _ _ (sym told ∙ h.1)); are_radii = h.2 })))
 
-      pub good_radii : (thing : T) (radii : List ℕ) → AreRadiiIn (map view vs) radii → Is thing → Judges (Holds document) (radii_are_array ∷ radii_are_few ∷ has_radii ∷ []) fault_of Is (Ok thing)
+      pub good_radii : (thing : T) (radii : List ℕ) → AreRadiiIn (map view vs) radii → Is thing
+          → Judges Memory (Holds document) (radii_are_array ∷ radii_are_few ∷ has_radii ∷ []) fault_of Is (Ok thing)
       good_radii thing radii are is =
           passes (Holds document) fault_of Is (radii_are_array ∷ radii_are_few ∷ has_radii ∷ []) thing
-          (All-from_recursion (Holds document) (radii_are_array ∷ radii_are_few ∷ has_radii ∷ []) (are_array, (are_few, ((radii, told ∙ ap (λ (ds : List Data). Some (array (items_of ds))) are.written, are.are_radii), tt)))) is
+          (All-from_recursion (Holds document) (radii_are_array ∷ radii_are_few ∷ has_radii ∷ [])
+          (are_array, (are_few, ((radii, told ∙ ap (λ (ds : List Data). Some (array (items_of ds))) are.written, are.are_radii), tt)))) is
 
   module _ (count : ℕ) (many : count ≡ length (values_in (radii_in document))) where
-    pub bad_weights : ((weights : List ℕ) → AreWeightsThere count (weights_in document) weights → ⊥) → Judges (Holds document) (has_weights ∷ []) fault_of Is (Err (BadValue 4))
+    pub bad_weights : ((weights : List ℕ) → AreWeightsThere count (weights_in document) weights → ⊥) → Judges Memory (Holds document) (has_weights ∷ []) fault_of Is (Err (BadValue 4))
     bad_weights not = fails_first (Holds document) fault_of Is has_weights [] (λ h. not h.0 (record { written = h.1; are_weights = subst (λ (n : ℕ). AreWeights n h.0) (sym many) h.2 }))
 
-    pub good_weights : (thing : T) (weights : List ℕ) → AreWeightsThere count (weights_in document) weights → Is thing → Judges (Holds document) (has_weights ∷ []) fault_of Is (Ok thing)
+    pub good_weights : (thing : T) (weights : List ℕ) → AreWeightsThere count (weights_in document) weights → Is thing → Judges Memory (Holds document) (has_weights ∷ []) fault_of Is (Ok thing)
     good_weights thing weights are is =
-        passes (Holds document) fault_of Is (has_weights ∷ []) thing (All-from_recursion (Holds document) (has_weights ∷ []) ((weights, are.written, subst (λ (n : ℕ). AreWeights n weights) many are.are_weights), tt)) is
+        passes (Holds document) fault_of Is (has_weights ∷ []) thing (All-from_recursion (Holds document) (has_weights ∷ [])
+        ((weights, are.written, subst (λ (n : ℕ). AreWeights n weights) many are.are_weights), tt)) is

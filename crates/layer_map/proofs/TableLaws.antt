@@ -6,8 +6,8 @@ use Rattle.std.proofs.lemmas.Option.{same_Some}
 use Rattle.toml.specs.Data.{Data, string, integer, float, boolean, datetime, array, table, Members, as_table}
 use Rattle.layer_map.specs.Values.{keys_in, keys_of}
 use Rattle.layer_map.specs.ItemChecks.{TableHolds, is_table, has_known_keys, table_checks, table_fault}
-use Rattle.layer_map.specs.declared.fault.MapFault.TheVariants.{BadKey, BadValue}
-use Rattle.layer_map.proofs.CheckedLaws.{Judges, fails_first, goes_on, passes}
+use Rattle.layer_map.specs.declared.fault.MapFault.TheVariants.{BadKey, BadValue, Memory}
+use Rattle.first_refusal.proofs.JudgeLaws.{Judges, fails_first, goes_on, passes}
 
 pub table_is : (d : Data) (members : Members) → Some members ≡ as_table d → d ≡ table members
 table_is (table ms) members h = ap table (sym (same_Some _ _ h))
@@ -23,7 +23,7 @@ not_some None e some = cc some
 not_some (Some x) e some = cc e
 
 module _ (known : List (List ℕ)) (d : Data) (path : ℕ) {T : Type 0} (Is : T → Type 0) where
-  pub no_table : None ≡ as_table d → Judges (TableHolds known d) table_checks (table_fault path) Is (Err (BadValue path))
+  pub no_table : None ≡ as_table d → Judges Memory (TableHolds known d) table_checks (table_fault path) Is (Err (BadValue path))
   no_table h = fails_first (TableHolds known d) (table_fault path) Is is_table (has_known_keys ∷ []) (λ some. not_some (as_table d) (sym h) some)
 
   module _ (members : Members) (told : Some members ≡ as_table d) where
@@ -33,12 +33,12 @@ module _ (known : List (List ℕ)) (d : Data) (path : ℕ) {T : Type 0} (Is : T 
     keys_are : keys_in members ≡ keys_of d
     keys_are = sym (ap keys_of (table_is d members told))
 
-    pub other_key : (All (Contains known) (keys_in members) → ⊥) → Judges (TableHolds known d) table_checks (table_fault path) Is (Err (BadKey path))
+    pub other_key : (All (Contains known) (keys_in members) → ⊥) → Judges Memory (TableHolds known d) table_checks (table_fault path) Is (Err (BadKey path))
     other_key not =
         goes_on (TableHolds known d) (table_fault path) Is (is_table ∷ []) (has_known_keys ∷ []) (Err (BadKey path)) (All-from_recursion (TableHolds known d) (is_table ∷ []) (is_there, tt))
         (fails_first (TableHolds known d) (table_fault path) Is has_known_keys [] (λ all. not (subst (All (Contains known)) (sym keys_are) all)))
 
-    pub known_keys : (thing : T) → All (Contains known) (keys_in members) → Is thing → Judges (TableHolds known d) table_checks (table_fault path) Is (Ok thing)
+    pub known_keys : (thing : T) → All (Contains known) (keys_in members) → Is thing → Judges Memory (TableHolds known d) table_checks (table_fault path) Is (Ok thing)
     known_keys thing all is =
         passes (TableHolds known d) (table_fault path) Is table_checks thing
         (All-from_recursion (TableHolds known d) table_checks (is_there, (subst (All (Contains known)) keys_are all, tt))) is

@@ -8,11 +8,11 @@ use Rattle.first_refusal.proofs.CheckLaws.{checks_agree}
 use Rattle.first_refusal.proofs.StageLaws.{readings_agree, stages_agree}
 use Rattle.toml.specs.Data.{Data, Members, string, integer}
 use Rattle.layer_map.specs.Documents.{DocumentComesTo, GivesCut, GivesLayer, GivesMap, GivesTerminal, IsDocument, MapComesTo}
-use Rattle.layer_map.specs.LayerMap.{DefectSize, MappedCut, MappedLayer}
-use Rattle.layer_map.specs.Layers.{names_of}
-use Rattle.layer_map.specs.Lists.{AreDifferent}
+use Rattle.map_model.specs.LayerMap.{DefectSize, MappedCut, MappedLayer}
+use Rattle.map_model.specs.Layers.{names_of}
+use Rattle.lists.specs.Differing.{AreDifferent}
 use Rattle.layer_map.specs.MapChecks.{Holds, checks_of, fault_of}
-use Rattle.layer_map.specs.MapView.{sizes_of}
+use Rattle.map_model.specs.MapView.{sizes_of}
 use Rattle.layer_map.specs.Values.{array_of, pair_value, cuts_in, terminals_in, values_in, whole_number}
 use Rattle.layer_map.specs.declared.fault.MapFault.TheVariants.{Syntax}
 use Rattle.layer_map.proofs.EndLaws.{one_metal_named}
@@ -38,7 +38,8 @@ lists_tell written tells (x ∷ xs) (y ∷ ys) same =
     let tails : map written xs ≡ map written ys = cc same in
     ap (λ z. z ∷ xs) (tells x y heads) ∙ ap (λ zs. y ∷ zs) (lists_tell written tells xs ys tails)
 
-arrays_tell : {A : Type 0} (written : A → Data) → ((one other : A) → written one ≡ written other → one ≡ other) → (there : Option Data) (xs ys : List A) → there ≡ Some (array_of (map written xs)) → there ≡ Some (array_of (map written ys)) → xs ≡ ys
+arrays_tell : {A : Type 0} (written : A → Data) → ((one other : A) → written one ≡ written other → one ≡ other) → (there : Option Data) (xs ys : List A) → there ≡ Some (array_of (map written xs))
+    → there ≡ Some (array_of (map written ys)) → xs ≡ ys
 arrays_tell written tells there xs ys one other =
     lists_tell written tells xs ys (sym (listed-items_of (map written xs)) ∙ ap values_in (sym one ∙ other) ∙ listed-items_of (map written ys))
 
@@ -77,21 +78,22 @@ module _ (metals : List MappedLayer) (differ : AreDifferent (names_of metals)) w
 pub maps_tell : (document : Members) → IsUnique (GivesMap document)
 maps_tell document one other p q =
     let metals : one.metals ≡ other.metals = zip_tells GivesLayer layers_tell _ one.metals other.metals p.metals q.metals in
-    let cuts : one.cuts ≡ other.cuts = zip_tells (GivesCut one.metals) (cuts_tell one.metals p.names_differ) _ one.cuts other.cuts p.cuts (subst (λ (ms : List MappedLayer). AllZip (GivesCut ms) (cuts_in document) other.cuts) (sym metals) q.cuts) in
-    let terminals : one.terminals ≡ other.terminals = zip_tells (GivesTerminal one.metals) (terminals_tell one.metals p.names_differ) _ one.terminals other.terminals p.terminals (subst (λ (ms : List MappedLayer). AllZip (GivesTerminal ms) (terminals_in document) other.terminals) (sym metals) q.terminals) in
-    let letters : one.letter ≡ other.letter = p.letter ∙ sym q.letter in
+    let cuts : one.cuts ≡ other.cuts = zip_tells (GivesCut one.metals) (cuts_tell one.metals p.names_differ) _ one.cuts other.cuts p.cuts
+    (subst (λ (ms : List MappedLayer). AllZip (GivesCut ms) (cuts_in document) other.cuts) (sym metals) q.cuts) in
+    let terminals : one.terminals ≡ other.terminals = zip_tells (GivesTerminal one.metals) (terminals_tell one.metals p.names_differ) _ one.terminals other.terminals p.terminals
+    (subst (λ (ms : List MappedLayer). AllZip (GivesTerminal ms) (terminals_in document) other.terminals) (sym metals) q.terminals) in
     let radii : p.radii ≡ q.radii = arrays_tell whole_number number_tells _ p.radii q.radii p.has_radii q.has_radii in
     let weights : p.weights ≡ q.weights = arrays_tell whole_number number_tells _ p.weights q.weights p.has_weights q.has_weights in
     let sizes : one.sizes ≡ other.sizes = p.sizes ∙ ap (λ (rs : List ℕ). sizes_of rs p.weights) radii ∙ ap (λ (ws : List ℕ). sizes_of q.radii ws) weights ∙ sym q.sizes in
-    ap (λ (ms : List MappedLayer). record { metals = ms; cuts = one.cuts; letter = one.letter; sizes = one.sizes; terminals = one.terminals }) metals
-    ∙ ap (λ (cs : List MappedCut). record { metals = other.metals; cuts = cs; letter = one.letter; sizes = one.sizes; terminals = one.terminals }) cuts
-    ∙ ap (λ (l : List ℕ). record { metals = other.metals; cuts = other.cuts; letter = l; sizes = one.sizes; terminals = one.terminals }) letters
-    ∙ ap (λ (ss : List DefectSize). record { metals = other.metals; cuts = other.cuts; letter = other.letter; sizes = ss; terminals = one.terminals }) sizes
-    ∙ ap (λ (ts : List (ℕ × Cell)). record { metals = other.metals; cuts = other.cuts; letter = other.letter; sizes = other.sizes; terminals = ts }) terminals
+    ap (λ (ms : List MappedLayer). record { metals = ms; cuts = one.cuts; sizes = one.sizes; terminals = one.terminals }) metals
+    ∙ ap (λ (cs : List MappedCut). record { metals = other.metals; cuts = cs; sizes = one.sizes; terminals = one.terminals }) cuts
+    ∙ ap (λ (ss : List DefectSize). record { metals = other.metals; cuts = other.cuts; sizes = ss; terminals = one.terminals }) sizes
+    ∙ ap (λ (ts : List (ℕ × Cell)). record { metals = other.metals; cuts = other.cuts; sizes = other.sizes; terminals = ts }) terminals
 
 pub documents_agree : (bytes : List ℕ) → IsUnique (IsDocument bytes)
 documents_agree bytes one other p q = same_Some _ _ (sym p.parsed ∙ q.parsed)
 
 pub maps_agree : (bytes : List ℕ) → IsUnique (MapComesTo bytes)
 maps_agree bytes =
-    stages_agree _ DocumentComesTo (readings_agree (IsDocument bytes) Syntax (documents_agree bytes)) (λ document. checks_agree (Holds document) (checks_of document) fault_of (GivesMap document) (maps_tell document))
+    stages_agree _ DocumentComesTo (readings_agree (IsDocument bytes) Syntax (documents_agree bytes))
+    (λ document. checks_agree (Holds document) (checks_of document) fault_of (GivesMap document) (maps_tell document))

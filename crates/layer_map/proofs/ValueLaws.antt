@@ -1,6 +1,5 @@
 -- values of a document, and what they are read as
-use Rattle.std.proofs.Common.{◌≡◌, ℕ, ◌<◌, ◌≤◌, List, [], ◌∷◌, map, Option, Some, None, refl, sym, ap, ◌∙◌, arith, ℤ, pos}
-use Rattle.std.proofs.Common.{negsuc, nat_abs, subst, ◌^◌, w64, to_z, of_z, SFits}
+use Rattle.std.proofs.Common.{◌≡◌, ℕ, ◌<◌, ◌≤◌, List, [], ◌∷◌, map, Option, Some, None, refl, sym, ap, ◌∙◌, arith, ℤ, pos, negsuc, nat_abs, subst, ◌^◌, w64, to_z, of_z, SFits}
 use Rattle.std.proofs.lemmas.Int.{to_z-of_z}
 use Rattle.std.proofs.lemmas.Option.{same_Some}
 use Rattle.std.specs.Int.{FitsUnsignedBits}
@@ -9,7 +8,7 @@ use Rattle.toml.specs.View.{items_of, items_view, view}
 use Rattle.toml.specs.declared.value.Value.{Value}
 use Rattle.layer_map.specs.Values.{listed, values_in}
 use Rattle.layer_map.specs.MapChecks.{IsArray}
-use Rattle.layer_map.specs.Readers.{IsWholeIn, Finds, finds, lacks}
+use Rattle.layer_map.specs.inside.ReadValues.{IsWholeIn, Finds, finds, lacks}
 
 -- the values of an array are those that it was made of
 pub listed-items_of : (ds : List Data) → listed (items_of ds) ≡ ds
@@ -42,7 +41,8 @@ module _ (low high : ℕ) (d : Data) where
     number_is n is = let e : Some (pos n) ≡ Some z = sym (h ∙ ap as_integer is.is_whole) in same_Some _ _ e
 
     pub no_whole : (FitsUnsignedBits 32 (to_z w64 (of_z w64 z)) → ⊥) → high < 2 ^ 32 → Finds (IsWholeIn low high d) None
-    no_whole not small = lacks (λ n is. let most = is.most in let same : pos n ≡ to_z w64 (of_z w64 z) = number_is n is ∙ sym (to_z-of_z w64 z fits) in not (subst (FitsUnsignedBits 32) same (omega (arith, is.most))))
+    no_whole not small = lacks (λ n is. let most = is.most in let same : pos n ≡ to_z w64 (of_z w64 z) = number_is n is ∙ sym (to_z-of_z w64 z fits) in
+        not (subst (FitsUnsignedBits 32) same (omega (arith, is.most))))
 
     module _ (n : ℕ) (told : FitsUnsignedBits 32 (to_z w64 (of_z w64 z)) × (n ≡ nat_abs (to_z w64 (of_z w64 z)))) where
       same_number : pos n ≡ z

@@ -2,7 +2,7 @@
 use Rattle.std.specs.Prelude.{ℕ, ◌≢◌, List, [], ◌∷◌, ◌++◌, codes, map}
 use Rattle.toml.specs.Data.{Data}
 use Rattle.layer_map.specs.Values.{lower_of_item, upper_of_item}
-use Rattle.layer_map.specs.Paths.{lower_at, upper_at}
+use Rattle.layer_map.specs.DocumentPaths.{lower_at, upper_at}
 use Rattle.layer_map.specs.ItemChecks.{ReferenceCheck, reference_checks, ReferenceHolds, reference_fault}
 use Rattle.layer_map.specs.LayerChecks.{LayerCheck, layer_checks, LayerHolds, layer_fault}
 use Rattle.layer_map.specs.declared.fault.MapFault.{MapFault}

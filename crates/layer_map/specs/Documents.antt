@@ -6,10 +6,10 @@ use Rattle.first_refusal.specs.Outcomes.{Outcome, Reads, Then}
 use Rattle.first_refusal.specs.Checks.{Checks}
 use Rattle.toml.specs.Data.{Data, string, integer, Members}
 use Rattle.toml.specs.Parse.{parse_document}
-use Rattle.layer_map.specs.Lists.{AreDifferent}
-use Rattle.layer_map.specs.LayerMap.{LayerMap, MappedLayer, MappedCut}
-use Rattle.layer_map.specs.Layers.{names_of}
-use Rattle.layer_map.specs.MapView.{sizes_of}
+use Rattle.lists.specs.Differing.{AreDifferent}
+use Rattle.map_model.specs.LayerMap.{LayerMap, MappedLayer, MappedCut}
+use Rattle.map_model.specs.Layers.{names_of}
+use Rattle.map_model.specs.MapView.{sizes_of}
 use Rattle.layer_map.specs.Values.{whole_numbers, pairs_value, radii_in, weights_in, metals_in, cuts_in, terminals_in, name_of_item, pairs_of_item, lower_of_item, upper_of_item, metal_of_item, x_of_item, y_of_item}
 use Rattle.layer_map.specs.MapChecks.{Holds, checks_of, fault_of}
 use Rattle.layer_map.specs.declared.fault.MapFault.{MapFault}
@@ -52,7 +52,6 @@ pub record GivesMap (document : Members) (layer_map : LayerMap) : Type 0 where
   pub has_radii : radii_in document ≡ Some (whole_numbers radii)
   pub has_weights : weights_in document ≡ Some (whole_numbers weights)
   pub sizes : layer_map.sizes ≡ sizes_of radii weights
-  pub letter : layer_map.letter ≡ codes "r"
   pub metals : AllZip GivesLayer (metals_in document) layer_map.metals
   pub names_differ : AreDifferent (names_of layer_map.metals)
   pub cuts : AllZip (GivesCut layer_map.metals) (cuts_in document) layer_map.cuts

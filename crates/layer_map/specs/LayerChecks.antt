@@ -1,11 +1,11 @@
 -- What is checked of one item of a document's metals or cuts, one check after the other, and the fault of each.
 use Rattle.std.specs.Prelude.{ℕ, List, [], ◌∷◌, ◌++◌, codes, map, flat_map, Contains}
 use Rattle.toml.specs.Data.{Data, string}
-use Rattle.layer_map.specs.Lists.{AreDifferent}
-use Rattle.layer_map.specs.Names.{IsLayerName}
-use Rattle.layer_map.specs.Limits.{ArePairs}
+use Rattle.lists.specs.Differing.{AreDifferent}
+use Rattle.map_model.specs.LayerNames.{IsLayerName}
+use Rattle.map_model.specs.Limits.{ArePairs}
 use Rattle.layer_map.specs.Values.{StandsAs, pairs_value, values_in, name_of_item, pairs_of_item}
-use Rattle.layer_map.specs.Paths.{name_at, pairs_at}
+use Rattle.layer_map.specs.DocumentPaths.{name_at, pairs_at}
 use Rattle.layer_map.specs.ItemChecks.{TableCheck, table_checks, TableHolds, table_fault}
 use Rattle.layer_map.specs.declared.fault.MapFault.{MapFault}
 use Rattle.layer_map.specs.declared.fault.MapFault.TheVariants.{BadValue, RepeatedPair, RepeatedName}

@@ -1,14 +1,6 @@
--- layer maps, whatever they are read from
-pub mod Lists
-pub mod Names
-pub mod NameFields
-pub mod LayerMap
-pub mod Limits
-pub mod Layers
-pub mod MapView
 -- the documents that name them
 pub mod Values
-pub mod Paths
+pub mod DocumentPaths
 pub mod MapFaults
 pub mod ItemChecks
 pub mod LayerChecks
@@ -16,7 +8,10 @@ pub mod CutChecks
 pub mod TerminalChecks
 pub mod MapChecks
 pub mod Documents
--- what readers answer
-pub mod Readers
 -- an example
 pub mod Sample
+-- what a map is, which stands below
+pub use Rattle.map_model.specs.LayerMap
+pub use Rattle.map_model.specs.MapView
+-- what only this crate's proofs and private contracts cite
+pub mod inside

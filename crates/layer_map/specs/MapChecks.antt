@@ -2,13 +2,13 @@
 use Rattle.std.specs.Prelude.{ℕ, ◌≡◌, ◌≤◌, List, [], ◌∷◌, ◌++◌, codes, length, map, flat_map, take, slice_get, Option, Some, IsSome, IsSomeAnd, IfSome, All, Contains}
 use Rattle.std.specs.List.{range_with_len}
 use Rattle.toml.specs.Data.{Data, Members, as_array}
-use Rattle.layer_map.specs.Limits.{AreRadii, AreWeights}
+use Rattle.map_model.specs.Limits.{AreRadii, AreWeights}
 use Rattle.layer_map.specs.Values.{whole_number, whole_numbers, StandsAs, keys_in, values_in, version_in, radii_in, weights_in, cut_in, terminal_in, metals_in, cuts_in, terminals_in}
-use Rattle.layer_map.specs.Paths.{document_path, version_path, radii_path, weights_path, metals_path, cuts_path, terminals_path, metal_path, cut_path, terminal_path}
+use Rattle.layer_map.specs.DocumentPaths.{document_path, version_path, radii_path, weights_path, metals_path, cuts_path, terminals_path, metal_path, cut_path, terminal_path}
 use Rattle.layer_map.specs.LayerChecks.{LayerCheck, layer_checks, LayerHolds, layer_fault, metal_keys}
 use Rattle.layer_map.specs.CutChecks.{CutCheck, cut_checks, CutHolds, cut_fault}
 use Rattle.layer_map.specs.TerminalChecks.{TerminalCheck, terminal_checks, TerminalHolds, terminal_fault}
-use Rattle.layer_map.specs.declared.limits.TheConstants.{MOST_METALS, MOST_CUTS, MOST_SIZES, MOST_TERMINALS}
+use Rattle.map_model.specs.declared.limits.TheConstants.{MOST_METALS, MOST_CUTS, MOST_SIZES, MOST_TERMINALS}
 use Rattle.layer_map.specs.declared.fault.MapFault.{MapFault}
 use Rattle.layer_map.specs.declared.fault.MapFault.TheVariants.{BadKey, BadValue, LimitPassed}
 
@@ -57,11 +57,13 @@ Holds document (of_metal number check) =
 Holds document cuts_are_array = IsArrayOrNone (cut_in document)
 Holds document cuts_are_few = length (cuts_in document) ≤ MOST_CUTS
 Holds document (of_cut number check) =
-    IsSomeAnd (slice_get (cuts_in document) number) (λ item. CutHolds (metals_in document) (metals_in document ++ take number (cuts_in document)) item check)
+    IsSomeAnd (slice_get (cuts_in document) number) (λ item. CutHolds (metals_in document)
+    (metals_in document ++ take number (cuts_in document)) item check)
 Holds document terminals_are_array = IsArrayOrNone (terminal_in document)
 Holds document terminals_are_few = length (terminals_in document) ≤ MOST_TERMINALS
 Holds document (of_terminal number check) =
-    IsSomeAnd (slice_get (terminals_in document) number) (λ item. TerminalHolds (metals_in document) (take number (terminals_in document)) item check)
+    IsSomeAnd (slice_get (terminals_in document) number) (λ item. TerminalHolds (metals_in document) (take number (terminals_in document))
+    item check)
 
 -- these checks of each of the items, one item after the other
 abbrev pub checks_of_each : {C : Type 0} → (ℕ → C → MapCheck) → List C → List Data → List MapCheck

@@ -3,7 +3,7 @@ use Rattle.std.specs.Prelude.{ℕ, ℤ, neg_ℤ, ◌≤ℤ◌, ◌<ℤ◌, List,
 use Rattle.geo_core.specs.declared.bounds.TheConstants.{FARTHEST}
 use Rattle.toml.specs.Data.{Data, integer}
 use Rattle.layer_map.specs.Values.{StandsAs, metal_of_item, x_of_item, y_of_item}
-use Rattle.layer_map.specs.Paths.{metal_of_terminal_at, x_at, y_at}
+use Rattle.layer_map.specs.DocumentPaths.{metal_of_terminal_at, x_at, y_at}
 use Rattle.layer_map.specs.ItemChecks.{TableCheck, table_checks, TableHolds, table_fault, ReferenceCheck, reference_checks, ReferenceHolds, reference_fault}
 use Rattle.layer_map.specs.declared.fault.MapFault.{MapFault}
 use Rattle.layer_map.specs.declared.fault.MapFault.TheVariants.{BadValue, RepeatedTerminal}

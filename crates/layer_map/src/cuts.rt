@@ -5,19 +5,22 @@ ghost use Rattle.first_refusal.specs.Checks.{Checks};
 ghost use Rattle.toml.specs.Data.{Data, as_table};
 ghost use Rattle.toml.specs.View.{table_view, view};
 ghost use Rattle.layer_map.specs.CutChecks.{CutHolds, cut_checks, cut_fault, end_checks};
-ghost use Rattle.layer_map.specs.Lists.{AreDifferent};
+ghost use Rattle.lists.specs.Differing.{AreDifferent};
 ghost use Rattle.layer_map.specs.MapChecks.{Holds, checks_of_cuts, fault_of};
-ghost use Rattle.layer_map.specs.Readers.{Answers, AreSeen, HaveNamesOf, TakesCut, TakesCuts, TakesEnds, TakesMetals};
-ghost use Rattle.layer_map.specs.declared.limits.TheConstants.{MOST_METALS};
+ghost use Rattle.first_refusal.specs.Answers.{Answers};
+ghost use Rattle.layer_map.specs.inside.ReadLayers.{AreSeen};
+ghost use Rattle.layer_map.specs.inside.ReadMetals.{HaveNamesOf, TakesMetals};
+ghost use Rattle.layer_map.specs.inside.ReadCuts.{TakesCut, TakesCuts, TakesEnds};
+ghost use Rattle.map_model.specs.declared.limits.TheConstants.{MOST_METALS};
 
 use super::fault::MapFault;
 use super::items::metal_at;
 use super::layer_items::read_layer;
-use super::layers::{Cut, Cuts, Metal};
-use super::limits::MOST_CUTS;
 use super::paths;
 use super::seen::Seen;
 use super::values::array_or_none_at;
+use map_model::layers::{Cut, Cuts, Metal};
+use map_model::limits::MOST_CUTS;
 use std::alloc::Global;
 use toml::{Table, Value};
 
@@ -25,6 +28,7 @@ use toml::{Table, Value};
 const CUT_KEYS: [&str; 4] = ["name", "pairs", "lower", "upper"];
 
 /// The cuts, at most 16, which are seen behind these metals.
+#[tactic(auto, using(first_refusal::proofs::AnswerLaws::out_of_memory))]
 pub fn read_cuts(
     alloc: Global,
     document: &Table,
@@ -33,7 +37,8 @@ pub fn read_cuts(
 ) -> Result<Cuts, MapFault>
     requires { length metals.now ≤ MOST_METALS }
     ensures { TakesMetals (table_view document.now) seen.old metals.now →
-        Answers (Checks (Holds (table_view document.now)) (checks_of_cuts (table_view document.now)) fault_of
+        Answers MapFault.Memory (Checks
+        (Holds (table_view document.now)) (checks_of_cuts (table_view document.now)) fault_of
         (TakesCuts (table_view document.now) metals.now)) result }
 {
     let items = array_or_none_at(document, "cut", paths::CUTS)?;
@@ -60,7 +65,7 @@ fn read_cut(
     requires small { path < 2 ^ 31 }
     ensures { (items earlier : List Data) → HaveNamesOf items metals.now →
         AreDifferent (map (λ metal. metal.name) metals.now) → AreSeen earlier seen.old →
-        Answers (Checks (CutHolds items earlier (view item.now)) cut_checks (cut_fault path)
+        Answers MapFault.Memory (Checks (CutHolds items earlier (view item.now)) cut_checks (cut_fault path)
         (TakesCut metals.now earlier (view item.now) seen.old seen.new)) result }
 {
     let layer = read_layer(alloc, item, &CUT_KEYS, path, seen)?;
@@ -79,7 +84,7 @@ fn read_ends(item: &Value, metals: &[Metal], path: u32) -> Result<(u32, u32), Ma
     requires small { path < 2 ^ 31 }
     ensures judged { (items earlier : List Data) → HaveNamesOf items metals.now →
         AreDifferent (map (λ metal. metal.name) metals.now) → IsSome (as_table (view item.now)) →
-        Answers (Checks (CutHolds items earlier (view item.now)) end_checks (cut_fault path)
+        Answers MapFault.Memory (Checks (CutHolds items earlier (view item.now)) end_checks (cut_fault path)
         (TakesEnds metals.now (view item.now))) result }
     ensures differ { IfOk result (λ ends. ends.0 ≢ ends.1) }
 {

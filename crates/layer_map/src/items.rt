@@ -13,18 +13,21 @@ ghost use Rattle.layer_map.specs.ItemChecks.{
   reference_checks,
   reference_fault,
 };
-ghost use Rattle.layer_map.specs.Layers.{metal_layer};
-ghost use Rattle.layer_map.specs.Readers.{Answers, Finds, HaveNamesOf, texts_of};
-ghost use Rattle.layer_map.specs.declared.limits.TheConstants.{MOST_METALS};
+ghost use Rattle.map_model.specs.Layers.{metal_layer};
+ghost use Rattle.first_refusal.specs.Answers.{Answers};
+ghost use Rattle.layer_map.specs.inside.ReadValues.{Finds, texts_of};
+ghost use Rattle.layer_map.specs.inside.ReadMetals.{HaveNamesOf};
+ghost use Rattle.map_model.specs.declared.limits.TheConstants.{MOST_METALS};
 
 use super::fault::MapFault;
-use super::layers::Metal;
 use super::values::{has_only, text_at};
+use map_model::layers::Metal;
 use toml::{Table, Value};
 
 /// The table that the item is, if it has no key but these.
 pub fn table_of<'a>(item: &'a Value, known: &[&str], path: u32) -> Result<&'a Table, MapFault>
-    ensures { Answers (Checks (TableHolds (texts_of known.now) (view item.now)) table_checks (table_fault path)
+    ensures { Answers MapFault.Memory (Checks
+        (TableHolds (texts_of known.now) (view item.now)) table_checks (table_fault path)
         (λ table. view item.now ≡ table_value (table_view table.now))) result }
 {
     match item.as_table() {
@@ -41,7 +44,7 @@ pub fn table_of<'a>(item: &'a Value, known: &[&str], path: u32) -> Result<&'a Ta
 /// The number of the metal whose name stands at the key.
 pub fn metal_at(table: &Table, key: &str, metals: &[Metal], path: u32) -> Result<u32, MapFault>
     requires { length metals.now ≤ MOST_METALS }
-    ensures { (items : List Data) → HaveNamesOf items metals.now → Answers (Checks
+    ensures { (items : List Data) → HaveNamesOf items metals.now → Answers MapFault.Memory (Checks
         (ReferenceHolds items (get_member key.now (table_view table.now))) reference_checks (reference_fault path)
         (NamesMetal (map metal_layer metals.now) (get_member key.now (table_view table.now)))) result }
 {

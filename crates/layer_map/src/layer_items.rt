@@ -31,36 +31,23 @@ ghost use Rattle.layer_map.specs.LayerChecks.{
   layer_checks,
   layer_fault,
 };
-ghost use Rattle.layer_map.specs.Limits.{ArePairs};
-ghost use Rattle.layer_map.specs.Lists.{AreDifferent};
-ghost use Rattle.layer_map.specs.Readers.{
-  AreSeen,
-  Answers,
-  ArePairsIn,
-  ArePairsThere,
-  Finds,
-  IsNameThere,
-  IsPairIn,
-  IsWholeIn,
-  TakesLayer,
-  TakesName,
-  TakesPairs,
-  pair_values,
-  texts_of,
-  written_name,
-};
+ghost use Rattle.map_model.specs.Limits.{ArePairs};
+ghost use Rattle.lists.specs.Differing.{AreDifferent};
+ghost use Rattle.first_refusal.specs.Answers.{Answers};
+ghost use Rattle.layer_map.specs.inside.ReadValues.{Finds, IsWholeIn, texts_of};
+ghost use Rattle.layer_map.specs.inside.ReadLayers.{AreSeen, ArePairsIn, ArePairsThere, IsNameThere, IsPairIn, TakesLayer, TakesName, TakesPairs, pair_values, written_name};
 ghost use Rattle.layer_map.specs.Values.{name_of_item, pair_value};
-ghost use Rattle.layer_map.specs.declared.limits.TheConstants.{GREATEST_PAIR_NUMBER};
+ghost use Rattle.map_model.specs.declared.limits.TheConstants.{GREATEST_PAIR_NUMBER};
 
 use super::fault::MapFault;
 use super::items::table_of;
-use super::layers::{Pairs, has_pair};
-use super::limits::{GREATEST_PAIR_NUMBER, MOST_PAIRS};
-use super::name::LayerName;
 use super::paths;
 use super::seen::{Layer, Seen};
 use super::values::{text_at, value_at, whole_in};
 use geo_core::NoMemory;
+use map_model::layers::{Pairs, has_pair};
+use map_model::limits::{GREATEST_PAIR_NUMBER, MOST_PAIRS};
+use map_model::name::LayerName;
 use std::alloc::Global;
 use toml::{Table, Value};
 
@@ -73,7 +60,7 @@ pub fn read_layer(
     seen: &mut Seen,
 ) -> Result<Layer, MapFault>
     requires { path < 2 ^ 31 }
-    ensures { (earlier : List Data) → AreSeen earlier seen.old → Answers (Checks
+    ensures { (earlier : List Data) → AreSeen earlier seen.old → Answers MapFault.Memory (Checks
         (LayerHolds (texts_of known.now) earlier (view item.now)) layer_checks (layer_fault path)
         (TakesLayer earlier (view item.now) seen.old seen.new)) result }
 {
@@ -84,11 +71,13 @@ pub fn read_layer(
 }
 
 /// The name in the item, a name that is none of these, and is added.
+#[tactic(auto, using(first_refusal::proofs::AnswerLaws::out_of_memory))]
 fn add_name(names: &mut Vec<LayerName>, item: &Table, path: u32) -> Result<LayerName, MapFault>
     requires { path < 2 ^ 31 }
     ensures { (known : List (List ℕ)) (earlier : List Data) →
         map name_of_item earlier ≡ map written_name names.old.items →
-        Answers (Checks (LayerHolds known earlier (table_value (table_view item.now))) (name_check ∷ has_new_name ∷ [])
+        Answers MapFault.Memory (Checks
+        (LayerHolds known earlier (table_value (table_view item.now))) (name_check ∷ has_new_name ∷ [])
         (layer_fault path) (TakesName (table_value (table_view item.now)) names.old.items names.new.items)) result }
 {
     let path = path + paths::NAME;
@@ -127,6 +116,7 @@ fn has_name(names: &[LayerName], name: &LayerName) -> bool
 }
 
 /// The pairs in the item, which are different and none of these, and are added.
+#[tactic(auto, using(first_refusal::proofs::AnswerLaws::out_of_memory))]
 fn add_pairs(
     alloc: Global,
     pairs: &mut Vec<(u16, u16)>,
@@ -137,7 +127,8 @@ fn add_pairs(
     ensures judged { (known : List (List ℕ)) (earlier : List Data) →
         flat_map pair_values earlier ≡ map pair_value pairs.old.items →
         AreDifferent pairs.old.items →
-        Answers (Checks (LayerHolds known earlier (table_value (table_view item.now))) (has_pairs ∷ has_new_pairs ∷ [])
+        Answers MapFault.Memory (Checks
+        (LayerHolds known earlier (table_value (table_view item.now))) (has_pairs ∷ has_new_pairs ∷ [])
         (layer_fault path) (TakesPairs (table_value (table_view item.now)) pairs.old.items pairs.new.items)) result }
     ensures pairs { IfOk result ArePairs }
 {
@@ -203,6 +194,7 @@ fn pairs_of(alloc: Global, values: &[Value]) -> Result<Option<Vec<(u16, u16)>>, 
 }
 
 /// The pair that the value is.
+#[tactic(auto, using(crate::proofs::PairLaws::no_array_no_pair))]
 fn pair_of(value: &Value) -> Option<(u16, u16)>
     ensures { Finds (IsPairIn (view value.now)) result }
 {

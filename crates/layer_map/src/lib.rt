@@ -1,6 +1,5 @@
-//! The layer map: which layers and datatypes of a layout are metals and which are the cuts between them, for which
-//! sizes of defects areas are wanted and with which weights, and where terminals are. `read_map` reads it from a TOML
-//! document; `one_metal` makes the map of a single metal.
+//! Layer maps from TOML documents: `read_map` gives the map that a text says, or the first fault in it. What a map is
+//! stands in `map_model`, whose types and `one_metal` are passed on here.
 #![tactic(auto)]
 
 mod cuts;
@@ -8,22 +7,16 @@ pub mod fault;
 mod items;
 pub mod laws;
 mod layer_items;
-pub mod layers;
-pub mod limits;
-pub mod map;
 mod metals;
-pub mod name;
 pub mod paths;
 pub mod read;
 mod seen;
-pub mod single;
 mod sizes;
 mod terminals;
 mod values;
 
 pub use fault::MapFault;
-pub use layers::{Cut, Cuts, Metal, Metals, Pairs, Sizes, Terminal, Terminals, Weights};
-pub use map::Map;
-pub use name::LayerName;
+pub use map_model::{
+    Cut, Cuts, LayerName, Map, Metal, Metals, Pairs, Sizes, Terminal, Terminals, Weights, one_metal,
+};
 pub use read::read_map;
-pub use single::one_metal;

@@ -4,15 +4,17 @@ ghost use Rattle.std.specs.Prelude.{[]};
 ghost use Rattle.first_refusal.specs.Checks.{Checks};
 ghost use Rattle.toml.specs.View.{table_view};
 ghost use Rattle.layer_map.specs.MapChecks.{Holds, checks_of_metals, fault_of};
-ghost use Rattle.layer_map.specs.Readers.{Answers, AreSeen, TakesMetals};
+ghost use Rattle.first_refusal.specs.Answers.{Answers};
+ghost use Rattle.layer_map.specs.inside.ReadLayers.{AreSeen};
+ghost use Rattle.layer_map.specs.inside.ReadMetals.{TakesMetals};
 
 use super::fault::MapFault;
 use super::layer_items::read_layer;
-use super::layers::{Metal, Metals};
-use super::limits::MOST_METALS;
 use super::paths;
 use super::seen::Seen;
 use super::values::array_at;
+use map_model::layers::{Metal, Metals};
+use map_model::limits::MOST_METALS;
 use std::alloc::Global;
 use toml::Table;
 
@@ -20,9 +22,11 @@ use toml::Table;
 const METAL_KEYS: [&str; 2] = ["name", "pairs"];
 
 /// The metals, 1 to 16, which are the first layers that are seen.
+#[tactic(auto, using(first_refusal::proofs::AnswerLaws::out_of_memory))]
 pub fn read_metals(alloc: Global, document: &Table, seen: &mut Seen) -> Result<Metals, MapFault>
     requires { AreSeen [] seen.old }
-    ensures { Answers (Checks (Holds (table_view document.now)) (checks_of_metals (table_view document.now)) fault_of
+    ensures { Answers MapFault.Memory (Checks
+        (Holds (table_view document.now)) (checks_of_metals (table_view document.now)) fault_of
         (TakesMetals (table_view document.now) seen.new)) result }
 {
     let items = array_at(document, "metal", paths::METALS)?;

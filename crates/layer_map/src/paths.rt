@@ -1,8 +1,8 @@
 //! The paths of a document's places, in the one place where they are computed.
 
 ghost use Rattle.std.specs.Prelude.{◌≡◌, ◌≤◌};
-ghost use Rattle.layer_map.specs.Paths as path;
-ghost use Rattle.layer_map.specs.declared.limits.TheConstants.{MOST_TERMINALS};
+ghost use Rattle.layer_map.specs.DocumentPaths as path;
+ghost use Rattle.map_model.specs.declared.limits.TheConstants.{MOST_TERMINALS};
 
 /// The document.
 pub const DOCUMENT: u32 = 1;

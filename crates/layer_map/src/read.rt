@@ -5,16 +5,16 @@ ghost use Rattle.toml.specs.Data.{Members};
 ghost use Rattle.toml.specs.View.{table_view};
 ghost use Rattle.layer_map.specs.Documents.{GivesMap, IsDocument, MapComesTo};
 ghost use Rattle.layer_map.specs.MapChecks.{Holds, checks_of, fault_of};
-ghost use Rattle.layer_map.specs.MapView.{layer_map_of};
-ghost use Rattle.layer_map.specs.Readers.{Answers};
+ghost use Rattle.map_model.specs.MapView.{layer_map_of};
+ghost use Rattle.first_refusal.specs.Answers.{Answers};
 
 use super::cuts::read_cuts;
 use super::fault::MapFault;
-use super::map::Map;
 use super::metals::read_metals;
 use super::seen::Seen;
 use super::sizes::{check_head, read_radii, read_weights};
 use super::terminals::read_terminals;
+use map_model::map::Map;
 use std::alloc::Global;
 use toml::Table;
 
@@ -48,7 +48,8 @@ fn read_document(alloc: Global, bytes: &[u8]) -> Result<Table, MapFault>
 
 /// The map that the document gives.
 fn map_of(alloc: Global, document: &Table) -> Result<Map, MapFault>
-    ensures { Answers (Checks (Holds (table_view document.now)) (checks_of (table_view document.now)) fault_of
+    ensures { Answers MapFault.Memory (Checks
+        (Holds (table_view document.now)) (checks_of (table_view document.now)) fault_of
         (λ made. GivesMap (table_view document.now) (layer_map_of made))) result }
 {
     check_head(document)?;

@@ -1,9 +1,9 @@
 //! The metals and cuts so far.
 
-ghost use Rattle.layer_map.specs.Limits.{ArePairs};
+ghost use Rattle.map_model.specs.Limits.{ArePairs};
 
-use super::layers::Pairs;
-use super::name::LayerName;
+use map_model::layers::Pairs;
+use map_model::name::LayerName;
 use std::alloc::Global;
 
 /// The names and the pairs of the metals and cuts so far.
@@ -15,7 +15,7 @@ pub struct Seen {
 
 impl Seen {
     ghost use Rattle.std.specs.Prelude.{[]};
-    ghost use Rattle.layer_map.specs.Readers.{AreSeen};
+    ghost use Rattle.layer_map.specs.inside.ReadLayers.{AreSeen};
 
     /// None so far.
     pub fn new(alloc: Global) -> Seen

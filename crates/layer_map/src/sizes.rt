@@ -14,16 +14,18 @@ ghost use Rattle.layer_map.specs.MapChecks.{
   radii_are_array,
   radii_are_few,
 };
-ghost use Rattle.layer_map.specs.Readers.{Answers, AreRadiiIn, AreRadiiThere, AreWeightsIn, AreWeightsThere, Finds};
+ghost use Rattle.first_refusal.specs.Answers.{Answers};
+ghost use Rattle.layer_map.specs.inside.ReadValues.{Finds};
+ghost use Rattle.layer_map.specs.inside.ReadSizes.{AreRadiiIn, AreRadiiThere, AreWeightsIn, AreWeightsThere};
 ghost use Rattle.layer_map.specs.Values.{radii_in, values_in, version_in, weights_in, whole_number};
-ghost use Rattle.layer_map.specs.declared.limits.TheConstants.{MOST_SIZES};
+ghost use Rattle.map_model.specs.declared.limits.TheConstants.{MOST_SIZES};
 
 use super::fault::MapFault;
-use super::layers::{Sizes, Weights};
-use super::limits::{GREATEST_WEIGHT, MOST_SIZES};
 use super::paths;
 use super::values::{array_at, has_only, value_at, whole_in, wholes_in};
 use geo_core::{GREATEST_REACH, NoMemory};
+use map_model::layers::{Sizes, Weights};
+use map_model::limits::{GREATEST_WEIGHT, MOST_SIZES};
 use std::alloc::Global;
 use toml::{Table, Value};
 
@@ -32,7 +34,8 @@ const MAP_KEYS: [&str; 6] = ["version", "radii", "weights", "metal", "cut", "ter
 
 /// That the document has no key but these, and its version is 1.
 pub fn check_head(document: &Table) -> Result<(), MapFault>
-    ensures { Answers (Checks (Holds (table_view document.now)) (has_known_keys ∷ has_version ∷ []) fault_of
+    ensures { Answers MapFault.Memory (Checks
+        (Holds (table_view document.now)) (has_known_keys ∷ has_version ∷ []) fault_of
         (λ _. Unit {0})) result }
 {
     if !has_only(document, &MAP_KEYS) {
@@ -58,8 +61,10 @@ fn is_version_1(document: &Table) -> bool
 }
 
 /// The radii.
+#[tactic(auto, using(first_refusal::proofs::AnswerLaws::out_of_memory))]
 pub fn read_radii(alloc: Global, document: &Table) -> Result<Sizes, MapFault>
-    ensures { Answers (Checks (Holds (table_view document.now)) (radii_are_array ∷ radii_are_few ∷ has_radii ∷ [])
+    ensures { Answers MapFault.Memory (Checks
+        (Holds (table_view document.now)) (radii_are_array ∷ radii_are_few ∷ has_radii ∷ [])
         fault_of (AreRadiiThere (radii_in (table_view document.now)))) result }
 {
     let values = array_at(document, "radii", paths::RADII)?;
@@ -104,9 +109,10 @@ fn is_rising(numbers: &[u32]) -> bool
 }
 
 /// The weights of so many radii.
+#[tactic(auto, using(first_refusal::proofs::AnswerLaws::out_of_memory))]
 pub fn read_weights(alloc: Global, document: &Table, count: usize) -> Result<Weights, MapFault>
     ensures { count ≡ length (values_in (radii_in (table_view document.now))) →
-        Answers (Checks (Holds (table_view document.now)) (has_weights ∷ []) fault_of
+        Answers MapFault.Memory (Checks (Holds (table_view document.now)) (has_weights ∷ []) fault_of
         (AreWeightsThere count (weights_in (table_view document.now)))) result }
 {
     match weights_at(alloc, document, count)? {

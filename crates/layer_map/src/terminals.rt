@@ -5,30 +5,22 @@ ghost use Rattle.first_refusal.specs.Checks.{Checks};
 ghost use Rattle.toml.specs.Data.{Data, get_member};
 ghost use Rattle.toml.specs.View.{table_view, view};
 ghost use Rattle.layer_map.specs.MapChecks.{Holds, checks_of_terminals, fault_of};
-ghost use Rattle.layer_map.specs.Readers.{
-  AddsPlace,
-  Answers,
-  Finds,
-  HaveNamesOf,
-  IsCellNumberIn,
-  IsCellNumberThere,
-  TakesMetals,
-  TakesTerminal,
-  TakesTerminals,
-  place_of_terminal,
-};
+ghost use Rattle.first_refusal.specs.Answers.{Answers};
+ghost use Rattle.layer_map.specs.inside.ReadValues.{Finds};
+ghost use Rattle.layer_map.specs.inside.ReadMetals.{HaveNamesOf, TakesMetals};
+ghost use Rattle.layer_map.specs.inside.ReadTerminals.{AddsPlace, IsCellNumberIn, IsCellNumberThere, TakesTerminal, TakesTerminals, place_of_terminal};
 ghost use Rattle.layer_map.specs.TerminalChecks.{TerminalHolds, place_checks, terminal_fault};
-ghost use Rattle.layer_map.specs.declared.limits.TheConstants.{MOST_METALS};
+ghost use Rattle.map_model.specs.declared.limits.TheConstants.{MOST_METALS};
 ghost use Rattle.layer_map.specs.declared.seen.Seen.{Seen};
 
 use super::fault::MapFault;
 use super::items::{metal_at, table_of};
-use super::layers::{Metal, Terminal, Terminals};
-use super::limits::MOST_TERMINALS;
 use super::paths;
 use super::values::{array_or_none_at, value_at};
 use geo_core::{Cell, FARTHEST, NoMemory};
 use indexmap::IndexSet;
+use map_model::layers::{Metal, Terminal, Terminals};
+use map_model::limits::MOST_TERMINALS;
 use std::alloc::Global;
 use toml::{Table, Value};
 
@@ -43,7 +35,8 @@ pub fn read_terminals(
 ) -> Result<Terminals, MapFault>
     requires { length metals.now ≤ MOST_METALS }
     ensures { (seen : Seen) → TakesMetals (table_view document.now) seen metals.now →
-        Answers (Checks (Holds (table_view document.now)) (checks_of_terminals (table_view document.now)) fault_of
+        Answers MapFault.Memory (Checks
+        (Holds (table_view document.now)) (checks_of_terminals (table_view document.now)) fault_of
         (TakesTerminals (table_view document.now) metals.now)) result }
 {
     let mut places = IndexSet::new(alloc);
@@ -51,6 +44,7 @@ pub fn read_terminals(
 }
 
 /// The terminals on these metals, whose places are added to an empty set.
+#[tactic(auto, using(first_refusal::proofs::AnswerLaws::out_of_memory))]
 fn read_each(
     alloc: Global,
     document: &Table,
@@ -60,7 +54,8 @@ fn read_each(
     requires few { length metals.now ≤ MOST_METALS }
     requires empty { places.old.keys ≡ [] }
     ensures { (seen : Seen) → TakesMetals (table_view document.now) seen metals.now →
-        Answers (Checks (Holds (table_view document.now)) (checks_of_terminals (table_view document.now)) fault_of
+        Answers MapFault.Memory (Checks
+        (Holds (table_view document.now)) (checks_of_terminals (table_view document.now)) fault_of
         (TakesTerminals (table_view document.now) metals.now)) result }
 {
     let items = array_or_none_at(document, "terminal", paths::TERMINALS)?;
@@ -94,7 +89,7 @@ fn read_terminal(item: &Value, metals: &[Metal], path: u32) -> Result<Terminal, 
     requires few { length metals.now ≤ MOST_METALS }
     requires small { path < 2 ^ 31 }
     ensures { (items earlier : List Data) → HaveNamesOf items metals.now →
-        Answers (Checks (TerminalHolds items earlier (view item.now)) place_checks (terminal_fault path)
+        Answers MapFault.Memory (Checks (TerminalHolds items earlier (view item.now)) place_checks (terminal_fault path)
         (TakesTerminal metals.now (view item.now))) result }
 {
     let table = table_of(item, &TERMINAL_KEYS, path)?;
@@ -116,6 +111,7 @@ fn read_terminal(item: &Value, metals: &[Metal], path: u32) -> Result<Terminal, 
 }
 
 /// The column or row that stands at the key.
+#[tactic(auto, using(crate::proofs::CellLaws::cell_number_there, crate::proofs::CellLaws::nothing_there))]
 fn cell_number_at(table: &Table, key: &str) -> Option<i32>
     ensures { Finds (IsCellNumberThere (get_member key.now (table_view table.now))) result }
 {

@@ -17,7 +17,7 @@ ghost use Rattle.std.specs.Prelude.{
 ghost use Rattle.toml.specs.Data.{array, as_str, get_member};
 ghost use Rattle.toml.specs.View.{items_view, table_view, view};
 ghost use Rattle.layer_map.specs.MapChecks.{IsArray, IsArrayOrNone};
-ghost use Rattle.layer_map.specs.Readers.{AreWholesIn, Finds, IsWholeIn, texts_of};
+ghost use Rattle.layer_map.specs.inside.ReadValues.{AreWholesIn, Finds, IsWholeIn, texts_of};
 ghost use Rattle.layer_map.specs.Values.{keys_in, values_in};
 
 use super::fault::MapFault;
@@ -26,6 +26,7 @@ use std::alloc::Global;
 use toml::{Table, Value};
 
 /// What stands at the key.
+#[tactic(auto, using(toml::proofs::Views::table_get))]
 pub fn value_at<'a>(table: &'a Table, key: &str) -> Option<&'a Value>
     ensures { option_map (λ v. view v.now) result ≡ get_member key.now (table_view table.now) }
 {

@@ -8,25 +8,13 @@ use Rattle.std.proofs.lemmas.Option.{slice_get_within, get_or_from_slice_get}
 use Rattle.first_refusal.specs.Checks.{IsRefusalOfFirst}
 use Rattle.geo_core.specs.declared.plane.Cell.{Cell}
 use Rattle.geo_core.specs.declared.plane.Labelled.{Labelled}
-use Rattle.layer_map.specs.MapView.{terminal_of}
-use Rattle.layer_map.specs.declared.layers.Terminal.{Terminal}
-use Rattle.net_extract.specs.Anchoring.{IsOnIsland}
+use Rattle.map_model.specs.MapView.{terminal_of}
+use Rattle.map_model.specs.declared.layers.Terminal.{Terminal}
+use Rattle.net_extract.specs.inside.Anchoring.{IsOnIsland}
 use Rattle.net_extract.specs.Extraction.{off_metal}
 use Rattle.net_extract.specs.declared.fault.NetFault.TheVariants.{TerminalOffMetal}
+use Rattle.lists.proofs.Numbering.{slice_get-enumerate}
 use Rattle.net_extract.proofs.IslandLaws.{got_mapped}
-
--- two lists in pairs, and one pair more
-pub AllZip-push : {X Y : Type 0} (R : X → Y → Type 0) (xs : List X) (ys : List Y) (x : X) (y : Y) → AllZip R xs ys → R x y → AllZip R (xs ++ x ∷ []) (ys ++ y ∷ [])
-AllZip-push R [] [] x y h r = (r, tt)
-AllZip-push R [] (b ∷ ys) x y h r = absurd h
-AllZip-push R (a ∷ xs) [] x y h r = absurd h
-AllZip-push R (a ∷ xs) (b ∷ ys) x y h r = (h.0, AllZip-push R xs ys x y h.1 r)
-
--- the items of a list with their numbers
-pub got_numbered : {X : Type 0} (n : ℕ) (xs : List X) (k : ℕ) (x : X) → slice_get xs k ≡ Some x → slice_get (enumerate_from n xs) k ≡ Some (n + k, x)
-got_numbered n [] k x e = cc e
-got_numbered n (y ∷ xs) zero x e = let same : n + 0 ≡ n = omega arith in cc (e, same)
-got_numbered n (y ∷ xs) (suc k) x e = let same : n + 1 + k ≡ n + suc k = omega arith in got_numbered (n + 1) xs k x e ∙ ap (λ i. Some (i, x)) same
 
 module _ (islands : List (List Labelled)) (terminals : List Terminal) (k : ℕ) (terminal : Terminal) (at : slice_get terminals k ≡ Some terminal) where
   abbrev numbered : List (ℕ × (ℕ × Cell))
@@ -36,11 +24,13 @@ module _ (islands : List (List Labelled)) (terminals : List Terminal) (k : ℕ) 
   this = (k, terminal_of terminal)
 
   listed : slice_get numbered k ≡ Some this
-  listed = let same : 0 + k ≡ k = omega arith in got_numbered 0 (map terminal_of terminals) k (terminal_of terminal) (got_mapped terminal_of terminals k terminal at) ∙ ap (λ i. Some (i, terminal_of terminal)) same
+  listed = let same : 0 + k ≡ k = omega arith in slice_get-enumerate 0 (map terminal_of terminals) k (terminal_of terminal) (got_mapped terminal_of terminals k terminal at)
+      ∙ ap (λ i. Some (i, terminal_of terminal)) same
 
   -- all terminals so far stand on islands, and so does this one
   pub one_checked : All (IsOnIsland islands) (take k numbered) → IsOnIsland islands this → All (IsOnIsland islands) (take (k + 1) numbered)
-  one_checked before here = All-more (IsOnIsland islands) numbered k this (slice_get_within numbered k this listed) before (subst (IsOnIsland islands) (sym (get_or_from_slice_get numbered k this this listed)) here)
+  one_checked before here = All-more (IsOnIsland islands) numbered k this (slice_get_within numbered k this listed) before
+      (subst (IsOnIsland islands) (sym (get_or_from_slice_get numbered k this this listed)) here)
 
   -- or this one is the first that does not
   pub first_off : All (IsOnIsland islands) (take k numbered) → (IsOnIsland islands this → ⊥) → IsRefusalOfFirst (IsOnIsland islands) numbered off_metal (TerminalOffMetal k)
@@ -49,14 +39,10 @@ module _ (islands : List (List Labelled)) (terminals : List Terminal) (k : ℕ) 
     is_first = record {
       before = take k numbered;
       after = drop (k + 1) numbered;
-      parts = sym (take-append-drop k numbered) ∙ ap (λ xs. take k numbered ++ xs) (drop_more numbered k this (slice_get_within numbered k this listed) ∙ ap (λ x. x ∷ drop (k + 1) numbered) (get_or_from_slice_get numbered k this this listed));
+      parts = sym (take-append-drop k numbered) ∙ ap (λ xs. take k numbered ++ xs) (drop_more numbered k this (slice_get_within numbered k this listed)
+          ∙ ap (λ x. x ∷ drop (k + 1) numbered) (get_or_from_slice_get numbered k this this listed));
       all_before = before;
       fails = fails;
     };
     is_its_refusal = refl;
   }
-
--- a list and the numbers of its items are of one length
-pub length_numbered : {X : Type 0} (n : ℕ) (xs : List X) → length (enumerate_from n xs) ≡ length xs
-length_numbered n [] = refl
-length_numbered n (x ∷ xs) = ap suc (length_numbered (n + 1) xs)

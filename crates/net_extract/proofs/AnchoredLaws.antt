@@ -6,31 +6,25 @@ use Rattle.std.proofs.lemmas.Bool.Decides.{Decides-eqb, leb_tells}
 use Rattle.std.proofs.lemmas.List.{append-nil}
 use Rattle.std.proofs.lemmas.List.Elements.{All-nil, All-cons, All-contains, filter_more, filter_passes}
 use Rattle.std.proofs.lemmas.List.Kept.{AllPairs-filter}
-use Rattle.paths.proofs.ListLaws.{Contains-slice_get, number_of}
 use Rattle.paths.proofs.PathLaws.{within}
 use Rattle.geo_core.specs.Cells.{Has}
 use Rattle.geo_core.specs.declared.plane.Cell.{Cell}
 use Rattle.geo_core.specs.declared.plane.Rect.{Rect}
-use Rattle.fault_model.specs.Chains.{IsInUnion}
-use Rattle.layer_map.specs.Lists.{AreDifferent}
-use Rattle.touch_sweep.proofs.ListLaws.{Contains-filter, Contains-from_filter}
+use Rattle.geo_core.specs.Unions.{IsInUnion}
+use Rattle.lists.specs.Differing.{AreDifferent}
 use Rattle.net_extract.specs.AnchoredIslands.{rects_of_island, anchors_of_island, IsIslandNumbered, AreAnchoredIslands, AreDifferentCarried}
 use Rattle.fault_model.specs.IslandLists.{IslandLists, IsAnchoredIsland}
 use Rattle.net_extract.specs.NetFacts.{AreNets}
 use Rattle.net_extract.specs.NetLists.{NetLists, IsIslandCell, pieces_on}
 use Rattle.net_extract.specs.declared.pieces.Anchor.{Anchor}
 use Rattle.net_extract.specs.declared.pieces.Piece.{Piece}
-use Rattle.net_extract.proofs.AnchorLaws.{AllZip-push}
-use Rattle.net_extract.proofs.ListLaws.{Contains-map, Contains-unmap, AllPairs-map, AllPairs-unmap, some_item}
+use Rattle.lists.proofs.Pairing.{AllZip-push}
 use Rattle.net_extract.proofs.MadeLaws.{place_of}
-
-both_true : (a b : Bool) → (a && b) ≡ true → (a ≡ true) × (b ≡ true)
-both_true true b e = (refl, e)
-both_true false b e = cc e
-
--- what a filtered list contains passes
-passes : {X : Type 0} (p : X → Bool) (xs : List X) (x : X) → Contains (filter p xs) x → p x ≡ true
-passes p xs x among = All-contains (λ y. p y ≡ true) (filter p xs) x (filter_passes p xs) among
+use Rattle.std.proofs.lemmas.Bool.{and_parts}
+use Rattle.lists.proofs.Containing.{Contains-slice_get, number_of, some_item}
+use Rattle.lists.proofs.Differing.{AllPairs-map, AllPairs-unmap}
+use Rattle.lists.proofs.Filtering.{Contains-filter, Contains-filter_passes, Contains-from_filter}
+use Rattle.lists.proofs.Mapping.{Contains-map, Contains-map_from}
 
 module _ (nets : NetLists) (metal : ℕ) where
   -- the island has two anchors or more
@@ -63,11 +57,11 @@ module _ (nets : NetLists) (metal : ℕ) where
 
     island_cell : (c : Cell) → IsInUnion rects c → IsIslandCell nets metal number c
     island_cell c v =
-        let found = Contains-unmap (λ (piece : Piece). piece.rect) (filter of_island (pieces_on nets metal)) v.rect (Contains-slice_get rects v.number v.rect v.at) in
+        let found = Contains-map_from (λ (piece : Piece). piece.rect) (filter of_island (pieces_on nets metal)) v.rect (Contains-slice_get rects v.number v.rect v.at) in
         record {
           piece = found.0;
           among = Contains-from_filter of_island (pieces_on nets metal) found.0 found.1;
-          carries = (Decides-eqb found.0.island number).0 (passes of_island (pieces_on nets metal) found.0 found.1);
+          carries = (Decides-eqb found.0.island number).0 (Contains-filter_passes of_island (pieces_on nets metal) found.0 found.1);
           has = subst (λ r. Has r c) (sym found.2) v.has;
         }
 
@@ -87,8 +81,8 @@ module _ (nets : NetLists) (metal : ℕ) where
 
     anchor_at : (c : Cell) → Contains cells c → IsAnchored c
     anchor_at c among =
-        let found = Contains-unmap (λ (anchor : Anchor). anchor.cell) (filter here nets.anchors) c among in
-        let both = both_true (found.0.metal == metal) (found.0.island == number) (passes here nets.anchors found.0 found.1) in
+        let found = Contains-map_from (λ (anchor : Anchor). anchor.cell) (filter here nets.anchors) c among in
+        let both = and_parts (found.0.metal == metal) (found.0.island == number) (Contains-filter_passes here nets.anchors found.0 found.1) in
         record {
           anchor = found.0;
           among = Contains-from_filter here nets.anchors found.0 found.1;
@@ -102,7 +96,8 @@ module _ (nets : NetLists) (metal : ℕ) where
       on_pieces c among =
           let a = anchor_at c among in
           let on = are.anchored a.anchor a.among in
-          in_rects c (subst (λ m. IsIslandCell nets m number c) a.on_metal (subst (λ i. IsIslandCell nets a.anchor.metal i c) a.on_island (subst (IsIslandCell nets a.anchor.metal a.anchor.island) a.at on)))
+          in_rects c (subst (λ m. IsIslandCell nets m number c) a.on_metal (subst (λ i. IsIslandCell nets a.anchor.metal i c) a.on_island
+          (subst (IsIslandCell nets a.anchor.metal a.anchor.island) a.at on)))
 
       -- anchors of one metal are told from one another by their cells
       cells_differ : AreDifferent cells
@@ -113,14 +108,15 @@ module _ (nets : NetLists) (metal : ℕ) where
           let one = get_or (filter here nets.anchors) i d in
           let other = get_or (filter here nets.anchors) j d in
           let earlier : i < length (filter here nets.anchors) = omega arith in
-          let one_on = (Decides-eqb one.metal metal).0 (both_true (one.metal == metal) (one.island == number) (all i d earlier)).0 in
-          let other_on = (Decides-eqb other.metal metal).0 (both_true (other.metal == metal) (other.island == number) (all j d small)).0 in
+          let one_on = (Decides-eqb one.metal metal).0 (and_parts (one.metal == metal) (one.island == number) (all i d earlier)).0 in
+          let other_on = (Decides-eqb other.metal metal).0 (and_parts (other.metal == metal) (other.island == number) (all j d small)).0 in
           let pair : ℕ → Cell → ℕ × Cell = λ m c. (m, c) in
           apart i j d before small (ap (λ m. pair m one.cell) (one_on ∙ sym other_on) ∙ ap (pair other.metal) same))
 
       pub one_island : IsAnchoredIsland (record { pieces = rects; anchors = cells })
       one_island = record {
-        connected = λ p q p_on q_on. within (λ h on. (on.0, on.1, in_rects on.0 on.2)) (are.connected metal number p q (p_on.0, p_on.1, island_cell p_on.0 p_on.2) (q_on.0, q_on.1, island_cell q_on.0 q_on.2));
+        connected = λ p q p_on q_on. within (λ h on. (on.0, on.1, in_rects on.0 on.2)) (are.connected metal number p q (p_on.0, p_on.1, island_cell p_on.0 p_on.2)
+            (q_on.0, q_on.1, island_cell q_on.0 q_on.2));
         on_pieces = on_pieces;
         anchors_differ = cells_differ;
       }
@@ -132,21 +128,24 @@ module _ (nets : NetLists) (metal : ℕ) where
     abbrev pub AreFirstIslands : ℕ → List IslandLists → Type 0
     AreFirstIslands count islands = AllZip (IsIslandNumbered nets metal) (filter is_anchored (take count numbers)) islands
 
-    pub island_more : (k : ℕ) (old : List IslandLists) (island : IslandLists) → k < length numbers → 2 ≤ length (anchors_of_island nets metal (get_or numbers k 0)) → IsIslandNumbered nets metal (get_or numbers k 0) island
+    pub island_more : (k : ℕ) (old : List IslandLists) (island : IslandLists) → k < length numbers → 2 ≤ length (anchors_of_island nets metal (get_or numbers k 0))
+        → IsIslandNumbered nets metal (get_or numbers k 0) island
         → AreFirstIslands k old → AreFirstIslands (k + 1) (old ++ island ∷ [])
     island_more k old island small many is before =
-        rw (filter_more is_anchored numbers k 0 small, anchored (get_or numbers k 0) many) (AllZip-push (IsIslandNumbered nets metal) (filter is_anchored (take k numbers)) old (get_or numbers k 0) island before is)
+        rw (filter_more is_anchored numbers k 0 small, anchored (get_or numbers k 0) many) (AllZip-push (IsIslandNumbered nets metal) (filter is_anchored (take k numbers)) old (get_or numbers k 0)
+        island before is)
 
     pub island_left_out : (k : ℕ) (old : List IslandLists) → k < length numbers → length (anchors_of_island nets metal (get_or numbers k 0)) < 2 → AreFirstIslands k old → AreFirstIslands (k + 1) old
     island_left_out k old small few before =
         rw (filter_more is_anchored numbers k 0 small, not_anchored (get_or numbers k 0) few, append-nil (filter is_anchored (take k numbers))) before
 
-    pub all_islands : AreDifferentCarried nets.anchors metal numbers → (islands : List IslandLists) → AllZip (IsIslandNumbered nets metal) (filter is_anchored numbers) islands → AreAnchoredIslands nets metal islands
+    pub all_islands : AreDifferentCarried nets.anchors metal numbers → (islands : List IslandLists) → AllZip (IsIslandNumbered nets metal) (filter is_anchored numbers) islands
+        → AreAnchoredIslands nets metal islands
     all_islands carried islands each = record {
       numbers = filter is_anchored numbers;
       once = AllPairs-filter (λ m n. m ≢ n) is_anchored numbers carried.different;
       exactly = λ number. (
-        λ among. from_anchored number (passes is_anchored numbers number among),
+        λ among. from_anchored number (Contains-filter_passes is_anchored numbers number among),
         λ many.
             let cell = some_item (anchors_of_island nets metal number) 0 (omega arith) in
             let a = anchor_at number cell.0 (Contains-slice_get (anchors_of_island nets metal number) 0 cell.0 cell.1) in
@@ -163,5 +162,6 @@ each_island nets metal are [] (island ∷ islands) each = absurd each
 each_island nets metal are (number ∷ numbers) [] each = absurd each
 each_island nets metal are (number ∷ numbers) (island ∷ islands) each =
     let make : List Rect → List Cell → IslandLists = λ rects cells. record { pieces = rects; anchors = cells } in
-    let same : make (rects_of_island nets metal number) (anchors_of_island nets metal number) ≡ island = ap (λ rects. make rects (anchors_of_island nets metal number)) (sym each.0.pieces) ∙ ap (make island.pieces) (sym each.0.anchors) in
+    let same : make (rects_of_island nets metal number) (anchors_of_island nets metal number) ≡ island = ap (λ rects. make rects (anchors_of_island nets metal number)) (sym each.0.pieces)
+    ∙ ap (make island.pieces) (sym each.0.anchors) in
     All-cons IsAnchoredIsland island islands (subst IsAnchoredIsland same (one_island nets metal number are)) (each_island nets metal are numbers islands each.1)

@@ -7,10 +7,10 @@ use Rattle.std.proofs.lemmas.List.Elements.{Contains-append_left, Contains-push,
 use Rattle.std.proofs.lemmas.List.Kept.{AllPairs-from_increasing, Contains-dedup_nat}
 use Rattle.std.proofs.lemmas.List.Sorted.{Contains-permutation}
 use Rattle.std.proofs.lemmas.Map.Keys.{IsStrictlyIncreasing-dedup}
-use Rattle.paths.proofs.ListLaws.{Contains-none}
-use Rattle.layer_map.specs.Lists.{AreDifferent}
+use Rattle.lists.specs.Differing.{AreDifferent}
 use Rattle.net_extract.specs.AnchoredIslands.{AreDifferentCarried}
 use Rattle.net_extract.specs.declared.pieces.Anchor.{Anchor}
+use Rattle.lists.proofs.Containing.{Contains-none}
 
 -- the numbers have each island that an anchor of the metal carries
 abbrev pub HasCarried : ℕ → List Anchor → List ℕ → Type 0
@@ -33,7 +33,8 @@ module _ (metal : ℕ) where
   ]
 
   -- sorted, and each once
-  pub sorted_once : (anchors : List Anchor) (numbers sorted once : List ℕ) → HasCarried metal anchors numbers → IsPermutation numbers sorted → IsSorted nat_cmp sorted → once ≡ dedup eqb sorted → AreDifferentCarried anchors metal once
+  pub sorted_once : (anchors : List Anchor) (numbers sorted once : List ℕ) → HasCarried metal anchors numbers → IsPermutation numbers sorted → IsSorted nat_cmp sorted → once ≡ dedup eqb sorted
+      → AreDifferentCarried anchors metal once
   sorted_once anchors numbers sorted once has moved up e = record {
     different = subst AreDifferent (sym e) (λ i j d before small same.
         let less = AllPairs-from_increasing (dedup eqb sorted) (IsStrictlyIncreasing-dedup sorted up) i j d before small in

@@ -3,18 +3,18 @@ use Rattle.std.proofs.Common.{ℕ, ◌+◌, ◌<◌, ◌≡◌, refl, sym, ap, �
 use Rattle.std.specs.Prelude.{Contains, Some, slice_get}
 use Rattle.std.proofs.lemmas.Option.{slice_get_within}
 use Rattle.std.proofs.lemmas.List.{length_push}
-use Rattle.paths.proofs.ListLaws.{Contains-slice_get, number_of}
 use Rattle.geo_core.specs.Cells.{Has}
 use Rattle.geo_core.specs.declared.plane.Cell.{Cell}
 use Rattle.geo_core.specs.declared.plane.Labelled.{Labelled}
 use Rattle.geo_core.specs.declared.plane.Rect.{Rect}
-use Rattle.fault_model.specs.Chains.{IsInUnion}
-use Rattle.layer_map.specs.declared.layers.Cut.{Cut}
-use Rattle.net_extract.specs.LabelledCells.{HasLabelled, AreMeetings, AreContactsOf, ArePartsIn}
-use Rattle.net_extract.specs.Numbering.{AreContactLists, islands_on}
+use Rattle.geo_core.specs.Unions.{IsInUnion}
+use Rattle.map_model.specs.declared.layers.Cut.{Cut}
+use Rattle.net_extract.specs.inside.LabelledCells.{HasLabelled, AreMeetings, AreContactsOf, ArePartsIn}
+use Rattle.net_extract.specs.inside.Numbering.{AreContactLists, islands_on}
 use Rattle.net_extract.specs.declared.pieces.ContactPiece.{ContactPiece}
-use Rattle.net_extract.proofs.ListLaws.{Contains-map, Contains-unmap}
 use Rattle.net_extract.proofs.MetalLaws.{at_old, at_new, before_or_past}
+use Rattle.lists.proofs.Containing.{Contains-slice_get, number_of}
+use Rattle.lists.proofs.Mapping.{Contains-map, Contains-map_from}
 
 -- what a meeting is a part of, on the upper side
 abbrev pub part_of : ContactPiece → Labelled
@@ -29,14 +29,14 @@ module _ (cut : List Rect) where
 
   cut_cell : (i : ℕ) (c : Cell) → HasLabelled (map alike cut) i c → IsInUnion cut c
   cut_cell i c h =
-      let found = Contains-unmap alike cut h.labelled h.among in
+      let found = Contains-map_from alike cut h.labelled h.among in
       let number = number_of cut found.0 found.1 in
       record { number = number.0; rect = found.0; at = number.1; has = subst (λ (l : Labelled). Has l.rect c) (sym found.2) h.has }
 
   pub parts_are : (rects like parts : List Labelled) (met : List ContactPiece) → like ≡ map alike cut → AreMeetings like rects met → parts ≡ map part_of met → ArePartsIn cut rects parts
   parts_are rects like parts met e are f i c = (
     λ h.
-        let found = Contains-unmap part_of met h.labelled (subst (λ xs. Contains xs h.labelled) f h.among) in
+        let found = Contains-map_from part_of met h.labelled (subst (λ xs. Contains xs h.labelled) f h.among) in
         let both = (are found.0.lower i c).0 (record {
           contact = found.0;
           among = found.1;

@@ -3,22 +3,24 @@ use Rattle.std.proofs.Common.{ℕ, ◌<◌, ◌≡◌, refl, sym, ap, ◌∙◌,
 use Rattle.std.specs.Prelude.{All, Contains, Result, Ok, Err, IsErrAnd}
 use Rattle.std.specs.List.{AllZip, enumerate_from}
 use Rattle.std.proofs.lemmas.List.{length-map}
+use Rattle.std.proofs.lemmas.Simd.{map-map}
 use Rattle.std.proofs.lemmas.List.Elements.{All-contains, All-weaker, Contains-append_right}
 use Rattle.first_refusal.specs.Checks.{Checks, all_hold, one_fails, IsRefusalOfFirst}
 use Rattle.first_refusal.specs.Outcomes.{Outcome}
-use Rattle.paths.proofs.ListLaws.{Contains-first, Contains-slice_get, number_of}
 use Rattle.geo_core.specs.declared.plane.Cell.{Cell}
 use Rattle.geo_core.specs.declared.plane.Labelled.{Labelled}
 use Rattle.geo_core.specs.declared.plane.Rect.{Rect}
-use Rattle.layer_map.specs.LayerMap.{MappedCut}
-use Rattle.layer_map.specs.Layers.{JoinsMetals, metal_layer, mapped_cut}
-use Rattle.layer_map.specs.MapView.{layer_map_of, terminal_of}
-use Rattle.layer_map.specs.declared.layers.Cut.{Cut as GivenCut}
-use Rattle.layer_map.specs.declared.layers.Terminal.{Terminal}
-use Rattle.layer_map.specs.declared.map.Map.{Map}
-use Rattle.net_extract.specs.Anchoring.{IsAnchorOf, IsOnIsland}
-use Rattle.net_extract.specs.Extraction.{AreNetsOf, IsOnItsMetal, Answers, gives, refuses, no_memory, off_metal}
-use Rattle.net_extract.specs.Numbering.{AreIslandsOf, AreContactLists, AreNetNumbers, piece_of}
+use Rattle.map_model.specs.LayerMap.{MappedCut}
+use Rattle.map_model.specs.Layers.{JoinsMetals, metal_layer, mapped_cut}
+use Rattle.map_model.specs.MapView.{layer_map_of, terminal_of}
+use Rattle.map_model.specs.declared.layers.Cut.{Cut as GivenCut}
+use Rattle.map_model.specs.declared.layers.Terminal.{Terminal}
+use Rattle.map_model.specs.declared.map.Map.{Map}
+use Rattle.net_extract.specs.inside.Anchoring.{IsAnchorOf, IsOnIsland}
+use Rattle.first_refusal.specs.Answers.{Answers, refuses, no_memory}
+use Rattle.first_refusal.proofs.JudgeLaws.{Judges}
+use Rattle.net_extract.specs.Extraction.{AreNetsOf, IsOnItsMetal, off_metal}
+use Rattle.net_extract.specs.inside.Numbering.{AreIslandsOf, AreContactLists, AreNetNumbers, piece_of}
 use Rattle.net_extract.specs.declared.fault.NetFault.{NetFault}
 use Rattle.net_extract.specs.declared.fault.NetFault.TheVariants.{Memory}
 use Rattle.net_extract.specs.declared.pieces.Anchor.{Anchor}
@@ -26,28 +28,12 @@ use Rattle.net_extract.specs.declared.pieces.ContactPiece.{ContactPiece}
 use Rattle.net_extract.proofs.IslandLaws.{got_unmapped}
 use Rattle.net_extract.proofs.MadeLaws.{made, covered, islands_tell, nets_tell, contacts_tell, anchor_places, are_nets}
 use Rattle.net_extract.proofs.WalkLaws.{got_unnumbered, island_metal}
-
--- ---- answers
-
--- a value that was answered, where all checks held
-pub record IsAccepted {N V : Type 0} (Holds : N → Type 0) (checks : List N) (Is : V → Type 0) (thing : V) : Type 0 where
-  pub all : All Holds checks
-  pub is : Is thing
-
-pub accepted : {N V : Type 0} (Holds : N → Type 0) (checks : List N) (fault_of : N → NetFault) (Is : V → Type 0) (thing : V) → Answers (Checks Holds checks fault_of Is) (Ok thing) → IsAccepted Holds checks Is thing
-accepted Holds checks fault_of Is thing (gives (all_hold all is)) = record { all = all; is = is }
-
-pub handed_on : {T : Type 0} (Stage : Outcome T NetFault → Type 0) (answer : Result T NetFault) (fault : NetFault) → IsErrAnd answer (λ same. same ≡ fault) → Answers Stage (Err fault) → Answers Stage answer
-handed_on Stage (Ok thing) fault h told = absurd h
-handed_on Stage (Err same) fault h told = subst (λ f. Answers Stage (Err f)) (sym h) told
-
-map_map : {X Y Z : Type 0} (f : X → Y) (g : Y → Z) (xs : List X) → map g (map f xs) ≡ map (λ x. g (f x)) xs
-map_map f g [] = refl
-map_map f g (x ∷ xs) = ap (λ ys. g (f x) ∷ ys) (map_map f g xs)
+use Rattle.lists.proofs.Containing.{Contains-head, Contains-slice_get, number_of}
 
 -- ---- terminals
 
-module _ (lists : List (List Rect)) (metals count : ℕ) (islands : List (List Labelled)) (are : AreIslandsOf lists metals count islands) (terminals : List Terminal) (on_metals : All (λ (terminal : Terminal). terminal.metal < metals) terminals) where
+module _ (lists : List (List Rect)) (metals count : ℕ) (islands : List (List Labelled)) (are : AreIslandsOf lists metals count islands) (terminals : List Terminal)
+    (on_metals : All (λ (terminal : Terminal). terminal.metal < metals) terminals) where
   abbrev numbered : List (ℕ × (ℕ × Cell))
   numbered = enumerate_from 0 (map terminal_of terminals)
 
@@ -67,7 +53,7 @@ module _ (lists : List (List Rect)) (metals count : ℕ) (islands : List (List L
   pub first_off_metal : (fault : NetFault) → IsRefusalOfFirst (IsOnIsland islands) numbered off_metal fault → IsRefusalOfFirst (IsOnItsMetal lists) numbered off_metal fault
   first_off_metal fault r =
       let f = r.is_first in
-      let among = subst (λ xs. Contains xs r.check) (sym f.parts) (Contains-append_right f.before (r.check ∷ f.after) r.check (Contains-first r.check f.after)) in
+      let among = subst (λ xs. Contains xs r.check) (sym f.parts) (Contains-append_right f.before (r.check ∷ f.after) r.check (Contains-head r.check f.after)) in
       record {
         check = r.check;
         is_first = record {
@@ -81,9 +67,10 @@ module _ (lists : List (List Rect)) (metals count : ℕ) (islands : List (List L
       }
 
   -- the answer for terminals, where it is refused, is the answer for the layers
-  pub refused_alike : {V W : Type 0} (Is : V → Type 0) (Gives : W → Type 0) (fault : NetFault) → Answers (Checks (IsOnIsland islands) numbered off_metal Is) (Err fault) → Answers (Checks (IsOnItsMetal lists) numbered off_metal Gives) (Err fault)
+  pub refused_alike : {V W : Type 0} (Is : V → Type 0) (Gives : W → Type 0) (fault : NetFault) → Judges Memory (IsOnIsland islands) numbered off_metal Is (Err fault)
+      → Judges Memory (IsOnItsMetal lists) numbered off_metal Gives (Err fault)
   refused_alike Is Gives fault (refuses (one_fails r)) = refuses (one_fails (first_off_metal fault r))
-  refused_alike Is Gives Memory no_memory = no_memory
+  refused_alike Is Gives _ no_memory = no_memory
 
 -- ---- nets
 
@@ -104,7 +91,7 @@ module _ (given : Map) (lists : List (List Rect)) (islands : List (List Labelled
         nets = nets_tell islands nets contacts ends anchors lists metals count are given.cuts joins lists_are numbers;
         metals = length-map islands (map (piece_of nets)) ∙ are.one_each;
         cuts = lists_are.one_each ∙ sym (length-map given.cuts mapped_cut);
-        ends = ends_are ∙ sym (map_map mapped_cut (λ (cut : MappedCut). (cut.lower, cut.upper)) given.cuts);
+        ends = ends_are ∙ sym (map-map (λ (cut : MappedCut). (cut.lower, cut.upper)) mapped_cut given.cuts);
         contacts = contacts_tell islands nets contacts ends anchors lists metals count are given.cuts joins lists_are;
         anchors = anchor_places islands given.terminals anchors zip;
         facts = are_nets islands nets contacts ends anchors lists metals count are given.cuts joins lists_are given.terminals ends_are zip given.terminals_differ;

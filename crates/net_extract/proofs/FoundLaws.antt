@@ -4,15 +4,15 @@ use Rattle.std.specs.Prelude.{Option, Some, None, slice_get}
 use Rattle.std.proofs.lemmas.List.{length-replicate, take-append-le}
 use Rattle.std.proofs.lemmas.List.Elements.{Contains-append_left, Contains-push, Contains-push_cases}
 use Rattle.std.proofs.lemmas.Option.{slice_get_within}
-use Rattle.paths.proofs.ListLaws.{Contains-none}
 use Rattle.geo_core.specs.declared.plane.Labelled.{Labelled}
-use Rattle.layer_map.specs.declared.layers.Terminal.{Terminal}
-use Rattle.net_extract.specs.LabelledCells.{HasLabelled, AreMeetings}
-use Rattle.net_extract.specs.Numbering.{islands_on}
-use Rattle.net_extract.specs.Anchoring.{IsTerminalAt, AreSpots, Meets, IsMarked, AreFound}
+use Rattle.map_model.specs.declared.layers.Terminal.{Terminal}
+use Rattle.net_extract.specs.inside.LabelledCells.{HasLabelled, AreMeetings}
+use Rattle.net_extract.specs.inside.Numbering.{islands_on}
+use Rattle.net_extract.specs.inside.Anchoring.{IsTerminalAt, AreSpots, Meets, IsMarked, AreFound}
 use Rattle.net_extract.specs.declared.pieces.ContactPiece.{ContactPiece}
 use Rattle.net_extract.proofs.MetalLaws.{before_or_past}
 use Rattle.net_extract.proofs.SpotLaws.{some_cell}
+use Rattle.lists.proofs.Containing.{Contains-none}
 
 -- ---- lists, item by item
 
@@ -90,7 +90,8 @@ module _ (old new : List (Option ℕ)) (met : List ContactPiece) (is : IsMarked 
       | inl before ↦ is.meets_none number island (still_none number at) before
       | inr same ↦
           let here = got_set_same new meeting.lower (Some meeting.upper) small in
-          let there : slice_get (set new meeting.lower (Some meeting.upper)) meeting.lower ≡ Some None = subst (λ n. slice_get (set new meeting.lower (Some meeting.upper)) n ≡ Some None) (sym same) at in
+          let there : slice_get (set new meeting.lower (Some meeting.upper)) meeting.lower ≡ Some None =
+          subst (λ n. slice_get (set new meeting.lower (Some meeting.upper)) n ≡ Some None) (sym same) at in
           cc (here, there)
     ];
   }
@@ -119,7 +120,8 @@ module _ (terminals : List Terminal) (islands : List (List Labelled)) where
         let cell_is = sym t.at ∙ ap (λ (x : Terminal). x.cell) same in
         subst (λ k. HasLabelled (islands_on islands k) island terminal.cell) metal_is (subst (HasLabelled (islands_on islands metal) island) cell_is both.1)
 
-    meets : (number island : ℕ) (terminal : Terminal) → slice_get terminals number ≡ Some terminal → terminal.metal ≡ metal → HasLabelled (islands_on islands metal) island terminal.cell → Meets met number island
+    meets : (number island : ℕ) (terminal : Terminal) → slice_get terminals number ≡ Some terminal → terminal.metal ≡ metal → HasLabelled (islands_on islands metal) island terminal.cell
+        → Meets met number island
     meets number island terminal at e h =
         let t : IsTerminalAt terminals metal number terminal.cell = record { terminal = terminal; numbered = at; on_metal = e; at = refl } in
         let m = (meet number island terminal.cell).1 (are_spots.complete number terminal.cell h.labelled.rect t h.has, h) in
@@ -138,7 +140,3 @@ module _ (terminals : List Terminal) (islands : List (List Labelled)) where
         | inr (inr past) ↦ absurd (omega arith)
       ];
     }
-
--- what a `Vec` holds after its slice was written
-pub put_back : {X : Type 0} (n : ℕ) (new old : List X) → n ≡ length new → take n (new ++ drop (length new) old) ≡ new
-put_back n new old e = let le : n ≤ length new = omega arith in rw take-append-le (let ge : length new ≤ n = omega arith in take_all n new ge)

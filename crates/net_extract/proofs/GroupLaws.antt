@@ -61,17 +61,21 @@ tied : (a b : ℕ) → (not (is_lt (nat_cmp a b)) && not (is_lt (nat_cmp b a))) 
 tied a b = grind (arith, nat_tests)
 
 -- a stable sort leaves the pieces of each island in their order
-pub kept : (xs ys : List Piece) → IsStableByKey (λ (piece : Piece). piece.island) nat_cmp xs ys → (island : ℕ) → filter (λ (piece : Piece). piece.island == island) ys ≡ filter (λ (piece : Piece). piece.island == island) xs
+pub kept : (xs ys : List Piece) → IsStableByKey (λ (piece : Piece). piece.island) nat_cmp xs ys → (island : ℕ)
+    → filter (λ (piece : Piece). piece.island == island) ys ≡ filter (λ (piece : Piece). piece.island == island) xs
 kept xs ys stable island =
     let piece : Piece = record { rect = unit; island = island; net = 0 } in
     let agree = λ (other : Piece). tied island other.island in
     sym (filter_agree _ _ agree ys) ∙ stable piece ∙ filter_agree _ _ agree xs
 
 pub kept_by_sort : {F : Type 0} {g : Mut F (Bor Piece × Unit {0}) ℕ} {f : F} (xs ys : List Piece) → ((key : Piece → ℕ) → ComputesKey g key f → IsStableByKey key nat_cmp xs ys)
-    → ((a : Bor Piece × Unit {0}) (r : ℕ) (f' : F) → Called g f a r f' → (r ≡ a.0.now.island) × (f' ≡ f)) → (island : ℕ) → filter (λ (piece : Piece). piece.island == island) ys ≡ filter (λ (piece : Piece). piece.island == island) xs
+    → ((a : Bor Piece × Unit {0}) (r : ℕ) (f' : F) → Called g f a r f' → (r ≡ a.0.now.island) × (f' ≡ f)) → (island : ℕ)
+    → filter (λ (piece : Piece). piece.island == island) ys ≡ filter (λ (piece : Piece). piece.island == island) xs
 kept_by_sort {g = g} {f = f} xs ys stable h = kept xs ys (stable (λ (piece : Piece). piece.island) (always_returns_same g (λ a r. r ≡ a.0.now.island) f h))
 
 -- the rectangles of the part of an island are those of all pieces that carry it
-pub rects_of_part : (nets : NetLists) (metal number : ℕ) (pieces sorted whole part : List Piece) (rects : List Rect) → pieces ≡ pieces_on nets metal → filter (carries number) sorted ≡ filter (carries number) pieces → whole ≡ sorted
+pub rects_of_part : (nets : NetLists) (metal number : ℕ) (pieces sorted whole part : List Piece) (rects : List Rect) → pieces ≡ pieces_on nets metal
+    → filter (carries number) sorted ≡ filter (carries number) pieces → whole ≡ sorted
     → filter (carries number) part ≡ filter (carries number) whole → rects ≡ map (λ (piece : Piece). piece.rect) (filter (carries number) part) → rects ≡ rects_of_island nets metal number
-rects_of_part nets metal number pieces sorted whole part rects e same f in_part is = is ∙ ap (map (λ (piece : Piece). piece.rect)) (in_part ∙ ap (filter (carries number)) f ∙ same ∙ ap (filter (carries number)) e)
+rects_of_part nets metal number pieces sorted whole part rects e same f in_part is = is ∙ ap (map (λ (piece : Piece). piece.rect)) (in_part ∙ ap (filter (carries number)) f ∙ same
+    ∙ ap (filter (carries number)) e)

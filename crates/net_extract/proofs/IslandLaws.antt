@@ -3,18 +3,19 @@ use Rattle.std.proofs.Common.{ℕ, zero, suc, ◌+◌, ◌<◌, ◌≤◌, ◌�
 use Rattle.std.specs.Prelude.{◌↔◌, Some, slice_get}
 use Rattle.std.proofs.lemmas.Option.{slice_get_within}
 use Rattle.paths.specs.Paths.{stay}
-use Rattle.paths.proofs.ListLaws.{number_of, Contains-slice_get}
 use Rattle.geo_core.specs.Cells.{Has}
 use Rattle.geo_core.specs.declared.plane.Cell.{Cell}
 use Rattle.geo_core.specs.declared.plane.Half.{Half}
 use Rattle.geo_core.specs.declared.plane.Labelled.{Labelled}
 use Rattle.geo_core.specs.declared.plane.Rect.{Rect}
-use Rattle.fault_model.specs.Chains.{HasNumber, IsInUnion, IsLabelling}
+use Rattle.fault_model.specs.RectChains.{IsLabelling}
+use Rattle.geo_core.specs.Unions.{HasNumber, IsInUnion}
 use Rattle.fault_model.specs.Halves.{IsOn}
 use Rattle.fault_model.specs.Walks.{IsSameIsland}
 use Rattle.islands.specs.Islands.{LabelsAreIslands}
-use Rattle.net_extract.specs.LabelledCells.{HasLabelled}
-use Rattle.net_extract.specs.Numbering.{AreIslandsFrom}
+use Rattle.net_extract.specs.inside.LabelledCells.{HasLabelled}
+use Rattle.net_extract.specs.inside.Numbering.{AreIslandsFrom}
+use Rattle.lists.proofs.Containing.{Contains-slice_get, number_of}
 
 -- an item of a mapped list, by its number, is what the item with that number becomes
 pub got_mapped : {X Y : Type 0} (f : X → Y) (xs : List X) (k : ℕ) (x : X) → slice_get xs k ≡ Some x → slice_get (map f xs) k ≡ Some (f x)
@@ -55,7 +56,8 @@ module _ (rects : List Rect) (labels : List ℕ) (first : ℕ) (islands : List L
   reached : (i : ℕ) (c : Cell) → HasLabelled islands i c → IsReached i c
   reached i c h =
       let number = number_of islands h.labelled h.among in
-      let label = got_unmapped (λ n. first + n) labels number.0 h.labelled.label (subst (λ xs. slice_get xs number.0 ≡ Some h.labelled.label) same_labels (got_mapped label_of islands number.0 h.labelled number.1)) in
+      let label = got_unmapped (λ n. first + n) labels number.0 h.labelled.label (subst (λ xs. slice_get xs number.0 ≡ Some h.labelled.label) same_labels
+      (got_mapped label_of islands number.0 h.labelled number.1)) in
       record {
         number = number.0;
         label = label.0;

@@ -1,4 +1,3 @@
-pub mod ListLaws
 pub mod LinkLaws
 pub mod IslandLaws
 pub mod MetalLaws
@@ -7,7 +6,6 @@ pub mod ContactLaws
 pub mod SpotLaws
 pub mod FoundLaws
 pub mod AnchorLaws
-pub mod AnswerLaws
 pub mod WalkLaws
 pub mod MadeLaws
 pub mod ExtractLaws

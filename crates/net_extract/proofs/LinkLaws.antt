@@ -6,10 +6,10 @@ use Rattle.std.proofs.lemmas.List.Elements.{Contains-get_or}
 use Rattle.std.proofs.lemmas.Option.{slice_get-get_or}
 use Rattle.paths.proofs.PathLaws.{retold}
 use Rattle.classes.specs.Classes.{AreBelow, IsPair, IsClasses}
-use Rattle.classes.specs.Laws.{EqualWhereJoined}
-use Rattle.net_extract.specs.Numbering.{IsLink, AreNetNumbers}
+use Rattle.classes.specs.ClassConsequences.{EqualWhereJoined}
+use Rattle.net_extract.specs.inside.Numbering.{IsLink, AreNetNumbers}
 use Rattle.net_extract.specs.declared.pieces.ContactPiece.{ContactPiece}
-use Rattle.net_extract.proofs.ListLaws.{Contains-map, Contains-unmap, Contains-flat_map, Contains-unflat_map}
+use Rattle.lists.proofs.Mapping.{Contains-flat_map, Contains-flat_map_from, Contains-map, Contains-map_from}
 
 -- the two islands of a contact piece
 abbrev pub carried : ContactPiece → ℕ × ℕ
@@ -18,8 +18,8 @@ carried contact = (contact.lower, contact.upper)
 pub links_are : (contacts : List (List ContactPiece)) (links : List (ℕ × ℕ)) → links ≡ flat_map (map carried) contacts → (i k : ℕ) → Contains links (i, k) ↔ IsLink contacts i k
 links_are contacts links e i k = (
   λ h.
-      let in_list = Contains-unflat_map (map carried) contacts (i, k) (subst (λ xs. Contains xs (i, k)) e h) in
-      let found = Contains-unmap carried in_list.0 (i, k) in_list.2 in
+      let in_list = Contains-flat_map_from (map carried) contacts (i, k) (subst (λ xs. Contains xs (i, k)) e h) in
+      let found = Contains-map_from carried in_list.0 (i, k) in_list.2 in
       record { list = in_list.0; contact = found.0; listed = in_list.1; among = found.1; lower_is = ap (λ p. p.0) found.2; upper_is = ap (λ p. p.1) found.2 },
   λ l.
       let there = Contains-flat_map (map carried) contacts l.list (carried l.contact) l.listed (Contains-map carried l.list l.contact l.among) in

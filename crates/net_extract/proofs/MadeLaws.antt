@@ -5,36 +5,37 @@ use Rattle.std.specs.List.{AllZip}
 use Rattle.std.proofs.lemmas.Bool.Decides.{leb_tells}
 use Rattle.std.proofs.lemmas.List.{get_or_past, length-map, get_or_default}
 use Rattle.std.proofs.lemmas.List.Elements.{All-contains, Contains-get_or}
-use Rattle.paths.proofs.ListLaws.{Contains-none, Contains-slice_get, number_of}
 use Rattle.paths.proofs.PathLaws.{within}
 use Rattle.geo_core.specs.Cells.{Has}
 use Rattle.geo_core.specs.declared.plane.Cell.{Cell}
 use Rattle.geo_core.specs.declared.plane.Half.{Half}
 use Rattle.geo_core.specs.declared.plane.Labelled.{Labelled}
 use Rattle.geo_core.specs.declared.plane.Rect.{Rect}
-use Rattle.fault_model.specs.Chains.{IsInUnion}
+use Rattle.geo_core.specs.Unions.{IsInUnion}
 use Rattle.fault_model.specs.Halves.{IsOn}
 use Rattle.fault_model.specs.Nets.{Cut, Place, IsContact, IsSameNet}
 use Rattle.fault_model.specs.Walks.{IsSameIsland}
 use Rattle.fault_model.proofs.HalfLaws.{cell_on}
-use Rattle.layer_map.specs.Layers.{JoinsMetals}
-use Rattle.layer_map.specs.Lists.{AreDifferent}
-use Rattle.layer_map.specs.MapView.{terminal_of}
-use Rattle.layer_map.specs.declared.layers.Cut.{Cut as GivenCut}
-use Rattle.layer_map.specs.declared.layers.Terminal.{Terminal}
-use Rattle.net_extract.specs.Anchoring.{IsAnchorOf}
-use Rattle.net_extract.specs.Coverage.{IsCoveredIn}
-use Rattle.net_extract.specs.LabelledCells.{HasLabelled}
+use Rattle.map_model.specs.Layers.{JoinsMetals}
+use Rattle.lists.specs.Differing.{AreDifferent}
+use Rattle.map_model.specs.MapView.{terminal_of}
+use Rattle.map_model.specs.declared.layers.Cut.{Cut as GivenCut}
+use Rattle.map_model.specs.declared.layers.Terminal.{Terminal}
+use Rattle.net_extract.specs.inside.Anchoring.{IsAnchorOf}
+use Rattle.geo_core.specs.Unions.{IsCoveredIn}
+use Rattle.net_extract.specs.inside.LabelledCells.{HasLabelled}
 use Rattle.net_extract.specs.NetFacts.{AreNets, LiesOnIslands}
 use Rattle.net_extract.specs.NetLists.{NetLists, IsPieceCell, IsIslandCell, IsNetCell, IsContactCell}
-use Rattle.net_extract.specs.Numbering.{AreIslandsOf, AreContactLists, AreNetNumbers, islands_on, piece_of}
+use Rattle.net_extract.specs.inside.Numbering.{AreIslandsOf, AreContactLists, AreNetNumbers, islands_on, piece_of}
 use Rattle.net_extract.specs.declared.pieces.Anchor.{Anchor}
 use Rattle.net_extract.specs.declared.pieces.ContactPiece.{ContactPiece}
 use Rattle.net_extract.specs.declared.pieces.Piece.{Piece}
 use Rattle.net_extract.proofs.IslandLaws.{got_mapped}
-use Rattle.net_extract.proofs.ListLaws.{Contains-map, Contains-unmap, AllPairs-map, some_item}
 use Rattle.net_extract.proofs.SpotLaws.{some_cell}
 use Rattle.net_extract.proofs.WalkLaws.{cuts_behind, cut_given, contacts_at, walk_from_links, links_from_walk, keeps_island}
+use Rattle.lists.proofs.Containing.{Contains-none, Contains-slice_get, number_of, some_item}
+use Rattle.lists.proofs.Differing.{AreDifferent-map}
+use Rattle.lists.proofs.Mapping.{Contains-map, Contains-map_from}
 
 -- ---- lists
 
@@ -51,10 +52,6 @@ zip_at R (a ∷ xs) [] k y h e = absurd h
 zip_at R (a ∷ xs) (b ∷ ys) zero y h e = let same : b ≡ y = cc e in (a, subst (R a) same h.0)
 zip_at R (a ∷ xs) (b ∷ ys) (suc k) y h e = zip_at R xs ys k y h.1 e
 
--- what differs still differs where each thing is told from what it becomes
-pub AreDifferent-map : {X Y : Type 0} (f : X → Y) (xs : List X) → ((a b : X) → f a ≡ f b → a ≡ b) → AreDifferent xs → AreDifferent (map f xs)
-AreDifferent-map f xs tells differ = AllPairs-map (λ y z. y ≢ z) f xs (λ i j d before small same. differ i j d before small (tells _ _ same))
-
 -- the two metals of a cut
 abbrev pub ends_at : GivenCut → ℕ × ℕ
 ends_at cut = (cut.lower, cut.upper)
@@ -64,7 +61,8 @@ ends_at cut = (cut.lower, cut.upper)
 abbrev pub place_of : Anchor → ℕ × Cell
 place_of anchor = (anchor.metal, anchor.cell)
 
-pub anchor_places : (islands : List (List Labelled)) (terminals : List Terminal) (anchors : List Anchor) → AllZip (IsAnchorOf islands) terminals anchors → map place_of anchors ≡ map terminal_of terminals
+pub anchor_places : (islands : List (List Labelled)) (terminals : List Terminal) (anchors : List Anchor) → AllZip (IsAnchorOf islands) terminals anchors
+    → map place_of anchors ≡ map terminal_of terminals
 anchor_places islands [] [] h = refl
 anchor_places islands [] (a ∷ anchors) h = absurd h
 anchor_places islands (t ∷ terminals) [] h = absurd h
@@ -78,13 +76,15 @@ same_terminal s t e =
     let make : ℕ → Cell → Terminal = λ m c. record { metal = m; cell = c } in
     ap (λ (p : ℕ × Cell). make p.0 p.1) e
 
-pub places_differ : (islands : List (List Labelled)) (terminals : List Terminal) (anchors : List Anchor) → AllZip (IsAnchorOf islands) terminals anchors → AreDifferent terminals → AreDifferent (map place_of anchors)
+pub places_differ : (islands : List (List Labelled)) (terminals : List Terminal) (anchors : List Anchor) → AllZip (IsAnchorOf islands) terminals anchors → AreDifferent terminals
+    → AreDifferent (map place_of anchors)
 places_differ islands terminals anchors zip differ = subst AreDifferent (sym (anchor_places islands terminals anchors zip)) (AreDifferent-map terminal_of terminals same_terminal differ)
 
 -- ---- pieces
 
 -- every label is the number of an island
-pub labels_small : (lists : List (List Rect)) (metals count : ℕ) (islands : List (List Labelled)) → AreIslandsOf lists metals count islands → (n : ℕ) → n ≡ count → All (All (λ (island : Labelled). island.label < n)) islands
+pub labels_small : (lists : List (List Rect)) (metals count : ℕ) (islands : List (List Labelled)) → AreIslandsOf lists metals count islands → (n : ℕ) → n ≡ count
+    → All (All (λ (island : Labelled). island.label < n)) islands
 labels_small lists metals count islands are n e m d m_small j other j_small =
     let same = get_or_default islands m d [] m_small in
     let island = get_or (get_or islands m d) j other in
@@ -101,7 +101,7 @@ module _ (islands : List (List Labelled)) (nets : List ℕ) (contacts : List (Li
   among_pieces m l among = subst (λ xs. Contains xs (piece_of nets l)) (sym (mapped_lists (piece_of nets) islands m)) (Contains-map (piece_of nets) (islands_on islands m) l among)
 
   from_pieces : (m : ℕ) (piece : Piece) → Contains (get_or (map (map (piece_of nets)) islands) m []) piece → (l : Labelled) × Contains (islands_on islands m) l × (piece_of nets l ≡ piece)
-  from_pieces m piece among = Contains-unmap (piece_of nets) (islands_on islands m) piece (subst (λ xs. Contains xs piece) (mapped_lists (piece_of nets) islands m) among)
+  from_pieces m piece among = Contains-map_from (piece_of nets) (islands_on islands m) piece (subst (λ xs. Contains xs piece) (mapped_lists (piece_of nets) islands m) among)
 
   pub island_cell : (m i : ℕ) (c : Cell) → HasLabelled (islands_on islands m) i c → IsIslandCell made m i c
   island_cell m i c h = record { piece = piece_of nets h.labelled; among = among_pieces m h.labelled h.among; carries = h.carries; has = h.has }
@@ -161,8 +161,11 @@ module _ (islands : List (List Labelled)) (nets : List ℕ) (contacts : List (Li
           λ on.
               let v = on.2 in
               let told = (exact v.contact.lower v.contact.upper on.0).0 (record { contact = v.contact; among = v.among; lower_is = refl; upper_is = refl; has = v.has }) in
-              subst (λ x. IsContact covers x h) source.2
-              ((on.0, on.1, told.0), (on.0, on.1, (are.covered source.0.lower on.0 joined.lower).0 (v.contact.lower, told.1)), (on.0, on.1, (are.covered source.0.upper on.0 joined.upper).0 (v.contact.upper, told.2))),
+              subst (λ x. IsContact covers x h) source.2 (
+                (on.0, on.1, told.0),
+                (on.0, on.1, (are.covered source.0.lower on.0 joined.lower).0 (v.contact.lower, told.1)),
+                (on.0, on.1, (are.covered source.0.upper on.0 joined.upper).0 (v.contact.upper, told.2)),
+              ),
           λ contact.
               let here = subst (λ x. IsContact covers x h) (sym source.2) contact in
               let c = here.0.0 in
@@ -192,7 +195,8 @@ module _ (islands : List (List Labelled)) (nets : List ℕ) (contacts : List (Li
     lies_on_islands : ends ≡ map ends_at given → (k : ℕ) (contact : ContactPiece) → Contains (get_or contacts k []) contact → LiesOnIslands made k contact
     lies_on_islands e k contact among =
         let cut = some_item given k (listed k contact among) in
-        let told : (c : Cell) → Has contact.rect c → IsInUnion (get_or lists (metals + k) []) c × HasLabelled (islands_on islands cut.0.lower) contact.lower c × HasLabelled (islands_on islands cut.0.upper) contact.upper c =
+        let told : (c : Cell) → Has contact.rect c → IsInUnion (get_or lists (metals + k) []) c × HasLabelled (islands_on islands cut.0.lower) contact.lower c
+        × HasLabelled (islands_on islands cut.0.upper) contact.upper c =
         λ c has. (contacts_at lists metals count islands are given joins contacts lists_are k cut.0 cut.1 contact.lower contact.upper c).0
         (record { contact = contact; among = among; lower_is = refl; upper_is = refl; has = has }) in
         record {

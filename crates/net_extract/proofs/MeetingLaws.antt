@@ -6,6 +6,7 @@ use Rattle.std.specs.List.{dedup}
 use Rattle.std.specs.List.Sorted.{IsPermutation}
 use Rattle.std.specs.Ordering.{int_eq}
 use Rattle.std.specs.Option.{option_to_list}
+use Rattle.std.proofs.lemmas.Bool.{and_parts}
 use Rattle.std.proofs.lemmas.Bool.Decides.{Decides-int_eq, nat_tests}
 use Rattle.std.proofs.lemmas.Cmp.{and_equiv, on_equiv, int_eq_equiv, nat_eq_equiv}
 use Rattle.std.proofs.lemmas.List.Kept.{Contains-dedup, Contains-from_dedup}
@@ -14,15 +15,15 @@ use Rattle.geo_core.proofs.RectLaws.{same_rect}
 use Rattle.std.proofs.lemmas.List.{length-map}
 use Rattle.std.proofs.lemmas.List.Elements.{Contains-append_left, Contains-append_right, Contains-append_cases, Contains-get_or, Contains-push, Contains-push_cases}
 use Rattle.std.proofs.lemmas.Option.{slice_get_within}
-use Rattle.paths.proofs.ListLaws.{Contains-none, Contains-first, Contains-cases, number_of, Contains-slice_get}
 use Rattle.geo_core.specs.Cells.{Has}
 use Rattle.geo_core.specs.declared.plane.Cell.{Cell}
 use Rattle.geo_core.specs.declared.plane.Labelled.{Labelled}
 use Rattle.geo_core.specs.declared.plane.Rect.{Rect}
 use Rattle.touch_sweep.specs.Touching.{AreMeeting}
-use Rattle.net_extract.specs.LabelledCells.{AreAt, HasContact, AreMeetings}
+use Rattle.net_extract.specs.inside.LabelledCells.{AreAt, HasContact, AreMeetings}
 use Rattle.net_extract.specs.declared.pieces.ContactPiece.{ContactPiece}
 use Rattle.net_extract.proofs.IslandLaws.{rect_of, got_mapped}
+use Rattle.lists.proofs.Containing.{Contains-cons_cases, Contains-head, Contains-none, Contains-slice_get, number_of}
 
 no_contact : (i k : ℕ) (c : Cell) → HasContact [] i k c → ⊥
 no_contact i k c h = Contains-none h.among
@@ -36,10 +37,11 @@ IsFound one other found = (i k : ℕ) (c : Cell) → HasContact (option_to_list 
 pub none_found : (one other : Labelled) → ((c : Cell) → Has one.rect c → Has other.rect c → ⊥) → IsFound one other None
 none_found one other never i k c = (λ h. absurd (no_contact i k c h), λ m. absurd (never c m.one_has m.other_has))
 
-pub one_found : (one other : Labelled) (contact : ContactPiece) → ((c : Cell) → Has contact.rect c ↔ (Has one.rect c × Has other.rect c)) → contact.lower ≡ one.label → contact.upper ≡ other.label → IsFound one other (Some contact)
+pub one_found : (one other : Labelled) (contact : ContactPiece) → ((c : Cell) → Has contact.rect c ↔ (Has one.rect c × Has other.rect c)) → contact.lower ≡ one.label → contact.upper ≡ other.label
+    → IsFound one other (Some contact)
 one_found one other contact common lower_is upper_is i k c = (
   λ h.
-      let same : contact ≡ h.contact = elim (Contains-cases contact [] h.contact h.among) [ inl e ↦ e | inr n ↦ absurd (Contains-none n) ] in
+      let same : contact ≡ h.contact = elim (Contains-cons_cases contact [] h.contact h.among) [ inl e ↦ e | inr n ↦ absurd (Contains-none n) ] in
       let has = (common c).0 (subst (λ (x : ContactPiece). Has x.rect c) (sym same) h.has) in
       record {
         one_carries = sym lower_is ∙ ap (λ (x : ContactPiece). x.lower) same ∙ h.lower_is;
@@ -49,7 +51,7 @@ one_found one other contact common lower_is upper_is i k c = (
       },
   λ m. record {
     contact = contact;
-    among = Contains-first contact [];
+    among = Contains-head contact [];
     lower_is = lower_is ∙ m.one_carries;
     upper_is = upper_is ∙ m.other_carries;
     has = (common c).1 (m.one_has, m.other_has);
@@ -185,33 +187,29 @@ abbrev pub piece_eq : ContactPiece → ContactPiece → Bool
 piece_eq a b = rect_eq a.rect b.rect && (nat_eq a.lower b.lower && nat_eq a.upper b.upper)
 
 rect_eq_equiv : IsEquivalence rect_eq
-rect_eq_equiv = and_equiv (on_equiv (λ (r : Rect). r.x0) int_eq_equiv) (and_equiv (on_equiv (λ (r : Rect). r.y0) int_eq_equiv) (and_equiv (on_equiv (λ (r : Rect). r.x1) int_eq_equiv) (on_equiv (λ (r : Rect). r.y1) int_eq_equiv)))
+rect_eq_equiv = and_equiv (on_equiv (λ (r : Rect). r.x0) int_eq_equiv) (and_equiv (on_equiv (λ (r : Rect). r.y0) int_eq_equiv)
+    (and_equiv (on_equiv (λ (r : Rect). r.x1) int_eq_equiv) (on_equiv (λ (r : Rect). r.y1) int_eq_equiv)))
 
 piece_eq_equiv : IsEquivalence piece_eq
-piece_eq_equiv = and_equiv (on_equiv (λ (p : ContactPiece). p.rect) rect_eq_equiv) (and_equiv (on_equiv (λ (p : ContactPiece). p.lower) nat_eq_equiv) (on_equiv (λ (p : ContactPiece). p.upper) nat_eq_equiv))
-
-both_left : (b c : Bool) → (b && c) ≡ true → b ≡ true
-both_left b c e = grind (arith, nat_tests)
-
-both_right : (b c : Bool) → (b && c) ≡ true → c ≡ true
-both_right b c e = grind (arith, nat_tests)
+piece_eq_equiv = and_equiv (on_equiv (λ (p : ContactPiece). p.rect) rect_eq_equiv) (and_equiv (on_equiv (λ (p : ContactPiece). p.lower) nat_eq_equiv)
+    (on_equiv (λ (p : ContactPiece). p.upper) nat_eq_equiv))
 
 same_rects : (a b : Rect) → rect_eq a b ≡ true → a ≡ b
 same_rects a b e =
     let x0 = int_eq a.x0 b.x0 in let y0 = int_eq a.y0 b.y0 in let x1 = int_eq a.x1 b.x1 in let y1 = int_eq a.y1 b.y1 in
-    let last_three = both_right x0 (y0 && (x1 && y1)) e in
-    let last_two = both_right y0 (x1 && y1) last_three in
-    same_rect a b ((Decides-int_eq a.x0 b.x0).0 (both_left x0 (y0 && (x1 && y1)) e)) ((Decides-int_eq a.y0 b.y0).0 (both_left y0 (x1 && y1) last_three))
-    ((Decides-int_eq a.x1 b.x1).0 (both_left x1 y1 last_two)) ((Decides-int_eq a.y1 b.y1).0 (both_right x1 y1 last_two))
+    let last_three = (and_parts x0 (y0 && (x1 && y1)) e).1 in
+    let last_two = (and_parts y0 (x1 && y1) last_three).1 in
+    same_rect a b ((Decides-int_eq a.x0 b.x0).0 (and_parts x0 (y0 && (x1 && y1)) e).0) ((Decides-int_eq a.y0 b.y0).0 (and_parts y0 (x1 && y1) last_three).0)
+    ((Decides-int_eq a.x1 b.x1).0 (and_parts x1 y1 last_two).0) ((Decides-int_eq a.y1 b.y1).0 (and_parts x1 y1 last_two).1)
 
 same_piece : (a b : ContactPiece) → piece_eq a b ≡ true → a ≡ b
 same_piece a b e =
     let same_lower = nat_eq a.lower b.lower in
     let same_upper = nat_eq a.upper b.upper in
-    let last_two = both_right (rect_eq a.rect b.rect) (same_lower && same_upper) e in
-    let rect_is = same_rects a.rect b.rect (both_left (rect_eq a.rect b.rect) (same_lower && same_upper) e) in
-    let lower_test = both_left same_lower same_upper last_two in
-    let upper_test = both_right same_lower same_upper last_two in
+    let last_two = (and_parts (rect_eq a.rect b.rect) (same_lower && same_upper) e).1 in
+    let rect_is = same_rects a.rect b.rect (and_parts (rect_eq a.rect b.rect) (same_lower && same_upper) e).0 in
+    let lower_test = (and_parts same_lower same_upper last_two).0 in
+    let upper_test = (and_parts same_lower same_upper last_two).1 in
     let lower_is : a.lower ≡ b.lower = grind (arith, nat_tests) in
     let upper_is : a.upper ≡ b.upper = grind (arith, nat_tests) in
     let make : Rect → ℕ → ℕ → ContactPiece = λ r i k. record { rect = r; lower = i; upper = k } in
@@ -224,7 +222,8 @@ same_pieces contacts sorted once moved e piece = (
   λ c. subst (λ ps. Contains ps piece) (sym e) (Contains-dedup piece_eq_equiv same_piece sorted piece (Contains-permutation contacts sorted piece moved c)),
 )
 
-pub meetings_once : (lower upper : List Labelled) (contacts once : List ContactPiece) → ((piece : ContactPiece) → Contains once piece ↔ Contains contacts piece) → AreMeetings lower upper contacts → AreMeetings lower upper once
+pub meetings_once : (lower upper : List Labelled) (contacts once : List ContactPiece) → ((piece : ContactPiece) → Contains once piece ↔ Contains contacts piece) → AreMeetings lower upper contacts
+    → AreMeetings lower upper once
 meetings_once lower upper contacts once same are i k c = (
   λ h. (are i k c).0 (record { contact = h.contact; among = (same h.contact).0 h.among; lower_is = h.lower_is; upper_is = h.upper_is; has = h.has }),
   λ both. let h = (are i k c).1 both in record { contact = h.contact; among = (same h.contact).1 h.among; lower_is = h.lower_is; upper_is = h.upper_is; has = h.has },

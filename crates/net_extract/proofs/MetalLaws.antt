@@ -3,16 +3,17 @@ use Rattle.std.proofs.Common.{ℕ, ◌+◌, ◌<◌, ◌≤◌, ◌≡◌, refl,
 use Rattle.std.specs.Prelude.{◌↔◌}
 use Rattle.std.proofs.lemmas.Bool.Decides.{leb_tells}
 use Rattle.std.proofs.lemmas.List.{get_or_append_left, get_or_push, get_or_past, length_push}
-use Rattle.paths.proofs.ListLaws.{Contains-none, equal_or_not}
 use Rattle.geo_core.specs.declared.plane.Cell.{Cell}
 use Rattle.geo_core.specs.declared.plane.Half.{Half}
 use Rattle.geo_core.specs.declared.plane.Labelled.{Labelled}
 use Rattle.geo_core.specs.declared.plane.Rect.{Rect}
 use Rattle.fault_model.specs.Halves.{IsOn}
 use Rattle.fault_model.specs.Walks.{IsSameIsland}
-use Rattle.net_extract.specs.Coverage.{IsCoveredIn}
-use Rattle.net_extract.specs.LabelledCells.{HasLabelled}
-use Rattle.net_extract.specs.Numbering.{AreIslandsFrom, AreIslandsOf, islands_on}
+use Rattle.geo_core.specs.Unions.{IsCoveredIn}
+use Rattle.net_extract.specs.inside.LabelledCells.{HasLabelled}
+use Rattle.net_extract.specs.inside.Numbering.{AreIslandsFrom, AreIslandsOf, islands_on}
+use Rattle.lists.proofs.Comparing.{equal_or_not}
+use Rattle.lists.proofs.Containing.{Contains-none}
 
 -- a list of lists has what it had, and one list more at its end
 module _ {X : Type 0} (old : List (List X)) (new : List X) where

@@ -5,17 +5,17 @@ use Rattle.std.specs.Option.{option_to_list}
 use Rattle.std.proofs.lemmas.Int.{ints}
 use Rattle.std.proofs.lemmas.List.Elements.{Contains-append_left, Contains-append_right, Contains-append_cases}
 use Rattle.std.proofs.lemmas.Option.{slice_get_within}
-use Rattle.paths.proofs.ListLaws.{Contains-none, Contains-first, Contains-cases}
 use Rattle.geo_core.specs.Intervals.{IsIn}
 use Rattle.geo_core.specs.Cells.{Has}
 use Rattle.geo_core.specs.declared.plane.Cell.{Cell}
 use Rattle.geo_core.specs.declared.plane.Labelled.{Labelled}
 use Rattle.geo_core.specs.declared.plane.Rect.{Rect}
 use Rattle.geo_core.proofs.RectLaws.{same_cell}
-use Rattle.layer_map.specs.declared.layers.Terminal.{Terminal}
-use Rattle.net_extract.specs.LabelledCells.{HasLabelled}
-use Rattle.net_extract.specs.Anchoring.{IsTerminalAt, AreSpots, IsSpotOf}
+use Rattle.map_model.specs.declared.layers.Terminal.{Terminal}
+use Rattle.net_extract.specs.inside.LabelledCells.{HasLabelled}
+use Rattle.net_extract.specs.inside.Anchoring.{IsTerminalAt, AreSpots, IsSpotOf}
 use Rattle.net_extract.proofs.MetalLaws.{before_or_past}
+use Rattle.lists.proofs.Containing.{Contains-cons_cases, Contains-head, Contains-none}
 
 -- an interval of one number
 is_one : (low high x y : ℤ) → low ≡ y → high ≡ y +ℤ pos 1 → IsIn low high x → x ≡ y
@@ -54,9 +54,9 @@ module _ (terminal : Terminal) (number metal : ℕ) where
   a_spot rect e is = record {
     sound = λ label c h.
         let spot : Labelled = record { rect = rect; label = number } in
-        let same : spot ≡ h.labelled = elim (Contains-cases spot [] h.labelled h.among) [ inl s ↦ s | inr n ↦ absurd (Contains-none n) ] in
+        let same : spot ≡ h.labelled = elim (Contains-cons_cases spot [] h.labelled h.among) [ inl s ↦ s | inr n ↦ absurd (Contains-none n) ] in
         (sym (ap (λ (l : Labelled). l.label) same ∙ h.carries), e, sym ((is c).0 (subst (λ (l : Labelled). Has l.rect c) (sym same) h.has)));
-    complete = λ other f h. record { labelled = record { rect = rect; label = number }; among = Contains-first _ []; carries = refl; has = (is terminal.cell).1 refl };
+    complete = λ other f h. record { labelled = record { rect = rect; label = number }; among = Contains-head _ []; carries = refl; has = (is terminal.cell).1 refl };
   }
 
 -- the spots of the first so many terminals
@@ -74,7 +74,8 @@ module _ (terminals : List Terminal) (metal : ℕ) where
     complete = λ number c rect t. let small = slice_get_within terminals number t.terminal t.numbered in are.complete number c rect (omega arith) t;
   }
 
-  module _ (count : ℕ) (old : List Labelled) (are : AreFirstSpots count old) (terminal : Terminal) (at : slice_get terminals count ≡ Some terminal) (spot : Option Labelled) (is : IsSpotOf terminal count metal spot) where
+  module _ (count : ℕ) (old : List Labelled) (are : AreFirstSpots count old) (terminal : Terminal) (at : slice_get terminals count ≡ Some terminal) (spot : Option Labelled)
+      (is : IsSpotOf terminal count metal spot) where
     has_old : (number : ℕ) (c : Cell) → HasLabelled old number c → HasLabelled (old ++ option_to_list spot) number c
     has_old number c h = record { labelled = h.labelled; among = Contains-append_left old (option_to_list spot) h.labelled h.among; carries = h.carries; has = h.has }
 

@@ -7,7 +7,6 @@ use Rattle.std.proofs.lemmas.List.{get_or_past}
 use Rattle.std.proofs.lemmas.List.Elements.{All-contains, Contains-get_or}
 use Rattle.std.proofs.lemmas.Option.{slice_get_within, get_or_from_slice_get}
 use Rattle.paths.specs.Paths.{stay, step}
-use Rattle.paths.proofs.ListLaws.{Contains-none, Contains-slice_get, number_of}
 use Rattle.paths.proofs.PathLaws.{first, append}
 use Rattle.geo_core.specs.declared.plane.Cell.{Cell}
 use Rattle.geo_core.specs.declared.plane.Half.{Half}
@@ -18,18 +17,18 @@ use Rattle.fault_model.specs.Nets.{Cut, Place, Joins, IsContact, IsOnMetal, NetS
 use Rattle.fault_model.specs.Walks.{Walk}
 use Rattle.fault_model.proofs.HalfLaws.{cell_on, some_half}
 use Rattle.fault_model.proofs.NetLaws.{leads_back, on_metal, at_contact}
-use Rattle.layer_map.specs.LayerMap.{MappedCut}
-use Rattle.layer_map.specs.Layers.{JoinsMetals, mapped_cut}
-use Rattle.layer_map.specs.declared.layers.Cut.{Cut as GivenCut}
-use Rattle.net_extract.specs.Coverage.{IsCoveredIn}
+use Rattle.map_model.specs.LayerMap.{MappedCut}
+use Rattle.map_model.specs.Layers.{JoinsMetals, mapped_cut}
+use Rattle.map_model.specs.declared.layers.Cut.{Cut as GivenCut}
+use Rattle.geo_core.specs.Unions.{IsCoveredIn}
 use Rattle.net_extract.specs.Cuts.{cut_of}
-use Rattle.net_extract.specs.LabelledCells.{HasLabelled, AreContactsOf}
-use Rattle.net_extract.specs.Numbering.{AreIslandsOf, AreContactLists, IsLink, AreLinked, islands_on}
+use Rattle.net_extract.specs.inside.LabelledCells.{HasLabelled, AreContactsOf}
+use Rattle.net_extract.specs.inside.Numbering.{AreIslandsOf, AreContactLists, IsLink, AreLinked, islands_on}
 use Rattle.net_extract.specs.declared.pieces.ContactPiece.{ContactPiece}
-use Rattle.net_extract.proofs.AnchorLaws.{got_numbered}
+use Rattle.lists.proofs.Numbering.{slice_get-enumerate}
 use Rattle.net_extract.proofs.IslandLaws.{got_mapped, got_unmapped}
-use Rattle.net_extract.proofs.ListLaws.{some_item}
 use Rattle.net_extract.proofs.SpotLaws.{some_cell}
+use Rattle.lists.proofs.Containing.{Contains-none, Contains-slice_get, number_of, some_item}
 
 -- an item with its number, by its number
 pub got_unnumbered : {X : Type 0} (n : ℕ) (xs : List X) (k : ℕ) (y : ℕ × X) → slice_get (enumerate_from n xs) k ≡ Some y → (slice_get xs k ≡ Some y.1) × (y.0 ≡ n + k)
@@ -46,7 +45,8 @@ module _ (metals : ℕ) (given : List GivenCut) where
   behind k cut = record { number = metals + k; lower = cut.lower; upper = cut.upper }
 
   pub cut_listed : (k : ℕ) (cut : GivenCut) → slice_get given k ≡ Some cut → slice_get cuts_behind k ≡ Some (behind k cut)
-  cut_listed k cut at = got_mapped cut_of (enumerate_from metals (map mapped_cut given)) k (metals + k, mapped_cut cut) (got_numbered metals (map mapped_cut given) k (mapped_cut cut) (got_mapped mapped_cut given k cut at))
+  cut_listed k cut at = got_mapped cut_of (enumerate_from metals (map mapped_cut given)) k (metals + k, mapped_cut cut)
+      (slice_get-enumerate metals (map mapped_cut given) k (mapped_cut cut) (got_mapped mapped_cut given k cut at))
 
   pub cut_given : (k : ℕ) (cut : Cut) → slice_get cuts_behind k ≡ Some cut → (source : GivenCut) × (slice_get given k ≡ Some source) × (behind k source ≡ cut)
   cut_given k cut at =
@@ -58,7 +58,8 @@ module _ (metals : ℕ) (given : List GivenCut) where
       (source.0, source.1, ap cut_of same ∙ numbered.2)
 
 -- there are no islands on what is no metal
-pub island_metal : (lists : List (List Rect)) (metals count : ℕ) (islands : List (List Labelled)) → AreIslandsOf lists metals count islands → (m i : ℕ) (c : Cell) → HasLabelled (islands_on islands m) i c → m < metals
+pub island_metal : (lists : List (List Rect)) (metals count : ℕ) (islands : List (List Labelled)) → AreIslandsOf lists metals count islands → (m i : ℕ) (c : Cell)
+    → HasLabelled (islands_on islands m) i c → m < metals
 island_metal lists metals count islands are m i c h = elim (leb_tells metals m) [
   | inl past ↦
       let one_each = are.one_each in
@@ -106,8 +107,10 @@ module _ (lists : List (List Rect)) (metals count : ℕ) (islands : List (List L
     pub upper : HasLabelled (islands_on islands cut.upper) k cell
 
   -- the rectangles of a cut stand behind those of the metals
-  pub contacts_at : (k : ℕ) (cut : GivenCut) → slice_get given k ≡ Some cut → AreContactsOf (get_or lists (metals + k) []) (islands_on islands cut.lower) (islands_on islands cut.upper) (get_or contacts k [])
-  contacts_at k cut at = subst (λ n. AreContactsOf (get_or lists (n + k) []) (islands_on islands cut.lower) (islands_on islands cut.upper) (get_or contacts k [])) are.one_each (lists_are.exact k cut at)
+  pub contacts_at : (k : ℕ) (cut : GivenCut) → slice_get given k ≡ Some cut → AreContactsOf (get_or lists (metals + k) []) (islands_on islands cut.lower) (islands_on islands cut.upper)
+      (get_or contacts k [])
+  contacts_at k cut at = subst (λ n. AreContactsOf (get_or lists (n + k) []) (islands_on islands cut.lower) (islands_on islands cut.upper) (get_or contacts k [])) are.one_each
+      (lists_are.exact k cut at)
 
   pub link_at : (i k : ℕ) → IsLink contacts i k → IsLinkAt i k
   link_at i k l =
@@ -120,7 +123,8 @@ module _ (lists : List (List Rect)) (metals count : ℕ) (islands : List (List L
       let told = (contacts_at number.0 cut.0 cut.1 i k cell.0).0 (record { contact = l.contact; among = among; lower_is = l.lower_is; upper_is = l.upper_is; has = cell.1 }) in
       record { number = number.0; cut = cut.0; at = cut.1; cell = cell.0; cut_has = told.0; lower = told.1; upper = told.2 }
 
-  pub link_from : (k : ℕ) (cut : GivenCut) → slice_get given k ≡ Some cut → (c : Cell) → covers (metals + k) c → (i j : ℕ) → HasLabelled (islands_on islands cut.lower) i c → HasLabelled (islands_on islands cut.upper) j c → IsLink contacts i j
+  pub link_from : (k : ℕ) (cut : GivenCut) → slice_get given k ≡ Some cut → (c : Cell) → covers (metals + k) c → (i j : ℕ) → HasLabelled (islands_on islands cut.lower) i c
+      → HasLabelled (islands_on islands cut.upper) j c → IsLink contacts i j
   link_from k cut at c has i j lower upper =
       let h = (contacts_at k cut at i j c).1 (has, lower, upper) in
       let one_each = lists_are.one_each in

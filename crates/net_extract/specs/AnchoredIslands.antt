@@ -3,7 +3,7 @@ use Rattle.std.specs.Prelude.{ℕ, List, Contains, map, filter, length, ◌==◌
 use Rattle.std.specs.List.{AllZip}
 use Rattle.geo_core.specs.declared.plane.Cell.{Cell}
 use Rattle.geo_core.specs.declared.plane.Rect.{Rect}
-use Rattle.layer_map.specs.Lists.{AreDifferent}
+use Rattle.lists.specs.Differing.{AreDifferent}
 use Rattle.fault_model.specs.IslandLists.{IslandLists}
 use Rattle.net_extract.specs.NetLists.{NetLists, pieces_on}
 use Rattle.net_extract.specs.declared.pieces.Anchor.{Anchor}

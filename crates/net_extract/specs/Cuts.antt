@@ -2,7 +2,7 @@
 use Rattle.std.specs.Prelude.{ℕ, List, map, filter, length}
 use Rattle.std.specs.List.{enumerate_from}
 use Rattle.fault_model.specs.Nets.{Cut}
-use Rattle.layer_map.specs.LayerMap.{LayerMap, MappedCut}
+use Rattle.map_model.specs.LayerMap.{LayerMap, MappedCut}
 
 -- the cuts, each with its number, which goes on behind those of the metals
 abbrev pub numbered_cuts : LayerMap → List (ℕ × MappedCut)

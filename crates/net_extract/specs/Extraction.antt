@@ -1,5 +1,5 @@
 -- what becomes of layers: their nets, or the first terminal that is not on its metal
-use Rattle.std.specs.Prelude.{ℕ, List, Result, Ok, Err, Some, length, slice_get, ◌<◌, ◌≡◌, ◌↔◌}
+use Rattle.std.specs.Prelude.{ℕ, List, Some, length, slice_get, ◌<◌, ◌≡◌, ◌↔◌}
 use Rattle.std.specs.List.{enumerate_from}
 use Rattle.geo_core.specs.declared.plane.Cell.{Cell}
 use Rattle.geo_core.specs.declared.plane.Half.{Half}
@@ -8,14 +8,14 @@ use Rattle.fault_model.specs.Halves.{IsOn}
 use Rattle.fault_model.specs.Nets.{Cut, Place, IsContact, IsSameNet}
 use Rattle.fault_model.specs.Walks.{IsSameIsland}
 use Rattle.first_refusal.specs.Checks.{Checks}
-use Rattle.first_refusal.specs.Outcomes.{Outcome, value, refused}
-use Rattle.layer_map.specs.LayerMap.{LayerMap}
-use Rattle.net_extract.specs.Coverage.{IsCoveredIn}
+use Rattle.first_refusal.specs.Outcomes.{Outcome}
+use Rattle.map_model.specs.LayerMap.{LayerMap}
+use Rattle.geo_core.specs.Unions.{IsCoveredIn}
 use Rattle.net_extract.specs.Cuts.{cuts_of, ends_of}
 use Rattle.net_extract.specs.NetFacts.{AreNets}
 use Rattle.net_extract.specs.NetLists.{NetLists, IsPieceCell, IsIslandCell, IsNetCell, IsContactCell, places_of}
 use Rattle.net_extract.specs.declared.fault.NetFault.{NetFault}
-use Rattle.net_extract.specs.declared.fault.NetFault.TheVariants.{TerminalOffMetal, Memory}
+use Rattle.net_extract.specs.declared.fault.NetFault.TheVariants.{TerminalOffMetal}
 
 -- a half square on the metal with this number
 abbrev pub place : ℕ → Half → Place
@@ -55,9 +55,3 @@ off_metal numbered = TerminalOffMetal numbered.0
 -- what layers come to: nets where all terminals are on their metals, and else the fault of the first that is not
 abbrev pub ComeToNets : LayerMap → List (List Rect) → Outcome NetLists NetFault → Type 0
 ComeToNets layer_map lists = Checks (IsOnItsMetal lists) (enumerate_from 0 layer_map.terminals) off_metal (AreNetsOf layer_map lists)
-
--- a call answers an outcome of this kind, or that no memory is left
-pub data Answers {T : Type 0} (Stage : Outcome T NetFault → Type 0) : Result T NetFault → Type 0 where
-  gives : {thing : T} → Stage (value thing) → Answers Stage (Ok thing)
-  refuses : {fault : NetFault} → Stage (refused fault) → Answers Stage (Err fault)
-  no_memory : Answers Stage (Err Memory)

@@ -5,7 +5,7 @@ use Rattle.geo_core.specs.declared.plane.Cell.{Cell}
 use Rattle.geo_core.specs.declared.plane.Half.{Half}
 use Rattle.fault_model.specs.Halves.{IsOn}
 use Rattle.fault_model.specs.Walks.{IsSameIsland}
-use Rattle.layer_map.specs.Lists.{AreDifferent}
+use Rattle.lists.specs.Differing.{AreDifferent}
 use Rattle.net_extract.specs.NetLists.{NetLists, IsIslandCell, contacts_of, places_of}
 use Rattle.net_extract.specs.declared.pieces.Anchor.{Anchor}
 use Rattle.net_extract.specs.declared.pieces.ContactPiece.{ContactPiece}

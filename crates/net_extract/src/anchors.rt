@@ -4,20 +4,22 @@ ghost use Rattle.first_refusal.specs.Checks.{Checks};
 ghost use Rattle.geo_core.specs.Cells.{Has};
 ghost use Rattle.geo_core.specs.declared.plane.Cell.{Cell};
 ghost use Rattle.geo_core.specs.declared.plane.Rect.{Rect as AnyRect};
-ghost use Rattle.layer_map.specs.MapView.{terminal_of};
-ghost use Rattle.layer_map.specs.declared.limits.TheConstants.{MOST_TERMINALS};
-ghost use Rattle.net_extract.specs.Anchoring.{AreFound, AreSpots, IsAnchorOf, IsMarked, IsOnIsland, IsSpotOf};
-ghost use Rattle.net_extract.specs.Extraction.{Answers, off_metal};
+ghost use Rattle.map_model.specs.MapView.{terminal_of};
+ghost use Rattle.map_model.specs.declared.limits.TheConstants.{MOST_TERMINALS};
+ghost use Rattle.net_extract.specs.inside.Anchoring.{AreFound, AreSpots, IsAnchorOf, IsMarked, IsOnIsland, IsSpotOf};
+ghost use Rattle.first_refusal.specs.Answers.{Answers};
+ghost use Rattle.net_extract.specs.Extraction.{off_metal};
 
 use super::fault::NetFault;
 use super::meetings::meetings;
 use super::metals::IslandList;
 use super::pieces::{Anchor, ContactPiece};
 use geo_core::{Cell, FARTHEST_GROWN, Items, Labelled, NoMemory, Rect};
-use layer_map::Terminal;
+use map_model::Terminal;
 use std::alloc::Global;
 
 /// The terminals in order, each as an anchor of an island of its metal.
+#[tactic(auto, using(first_refusal::proofs::AnswerLaws::out_of_memory))]
 pub fn anchors_of(
     alloc: Global,
     terminals: &[Terminal],
@@ -25,7 +27,7 @@ pub fn anchors_of(
 ) -> Result<Items<Anchor>, NetFault>
     requires few { length terminals.now ≤ MOST_TERMINALS }
     requires on_metals { All (λ terminal. terminal.metal < length islands.now) terminals.now }
-    ensures { Answers (Checks (IsOnIsland islands.now) (enumerate_from 0 (map terminal_of terminals.now)) off_metal
+    ensures { Answers NetFault.Memory (Checks (IsOnIsland islands.now) (enumerate_from 0 (map terminal_of terminals.now)) off_metal
         (AllZip (IsAnchorOf islands.now) terminals.now)) result }
 {
     let found = islands_at(alloc, terminals, islands)?;

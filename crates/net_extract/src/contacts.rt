@@ -1,13 +1,13 @@
 ghost use Rattle.std.specs.Prelude.{◌≡◌, ◌+◌, ◌≤◌, All, IfOk, length, map};
-ghost use Rattle.layer_map.specs.Layers.{JoinsMetals};
-ghost use Rattle.net_extract.specs.LabelledCells.{AreContactsOf, ArePartsIn};
-ghost use Rattle.net_extract.specs.Numbering.{AreContactLists};
+ghost use Rattle.map_model.specs.Layers.{JoinsMetals};
+ghost use Rattle.net_extract.specs.inside.LabelledCells.{AreContactsOf, ArePartsIn};
+ghost use Rattle.net_extract.specs.inside.Numbering.{AreContactLists};
 
 use super::meetings::meetings;
 use super::metals::IslandList;
 use super::pieces::ContactList;
 use geo_core::{Items, Labelled, NoMemory, Rect, RectList};
-use layer_map::Cut;
+use map_model::Cut;
 use std::alloc::Global;
 
 /// The contact pieces of each cut, whose rectangles are in the lists behind those of the metals.

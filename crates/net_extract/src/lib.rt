@@ -7,7 +7,6 @@ mod carried;
 mod contacts;
 mod fault;
 mod grouped;
-mod layers;
 mod meetings;
 mod metals;
 mod nets;
@@ -15,16 +14,17 @@ mod numbers;
 mod pieces;
 
 ghost use Rattle.std.specs.Prelude.{◌≡◌, ◌+◌, IfOk, length, map};
-ghost use Rattle.layer_map.specs.MapView.{layer_map_of};
-ghost use Rattle.net_extract.specs.Extraction.{Answers, ComeToNets};
+ghost use Rattle.map_model.specs.MapView.{layer_map_of};
+ghost use Rattle.first_refusal.specs.Answers.{Answers};
+ghost use Rattle.net_extract.specs.Extraction.{ComeToNets};
 
 use anchors::anchors_of;
 use contacts::contact_lists;
 pub use fault::NetFault;
 pub use fault_model::Island;
 use geo_core::{Items, NoMemory};
-use layer_map::{Cut, Map};
-pub use layers::Layers;
+pub use map_model::Layers;
+use map_model::{Cut, Map};
 use metals::metal_islands;
 pub use nets::Nets;
 use numbers::{net_numbers, piece_lists};
@@ -38,9 +38,10 @@ use std::alloc::Global;
 /// these half squares, and the pieces of a metal exactly its cells; neither come in a promised order. The anchors are the
 /// map's terminals in order. The error is 50 with the number of the first terminal whose cell its metal does not cover,
 /// or that no memory is left.
+#[tactic(auto, using(first_refusal::proofs::AnswerLaws::out_of_memory))]
 pub fn extract(alloc: Global, layers: &Layers, map: &Map) -> Result<Nets, NetFault>
     requires { length layers.now.lists.items ≡ length map.now.metals + length map.now.cuts }
-    ensures nets { Answers (ComeToNets (layer_map_of map.now) layers.now.lists.items) result }
+    ensures nets { Answers NetFault.Memory (ComeToNets (layer_map_of map.now) layers.now.lists.items) result }
     ensures metals { IfOk result (λ nets. length nets.pieces ≡ length map.now.metals) }
     ensures cuts { IfOk result (λ nets. length nets.contacts ≡ length map.now.cuts) }
 {

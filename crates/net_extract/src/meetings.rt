@@ -1,7 +1,7 @@
 ghost use Rattle.std.specs.Prelude.{ℕ, ◌≡◌, ◌↔◌, Contains, IfOk, map};
 ghost use Rattle.std.specs.Option.{option_to_list};
 ghost use Rattle.geo_core.specs.declared.plane.Cell.{Cell};
-ghost use Rattle.net_extract.specs.LabelledCells.{AreMeetings, HasContact, AreAt};
+ghost use Rattle.net_extract.specs.inside.LabelledCells.{AreMeetings, HasContact, AreAt};
 ghost use Rattle.net_extract.specs.declared.pieces.ContactPiece.{ContactPiece as AnyContact};
 
 use super::pieces::ContactPiece;

@@ -1,5 +1,5 @@
 ghost use Rattle.std.specs.Prelude.{◌+◌, ◌^◌, ◌<◌, ◌≤◌, IfOk, length};
-ghost use Rattle.net_extract.specs.Numbering.{AreIslandsFrom, AreIslandsOf};
+ghost use Rattle.net_extract.specs.inside.Numbering.{AreIslandsFrom, AreIslandsOf};
 
 use geo_core::{Items, Labelled, NoMemory, Rect, RectList};
 use islands::label;

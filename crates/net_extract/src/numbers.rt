@@ -1,5 +1,5 @@
 ghost use Rattle.std.specs.Prelude.{ℕ, ◌≡◌, ◌<◌, ◌↔◌, ◌++◌, All, Contains, IfOk, OnOk, length, map};
-ghost use Rattle.net_extract.specs.Numbering.{AreNetNumbers, IsLink, piece_of};
+ghost use Rattle.net_extract.specs.inside.Numbering.{AreNetNumbers, IsLink, piece_of};
 
 use super::metals::IslandList;
 use super::pieces::{ContactList, ContactPiece, Piece, PieceList};

@@ -14,11 +14,13 @@ pub trait Steps<A> {
 }
 
 /// A path goes on from where another ends.
+#[tactic(auto, using(crate::proofs::PathLaws::append))]
 pub fn paths_join<A, S: Steps<A>>()
     ensures { (a b c : A) → Path S.allows S.leads a b → Path S.allows S.leads b c → Path S.allows S.leads a c }
 {}
 
 /// A path leads back where each of its steps does.
+#[tactic(auto, using(crate::proofs::PathLaws::reverse))]
 pub fn paths_turn_round<A, S: Steps<A>>()
     ensures { ((a b : A) → S.leads a b → S.leads b a) →
         (a b : A) → Path S.allows S.leads a b → Path S.allows S.leads b a }

@@ -1,5 +1,5 @@
 use edge_io::{Files, MemFiles, OsFiles, ReadError, read_whole};
-use geo_core::Name;
+use lists::Name;
 use std::alloc::{AllocError, Global};
 
 /// Whether a source answers so where the file of this name is read up to the limit.

@@ -1,5 +1,5 @@
 use edge_io::{MemSink, OsFiles, OsSink, read_whole, write_all};
-use geo_core::NoMemory;
+use lists::NoMemory;
 use std::alloc::Global;
 use std::io::{self, ErrorKind, Write};
 use std::path::PathBuf;

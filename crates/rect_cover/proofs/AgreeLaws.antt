@@ -4,23 +4,25 @@ use Rattle.std.specs.Prelude.{◌↔◌}
 use Rattle.first_refusal.specs.Outcomes.{Outcome, value, refused}
 use Rattle.first_refusal.specs.Checks.{all_hold, one_fails}
 use Rattle.first_refusal.proofs.CheckLaws.{none_fails, first_refusals_agree}
-use Rattle.geo_core.specs.Turns.{PlanePoint}
+use Rattle.geo_core.specs.declared.plane.Point.{Point}
 use Rattle.geo_core.specs.declared.plane.Cell.{Cell}
 use Rattle.geo_core.specs.declared.plane.Rect.{Rect}
-use Rattle.gds_syntax.specs.declared.element.Shape.{Shape}
-use Rattle.gds_syntax.specs.declared.element.ShapeKind.{ShapeKind}
-use Rattle.gds_syntax.specs.declared.library.Structure.{Structure}
+use Rattle.library_model.specs.declared.element.Shape.{Shape}
+use Rattle.library_model.specs.declared.element.ShapeKind.{ShapeKind}
+use Rattle.library_model.specs.declared.library.Structure.{Structure}
 use Rattle.flatten.specs.declared.placed.Placed.{Placed}
 use Rattle.rect_cover.specs.declared.fault.CoverFault.{CoverFault}
-use Rattle.rect_cover.specs.Coverings.{ShapeHolds, checks_of, shape_fault, CoverComesTo, PlacedComesTo, IsInSome, placed_points}
+use Rattle.rect_cover.specs.Coverings.{CoverComesTo, PlacedComesTo, placed_points}
+use Rattle.rect_cover.specs.ShapeChecks.{ShapeHolds, checks_of, shape_fault}
+use Rattle.outlines.specs.Fillings.{IsInSome}
 use Rattle.rect_cover.proofs.PlacedLaws.{placed_shapes_agree}
 
-module _ (kind : ShapeKind) (points : List PlanePoint) (at : ℕ) where
+module _ (kind : ShapeKind) (points : List Point) (at : ℕ) where
   cover_or_fault : (rects : List Rect) (fault : CoverFault) → CoverComesTo kind points at (value rects) → CoverComesTo kind points at (refused fault) → ⊥
-  cover_or_fault rects fault (all_hold all cover) (one_fails first) = none_fails (ShapeHolds kind points) (checks_of kind) all first.check first.is_first
+  cover_or_fault rects fault (all_hold all cover) (one_fails first) = none_fails (ShapeHolds points) (checks_of kind) all first.check first.is_first
 
   one_fault : (one other : CoverFault) → CoverComesTo kind points at (refused one) → CoverComesTo kind points at (refused other) → one ≡ other
-  one_fault one other (one_fails p) (one_fails q) = first_refusals_agree (ShapeHolds kind points) (checks_of kind) (shape_fault at) one other p q
+  one_fault one other (one_fails p) (one_fails q) = first_refusals_agree (ShapeHolds points) (checks_of kind) (shape_fault at) one other p q
 
   one_cover : (one other : List Rect) → CoverComesTo kind points at (value one) → CoverComesTo kind points at (value other) → (c : Cell) → IsInSome one c ↔ IsInSome other c
   one_cover one other (all_hold p first) (all_hold q second) c =

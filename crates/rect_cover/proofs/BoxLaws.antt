@@ -5,11 +5,13 @@ use Rattle.std.specs.Prelude.{All, Contains}
 use Rattle.std.proofs.lemmas.List.{append-nil, map-append}
 use Rattle.std.proofs.lemmas.Int.{ints}
 use Rattle.geo_core.specs.declared.bounds.TheConstants.{FARTHEST}
-use Rattle.flatten.proofs.ListLaws.{Contains-map, all_of_each, holds_of_each}
-use Rattle.rect_cover.specs.Paths.{Box, Piece, box_of, box_towards, direction_of}
-use Rattle.rect_cover.specs.Pieces.{box_value}
+use Rattle.rect_cover.specs.PathPieces.{Box, Piece, box_of, box_towards, direction_of}
+use Rattle.rect_cover.specs.inside.PieceBoxes.{box_value}
 use Rattle.rect_cover.specs.declared.direction.Direction.{Direction}
 use Rattle.rect_cover.specs.declared.piece.PieceBox.{PieceBox}
+use Rattle.lists.proofs.Containing.{all_of_each}
+use Rattle.lists.proofs.Mapping.{Contains-map}
+use Rattle.std.proofs.lemmas.List.Elements.{All-contains}
 
 pub same_box : (a b : Box) → a.x0 ≡ b.x0 → a.y0 ≡ b.y0 → a.x1 ≡ b.x1 → a.y1 ≡ b.y1 → a ≡ b
 same_box a b left bottom right top =
@@ -41,7 +43,8 @@ module _ (half : ℤ) (all : List Box) where
 -- what holds of each of these rectangles
 pub each_box : (P : Box → Type 0) (boxes : List PieceBox) (all : List Box) → map box_value boxes ≡ all → All P all → All (λ piece. P (box_value piece)) boxes
 each_box P boxes all same holds =
-    all_of_each (λ piece. P (box_value piece)) boxes (λ piece among. holds_of_each P all (box_value piece) holds (subst (λ xs. Contains xs (box_value piece)) same (Contains-map box_value boxes piece among)))
+    all_of_each (λ piece. P (box_value piece)) boxes (λ piece among. All-contains P all (box_value piece) holds
+    (subst (λ xs. Contains xs (box_value piece)) same (Contains-map box_value boxes piece among)))
 
 -- a coordinate that lies so far below or above one of four bytes
 pub lowered : (r a b : ℤ) → SFits w32 a → SFits w32 b → r ≡ to_z w32 (of_z w32 a) -ℤ to_z w32 (of_z w32 b) → to_z w64 (of_z w64 r) ≡ a -ℤ b

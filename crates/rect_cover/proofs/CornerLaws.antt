@@ -1,16 +1,12 @@
 -- the corners of a path, point by point
 use Rattle.std.proofs.Common.{suc, ◌-◌, ◌≤◌, ◌≡◌, Bool, true, false, not, ◌||◌, if◌then◌else◌, ℤ, int_lt, List, [], ◌∷◌, ◌++◌, length, get_or, drop, map, filter, Option, Some, None, refl, sym, ap, ◌∙◌, arith}
 use Rattle.std.proofs.lemmas.Int.{ints}
-use Rattle.geo_core.specs.Turns.{PlanePoint}
 use Rattle.geo_core.specs.declared.plane.Point.{Point}
-use Rattle.flatten.specs.Steps.{plane_point}
-use Rattle.rect_cover.specs.Outlines.{Edge, edges_of}
-use Rattle.rect_cover.specs.Paths.{is_long, is_same, direction_of, neighbours, corners_among, corners_of}
-use Rattle.rect_cover.specs.Corners.{turns, corners_ahead}
+use Rattle.geo_core.proofs.TurnLaws.{same_at}
+use Rattle.outlines.specs.Outlines.{Edge, edges_of}
+use Rattle.rect_cover.specs.PathPieces.{is_long, is_same, direction_of, neighbours, corners_among, corners_of}
+use Rattle.rect_cover.specs.inside.Corners.{turns, corners_ahead}
 use Rattle.rect_cover.specs.declared.direction.Direction.{Direction}
-
-same_point : (p q : PlanePoint) → p.x ≡ q.x → p.y ≡ q.y → p ≡ q
-same_point p q across up = ap (λ x. let r : PlanePoint = record { x = x; y = p.y } in r) across ∙ ap (λ y. let r : PlanePoint = record { x = q.x; y = y } in r) up
 
 same_number : (a b : ℤ) → (int_lt a b || int_lt b a) ≡ false → a ≡ b
 same_number a b h = grind (arith, ints)
@@ -20,23 +16,23 @@ apart true b h = cc
 apart false b h = (refl, h)
 
 -- an edge that is not long has equal ends
-not_long : (p q : PlanePoint) → is_long (p, q) ≡ false → p ≡ q
+pub not_long : (p q : Point) → is_long (p, q) ≡ false → p ≡ q
 not_long p q h =
     let both = apart (int_lt p.x q.x || int_lt q.x p.x) (int_lt p.y q.y || int_lt q.y p.y) h in
-    same_point p q (same_number p.x q.x both.0) (same_number p.y q.y both.1)
+    same_at p.x p.y q.x q.y (same_number p.x q.x both.0) (same_number p.y q.y both.1)
 
 not_before : (a : ℤ) → int_lt a a ≡ false
 not_before a = grind (arith, ints)
 
-not_long_alone : (p : PlanePoint) → is_long (p, p) ≡ false
+not_long_alone : (p : Point) → is_long (p, p) ≡ false
 not_long_alone p = simp not_before
 
 -- the points that differ from the one before them
-longs : PlanePoint → List PlanePoint → List PlanePoint
+longs : Point → List Point → List Point
 longs at [] = []
 longs at (to ∷ rest) = if is_long (at, to) then to ∷ longs to rest else longs to rest
 
-longs_are : (p : PlanePoint) (ps : List PlanePoint) → map (λ (edge : Edge). edge.1) (filter is_long (edges_of (p ∷ ps))) ≡ longs p ps
+longs_are : (p : Point) (ps : List Point) → map (λ (edge : Edge). edge.1) (filter is_long (edges_of (p ∷ ps))) ≡ longs p ps
 unfolding longs
 longs_are p [] = refl
 longs_are p (q ∷ qs) =
@@ -47,18 +43,19 @@ longs_are p (q ∷ qs) =
     ]
 
 -- the corners among points that differ each from the one before
-bends : PlanePoint → Option Direction → List PlanePoint → List PlanePoint
+bends : Point → Option Direction → List Point → List Point
 bends at heading [] = at ∷ []
 bends at heading (to ∷ rest) =
     if turns heading (direction_of (at, to)) then at ∷ bends to (Some (direction_of (at, to))) rest else bends to (Some (direction_of (at, to))) rest
 
-last_of : (a b : PlanePoint) (rest : List PlanePoint) → drop (length (a ∷ b ∷ rest) - 1) (a ∷ b ∷ rest) ≡ drop (length (b ∷ rest) - 1) (b ∷ rest)
+last_of : (a b : Point) (rest : List Point) → drop (length (a ∷ b ∷ rest) - 1) (a ∷ b ∷ rest) ≡ drop (length (b ∷ rest) - 1) (b ∷ rest)
 last_of a b rest = let n = length rest in
     let e : length (a ∷ b ∷ rest) - 1 ≡ suc (length (b ∷ rest) - 1) = omega arith in
     ap (λ k. drop k (a ∷ b ∷ rest)) e
 
-bends_are : (a b : PlanePoint) (rest : List PlanePoint) →
-    map (λ (pair : Edge × Edge). pair.1.0) (filter (λ pair. not (is_same (direction_of pair.0) (direction_of pair.1))) (neighbours (edges_of (a ∷ b ∷ rest)))) ++ drop (length (a ∷ b ∷ rest) - 1) (a ∷ b ∷ rest)
+bends_are : (a b : Point) (rest : List Point) →
+    map (λ (pair : Edge × Edge). pair.1.0) (filter (λ pair. not (is_same (direction_of pair.0) (direction_of pair.1))) (neighbours (edges_of (a ∷ b ∷ rest)))) ++ drop (length (a ∷ b ∷ rest) - 1)
+    (a ∷ b ∷ rest)
     ≡ bends b (Some (direction_of (a, b))) rest
 unfolding bends
 bends_are a b [] = refl
@@ -74,13 +71,13 @@ bends_are a b (c ∷ rest) =
       | false ↦ ahead
     ]
 
-corners_among_are : (p : PlanePoint) (ps : List PlanePoint) → corners_among (p ∷ ps) ≡ p ∷ bends p None ps
+corners_among_are : (p : Point) (ps : List Point) → corners_among (p ∷ ps) ≡ p ∷ bends p None ps
 unfolding bends
 corners_among_are p [] = refl
 corners_among_are p (q ∷ qs) = ap (λ xs. p ∷ xs) (bends_are p q qs)
 
 -- points that repeat the one before them make no difference
-ahead_of_longs : (at : PlanePoint) (heading : Option Direction) (ps : List PlanePoint) → bends at heading (longs at ps) ≡ corners_ahead at heading ps
+ahead_of_longs : (at : Point) (heading : Option Direction) (ps : List Point) → bends at heading (longs at ps) ≡ corners_ahead at heading ps
 unfolding bends longs
 ahead_of_longs at heading [] = refl
 ahead_of_longs at heading (to ∷ rest) =
@@ -92,14 +89,14 @@ ahead_of_longs at heading (to ∷ rest) =
       | false ↦ λ short. ap (λ p. bends at heading (longs p rest)) (sym (not_long at to short)) ∙ ahead_of_longs at heading rest
     ] refl
 
-corners_are : (p : PlanePoint) (ps : List PlanePoint) → corners_of (p ∷ ps) ≡ p ∷ corners_ahead p None ps
+corners_are : (p : Point) (ps : List Point) → corners_of (p ∷ ps) ≡ p ∷ corners_ahead p None ps
 corners_are p ps = ap (λ xs. corners_among (p ∷ xs)) (longs_are p ps) ∙ corners_among_are p (longs p ps) ∙ ap (λ xs. p ∷ xs) (ahead_of_longs p None ps)
 
-again : (p : PlanePoint) (ps : List PlanePoint) → corners_ahead p None (p ∷ ps) ≡ corners_ahead p None ps
+again : (p : Point) (ps : List Point) → corners_ahead p None (p ∷ ps) ≡ corners_ahead p None ps
 again p ps = rw not_long_alone
 
 -- the walk begins at the first point, and looks at it again
 pub corners_begin : (points : List Point) (d : Point) → 1 ≤ length points →
-    map plane_point (get_or points 0 d ∷ []) ++ corners_ahead (plane_point (get_or points 0 d)) None (map plane_point (drop 0 points)) ≡ corners_of (map plane_point points)
+    (get_or points 0 d ∷ []) ++ corners_ahead ((get_or points 0 d)) None ((drop 0 points)) ≡ corners_of points
 corners_begin [] d some = absurd (omega arith)
-corners_begin (p ∷ ps) d some = ap (λ xs. plane_point p ∷ xs) (again (plane_point p) (map plane_point ps)) ∙ sym (corners_are (plane_point p) (map plane_point ps))
+corners_begin (p ∷ ps) d some = ap (λ xs. p ∷ xs) (again p ps) ∙ sym (corners_are p ps)

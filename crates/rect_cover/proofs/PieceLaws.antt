@@ -1,78 +1,77 @@
 -- the pieces of a path, one after the other
-use Rattle.std.proofs.Common.{ℕ, suc, ◌+◌, ◌-◌, ◌<◌, ◌≤◌, ◌≡◌, Bool, true, false, if◌then◌else◌, ℤ, List, [], ◌∷◌, ◌++◌, ◌≢◌, length, get_or, drop, map, replicate, length-drop, refl, sym, ap, ◌∙◌, arith}
-use Rattle.std.proofs.lemmas.List.{length-map, drop_all}
+use Rattle.std.proofs.Common.{ℕ, suc, ◌+◌, ◌-◌, ◌<◌, ◌≤◌, ◌≡◌, Bool, true, false, if◌then◌else◌, ℤ, List, [], ◌∷◌, ◌++◌, ◌≢◌, length, get_or, drop, replicate, length-drop, refl, sym, ap, ◌∙◌, arith}
+use Rattle.std.proofs.lemmas.List.{drop_all}
 use Rattle.std.specs.Prelude.{zip}
 use Rattle.std.proofs.Math.Seq.{drop-cons}
-use Rattle.geo_core.specs.Turns.{PlanePoint}
 use Rattle.geo_core.specs.declared.plane.Point.{Point}
-use Rattle.gds_syntax.specs.declared.element.ShapeKind.{ShapeKind}
-use Rattle.flatten.specs.Steps.{plane_point}
-use Rattle.rect_cover.specs.Paths.{Knot, Piece, half_width_of, reach_before, reach_behind, pieces_between}
+use Rattle.rect_cover.specs.declared.style.PathStyle.{PathStyle}
+use Rattle.rect_cover.specs.PathPieces.{Knot, Piece, half_width_of, reach_before, reach_behind, pieces_between}
 
 -- the pieces from a corner on, through those behind it
-pub pieces_ahead : ℤ → ℤ → Knot → List PlanePoint → List Piece
+pub pieces_ahead : ℤ → ℤ → Knot → List Point → List Piece
 pieces_ahead half behind from [] = []
 pieces_ahead half behind from (p ∷ []) = (from, (p, behind)) ∷ []
 pieces_ahead half behind from (p ∷ (q ∷ rest)) = (from, (p, half)) ∷ pieces_ahead half behind (p, half) (q ∷ rest)
 
-knots_behind : ℤ → ℤ → PlanePoint → List PlanePoint → List Knot
+knots_behind : ℤ → ℤ → Point → List Point → List Knot
 knots_behind half behind p ps = zip (p ∷ ps) (replicate (length ps) half ++ behind ∷ [])
 
-pieces_of_knots : (half behind : ℤ) (from : Knot) (p : PlanePoint) (ps : List PlanePoint) →
+pieces_of_knots : (half behind : ℤ) (from : Knot) (p : Point) (ps : List Point) →
     zip (from ∷ zip (p ∷ ps) (replicate (length ps) half ++ behind ∷ [])) (zip (p ∷ ps) (replicate (length ps) half ++ behind ∷ [])) ≡ pieces_ahead half behind from (p ∷ ps)
 unfolding pieces_ahead
 pieces_of_knots half behind from p [] = refl
 pieces_of_knots half behind from p (q ∷ ps) = ap (λ xs. (from, (p, half)) ∷ xs) (pieces_of_knots half behind (p, half) q ps)
 
 -- the pieces of a path, from its first corner on
-pieces_begin : (kind : ShapeKind) (first : PlanePoint) (rest : List PlanePoint) →
-    pieces_between kind (first ∷ rest) ≡ pieces_ahead (half_width_of kind) (reach_behind kind) (first, reach_before kind) rest
+pieces_begin : (style : PathStyle) (first : Point) (rest : List Point) →
+    pieces_between style (first ∷ rest) ≡ pieces_ahead (half_width_of style) (reach_behind style) (first, reach_before style) rest
 unfolding pieces_ahead
-pieces_begin kind first [] = refl
-pieces_begin kind first (p ∷ ps) =
-    let half = half_width_of kind in
-    let behind = reach_behind kind in
-    let from : Knot = (first, reach_before kind) in
+pieces_begin style first [] = refl
+pieces_begin style first (p ∷ ps) =
+    let half = half_width_of style in
+    let behind = reach_behind style in
+    let from : Knot = (first, reach_before style) in
     let many : length (first ∷ p ∷ ps) - 2 ≡ length ps = omega arith in
     ap (λ n. zip (from ∷ zip (p ∷ ps) (replicate n half ++ behind ∷ [])) (zip (p ∷ ps) (replicate n half ++ behind ∷ []))) many
     ∙ pieces_of_knots half behind from p ps
 
 -- the same of a list of corners
-pub pieces_begin_at : (kind : ShapeKind) (corners : List Point) (d : Point) → 0 < length corners →
-    pieces_ahead (half_width_of kind) (reach_behind kind) (plane_point (get_or corners 0 d), reach_before kind) (map plane_point (drop 1 corners)) ≡ pieces_between kind (map plane_point corners)
-pieces_begin_at kind [] d some = absurd (omega arith)
-pieces_begin_at kind (first ∷ rest) d some = sym (pieces_begin kind (plane_point first) (map plane_point rest))
+pub pieces_begin_at : (style : PathStyle) (corners : List Point) (d : Point) → 0 < length corners →
+    pieces_ahead (half_width_of style) (reach_behind style) ((get_or corners 0 d), reach_before style) ((drop 1 corners)) ≡ pieces_between style corners
+pieces_begin_at style [] d some = absurd (omega arith)
+pieces_begin_at style (first ∷ rest) d some = sym (pieces_begin style first rest)
 
 -- one piece more: to the last corner, or to one before it
-piece_to_last : (half behind : ℤ) (from : Knot) (p : PlanePoint) (rest : List PlanePoint) → length rest ≡ 0 →
+piece_to_last : (half behind : ℤ) (from : Knot) (p : Point) (rest : List Point) → length rest ≡ 0 →
     pieces_ahead half behind from (p ∷ rest) ≡ (from, (p, behind)) ∷ pieces_ahead half behind (p, behind) rest
 unfolding pieces_ahead
 piece_to_last half behind from p [] none = refl
 piece_to_last half behind from p (q ∷ rest) none = absurd (omega arith)
 
-piece_to_inner : (half behind : ℤ) (from : Knot) (p : PlanePoint) (rest : List PlanePoint) → 0 < length rest →
+piece_to_inner : (half behind : ℤ) (from : Knot) (p : Point) (rest : List Point) → 0 < length rest →
     pieces_ahead half behind from (p ∷ rest) ≡ (from, (p, half)) ∷ pieces_ahead half behind (p, half) rest
 unfolding pieces_ahead
 piece_to_inner half behind from p [] some = absurd (omega arith)
 piece_to_inner half behind from p (q ∷ rest) some = refl
 
-piece_to : (half behind : ℤ) (from : Knot) (p : PlanePoint) (rest : List PlanePoint) (is_last : Bool) → (is_last ≡ true → length rest ≡ 0) → (is_last ≡ false → 0 < length rest) →
+piece_to : (half behind : ℤ) (from : Knot) (p : Point) (rest : List Point) (is_last : Bool) → (is_last ≡ true → length rest ≡ 0) → (is_last ≡ false → 0 < length rest) →
     pieces_ahead half behind from (p ∷ rest) ≡ (from, (p, (if is_last then behind else half))) ∷ pieces_ahead half behind (p, (if is_last then behind else half)) rest
 piece_to half behind from p rest true none some = piece_to_last half behind from p rest (none refl)
 piece_to half behind from p rest false none some = piece_to_inner half behind from p rest (some refl)
 
 -- the corner at `i` is the last or not
-pub piece_more : (half behind : ℤ) (from : Knot) (corners : List Point) (i : ℕ) (d : Point) → i < length corners → (is_last : Bool) → (is_last ≡ true → i + 1 ≡ length corners) → (is_last ≡ false → i + 1 ≢ length corners) →
-    pieces_ahead half behind from (map plane_point (drop i corners))
-    ≡ (from, (plane_point (get_or corners i d), (if is_last then behind else half)))
-    ∷ pieces_ahead half behind (plane_point (get_or corners i d), (if is_last then behind else half)) (map plane_point (drop (suc i) corners))
+pub piece_more : (half behind : ℤ) (from : Knot) (corners : List Point) (i : ℕ) (d : Point) → i < length corners → (is_last : Bool) → (is_last ≡ true → i + 1 ≡ length corners)
+    → (is_last ≡ false → i + 1 ≢ length corners) →
+    pieces_ahead half behind from ((drop i corners))
+    ≡ (from, ((get_or corners i d), (if is_last then behind else half)))
+    ∷ pieces_ahead half behind ((get_or corners i d), (if is_last then behind else half)) ((drop (suc i) corners))
 piece_more half behind from corners i d more is_last at_end before =
-    let rest = map plane_point (drop (suc i) corners) in
-    let left : length rest ≡ length corners - suc i = length-map (drop (suc i) corners) plane_point ∙ length-drop (suc i) corners in
-    ap (λ xs. pieces_ahead half behind from (map plane_point xs)) (drop-cons corners i d more)
-    ∙ piece_to half behind from (plane_point (get_or corners i d)) rest is_last (λ e. let h = at_end e in omega arith) (λ e. let h = before e in omega arith)
+    let rest = (drop (suc i) corners) in
+    let left : length rest ≡ length corners - suc i = length-drop (suc i) corners in
+    ap (λ xs. pieces_ahead half behind from xs) (drop-cons corners i d more)
+    ∙ piece_to half behind from ((get_or corners i d)) rest is_last (λ e. let h = at_end e in omega arith) (λ e. let h = before e in omega arith)
 
 -- no piece begins at the last corner
-pub no_piece_behind : (half behind : ℤ) (from : Knot) (corners : List Point) (i : ℕ) → length corners ≤ i → pieces_ahead half behind from (map plane_point (drop i corners)) ≡ []
+pub no_piece_behind : (half behind : ℤ) (from : Knot) (corners : List Point) (i : ℕ) → length corners ≤ i → pieces_ahead half behind from ((drop i corners)) ≡ []
 unfolding pieces_ahead
-no_piece_behind half behind from corners i end = ap (λ xs. pieces_ahead half behind from (map plane_point xs)) (drop_all i corners end)
+no_piece_behind half behind from corners i end = ap (λ xs. pieces_ahead half behind from xs) (drop_all i corners end)

@@ -1,22 +1,21 @@
 -- ways back of a path, from one piece to the next
-use Rattle.std.proofs.Common.{ℕ, suc, ◌<◌, ◌≤◌, ◌≡◌, List, [], ◌∷◌, length, get_or, drop, map, sym, ap, subst, ◌∙◌, arith}
+use Rattle.std.proofs.Common.{ℕ, suc, ◌<◌, ◌≤◌, ◌≡◌, List, [], ◌∷◌, length, get_or, drop, sym, ap, subst, ◌∙◌, arith}
 use Rattle.std.specs.Prelude.{All}
 use Rattle.std.proofs.Math.Seq.{drop-cons}
 use Rattle.std.proofs.lemmas.List.Elements.{All-nil, All-cons, All-head, All-tail}
 use Rattle.geo_core.specs.declared.plane.Point.{Point}
-use Rattle.flatten.specs.Steps.{plane_point}
-use Rattle.rect_cover.specs.Coverings.{GoesOn}
-use Rattle.rect_cover.specs.Outlines.{Edge, edges_of}
-use Rattle.rect_cover.specs.Paths.{neighbours}
+use Rattle.rect_cover.specs.ShapeChecks.{GoesOn}
+use Rattle.outlines.specs.Outlines.{Edge, edges_of}
+use Rattle.rect_cover.specs.PathPieces.{neighbours}
 
 -- the neighbours among the pieces between corners
 abbrev pub pairs_of : List Point → List (Edge × Edge)
-pairs_of corners = neighbours (edges_of (map plane_point corners))
+pairs_of corners = neighbours (edges_of corners)
 
 -- two pieces more
 module _ (xs : List Point) (k l i : ℕ) (d : Point) (kl : suc k ≡ l) (li : suc l ≡ i) (more : i < length xs) where
   abbrev pair : Edge × Edge
-  pair = ((plane_point (get_or xs k d), plane_point (get_or xs l d)), (plane_point (get_or xs l d), plane_point (get_or xs i d)))
+  pair = (((get_or xs k d), (get_or xs l d)), ((get_or xs l d), (get_or xs i d)))
 
   from_second : drop l xs ≡ get_or xs l d ∷ get_or xs i d ∷ drop (suc i) xs
   from_second = drop-cons xs l d (omega arith) ∙ ap (λ n. get_or xs l d ∷ drop n xs) li ∙ ap (λ ys. get_or xs l d ∷ ys) (drop-cons xs i d more)

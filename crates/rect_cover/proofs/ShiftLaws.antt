@@ -4,19 +4,20 @@ use Rattle.std.specs.Prelude.{ℤ, pos, ◌+ℤ◌, ◌-ℤ◌, ◌↔◌, int_l
 use Rattle.std.proofs.lemmas.Int.{ints}
 use Rattle.std.proofs.lemmas.List.{drop-map, take-map, map-append, length-map}
 use Rattle.geo_core.specs.Intervals.{IsIn}
-use Rattle.geo_core.specs.Turns.{PlanePoint}
+use Rattle.geo_core.specs.declared.plane.Point.{Point}
 use Rattle.geo_core.specs.declared.plane.Cell.{Cell}
-use Rattle.gds_syntax.specs.declared.element.ShapeKind.{ShapeKind}
-use Rattle.gds_syntax.specs.declared.element.ShapeKind.TheVariants.{Boundary, BoxElement, Path}
+use Rattle.library_model.specs.declared.element.ShapeKind.{ShapeKind}
+use Rattle.library_model.specs.declared.element.ShapeKind.TheVariants.{Boundary, BoxElement, Path}
 use Rattle.flatten.specs.Steps.{shifted}
-use Rattle.flatten.proofs.ListLaws.{Contains-map, Contains-map_from}
-use Rattle.rect_cover.specs.Outlines.{Edge, edges_of, winding_number}
-use Rattle.rect_cover.specs.Paths.{Knot, Piece, is_long, direction_of, is_same, distinct_points, neighbours, corners_among, corners_of, half_width_of, reach_before, reach_behind, knots_at, pieces_of, box_towards, box_of}
+use Rattle.outlines.specs.Outlines.{Edge, edges_of, winding_number}
+use Rattle.rect_cover.specs.PathPieces.{Knot, Piece, style_of, is_long, direction_of, is_same, distinct_points, neighbours, corners_among, corners_of, half_width_of, reach_before, reach_behind, knots_at, pieces_of, box_towards, box_of}
 use Rattle.rect_cover.specs.declared.direction.Direction.{Direction}
+use Rattle.rect_cover.specs.declared.style.PathStyle.{PathStyle}
 use Rattle.rect_cover.specs.declared.direction.Direction.TheVariants.{Right, Up, Left, Down}
 use Rattle.rect_cover.specs.Covers.{Covers, IsInBox, IsInPiece}
-use Rattle.rect_cover.specs.Sights.{shifted_cell}
-use Rattle.rect_cover.proofs.WindLaws.{place_of, counted, left_rises, left_falls, winds_by_places}
+use Rattle.outlines.specs.Sights.{shifted_cell}
+use Rattle.outlines.proofs.WindLaws.{place_of, counted, left_rises, left_falls, winds_by_places}
+use Rattle.lists.proofs.Mapping.{Contains-map, Contains-map_from}
 
 le_shifted : (a b d : ℤ) → int_le (a +ℤ d) (b +ℤ d) ≡ int_le a b
 le_shifted a b d = grind (arith, ints)
@@ -55,8 +56,8 @@ in_shifted low high r s x d = (
   λ h. let f = h.from in let b = h.before in record { from = omega (arith, ints); before = omega (arith, ints) },
 )
 
-module _ (by : PlanePoint) where
-  move : PlanePoint → PlanePoint
+module _ (by : Point) where
+  move : Point → Point
   move p = shifted by p
 
   move_edge : Edge → Edge
@@ -73,10 +74,10 @@ module _ (by : PlanePoint) where
 
   -- ---- outlines
 
-  place_kept : (c : Cell) (p : PlanePoint) → place_of (shifted_cell by c) (shifted by p) ≡ place_of c p
+  place_kept : (c : Cell) (p : Point) → place_of (shifted_cell by c) (shifted by p) ≡ place_of c p
   place_kept c p = ap (λ b. (b, int_le (p.y +ℤ by.y) (c.j +ℤ by.y))) (le_shifted p.x c.i by.x) ∙ ap (λ b. (int_le p.x c.i, b)) (le_shifted p.y c.j by.y)
 
-  winding_kept : (points : List PlanePoint) (c : Cell) → winding_number (map (shifted by) points) (shifted_cell by c) ≡ winding_number points c
+  winding_kept : (points : List Point) (c : Cell) → winding_number (map (shifted by) points) (shifted_cell by c) ≡ winding_number points c
   winding_kept points c =
       winds_by_places (shifted_cell by c) (map (shifted by) points)
       ∙ ap (λ l. pos (counted left_rises l) -ℤ pos (counted left_falls l)) (map-map (place_of (shifted_cell by c)) (shifted by) (place_of c) (place_kept c) points)
@@ -92,7 +93,7 @@ module _ (by : PlanePoint) where
   unfolding move move_edge
   direction_kept e = rw (lt_shifted e.0.x e.1.x by.x, lt_shifted e.1.x e.0.x by.x, lt_shifted e.0.y e.1.y by.y) refl
 
-  edges_moved : (points : List PlanePoint) → edges_of (map move points) ≡ map move_edge (edges_of points)
+  edges_moved : (points : List Point) → edges_of (map move points) ≡ map move_edge (edges_of points)
   unfolding move_edge
   edges_moved points = ap (zip (map move points)) (drop-map move 1 points) ∙ zip-map move move move_edge (λ p q. refl) points (drop 1 points)
 
@@ -106,7 +107,7 @@ module _ (by : PlanePoint) where
       map-map (λ (e : Edge). e.1) move_edge (λ (e : Edge). move e.1) (λ e. refl) edges
       ∙ sym (map-map move (λ (e : Edge). e.1) (λ (e : Edge). move e.1) (λ e. refl) edges)
 
-  distinct_moved : (points : List PlanePoint) → distinct_points (map move points) ≡ map move (distinct_points points)
+  distinct_moved : (points : List Point) → distinct_points (map move points) ≡ map move (distinct_points points)
   distinct_moved points =
       let kept = filter is_long (edges_of points) in
       let front : take 1 (map move points) ≡ map move (take 1 points) = take-map move 1 points in
@@ -131,7 +132,7 @@ module _ (by : PlanePoint) where
       map-map (λ (pair : Edge × Edge). pair.1.0) move_pair (λ (pair : Edge × Edge). move pair.1.0) (λ pair. refl) pairs
       ∙ sym (map-map move (λ (pair : Edge × Edge). pair.1.0) (λ (pair : Edge × Edge). move pair.1.0) (λ pair. refl) pairs)
 
-  corners_among_moved : (points : List PlanePoint) → corners_among (map move points) ≡ map move (corners_among points)
+  corners_among_moved : (points : List Point) → corners_among (map move points) ≡ map move (corners_among points)
   corners_among_moved points =
       let middle = λ (pair : Edge × Edge). pair.1.0 in
       let pairs = filter turns_at (neighbours (edges_of points)) in
@@ -149,23 +150,23 @@ module _ (by : PlanePoint) where
       ∙ ap (λ l. map move (take 1 points) ++ l) (sym (map-append move (map middle pairs) last))
       ∙ sym (map-append move (take 1 points) (map middle pairs ++ last))
 
-  corners_moved : (points : List PlanePoint) → corners_of (map move points) ≡ map move (corners_of points)
+  corners_moved : (points : List Point) → corners_of (map move points) ≡ map move (corners_of points)
   corners_moved points = ap corners_among (distinct_moved points) ∙ corners_among_moved (distinct_points points)
 
-  knots_moved : (kind : ShapeKind) (points : List PlanePoint) → knots_at kind (corners_of (map move points)) ≡ map move_knot (knots_at kind (corners_of points))
+  knots_moved : (style : PathStyle) (points : List Point) → knots_at style (corners_of (map move points)) ≡ map move_knot (knots_at style (corners_of points))
   unfolding move_knot
-  knots_moved kind points =
-      let reaches = λ (n : ℕ). reach_before kind ∷ (replicate (n - 2) (half_width_of kind) ++ reach_behind kind ∷ []) in
+  knots_moved style points =
+      let reaches = λ (n : ℕ). reach_before style ∷ (replicate (n - 2) (half_width_of style) ++ reach_behind style ∷ []) in
       ap (λ l. zip l (reaches (length l))) (corners_moved points)
       ∙ ap (λ n. zip (map move (corners_of points)) (reaches n)) (length-map (corners_of points) move)
       ∙ zip-map_left move move_knot (λ p r. refl) (corners_of points) (reaches (length (corners_of points)))
 
-  pieces_moved : (kind : ShapeKind) (points : List PlanePoint) → pieces_of kind (map move points) ≡ map move_piece (pieces_of kind points)
+  pieces_moved : (style : PathStyle) (points : List Point) → pieces_of style (map move points) ≡ map move_piece (pieces_of style points)
   unfolding move_piece
-  pieces_moved kind points =
-      ap (λ l. zip l (drop 1 l)) (knots_moved kind points)
-      ∙ ap (zip (map move_knot (knots_at kind (corners_of points)))) (drop-map move_knot 1 (knots_at kind (corners_of points)))
-      ∙ zip-map move_knot move_knot move_piece (λ k l. refl) (knots_at kind (corners_of points)) (drop 1 (knots_at kind (corners_of points)))
+  pieces_moved style points =
+      ap (λ l. zip l (drop 1 l)) (knots_moved style points)
+      ∙ ap (zip (map move_knot (knots_at style (corners_of points)))) (drop-map move_knot 1 (knots_at style (corners_of points)))
+      ∙ zip-map move_knot move_knot move_piece (λ k l. refl) (knots_at style (corners_of points)) (drop 1 (knots_at style (corners_of points)))
 
   towards_kept : (d : Direction) (half : ℤ) (piece : Piece) (c : Cell) → IsInBox (box_towards d half (move_piece piece)) (shifted_cell by c) ↔ IsInBox (box_towards d half piece) c
   unfolding move move_knot move_piece
@@ -192,25 +193,25 @@ module _ (by : PlanePoint) where
       subst (λ d. IsInBox (box_towards d half (move_piece piece)) (shifted_cell by c) ↔ IsInBox (box_of half piece) c) (sym (direction_kept (piece.0.0, piece.1.0)))
       (towards_kept (direction_of (piece.0.0, piece.1.0)) half piece c)
 
-  piece_kept : (kind : ShapeKind) (points : List PlanePoint) (c : Cell) → IsInPiece kind (map move points) (shifted_cell by c) ↔ IsInPiece kind points c
-  piece_kept kind points c = (back, forth)
+  piece_kept : (style : PathStyle) (points : List Point) (c : Cell) → IsInPiece style (map move points) (shifted_cell by c) ↔ IsInPiece style points c
+  piece_kept style points c = (back, forth)
     where
-      back : IsInPiece kind (map move points) (shifted_cell by c) → IsInPiece kind points c
+      back : IsInPiece style (map move points) (shifted_cell by c) → IsInPiece style points c
       back h =
-          let from = Contains-map_from move_piece (pieces_of kind points) h.piece (subst (λ l. Contains l h.piece) (pieces_moved kind points) h.among) in
-          record { piece = from.0; among = from.1; has = (box_kept (half_width_of kind) from.0 c).0 (subst (λ p. IsInBox (box_of (half_width_of kind) p) (shifted_cell by c)) (sym from.2) h.has) }
+          let from = Contains-map_from move_piece (pieces_of style points) h.piece (subst (λ l. Contains l h.piece) (pieces_moved style points) h.among) in
+          record { piece = from.0; among = from.1; has = (box_kept (half_width_of style) from.0 c).0 (subst (λ p. IsInBox (box_of (half_width_of style) p) (shifted_cell by c)) (sym from.2) h.has) }
 
-      forth : IsInPiece kind points c → IsInPiece kind (map move points) (shifted_cell by c)
+      forth : IsInPiece style points c → IsInPiece style (map move points) (shifted_cell by c)
       forth h = record {
         piece = move_piece h.piece;
-        among = subst (λ l. Contains l (move_piece h.piece)) (sym (pieces_moved kind points)) (Contains-map move_piece (pieces_of kind points) h.piece h.among);
-        has = (box_kept (half_width_of kind) h.piece c).1 h.has;
+        among = subst (λ l. Contains l (move_piece h.piece)) (sym (pieces_moved style points)) (Contains-map move_piece (pieces_of style points) h.piece h.among);
+        has = (box_kept (half_width_of style) h.piece c).1 h.has;
       }
 
-  pub cover_shifted : (kind : ShapeKind) (points : List PlanePoint) (c : Cell) → Covers kind (map (shifted by) points) (shifted_cell by c) ↔ Covers kind points c
+  pub cover_shifted : (kind : ShapeKind) (points : List Point) (c : Cell) → Covers kind (map (shifted by) points) (shifted_cell by c) ↔ Covers kind points c
   unfolding move
   cover_shifted Boundary points c = let w = winding_kept points c in ((λ n z. n (w ∙ z)), λ n z. n (sym w ∙ z))
   cover_shifted BoxElement points c = let w = winding_kept points c in ((λ n z. n (w ∙ z)), λ n z. n (sym w ∙ z))
   cover_shifted (Path pathtype width begin end) points c =
-      let piece = piece_kept (Path pathtype width begin end) points c in
+      let piece = piece_kept (style_of pathtype width begin end) points c in
       ((λ h. (h.0, piece.0 h.1)), λ h. (h.0, piece.1 h.1))

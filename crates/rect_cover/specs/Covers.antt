@@ -1,12 +1,13 @@
 -- which cells a shape covers
 use Rattle.std.specs.Prelude.{pos, ◌≢◌, List, Contains}
 use Rattle.geo_core.specs.Intervals.{IsIn}
-use Rattle.geo_core.specs.Turns.{PlanePoint}
+use Rattle.geo_core.specs.declared.plane.Point.{Point}
 use Rattle.geo_core.specs.declared.plane.Cell.{Cell}
-use Rattle.gds_syntax.specs.declared.element.ShapeKind.{ShapeKind}
-use Rattle.gds_syntax.specs.declared.element.ShapeKind.TheVariants.{Boundary, BoxElement, Path}
-use Rattle.rect_cover.specs.Outlines.{winding_number}
-use Rattle.rect_cover.specs.Paths.{Box, Piece, box_of, pieces_of, half_width_of}
+use Rattle.library_model.specs.declared.element.ShapeKind.{ShapeKind}
+use Rattle.library_model.specs.declared.element.ShapeKind.TheVariants.{Boundary, BoxElement, Path}
+use Rattle.outlines.specs.Outlines.{IsInside}
+use Rattle.rect_cover.specs.PathPieces.{Box, Piece, style_of, box_of, pieces_of, half_width_of}
+use Rattle.rect_cover.specs.declared.style.PathStyle.{PathStyle}
 
 -- the cell lies in the rectangle
 pub record IsInBox (box : Box) (c : Cell) : Type 0 where
@@ -14,14 +15,14 @@ pub record IsInBox (box : Box) (c : Cell) : Type 0 where
   pub up : IsIn box.y0 box.y1 c.j
 
 -- a piece of the path has the cell in its rectangle
-pub record IsInPiece (kind : ShapeKind) (points : List PlanePoint) (c : Cell) : Type 0 where
+pub record IsInPiece (style : PathStyle) (points : List Point) (c : Cell) : Type 0 where
   pub piece : Piece
-  pub among : Contains (pieces_of kind points) piece
-  pub has : IsInBox (box_of (half_width_of kind) piece) c
+  pub among : Contains (pieces_of style points) piece
+  pub has : IsInBox (box_of (half_width_of style) piece) c
 
 -- A shape of this kind, whose points come to lie here, covers the cell. An outline covers the cells round which it winds, in
 -- whichever direction and however often. A path covers what its pieces have, and nothing where its width is 0.
-abbrev pub Covers : ShapeKind → List PlanePoint → Cell → Type 0
-Covers Boundary points c = winding_number points c ≢ pos 0
-Covers BoxElement points c = winding_number points c ≢ pos 0
-Covers (Path pathtype width begin end) points c = (width ≢ pos 0) × IsInPiece (Path pathtype width begin end) points c
+abbrev pub Covers : ShapeKind → List Point → Cell → Type 0
+Covers Boundary points c = IsInside points c
+Covers BoxElement points c = IsInside points c
+Covers (Path pathtype width begin end) points c = (width ≢ pos 0) × IsInPiece (style_of pathtype width begin end) points c

@@ -1,13 +1,7 @@
-pub mod Outlines
-pub mod Paths
-pub mod Corners
-pub mod Pieces
+pub mod PathPieces
 pub mod Covers
+pub mod ShapeChecks
 pub mod Coverings
-pub mod PathChecks
 pub mod CoverFaults
-pub mod Styles
-pub mod Rectangles
-pub mod Sights
-pub mod Sides
-pub mod Sweeps
+-- what only this crate's proofs and private contracts cite
+pub mod inside

@@ -1,10 +1,9 @@
 ghost use Rattle.std.specs.Prelude.{List, ◌++◌, ◌∷◌, ◌≡◌, ◌≤◌, ◌↔◌, IfOk, IsTrue, All, length, map};
-ghost use Rattle.geo_core.specs.Turns.{PlanePoint};
-ghost use Rattle.flatten.specs.Steps.{plane_point};
-ghost use Rattle.rect_cover.specs.Coverings.{GoesOn};
-ghost use Rattle.rect_cover.specs.Outlines.{edges_of};
-ghost use Rattle.rect_cover.specs.Paths.{corners_of, neighbours};
-ghost use Rattle.rect_cover.specs.Corners.{corners_ahead, turns};
+ghost use Rattle.geo_core.specs.declared.plane.Point.{Point};
+ghost use Rattle.rect_cover.specs.ShapeChecks.{GoesOn};
+ghost use Rattle.outlines.specs.Outlines.{edges_of};
+ghost use Rattle.rect_cover.specs.PathPieces.{corners_of, neighbours};
+ghost use Rattle.rect_cover.specs.inside.Corners.{corners_ahead, turns};
 
 use super::course::Course;
 use super::direction::Direction;
@@ -23,9 +22,9 @@ fn is_at_corner(course: Course, heading: Direction) -> bool
 
 /// Goes on to the next point. What is left behind is added where it is a corner.
 fn step(corners: &mut Vec<Point>, course: Course, to: Point) -> Result<Course, NoMemory>
-    ensures { IfOk result (λ after. (rest : List PlanePoint) →
-        map plane_point corners.new.items ++ corners_ahead (plane_point after.at) after.heading rest
-        ≡ map plane_point corners.old.items ++ corners_ahead (plane_point course.at) course.heading (plane_point to ∷ rest)) }
+    ensures { IfOk result (λ after. (rest : List Point) →
+        corners.new.items ++ corners_ahead after.at after.heading rest
+        ≡ corners.old.items ++ corners_ahead course.at course.heading (to ∷ rest)) }
 {
     if to == course.at {
         return Ok(course);
@@ -43,7 +42,7 @@ fn step(corners: &mut Vec<Point>, course: Course, to: Point) -> Result<Course, N
 /// The corners of the path through these points: its first point, each at which its direction changes, and its last.
 pub fn find_corners(alloc: Global, points: &[Point]) -> Result<Vec<Point>, NoMemory>
     requires { 1 ≤ length points.now }
-    ensures { IfOk result (λ corners. map plane_point corners.items ≡ corners_of (map plane_point points.now)) }
+    ensures { IfOk result (λ corners. corners.items ≡ corners_of points.now) }
 {
     let mut corners = Vec::new(alloc);
     corners.push(points[0])?;
@@ -60,7 +59,7 @@ pub fn find_corners(alloc: Global, points: &[Point]) -> Result<Vec<Point>, NoMem
 
 /// Whether no piece of the path with these corners leads back along the piece before it.
 pub fn goes_on(corners: &[Point]) -> bool
-    ensures { IsTrue result ↔ All GoesOn (neighbours (edges_of (map plane_point corners.now))) }
+    ensures { IsTrue result ↔ All GoesOn (neighbours (edges_of corners.now)) }
 {
     for i in 2..corners.len() {
         let before = Direction::between(corners[i - 2], corners[i - 1]);

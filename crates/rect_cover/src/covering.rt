@@ -1,19 +1,18 @@
-ghost use Rattle.std.specs.Prelude.{◌≡◌, ◌≢◌, ◌+ℤ◌, ◌≤ℤ◌, neg_ℤ, IfOk, IfErr, All, map};
-ghost use Rattle.first_refusal.specs.Outcomes.{value, refused};
-ghost use Rattle.gds_syntax.specs.Points.{HasItsPoints};
+ghost use Rattle.std.specs.Prelude.{◌≡◌, ◌+ℤ◌, ◌≤ℤ◌, neg_ℤ, IfOk, All, map};
+ghost use Rattle.first_refusal.specs.Answers.{Answers};
+ghost use Rattle.geo_core.specs.Bounds.{IsInRange};
 ghost use Rattle.geo_core.specs.declared.bounds.TheConstants.{FARTHEST};
-ghost use Rattle.flatten.specs.Placements.{IsInRange};
-ghost use Rattle.flatten.specs.Steps.{plane_point};
-ghost use Rattle.rect_cover.specs.Coverings.{CoverComesTo, IsPlacedShape, IsWellPlaced, PlacedComesTo, placed_at, placed_points};
+ghost use Rattle.library_model.specs.Points.{HasItsPoints};
+ghost use Rattle.rect_cover.specs.Coverings.{CoverComesTo, IsPlacedShape, IsWellPlaced, PlacedComesTo, placed_at, with_items};
 ghost use Rattle.rect_cover.specs.declared.fault.CoverFault.TheVariants.{Memory};
 
 use super::fault::CoverFault;
-use super::outline::cover_outline;
+use super::outline::cover_closed;
 use super::path::cover_path;
 use super::style::PathStyle;
 use flatten::Placed;
-use gds_syntax::{Element, Library, Shape, ShapeKind};
 use geo_core::{NoMemory, Point, Rect, turn_point};
+use library_model::{Element, Library, Shape, ShapeKind};
 use std::alloc::Global;
 
 /// Rectangles that have together exactly the cells of a placed shape, each within 1,000,000,000 of 0. They may overlap,
@@ -21,8 +20,7 @@ use std::alloc::Global;
 /// their order.
 pub fn cover(alloc: Global, library: &Library, placed: &Placed) -> Result<Vec<Rect>, CoverFault>
     requires placed { IsWellPlaced library.now.structures placed.now }
-    ensures covers { IfOk result (λ rects. PlacedComesTo library.now.structures placed.now (value rects.items)) }
-    ensures refused { IfErr result (λ fault. fault ≢ Memory → PlacedComesTo library.now.structures placed.now (refused fault)) }
+    ensures { Answers Memory (λ outcome. PlacedComesTo library.now.structures placed.now (with_items outcome)) result }
 {
     let shape = shape_of(library, placed);
     let points = place_points(alloc, placed, shape.points.as_slice())?;
@@ -44,7 +42,7 @@ fn shape_of<'a>(library: &'a Library, placed: &Placed) -> &'a Shape
 /// Where a point comes to lie.
 fn place_point(placed: &Placed, point: Point) -> Point
     requires { IsInRange (placed_at placed.now point) }
-    ensures { plane_point result ≡ placed_at placed.now point }
+    ensures { result ≡ placed_at placed.now point }
 {
     let (x, y) = turn_point(placed.turn, i64::from(point.x), i64::from(point.y));
     Point {
@@ -65,7 +63,7 @@ fn shifted(coordinate: i64, by: i64) -> i32
 /// Where the points come to lie.
 fn place_points(alloc: Global, placed: &Placed, points: &[Point]) -> Result<Vec<Point>, NoMemory>
     requires { All (λ point. IsInRange (placed_at placed.now point)) points.now }
-    ensures { IfOk result (λ moved. map plane_point moved.items ≡ map (placed_at placed.now) points.now) }
+    ensures { IfOk result (λ moved. moved.items ≡ map (placed_at placed.now) points.now) }
 {
     let mut moved = Vec::with_capacity(alloc, points.len())?;
     for point in points {
@@ -82,12 +80,11 @@ fn cover_shape(
     at: u32,
 ) -> Result<Vec<Rect>, CoverFault>
     requires points { HasItsPoints kind points.now }
-    requires in_range { All (λ point. IsInRange (plane_point point)) points.now }
-    ensures covers { IfOk result (λ rects. CoverComesTo kind (map plane_point points.now) at (value rects.items)) }
-    ensures refused { IfErr result (λ fault. fault ≢ Memory → CoverComesTo kind (map plane_point points.now) at (refused fault)) }
+    requires in_range { All IsInRange points.now }
+    ensures { Answers Memory (λ outcome. CoverComesTo kind points.now at (with_items outcome)) result }
 {
     match kind {
-        ShapeKind::Boundary | ShapeKind::BoxElement => cover_outline(alloc, points, at),
+        ShapeKind::Boundary | ShapeKind::BoxElement => cover_closed(alloc, points, at),
         ShapeKind::Path {
             pathtype,
             width,

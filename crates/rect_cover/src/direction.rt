@@ -11,12 +11,11 @@ pub enum Direction {
 
 impl Direction {
     ghost use Rattle.std.specs.Prelude.{◌≡◌};
-    ghost use Rattle.flatten.specs.Steps.{plane_point};
-    ghost use Rattle.rect_cover.specs.Paths.{direction_of, opposite};
+    ghost use Rattle.rect_cover.specs.PathPieces.{direction_of, opposite};
 
     /// Where the edge from the one point to the other leads. The points differ in one coordinate.
     pub fn between(from: Point, to: Point) -> Direction
-        ensures { result ≡ direction_of (plane_point from, plane_point to) }
+        ensures { result ≡ direction_of (from, to) }
     {
         if from.x < to.x {
             Direction::Right

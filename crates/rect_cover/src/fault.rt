@@ -49,7 +49,7 @@ impl CoverFault {
     }
 
     /// The offset of the shape.
-    pub fn place(&self) -> u32
+    pub fn place(&self) -> u64
         ensures { result ≡ place_of self.now }
     {
         match self {
@@ -59,7 +59,7 @@ impl CoverFault {
             | CoverFault::OddWidth { at }
             | CoverFault::Reversal { at }
             | CoverFault::BadExtension { at }
-            | CoverFault::PointPath { at } => *at,
+            | CoverFault::PointPath { at } => u64::from(*at),
             CoverFault::Memory => 0,
         }
     }

@@ -1,48 +1,37 @@
-//! Facts about the definitions, each the contract of a function that does nothing else.
+//! Facts about the definitions, each the contract of a function that does nothing else. Those about winding numbers alone stand
+//! in `outlines`.
 
-ghost use Rattle.std.specs.Prelude.{ℤ, List, [], ◌∷◌, ◌++◌, ◌≡◌, ◌≢◌, ◌↔◌, pos, ◌+ℤ◌, ◌≤ℤ◌, neg_ℤ, map};
+ghost use Rattle.std.specs.Prelude.{ℤ, List, [], ◌∷◌, ◌≡◌, ◌≢◌, ◌↔◌, pos, ◌≤ℤ◌, map};
 ghost use Rattle.geo_core.specs.Intervals.{IsIn};
 ghost use Rattle.geo_core.specs.Cells.{Has};
-ghost use Rattle.geo_core.specs.Turns.{PlanePoint};
+ghost use Rattle.geo_core.specs.declared.plane.Point.{Point};
 ghost use Rattle.geo_core.specs.declared.plane.Cell.{Cell};
 ghost use Rattle.geo_core.specs.declared.plane.Rect.{Rect};
-ghost use Rattle.gds_syntax.specs.declared.element.ShapeKind.{ShapeKind};
+ghost use Rattle.library_model.specs.declared.element.ShapeKind.{ShapeKind};
+ghost use Rattle.library_model.specs.declared.element.ShapeKind.TheVariants.{Boundary, BoxElement, Path};
+ghost use Rattle.library_model.specs.declared.library.Structure.{Structure};
 ghost use Rattle.flatten.specs.Steps.{shifted};
 ghost use Rattle.flatten.specs.declared.placed.Placed.{Placed};
 ghost use Rattle.first_refusal.specs.Outcomes.{value, refused};
 ghost use Rattle.first_refusal.specs.Laws.{CannotLack};
-ghost use Rattle.gds_syntax.specs.declared.element.ShapeKind.TheVariants.{Boundary, BoxElement, Path};
-ghost use Rattle.gds_syntax.specs.declared.library.Structure.{Structure};
+ghost use Rattle.outlines.specs.Fillings.{IsInSome};
+ghost use Rattle.outlines.specs.Rectangles.{GoesRound};
+ghost use Rattle.outlines.specs.Sights.{part_again, part_back, shifted_cell};
 ghost use Rattle.rect_cover.specs.Covers.{Covers, IsInBox};
-ghost use Rattle.rect_cover.specs.Paths.{box_of, half_width_of, reach_before, reach_behind};
-ghost use Rattle.rect_cover.specs.Coverings.{IsInSome, IsWellPlaced, PlacedComesTo};
+ghost use Rattle.rect_cover.specs.PathPieces.{box_of, half_width_of, reach_before, reach_behind, style_of};
+ghost use Rattle.rect_cover.specs.Coverings.{IsWellPlaced, PlacedComesTo};
 ghost use Rattle.rect_cover.specs.declared.fault.CoverFault.{CoverFault};
-ghost use Rattle.rect_cover.specs.Outlines.{winding_number};
-ghost use Rattle.rect_cover.specs.Rectangles.{circuit, GoesRound};
-ghost use Rattle.rect_cover.specs.Sights.{part_again, part_back, shifted_cell, winding_number_by_right};
-
-/// Counted on the right of a cell, an outline's winding number is the same but for its sign: no outline has an open side.
-pub fn no_outline_has_an_open_side()
-    ensures { (corners : List PlanePoint) (c : Cell) →
-        winding_number_by_right (circuit corners) c ≡ neg_ℤ (winding_number (circuit corners) c) }
-{}
 
 /// An outline of a rectangle, in either direction and from any corner, covers exactly the rectangle.
 pub fn an_outline_of_a_rectangle_covers_the_rectangle()
-    ensures boundary { (rect : Rect) (points : List PlanePoint) (c : Cell) → GoesRound rect points → Covers Boundary points c ↔ Has rect c }
-    ensures box_element { (rect : Rect) (points : List PlanePoint) (c : Cell) → GoesRound rect points → Covers BoxElement points c ↔ Has rect c }
+    ensures boundary { (rect : Rect) (points : List Point) (c : Cell) → GoesRound rect points → Covers Boundary points c ↔ Has rect c }
+    ensures box_element { (rect : Rect) (points : List Point) (c : Cell) → GoesRound rect points → Covers BoxElement points c ↔ Has rect c }
 {}
 
 /// A shape that is shifted covers the shifted cells, and no others.
 pub fn a_shifted_shape_covers_the_shifted_cells()
-    ensures { (by : PlanePoint) (kind : ShapeKind) (points : List PlanePoint) (c : Cell) →
+    ensures { (by : Point) (kind : ShapeKind) (points : List Point) (c : Cell) →
         Covers kind (map (shifted by) points) (shifted_cell by c) ↔ Covers kind points c }
-{}
-
-/// Where an outline comes back to a point, the winding numbers of its two parts add up.
-pub fn winding_numbers_add_up()
-    ensures { (front : List PlanePoint) (at : PlanePoint) (behind : List PlanePoint) (c : Cell) →
-        winding_number (front ++ at ∷ behind) c ≡ winding_number (front ++ at ∷ []) c +ℤ winding_number (at ∷ behind) c }
 {}
 
 /// A part round which an outline goes twice is covered.
@@ -59,10 +48,10 @@ pub fn a_part_wound_each_way_is_not_covered()
 
 /// A path of two points that has a width covers exactly its one rectangle.
 pub fn a_path_of_two_points_is_one_rectangle()
-    ensures { (pathtype width begin end : ℤ) (first last : PlanePoint) (c : Cell) → first ≢ last →
-        let path = Path pathtype width begin end in
-        Covers path (first ∷ last ∷ []) c
-        ↔ ((width ≢ pos 0) × IsInBox (box_of (half_width_of path) ((first, reach_before path), (last, reach_behind path))) c) }
+    ensures { (pathtype width begin end : ℤ) (first last : Point) (c : Cell) → first ≢ last →
+        let style = style_of pathtype width begin end in
+        Covers (Path pathtype width begin end) (first ∷ last ∷ []) c
+        ↔ ((width ≢ pos 0) × IsInBox (box_of (half_width_of style) ((first, reach_before style), (last, reach_behind style))) c) }
 {}
 
 /// What the cover of a placed shape comes to is one fault, or rectangles that have the same cells, and never both.

@@ -1,30 +1,40 @@
-ghost use Rattle.std.specs.Prelude.{List, ◌≡◌, ◌≢◌, ◌≤◌, IfOk, IfErr, All, length, map};
+ghost use Rattle.std.specs.Prelude.{List, ◌≡◌, ◌≤◌, ◌↔◌, IfOk, IfErr, IsTrue, All, length, map};
+ghost use Rattle.first_refusal.specs.Answers.{Answers};
 ghost use Rattle.first_refusal.specs.Checks.{IsRefusalOfFirst};
-ghost use Rattle.first_refusal.specs.Outcomes.{value, refused};
-ghost use Rattle.geo_core.specs.Turns.{PlanePoint};
-ghost use Rattle.gds_syntax.specs.declared.element.ShapeKind.{ShapeKind};
-ghost use Rattle.flatten.specs.Placements.{IsInRange};
-ghost use Rattle.flatten.specs.Steps.{plane_point};
-ghost use Rattle.rect_cover.specs.Coverings.{CoverComesTo, HasCells, IsBoxInLayout, ShapeHolds, boxes_of, shape_fault};
-ghost use Rattle.rect_cover.specs.PathChecks.{box_checks, point_checks, style_checks};
-ghost use Rattle.rect_cover.specs.Pieces.{box_value};
-ghost use Rattle.rect_cover.specs.Styles.{path_of};
+ghost use Rattle.geo_core.specs.declared.plane.Point.{Point};
+ghost use Rattle.library_model.specs.declared.element.ShapeKind.TheVariants.{Path};
+ghost use Rattle.rect_cover.specs.Coverings.{CoverComesTo, with_items};
+ghost use Rattle.rect_cover.specs.inside.PieceBoxes.{box_value};
+ghost use Rattle.rect_cover.specs.ShapeChecks.{HasCells, HasDifferentPoints, IsBoxInLayout, ShapeHolds, box_checks, boxes_of, point_checks, shape_fault, style_checks};
 ghost use Rattle.rect_cover.specs.declared.fault.CoverFault.TheVariants.{Memory};
+ghost use Rattle.rect_cover.specs.declared.style.PathStyle.{PathStyle};
 
 use super::corners::{find_corners, goes_on};
-use super::edges::{are_along_axes, differ};
 use super::fault::CoverFault;
 use super::piece::PieceBox;
 use super::pieces::{are_in_layout, find_boxes, find_rects, have_cells};
 use super::style::PathStyle;
 use geo_core::{Point, Rect};
+use outlines::are_along_axes;
 use std::alloc::Global;
+
+/// Whether not all points are equal.
+fn differ(points: &[Point]) -> bool
+    requires { 1 ≤ length points.now }
+    ensures { IsTrue result ↔ HasDifferentPoints points.now }
+{
+    for point in points {
+        if *point != points[0] {
+            return true;
+        }
+    }
+    false
+}
 
 /// Refuses round ends, unknown ends and an odd width, in this order.
 fn check_style(style: PathStyle, at: u32) -> Result<(), CoverFault>
-    ensures fits { IfOk result (λ _. (points : List PlanePoint) → All (ShapeHolds (path_of style) points) style_checks) }
-    ensures refused { IfErr result (λ fault. (points : List PlanePoint) →
-        IsRefusalOfFirst (ShapeHolds (path_of style) points) style_checks (shape_fault at) fault) }
+    ensures fits { IfOk result (λ _. (points : List Point) → All (ShapeHolds points) (style_checks style)) }
+    ensures refused { IfErr result (λ fault. (points : List Point) → IsRefusalOfFirst (ShapeHolds points) (style_checks style) (shape_fault at) fault) }
 {
     if style.pathtype == 1 {
         return Err(CoverFault::RoundPath { at });
@@ -41,9 +51,8 @@ fn check_style(style: PathStyle, at: u32) -> Result<(), CoverFault>
 /// Refuses points that are all equal, and edges that are slanted, in this order.
 fn check_points(points: &[Point], at: u32) -> Result<(), CoverFault>
     requires { 1 ≤ length points.now }
-    ensures fits { IfOk result (λ _. (kind : ShapeKind) → All (ShapeHolds kind (map plane_point points.now)) point_checks) }
-    ensures refused { IfErr result (λ fault. (kind : ShapeKind) →
-        IsRefusalOfFirst (ShapeHolds kind (map plane_point points.now)) point_checks (shape_fault at) fault) }
+    ensures fits { IfOk result (λ _. All (ShapeHolds points.now) point_checks) }
+    ensures refused { IfErr result (λ fault. IsRefusalOfFirst (ShapeHolds points.now) point_checks (shape_fault at) fault) }
 {
     if !differ(points) {
         return Err(CoverFault::PointPath { at });
@@ -58,8 +67,8 @@ fn check_points(points: &[Point], at: u32) -> Result<(), CoverFault>
 fn check_boxes(boxes: &[PieceBox], at: u32) -> Result<(), CoverFault>
     ensures some { IfOk result (λ _. All (λ piece. HasCells (box_value piece)) boxes.now) }
     ensures within { IfOk result (λ _. All (λ piece. IsBoxInLayout (box_value piece)) boxes.now) }
-    ensures refused { IfErr result (λ fault. (kind : ShapeKind) (points : List PlanePoint) → map box_value boxes.now ≡ boxes_of kind points →
-        IsRefusalOfFirst (ShapeHolds kind points) box_checks (shape_fault at) fault) }
+    ensures refused { IfErr result (λ fault. (style : PathStyle) (points : List Point) → map box_value boxes.now ≡ boxes_of style points →
+        IsRefusalOfFirst (ShapeHolds points) (box_checks style) (shape_fault at) fault) }
 {
     if !have_cells(boxes) {
         return Err(CoverFault::BadExtension { at });
@@ -77,10 +86,9 @@ pub fn cover_path(
     points: &[Point],
     at: u32,
 ) -> Result<Vec<Rect>, CoverFault>
-    requires some { 1 ≤ length points.now }
-    requires in_range { All (λ point. IsInRange (plane_point point)) points.now }
-    ensures covers { IfOk result (λ rects. CoverComesTo (path_of style) (map plane_point points.now) at (value rects.items)) }
-    ensures refused { IfErr result (λ fault. fault ≢ Memory → CoverComesTo (path_of style) (map plane_point points.now) at (refused fault)) }
+    requires { 1 ≤ length points.now }
+    ensures { Answers Memory
+        (λ outcome. CoverComesTo (Path style.pathtype style.width style.begin style.end) points.now at (with_items outcome)) result }
 {
     if style.width == 0 {
         return Ok(Vec::new(alloc));

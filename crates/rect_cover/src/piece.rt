@@ -45,9 +45,9 @@ fn lies_in_layout(low: i64, high: i64) -> bool
 }
 
 impl PieceBox {
-    ghost use Rattle.rect_cover.specs.Coverings.{HasCells, IsBoxInLayout};
-    ghost use Rattle.rect_cover.specs.Paths.{box_of};
-    ghost use Rattle.rect_cover.specs.Pieces.{box_value, knot_of, rect_value};
+    ghost use Rattle.rect_cover.specs.ShapeChecks.{HasCells, IsBoxInLayout};
+    ghost use Rattle.rect_cover.specs.PathPieces.{box_of};
+    ghost use Rattle.rect_cover.specs.inside.PieceBoxes.{box_value, knot_of, rect_value};
 
     /// The box of the piece from the one corner to the other, of a path with this half width.
     pub fn between(from: PathCorner, to: PathCorner, half_width: i32) -> PieceBox

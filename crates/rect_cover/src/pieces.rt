@@ -1,9 +1,7 @@
 ghost use Rattle.std.specs.Prelude.{◌≡◌, ◌↔◌, IfOk, IsTrue, All, if◌then◌else◌, map};
-ghost use Rattle.flatten.specs.Steps.{plane_point};
-ghost use Rattle.rect_cover.specs.Coverings.{HasCells, IsBoxInLayout};
-ghost use Rattle.rect_cover.specs.Paths.{box_of, half_width_of, pieces_between, reach_before, reach_behind};
-ghost use Rattle.rect_cover.specs.Pieces.{box_value, knot_of, rect_value};
-ghost use Rattle.rect_cover.specs.Styles.{path_of};
+ghost use Rattle.rect_cover.specs.ShapeChecks.{HasCells, IsBoxInLayout};
+ghost use Rattle.rect_cover.specs.PathPieces.{box_of, half_width_of, pieces_between, reach_before, reach_behind};
+ghost use Rattle.rect_cover.specs.inside.PieceBoxes.{box_value, knot_of, rect_value};
 
 use super::piece::{PathCorner, PieceBox};
 use super::style::PathStyle;
@@ -12,7 +10,7 @@ use std::alloc::Global;
 
 /// The corner at which the first piece begins.
 fn first_corner(style: PathStyle, point: Point) -> PathCorner
-    ensures { knot_of result ≡ (plane_point point, reach_before (path_of style)) }
+    ensures { knot_of result ≡ (point, reach_before style) }
 {
     PathCorner {
         point,
@@ -22,7 +20,7 @@ fn first_corner(style: PathStyle, point: Point) -> PathCorner
 
 /// The corner to which a piece leads. Pieces reach half a width past it, but the last piece as far as its style says.
 fn next_corner(style: PathStyle, point: Point, is_last: bool) -> PathCorner
-    ensures { knot_of result ≡ (plane_point point, (if is_last then reach_behind (path_of style) else half_width_of (path_of style))) }
+    ensures { knot_of result ≡ (point, (if is_last then reach_behind style else half_width_of style)) }
 {
     if is_last {
         PathCorner {
@@ -44,7 +42,7 @@ pub fn find_boxes(
     corners: &[Point],
 ) -> Result<Vec<PieceBox>, NoMemory>
     ensures { IfOk result (λ boxes. map box_value boxes.items
-        ≡ map (box_of (half_width_of (path_of style))) (pieces_between (path_of style) (map plane_point corners.now))) }
+        ≡ map (box_of (half_width_of style)) (pieces_between style corners.now)) }
 {
     let mut boxes = Vec::new(alloc);
     if corners.is_empty() {

@@ -14,9 +14,8 @@ pub struct PathStyle {
 
 impl PathStyle {
     ghost use Rattle.std.specs.Prelude.{◌≡◌, ◌↔◌, IsTrue};
-    ghost use Rattle.rect_cover.specs.Coverings.{IsEven, IsKnownPathtype};
-    ghost use Rattle.rect_cover.specs.Paths.{half_width_of, reach_past, reach_before, reach_behind};
-    ghost use Rattle.rect_cover.specs.Styles.{path_of};
+    ghost use Rattle.rect_cover.specs.ShapeChecks.{IsEven, IsKnownPathtype};
+    ghost use Rattle.rect_cover.specs.PathPieces.{half_width_of, reach_past, reach_before, reach_behind};
 
     /// Whether its ends are flush, round, half a width further, or at extensions of their own.
     pub fn has_known_ends(self) -> bool
@@ -34,14 +33,14 @@ impl PathStyle {
 
     /// Half the amount of its width.
     pub fn half_width(self) -> i32
-        ensures { result ≡ half_width_of (path_of self) }
+        ensures { result ≡ half_width_of self }
     {
         (self.width.unsigned_abs() / 2) as i32
     }
 
     /// How far it reaches past an end that has this extension.
     fn reach_past(self, extension: i32) -> i32
-        ensures { result ≡ reach_past self.pathtype (half_width_of (path_of self)) extension }
+        ensures { result ≡ reach_past self.pathtype (half_width_of self) extension }
     {
         match self.pathtype {
             2 => self.half_width(),
@@ -52,14 +51,14 @@ impl PathStyle {
 
     /// How far it reaches past its first point.
     pub fn reach_before(self) -> i32
-        ensures { result ≡ reach_before (path_of self) }
+        ensures { result ≡ reach_before self }
     {
         self.reach_past(self.begin)
     }
 
     /// How far it reaches past its last point.
     pub fn reach_behind(self) -> i32
-        ensures { result ≡ reach_behind (path_of self) }
+        ensures { result ≡ reach_behind self }
     {
         self.reach_past(self.end)
     }

@@ -2,9 +2,12 @@
 use Rattle.std.specs.Prelude.{ℕ, Bool, true, false, List, [], ◌∷◌, ◌++◌, ◌*◌, codes, filter, sum_by}
 use Rattle.std.specs.List.{concat, flat_map}
 use Rattle.std.specs.Fmt.{decimal}
-use Rattle.report.specs.declared.kind.Kind.{Kind}
-use Rattle.report.specs.declared.kind.Kind.TheVariants.{Short, Open, Via}
-use Rattle.report.specs.declared.row.Row.{Row}
+use Rattle.map_model.specs.Measures.{listed_of}
+use Rattle.map_model.specs.declared.measure.Measure.{Measure}
+use Rattle.map_model.specs.declared.measure.Measure.TheVariants.{Radius}
+use Rattle.questions.specs.declared.kind.Kind.{Kind}
+use Rattle.questions.specs.declared.kind.Kind.TheVariants.{Short, Open, Via}
+use Rattle.questions.specs.declared.row.Row.{Row}
 
 -- area times weight
 abbrev pub product_of : Row → ℕ
@@ -31,11 +34,15 @@ kind_text Short = codes "short"
 kind_text Open = codes "open"
 kind_text Via = codes "via"
 
--- a row's line, with the newline at its end; the letter stands before the size
-abbrev pub line_text : List ℕ → Row → List ℕ
-line_text letter row = concat (
+-- the letter that stands before the size
+abbrev pub letter_of : Measure → List ℕ
+letter_of (Radius radius) = codes "r"
+
+-- a row's line, with the newline at its end
+abbrev pub line_text : Row → List ℕ
+line_text row = concat (
     kind_text row.kind ∷ codes " " ∷ row.layer
-    ∷ codes " " ∷ letter ∷ codes "=" ∷ decimal row.size
+    ∷ codes " " ∷ letter_of row.measure ∷ codes "=" ∷ decimal (listed_of row.measure)
     ∷ codes " area=" ∷ decimal row.area
     ∷ codes " weight=" ∷ decimal row.weight
     ∷ codes " sum=" ∷ decimal (product_of row)
@@ -51,5 +58,5 @@ totals_text rows = concat (
     ∷ codes "\n" ∷ [])
 
 -- the line of each row, and then the totals
-abbrev pub report_text : List ℕ → List Row → List ℕ
-report_text letter rows = flat_map (line_text letter) rows ++ totals_text rows
+abbrev pub report_text : List Row → List ℕ
+report_text rows = flat_map line_text rows ++ totals_text rows

@@ -1,12 +1,9 @@
 //! The text of a report: a line for each row, which is an area with its weight, and the totals of their products.
 #![tactic(auto)]
 
-pub mod kind;
-pub mod row;
 mod text;
 mod totals;
 
-pub use kind::Kind;
-pub use row::{MOST_ROWS, Row};
+pub use questions::{Kind, MOST_ROWS, Row};
 pub use text::write_report;
 pub use totals::product;

@@ -1,12 +1,12 @@
-ghost use Rattle.std.specs.Prelude.{◌≤◌, codes, length, OnOk, OnErr, string_bytes};
+ghost use Rattle.std.specs.Prelude.{◌≡◌, ◌≤◌, length, OnOk, OnErr, string_bytes};
 ghost use Rattle.std.specs.List.{flat_map};
 ghost use Rattle.report.specs.Gains.{Gains, GainsPrefix};
-ghost use Rattle.report.specs.Report.{line_text, totals_text, report_text};
+ghost use Rattle.report.specs.Report.{kind_text, letter_of, line_text, totals_text, report_text};
 
-use super::kind::Kind;
-use super::row::{MOST_ROWS, Row};
 use super::totals::{product, sum_of_all, sum_of_kind};
-use geo_core::NoMemory;
+use lists::NoMemory;
+use map_model::Measure;
+use questions::{Kind, MOST_ROWS, Row};
 use std::alloc::Global;
 
 /// Appends the report of the rows to `into`: a line for each row in their order, such as
@@ -15,8 +15,8 @@ use std::alloc::Global;
 /// runs out, `into` has gained the first part of this text, perhaps none of it.
 pub fn write_report(alloc: Global, rows: &[Row], into: &mut Vec<u8>) -> Result<(), NoMemory>
     requires few { length rows.now ≤ MOST_ROWS }
-    ensures written { OnOk result (Gains into.old.items into.new.items (report_text (codes "r") rows.now)) }
-    ensures prefix { OnErr result (GainsPrefix into.old.items into.new.items (report_text (codes "r") rows.now)) }
+    ensures written { OnOk result (Gains into.old.items into.new.items (report_text rows.now)) }
+    ensures prefix { OnErr result (GainsPrefix into.old.items into.new.items (report_text rows.now)) }
 {
     let mut text = String::new(alloc);
     write_lines(&mut text, rows)?;
@@ -28,7 +28,7 @@ pub fn write_report(alloc: Global, rows: &[Row], into: &mut Vec<u8>) -> Result<(
 /// Appends the line of each row.
 fn write_lines(text: &mut String, rows: &[Row]) -> Result<(), NoMemory>
     ensures { OnOk result
-        (Gains (string_bytes text.old) (string_bytes text.new) (flat_map (line_text (codes "r")) rows.now)) }
+        (Gains (string_bytes text.old) (string_bytes text.new) (flat_map line_text rows.now)) }
 {
     for row in rows {
         write_line(text, row)?;
@@ -38,16 +38,39 @@ fn write_lines(text: &mut String, rows: &[Row]) -> Result<(), NoMemory>
 
 /// Appends the line of a row.
 fn write_line(text: &mut String, row: &Row) -> Result<(), NoMemory>
-    ensures { OnOk result (Gains (string_bytes text.old) (string_bytes text.new) (line_text (codes "r") row.now)) }
+    ensures { OnOk result (Gains (string_bytes text.old) (string_bytes text.new) (line_text row.now)) }
 {
+    let kind = word(row.kind);
     let layer = row.layer.as_str();
+    let letter = letter(row.measure);
+    let size = row.measure.listed();
     let sum = product(row);
     writeln!(
         text,
-        "{} {layer} r={} area={} weight={} sum={sum}",
-        row.kind, row.size, row.area, row.weight
+        "{kind} {layer} {letter}={size} area={} weight={} sum={sum}",
+        row.area, row.weight
     )?;
     Ok(())
+}
+
+/// The word for the kind.
+fn word(kind: Kind) -> &'static str
+    ensures { result.now ≡ kind_text kind }
+{
+    match kind {
+        Kind::Short => "short",
+        Kind::Open => "open",
+        Kind::Via => "via",
+    }
+}
+
+/// The letter that stands before the size.
+fn letter(measure: Measure) -> &'static str
+    ensures { result.now ≡ letter_of measure }
+{
+    match measure {
+        Measure::Radius(_) => "r",
+    }
 }
 
 /// Appends the totals of each kind and of all.

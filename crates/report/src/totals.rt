@@ -1,8 +1,7 @@
 ghost use Rattle.std.specs.Prelude.{◌≡◌, ◌*◌, ◌^◌, ◌<◌, ◌≤◌, length};
 ghost use Rattle.report.specs.Report.{product_of, total_of_kind, total_of};
 
-use super::kind::Kind;
-use super::row::{MOST_ROWS, Row};
+use questions::{Kind, MOST_ROWS, Row};
 
 /// Area times weight, which is below 2^93.
 pub fn product(row: &Row) -> u128

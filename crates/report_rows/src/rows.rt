@@ -1,5 +1,5 @@
-use layer_map::LayerName;
-use layer_map::limits::GREATEST_WEIGHT;
+use map_model::limits::GREATEST_WEIGHT;
+use map_model::{LayerName, Measure};
 use report::{Kind, Row};
 
 /// What a row says: kind, name of the layer, size, area and weight.
@@ -18,7 +18,7 @@ pub fn row(said: &Said<'_>) -> Option<Row> {
     Some(Row {
         kind,
         layer,
-        size,
+        measure: Measure::Radius(size),
         area,
         weight,
     })

@@ -1,5 +1,5 @@
 use super::rows::{GREATEST_AREA, Said, row};
-use geo_core::NoMemory;
+use lists::NoMemory;
 use report::{Kind, MOST_ROWS, Row, write_report};
 use std::alloc::Global;
 

@@ -2,11 +2,11 @@
 use Rattle.std.proofs.Common.{ℕ, ◌<◌, ◌≡◌, ◌≢◌, refl, sym, ◌∙◌, List, length, get_or, inl, inr}
 use Rattle.std.specs.Prelude.{◌↔◌, All}
 use Rattle.std.proofs.lemmas.List.Elements.{All-contains}
-use Rattle.paths.proofs.ListLaws.{equal_or_not}
 use Rattle.geo_core.specs.declared.plane.Labelled.{Labelled}
 use Rattle.geo_core.specs.declared.plane.Rect.{Rect}
 use Rattle.short_area.specs.declared.places.Extent.{Extent}
-use Rattle.short_area.specs.Windows.{IsNearWindow, HasLabelNear, HasTwoLabelsNear}
+use Rattle.short_area.specs.inside.Windows.{IsNearWindow, HasLabelNear, HasTwoLabelsNear}
+use Rattle.lists.proofs.Comparing.{equal_or_not}
 
 -- the piece is not near the window
 abbrev pub IsFar : Extent → Rect → ℕ → Labelled → Type 0
@@ -17,11 +17,13 @@ abbrev pub HasLabelIfNear : Extent → Rect → ℕ → ℕ → Labelled → Typ
 HasLabelIfNear extent window radius label piece = IsNearWindow extent piece.rect window radius → piece.label ≡ label
 
 -- the label of a near piece, by the piece's number
-pub label_near : (pieces : List Labelled) (k : ℕ) (piece : Labelled) (extent : Extent) (window : Rect) (radius : ℕ) → k < length pieces → piece ≡ get_or pieces k piece → IsNearWindow extent piece.rect window radius → HasLabelNear pieces extent window radius piece.label
+pub label_near : (pieces : List Labelled) (k : ℕ) (piece : Labelled) (extent : Extent) (window : Rect) (radius : ℕ) → k < length pieces → piece ≡ get_or pieces k piece
+    → IsNearWindow extent piece.rect window radius → HasLabelNear pieces extent window radius piece.label
 label_near pieces k piece extent window radius h e n = record { piece = piece; among = (k, h, sym e); labelled = refl; near = n }
 
 -- where all near pieces have one label, no other is near
-pub no_other : (pieces : List Labelled) (extent : Extent) (window : Rect) (radius : ℕ) (label other : ℕ) → All (HasLabelIfNear extent window radius label) pieces → HasLabelNear pieces extent window radius other → label ≢ other → ⊥
+pub no_other : (pieces : List Labelled) (extent : Extent) (window : Rect) (radius : ℕ) (label other : ℕ) → All (HasLabelIfNear extent window radius label) pieces
+    → HasLabelNear pieces extent window radius other → label ≢ other → ⊥
 no_other pieces extent window radius label other alone s different = different (sym (All-contains (HasLabelIfNear extent window radius label) pieces s.piece alone s.among s.near) ∙ s.labelled)
 
 -- where no piece is near, no two labels are
@@ -29,7 +31,8 @@ pub no_labels : (pieces : List Labelled) (extent : Extent) (window : Rect) (radi
 no_labels pieces extent window radius far t = All-contains (IsFar extent window radius) pieces t.one_near.piece far t.one_near.among t.one_near.near
 
 -- a label is near, and another one: so are two
-pub two_labels : (pieces : List Labelled) (extent : Extent) (window : Rect) (radius label : ℕ) → HasLabelNear pieces extent window radius label → ((other : ℕ) × HasLabelNear pieces extent window radius other × (label ≢ other)) ↔ HasTwoLabelsNear pieces extent window radius
+pub two_labels : (pieces : List Labelled) (extent : Extent) (window : Rect) (radius label : ℕ) → HasLabelNear pieces extent window radius label
+    → ((other : ℕ) × HasLabelNear pieces extent window radius other × (label ≢ other)) ↔ HasTwoLabelsNear pieces extent window radius
 two_labels pieces extent window radius label near = (
   λ h. record { one = label; other = h.0; one_near = near; other_near = h.1; different = h.2 },
   λ t. elim (equal_or_not label t.one) [

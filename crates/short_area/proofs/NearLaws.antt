@@ -3,7 +3,6 @@ use Rattle.std.proofs.Common.{ℕ, ◌+◌, ◌<◌, ◌≤◌, ◌≡◌, sym, 
 use Rattle.std.specs.Prelude.{pos, ◌↔◌, All, Contains}
 use Rattle.std.proofs.lemmas.Int.{ints}
 use Rattle.std.proofs.lemmas.List.Elements.{All-weaker, All-push, All-contains, All-nil, Contains-get_or, Contains-append_left, Contains-push}
-use Rattle.paths.proofs.ListLaws.{All-read, All-read_all, Contains-first, Contains-rest}
 use Rattle.geo_core.specs.Cells.{Has}
 use Rattle.geo_core.specs.Axes.{low_along, high_along}
 use Rattle.geo_core.specs.declared.axis.Axis.{Axis}
@@ -18,10 +17,12 @@ use Rattle.fault_model.proofs.CellLaws.{Contains-cells_of}
 use Rattle.fault_model.proofs.SizeLaws.{footprint_near}
 use Rattle.fault_model.proofs.TallyLaws.{Tally-none, Tally-same}
 use Rattle.short_area.specs.Labels.{TouchesLabel, TouchesTwoLabels}
-use Rattle.short_area.specs.Places.{IsNearAlong, AllOrNone, ArePiecesAlike}
-use Rattle.short_area.specs.Windows.{IsNearCell, IsNearWindow, ArePiecesNear, HasLabelNear, HasTwoLabelsNear}
+use Rattle.short_area.specs.inside.WindowPlaces.{IsNearAlong, AllOrNone, ArePiecesAlike}
+use Rattle.short_area.specs.inside.Windows.{IsNearCell, IsNearWindow, ArePiecesNear, HasLabelNear, HasTwoLabelsNear}
 use Rattle.short_area.specs.declared.places.Extent.TheVariants.{Part, Whole}
 use Rattle.short_area.proofs.PlaceLaws.{near_whole}
+use Rattle.lists.proofs.Containing.{Contains-head, Contains-tail}
+use Rattle.lists.proofs.Reading.{All-read, All-read_all}
 
 -- ---- what a defect touches
 
@@ -107,7 +108,7 @@ module _ (pieces : List Labelled) (window : Rect) (radius : ℕ) where
 -- the tally of a property that holds of each cell of the list
 Tally-each : {P : Cell → Type 0} (cells : List Cell) → ((c : Cell) → Contains cells c → P c) → Tally P cells (length cells)
 Tally-each [] each = none
-Tally-each (c ∷ cs) each = hit (each c (Contains-first c cs)) (Tally-each cs (λ d h. each d (Contains-rest c cs d h)))
+Tally-each (c ∷ cs) each = hit (each c (Contains-head c cs)) (Tally-each cs (λ d h. each d (Contains-tail c cs d h)))
 
 module _ (pieces : List Labelled) (window : Rect) (radius : ℕ) (positive : 1 ≤ radius) where
   pub tally_none : (HasTwoLabelsNear pieces Part window radius → ⊥) → Tally (TouchesTwoLabels pieces radius) (cells_of window) 0
@@ -121,7 +122,8 @@ module _ (pieces : List Labelled) (window : Rect) (radius : ℕ) (positive : 1 �
     tally_near n = Tally-same (cells_of window) n (λ c h. by_near pieces window radius positive c ((Contains-cells_of window c).0 h) near those)
 
     -- near pieces of two labels, each of which is near all columns or none and near all rows or none
-    pub two_whole : ((axis : Axis) → ArePiecesAlike near axis radius (low_along axis window) (high_along axis window)) → HasTwoLabelsNear pieces Part window radius → HasTwoLabelsNear near Whole window radius
+    pub two_whole : ((axis : Axis) → ArePiecesAlike near axis radius (low_along axis window) (high_along axis window)) → HasTwoLabelsNear pieces Part window radius
+        → HasTwoLabelsNear near Whole window radius
     two_whole alike t = record { one = t.one; other = t.other; one_near = whole t.one t.one_near; other_near = whole t.other t.other_near; different = t.different } where
       whole : (label : ℕ) → HasLabelNear pieces Part window radius label → HasLabelNear near Whole window radius label
       whole label s =

@@ -1,7 +1,6 @@
 -- places that a rectangle is near, and rectangles by their columns and rows
 use Rattle.std.proofs.Common.{ℕ, ◌+◌, ◌≤◌, ◌<◌, ◌≡◌, subst, List, length, take, get_or, arith, inl, inr, ◌⊎◌}
 use Rattle.std.specs.Prelude.{ℤ, pos, ◌+ℤ◌, ◌-ℤ◌, ◌≤ℤ◌, ◌<ℤ◌, ◌↔◌, Option, Some, None, IfNone, IfSome}
-use Rattle.paths.proofs.ListLaws.{All-read, All-read_all}
 use Rattle.std.proofs.lemmas.Int.{ints, by_lt_z}
 use Rattle.geo_core.specs.Intervals.{IsIn}
 use Rattle.geo_core.proofs.IntervalLaws.{overlapping, ends_in, in_ends}
@@ -10,10 +9,11 @@ use Rattle.geo_core.specs.declared.axis.Axis.TheVariants.{X, Y}
 use Rattle.geo_core.specs.Axes.{low_along, high_along}
 use Rattle.geo_core.specs.declared.plane.Labelled.{Labelled}
 use Rattle.geo_core.specs.declared.plane.Rect.{Rect}
-use Rattle.short_area.specs.Places.{IsNearAlong, IsNearPlaces, IsBetween, AllOrNone, all, none, ArePiecesAlike}
-use Rattle.short_area.specs.Windows.{IsNearWindow, AreParts}
+use Rattle.short_area.specs.inside.WindowPlaces.{IsNearAlong, IsNearPlaces, IsBetween, AllOrNone, all, none, ArePiecesAlike}
+use Rattle.short_area.specs.inside.Windows.{IsNearWindow, AreParts}
 use Rattle.short_area.specs.declared.places.Extent.{Extent}
 use Rattle.short_area.specs.declared.places.Extent.TheVariants.{Part, Whole}
+use Rattle.lists.proofs.Reading.{All-read, All-read_all}
 
 -- ---- in one dimension
 
@@ -49,7 +49,8 @@ one_for_all (none f) x y h k p = absurd (f x h p)
 -- ---- columns and rows together
 
 -- a rectangle is near a window where it is near its columns and near its rows
-pub near_window : (extent : Extent) (rect window : Rect) (radius : ℕ) → IsNearPlaces extent rect X radius window.x0 window.x1 → IsNearPlaces extent rect Y radius window.y0 window.y1 → IsNearWindow extent rect window radius
+pub near_window : (extent : Extent) (rect window : Rect) (radius : ℕ) → IsNearPlaces extent rect X radius window.x0 window.x1 → IsNearPlaces extent rect Y radius window.y0 window.y1
+    → IsNearWindow extent rect window radius
 near_window Part rect window radius h k = (record { i = h.0; j = k.0 }, record { across = h.1; up = k.1 }, record { across = h.2; up = k.2 })
 near_window Whole rect window radius h k = λ c at. record { across = h c.i at.across; up = k c.j at.up }
 
@@ -68,20 +69,23 @@ near_rows Whole rect window radius n =
     λ j at. (n (record { i = window.x0; j = j }) (record { across = left; up = at })).up
 
 -- a rectangle that is near some of the columns and some of the rows, and near no column or row without the others
-pub near_whole : (rect window : Rect) (radius : ℕ) → ((axis : Axis) → AllOrNone (IsNearAlong rect axis radius) (low_along axis window) (high_along axis window)) → IsNearWindow Part rect window radius → IsNearWindow Whole rect window radius
+pub near_whole : (rect window : Rect) (radius : ℕ) → ((axis : Axis) → AllOrNone (IsNearAlong rect axis radius) (low_along axis window) (high_along axis window)) → IsNearWindow Part rect window radius
+    → IsNearWindow Whole rect window radius
 near_whole rect window radius alike n c at = record {
   across = one_for_all (alike X) n.0.i c.i n.1.across at.across n.2.across;
   up = one_for_all (alike Y) n.0.j c.j n.1.up at.up n.2.up;
 }
 
 -- what holds along both axes, in either order, holds along each
-pub each_axis : {A : Type 0} (Q : Axis → Type 0) (order : Axis × Axis) (found : Option A) → (order ≡ (X, Y)) ⊎ (order ≡ (Y, X)) → Q order.0 → IfNone found (Q order.1) → IfNone found ((axis : Axis) → Q axis)
+pub each_axis : {A : Type 0} (Q : Axis → Type 0) (order : Axis × Axis) (found : Option A) → (order ≡ (X, Y)) ⊎ (order ≡ (Y, X)) → Q order.0 → IfNone found (Q order.1)
+    → IfNone found ((axis : Axis) → Q axis)
 each_axis Q order (Some x) either p q = tt
 each_axis Q order None (inl e) p q = λ axis. elim axis as Q [ X ↦ subst (λ (o : Axis × Axis). Q o.0) e p | Y ↦ subst (λ (o : Axis × Axis). Q o.1) e q ]
 each_axis Q order None (inr e) p q = λ axis. elim axis as Q [ X ↦ subst (λ (o : Axis × Axis). Q o.1) e q | Y ↦ subst (λ (o : Axis × Axis). Q o.0) e p ]
 
 -- parts along this axis are parts along some axis
-pub some_axis : (axis : Axis) (window : Rect) (found : Option (Rect × Rect)) → IfSome found (λ parts. AreParts axis window parts.0 parts.1) → IfSome found (λ parts. (a : Axis) × AreParts a window parts.0 parts.1)
+pub some_axis : (axis : Axis) (window : Rect) (found : Option (Rect × Rect)) → IfSome found (λ parts. AreParts axis window parts.0 parts.1)
+    → IfSome found (λ parts. (a : Axis) × AreParts a window parts.0 parts.1)
 some_axis axis window None parts = tt
 some_axis axis window (Some x) parts = (axis, parts)
 
@@ -90,15 +94,18 @@ some_axis axis window (Some x) parts = (axis, parts)
 -- no change of the first pieces was found, and neither of the next one's changes lies between the ends
 pub alike_more : (pieces : List Labelled) (axis : Axis) (radius : ℕ) (start end : ℤ) (k : ℕ) (piece : Labelled) (from before : ℤ) (found next last : Option ℤ)
     → k < length pieces → piece ≡ get_or pieces k piece → from ≡ low_along axis piece.rect -ℤ pos radius → before ≡ high_along axis piece.rect +ℤ pos radius
-    → IfNone found (ArePiecesAlike (take k pieces) axis radius start end) → IfNone next (found ≡ None) → IfNone next (IsBetween start end from → ⊥) → IfNone last (next ≡ None) → IfNone last (IsBetween start end before → ⊥)
+    → IfNone found (ArePiecesAlike (take k pieces) axis radius start end) → IfNone next (found ≡ None) → IfNone next (IsBetween start end from → ⊥) → IfNone last (next ≡ None)
+    → IfNone last (IsBetween start end before → ⊥)
     → IfNone last (ArePiecesAlike (take (k + 1) pieces) axis radius start end)
 alike_more pieces axis radius start end k piece from before found next (Some x) h e f g alike no_found no_next no_last no_before = tt
 alike_more pieces axis radius start end k piece from before found (Some x) None h e f g alike no_found no_from no_next no_before = absurd (cc no_next)
 alike_more pieces axis radius start end k piece from before (Some x) None None h e f g alike no_found no_from no_next no_before = absurd (cc no_found)
 alike_more pieces axis radius start end k piece from before None None None h e f g alike no_found no_from no_next no_before =
     All-read (λ (p : Labelled). AllOrNone (IsNearAlong p.rect axis radius) start end) pieces k piece h e alike
-    (alike_between (low_along axis piece.rect -ℤ pos radius) (high_along axis piece.rect +ℤ pos radius) start end (subst (λ x. IsBetween start end x → ⊥) f no_from) (subst (λ x. IsBetween start end x → ⊥) g no_before))
+    (alike_between (low_along axis piece.rect -ℤ pos radius) (high_along axis piece.rect +ℤ pos radius) start end (subst (λ x. IsBetween start end x → ⊥) f no_from)
+    (subst (λ x. IsBetween start end x → ⊥) g no_before))
 
-pub alike_all : (pieces : List Labelled) (axis : Axis) (radius : ℕ) (start end : ℤ) (k : ℕ) (found : Option ℤ) → length pieces ≤ k → IfNone found (ArePiecesAlike (take k pieces) axis radius start end) → IfNone found (ArePiecesAlike pieces axis radius start end)
+pub alike_all : (pieces : List Labelled) (axis : Axis) (radius : ℕ) (start end : ℤ) (k : ℕ) (found : Option ℤ) → length pieces ≤ k
+    → IfNone found (ArePiecesAlike (take k pieces) axis radius start end) → IfNone found (ArePiecesAlike pieces axis radius start end)
 alike_all pieces axis radius start end k (Some x) past alike = tt
 alike_all pieces axis radius start end k None past alike = All-read_all (λ (p : Labelled). AllOrNone (IsNearAlong p.rect axis radius) start end) pieces k past alike

@@ -7,7 +7,7 @@ use Rattle.geo_core.specs.declared.axis.Axis.TheVariants.{X, Y}
 use Rattle.geo_core.specs.declared.plane.Rect.{Rect}
 use Rattle.fault_model.specs.Areas.{or_zero}
 use Rattle.fault_model.proofs.RangeLaws.{or_zero_is}
-use Rattle.short_area.specs.Windows.{AreParts}
+use Rattle.short_area.specs.inside.Windows.{AreParts}
 
 -- its columns and its rows, counted together
 pub size_of : Rect → ℕ

@@ -15,7 +15,7 @@ use Rattle.geo_core.specs.declared.plane.Rect.{Rect}
 use Rattle.fault_model.specs.Areas.{Tally, none, hit, miss, or_zero, range, row, cells_of}
 use Rattle.fault_model.proofs.RangeLaws.{or_zero_is, range-join, length-range, length-times}
 use Rattle.fault_model.proofs.TallyLaws.{Tally-append, Tally-le-length}
-use Rattle.short_area.specs.Windows.{AreLeftAndRight, AreBelowAndAbove, AreParts}
+use Rattle.short_area.specs.inside.Windows.{AreLeftAndRight, AreBelowAndAbove, AreParts}
 
 -- ---- parts
 
@@ -46,7 +46,8 @@ cells_in x0 y0 x1 y1 = flat_map (cells_across x0 x1) (range y0 y1)
 
 module _ (P : Cell → Type 0) where
   -- rows that go on side by side
-  beside : (x0 x1 x2 : ℤ) (rows : List ℤ) (m n : ℕ) → x0 ≤ℤ x1 → x1 ≤ℤ x2 → Tally P (flat_map (cells_across x0 x1) rows) m → Tally P (flat_map (cells_across x1 x2) rows) n → Tally P (flat_map (cells_across x0 x2) rows) (m + n)
+  beside : (x0 x1 x2 : ℤ) (rows : List ℤ) (m n : ℕ) → x0 ≤ℤ x1 → x1 ≤ℤ x2 → Tally P (flat_map (cells_across x0 x1) rows) m → Tally P (flat_map (cells_across x1 x2) rows) n
+      → Tally P (flat_map (cells_across x0 x2) rows) (m + n)
   beside x0 x1 x2 [] m n h k none none = let e : 0 + 0 ≡ 0 = omega arith in rw e none
   beside x0 x1 x2 (j ∷ rows) m n h k s t =
       let a = Tally-split P (cells_across x0 x1 j) (flat_map (cells_across x0 x1) rows) m s in
@@ -83,7 +84,8 @@ module _ (P : Cell → Type 0) where
         (at_sides window.x0 first.y1 window.x1 window.y1 second.x0 second.y0 second.x1 second.y1 n parts.second_left (sym parts.meet) parts.second_right parts.top t)
 
   -- the tallies of the two parts of a window add up
-  pub parts_tally : (axis : Axis) (window first second : Rect) (m n : ℕ) → AreParts axis window first second → Tally P (cells_of first) m → Tally P (cells_of second) n → Tally P (cells_of window) (m + n)
+  pub parts_tally : (axis : Axis) (window first second : Rect) (m n : ℕ) → AreParts axis window first second → Tally P (cells_of first) m → Tally P (cells_of second) n
+      → Tally P (cells_of window) (m + n)
   parts_tally X window first second m n parts s t = left_and_right window first second m n parts s t
   parts_tally Y window first second m n parts s t = below_and_above window first second m n parts s t
 

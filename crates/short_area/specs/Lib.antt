@@ -1,5 +1,4 @@
 -- what contracts of other crates cite
 pub mod Labels
--- what this crate alone cites
-pub mod Places
-pub mod Windows
+-- what only this crate's proofs and private contracts cite
+pub mod inside

@@ -1,6 +1,6 @@
 ghost use Rattle.std.specs.Prelude.{◌≡◌, IfNone, IfSome, None};
 ghost use Rattle.geo_core.specs.declared.plane.Labelled.{Labelled};
-ghost use Rattle.short_area.specs.Places.{ArePiecesAlike, IsBetween};
+ghost use Rattle.short_area.specs.inside.WindowPlaces.{ArePiecesAlike, IsBetween};
 
 use super::places::near_places;
 use geo_core::{Axis, Interval, Labelled};

@@ -1,6 +1,6 @@
 ghost use Rattle.std.specs.Prelude.{ℕ, ◌≢◌, ◌↔◌, All, IsTrue, IfNone, IfSome};
 ghost use Rattle.geo_core.specs.declared.plane.Labelled.{Labelled};
-ghost use Rattle.short_area.specs.Windows.{IsNearWindow, HasLabelNear, HasTwoLabelsNear};
+ghost use Rattle.short_area.specs.inside.Windows.{IsNearWindow, HasLabelNear, HasTwoLabelsNear};
 
 use super::places::Extent;
 use super::windows::is_near;

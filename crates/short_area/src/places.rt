@@ -1,6 +1,6 @@
 ghost use Rattle.std.specs.Prelude.{pos, ◌+ℤ◌, ◌-ℤ◌, ◌≡◌, ◌↔◌, IsTrue};
 ghost use Rattle.geo_core.specs.Axes.{low_along, high_along};
-ghost use Rattle.short_area.specs.Places.{IsNearPlaces};
+ghost use Rattle.short_area.specs.inside.WindowPlaces.{IsNearPlaces};
 
 use geo_core::{Axis, Interval, Rect};
 

@@ -1,8 +1,8 @@
 ghost use Rattle.std.specs.Prelude.{◌↔◌, ◌≡◌, ◌⊎◌, IsTrue, IfNone, IfOk, IfSome};
 ghost use Rattle.geo_core.specs.Axes.{low_along, high_along};
 ghost use Rattle.geo_core.specs.declared.axis.Axis.{Axis};
-ghost use Rattle.short_area.specs.Places.{ArePiecesAlike, IsBetween};
-ghost use Rattle.short_area.specs.Windows.{IsNearWindow, ArePiecesNear, AreParts};
+ghost use Rattle.short_area.specs.inside.WindowPlaces.{ArePiecesAlike, IsBetween};
+ghost use Rattle.short_area.specs.inside.Windows.{IsNearWindow, ArePiecesNear, AreParts};
 
 use super::changes::middle_change;
 use super::places::{Extent, is_near_places};

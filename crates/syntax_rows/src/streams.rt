@@ -1,7 +1,8 @@
 //! Streams as lists of records.
 
 ghost use Rattle.std.specs.Prelude.{IfOk, length, ◌<◌, ◌^◌};
-ghost use Rattle.gds_syntax.specs.Names.{NamesDiffer, names_of};
+ghost use Rattle.lists.specs.Differing.{AreDifferent};
+ghost use Rattle.library_model.specs.Names.{names_of};
 ghost use Rattle.gds_write.specs.WellFormed.{IsWellFormed};
 
 use super::records::*;
@@ -42,7 +43,7 @@ pub fn stream_of(alloc: Global, records: &[&[u8]]) -> Result<Vec<u8>, AllocError
 
 /// The library of a stream of at most a million bytes.
 pub fn read(alloc: Global, bytes: &[u8]) -> Result<Library, SyntaxFault>
-    ensures names_differ { IfOk result (λ library. NamesDiffer (names_of library.structures)) }
+    ensures names_differ { IfOk result (λ library. AreDifferent (names_of library.structures)) }
     ensures well_formed { IfOk result IsWellFormed }
     ensures few_structures { IfOk result (λ library. length library.structures < 2 ^ 32) }
 {

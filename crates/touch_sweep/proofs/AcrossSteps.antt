@@ -1,5 +1,5 @@
 -- pairs of rectangles of two lists, in one numbering and in two
-use Rattle.std.proofs.Common.{ℕ, zero, suc, ◌+◌, ◌-◌, ◌<◌, ◌≤◌, ◌≡◌, refl, sym, ap, subst, List, [], ◌∷◌, ◌++◌, length, get_or, arith, inl, inr, ◌⊎◌, Bool, true, nat_lt, not}
+use Rattle.std.proofs.Common.{◌∙◌, ℕ, zero, suc, ◌+◌, ◌-◌, ◌<◌, ◌≤◌, ◌≡◌, refl, sym, ap, subst, List, [], ◌∷◌, ◌++◌, length, get_or, arith, inl, inr, ◌⊎◌, Bool, true, nat_lt, not}
 use Rattle.std.specs.Prelude.{ℤ, All, Contains, Some, filter, slice_get, ◌↔◌}
 use Rattle.std.proofs.lemmas.Bool.Decides.{nat_tests}
 use Rattle.std.proofs.lemmas.List.{length-append}
@@ -8,12 +8,14 @@ use Rattle.std.proofs.lemmas.Option.{slice_get_within}
 use Rattle.geo_core.specs.Cells.{Overlap}
 use Rattle.geo_core.specs.Intervals.{IsIn}
 use Rattle.geo_core.specs.declared.plane.Rect.{Rect}
-use Rattle.touch_sweep.specs.Entries.{AreNumbered}
-use Rattle.touch_sweep.specs.Matches.{IsPairOf, IsMatchOf, IsMatchFrom, Gains}
+use Rattle.touch_sweep.specs.inside.Entries.{AreNumbered}
+use Rattle.touch_sweep.specs.inside.Matches.{IsPairOf, IsMatchOf, IsMatchFrom, Gains}
 use Rattle.touch_sweep.specs.Touching.{AreMeeting, AreTouchingAcross}
 use Rattle.touch_sweep.specs.declared.numbered.Numbered.{Numbered}
-use Rattle.touch_sweep.proofs.ListLaws.{Contains-nil, Contains-filter, Contains-from_filter}
 use Rattle.touch_sweep.proofs.PairSteps.{touching_from_match, match_from_touching}
+use Rattle.lists.proofs.Containing.{Contains-none}
+use Rattle.lists.proofs.Filtering.{Contains-filter, Contains-from_filter}
+use Rattle.lists.proofs.Containing.{slice_get-back, slice_get-front}
 
 -- ---- entries with the first so many numbers, and the others
 
@@ -94,12 +96,13 @@ module _ (rects : List Rect) (count : ℕ) (entries before behind : List Numbere
     ]
 
   -- both searches together find the pairs across
-  pub exact_across : (middle found : List (ℕ × ℕ)) → Gains (IsMatchFrom low high before behind) (IsMatchOf before behind) [] middle → Gains (IsMatchFrom low high behind before) (IsMatchOf behind before) middle found
+  pub exact_across : (middle found : List (ℕ × ℕ)) → Gains (IsMatchFrom low high before behind) (IsMatchOf before behind) [] middle
+      → Gains (IsMatchFrom low high behind before) (IsMatchOf behind before) middle found
       → (a b : ℕ) → Contains found (a, b) ↔ AreTouchingAcross rects count a b
   exact_across middle found g h a b = (
     λ c. elim (h.none_else (a, b) c) [
       | inl d ↦ elim (g.none_else (a, b) d) [
-        | inl none ↦ absurd (Contains-nil (a, b) none)
+        | inl none ↦ absurd (Contains-none none)
         | inr m ↦
             let one = from_before m.point m.among in let other = from_behind m.match.other m.match.among in
             across_from_match a b before behind m one.0 other.0 (inl (one.1, other.1))
@@ -111,19 +114,6 @@ module _ (rects : List Rect) (count : ℕ) (entries before behind : List Numbere
     λ t. elim (match_from_across a b t) [ inl m ↦ h.kept (a, b) (g.all (a, b) m) | inr m ↦ h.all (a, b) m ],
   )
 
--- ---- items of two lists, one behind the other, by their numbers
-
-got_left : {X : Type 0} (xs ys : List X) (k : ℕ) (x : X) → slice_get xs k ≡ Some x → slice_get (xs ++ ys) k ≡ Some x
-got_left [] ys k x e = cc e
-got_left (y ∷ xs) ys zero x e = e
-got_left (y ∷ xs) ys (suc k) x e = got_left xs ys k x e
-
-got_right : {X : Type 0} (xs ys : List X) (k : ℕ) (x : X) → slice_get ys k ≡ Some x → slice_get (xs ++ ys) (length xs + k) ≡ Some x
-got_right [] ys k x e = let same : 0 + k ≡ k = omega arith in subst (λ n. slice_get ys n ≡ Some x) (sym same) e
-got_right (y ∷ xs) ys k x e =
-    let same : length (y ∷ xs) + k ≡ suc (length xs + k) = omega arith in
-    subst (λ n. slice_get (y ∷ (xs ++ ys)) n ≡ Some x) (sym same) (got_right xs ys k x e)
-
 -- ---- pairs in one numbering, and those of them that meet
 
 -- those of the pairs whose rectangles have a cell in common, with numbers of their own in the second list
@@ -132,7 +122,7 @@ AreMeetingAmong first second pairs met = (a b : ℕ) → Contains met (a, b) ↔
 
 module _ (first second : List Rect) where
   pub none_among : AreMeetingAmong first second [] []
-  none_among a b = (λ c. absurd (Contains-nil (a, b) c), λ h. absurd (Contains-nil (a, length first + b) h.0))
+  none_among a b = (λ c. absurd (Contains-none c), λ h. absurd (Contains-none h.0))
 
   module _ (pairs met : List (ℕ × ℕ)) (are : AreMeetingAmong first second pairs met) (a b place : ℕ) (behind : b ≡ length first + place) where
     same : (k n : ℕ) → ◌≡◌ {A = ℕ × ℕ} (a, b) (k, length first + n) → ◌≡◌ {A = ℕ × ℕ} (a, place) (k, n)
@@ -178,8 +168,8 @@ module _ (first second : List Rect) where
           lesser = omega arith;
           one = m.one;
           other = m.other;
-          one_at = got_left first second a m.one m.one_at;
-          other_at = got_right first second b m.other m.other_at;
+          one_at = slice_get-front first second a m.one m.one_at;
+          other_at = slice_get-back first second b ∙ m.other_at;
           touch = (m.overlap.0, m.overlap.0, m.overlap.1, m.overlap.2, inl refl);
         };
         before = small;

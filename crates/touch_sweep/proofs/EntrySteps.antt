@@ -19,16 +19,16 @@ use Rattle.std.specs.Prelude.{ℤ, ◌≤ℤ◌, ◌<ℤ◌}
 use denote.Param.Members.{Mut}
 use denote.Ref.{Bor}
 use Rattle.geo_core.specs.declared.plane.Rect.{Rect}
-use Rattle.touch_sweep.specs.Entries.{AreNumbered, IsByRow}
+use Rattle.touch_sweep.specs.inside.Entries.{AreNumbered, IsByRow}
 use Rattle.touch_sweep.specs.declared.numbered.Numbered.{Numbered}
-use Rattle.touch_sweep.proofs.ListLaws.{Contains-nil}
+use Rattle.lists.proofs.Containing.{Contains-none}
 
 -- exactly the first `n` rectangles, each with its number
 abbrev pub AreFirstNumbered : List Rect → ℕ → List Numbered → Type 0
 AreFirstNumbered rects n entries = (e : Numbered) → Contains entries e ↔ ((e.number < n) × (slice_get rects e.number ≡ Some e.rect))
 
 pub none_numbered : (rects : List Rect) → AreFirstNumbered rects 0 []
-none_numbered rects e = (λ c. absurd (Contains-nil e c), λ h. absurd (let f = h.0 in omega arith))
+none_numbered rects e = (λ c. absurd (Contains-none c), λ h. absurd (let f = h.0 in omega arith))
 
 pub one_more_numbered : (rects : List Rect) (n : ℕ) (rect : Rect) (entries : List Numbered) → slice_get rects n ≡ Some rect → AreFirstNumbered rects n entries
     → AreFirstNumbered rects (n + 1) (entries ++ record { number = n; rect = rect } ∷ [])

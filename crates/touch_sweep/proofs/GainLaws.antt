@@ -2,7 +2,7 @@
 use Rattle.std.proofs.Common.{ℕ, ◌≡◌, sym, subst, List, [], ◌∷◌, ◌++◌, inl, inr, ◌⊎◌}
 use Rattle.std.specs.Prelude.{Contains}
 use Rattle.std.proofs.lemmas.List.Elements.{Contains-append_left, Contains-push, Contains-push_cases}
-use Rattle.touch_sweep.specs.Matches.{Gains}
+use Rattle.touch_sweep.specs.inside.Matches.{Gains}
 
 pub gains_nothing : {must may : ℕ × ℕ → Type 0} (pairs : List (ℕ × ℕ)) → ((p : ℕ × ℕ) → must p → ⊥) → Gains must may pairs pairs
 gains_nothing pairs none = record { kept = λ p h. h; all = λ p h. absurd (none p h); none_else = λ p h. inl h }

@@ -1,4 +1,3 @@
-pub mod ListLaws
 pub mod GainLaws
 pub mod TouchLaws
 pub mod SweepSteps

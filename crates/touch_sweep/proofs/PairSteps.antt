@@ -16,11 +16,11 @@ use Rattle.std.proofs.lemmas.List.Sorted.{Contains-permutation, IsPermutation-sy
 use Rattle.geo_core.specs.Intervals.{IsIn}
 use Rattle.geo_core.specs.declared.plane.Rect.{Rect}
 use Rattle.geo_core.proofs.RectLaws.{Touch-sym}
-use Rattle.touch_sweep.specs.Entries.{AreNumbered}
-use Rattle.touch_sweep.specs.Matches.{IsPairOf, IsMatchOf, IsMatchFrom, Gains}
+use Rattle.touch_sweep.specs.inside.Entries.{AreNumbered}
+use Rattle.touch_sweep.specs.inside.Matches.{IsPairOf, IsMatchOf, IsMatchFrom, Gains}
 use Rattle.touch_sweep.specs.Touching.{AreTouching, ComesBefore}
 use Rattle.touch_sweep.specs.declared.numbered.Numbered.{Numbered}
-use Rattle.touch_sweep.proofs.ListLaws.{Contains-nil}
+use Rattle.lists.proofs.Containing.{Contains-none}
 
 -- ---- pairs of numbers in rising order, each once
 
@@ -85,8 +85,22 @@ touching_from_match rects entries all a b m = by_numbers m.match.match.numbers w
   other_at = (all other).0 m.match.among
 
   by_numbers : IsPairOf one.number other.number (a, b) → AreTouching rects a b
-  by_numbers (inl (less, e)) = subst (λ (p : ℕ × ℕ). AreTouching rects p.0 p.1) (sym e) (record { lesser = less; one = one.rect; other = other.rect; one_at = one_at; other_at = other_at; touch = m.match.match.touch })
-  by_numbers (inr (less, e)) = subst (λ (p : ℕ × ℕ). AreTouching rects p.0 p.1) (sym e) (record { lesser = less; one = other.rect; other = one.rect; one_at = other_at; other_at = one_at; touch = Touch-sym one.rect other.rect m.match.match.touch })
+  by_numbers (inl (less, e)) = subst (λ (p : ℕ × ℕ). AreTouching rects p.0 p.1) (sym e) (record {
+    lesser = less;
+    one = one.rect;
+    other = other.rect;
+    one_at = one_at;
+    other_at = other_at;
+    touch = m.match.match.touch;
+  })
+  by_numbers (inr (less, e)) = subst (λ (p : ℕ × ℕ). AreTouching rects p.0 p.1) (sym e) (record {
+    lesser = less;
+    one = other.rect;
+    other = one.rect;
+    one_at = other_at;
+    other_at = one_at;
+    touch = Touch-sym one.rect other.rect m.match.match.touch;
+  })
 
 -- of two that touch, the one that begins no earlier is the point, and the other one is the span
 pub match_from_touching : (rects : List Rect) (entries : List Numbered) (low high : ℤ) → AreNumbered rects entries → All (λ e. IsIn low high e.rect.x0) entries
@@ -131,6 +145,6 @@ pub exact_pairs : (rects : List Rect) (entries : List Numbered) (low high : ℤ)
     → Gains (IsMatchFrom low high entries entries) (IsMatchOf entries entries) [] found → ((a b : ℕ) → Contains pairs (a, b) ↔ Contains found (a, b))
     → (a b : ℕ) → Contains pairs (a, b) ↔ AreTouching rects a b
 exact_pairs rects entries low high found pairs all within g same a b = (
-  λ c. elim (g.none_else (a, b) ((same a b).0 c)) [ inl d ↦ absurd (Contains-nil (a, b) d) | inr m ↦ touching_from_match rects entries all a b m ],
+  λ c. elim (g.none_else (a, b) ((same a b).0 c)) [ inl d ↦ absurd (Contains-none d) | inr m ↦ touching_from_match rects entries all a b m ],
   λ t. (same a b).1 (g.all (a, b) (match_from_touching rects entries low high all within a b t)),
 )

@@ -4,14 +4,14 @@ use Rattle.std.specs.Prelude.{ℤ, Contains, filter, ◌≤ℤ◌, ◌<ℤ◌}
 use Rattle.std.proofs.lemmas.Int.{ints, by_lt_z}
 use Rattle.std.proofs.lemmas.List.Kept.{AllPairs-filter}
 use Rattle.geo_core.specs.Intervals.{IsIn}
-use Rattle.touch_sweep.specs.Entries.{IsByRow}
-use Rattle.touch_sweep.specs.Strips.{begins_in, crosses, meets_partly}
-use Rattle.touch_sweep.specs.Matches.{IsMatchOf, IsMatchFrom, Gains}
+use Rattle.touch_sweep.specs.inside.Entries.{IsByRow}
+use Rattle.touch_sweep.specs.inside.Strips.{begins_in, crosses, meets_partly}
+use Rattle.touch_sweep.specs.inside.Matches.{IsMatchOf, IsMatchFrom, Gains}
 use Rattle.touch_sweep.specs.declared.numbered.Numbered.{Numbered}
 use Rattle.geo_core.proofs.RectLaws.{Touch-sym}
-use Rattle.touch_sweep.proofs.ListLaws.{Contains-filter, Contains-from_filter}
 use Rattle.touch_sweep.proofs.GainLaws.{gains_nothing, gains_both, gains_less}
 use Rattle.touch_sweep.proofs.TouchLaws.{touch_begins}
+use Rattle.lists.proofs.Filtering.{Contains-filter, Contains-from_filter}
 
 pub IsByRow-filter : (p : Numbered → Bool) (entries chosen : List Numbered) → chosen ≡ filter p entries → IsByRow entries → IsByRow chosen
 IsByRow-filter p entries chosen e by_row = subst IsByRow (sym e) (AllPairs-filter (λ a b. a.rect.y0 ≤ℤ b.rect.y0) p entries by_row)
@@ -71,12 +71,14 @@ module _ (low high : ℤ) (points spans inner partly : List Numbered) (inner_is 
   nothing_begins pairs none = gains_nothing pairs (λ p m. absurd (let small = (in_inner m.found.point m.found.among m.begins).1 in omega arith))
 
   -- spans across all columns first, and then those that meet them in part
-  pub in_two_steps : (old middle new : List (ℕ × ℕ)) → Gains (IsMatchOf inner across) (IsMatchOf inner across) old middle → Gains (IsMatchFrom low high inner partly) (IsMatchOf inner partly) middle new
+  pub in_two_steps : (old middle new : List (ℕ × ℕ)) → Gains (IsMatchOf inner across) (IsMatchOf inner across) old middle
+      → Gains (IsMatchFrom low high inner partly) (IsMatchOf inner partly) middle new
       → Gains (IsMatchFrom low high points spans) (IsMatchOf points spans) old new
   in_two_steps old middle new g h = gains_both g h split (of_more in_points across_in_spans) (of_more in_points partly_in_spans)
 
 -- a sweep finds more than it must
-pub from_sweep : (low high : ℤ) (points spans : List Numbered) {old new : List (ℕ × ℕ)} → Gains (IsMatchOf points spans) (IsMatchOf points spans) old new → Gains (IsMatchFrom low high points spans) (IsMatchOf points spans) old new
+pub from_sweep : (low high : ℤ) (points spans : List Numbered) {old new : List (ℕ × ℕ)} → Gains (IsMatchOf points spans) (IsMatchOf points spans) old new
+    → Gains (IsMatchFrom low high points spans) (IsMatchOf points spans) old new
 from_sweep low high points spans g = gains_less g (λ p (m : IsMatchFrom low high points spans p). m.found) (λ p m. m)
 
 -- the columns before a middle one, and the others

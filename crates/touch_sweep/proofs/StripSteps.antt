@@ -16,7 +16,8 @@ pub more_within : (entries : List Numbered) (i : ℕ) (x : Numbered) (low high l
     → low' ≤ℤ low → low' ≤ℤ x.rect.x0 → high ≤ℤ high' → x.rect.x0 <ℤ high' → BeginWithin low high (take i entries) → BeginWithin low' high' (take (i + 1) entries)
 more_within entries i x low high low' high' small at f g h k all =
     All-more (λ e. IsIn low' high' e.rect.x0) entries i x small
-    (All-weaker (λ e. IsIn low high e.rect.x0) (λ e. IsIn low' high' e.rect.x0) (λ e m. let a = m.from in let b = m.before in record { from = omega (arith, ints); before = omega (arith, ints) }) (take i entries) all)
+    (All-weaker (λ e. IsIn low high e.rect.x0) (λ e. IsIn low' high' e.rect.x0) (λ e m. let a = m.from in let b = m.before in record { from = omega (arith, ints); before = omega (arith, ints) })
+    (take i entries) all)
     (subst (λ (e : Numbered). IsIn low' high' e.rect.x0) at (record { from = g; before = k }))
 
 pub all_within : (entries : List Numbered) (i : ℕ) (low high : ℤ) → length entries ≤ i → BeginWithin low high (take i entries) → BeginWithin low high entries

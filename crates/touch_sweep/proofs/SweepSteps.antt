@@ -4,12 +4,13 @@ use Rattle.std.specs.Prelude.{Contains, ◌≤ℤ◌, ◌<ℤ◌}
 use Rattle.std.proofs.lemmas.Int.{ints}
 use Rattle.std.proofs.lemmas.List.{take_all}
 use Rattle.geo_core.specs.Cells.{Touch}
-use Rattle.touch_sweep.specs.Entries.{IsByRow}
-use Rattle.touch_sweep.specs.Matches.{IsMatch, IsMatchWith, IsMatchOf, Gains}
+use Rattle.touch_sweep.specs.inside.Entries.{IsByRow}
+use Rattle.touch_sweep.specs.inside.Matches.{IsMatch, IsMatchWith, IsMatchOf, Gains}
 use Rattle.touch_sweep.specs.declared.numbered.Numbered.{Numbered}
-use Rattle.touch_sweep.proofs.ListLaws.{Contains-nil, Contains-head, Contains-tail, Contains-cons_cases, Contains-take_cases, AllPairs-tail, at_or_past}
 use Rattle.touch_sweep.proofs.GainLaws.{gains_nothing, gains_one, gains_both, gains_less}
 use Rattle.touch_sweep.proofs.TouchLaws.{touch_begins, IsMatch-sym}
+use Rattle.lists.proofs.Containing.{Contains-cons_cases, Contains-head, Contains-none, Contains-tail, Contains-take_cases}
+use Rattle.lists.proofs.Differing.{AllPairs-tail, at_or_past}
 
 IsByRow-tail : (x : Numbered) (rest : List Numbered) → IsByRow (x ∷ rest) → IsByRow rest
 IsByRow-tail = AllPairs-tail (λ a b. a.rect.y0 ≤ℤ b.rect.y0)
@@ -40,7 +41,7 @@ module _ (one : Numbered) (others : List Numbered) where
   GainsFirst i = Gains (IsMatchWith one (take i others)) (IsMatchWith one others)
 
   pub none_yet : (pairs : List (ℕ × ℕ)) → GainsFirst 0 pairs pairs
-  none_yet pairs = gains_nothing pairs (λ p m. Contains-nil m.other m.among)
+  none_yet pairs = gains_nothing pairs (λ p m. Contains-none m.among)
 
   pub one_more : (i : ℕ) (x : Numbered) (old middle new : List (ℕ × ℕ)) → i < length others → x ≡ get_or others i x
       → GainsFirst i old middle → Gains (IsMatch one x) (IsMatch one x) middle new → GainsFirst (i + 1) old new
@@ -92,7 +93,11 @@ module _ {all_points all_spans points spans : List Numbered} {old middle new : L
   point_done x rest e g =
       let among : (y : Numbered) → Contains (x ∷ rest) y → Contains all_points y = λ y c. s.points_among y (subst (λ ys. Contains ys y) (sym e) c) in
       record {
-        gains = gains_both s.gains g (λ p h. absurd h) (λ p m. m) (λ p m. record { point = x; among = among x (Contains-head x rest); match = record { other = m.other; among = s.spans_among m.other m.among; match = m.match } });
+        gains = gains_both s.gains g (λ p h. absurd h) (λ p m. m) (λ p m. record {
+          point = x;
+          among = among x (Contains-head x rest);
+          match = record { other = m.other; among = s.spans_among m.other m.among; match = m.match };
+        });
         left = λ p m. elim (s.left p m) [
           | inl c ↦ inl (g.kept p c)
           | inr n ↦ elim (Contains-cons_cases x rest n.point (subst (λ ys. Contains ys n.point) e n.among)) [
@@ -111,7 +116,11 @@ module _ {all_points all_spans points spans : List Numbered} {old middle new : L
   span_done x rest e g =
       let among : (y : Numbered) → Contains (x ∷ rest) y → Contains all_spans y = λ y c. s.spans_among y (subst (λ ys. Contains ys y) (sym e) c) in
       record {
-        gains = gains_both s.gains g (λ p h. absurd h) (λ p m. m) (λ p m. record { point = m.other; among = s.points_among m.other m.among; match = record { other = x; among = among x (Contains-head x rest); match = IsMatch-sym x m.other p m.match } });
+        gains = gains_both s.gains g (λ p h. absurd h) (λ p m. m) (λ p m. record {
+          point = m.other;
+          among = s.points_among m.other m.among;
+          match = record { other = x; among = among x (Contains-head x rest); match = IsMatch-sym x m.other p m.match };
+        });
         left = λ p m. elim (s.left p m) [
           | inl c ↦ inl (g.kept p c)
           | inr n ↦ elim (Contains-cons_cases x rest n.match.other (subst (λ ys. Contains ys n.match.other) e n.match.among)) [

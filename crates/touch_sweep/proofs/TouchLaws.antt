@@ -6,7 +6,7 @@ use Rattle.geo_core.specs.Cells.{Touch}
 use Rattle.geo_core.specs.declared.plane.Cell.{Cell}
 use Rattle.geo_core.specs.declared.plane.Rect.{Rect}
 use Rattle.geo_core.proofs.RectLaws.{Touch-sym}
-use Rattle.touch_sweep.specs.Matches.{IsPairOf, IsMatch}
+use Rattle.touch_sweep.specs.inside.Matches.{IsPairOf, IsMatch}
 use Rattle.touch_sweep.specs.declared.numbered.Numbered.{Numbered}
 
 -- the second one begins no later than the first one ends

@@ -1,4 +1,3 @@
 pub mod Touching
-pub mod Entries
-pub mod Strips
-pub mod Matches
+-- what only this crate's proofs and private contracts cite
+pub mod inside

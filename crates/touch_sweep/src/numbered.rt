@@ -1,5 +1,5 @@
 ghost use Rattle.std.specs.Prelude.{IfOk};
-ghost use Rattle.touch_sweep.specs.Entries.{AreNumbered, IsByRow};
+ghost use Rattle.touch_sweep.specs.inside.Entries.{AreNumbered, IsByRow};
 
 use geo_core::Rect;
 use std::alloc::{AllocError, Global};

@@ -1,7 +1,7 @@
 ghost use Rattle.std.specs.Prelude.{filter, IfOk, OnOk, ◌≡◌};
-ghost use Rattle.touch_sweep.specs.Entries.{IsByRow};
-ghost use Rattle.touch_sweep.specs.Matches.{IsMatchOf, IsMatchFrom, Gains};
-ghost use Rattle.touch_sweep.specs.Strips.{crosses, meets_partly};
+ghost use Rattle.touch_sweep.specs.inside.Entries.{IsByRow};
+ghost use Rattle.touch_sweep.specs.inside.Matches.{IsMatchOf, IsMatchFrom, Gains};
+ghost use Rattle.touch_sweep.specs.inside.Strips.{crosses, meets_partly};
 
 use super::numbered::Numbered;
 use super::strip::{Met, Strip};

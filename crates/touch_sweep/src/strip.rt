@@ -1,5 +1,5 @@
 ghost use Rattle.std.specs.Prelude.{filter, length, All, IfOk, ◌≡◌, ◌<◌, ◌≤◌};
-ghost use Rattle.touch_sweep.specs.Strips.{begins_in, crosses, meets_partly};
+ghost use Rattle.touch_sweep.specs.inside.Strips.{begins_in, crosses, meets_partly};
 ghost use Rattle.geo_core.specs.Intervals.{IsIn};
 
 use super::numbered::Numbered;

@@ -1,6 +1,6 @@
 ghost use Rattle.std.specs.Prelude.{OnOk};
-ghost use Rattle.touch_sweep.specs.Entries.{IsByRow};
-ghost use Rattle.touch_sweep.specs.Matches.{IsMatch, IsMatchWith, IsMatchOf, Gains};
+ghost use Rattle.touch_sweep.specs.inside.Entries.{IsByRow};
+ghost use Rattle.touch_sweep.specs.inside.Matches.{IsMatch, IsMatchWith, IsMatchOf, Gains};
 
 use super::numbered::Numbered;
 use geo_core::touches;

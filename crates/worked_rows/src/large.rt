@@ -1,7 +1,7 @@
 use super::layouts::{Plate, plates};
 use super::runs::{Answer, Failing, RADIUS_3, Want, answers, calm, expect, run_with};
 use edge_io::{Failed, Files};
-use geo_core::NoMemory;
+use lists::NoMemory;
 use std::alloc::{AllocError, Global};
 use std::thread::Threads;
 

@@ -14,7 +14,7 @@ mod layouts;
 #[cfg(test)]
 mod maps;
 #[cfg(test)]
-mod outlines;
+mod outline_runs;
 #[cfg(test)]
 mod placements;
 #[cfg(test)]

@@ -1,6 +1,6 @@
 use critarea_core::{Word, run};
 use edge_io::{Files, MemFiles, MemSink};
-use geo_core::{Name, NoMemory};
+use lists::{Name, NoMemory};
 use std::alloc::{AllocError, Global};
 use std::fmt;
 use std::process::Abort;

@@ -1,9 +1,10 @@
 use Rattle.std.proofs.Common.{◌+◌, ◌≡◌, length, arith, subst, sym, ◌∙◌}
 use Rattle.classes.specs.Classes.{IsClasses}
-use Rattle.classes.specs.Spreading.{IsSettled}
+use Rattle.classes.specs.inside.Spreading.{IsSettled}
 use Rattle.classes.proofs.ClassLaws.{equal_where_joined}
 use Rattle.classes.proofs.IndexLaws.{graph_of}
-use Rattle.classes.proofs.SpreadSteps.{graph_at, has_one, finish, put_back, read_is}
+use Rattle.lists.proofs.Reading.{put_back}
+use Rattle.classes.proofs.SpreadSteps.{graph_at, has_one, finish, read_is}
 use Rattle.classes.proofs.classes.Goals as goal
 use Rattle.classes.proofs.classes.Goals.{then-index-n+in_ok-spread, else-index-n}
 

@@ -3,21 +3,21 @@ use Rattle.std.specs.Prelude.{All, Err}
 use Rattle.std.specs.List.{AllZip, enumerate_from}
 use Rattle.std.proofs.lemmas.List.{length-map}
 use Rattle.first_refusal.specs.Checks.{Checks, all_hold}
-use Rattle.layer_map.specs.MapView.{terminal_of}
-use Rattle.net_extract.specs.Anchoring.{IsAnchorOf, IsOnIsland}
-use Rattle.net_extract.specs.Extraction.{Answers, gives, off_metal}
-use Rattle.net_extract.specs.Numbering.{AreIslandsOf, AreContactLists, AreNetNumbers, piece_of}
-use Rattle.net_extract.proofs.AnswerLaws.{out_of_memory}
-use Rattle.net_extract.proofs.ExtractLaws.{accepted, handed_on, all_on_metals, refused_alike, nets_are}
+use Rattle.map_model.specs.MapView.{terminal_of}
+use Rattle.net_extract.specs.inside.Anchoring.{IsAnchorOf, IsOnIsland}
+use Rattle.net_extract.specs.Extraction.{off_metal}
+use Rattle.net_extract.specs.inside.Numbering.{AreIslandsOf, AreContactLists, AreNetNumbers, piece_of}
+use Rattle.first_refusal.specs.Answers.{gives}
+use Rattle.first_refusal.proofs.AnswerLaws.{handed_on}
+use Rattle.first_refusal.proofs.JudgeLaws.{Judges, given as is_given, passed}
+use Rattle.net_extract.specs.declared.fault.NetFault.TheVariants.{Memory}
+use Rattle.net_extract.proofs.ExtractLaws.{all_on_metals, refused_alike, nets_are}
 use Rattle.net_extract.proofs.WalkLaws.{links_small}
 use Rattle.net_extract.proofs.MadeLaws.{labels_small, are_nets}
 use Rattle.net_extract.proofs.extract.Goals as goal
 
 pub metal_islands-requires : goal.metal_islands-requires
 metal_islands-requires c = rw (c.as_slice-lists.ensures.value, c.as_slice.ensures) (omega arith)
-
-pub returns-in_err-metals-clause-nets : goal.returns-in_err-metals-clause-nets
-returns-in_err-metals-clause-nets c = out_of_memory _ c.from_residual.result c.from_residual.ensures.1
 
 pub anchors_of-requires : goal.anchors_of-requires
 anchors_of-requires c =
@@ -35,8 +35,10 @@ returns-in_err-anchors-clause-nets c =
     let islands = c.in_ok-metals.metals.islands in
     let fault = c.in_err-anchors.field-0.0 in
     let are : AreIslandsOf lists (length given.metals) count islands = rw (c.as_slice-lists.ensures.value, c.as_slice.ensures) at c.in_ok-metals.ensures in
-    let told : Answers (Checks (IsOnIsland islands) (enumerate_from 0 (map terminal_of given.terminals)) off_metal (AllZip (IsAnchorOf islands) given.terminals)) (Err fault) = rw (c.as_slice-islands.ensures, c.as_slice-2.ensures) at c.in_err-anchors.ensures in
-    handed_on _ c.from_residual-in_err-anchors.result fault c.from_residual-in_err-anchors.ensures.1 (refused_alike lists (length given.metals) count islands are given.terminals given.on_metals _ _ fault told)
+    let told : Judges Memory (IsOnIsland islands) (enumerate_from 0 (map terminal_of given.terminals)) off_metal (AllZip (IsAnchorOf islands) given.terminals) (Err fault) =
+    rw (c.as_slice-islands.ensures, c.as_slice-2.ensures) at c.in_err-anchors.ensures in
+    handed_on _ _ c.from_residual-in_err-anchors.result fault c.from_residual-in_err-anchors.ensures.1
+    (refused_alike lists (length given.metals) count islands are given.terminals given.on_metals _ _ fault told)
 
 pub contact_lists-requires : goal.contact_lists-requires
 contact_lists-requires c =
@@ -45,9 +47,6 @@ contact_lists-requires c =
       one_each = rw (c.as_slice-cuts.ensures, c.as_slice-islands.ensures, one_each, c.as_slice.ensures, c.as_slice-lists.ensures.value) (omega arith);
       cuts_join = rw (c.as_slice-cuts.ensures, c.as_slice-islands.ensures, one_each, c.as_slice.ensures) c.args.map.now.cuts_join;
     }
-
-pub returns-in_err-contacts-clause-nets : goal.returns-in_err-contacts-clause-nets
-returns-in_err-contacts-clause-nets c = out_of_memory _ c.from_residual-in_err-contacts.result c.from_residual-in_err-contacts.ensures.1
 
 pub net_numbers-requires : goal.net_numbers-requires
 net_numbers-requires c =
@@ -60,9 +59,6 @@ net_numbers-requires c =
     let lists_are : AreContactLists lists islands given.cuts contacts = rw (c.as_slice-lists.ensures.value, c.as_slice-islands.ensures, c.as_slice-cuts.ensures) at c.in_ok-contacts.ensures in
     rw c.as_slice-3.ensures (links_small lists (length given.metals) count islands are given.cuts given.cuts_join contacts lists_are)
 
-pub returns-in_err-nets-clause-nets : goal.returns-in_err-nets-clause-nets
-returns-in_err-nets-clause-nets c = out_of_memory _ c.from_residual-in_err-nets.result c.from_residual-in_err-nets.ensures.1
-
 pub piece_lists-requires : goal.piece_lists-requires
 piece_lists-requires c =
     let lists = c.args.layers.now.lists.items in
@@ -71,12 +67,6 @@ piece_lists-requires c =
     let islands = c.in_ok-metals.metals.islands in
     let are : AreIslandsOf lists (length given.metals) count islands = rw (c.as_slice-lists.ensures.value, c.as_slice.ensures) at c.in_ok-metals.ensures in
     rw (c.as_slice-islands.ensures, c.deref.ensures.value) (labels_small lists (length given.metals) count islands are (length c.in_ok-nets.nets.items) c.in_ok-nets.ensures.one_each)
-
-pub returns-in_err-pieces-clause-nets : goal.returns-in_err-pieces-clause-nets
-returns-in_err-pieces-clause-nets c = out_of_memory _ c.from_residual-in_err-pieces.result c.from_residual-in_err-pieces.ensures.1
-
-pub returns-in_err-ends-clause-nets : goal.returns-in_err-ends-clause-nets
-returns-in_err-ends-clause-nets c = out_of_memory _ c.from_residual-in_err-ends.result c.from_residual-in_err-ends.ensures.1
 
 pub new-requires : goal.new-requires
 new-requires c =
@@ -92,8 +82,7 @@ new-requires c =
     let lists_are : AreContactLists lists islands given.cuts contacts = rw (c.as_slice-lists.ensures.value, c.as_slice-islands.ensures, c.as_slice-cuts.ensures) at c.in_ok-contacts.ensures in
     let pieces_are : c.in_ok-pieces.pieces ≡ map (map (piece_of nets)) islands = rw (c.as_slice-islands.ensures, c.deref.ensures.value) at c.in_ok-pieces.ensures in
     let ends_are = rw c.as_slice-cuts.ensures at c.in_ok-ends.ensures in
-    let found = accepted _ _ _ _ anchors c.in_ok-anchors.ensures in
-    let zip : AllZip (IsAnchorOf islands) given.terminals anchors = rw (c.as_slice-islands.ensures, c.as_slice-2.ensures) at found.is in
+    let zip : AllZip (IsAnchorOf islands) given.terminals anchors = rw (c.as_slice-islands.ensures, c.as_slice-2.ensures) at (is_given c.in_ok-anchors.ensures) in
     rw pieces_are (are_nets islands nets contacts ends anchors lists (length given.metals) count are given.cuts given.cuts_join lists_are given.terminals ends_are zip given.terminals_differ)
 
 pub returns : goal.returns
@@ -111,9 +100,8 @@ returns c =
     let numbers : AreNetNumbers count contacts nets = rw c.as_slice-3.ensures at c.in_ok-nets.ensures in
     let pieces_are : c.in_ok-pieces.pieces ≡ map (map (piece_of nets)) islands = rw (c.as_slice-islands.ensures, c.deref.ensures.value) at c.in_ok-pieces.ensures in
     let ends_are = rw c.as_slice-cuts.ensures at c.in_ok-ends.ensures in
-    let found = accepted _ _ _ _ anchors c.in_ok-anchors.ensures in
-    let zip : AllZip (IsAnchorOf islands) given.terminals anchors = rw (c.as_slice-islands.ensures, c.as_slice-2.ensures) at found.is in
-    let checked : All (IsOnIsland islands) (enumerate_from 0 (map terminal_of given.terminals)) = rw (c.as_slice-islands.ensures, c.as_slice-2.ensures) at found.all in
+    let zip : AllZip (IsAnchorOf islands) given.terminals anchors = rw (c.as_slice-islands.ensures, c.as_slice-2.ensures) at (is_given c.in_ok-anchors.ensures) in
+    let checked : All (IsOnIsland islands) (enumerate_from 0 (map terminal_of given.terminals)) = rw (c.as_slice-islands.ensures, c.as_slice-2.ensures) at (passed c.in_ok-anchors.ensures) in
     record {
       nets = rw (c.new.ensures, pieces_are) (gives (all_hold (all_on_metals lists (length given.metals) count islands are given.terminals given.on_metals checked)
           (nets_are given lists islands nets contacts ends anchors count are lists_are numbers ends_are zip)));

@@ -1,4 +1,4 @@
-use Rattle.touch_sweep.specs.Entries.{IsByRow}
+use Rattle.touch_sweep.specs.inside.Entries.{IsByRow}
 use Rattle.touch_sweep.proofs.PairSteps.{exact_pairs}
 use Rattle.touch_sweep.proofs.touch_pairs.Goals as goal
 

@@ -1,5 +1,5 @@
 use Rattle.std.proofs.Common.{ℕ, ◌≡◌, ◌+◌, ◌<◌, length, sum, get_or, drop}
-use Rattle.classes.specs.Degrees.{degree_of}
+use Rattle.classes.specs.inside.Degrees.{degree_of}
 use Rattle.classes.proofs.index.count.Given as goal
 
 abbrev pub invariant-loop-a : goal.invariant-loop-a

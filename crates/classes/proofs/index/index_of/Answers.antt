@@ -1,10 +1,10 @@
 use Rattle.std.proofs.Common.{ℕ, ◌+◌, ◌≡◌, length, arith, subst, sym, ◌∙◌, List}
 use Rattle.std.proofs.lemmas.List.Elements.{same_from_all_zip}
 use Rattle.classes.specs.Classes.{AreBelow}
-use Rattle.classes.specs.Degrees.{AreDegrees}
-use Rattle.classes.specs.Index.{IsStarts, IsIndexOf}
+use Rattle.classes.specs.inside.Degrees.{AreDegrees}
+use Rattle.classes.specs.inside.Index.{IsStarts, IsIndexOf}
 use Rattle.classes.proofs.IndexLaws.{laid_out}
-use Rattle.classes.proofs.SpreadSteps.{put_back}
+use Rattle.lists.proofs.Reading.{put_back}
 use Rattle.classes.proofs.index.index_of.Goals as goal
 
 pub count-requires-clause-below : goal.count-requires-clause-below
@@ -25,5 +25,6 @@ fill-requires c =
 pub returns-clause-index : goal.returns-clause-index
 returns-clause-index c =
     let copy : c.in_ok-next.next.items ≡ c.in_ok-starts.starts.items = same_from_all_zip _ _ _ c.in_ok-next.ensures.cases.0 (λ x y e. e) in
-    let f : IsIndexOf c.args.pairs.now c.in_ok-starts.starts.items c.fill.new.neighbours = subst (λ (x : List ℕ). IsIndexOf c.args.pairs.now x c.fill.new.neighbours) (c.deref_mut-2.ensures.value ∙ copy) c.fill.ensures in
+    let f : IsIndexOf c.args.pairs.now c.in_ok-starts.starts.items c.fill.new.neighbours = subst (λ (x : List ℕ). IsIndexOf c.args.pairs.now x c.fill.new.neighbours) (c.deref_mut-2.ensures.value
+    ∙ copy) c.fill.ensures in
     rw (put_back _ c.fill.new.neighbours c.in_ok-neighbours.neighbours.items (sym (c.fill.auto.neighbours ∙ c.deref_mut-3.ensures.len))) f

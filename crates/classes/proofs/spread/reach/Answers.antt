@@ -1,5 +1,5 @@
 use Rattle.std.proofs.Common.{arith, add-one}
-use Rattle.classes.specs.Spreading.{IsPlaceOf}
+use Rattle.classes.specs.inside.Spreading.{IsPlaceOf}
 use Rattle.classes.proofs.SpreadSteps.{graph_at, listed, step_on}
 use Rattle.classes.proofs.spread.reach.Goals as goal
 

@@ -1,6 +1,6 @@
 use Rattle.std.proofs.Common.{◌≡◌, ◌+◌, ◌≤◌, sum, get_or}
 use Rattle.std.specs.VecDeque.{deque_len}
-use Rattle.classes.specs.Spreading.{IsSpreading}
+use Rattle.classes.specs.inside.Spreading.{IsSpreading}
 use Rattle.classes.proofs.spread.reach.Given as goal
 
 abbrev pub invariant-loop-place : goal.invariant-loop-place

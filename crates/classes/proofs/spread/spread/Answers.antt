@@ -3,7 +3,14 @@ use Rattle.classes.proofs.SpreadSteps.{graph_at, begin, take_one, taken, done}
 use Rattle.classes.proofs.spread.spread.Goals as goal
 
 pub loop-number-init : goal.loop-number-init
-loop-number-init c = record { same = refl; state = (0, rw (c.in_ok-push_back.ensures.items, c.new-todo.ensures.items) (begin _ _ _ c.requires.graph _ c.requires.start c.requires.fresh c.requires.before 0)) }
+loop-number-init c = record {
+  same = refl;
+  state = (
+    0,
+    rw (c.in_ok-push_back.ensures.items, c.new-todo.ensures.items)
+        (begin _ _ _ c.requires.graph _ c.requires.start c.requires.fresh c.requires.before 0),
+  );
+}
 
 pub reach-requires-clause-number : goal.reach-requires-clause-number
 reach-requires-clause-number c =

@@ -1,6 +1,6 @@
 use Rattle.std.proofs.Common.{ℕ, suc, ◌≡◌, ◌+◌, sum, get_or}
 use Rattle.std.specs.VecDeque.{deque_len}
-use Rattle.classes.specs.Spreading.{IsSpreading}
+use Rattle.classes.specs.inside.Spreading.{IsSpreading}
 use Rattle.classes.proofs.spread.spread.Given as goal
 
 abbrev pub invariant-loop-number : goal.invariant-loop-number

@@ -3,7 +3,9 @@ use Rattle.command_line.proofs.number.number.Goals as goal
 
 pub returns-clause-some : goal.returns-clause-some
 returns-clause-some c = record {
-  number = record { few = omega arith; digits = search rules; value = search rules };
+  few = omega arith;
+  digits = search rules;
+  value = search rules;
   least = c.if-value-least.false;
   most = c.if-value-most.false;
 }

@@ -1,7 +1,7 @@
 use Rattle.std.proofs.Common.{◌≡◌, ◌∙◌, ap₂, arith, refl, take_all}
 use Rattle.std.proofs.lemmas.Result.{IfOk-weaker}
 use Rattle.clap.specs.Words.{app_of, with_rule}
-use Rattle.command_line.specs.Command.{with_options}
+use Rattle.command_line.specs.inside.Command.{with_options}
 use Rattle.command_line.specs.declared.option_name.TheConstants.{OPTIONS}
 use Rattle.command_line.specs.declared.option_name.OptionName.TheVariants.{Map}
 use Rattle.command_line.proofs.MatchLaws.{one_option_more}

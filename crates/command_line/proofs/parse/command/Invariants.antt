@@ -1,6 +1,6 @@
 use Rattle.std.proofs.Common.{◌≡◌, take}
 use Rattle.clap.specs.Words.{app_of}
-use Rattle.command_line.specs.Command.{with_options}
+use Rattle.command_line.specs.inside.Command.{with_options}
 use Rattle.command_line.proofs.parse.command.Given as goal
 
 abbrev pub invariant-loop-name : goal.invariant-loop-name

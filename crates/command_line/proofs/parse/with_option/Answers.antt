@@ -2,7 +2,7 @@ use Rattle.std.proofs.Common.{◌≡◌, ◌∙◌, ap, rules}
 use Rattle.std.proofs.lemmas.Result.{IfOk-weaker}
 use Rattle.clap.specs.declared.builder.arg.Arg.{Arg}
 use Rattle.clap.specs.Words.{app_of, rule_of, with_rule}
-use Rattle.command_line.specs.Command.{rule_of_option}
+use Rattle.command_line.specs.inside.Command.{rule_of_option}
 use Rattle.command_line.proofs.parse.with_option.Goals as goal
 
 pub returns : goal.returns

@@ -1,6 +1,6 @@
 use Rattle.std.proofs.Common.{◌≡◌, ◌∙◌, sym, ap, Err}
 use Rattle.command_line.specs.declared.fault.WordsFault.TheVariants.{Usage}
-use Rattle.command_line.specs.Arguments.{given_by}
+use Rattle.command_line.specs.inside.Arguments.{given_by}
 use Rattle.command_line.proofs.AskLaws.{asks_by_texts, asks_for, asks_once}
 use Rattle.command_line.proofs.words.read_words.Goals as goal
 

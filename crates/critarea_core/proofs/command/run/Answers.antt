@@ -1,8 +1,10 @@
 use Rattle.critarea_core.proofs.RunLaws.{ends, complete}
 use Rattle.critarea_core.proofs.command.run.Goals as goal
 
-pub returns-clause-status : goal.returns-clause-status
-returns-clause-status g c = ends c.args.words.now (g.F.Files.holds c.args.files.now) _ _ _ _ _ c.find-found.ensures.found c.print.ensures
-
-pub returns-clause-complete : goal.returns-clause-complete
-returns-clause-complete g c = complete c.args.words.now (g.F.Files.holds c.args.files.now) _ _ _ _ (ends c.args.words.now (g.F.Files.holds c.args.files.now) _ _ _ _ _ c.find-found.ensures.found c.print.ensures)
+pub returns : goal.returns
+returns g c = record {
+  ends = ends c.args.words.now _ c.find-found.result c.print.result c.find-found.ensures.found c.print.ensures;
+  complete = complete c.args.words.now _ c.print.result (ends c.args.words.now _ c.find-found.result c.print.result c.find-found.ensures.found c.print.ensures);
+  started = c.find-found.ensures.started;
+  holds = c.find-found.ensures.holds;
+}

@@ -1,4 +1,4 @@
-use Rattle.critarea_core.proofs.RunLaws.{reports_agree}
+use Rattle.critarea_core.proofs.VerdictLaws.{reports_agree}
 use Rattle.critarea_core.proofs.laws.reports_agree.Goals as goal
 
 pub returns : goal.returns

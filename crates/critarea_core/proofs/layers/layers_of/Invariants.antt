@@ -1,5 +1,5 @@
 use Rattle.std.specs.List.{zip}
-use Rattle.critarea_core.specs.LayoutReaders.{AreListsUpTo}
+use Rattle.critarea_core.specs.inside.LayoutReaders.{AreListsUpTo}
 use Rattle.critarea_core.proofs.layers.layers_of.Given as goal
 
 abbrev pub invariant-loop-number : goal.invariant-loop-number

@@ -2,12 +2,12 @@ use Rattle.std.proofs.Common.{[], refl, sym, ap, ◌∙◌, length, take_all, ge
 use Rattle.std.specs.List.{zip}
 use Rattle.std.proofs.lemmas.Option.{slice_get-get_or, slice_get_read}
 use Rattle.std.proofs.lemmas.Slice.Zip.{length-zip}
-use Rattle.critical_areas.proofs.ListLaws.{slice_get-zip}
 use Rattle.critical_areas.proofs.WindowLaws.{read_list}
-use Rattle.critarea_core.specs.LayoutReaders.{rects_on}
+use Rattle.critarea_core.specs.inside.LayoutReaders.{rects_on}
 use Rattle.critarea_core.proofs.LayerLaws.{next_on, next_off}
 use Rattle.critarea_core.proofs.layers.rects_on.Goals as goal
 use Rattle.critarea_core.proofs.layers.rects_on.Goals.{then-one-number+in_ok-extend_from_slice, else-one-number}
+use Rattle.lists.proofs.Pairing.{slice_get-zip}
 
 pub loop-k-preserved : goal.loop-k-preserved
 loop-k-preserved c =

@@ -1,6 +1,6 @@
 use Rattle.std.proofs.Common.{◌≡◌, take}
 use Rattle.std.specs.List.{zip}
-use Rattle.critarea_core.specs.LayoutReaders.{rects_on}
+use Rattle.critarea_core.specs.inside.LayoutReaders.{rects_on}
 use Rattle.critarea_core.proofs.layers.rects_on.Given as goal
 
 abbrev pub invariant-loop-k : goal.invariant-loop-k

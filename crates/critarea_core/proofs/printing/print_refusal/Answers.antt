@@ -1,5 +1,5 @@
 use Rattle.std.proofs.Common.{refl, ◌∙◌}
-use Rattle.critarea_core.specs.Finding.{line_out, line_cut, no_line}
+use Rattle.critarea_core.specs.inside.Finding.{line_out, line_cut, no_line}
 use Rattle.critarea_core.proofs.printing.print_refusal.Goals as goal
 
 pub returns-in_default : goal.returns-in_default

@@ -1,8 +1,12 @@
-use Rattle.critarea_core.specs.Finding.{report_out, report_cut}
+use Rattle.std.proofs.Common.{refl, ◌∙◌}
+use Rattle.critarea_core.specs.inside.Finding.{no_report, report_out, report_cut}
 use Rattle.critarea_core.proofs.printing.print_report.Goals as goal
 
-pub returns-in-Ok : goal.returns-in-Ok
-returns-in-Ok g c = report_out (c.in-Ok.ensures.written, c.in-Ok.ensures.calm)
+pub returns-in_default : goal.returns-in_default
+returns-in_default g c = no_report (refl, refl)
 
-pub returns-in-Err : goal.returns-in-Err
-returns-in-Err g c = report_cut (c.in-Err.ensures.rose, c.in-Err.ensures.prefix)
+pub returns-in-Ok-write_all : goal.returns-in-Ok-write_all
+returns-in-Ok-write_all g c = report_out (rw (c.as_slice.ensures.value ∙ c.in-Ok.ensures) at c.in-Ok-write_all.ensures.written, c.in-Ok-write_all.ensures.calm)
+
+pub returns : goal.returns
+returns g c = report_cut (c.in-Err.ensures.rose, rw (c.as_slice.ensures.value ∙ c.in-Ok.ensures) at c.in-Err.ensures.prefix)

@@ -1,9 +1,6 @@
-use Rattle.geo_core.specs.Cells.{IsInLayout}
-use Rattle.critical_areas.proofs.WindowLaws.{AreBoundsUpTo}
+use Rattle.std.proofs.Common.{take}
+use Rattle.critical_areas.specs.inside.LayoutBounds.{AreBounds}
 use Rattle.critical_areas.proofs.window.bounds_of.Given as goal
 
 abbrev pub invariant-loop-rect : goal.invariant-loop-rect
-invariant-loop-rect l = record {
-  bounds : AreBoundsUpTo l.rects l.rect-index l.bounds;
-  within : IsInLayout l.bounds;
-}
+invariant-loop-rect l = AreBounds (take l.rect-index l.rects) l.bounds

@@ -1,5 +1,5 @@
 use Rattle.std.proofs.Common.{sym, subst, take}
-use Rattle.critical_areas.specs.Bounds.{AreBounds}
+use Rattle.critical_areas.specs.inside.LayoutBounds.{AreBounds}
 use Rattle.critical_areas.proofs.WindowLaws.{rects_of, rects_next}
 use Rattle.critical_areas.proofs.window.bounds_of_all.Goals as goal
 
@@ -9,4 +9,5 @@ loop-list-preserved c =
     let k = c.loop-list.list-index in
     let list = c.list-item.result in
     let of_list = subst (λ rects. AreBounds rects c.bounds_of.result) c.as_slice.ensures c.bounds_of.ensures in
-    subst (λ rects. AreBounds rects c.bounds_of_both-bounds.result) (sym (rects_next lists k list c.loop-list-test.true c.list-item.is)) (c.bounds_of_both-bounds.ensures (rects_of (take k lists)) list c.loop-list.invariant of_list)
+    subst (λ rects. AreBounds rects c.bounds_of_both-bounds.result) (sym (rects_next lists k list c.loop-list-test.true c.list-item.is))
+    (c.bounds_of_both-bounds.ensures (rects_of (take k lists)) list c.loop-list.invariant of_list)

@@ -1,5 +1,5 @@
 use Rattle.std.proofs.Common.{take}
-use Rattle.critical_areas.specs.Bounds.{AreBounds}
+use Rattle.critical_areas.specs.inside.LayoutBounds.{AreBounds}
 use Rattle.critical_areas.proofs.WindowLaws.{rects_of}
 use Rattle.critical_areas.proofs.window.bounds_of_all.Given as goal
 

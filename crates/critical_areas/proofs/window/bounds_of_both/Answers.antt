@@ -1,5 +1,5 @@
 use Rattle.std.proofs.Common.{subst}
-use Rattle.critical_areas.specs.Bounds.{AreBounds}
+use Rattle.critical_areas.specs.inside.LayoutBounds.{AreBounds}
 use Rattle.critical_areas.proofs.WindowLaws.{joined_bounds}
 use Rattle.critical_areas.proofs.window.bounds_of_both.Goals as goal
 

@@ -25,7 +25,8 @@ returns-then-count-eq0-clause-answer g c =
     let gives = rw c.if-count-eq0.true at given.gives in
     let none = HasRead-more _ _ _ _ _ c.loop-buf.invariant.read gives in
     let long : vec_len c.loop-buf.whole ≡ length c.loop-buf.whole.items = omega arith in
-    is_whole {bytes = c.loop-buf.whole} (HasRead-all _ _ _ _ c.loop-buf.invariant.read gives) (omega arith) (given.calm ∙ c.loop-buf.invariant.calm) given.started
+    is_whole {bytes = c.loop-buf.whole} (HasRead-all _ _ _ _ c.loop-buf.invariant.read gives) (rw c.as_slice.ensures.value at c.tell_bytes.ensures) (omega arith) (given.calm
+    ∙ c.loop-buf.invariant.calm) given.started
     (rw long (HasRead-Drops _ _ _ (rw append-nil at none)))
 
 pub returns-in_err-start-clause-answer : goal.returns-in_err-start-clause-answer
@@ -43,7 +44,15 @@ returns-in_err-extend_from_slice-clause-answer g c =
     let error = err_from_is_err_and c.from_residual-in_err-extend_from_slice.result c.from_residual-in_err-extend_from_slice.ensures.1 in
     let given : List ℕ = take c.in_ok-count.count c.read.new.buf in
     let more = HasRead-more _ _ _ _ given c.loop-buf.invariant.read c.in_ok-count.ensures.gives in
-    let fits : length (c.loop-buf.whole.items ++ given) ≤ c.args.limit + 1 = omega (arith, c.in_ok-count.ensures.within, c.read.auto.buf, c.min-room.ensures, length-append {A = ℕ}, length-take {A = ℕ}, length-drop {A = ℕ}) in
+    let fits : length (c.loop-buf.whole.items ++ given) ≤ c.args.limit + 1 = omega (
+      arith,
+      c.in_ok-count.ensures.within,
+      c.read.auto.buf,
+      c.min-room.ensures,
+      length-append {A = ℕ},
+      length-take {A = ℕ},
+      length-drop {A = ℕ},
+    ) in
     rw (error.1, error.2) (has_no_memory (c.in_ok-count.ensures.calm ∙ c.loop-buf.invariant.calm) c.in_ok-count.ensures.started (HasRead-DropsUpTo _ _ _ _ more fits))
 
 pub returns-clause-answer : goal.returns-clause-answer

@@ -1,8 +1,10 @@
-use Rattle.std.proofs.Common.{[], ◌∷◌, ◌++◌, ◌+◌, ◌*◌, ◌-◌}
+use Rattle.std.proofs.Common.{◌+◌, ◌*◌, ◌-◌, map, take}
+use Rattle.std.specs.Prelude.{flat_map}
 use Rattle.std.specs.List.{range_with_len}
 use Rattle.flatten.specs.Steps.{steps_in_row}
-use Rattle.flatten.specs.Expansions.{Adds, copy_routes_behind, part_routes_behind, routes_behind}
-use Rattle.flatten.proofs.GrowthLaws.{front_routes}
+use Rattle.flatten.specs.Routes.{behind_step}
+use Rattle.flatten.specs.inside.Ends.{node_routes, part_routes, routes_below}
+use Rattle.flatten.specs.inside.Expansions.{Adds, copy_routes}
 use Rattle.flatten.proofs.expansion.+expansion.Given as goal
 
 -- Each call goes one function down, and that of `expand` one step.
@@ -19,13 +21,17 @@ abbrev pub decreases-expand_row : goal.decreases-expand_row
 decreases-expand_row l = 4 * l.way.left
 
 abbrev pub invariant-expand-loop-part : goal.invariant-expand-loop-part
-invariant-expand-loop-part l = Adds l.plan l.way.motion (front_routes (part_routes_behind l.way.left l.one) l.part-items l.part-index) l.fn.placed.items l.placed.items
+invariant-expand-loop-part l =
+    Adds l.plan.nodes.items l.way.motion (flat_map (part_routes (routes_below l.plan.nodes.items l.way.left) l.one) (take l.part-index l.part-items)) l.fn.placed.items l.placed.items
 
 abbrev pub invariant-expand_copies-loop-row : goal.invariant-expand_copies-loop-row
 invariant-expand_copies-loop-row l =
-    Adds l.plan l.way.motion (front_routes (λ row. copy_routes_behind (l.way.left - 1) l.target (steps_in_row l.reference row)) (range_with_len 0 l.row-end) l.row) l.fn.placed.items l.placed.items
+    Adds l.plan.nodes.items l.way.motion (flat_map (λ row. copy_routes l.plan.nodes.items (l.way.left - 1) l.target (steps_in_row l.reference row)) (take l.row (range_with_len 0 l.row-end)))
+    l.fn.placed.items l.placed.items
 
 abbrev pub invariant-expand_row-loop-column : goal.invariant-expand_row-loop-column
 invariant-expand_row-loop-column l =
-    Adds l.plan l.way.motion (front_routes (λ column structures layer_map steps. routes_behind (l.way.left - 1) l.target structures layer_map (steps ++ (record { reference = l.reference; column = column; row = l.row }) ∷ []))
-    (range_with_len 0 l.column-end) l.column) l.fn.placed.items l.placed.items
+    Adds l.plan.nodes.items l.way.motion
+    (flat_map (λ column. map (behind_step (record { reference = l.reference; column = column; row = l.row })) (node_routes l.plan.nodes.items (l.way.left - 1) l.target))
+    (take l.column (range_with_len 0 l.column-end)))
+    l.fn.placed.items l.placed.items

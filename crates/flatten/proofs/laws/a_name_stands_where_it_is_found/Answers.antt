@@ -1,5 +1,6 @@
-use Rattle.flatten.proofs.NameLaws.{structure_named-is}
+use Rattle.library_model.specs.Names.{names_of}
+use Rattle.library_model.proofs.NameLaws.{place_of-is}
 use Rattle.flatten.proofs.laws.a_name_stands_where_it_is_found.Goals as goal
 
 pub returns : goal.returns
-returns c = structure_named-is
+returns c structures = place_of-is (names_of structures)

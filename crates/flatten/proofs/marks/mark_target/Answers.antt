@@ -1,9 +1,9 @@
 use Rattle.std.proofs.Common.{[], inl, inr}
-use Rattle.flatten.proofs.ListLaws.{Contains-head}
 use Rattle.flatten.proofs.MarkLaws.{marked_now, only_more, leads_alone, leads_to_it}
-use Rattle.flatten.specs.Marks.{IsMarked}
+use Rattle.flatten.specs.inside.Marks.{IsMarked}
 use Rattle.std.proofs.Common.{◌≡◌, set, true, sym, subst}
 use Rattle.flatten.proofs.marks.mark_target.Goals as goal
+use Rattle.lists.proofs.Containing.{Contains-head}
 
 pub bounds-marks-target : goal.bounds-marks-target
 bounds-marks-target c = let below = rw c.in-Copies.is at c.requires in below c.in-Copies.reference c.in-Copies.target (Contains-head _ [])

@@ -1,11 +1,12 @@
 use Rattle.std.proofs.Common.{inl, inr, take_all, sym, subst}
-use Rattle.flatten.specs.Parts.{LeadsTo, AreBelow}
+use Rattle.flatten.specs.inside.Parts.{LeadsTo, AreBelow}
 use Rattle.flatten.proofs.WeightLaws.{below_one}
 use Rattle.flatten.proofs.MarkLaws.{leads_split, leads_front, leads_last}
 use Rattle.flatten.proofs.marks.mark_targets.Goals as goal
 
 pub mark_target-requires : goal.mark_target-requires
-mark_target-requires c = below_one c.args.parts.now c.loop-part.part-index c.part-item.result c.loop-part-test.true c.part-item.is _ (subst (λ n. AreBelow n c.args.parts.now) (sym c.loop-part.auto.marks) c.requires)
+mark_target-requires c = below_one c.args.parts.now c.loop-part.part-index c.part-item.result c.loop-part-test.true c.part-item.is _
+    (subst (λ n. AreBelow n c.args.parts.now) (sym c.loop-part.auto.marks) c.requires)
 
 pub loop-part-preserved : goal.loop-part-preserved
 loop-part-preserved c = record {

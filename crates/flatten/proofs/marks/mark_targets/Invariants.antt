@@ -1,6 +1,6 @@
 use Rattle.std.proofs.Common.{ℕ, ◌⊎◌, take}
-use Rattle.flatten.specs.Parts.{LeadsTo}
-use Rattle.flatten.specs.Marks.{IsMarked}
+use Rattle.flatten.specs.inside.Parts.{LeadsTo}
+use Rattle.flatten.specs.inside.Marks.{IsMarked}
 use Rattle.flatten.proofs.marks.mark_targets.Given as goal
 
 abbrev pub invariant-loop-part : goal.invariant-loop-part

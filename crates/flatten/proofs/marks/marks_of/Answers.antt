@@ -1,10 +1,10 @@
 use Rattle.std.proofs.Common.{◌≡◌, ◌<◌, inl, inr, length, sym, ap, subst, ◌∙◌, arith}
 use Rattle.std.proofs.lemmas.Bool.{cases_lt}
-use Rattle.flatten.specs.Parts.{AreBelow, LeadsTo, parts_at}
-use Rattle.flatten.proofs.ListLaws.{put_back}
+use Rattle.flatten.specs.inside.Parts.{AreBelow, LeadsTo, parts_at}
 use Rattle.flatten.proofs.SearchLaws.{parts_read}
 use Rattle.flatten.proofs.MarkLaws.{leads_within}
 use Rattle.flatten.proofs.marks.marks_of.Goals as goal
+use Rattle.lists.proofs.Reading.{put_back}
 
 pub mark_targets-requires : goal.mark_targets-requires
 mark_targets-requires c =

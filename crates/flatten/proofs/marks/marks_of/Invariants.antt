@@ -1,6 +1,6 @@
 use Rattle.std.proofs.Common.{ℕ, ◌≡◌, ◌<◌, length}
-use Rattle.flatten.specs.Parts.{LeadsTo, parts_at}
-use Rattle.flatten.specs.Marks.{IsMarked}
+use Rattle.flatten.specs.inside.Parts.{LeadsTo, parts_at}
+use Rattle.flatten.specs.inside.Marks.{IsMarked}
 use Rattle.flatten.proofs.marks.marks_of.Given as goal
 
 abbrev pub invariant-loop-node : goal.invariant-loop-node

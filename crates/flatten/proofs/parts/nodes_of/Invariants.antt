@@ -1,12 +1,12 @@
 use Rattle.std.proofs.Common.{take}
 use Rattle.std.specs.Prelude.{All, flat_map}
-use Rattle.layer_map.specs.MapView.{layer_map_of}
-use Rattle.flatten.specs.Structures.{references_of}
-use Rattle.flatten.specs.Parts.{AreNodes, IsKnown}
+use Rattle.map_model.specs.MapView.{layer_map_of}
+use Rattle.flatten.specs.Structures.{references_among}
+use Rattle.flatten.specs.inside.Parts.{AreNodes, IsKnown}
 use Rattle.flatten.proofs.parts.nodes_of.Given as goal
 
 abbrev pub invariant-loop-structure : goal.invariant-loop-structure
 invariant-loop-structure l = record {
   nodes : AreNodes l.index (layer_map_of l.map) (take l.structure-index l.structures) l.nodes.items;
-  known : All (IsKnown l.index) (flat_map references_of (take l.structure-index l.structures));
+  known : All (IsKnown l.index) (flat_map (λ structure. references_among structure.elements) (take l.structure-index l.structures));
 }

@@ -1,5 +1,5 @@
-use Rattle.std.proofs.Common.{◌≡◌, Some}
-use Rattle.layer_map.specs.MapView.{layer_map_of}
+use Rattle.std.proofs.Common.{◌≡◌, Some, sym}
+use Rattle.map_model.specs.MapView.{layer_map_of}
 use Rattle.flatten.proofs.LayerLaws.{is_mapped-none}
 use Rattle.flatten.proofs.PartLaws.{no_part, end_part, copies_part, unknown_in_reference}
 use Rattle.flatten.proofs.parts.part_of.Goals as goal
@@ -17,9 +17,9 @@ returns-after-layer_of-clause-part c =
 pub returns-in-None-find-clause-unknown : goal.returns-in-None-find-clause-unknown
 returns-in-None-find-clause-unknown c =
     unknown_in_reference c.args.index.now c.args.element.now c.in-Reference.reference c.in-Reference.is
-    (λ (place, stands). let some : c.find.result ≡ Some place = (c.find.ensures place).1 (rw c.as_slice.ensures stands) in cc c.in-None-find.is)
+    (sym (rw (c.in-None-find.is, c.as_slice.ensures) at c.find.ensures.place))
 
 pub returns-in-Some-find-clause-part : goal.returns-in-Some-find-clause-part
 returns-in-Some-find-clause-part c =
     copies_part c.args.index.now (layer_map_of c.args.map.now) c.args.number c.in-Some-find.target c.args.element.now _ c.in-Reference.is
-    (rw c.as_slice.ensures at (c.find.ensures c.in-Some-find.target).0 c.in-Some-find.is)
+    (sym (rw (c.in-Some-find.is, c.as_slice.ensures) at c.find.ensures.place))

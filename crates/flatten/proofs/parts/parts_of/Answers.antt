@@ -5,9 +5,9 @@ use Rattle.std.proofs.lemmas.List.Elements.{All-nil}
 use Rattle.std.proofs.lemmas.List.{append-nil}
 use Rattle.std.proofs.lemmas.Result.{err_from_is_err_and}
 use Rattle.std.proofs.lemmas.List.FromFn.{length-enumerate_from}
-use Rattle.layer_map.specs.MapView.{layer_map_of}
+use Rattle.map_model.specs.MapView.{layer_map_of}
 use Rattle.flatten.specs.Structures.{references_in}
-use Rattle.flatten.specs.Parts.{IsKnown, AreParts, no_more}
+use Rattle.flatten.specs.inside.Parts.{IsKnown, AreParts, no_more}
 use Rattle.flatten.specs.declared.fault.PlaceFault.TheVariants.{UnknownStructure}
 use Rattle.flatten.proofs.FirstLaws.{refused_at, hold_at}
 use Rattle.flatten.proofs.PartLaws.{one_element_more}
@@ -25,7 +25,8 @@ returns-in_err-found-clause-unknown c =
     let p = err_from_is_err_and c.from_residual-in_err-found.result c.from_residual-in_err-found.ensures.1 in
     rw (p.1, p.2) (λ _.
     refused_at (IsKnown c.args.index.now) (λ reference. UnknownStructure reference.at) references_in c.args.structure.now.elements c.loop-place.place c.index-elements-place.result
-    (rw c.as_slice-elements.ensures at c.loop-place-test.true) (rw c.as_slice-elements.ensures at c.index-elements-place.is) c.in_err-found.field-0.0 c.loop-place.invariant.known c.in_err-found.ensures.unknown)
+    (rw c.as_slice-elements.ensures at c.loop-place-test.true) (rw c.as_slice-elements.ensures at c.index-elements-place.is)
+    c.in_err-found.field-0.0 c.loop-place.invariant.known c.in_err-found.ensures.unknown)
 
 pub loop-place-preserved : goal.loop-place-preserved
 loop-place-preserved c = record {
@@ -38,7 +39,8 @@ loop-place-preserved c = record {
         | in-Some+in_ok-push-in-Some w ↦
             let pushed : c.loop-place.parts.items ++ option_to_list part ≡ c.match-found.parts.items = rw w.in-Some.is (sym w.in_ok-push-in-Some.ensures.items ∙ ap (λ v. v.items) (sym w.parts-is)) in
             subst (AreParts _ _ _) pushed more
-        | in-None w ↦ let same : c.loop-place.parts.items ++ option_to_list part ≡ c.match-found.parts.items = rw w.in-None.is (append-nil c.loop-place.parts.items ∙ ap (λ v. v.items) (sym w.parts-is)) in subst (AreParts _ _ _) same more
+        | in-None w ↦ let same : c.loop-place.parts.items ++ option_to_list part ≡ c.match-found.parts.items =
+            rw w.in-None.is (append-nil c.loop-place.parts.items ∙ ap (λ v. v.items) (sym w.parts-is)) in subst (AreParts _ _ _) same more
       ];
   known = hold_at (IsKnown c.args.index.now) (λ reference. UnknownStructure reference.at) references_in c.args.structure.now.elements c.loop-place.place c.index-elements-place.result
       (rw c.as_slice-elements.ensures at c.loop-place-test.true) (rw c.as_slice-elements.ensures at c.index-elements-place.is) c.loop-place.invariant.known c.in_ok-found.ensures.known;
@@ -46,8 +48,11 @@ loop-place-preserved c = record {
 
 pub returns-clause-parts : goal.returns-clause-parts
 returns-clause-parts c =
-    subst (λ es. AreParts c.args.index.now (layer_map_of c.args.map.now) es c.loop-place.parts.items) (take_all c.loop-place.place (enumerate_from 0 c.args.structure.now.elements) (rw (length-enumerate_from 0 c.args.structure.now.elements, ← c.as_slice-elements.ensures) c.loop-place-test.false)) c.loop-place.invariant.parts
+    subst (λ es. AreParts c.args.index.now (layer_map_of c.args.map.now) es c.loop-place.parts.items)
+    (take_all c.loop-place.place (enumerate_from 0 c.args.structure.now.elements) (rw (length-enumerate_from 0 c.args.structure.now.elements, ← c.as_slice-elements.ensures)
+    c.loop-place-test.false)) c.loop-place.invariant.parts
 
 pub returns-clause-known : goal.returns-clause-known
 returns-clause-known c =
-    subst (λ es. All (IsKnown c.args.index.now) (flat_map references_in es)) (take_all c.loop-place.place c.args.structure.now.elements (rw (← c.as_slice-elements.ensures) c.loop-place-test.false)) c.loop-place.invariant.known
+    subst (λ es. All (IsKnown c.args.index.now) (flat_map references_in es)) (take_all c.loop-place.place c.args.structure.now.elements (rw (← c.as_slice-elements.ensures) c.loop-place-test.false))
+    c.loop-place.invariant.known

@@ -1,9 +1,9 @@
 use Rattle.std.proofs.Common.{take}
 use Rattle.std.specs.Prelude.{All, flat_map}
 use Rattle.std.specs.List.{enumerate_from}
-use Rattle.layer_map.specs.MapView.{layer_map_of}
+use Rattle.map_model.specs.MapView.{layer_map_of}
 use Rattle.flatten.specs.Structures.{references_in}
-use Rattle.flatten.specs.Parts.{AreParts, IsKnown}
+use Rattle.flatten.specs.inside.Parts.{AreParts, IsKnown}
 use Rattle.flatten.proofs.parts.parts_of.Given as goal
 
 abbrev pub invariant-loop-place : goal.invariant-loop-place

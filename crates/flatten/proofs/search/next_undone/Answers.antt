@@ -2,7 +2,7 @@ use Rattle.std.proofs.Common.{◌≡◌, get_or, inl, inr, sym, ap, subst, ◌�
 use Rattle.std.specs.Prelude.{Contains}
 use Rattle.std.proofs.lemmas.Bool.{cases_lt}
 use Rattle.std.proofs.lemmas.Option.{get_or_from_slice_get}
-use Rattle.flatten.specs.Surveys.{state_of}
+use Rattle.flatten.specs.inside.Surveys.{state_of}
 use Rattle.flatten.specs.declared.part.Part.TheVariants.{Copies}
 use Rattle.flatten.specs.declared.summary.State.TheVariants.{Done}
 use Rattle.flatten.proofs.search.next_undone.Goals as goal
@@ -27,7 +27,8 @@ loop-place-preserved c k reference target h is =
       | inr here ↦
           let same : k ≡ c.loop-place.place = omega arith in
           let item : c.index-parts-place.result ≡ Copies reference target
-          = c.index-parts-place.is ∙ ap (λ i. get_or c.args.parts.now i c.index-parts-place.result) (sym same) ∙ get_or_from_slice_get c.args.parts.now k (Copies reference target) c.index-parts-place.result is in
+          = c.index-parts-place.is ∙ ap (λ i. get_or c.args.parts.now i c.index-parts-place.result) (sym same)
+          ∙ get_or_from_slice_get c.args.parts.now k (Copies reference target) c.index-parts-place.result is in
           elim c.match-parts-place.branch [
             | in-Copies+in-Done w ↦ let alike : w.in-Copies.target ≡ target = cc w.in-Copies.is in
                 (w.in-Done.field-0, subst (λ x. state_of c.args.states.now x ≡ Done w.in-Done.field-0) alike w.in-Done.is)

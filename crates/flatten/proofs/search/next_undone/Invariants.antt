@@ -1,4 +1,4 @@
-use Rattle.flatten.specs.Searches.{IsDoneBefore}
+use Rattle.flatten.specs.inside.Searches.{IsDoneBefore}
 use Rattle.flatten.proofs.search.next_undone.Given as goal
 
 abbrev pub invariant-loop-place : goal.invariant-loop-place

@@ -1,5 +1,5 @@
 use Rattle.std.proofs.Common.{◌≡◌, ◌-◌, [], ◌∷◌, ◌++◌, take, vec_len, sym, ap, subst, ◌∙◌, arith}
-use Rattle.flatten.specs.Searches.{IsSearch}
+use Rattle.flatten.specs.inside.Searches.{IsSearch}
 use Rattle.flatten.proofs.SearchLaws.{begins_search, begins_keeping, ends_settled, ends_done}
 use Rattle.flatten.proofs.search.search.Goals as goal
 

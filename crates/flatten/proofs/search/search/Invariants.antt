@@ -1,5 +1,5 @@
-use Rattle.flatten.specs.Surveys.{KeepsDone}
-use Rattle.flatten.specs.Searches.{IsSearch, steps_left}
+use Rattle.flatten.specs.inside.Surveys.{KeepsDone}
+use Rattle.flatten.specs.inside.Searches.{IsSearch, steps_left}
 use Rattle.flatten.proofs.search.search.Given as goal
 
 abbrev pub invariant-loop-one : goal.invariant-loop-one

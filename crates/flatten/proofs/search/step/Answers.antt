@@ -1,12 +1,12 @@
 use Rattle.std.proofs.Common.{◌≡◌, ◌≤◌, ◌<◌, ◌∷◌, [], ◌++◌, length, set, sym, ap, subst, ◌∙◌, arith}
 use Rattle.std.proofs.Math.ListN.{length-set}
-use Rattle.flatten.specs.Parts.{AreBelow, LeadsTo, parts_at}
-use Rattle.flatten.specs.Weights.{weight_over}
-use Rattle.flatten.specs.Surveys.{state_of}
-use Rattle.flatten.specs.Searches.{IsDoneBefore, IsSearch, steps_left}
+use Rattle.flatten.specs.inside.Parts.{AreBelow, LeadsTo, parts_at}
+use Rattle.flatten.specs.inside.Weights.{weight_over}
+use Rattle.flatten.specs.inside.Surveys.{state_of}
+use Rattle.flatten.specs.inside.Searches.{IsDoneBefore, IsSearch, steps_left}
 use Rattle.flatten.specs.declared.summary.Summary.{Summary}
 use Rattle.flatten.specs.declared.summary.State.TheVariants.{New, Open, Done}
-use Rattle.flatten.proofs.SearchLaws.{is_new, parts_read, weight_at, are_weighed, weigh_all, one_in_nodes, passed_over, chains_from_root, done_now, goes_on, keeps_done_pushed, fewer_left}
+use Rattle.flatten.proofs.SearchLaws.{is_new, weight_at, are_weighed, weigh_all, parts_last, passed_over, chains_from_root, done_now, goes_on, keeps_done_pushed, fewer_left}
 use Rattle.flatten.proofs.search.step.Goals as goal
 
 pub returns-in_default : goal.returns-in_default
@@ -19,53 +19,57 @@ returns-in_default c = record {
 
 pub next_undone-requires-clause-below : goal.next_undone-requires-clause-below
 next_undone-requires-clause-below c =
-    let parts = parts_read c.args.nodes.now c.args.one c.index-nodes-one.result c.as_slice-parts.result.now c.as_slice-parts.ensures.value (one_in_nodes c.args.nodes.now c.args.root c.args.states.now c.args.stack.now.items c.args.one c.requires.search) c.index-nodes-one.is in
+    let parts = parts_last c.args.nodes.now c.args.root _ c.args.stack.now.items c.args.one c.requires.search _ _ c.as_slice-parts.ensures.value c.index-nodes-one.is in
     subst (λ count. AreBelow count c.as_slice-parts.result.now) (sym c.requires.search.long) (subst (AreBelow (length c.args.nodes.now)) (sym parts) (c.requires.below c.args.one))
 
 pub next_undone-requires-clause-before : goal.next_undone-requires-clause-before
 next_undone-requires-clause-before c =
-    let parts = parts_read c.args.nodes.now c.args.one c.index-nodes-one.result c.as_slice-parts.result.now c.as_slice-parts.ensures.value (one_in_nodes c.args.nodes.now c.args.root c.args.states.now c.args.stack.now.items c.args.one c.requires.search) c.index-nodes-one.is in
+    let parts = parts_last c.args.nodes.now c.args.root _ c.args.stack.now.items c.args.one c.requires.search _ _ c.as_slice-parts.ensures.value c.index-nodes-one.is in
     subst (λ p. IsDoneBefore c.args.states.now p c.in-Open.next) (sym parts) (c.requires.search.done_before c.args.one c.in-Open.next c.in-Open.is)
 
 pub summary_of-requires : goal.summary_of-requires
 summary_of-requires c =
-    let parts = parts_read c.args.nodes.now c.args.one c.index-nodes-one.result c.as_slice-parts.result.now c.as_slice-parts.ensures.value (one_in_nodes c.args.nodes.now c.args.root c.args.states.now c.args.stack.now.items c.args.one c.requires.search) c.index-nodes-one.is in
+    let parts = parts_last c.args.nodes.now c.args.root _ c.args.stack.now.items c.args.one c.requires.search _ _ c.as_slice-parts.ensures.value c.index-nodes-one.is in
     subst (λ count. AreBelow count c.as_slice-parts.result.now) (sym c.requires.search.long) (subst (AreBelow (length c.args.nodes.now)) (sym parts) (c.requires.below c.args.one))
 
 pub bounds-in-Some : goal.bounds-in-Some
 bounds-in-Some c =
-    let parts = parts_read c.args.nodes.now c.args.one c.index-nodes-one.result c.as_slice-parts.result.now c.as_slice-parts.ensures.value (one_in_nodes c.args.nodes.now c.args.root c.args.states.now c.args.stack.now.items c.args.one c.requires.search) c.index-nodes-one.is in
+    let parts = parts_last c.args.nodes.now c.args.root _ c.args.stack.now.items c.args.one c.requires.search _ _ c.as_slice-parts.ensures.value c.index-nodes-one.is in
     let leads = c.in-Some.ensures.leads in
     let h : c.in-Some.other < length c.args.nodes.now = subst (AreBelow (length c.args.nodes.now)) (sym parts) (c.requires.below c.args.one) leads.0 c.in-Some.other leads.1 in
     omega (arith, c.requires.search.long)
 
 pub bounds-states-other : goal.bounds-states-other
 bounds-states-other c =
-    let parts = parts_read c.args.nodes.now c.args.one c.index-nodes-one.result c.as_slice-parts.result.now c.as_slice-parts.ensures.value (one_in_nodes c.args.nodes.now c.args.root c.args.states.now c.args.stack.now.items c.args.one c.requires.search) c.index-nodes-one.is in
+    let parts = parts_last c.args.nodes.now c.args.root _ c.args.stack.now.items c.args.one c.requires.search _ _ c.as_slice-parts.ensures.value c.index-nodes-one.is in
     let leads = c.in-Some.ensures.leads in
     let h : c.in-Some.other < length c.args.nodes.now = subst (AreBelow (length c.args.nodes.now)) (sym parts) (c.requires.below c.args.one) leads.0 c.in-Some.other leads.1 in
     omega (arith, c.requires.search.long, length-set c.args.states.now c.args.one (Open c.in-Some.place))
 
 pub returns-in-Open-states-clause-cycle : goal.returns-in-Open-states-clause-cycle
 returns-in-Open-states-clause-cycle c =
-    let parts = parts_read c.args.nodes.now c.args.one c.index-nodes-one.result c.as_slice-parts.result.now c.as_slice-parts.ensures.value (one_in_nodes c.args.nodes.now c.args.root c.args.states.now c.args.stack.now.items c.args.one c.requires.search) c.index-nodes-one.is in
+    let parts = parts_last c.args.nodes.now c.args.root _ c.args.stack.now.items c.args.one c.requires.search _ _ c.as_slice-parts.ensures.value c.index-nodes-one.is in
     chains_from_root c.args.nodes.now c.args.root c.args.states.now c.args.stack.now.items c.args.one c.requires.search c.in-Some.other c.in-Open-states.field-0
     (subst (λ p. LeadsTo p c.in-Some.other) parts c.in-Some.ensures.leads) c.in-Open-states.is
 
 pub returns-in-None-clause-search : goal.returns-in-None-clause-search
 returns-in-None-clause-search c =
-    let parts = parts_read c.args.nodes.now c.args.one c.index-nodes-one.result c.as_slice-parts.result.now c.as_slice-parts.ensures.value (one_in_nodes c.args.nodes.now c.args.root c.args.states.now c.args.stack.now.items c.args.one c.requires.search) c.index-nodes-one.is in
+    let parts = parts_last c.args.nodes.now c.args.root _ c.args.stack.now.items c.args.one c.requires.search _ _ c.as_slice-parts.ensures.value c.index-nodes-one.is in
     let nodes = c.args.nodes.now in
     let states = c.args.states.now in
     let these = c.as_slice-parts.result.now in
     let true_so_far = c.requires.search.are_true in
     done_now nodes c.args.root states c.args.stack.now.items c.args.one c.requires.search c.summary_of.result
-    (λ s done. let was = c.in-Open.is in cc done)
-    (weight_over (weight_at nodes states true_so_far) these, weigh_all nodes states true_so_far these c.in-None.ensures.none c.args.one parts, c.summary_of.ensures (weight_at nodes states true_so_far) (are_weighed nodes states true_so_far these c.in-None.ensures.none))
+    (λ s done. let was = c.in-Open.is in cc done) (
+      weight_over (weight_at nodes states true_so_far) these,
+      weigh_all nodes states true_so_far these c.in-None.ensures.none c.args.one parts,
+      c.summary_of.ensures (weight_at nodes states true_so_far)
+          (are_weighed nodes states true_so_far these c.in-None.ensures.none),
+    )
 
 pub returns-in_ok-push-in-Some-2 : goal.returns-in_ok-push-in-Some-2
 returns-in_ok-push-in-Some-2 c =
-    let parts = parts_read c.args.nodes.now c.args.one c.index-nodes-one.result c.as_slice-parts.result.now c.as_slice-parts.ensures.value (one_in_nodes c.args.nodes.now c.args.root c.args.states.now c.args.stack.now.items c.args.one c.requires.search) c.index-nodes-one.is in
+    let parts = parts_last c.args.nodes.now c.args.root _ c.args.stack.now.items c.args.one c.requires.search _ _ c.as_slice-parts.ensures.value c.index-nodes-one.is in
     let nodes = c.args.nodes.now in
     let states = c.args.states.now in
     let stack = c.args.stack.now.items in
@@ -78,7 +82,8 @@ returns-in_ok-push-in-Some-2 c =
     let done : IsDoneBefore states (parts_at nodes c.args.one) place = subst (λ p. IsDoneBefore states p place) parts c.in-Some.ensures.before in
     let not_done = λ (s : Summary) (e : state_of states c.args.one ≡ Done s). let was = c.in-Open.is in let no : ⊥ = cc e in no in
     let not_new = λ (e : state_of states c.args.one ≡ New). let was = c.in-Open.is in let no : ⊥ = cc e in no in
-    let items : (stack ++ c.args.one ∷ []) ++ other ∷ [] ≡ c.push-in-Some.new.self.items = ap (λ l. l ++ other ∷ []) (sym c.in_ok-push-in-Some.ensures.items) ∙ sym c.in_ok-push-in-Some-2.ensures.items in
+    let items : (stack ++ c.args.one ∷ []) ++ other ∷ [] ≡ c.push-in-Some.new.self.items = ap (λ l. l ++ other ∷ []) (sym c.in_ok-push-in-Some.ensures.items)
+    ∙ sym c.in_ok-push-in-Some-2.ensures.items in
     record {
       search = subst (IsSearch nodes c.args.root (set (set states c.args.one (Open place)) other (Open 0))) items
           (goes_on nodes c.args.root states stack c.args.one c.requires.search other place not_done new within leads_on done not_new);

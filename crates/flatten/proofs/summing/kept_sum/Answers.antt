@@ -1,5 +1,5 @@
 use Rattle.std.proofs.Common.{◌+◌, ◌*◌, ap, ◌∙◌}
-use Rattle.flatten.specs.Weights.{kept_of}
+use Rattle.flatten.specs.inside.Weights.{kept_of}
 use Rattle.flatten.proofs.KeptLaws.{kept_total}
 use Rattle.flatten.proofs.summing.kept_sum.Goals as goal
 

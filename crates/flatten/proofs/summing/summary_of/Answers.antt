@@ -1,5 +1,5 @@
 use Rattle.std.proofs.Common.{subst, arith}
-use Rattle.flatten.specs.Weights.{IsKept, both_weights, no_weight, weight_of, weight_over}
+use Rattle.flatten.specs.inside.Weights.{IsKept, both_weights, no_weight, weight_of, weight_over}
 use Rattle.flatten.proofs.WeightLaws.{nothing_first, weight_more, weight_all, below_one, weighed_one}
 use Rattle.flatten.proofs.summing.summary_of.Goals as goal
 
@@ -12,8 +12,11 @@ with_part-summary-requires c = below_one c.args.parts.now c.loop-part.part-index
 pub loop-part-preserved : goal.loop-part-preserved
 loop-part-preserved c of weighed =
     let before = c.loop-part.invariant of weighed in
-    let one = weighed_one c.args.parts.now c.loop-part.part-index c.part-item.result c.loop-part-test.true c.part-item.is c.args.states.now of weighed in
-    (both_weights before.0 (weight_of of c.part-item.result), c.with_part-summary.ensures of before.0 one before.1, weight_more of c.args.parts.now c.loop-part.part-index before.0 _ before.2 c.part-item.result c.loop-part-test.true c.part-item.is)
+    let one = weighed_one c.args.parts.now c.loop-part.part-index c.part-item.result c.loop-part-test.true c.part-item.is c.args.states.now of weighed in (
+      both_weights before.0 (weight_of of c.part-item.result),
+      c.with_part-summary.ensures of before.0 one before.1,
+      weight_more of c.args.parts.now c.loop-part.part-index before.0 _ before.2 c.part-item.result c.loop-part-test.true c.part-item.is,
+    )
 
 pub returns : goal.returns
 returns c of weighed =

@@ -1,6 +1,6 @@
 use Rattle.std.proofs.Common.{ℕ, ◌≡◌, drop}
-use Rattle.flatten.specs.Weights.{Weight, IsKept, both_weights, weight_over}
-use Rattle.flatten.specs.Surveys.{AreWeighed}
+use Rattle.flatten.specs.inside.Weights.{Weight, IsKept, both_weights, weight_over}
+use Rattle.flatten.specs.inside.Surveys.{AreWeighed}
 use Rattle.flatten.proofs.summing.summary_of.Given as goal
 
 abbrev pub invariant-loop-part : goal.invariant-loop-part

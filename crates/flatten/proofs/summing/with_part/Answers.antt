@@ -1,7 +1,7 @@
 use Rattle.std.proofs.Common.{◌≡◌, [], subst}
-use Rattle.flatten.specs.Weights.{IsKept}
-use Rattle.flatten.proofs.ListLaws.{Contains-head}
+use Rattle.flatten.specs.inside.Weights.{IsKept}
 use Rattle.flatten.proofs.summing.with_part.Goals as goal
+use Rattle.lists.proofs.Containing.{Contains-head}
 
 pub bounds-states-target : goal.bounds-states-target
 bounds-states-target c = let below = rw c.in-Copies.is at c.requires in below c.in-Copies.reference c.in-Copies.target (Contains-head _ [])

@@ -1,5 +1,5 @@
 use Rattle.std.proofs.Common.{◌+◌, ◌*◌, ◌≡◌, refl, ap, ◌∙◌, arith}
-use Rattle.flatten.specs.Weights.{kept_of}
+use Rattle.flatten.specs.inside.Weights.{kept_of}
 use Rattle.flatten.proofs.KeptLaws.{stands_for}
 use Rattle.flatten.proofs.summing.with_shape.Goals as goal
 

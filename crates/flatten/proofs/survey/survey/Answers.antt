@@ -1,19 +1,18 @@
-use Rattle.std.proofs.Common.{◌≡◌, length, refl, sym, ap, ◌∙◌, inl, inr, arith}
+use Rattle.std.proofs.Common.{◌≡◌, length, sym, ap, ◌∙◌, inl, inr, arith}
 use Rattle.std.proofs.lemmas.Bool.{cases_lt}
-use Rattle.std.proofs.lemmas.Option.{slice_get_read}
-use Rattle.flatten.specs.Surveys.{state_of}
+use Rattle.flatten.specs.inside.Surveys.{state_of}
 use Rattle.flatten.specs.declared.fault.PlaceFault.TheVariants.{Cycle}
-use Rattle.flatten.proofs.ListLaws.{put_back}
+use Rattle.flatten.proofs.LimitLaws.{at_offset}
 use Rattle.flatten.proofs.survey.survey.Goals as goal
+use Rattle.lists.proofs.Reading.{put_back}
 
 pub returns-then-not-branch-clause-cycle : goal.returns-then-not-branch-clause-cycle
 returns-then-not-branch-clause-cycle c kept = record {
   root = c.loop-root.root;
-  structure = c.index-structures-root.result;
-  is_there = slice_get_read c.args.structures.now (length c.args.structures.now) c.loop-root.root c.index-structures-root.result refl c.loop-root-test.true c.index-structures-root.is;
+  is_there = c.loop-root-test.true;
   endless = rw c.if-not-branch.true at c.in_ok-survey_from.ensures.cycle;
   before = λ one h. let done = c.loop-root.invariant.done one h in let told = c.loop-root.invariant.settled.are_true one done.0 done.1 in (told.0, told.1);
-  is_its_fault = ap (λ s. Cycle s.at) (sym c.index-structures-root.is);
+  is_its_fault = ap Cycle (at_offset c.args.structures.now c.loop-root.root c.index-structures-root.result c.loop-root-test.true);
 }
 
 pub loop-root-preserved : goal.loop-root-preserved

@@ -1,5 +1,5 @@
 use Rattle.std.proofs.Common.{ℕ, ◌≡◌, ◌<◌, length}
-use Rattle.flatten.specs.Surveys.{AreSettled, state_of}
+use Rattle.flatten.specs.inside.Surveys.{AreSettled, state_of}
 use Rattle.flatten.specs.declared.summary.Summary.{Summary}
 use Rattle.flatten.specs.declared.summary.State.TheVariants.{Done}
 use Rattle.flatten.proofs.survey.survey.Given as goal

@@ -1,6 +1,6 @@
 use Rattle.std.proofs.Common.{ℕ, ◌<◌}
 use Rattle.std.specs.Prelude.{MatchOption}
-use Rattle.flatten.specs.Marks.{IsMarked, IsOnlyUnmarked}
+use Rattle.flatten.specs.inside.Marks.{IsMarked, IsOnlyUnmarked}
 use Rattle.flatten.proofs.tops.only_unmarked.Given as goal
 
 abbrev pub invariant-loop-number : goal.invariant-loop-number

@@ -40,7 +40,8 @@ returns-clause-found c =
     let even : n % 2 ≡ 0 = omega arith in
     record {
       place = refl;
-      in_profile = IsInProfile-entry_at rest n bytes c.read_u16-len.ensures c.if-len-lt4.false even c.if-rest-end.false (c.in-Some.rule, c.in-Some.ensures.some, c.takes_size.ensures.0 c.if-not-takes_size.false);
+      in_profile = IsInProfile-entry_at rest n bytes c.read_u16-len.ensures c.if-len-lt4.false even c.if-rest-end.false
+          (c.in-Some.rule, c.in-Some.ensures.some, c.takes_size.ensures.0 c.if-not-takes_size.false);
       after = drop n rest;
       parts = spelling-entry_at rest n bytes c.read_u16-len.ensures c.if-len-lt4.false c.if-rest-end.false;
     }

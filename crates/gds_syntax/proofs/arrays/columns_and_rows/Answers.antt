@@ -1,6 +1,6 @@
 use Rattle.std.proofs.Common.{arith}
 use Rattle.gds_records.specs.Reading.{entry_of}
-use Rattle.gds_syntax.proofs.SizeLaws.{colrow_has_four}
+use Rattle.library_grammar.proofs.SizeLaws.{colrow_has_four}
 use Rattle.gds_syntax.proofs.arrays.columns_and_rows.Goals as goal
 
 pub i16_at-requires : goal.i16_at-requires

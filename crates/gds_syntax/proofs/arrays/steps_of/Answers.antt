@@ -1,7 +1,7 @@
 use Rattle.std.proofs.Common.{◌≡◌, ◌∙◌, ℤ, sym, to_z, of_z, w16}
 use Rattle.std.proofs.lemmas.Int.{to_z-of_z}
-use Rattle.gds_syntax.specs.OwnRecords.{columns_of, rows_of, HasSteps}
-use Rattle.gds_syntax.specs.Ranges.{IsStep}
+use Rattle.library_grammar.specs.OwnRecords.{columns_of, rows_of, HasSteps}
+use Rattle.library_model.specs.Ranges.{IsStep}
 use Rattle.gds_syntax.proofs.ArrayLaws.{leads_alike}
 use Rattle.gds_syntax.proofs.StepLaws.{both_there, one_lacks}
 use Rattle.gds_syntax.proofs.arrays.steps_of.Goals as goal
@@ -16,8 +16,7 @@ told_rows c = to_z-of_z w16 c.args.rows c.ranges.rows ∙ c.requires.rows
 pub returns-clause-steps : goal.returns-clause-steps
 returns-clause-steps c =
     rw c.zip.ensures (both_there c.step_between.result c.step_between-2.result _ _ (λ steps. HasSteps c.args.own.now steps.0 steps.1)
-    c.step_between.ensures.leads c.step_between-2.ensures.leads
-    (λ column_step row_step columns rows. record {
+    c.step_between.ensures.leads c.step_between-2.ensures.leads (λ column_step row_step columns rows. record {
       columns = leads_alike _ _ _ _ _ _ column_step (told_columns c) c.point_of-origin.ensures c.point_of.ensures columns;
       rows = leads_alike _ _ _ _ _ _ row_step (told_rows c) c.point_of-origin.ensures c.point_of-2.ensures rows;
     }))
@@ -30,8 +29,7 @@ returns-clause-short c =
 pub returns-clause-none : goal.returns-clause-none
 returns-clause-none c =
     rw c.zip.ensures (one_lacks c.step_between.result c.step_between-2.result _ _ ((column_step row_step : ℤ × ℤ) → HasSteps c.args.own.now column_step row_step → ⊥)
-    c.step_between.ensures.none c.step_between-2.ensures.none
-    (λ none column_step row_step steps. none column_step
+    c.step_between.ensures.none c.step_between-2.ensures.none (λ none column_step row_step steps. none column_step
     (leads_alike _ _ _ _ _ _ column_step (sym (told_columns c)) (sym c.point_of-origin.ensures) (sym c.point_of.ensures) steps.columns))
     (λ none column_step row_step steps. none row_step
     (leads_alike _ _ _ _ _ _ row_step (sym (told_rows c)) (sym c.point_of-origin.ensures) (sym c.point_of-2.ensures) steps.rows)))

@@ -1,4 +1,4 @@
-use Rattle.gds_syntax.specs.ElementKinds.{form_for}
+use Rattle.gds_syntax.specs.inside.ElementKinds.{form_for}
 use Rattle.gds_syntax.proofs.CheckLaws.{first_needed_are_there, needed_are_there, first_missing}
 use Rattle.gds_syntax.proofs.checks.check_required.Goals as goal
 

@@ -1,6 +1,6 @@
 use Rattle.std.proofs.Common.{take}
 use Rattle.std.specs.Prelude.{All, Contains}
-use Rattle.gds_syntax.specs.Shape.{kinds_of}
+use Rattle.library_grammar.specs.Grammar.{kinds_of}
 use Rattle.gds_syntax.proofs.checks.check_required.Given as goal
 
 abbrev pub invariant-loop-needed : goal.invariant-loop-needed

@@ -1,50 +1,47 @@
-use Rattle.std.proofs.Common.{[], ◌∷◌, ◌++◌, refl, sym, ap, ◌∙◌, subst, length}
-use Rattle.gds_records.specs.Kinds as kind
+use Rattle.std.proofs.Common.{[], refl, sym, ap, ◌∙◌, subst, length}
+use Rattle.gds_records.specs.declared.kinds.TheConstants as kind
 use Rattle.gds_records.specs.Reading.{entry_of}
-use Rattle.gds_records.specs.Spelling.{AreBytes}
-use Rattle.gds_syntax.specs.Places.{before_header, before_bgnlib, before_name, before_units, between_structures}
-use Rattle.gds_syntax.specs.Readers.{standing, ReadsHead}
+use Rattle.lists.specs.ByteLists.{AreBytes}
+use Rattle.library_grammar.specs.Places.{before_header, before_bgnlib, before_name, before_units, between_structures}
+use Rattle.gds_syntax.specs.LibraryReaders.{standing, ReadsHead}
 use Rattle.gds_syntax.proofs.HeadLaws.{text_fits, begins, names, reads_head}
-use Rattle.gds_syntax.proofs.PlainKinds.{plain}
-use Rattle.gds_syntax.proofs.ReaderLaws.{handed_on, stops_later, advances_kind, only_one}
-use Rattle.gds_syntax.proofs.SizeLaws.{units_has_sixteen}
+use Rattle.library_grammar.proofs.PlainKinds.{plain}
+use Rattle.first_refusal.proofs.AnswerLaws.{error_handed_on}
+use Rattle.gds_syntax.proofs.ReaderLaws.{stops_later, advances_kind, only_one}
+use Rattle.library_grammar.proofs.SizeLaws.{units_has_sixteen}
 use Rattle.gds_syntax.proofs.head.read_head.Goals as goal
 
 pub returns-in_err-_version-clause-faulty : goal.returns-in_err-_version-clause-faulty
 returns-in_err-_version-clause-faulty c =
-    handed_on c.from_residual.result c.in_err-_version.field-0.0 _ c.from_residual.ensures.1 (λ _. c.in_err-_version.ensures.faulty (standing before_header []) (only_one kind.header before_bgnlib))
+    error_handed_on c.from_residual.result c.in_err-_version.field-0.0 _ c.from_residual.ensures.1
+    (λ _. c.in_err-_version.ensures.faulty (standing before_header []) (only_one kind.HEADER before_bgnlib))
 
 pub returns-in_err-_dates-clause-faulty : goal.returns-in_err-_dates-clause-faulty
 returns-in_err-_dates-clause-faulty c =
-    handed_on c.from_residual-in_err-_dates.result c.in_err-_dates.field-0.0 _ c.from_residual-in_err-_dates.ensures.1 (λ _.
-    stops_later c.args.records.now c.expect.new.records (standing before_header []) (standing before_bgnlib []) (entry_of c.in_ok-_version._version ∷ []) c.in_err-_dates.field-0.0
-    (advances_kind c.args.records.now c.expect.new.records c.in_ok-_version._version kind.header before_header before_bgnlib [] c.in_ok-_version.ensures.found c.in_ok-_version.ensures.of_kind refl (plain kind.header refl))
-    (c.in_err-_dates.ensures.faulty (standing before_bgnlib []) (only_one kind.bgnlib before_name)))
+    error_handed_on c.from_residual-in_err-_dates.result c.in_err-_dates.field-0.0 _ c.from_residual-in_err-_dates.ensures.1 (λ _. stops_later
+    (advances_kind kind.HEADER before_header before_bgnlib [] c.in_ok-_version.ensures.found c.in_ok-_version.ensures.of_kind refl (plain kind.HEADER refl))
+    (c.in_err-_dates.ensures.faulty (standing before_bgnlib []) (only_one kind.BGNLIB before_name)))
 
 pub returns-in_err-name-clause-faulty : goal.returns-in_err-name-clause-faulty
 returns-in_err-name-clause-faulty c =
-    let begun = begins c.args.records.now c.expect.new.records c.expect-2.new.records c.in_ok-_version._version c.in_ok-_dates._dates c.in_ok-_version.ensures.found c.in_ok-_version.ensures.of_kind c.in_ok-_dates.ensures.found c.in_ok-_dates.ensures.of_kind in
-    handed_on c.from_residual-in_err-name.result c.in_err-name.field-0.0 _ c.from_residual-in_err-name.ensures.1 (λ _.
-    stops_later c.args.records.now c.expect-2.new.records (standing before_header []) (standing before_name []) (entry_of c.in_ok-_version._version ∷ entry_of c.in_ok-_dates._dates ∷ []) c.in_err-name.field-0.0
+    let begun = begins c.in_ok-_version.ensures.found c.in_ok-_version.ensures.of_kind c.in_ok-_dates.ensures.found c.in_ok-_dates.ensures.of_kind in
+    error_handed_on c.from_residual-in_err-name.result c.in_err-name.field-0.0 _ c.from_residual-in_err-name.ensures.1 (λ _. stops_later
     begun (c.in_err-name.ensures.faulty (standing before_name []) before_units (λ k. refl)))
 
 pub returns-in_err-found-clause-faulty : goal.returns-in_err-found-clause-faulty
 returns-in_err-found-clause-faulty c =
-    let begun = begins c.args.records.now c.expect.new.records c.expect-2.new.records c.in_ok-_version._version c.in_ok-_dates._dates c.in_ok-_version.ensures.found c.in_ok-_version.ensures.of_kind c.in_ok-_dates.ensures.found c.in_ok-_dates.ensures.of_kind in
-    handed_on c.from_residual-in_err-found.result c.in_err-found.field-0.0 _ c.from_residual-in_err-found.ensures.1 (λ _.
-    stops_later c.args.records.now c.behind_head_records.new.records (standing before_header []) (standing before_units [])
-    (entry_of c.in_ok-_version._version ∷ entry_of c.in_ok-_dates._dates ∷ c.in_ok-name.ensures.found.front ++ entry_of c.in_ok-name.name ∷ []) c.in_err-found.field-0.0
-    (names c.args.records.now c.expect-2.new.records c.behind_head_records.new.records c.in_ok-_version._version c.in_ok-_dates._dates c.in_ok-name.name begun c.in_ok-name.ensures.found)
-    (c.in_err-found.ensures.faulty (standing before_units []) between_structures (λ k. refl)))
+    let begun = begins c.in_ok-_version.ensures.found c.in_ok-_version.ensures.of_kind c.in_ok-_dates.ensures.found c.in_ok-_dates.ensures.of_kind in
+    error_handed_on c.from_residual-in_err-found.result c.in_err-found.field-0.0 _ c.from_residual-in_err-found.ensures.1 (λ _. stops_later
+    (names c.in_ok-_version._version c.in_ok-_dates._dates begun c.in_ok-name.ensures.found) (c.in_err-found.ensures.faulty (standing before_units []) between_structures (λ k. refl)))
 
 pub copy_from_slice-requires : goal.copy_from_slice-requires
 copy_from_slice-requires c = sym (units_has_sixteen (entry_of c.in_ok-found.found) c.in_ok-found.ensures.found.in_profile c.in_ok-found.ensures.found.of_kind)
 
 pub returns-clause-head : goal.returns-clause-head
 returns-clause-head c =
-    let begun = begins c.args.records.now c.expect.new.records c.expect-2.new.records c.in_ok-_version._version c.in_ok-_dates._dates c.in_ok-_version.ensures.found c.in_ok-_version.ensures.of_kind c.in_ok-_dates.ensures.found c.in_ok-_dates.ensures.of_kind in
+    let begun = begins c.in_ok-_version.ensures.found c.in_ok-_version.ensures.of_kind c.in_ok-_dates.ensures.found c.in_ok-_dates.ensures.of_kind in
     let all : ReadsHead c.args.records.now c.behind_head_records-2.new.records c.text.result.now c.in_ok-found.found.body.now =
-    reads_head c.args.records.now c.expect-2.new.records c.behind_head_records.new.records c.behind_head_records-2.new.records c.in_ok-_version._version c.in_ok-_dates._dates c.in_ok-name.name c.in_ok-found.found c.text.result.now
+    reads_head c.in_ok-_version._version c.in_ok-_dates._dates c.text.result.now
     c.in_ok-_version.ensures.of_kind c.in_ok-_dates.ensures.of_kind begun c.in_ok-name.ensures.found c.text.ensures c.in_ok-found.ensures.found in
     rw (c.from_vec.ensures, c.in_ok-name-2.ensures.items, c.copy_from_slice.ensures.after) all
 

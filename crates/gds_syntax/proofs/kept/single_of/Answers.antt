@@ -1,20 +1,17 @@
-use Rattle.std.proofs.Common.{Some}
-use Rattle.gds_records.specs.Kinds as kind
-use Rattle.gds_syntax.specs.ElementChecks.{reference_checks, passes, fails}
-use Rattle.gds_syntax.specs.Elements.{IsKept, sref}
-use Rattle.gds_syntax.specs.declared.element.Element.TheVariants.{Reference}
-use Rattle.gds_syntax.proofs.JudgedLaws.{exit_with_memory, exit_with_fault}
+use Rattle.library_grammar.specs.Elements.{sref}
+use Rattle.first_refusal.specs.Answers.{gives, refuses}
+use Rattle.first_refusal.specs.Checks.{all_hold, one_fails}
+use Rattle.first_refusal.proofs.AnswerLaws.{handed_on, out_of_memory}
+use Rattle.library_grammar.specs.declared.fault.SyntaxFault.TheVariants.{Memory}
 use Rattle.gds_syntax.proofs.kept.single_of.Goals as goal
 
 pub returns-in_err-turn : goal.returns-in_err-turn
 returns-in_err-turn c =
-    exit_with_fault c.args.at c.args.own.now reference_checks (λ single. IsKept c.args.at c.args.own.now kind.sref (Some (Reference single)))
-    c.from_residual.result c.in_err-turn.field-0.0 c.from_residual.ensures.1 (fails c.in_err-turn.ensures.failed)
+    handed_on Memory _ c.from_residual.result c.in_err-turn.field-0.0 c.from_residual.ensures.1 (refuses (one_fails c.in_err-turn.ensures.failed))
 
 pub returns-in_err-reference_of : goal.returns-in_err-reference_of
 returns-in_err-reference_of c =
-    exit_with_memory c.args.at c.args.own.now reference_checks (λ single. IsKept c.args.at c.args.own.now kind.sref (Some (Reference single)))
-    c.from_residual-in_err-reference_of.result c.from_residual-in_err-reference_of.ensures.1
+    out_of_memory Memory _ c.from_residual-in_err-reference_of.result c.from_residual-in_err-reference_of.ensures.1
 
 pub returns : goal.returns
-returns c = passes c.in_ok-turn.ensures.passed (sref c.in_ok-reference_of.ensures.reference c.in_ok-reference_of.ensures.repeated)
+returns c = gives (all_hold c.in_ok-turn.ensures.passed (sref c.in_ok-reference_of.ensures.reference c.in_ok-reference_of.ensures.repeated))

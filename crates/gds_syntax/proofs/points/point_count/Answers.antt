@@ -1,4 +1,4 @@
-use Rattle.gds_syntax.proofs.PointLaws.{count_of_xy}
+use Rattle.library_grammar.proofs.PointLaws.{count_of_xy}
 use Rattle.gds_syntax.proofs.points.point_count.Goals as goal
 
 pub returns-in-Some : goal.returns-in-Some

@@ -1,4 +1,4 @@
-use Rattle.gds_syntax.proofs.PointLaws.{item_of_xy}
+use Rattle.library_grammar.proofs.PointLaws.{item_of_xy}
 use Rattle.gds_syntax.proofs.points.point_of.Goals as goal
 
 pub point_at-requires : goal.point_at-requires

@@ -3,4 +3,4 @@ use Rattle.gds_syntax.proofs.records.expect.Goals as goal
 
 pub returns-then-found-kind-clause-faulty : goal.returns-then-found-kind-clause-faulty
 returns-then-found-kind-clause-faulty c = λ from only.
-    rw (c.unexpected.ensures) (stops_unexpected c.args.records.now c.next_record.new.records from c.in_ok-found.found c.in_ok-found.ensures.found (only c.in_ok-found.found.kind c.if-found-kind.true))
+    rw (c.unexpected.ensures) (stops_unexpected from c.in_ok-found.ensures.found (only c.in_ok-found.found.kind c.if-found-kind.true))

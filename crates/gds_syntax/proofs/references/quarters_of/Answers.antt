@@ -2,7 +2,7 @@ use Rattle.std.proofs.Common.{arith, pos, SFits, w64, rules}
 use Rattle.std.proofs.lemmas.Int.{to_z-of_z}
 use Rattle.gds_records.specs.Reading.{entry_of}
 use Rattle.gds_syntax.proofs.QuarterLaws.{no_turn}
-use Rattle.gds_syntax.proofs.SizeLaws.{angle_has_eight}
+use Rattle.library_grammar.proofs.SizeLaws.{angle_has_eight}
 use Rattle.gds_syntax.proofs.TurnLaws.{no_quarters_of_body, none_is_no_angle}
 use Rattle.gds_syntax.proofs.references.quarters_of.Goals as goal
 

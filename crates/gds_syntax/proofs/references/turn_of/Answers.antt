@@ -1,4 +1,4 @@
-use Rattle.gds_syntax.proofs.SizeLaws.{strans_has_two}
+use Rattle.library_grammar.proofs.SizeLaws.{strans_has_two}
 use Rattle.gds_syntax.proofs.TurnLaws.{reference_checks_hold, fault_where_magnified, fault_where_absolute, fault_where_bad}
 use Rattle.gds_syntax.proofs.references.turn_of.Goals as goal
 

@@ -1,4 +1,4 @@
-use Rattle.gds_syntax.proofs.SizeLaws.{pathtype_has_two, width_has_four, bgnextn_has_four, endextn_has_four}
+use Rattle.library_grammar.proofs.SizeLaws.{pathtype_has_two, width_has_four, bgnextn_has_four, endextn_has_four}
 use Rattle.gds_syntax.proofs.shapes.path_kind_of.Goals as goal
 
 pub i16_in-requires : goal.i16_in-requires

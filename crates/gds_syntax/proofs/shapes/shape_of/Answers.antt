@@ -1,7 +1,7 @@
 use Rattle.std.proofs.Common.{sym, subst}
-use Rattle.gds_syntax.specs.Ranges.{ArePoints}
-use Rattle.gds_syntax.proofs.PointLaws.{are_points}
-use Rattle.gds_syntax.proofs.SizeLaws.{layer_has_two}
+use Rattle.library_model.specs.Ranges.{ArePoints}
+use Rattle.library_grammar.proofs.PointLaws.{are_points}
+use Rattle.library_grammar.proofs.SizeLaws.{layer_has_two}
 use Rattle.gds_syntax.proofs.shapes.shape_of.Goals as goal
 
 pub u16_in-requires : goal.u16_in-requires

@@ -13,4 +13,5 @@ loop-point-preserved c =
 
 pub returns : goal.returns
 returns c =
-    points_written c.args.points.now c.loop-point.point-index _ c.args.out.now.items c.write_head.new.out.items c.loop-point.out.items c.loop-point-test.false refl c.in_ok-write_head.ensures c.loop-point.invariant
+    points_written c.args.points.now c.loop-point.point-index _ c.args.out.now.items c.write_head.new.out.items c.loop-point.out.items c.loop-point-test.false refl c.in_ok-write_head.ensures
+    c.loop-point.invariant

@@ -1,7 +1,7 @@
 use Rattle.std.proofs.lemmas.Result.{IfOk-weaker}
 use Rattle.gds_write.specs.Bodies.{unsigned_entry, points_entry}
 use Rattle.gds_write.specs.Written.{path_records}
-use Rattle.gds_records.specs.Kinds as kind
+use Rattle.gds_records.specs.declared.kinds.TheConstants as kind
 use Rattle.gds_write.proofs.WriteLaws.{enclosed_by_two}
 use Rattle.gds_write.proofs.elements.write_shape.Goals as goal
 
@@ -13,6 +13,6 @@ returns c =
     IfOk-weaker c.write_points.result _ _
     (λ (u : Unit {0}) h.
     enclosed_by_two c.args.out.now.items c.write_unsigned.new.out.items c.write_unsigned-2.new.out.items c.write_path.new.out.items c.write_points.new.out.items
-    (unsigned_entry kind.layer shape.layer) (unsigned_entry _ shape.datatype) (points_entry shape.points) (path_records shape.kind)
+    (unsigned_entry kind.LAYER shape.layer) (unsigned_entry _ shape.datatype) (points_entry shape.points) (path_records shape.kind)
     c.in_ok-write_unsigned.ensures second c.in_ok-write_path.ensures h)
     last

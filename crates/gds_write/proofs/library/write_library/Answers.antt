@@ -1,7 +1,7 @@
 use Rattle.std.proofs.Common.{[], sym}
 use Rattle.std.specs.List.{flat_map}
 use Rattle.std.proofs.lemmas.List.{append-nil}
-use Rattle.gds_records.specs.Kinds as kind
+use Rattle.gds_records.specs.declared.kinds.TheConstants as kind
 use Rattle.gds_write.specs.Bodies.{bare}
 use Rattle.gds_write.specs.WellFormed.{IsWritableStructure}
 use Rattle.gds_write.specs.Written.{written_head, written_structure}
@@ -29,6 +29,6 @@ returns c =
     let library = c.args.library.now in
     let whole = rw c.as_slice-structure-items.ensures at c.loop-structure-test.false in
     enclosed [] c.write_library_head.new.out.items c.loop-structure.out.items c.write_bare.new.out.items (written_head library)
-    (flat_map written_structure library.structures) (bare kind.endlib) (rw c.new-out.ensures.items at c.in_ok-write_library_head.ensures)
+    (flat_map written_structure library.structures) (bare kind.ENDLIB) (rw c.new-out.ensures.items at c.in_ok-write_library_head.ensures)
     (all_written written_structure library.structures c.loop-structure.structure-index c.write_library_head.new.out.items c.loop-structure.out.items whole c.loop-structure.invariant)
     c.in_ok-write_bare.ensures

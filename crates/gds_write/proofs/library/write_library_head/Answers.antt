@@ -1,7 +1,7 @@
 use Rattle.std.proofs.Common.{[], ◌∷◌}
 use Rattle.std.proofs.lemmas.Result.{IfOk-weaker}
-use Rattle.gds_records.specs.Forms as form
-use Rattle.gds_records.specs.Kinds as kind
+use Rattle.gds_records.specs.declared.forms.TheConstants as form
+use Rattle.gds_records.specs.declared.kinds.TheConstants as kind
 use Rattle.gds_write.specs.Bodies.{entry, date_entry, text_entry, unsigned_entry}
 use Rattle.gds_write.proofs.WriteLaws.{appended, two_written}
 use Rattle.gds_write.proofs.library.write_library_head.Goals as goal
@@ -9,10 +9,10 @@ use Rattle.gds_write.proofs.library.write_library_head.Goals as goal
 pub returns : goal.returns
 returns c =
     let library = c.args.library.now in
-    let version = unsigned_entry kind.header 600 in
-    let begin = date_entry kind.bgnlib in
-    let name = text_entry kind.libname library.name in
-    let units = entry kind.units form.eight_byte_reals library.units in
+    let version = unsigned_entry kind.HEADER 600 in
+    let begin = date_entry kind.BGNLIB in
+    let name = text_entry kind.LIBNAME library.name in
+    let units = entry kind.UNITS form.EIGHT_BYTE_REALS library.units in
     let front = two_written c.args.out.now.items c.write_unsigned.new.out.items c.write_date.new.out.items version begin c.in_ok-write_unsigned.ensures c.in_ok-write_date.ensures in
     let named = rw c.as_slice.ensures at c.in_ok-write_text.ensures in
     IfOk-weaker c.write_record.result _ _

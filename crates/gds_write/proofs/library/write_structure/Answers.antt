@@ -2,7 +2,7 @@ use Rattle.std.proofs.Common.{sym}
 use Rattle.std.proofs.lemmas.List.{append-nil}
 use Rattle.std.proofs.lemmas.Result.{IfOk-weaker}
 use Rattle.std.specs.List.{flat_map}
-use Rattle.gds_records.specs.Kinds as kind
+use Rattle.gds_records.specs.declared.kinds.TheConstants as kind
 use Rattle.gds_write.specs.Bodies.{bare, date_entry, text_entry}
 use Rattle.gds_write.specs.WellFormed.{IsWritableElement}
 use Rattle.gds_write.specs.Written.{written_element}
@@ -33,6 +33,6 @@ returns c =
     IfOk-weaker c.write_bare.result _ _
     (λ (u : Unit {0}) h.
     enclosed_by_two c.args.out.now.items c.write_date.new.out.items c.write_text.new.out.items c.loop-element.out.items c.write_bare.new.out.items
-    (date_entry kind.bgnstr) (text_entry kind.strname structure.name) (bare kind.endstr) (flat_map written_element structure.elements)
+    (date_entry kind.BGNSTR) (text_entry kind.STRNAME structure.name) (bare kind.ENDSTR) (flat_map written_element structure.elements)
     c.in_ok-write_date.ensures (rw c.as_slice.ensures at c.in_ok-write_text.ensures) all h)
     c.write_bare.ensures

@@ -1,14 +1,14 @@
 use Rattle.std.proofs.Common.{refl}
 use Rattle.toml.specs.View.{view}
-use Rattle.layer_map.specs.CutChecks.{CutHolds, cut_fault, cut_keys, end_checks}
-use Rattle.layer_map.specs.LayerChecks.{LayerHolds, layer_checks, layer_fault}
-use Rattle.layer_map.proofs.CheckedLaws.{given, handed_on, passed, passes, unread}
+use Rattle.layer_map.specs.CutChecks.{CutHolds, cut_fault, end_checks}
+use Rattle.first_refusal.proofs.AnswerLaws.{handed_on}
+use Rattle.first_refusal.proofs.JudgeLaws.{given, passed, passes, unread}
 use Rattle.layer_map.proofs.CutLaws.{ends_decide, layer_is_table, layer_stops, takes_cut}
 use Rattle.layer_map.proofs.cuts.read_cut.Goals as goal
 
 pub returns-in_err-layer : goal.returns-in_err-layer
 returns-in_err-layer c items earlier have differ seen =
-    handed_on _ _ _ _ c.from_residual.result c.in_err-layer.field-0.0 c.from_residual.ensures.1
+    handed_on _ _ c.from_residual.result c.in_err-layer.field-0.0 c.from_residual.ensures.1
     (layer_stops items earlier (view c.args.item.now) c.args.path _ _ c.in_err-layer.field-0.0 (c.in_err-layer.ensures earlier seen))
 
 pub returns-in_err-lower : goal.returns-in_err-lower
@@ -16,7 +16,7 @@ returns-in_err-lower c items earlier have differ seen =
     let item = view c.args.item.now in
     let layer = c.in_ok-layer.ensures earlier seen in
     let some = layer_is_table items earlier item c.args.path _ c.in_ok-layer.layer layer in
-    handed_on _ _ _ _ c.from_residual-in_err-lower.result c.in_err-lower.field-0.0 c.from_residual-in_err-lower.ensures.1
+    handed_on _ _ c.from_residual-in_err-lower.result c.in_err-lower.field-0.0 c.from_residual-in_err-lower.ensures.1
     (ends_decide items earlier item c.args.path _ c.in_ok-layer.layer layer _ _ (unread _ _ _ _ _ c.in_err-lower.field-0.0 (c.in_err-lower.ensures.judged items earlier have differ some)))
 
 pub returns : goal.returns
@@ -27,7 +27,7 @@ returns c items earlier have differ seen =
     let ends = c.in_ok-lower.ensures.judged items earlier have differ some in
     let holds = CutHolds items earlier item in
     ends_decide items earlier item c.args.path _ c.in_ok-layer.layer layer _ _
-    (passes holds (cut_fault c.args.path) _ end_checks _ (passed holds (cut_fault c.args.path) _ end_checks _ ends)
+    (passes holds (cut_fault c.args.path) _ end_checks _ (passed ends)
     (takes_cut c.args.metals.now earlier item c.args.seen.now _ c.in_ok-layer.layer _
-    (given (LayerHolds cut_keys earlier item) (layer_fault c.args.path) _ layer_checks c.in_ok-layer.layer layer)
-    (given holds (cut_fault c.args.path) _ end_checks _ ends) refl refl))
+    (given layer)
+    (given ends) refl refl))

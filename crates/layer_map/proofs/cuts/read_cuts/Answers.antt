@@ -1,7 +1,7 @@
 use Rattle.std.proofs.Common.{◌++◌, take, arith}
 use Rattle.toml.specs.View.{table_view, view}
 use Rattle.layer_map.specs.Values.{cuts_in, metals_in}
-use Rattle.layer_map.proofs.CheckedLaws.{handed_on, out_of_memory}
+use Rattle.first_refusal.proofs.AnswerLaws.{handed_on}
 use Rattle.layer_map.proofs.CutLaws.{all_cuts, cut_stops, cuts_no_array, have_names, names_are_different, no_cut_yet, one_cut_more, too_many_cuts}
 use Rattle.layer_map.proofs.EachLaws.{shown_at}
 use Rattle.layer_map.proofs.MetalLaws.{count_of}
@@ -10,7 +10,7 @@ use Rattle.layer_map.proofs.cuts.read_cuts.Goals as goal
 pub returns-in_err-items : goal.returns-in_err-items
 returns-in_err-items c takes =
     let refused = c.in_err-items.ensures.refused in
-    handed_on _ _ _ _ c.from_residual.result c.in_err-items.field-0.0 c.from_residual.ensures.1 (rw refused.0 (cuts_no_array (table_view c.args.document.now) c.args.metals.now _ refused.1))
+    handed_on _ _ c.from_residual.result c.in_err-items.field-0.0 c.from_residual.ensures.1 (rw refused.0 (cuts_no_array (table_view c.args.document.now) c.args.metals.now _ refused.1))
 
 pub returns-then-items-gt-MOST_CUTS : goal.returns-then-items-gt-MOST_CUTS
 returns-then-items-gt-MOST_CUTS c takes =
@@ -30,12 +30,10 @@ returns-in_err-cut c takes =
     let number = c.loop-number.number in
     let far = c.loop-number.invariant takes in
     let there = shown_at view (cuts_in document) c.in_ok-items.items.now number c.index-items-number.result c.in_ok-items.ensures.items c.loop-number-test.true c.index-items-number.is in
-    let told = c.in_err-cut.ensures (metals_in document) (metals_in document ++ take number (cuts_in document)) (have_names document _ c.args.metals.now takes) (names_are_different document _ c.args.metals.now takes) far.are_seen in
-    handed_on _ _ _ _ c.from_residual-in_err-cut.result c.in_err-cut.field-0.0 c.from_residual-in_err-cut.ensures.1
+    let told = c.in_err-cut.ensures (metals_in document) (metals_in document ++ take number (cuts_in document)) (have_names document _ c.args.metals.now takes)
+    (names_are_different document _ c.args.metals.now takes) far.are_seen in
+    handed_on _ _ c.from_residual-in_err-cut.result c.in_err-cut.field-0.0 c.from_residual-in_err-cut.ensures.1
     (cut_stops document c.args.metals.now number (view c.index-items-number.result) there _ _ c.loop-number.cuts.items c.loop-number.seen c.in_err-cut.field-0.0 far (rw c.cut.ensures at told))
-
-pub returns-in_err-push : goal.returns-in_err-push
-returns-in_err-push c takes = out_of_memory _ _ _ _ c.from_residual-in_err-push.result c.from_residual-in_err-push.ensures.1
 
 pub loop-number-preserved : goal.loop-number-preserved
 loop-number-preserved c takes =
@@ -43,13 +41,16 @@ loop-number-preserved c takes =
     let number = c.loop-number.number in
     let far = c.loop-number.invariant takes in
     let there = shown_at view (cuts_in document) c.in_ok-items.items.now number c.index-items-number.result c.in_ok-items.ensures.items c.loop-number-test.true c.index-items-number.is in
-    let told = c.in_ok-cut.ensures (metals_in document) (metals_in document ++ take number (cuts_in document)) (have_names document _ c.args.metals.now takes) (names_are_different document _ c.args.metals.now takes) far.are_seen in
+    let told = c.in_ok-cut.ensures (metals_in document) (metals_in document ++ take number (cuts_in document)) (have_names document _ c.args.metals.now takes)
+    (names_are_different document _ c.args.metals.now takes) far.are_seen in
     rw c.in_ok-push.ensures.items
-    (one_cut_more document c.args.metals.now number (view c.index-items-number.result) there c.loop-number.cuts.items c.loop-number.seen c.read_cut.new.seen c.in_ok-cut.cut far (rw c.cut.ensures at told))
+    (one_cut_more document c.args.metals.now number (view c.index-items-number.result) there c.loop-number.cuts.items c.loop-number.seen c.read_cut.new.seen c.in_ok-cut.cut far
+    (rw c.cut.ensures at told))
 
 pub returns : goal.returns
 returns c takes =
     let document = table_view c.args.document.now in
     let count = count_of view (cuts_in document) c.in_ok-items.items.now c.in_ok-items.ensures.items in
     let all = c.loop-number-test.false in
-    all_cuts document c.args.metals.now _ c.loop-number.number c.loop-number.cuts.items c.loop-number.seen c.from_vec.result (omega (arith, count, all)) (c.loop-number.invariant takes) (λ given. rw c.from_vec.ensures given)
+    all_cuts document c.args.metals.now _ c.loop-number.number c.loop-number.cuts.items c.loop-number.seen c.from_vec.result (omega (arith, count, all)) (c.loop-number.invariant takes)
+    (λ given. rw c.from_vec.ensures given)

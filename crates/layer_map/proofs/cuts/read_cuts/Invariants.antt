@@ -1,5 +1,5 @@
 use Rattle.toml.specs.View.{table_view}
-use Rattle.layer_map.specs.Readers.{TakesMetals}
+use Rattle.layer_map.specs.inside.ReadMetals.{TakesMetals}
 use Rattle.layer_map.proofs.CutLaws.{CutsSoFar}
 use Rattle.layer_map.proofs.cuts.read_cuts.Given as goal
 

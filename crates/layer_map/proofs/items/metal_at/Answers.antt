@@ -3,7 +3,7 @@ use Rattle.std.proofs.lemmas.List.Elements.{All-from_recursion}
 use Rattle.toml.specs.Data.{get_member}
 use Rattle.toml.specs.View.{table_view}
 use Rattle.layer_map.specs.ItemChecks.{ReferenceHolds, is_metal, is_text, reference_checks, reference_fault}
-use Rattle.layer_map.proofs.CheckedLaws.{fails_first, goes_on, passes}
+use Rattle.first_refusal.proofs.JudgeLaws.{fails_first, goes_on, passes}
 use Rattle.layer_map.proofs.FindLaws.{found, none_found}
 use Rattle.layer_map.proofs.ReferenceLaws.{names_metal, no_metal, no_text, some_metal, some_text}
 use Rattle.layer_map.proofs.items.metal_at.Goals as goal
@@ -26,6 +26,12 @@ returns-in-Some-metal_named c items have =
     let there = get_member c.args.key.now (table_view c.args.table.now) in
     let named = found c.in-Some-metal_named.ensures in
     passes (ReferenceHolds items there) (reference_fault c.args.path) _ reference_checks c.in-Some-metal_named.number
-    (All-from_recursion (ReferenceHolds items there) reference_checks
-    (some_text items there c.in-Some.name.now c.in-Some.ensures, (some_metal items c.args.metals.now there c.as_bytes.result.now have (ap Some c.as_bytes.ensures.value ∙ c.in-Some.ensures) c.in-Some-metal_named.number named, tt)))
+    (All-from_recursion (ReferenceHolds items there) reference_checks (
+      some_text items there c.in-Some.name.now c.in-Some.ensures,
+      (
+        some_metal items c.args.metals.now there c.as_bytes.result.now have (ap Some c.as_bytes.ensures.value
+            ∙ c.in-Some.ensures) c.in-Some-metal_named.number named,
+        tt,
+      ),
+    ))
     (names_metal items c.args.metals.now there c.as_bytes.result.now have (ap Some c.as_bytes.ensures.value ∙ c.in-Some.ensures) c.in-Some-metal_named.number named)

@@ -1,5 +1,5 @@
 use Rattle.toml.specs.View.{table_view, view}
-use Rattle.layer_map.specs.Readers.{texts_of}
+use Rattle.layer_map.specs.inside.ReadValues.{texts_of}
 use Rattle.layer_map.proofs.TableLaws.{known_keys, no_table, other_key, table_is}
 use Rattle.layer_map.proofs.items.table_of.Goals as goal
 

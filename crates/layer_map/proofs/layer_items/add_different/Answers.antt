@@ -13,7 +13,10 @@ pub loop-pair-preserved : goal.loop-pair-preserved
 loop-pair-preserved c =
     rw c.in_ok-push.ensures.items
     (adds_more c.args.pairs.now.items c.args.more.now c.loop-pair.pairs.items c.loop-pair.pair-index c.loop-pair-test.true c.loop-pair.invariant
-    (λ among. cc (c.has_pair.ensures.1 (subst (λ (pairs : List (ℕ × ℕ)). Contains pairs (get_or c.args.more.now c.loop-pair.pair-index (0, 0))) (sym c.deref.ensures.value) among), c.if-has_pair.false)))
+    (λ among. cc (
+      c.has_pair.ensures.1 (subst (λ (pairs : List (ℕ × ℕ)). Contains pairs (get_or c.args.more.now c.loop-pair.pair-index (0, 0))) (sym c.deref.ensures.value) among),
+      c.if-has_pair.false,
+    )))
 
 pub loop-pair-init : goal.loop-pair-init
 loop-pair-init c = record { added = sym (append-nil c.args.pairs.now.items); differ = λ h. h }

@@ -2,7 +2,6 @@ use Rattle.std.proofs.Common.{List, ℕ, sym, subst}
 use Rattle.std.specs.Prelude.{Contains}
 use Rattle.toml.specs.Data.{table}
 use Rattle.toml.specs.View.{table_view}
-use Rattle.layer_map.proofs.CheckedLaws.{out_of_memory}
 use Rattle.layer_map.proofs.FindLaws.{found, none_found}
 use Rattle.layer_map.proofs.SeenLaws.{new_name, no_name, old_name}
 use Rattle.layer_map.proofs.layer_items.add_name.Goals as goal
@@ -14,9 +13,6 @@ pub returns-then-has_name : goal.returns-then-has_name
 returns-then-has_name c known earlier seen =
     old_name known earlier (table (table_view c.args.item.now)) c.args.path _ c.args.names.now.items seen c.in-Some.name (found c.in-Some.ensures)
     (subst (λ (names : List (List ℕ)). Contains names c.in-Some.name) c.deref.ensures.value (c.has_name.ensures.0 c.if-has_name.true))
-
-pub returns-in_err-push-in-Some : goal.returns-in_err-push-in-Some
-returns-in_err-push-in-Some c known earlier seen = out_of_memory _ _ _ _ c.from_residual.result c.from_residual.ensures.1
 
 pub returns-in_ok-push-in-Some : goal.returns-in_ok-push-in-Some
 returns-in_ok-push-in-Some c known earlier seen =

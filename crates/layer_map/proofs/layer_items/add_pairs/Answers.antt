@@ -1,18 +1,10 @@
 use Rattle.std.proofs.Common.{◌≡◌, ◌∙◌, List, ℕ, ◌++◌, ap, subst}
 use Rattle.toml.specs.Data.{table}
 use Rattle.toml.specs.View.{table_view}
-use Rattle.layer_map.specs.Lists.{AreDifferent}
-use Rattle.layer_map.proofs.CheckedLaws.{out_of_memory}
+use Rattle.lists.specs.Differing.{AreDifferent}
 use Rattle.layer_map.proofs.FindLaws.{found, none_found}
 use Rattle.layer_map.proofs.SeenLaws.{new_pairs, no_pairs, old_pair}
 use Rattle.layer_map.proofs.layer_items.add_pairs.Goals as goal
-
-pub returns-in_err-more-clause-judged : goal.returns-in_err-more-clause-judged
-returns-in_err-more-clause-judged c known earlier seen differ = out_of_memory _ _ _ _ c.from_residual.result c.from_residual.ensures.1
-
-pub returns-in_err-add_different-in-Some-clause-judged : goal.returns-in_err-add_different-in-Some-clause-judged
-returns-in_err-add_different-in-Some-clause-judged c known earlier seen differ =
-    out_of_memory _ _ _ _ c.from_residual-in_err-add_different-in-Some.result c.from_residual-in_err-add_different-in-Some.ensures.1
 
 pub returns-in-None-clause-judged : goal.returns-in-None-clause-judged
 returns-in-None-clause-judged c known earlier seen differ =

@@ -9,7 +9,8 @@ use Rattle.layer_map.proofs.layer_items.has_name.Goals as goal
 pub loop-other-preserved : goal.loop-other-preserved
 loop-other-preserved c =
     none_before_more (λ (other : List ℕ). other) c.args.names.now c.args.name.now c.loop-other.other-index c.other-item.result c.loop-other-test.true
-    (λ same. cc ((slice_eq-Decides Decides-eqb _ _ _ c.eq.ensures).1 (c.as_slice.ensures.name ∙ c.other-item.is ∙ same ∙ sym c.as_slice-in-loop-other.ensures.name), c.if-eq.false)) c.loop-other.invariant
+    (λ same. cc ((slice_eq-Decides Decides-eqb _ _ _ c.eq.ensures).1 (c.as_slice.ensures.name ∙ c.other-item.is ∙ same ∙ sym c.as_slice-in-loop-other.ensures.name), c.if-eq.false))
+    c.loop-other.invariant
 
 pub returns : goal.returns
 returns c = (

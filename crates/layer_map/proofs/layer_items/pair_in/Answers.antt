@@ -14,4 +14,5 @@ returns-in-None-pair_number c =
 
 pub returns-in-Some-pair_number : goal.returns-in-Some-pair_number
 returns-in-Some-pair_number c =
-    is_pair c.args.numbers.now c.index-numbers-0.result c.index-numbers-1.result _ _ c.if-numbers-ne2.false c.index-numbers-0.is c.index-numbers-1.is (found c.in-Some.ensures) (found c.in-Some-pair_number.ensures)
+    is_pair c.args.numbers.now c.index-numbers-0.result c.index-numbers-1.result _ _ c.if-numbers-ne2.false c.index-numbers-0.is c.index-numbers-1.is (found c.in-Some.ensures)
+    (found c.in-Some-pair_number.ensures)

@@ -17,7 +17,8 @@ returns-in-None c =
 pub loop-value-preserved : goal.loop-value-preserved
 loop-value-preserved c =
     rw c.in_ok-push-in-Some.ensures.items
-    (one_pair_more c.args.values.now c.loop-value.value-index c.value-item.result c.loop-value.pairs.items c.in-Some.pair c.loop-value-test.true c.value-item.is c.loop-value.invariant (found c.in-Some.ensures))
+    (one_pair_more c.args.values.now c.loop-value.value-index c.value-item.result c.loop-value.pairs.items c.in-Some.pair c.loop-value-test.true c.value-item.is c.loop-value.invariant
+    (found c.in-Some.ensures))
 
 pub returns : goal.returns
 returns c =

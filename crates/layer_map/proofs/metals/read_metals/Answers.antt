@@ -2,7 +2,7 @@ use Rattle.std.proofs.Common.{length, take, refl, ap, arith}
 use Rattle.std.proofs.lemmas.Bool.Decides.{nat_tests}
 use Rattle.toml.specs.View.{table_view, view}
 use Rattle.layer_map.specs.Values.{metals_in, metal_in}
-use Rattle.layer_map.proofs.CheckedLaws.{handed_on, out_of_memory}
+use Rattle.first_refusal.proofs.AnswerLaws.{handed_on}
 use Rattle.layer_map.proofs.EachLaws.{shown_at}
 use Rattle.layer_map.proofs.MetalLaws.{all_metals, count_of, metal_stops, no_metal_yet, no_metals, one_metal_more, too_many_metals}
 use Rattle.layer_map.proofs.ValueLaws.{no_array_no_values, values_in-array}
@@ -12,7 +12,7 @@ pub returns-in_err-items : goal.returns-in_err-items
 returns-in_err-items c =
     let refused = c.in_err-items.ensures.refused in
     let none = no_array_no_values (metal_in (table_view c.args.document.now)) refused.1 in
-    handed_on _ _ _ _ c.from_residual.result c.in_err-items.field-0.0 c.from_residual.ensures.1
+    handed_on _ _ c.from_residual.result c.in_err-items.field-0.0 c.from_residual.ensures.1
     (rw refused.0 (no_metals (table_view c.args.document.now) _ (λ some. omega (arith, ap length none, some))))
 
 pub returns-then-is_empty : goal.returns-then-is_empty
@@ -43,11 +43,9 @@ returns-in_err-layer c =
     let same = values_in-array (metal_in document) c.in_ok-items.items.now c.in_ok-items.ensures.array in
     let there = shown_at view (metals_in document) c.in_ok-items.items.now number c.index-items-number.result same c.loop-number-test.true c.index-items-number.is in
     let told = c.in_err-layer.ensures (take number (metals_in document)) c.loop-number.invariant.are_seen in
-    handed_on _ _ _ _ c.from_residual-in_err-layer.result c.in_err-layer.field-0.0 c.from_residual-in_err-layer.ensures.1
-    (metal_stops document number (view c.index-items-number.result) there _ _ c.loop-number.metals.items c.loop-number.seen c.in_err-layer.field-0.0 c.loop-number.invariant (rw c.metal.ensures at told))
-
-pub returns-in_err-push : goal.returns-in_err-push
-returns-in_err-push c = out_of_memory _ _ _ _ c.from_residual-in_err-push.result c.from_residual-in_err-push.ensures.1
+    handed_on _ _ c.from_residual-in_err-layer.result c.in_err-layer.field-0.0 c.from_residual-in_err-layer.ensures.1
+    (metal_stops document number (view c.index-items-number.result) there _ _ c.loop-number.metals.items c.loop-number.seen c.in_err-layer.field-0.0 c.loop-number.invariant
+    (rw c.metal.ensures at told))
 
 pub loop-number-preserved : goal.loop-number-preserved
 loop-number-preserved c =
@@ -57,7 +55,8 @@ loop-number-preserved c =
     let there = shown_at view (metals_in document) c.in_ok-items.items.now number c.index-items-number.result same c.loop-number-test.true c.index-items-number.is in
     let told = c.in_ok-layer.ensures (take number (metals_in document)) c.loop-number.invariant.are_seen in
     rw c.in_ok-push.ensures.items
-    (one_metal_more document number (view c.index-items-number.result) there c.loop-number.metals.items c.loop-number.seen c.read_layer.new.seen c.in_ok-layer.layer _ refl c.loop-number.invariant (rw c.metal.ensures at told))
+    (one_metal_more document number (view c.index-items-number.result) there c.loop-number.metals.items c.loop-number.seen c.read_layer.new.seen c.in_ok-layer.layer _ refl c.loop-number.invariant
+    (rw c.metal.ensures at told))
 
 pub returns : goal.returns
 returns c =
@@ -65,4 +64,5 @@ returns c =
     let same = values_in-array (metal_in document) c.in_ok-items.items.now c.in_ok-items.ensures.array in
     let count = count_of view (metals_in document) c.in_ok-items.items.now same in
     let all = c.loop-number-test.false in
-    all_metals document _ c.loop-number.number c.loop-number.metals.items c.loop-number.seen c.from_vec.result (omega (arith, count, all)) c.loop-number.invariant (λ takes. rw c.from_vec.ensures takes)
+    all_metals document _ c.loop-number.number c.loop-number.metals.items c.loop-number.seen c.from_vec.result (omega (arith, count, all)) c.loop-number.invariant
+    (λ takes. rw c.from_vec.ensures takes)

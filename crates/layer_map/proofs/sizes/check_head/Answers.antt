@@ -2,7 +2,7 @@ use Rattle.std.proofs.Common.{[], ◌∷◌}
 use Rattle.std.proofs.lemmas.List.Elements.{All-from_recursion}
 use Rattle.toml.specs.View.{table_view}
 use Rattle.layer_map.specs.MapChecks.{Holds, fault_of, has_known_keys, has_version}
-use Rattle.layer_map.proofs.CheckedLaws.{fails_first, goes_on, passes}
+use Rattle.first_refusal.proofs.JudgeLaws.{fails_first, goes_on, passes}
 use Rattle.layer_map.proofs.sizes.check_head.Goals as goal
 
 pub returns-then-not-has_only : goal.returns-then-not-has_only
@@ -17,4 +17,5 @@ returns-then-not-is_version_1 c =
 pub returns : goal.returns
 returns c =
     passes (Holds (table_view c.args.document.now)) fault_of _ (has_known_keys ∷ has_version ∷ []) tt
-    (All-from_recursion (Holds (table_view c.args.document.now)) (has_known_keys ∷ has_version ∷ []) (c.has_only.ensures.0 c.if-not-has_only.false, (c.is_version_1.ensures.0 c.if-not-is_version_1.false, tt))) tt
+    (All-from_recursion (Holds (table_view c.args.document.now)) (has_known_keys ∷ has_version ∷ [])
+    (c.has_only.ensures.0 c.if-not-has_only.false, (c.is_version_1.ensures.0 c.if-not-is_version_1.false, tt))) tt

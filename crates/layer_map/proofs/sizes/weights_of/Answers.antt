@@ -10,4 +10,5 @@ returns-in-None c = not_weights c.args.values.now c.args.count (none_found (rw c
 
 pub returns-in_ok-widened-in-Some : goal.returns-in_ok-widened-in-Some
 returns-in_ok-widened-in-Some c =
-    rw (c.in_ok-widened-in-Some.ensures, c.deref.ensures.value) (are_weights c.args.values.now c.args.count c.in-Some.weights.items c.if-values-count.false (found (rw c.in-Some.is at c.in_ok-weights.ensures)))
+    rw (c.in_ok-widened-in-Some.ensures, c.deref.ensures.value) (are_weights c.args.values.now c.args.count c.in-Some.weights.items c.if-values-count.false
+    (found (rw c.in-Some.is at c.in_ok-weights.ensures)))

@@ -1,5 +1,5 @@
 use Rattle.toml.specs.View.{table_view}
-use Rattle.layer_map.specs.Readers.{TakesMetals}
+use Rattle.layer_map.specs.inside.ReadMetals.{TakesMetals}
 use Rattle.layer_map.specs.declared.seen.Seen.{Seen}
 use Rattle.layer_map.proofs.TerminalLaws.{TerminalsSoFar}
 use Rattle.layer_map.proofs.terminals.read_each.Given as goal

@@ -4,7 +4,7 @@ use Rattle.std.specs.Map.Iter.{deref}
 use Rattle.std.specs.Prelude.{Contains}
 use Rattle.std.proofs.lemmas.List.Elements.{All-push}
 use Rattle.std.proofs.lemmas.Map.Iter.{iter_end, iter_turn}
-use Rattle.layer_map.specs.Readers.{texts_of}
+use Rattle.layer_map.specs.inside.ReadValues.{texts_of}
 use Rattle.layer_map.proofs.KeyLaws.{all_keys, not_all_keys}
 use Rattle.layer_map.proofs.values.has_only.Goals as goal
 

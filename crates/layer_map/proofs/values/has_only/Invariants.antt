@@ -1,6 +1,6 @@
 use Rattle.std.proofs.Common.{string_bytes}
 use Rattle.std.specs.Prelude.{All, Contains}
-use Rattle.layer_map.specs.Readers.{texts_of}
+use Rattle.layer_map.specs.inside.ReadValues.{texts_of}
 use Rattle.layer_map.proofs.values.has_only.Given as goal
 
 abbrev pub invariant-loop-key : goal.invariant-loop-key

@@ -1,6 +1,6 @@
 use Rattle.std.proofs.Common.{take_all}
 use Rattle.toml.specs.View.{view}
-use Rattle.layer_map.specs.Readers.{finds}
+use Rattle.layer_map.specs.inside.ReadValues.{finds}
 use Rattle.layer_map.proofs.FindLaws.{found, none_found}
 use Rattle.layer_map.proofs.SpelledLaws.{map-take-more, not_wholes, wholes_push}
 use Rattle.layer_map.proofs.values.wholes_in.Goals as goal

@@ -1,6 +1,6 @@
 use Rattle.std.proofs.Common.{map, take}
 use Rattle.toml.specs.View.{view}
-use Rattle.layer_map.specs.Readers.{AreWholesIn}
+use Rattle.layer_map.specs.inside.ReadValues.{AreWholesIn}
 use Rattle.layer_map.proofs.values.wholes_in.Given as goal
 
 abbrev pub invariant-loop-value : goal.invariant-loop-value

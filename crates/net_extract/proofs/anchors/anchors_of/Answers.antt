@@ -3,21 +3,16 @@ use Rattle.std.specs.Prelude.{All, pos, Some}
 use Rattle.std.specs.List.{AllZip, enumerate_from}
 use Rattle.std.proofs.lemmas.Option.{slice_get-get_or, slice_get_read}
 use Rattle.std.proofs.lemmas.List.{length-map, take_more}
+use Rattle.std.proofs.lemmas.List.FromFn.{length-enumerate_from}
 use Rattle.first_refusal.specs.Checks.{all_hold, one_fails}
 use Rattle.std.proofs.lemmas.List.Elements.{All-nil}
-use Rattle.layer_map.specs.MapView.{terminal_of}
-use Rattle.layer_map.specs.declared.layers.Terminal.{Terminal}
-use Rattle.net_extract.specs.Anchoring.{IsAnchorOf, IsOnIsland}
-use Rattle.net_extract.specs.Extraction.{gives, refuses}
-use Rattle.net_extract.proofs.AnchorLaws.{AllZip-push, one_checked, first_off, length_numbered}
-use Rattle.net_extract.proofs.AnswerLaws.{out_of_memory}
+use Rattle.map_model.specs.MapView.{terminal_of}
+use Rattle.map_model.specs.declared.layers.Terminal.{Terminal}
+use Rattle.net_extract.specs.inside.Anchoring.{IsAnchorOf, IsOnIsland}
+use Rattle.first_refusal.specs.Answers.{gives, refuses}
+use Rattle.lists.proofs.Pairing.{AllZip-push}
+use Rattle.net_extract.proofs.AnchorLaws.{one_checked, first_off}
 use Rattle.net_extract.proofs.anchors.anchors_of.Goals as goal
-
-pub returns-in_err-found : goal.returns-in_err-found
-returns-in_err-found c = out_of_memory _ c.from_residual.result c.from_residual.ensures.1
-
-pub returns-in_err-push-in-Some : goal.returns-in_err-push-in-Some
-returns-in_err-push-in-Some c = out_of_memory _ c.from_residual-in_err-push-in-Some.result c.from_residual-in_err-push-in-Some.ensures.1
 
 pub loop-index-init : goal.loop-index-init
 loop-index-init c = record {
@@ -65,7 +60,7 @@ returns c =
     let islands = c.args.islands.now in
     let k = c.loop-index.index in
     let numbered = enumerate_from 0 (map terminal_of terminals) in
-    let as_many = length_numbered 0 (map terminal_of terminals) ∙ length-map terminals terminal_of in
+    let as_many = length-enumerate_from 0 (map terminal_of terminals) ∙ length-map terminals terminal_of in
     let past : length numbered ≤ k = omega (arith, c.loop-index-test.false) in
     let checked = subst (All (IsOnIsland islands)) (take_all k numbered past) c.loop-index.invariant.checked in
     let anchors = subst (λ ts. AllZip (IsAnchorOf islands) ts c.loop-index.anchors.items) (take_all k terminals c.loop-index-test.false) c.loop-index.invariant.anchors in

@@ -1,8 +1,8 @@
 use Rattle.std.proofs.Common.{take, map}
 use Rattle.std.specs.Prelude.{All}
 use Rattle.std.specs.List.{AllZip, enumerate_from}
-use Rattle.layer_map.specs.MapView.{terminal_of}
-use Rattle.net_extract.specs.Anchoring.{IsAnchorOf, IsOnIsland}
+use Rattle.map_model.specs.MapView.{terminal_of}
+use Rattle.net_extract.specs.inside.Anchoring.{IsAnchorOf, IsOnIsland}
 use Rattle.net_extract.proofs.anchors.anchors_of.Given as goal
 
 abbrev pub invariant-loop-index : goal.invariant-loop-index

@@ -1,8 +1,9 @@
 use Rattle.std.proofs.Common.{◌≡◌, ◌∙◌, [], length, get_or, refl, sym, subst, arith}
 use Rattle.std.proofs.lemmas.List.{get_or_read}
-use Rattle.net_extract.specs.Anchoring.{AreFound, IsMarked}
-use Rattle.net_extract.specs.LabelledCells.{AreMeetings}
-use Rattle.net_extract.proofs.FoundLaws.{none_found, one_metal_more, put_back}
+use Rattle.net_extract.specs.inside.Anchoring.{AreFound, IsMarked}
+use Rattle.net_extract.specs.inside.LabelledCells.{AreMeetings}
+use Rattle.lists.proofs.Reading.{put_back}
+use Rattle.net_extract.proofs.FoundLaws.{none_found, one_metal_more}
 use Rattle.net_extract.proofs.anchors.islands_at.Goals as goal
 
 pub loop-metal-init : goal.loop-metal-init

@@ -1,4 +1,4 @@
-use Rattle.net_extract.specs.Anchoring.{AreFound}
+use Rattle.net_extract.specs.inside.Anchoring.{AreFound}
 use Rattle.net_extract.proofs.anchors.islands_at.Given as goal
 
 abbrev pub invariant-loop-metal : goal.invariant-loop-metal

@@ -1,9 +1,9 @@
 use Rattle.std.proofs.Common.{subst, take, take_all}
-use Rattle.net_extract.specs.Anchoring.{IsMarked}
+use Rattle.net_extract.specs.inside.Anchoring.{IsMarked}
 use Rattle.net_extract.proofs.FoundLaws.{none_marked, mark_left_out, mark_more}
-use Rattle.net_extract.proofs.ListLaws.{taken_more}
 use Rattle.net_extract.proofs.anchors.mark.Goals as goal
 use Rattle.net_extract.proofs.anchors.mark.Goals.{then-meeting-found, else-meeting-found}
+use Rattle.lists.proofs.Reading.{taken_more}
 
 pub loop-meeting-init : goal.loop-meeting-init
 loop-meeting-init c = none_marked _

@@ -4,4 +4,5 @@ use Rattle.net_extract.proofs.SpotLaws.{is_cell}
 use Rattle.net_extract.proofs.anchors.rect_at.Goals as goal
 
 pub returns-clause-some : goal.returns-clause-some
-returns-clause-some c = is_cell c.new.result c.args.cell (omega (arith, ints, c.new.ensures.left)) (omega (arith, ints, c.new.ensures.right)) (omega (arith, ints, c.new.ensures.bottom)) (omega (arith, ints, c.new.ensures.top))
+returns-clause-some c = is_cell c.new.result c.args.cell (omega (arith, ints, c.new.ensures.left)) (omega (arith, ints, c.new.ensures.right)) (omega (arith, ints, c.new.ensures.bottom))
+    (omega (arith, ints, c.new.ensures.top))

@@ -4,8 +4,8 @@ use Rattle.std.specs.Prelude.{Option, Some, None, pos}
 use Rattle.std.proofs.lemmas.List.{append-nil}
 use Rattle.std.proofs.lemmas.Option.{slice_get-get_or}
 use Rattle.geo_core.specs.declared.plane.Labelled.{Labelled}
-use Rattle.layer_map.specs.declared.layers.Terminal.{Terminal}
-use Rattle.net_extract.specs.Anchoring.{IsSpotOf}
+use Rattle.map_model.specs.declared.layers.Terminal.{Terminal}
+use Rattle.net_extract.specs.inside.Anchoring.{IsSpotOf}
 use Rattle.net_extract.proofs.SpotLaws.{AreFirstSpots, no_terminals, all_terminals, one_terminal_more}
 use Rattle.net_extract.proofs.anchors.spots_on.Goals as goal
 use Rattle.net_extract.proofs.anchors.spots_on.Goals.{in-Some+in_ok-push, in_default}

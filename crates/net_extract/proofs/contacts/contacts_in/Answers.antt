@@ -1,5 +1,5 @@
 use Rattle.std.proofs.Common.{sym, subst}
-use Rattle.net_extract.specs.LabelledCells.{ArePartsIn}
+use Rattle.net_extract.specs.inside.LabelledCells.{ArePartsIn}
 use Rattle.net_extract.proofs.ContactLaws.{contacts_are}
 use Rattle.net_extract.proofs.contacts.contacts_in.Goals as goal
 

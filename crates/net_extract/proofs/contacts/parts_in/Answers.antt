@@ -5,4 +5,5 @@ use Rattle.net_extract.proofs.contacts.parts_in.Goals as goal
 pub returns : goal.returns
 returns c =
     let all = take_all c.loop-part.part-index c.deref-part-items.result.now c.loop-part-test.false ∙ c.deref-part-items.ensures.value in
-    parts_are c.args.cut.now c.args.rects.now c.deref.result.now _ c.in_ok-met.met.items (c.deref.ensures.value ∙ c.in_ok-cut.ensures) c.in_ok-met.ensures (c.loop-part.invariant ∙ ap (map part_of) all)
+    parts_are c.args.cut.now c.args.rects.now c.deref.result.now _ c.in_ok-met.met.items (c.deref.ensures.value ∙ c.in_ok-cut.ensures) c.in_ok-met.ensures (c.loop-part.invariant
+    ∙ ap (map part_of) all)

@@ -14,7 +14,8 @@ returns c =
     let count = c.partition_point-count.result in
     let rest = drop first sorted in
     let whole : take (length sorted - first) rest ≡ rest = take_rest sorted first in
-    let less = IsPartitionPoint-from_clause (λ (piece : Piece). ltb piece.island island) sorted first c.partition_point-first.ensures.partitioned (IsPartitionedBy-ltb (λ (piece : Piece). piece.island) sorted island c.requires) (λ a r q k. search rules) in
+    let less = IsPartitionPoint-from_clause (λ (piece : Piece). ltb piece.island island) sorted first c.partition_point-first.ensures.partitioned
+    (IsPartitionedBy-ltb (λ (piece : Piece). piece.island) sorted island c.requires) (λ a r q k. search rules) in
     let more = IsPartitionPoint-from_clause (λ (piece : Piece). leb piece.island island) rest count (rw whole at c.partition_point-count.ensures.partitioned)
     (IsPartitionedBy-leb (λ (piece : Piece). piece.island) rest island (IsNonDecreasingBy-drop (λ (piece : Piece). piece.island) first sorted c.requires)) (λ a r q k. search rules) in
     ap (λ xs. filter (λ (piece : Piece). piece.island == island) (take count xs)) whole ∙ in_front island rest count more.1 ∙ in_rest island sorted first c.partition_point-first.ensures.bound less.0

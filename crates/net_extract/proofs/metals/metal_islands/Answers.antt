@@ -1,6 +1,6 @@
 use Rattle.std.proofs.Common.{◌<◌, ◌≡◌, ◌+◌, length, get_or, [], subst, ◌∙◌, arith}
 use Rattle.std.proofs.lemmas.List.{get_or_read}
-use Rattle.net_extract.specs.Numbering.{AreIslandsFrom}
+use Rattle.net_extract.specs.inside.Numbering.{AreIslandsFrom}
 use Rattle.net_extract.proofs.MetalLaws.{no_metals, one_metal_more}
 use Rattle.net_extract.proofs.metals.metal_islands.Goals as goal
 
@@ -17,4 +17,5 @@ loop-metal-preserved c =
     let rects_are : c.as_slice-rects.result.now ≡ get_or lists metal [] = c.as_slice-rects.ensures ∙ get_or_read lists metal c.index-lists-metal.result small c.index-lists-metal.is [] in
     let next_is : low + length c.as_slice-rects.result.now ≡ c.in-Some.next = grind (arith, c.in-Some.ensures) in
     let from = subst (λ high. AreIslandsFrom c.as_slice-rects.result.now low high new) next_is c.in_ok-islands_from-in-Some.ensures in
-    rw c.in_ok-push-in-Some.ensures.items (one_metal_more lists metal low c.in-Some.next c.loop-metal.islands.items new c.loop-metal.invariant (subst (λ rects. AreIslandsFrom rects low c.in-Some.next new) rects_are from) (omega arith))
+    rw c.in_ok-push-in-Some.ensures.items (one_metal_more lists metal low c.in-Some.next c.loop-metal.islands.items new c.loop-metal.invariant
+    (subst (λ rects. AreIslandsFrom rects low c.in-Some.next new) rects_are from) (omega arith))

@@ -1,4 +1,4 @@
-use Rattle.net_extract.specs.Numbering.{AreIslandsOf}
+use Rattle.net_extract.specs.inside.Numbering.{AreIslandsOf}
 use Rattle.net_extract.proofs.metals.metal_islands.Given as goal
 
 abbrev pub invariant-loop-metal : goal.invariant-loop-metal

@@ -1,6 +1,6 @@
 use Rattle.std.proofs.Common.{subst}
 use Rattle.classes.specs.Classes.{IsClasses}
-use Rattle.classes.specs.Laws.{EqualWhereJoined}
+use Rattle.classes.specs.ClassConsequences.{EqualWhereJoined}
 use Rattle.net_extract.proofs.LinkLaws.{links_below, classes_are_nets}
 use Rattle.net_extract.proofs.numbers.net_numbers.Goals as goal
 

@@ -1,5 +1,5 @@
 use Rattle.std.proofs.Common.{◌≡◌, take, map}
-use Rattle.net_extract.specs.Numbering.{piece_of}
+use Rattle.net_extract.specs.inside.Numbering.{piece_of}
 use Rattle.net_extract.proofs.numbers.piece_lists.Given as goal
 
 abbrev pub invariant-loop-list : goal.invariant-loop-list

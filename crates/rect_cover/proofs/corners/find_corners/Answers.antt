@@ -1,9 +1,8 @@
-use Rattle.std.proofs.Common.{◌+◌, ◌≡◌, ◌++◌, ◌∷◌, [], drop, get_or, map, None, pos, sym, ap, ◌∙◌, add-one}
+use Rattle.std.proofs.Common.{◌+◌, ◌≡◌, ◌++◌, ◌∷◌, [], drop, get_or, None, pos, sym, ap, ◌∙◌, add-one}
 use Rattle.std.proofs.Math.Seq.{drop-cons}
-use Rattle.std.proofs.lemmas.List.{map-append, drop_all}
+use Rattle.std.proofs.lemmas.List.{drop_all}
 use Rattle.geo_core.specs.declared.plane.Point.{Point}
-use Rattle.flatten.specs.Steps.{plane_point}
-use Rattle.rect_cover.specs.Corners.{corners_ahead}
+use Rattle.rect_cover.specs.inside.Corners.{corners_ahead}
 use Rattle.rect_cover.proofs.CornerLaws.{corners_begin}
 use Rattle.rect_cover.proofs.corners.find_corners.Goals as goal
 
@@ -13,7 +12,7 @@ loop-point-init c =
     let none : Point = record { x = pos 0; y = pos 0 } in
     let first = get_or points 0 none in
     let one : c.push.new.self.items ≡ first ∷ [] = c.in_ok-push.ensures.items ∙ ap (λ xs. xs ++ first ∷ []) c.new-corners.ensures.items in
-    ap (λ xs. map plane_point xs ++ corners_ahead (plane_point first) None (map plane_point (drop 0 points))) one ∙ corners_begin points none c.requires
+    ap (λ xs. xs ++ corners_ahead first None ((drop 0 points))) one ∙ corners_begin points none c.requires
 
 pub loop-point-preserved : goal.loop-point-preserved
 loop-point-preserved c =
@@ -21,14 +20,14 @@ loop-point-preserved c =
     let i = c.loop-point.point-index in
     let none : Point = record { x = pos 0; y = pos 0 } in
     let parted : drop i points ≡ get_or points i none ∷ drop (i + 1) points = drop-cons points i none c.loop-point-test.true ∙ ap (λ n. get_or points i none ∷ drop n points) (sym (add-one i)) in
-    c.in_ok-course.ensures (map plane_point (drop (i + 1) points))
-    ∙ ap (λ ahead. map plane_point c.loop-point.corners.items ++ corners_ahead (plane_point c.loop-point.course.at) c.loop-point.course.heading (map plane_point ahead)) (sym parted)
+    c.in_ok-course.ensures ((drop (i + 1) points))
+    ∙ ap (λ ahead. c.loop-point.corners.items ++ corners_ahead (c.loop-point.course.at) c.loop-point.course.heading ahead) (sym parted)
     ∙ c.loop-point.invariant
 
 pub returns : goal.returns
 returns c =
     let items = c.loop-point.corners.items in
     let at = c.loop-point.course.at in
-    ap (map plane_point) c.in_ok-push-2.ensures.items ∙ map-append plane_point items (at ∷ [])
-    ∙ ap (λ ahead. map plane_point items ++ corners_ahead (plane_point at) c.loop-point.course.heading (map plane_point ahead)) (sym (drop_all c.loop-point.point-index c.args.points.now c.loop-point-test.false))
+    c.in_ok-push-2.ensures.items
+    ∙ ap (λ ahead. items ++ corners_ahead at c.loop-point.course.heading ahead) (sym (drop_all c.loop-point.point-index c.args.points.now c.loop-point-test.false))
     ∙ c.loop-point.invariant

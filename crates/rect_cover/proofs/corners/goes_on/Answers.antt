@@ -1,8 +1,8 @@
 use Rattle.std.proofs.Common.{ℕ, ◌+◌, ◌-◌, ◌≤◌, ◌≡◌, length, drop, pos, refl, sym, ap, subst, ◌∙◌, arith, rules, length-drop, true, false}
 use Rattle.std.specs.Prelude.{All}
 use Rattle.geo_core.specs.declared.plane.Point.{Point}
-use Rattle.rect_cover.specs.Coverings.{GoesOn}
-use Rattle.rect_cover.specs.Paths.{opposite}
+use Rattle.rect_cover.specs.ShapeChecks.{GoesOn}
+use Rattle.rect_cover.specs.PathPieces.{opposite}
 use Rattle.rect_cover.proofs.ReversalLaws.{pairs_of, goes_on_here, goes_on_first, goes_on_behind, goes_on_alone}
 use Rattle.rect_cover.proofs.corners.goes_on.Goals as goal
 

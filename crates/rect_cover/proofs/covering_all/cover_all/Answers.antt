@@ -1,9 +1,12 @@
-use Rattle.std.proofs.Common.{◌∙◌, sym, subst}
+use Rattle.std.proofs.Common.{◌≡◌, ◌∙◌, ap, length, sym, subst, rules, arith}
 use Rattle.std.specs.List.{AllZip}
-use Rattle.std.proofs.lemmas.Result.{IfOk-weaker, IfErr-weaker}
+use Rattle.std.specs.Vec.Iter.{into_iter_items}
 use Rattle.rayon.proofs.ToStd.{slice-AllZip}
-use Rattle.rect_cover.specs.Coverings.{IsWellPlaced}
-use Rattle.rect_cover.proofs.AnswerLaws.{IsAnswerFor, all_cover, first_refused}
+use Rattle.first_refusal.specs.Answers.{gives}
+use Rattle.first_refusal.proofs.AnswerLaws.{handed_on, out_of_memory}
+use Rattle.rect_cover.specs.Coverings.{IsWellPlaced, all_covered}
+use Rattle.rect_cover.specs.declared.fault.CoverFault.TheVariants.{Memory}
+use Rattle.rect_cover.proofs.ListedLaws.{IsAnswerFor, none_listed, one_listed, refused_first, all_listed}
 use Rattle.rect_cover.proofs.covering_all.cover_all.Goals as goal
 
 pub collect-requires-clause-ready : goal.collect-requires-clause-ready
@@ -11,19 +14,44 @@ collect-requires-clause-ready g c κs within =
     rw (c.map.ensures.base, c.map.ensures.f, c.par_iter.ensures)
     (λ k d below one is. (subst (IsWellPlaced c.args.library.now.structures) (sym is) (c.requires.placed k d below), λ answer h. tt))
 
-pub returns-clause-covers : goal.returns-clause-covers
-returns-clause-covers g c =
+pub loop-answer-init : goal.loop-answer-init
+loop-answer-init g c =
     let structures = c.args.library.now.structures in
     let h = rw (c.map.ensures.base, c.map.ensures.f) at c.in_ok-answers.ensures in
     let answered : AllZip (IsAnswerFor structures) c.args.placed.now c.in_ok-answers.answers.items =
     rw h.2 (slice-AllZip h.1.0 c.args.placed.now (h.1.1 ∙ c.par_iter.ensures) (IsAnswerFor structures) h.0 h.1.2) in
-    IfOk-weaker c.lists_of.result _ _ (λ lists listed. all_cover structures c.args.placed.now c.in_ok-answers.answers.items lists.items answered listed) c.lists_of.ensures.lists
+    record {
+      listed = rw (c.into_iter-answer-iterator.ensures.into_iter_gives.0, c.in_ok-lists.ensures.items) (none_listed structures c.args.placed.now c.in_ok-answers.answers.items answered);
+      count = search rules;
+    }
 
-pub returns-clause-refused : goal.returns-clause-refused
-returns-clause-refused g c =
-    let structures = c.args.library.now.structures in
-    let h = rw (c.map.ensures.base, c.map.ensures.f) at c.in_ok-answers.ensures in
-    let answered : AllZip (IsAnswerFor structures) c.args.placed.now c.in_ok-answers.answers.items =
-    rw h.2 (slice-AllZip h.1.0 c.args.placed.now (h.1.1 ∙ c.par_iter.ensures) (IsAnswerFor structures) h.0 h.1.2) in
-    IfErr-weaker c.lists_of.result _ _
-    (λ fault first not_memory. first_refused structures c.args.placed.now c.in_ok-answers.answers.items fault answered not_memory (first not_memory)) c.lists_of.ensures.refused
+pub returns-in_err-answer : goal.returns-in_err-answer
+returns-in_err-answer g c =
+    let loop = c.loop-answer in
+    handed_on Memory _ c.from_residual-in_err-answer.result c.in_err-answer.field-0.0 c.from_residual-in_err-answer.ensures.1
+    (refused_first c.args.library.now.structures c.args.placed.now _ (into_iter_items c.next.new.self) loop.lists.items c.in-Some.answer c.in-Some.ensures.steps.0 loop.invariant.listed _
+    c.in_err-answer.was)
+
+pub loop-answer-preserved : goal.loop-answer-preserved
+loop-answer-preserved g c =
+    let loop = c.loop-answer in
+    let steps = c.in-Some.ensures.steps in
+    record {
+      listed = one_listed c.args.library.now.structures c.args.placed.now _ (into_iter_items c.next.new.self) loop.lists.items c.in-Some.answer steps.0 loop.invariant.listed
+          c.in_ok-answer.field-0 _ _ c.in_ok-answer.was c.from_vec.ensures c.in_ok-push.ensures.items;
+      count = omega (arith, ap length steps.0, steps.1, loop.invariant.count);
+    }
+
+pub returns-in_err-answers : goal.returns-in_err-answers
+returns-in_err-answers g c = out_of_memory Memory _ c.from_residual.result c.from_residual.ensures.1
+
+pub returns-in_err-lists : goal.returns-in_err-lists
+returns-in_err-lists g c = out_of_memory Memory _ c.from_residual-in_err-lists.result c.from_residual-in_err-lists.ensures.1
+
+pub returns-in_err-push : goal.returns-in_err-push
+returns-in_err-push g c = out_of_memory Memory _ c.from_residual-in_err-push.result c.from_residual-in_err-push.ensures.1
+
+pub returns : goal.returns
+returns g c =
+    let none : length (into_iter_items c.loop-answer.answer-iterator) ≡ 0 = c.loop-answer.invariant.count ∙ c.in-None.ensures.steps.0 in
+    gives (all_covered (all_listed c.args.library.now.structures c.args.placed.now _ c.loop-answer.lists.items none c.loop-answer.invariant.listed))

@@ -2,50 +2,48 @@ use Rattle.std.proofs.Common.{ℕ, w32, to_z, of_z, suc, ◌+◌, ◌<◌, ◌�
 use Rattle.std.proofs.lemmas.Bool.Decides.{nat_tests}
 use Rattle.std.proofs.lemmas.Int.{to_z-of_z}
 use Rattle.geo_core.specs.declared.plane.Point.{Point}
-use Rattle.flatten.specs.Steps.{plane_point}
-use Rattle.rect_cover.specs.Paths.{Knot, box_of, half_width_of, reach_behind, pieces_between}
-use Rattle.rect_cover.specs.Pieces.{box_value, knot_of}
-use Rattle.rect_cover.specs.Styles.{path_of}
+use Rattle.rect_cover.specs.PathPieces.{Knot, box_of, half_width_of, reach_behind, pieces_between}
+use Rattle.rect_cover.specs.inside.PieceBoxes.{box_value, knot_of}
 use Rattle.rect_cover.proofs.PieceLaws.{pieces_ahead, pieces_begin_at, piece_more, no_piece_behind}
 use Rattle.rect_cover.proofs.BoxLaws.{boxes_more, boxes_end}
 use Rattle.rect_cover.proofs.pieces.find_boxes.Goals as goal
 
 pub loop-i-init : goal.loop-i-init
 loop-i-init c =
-    let kind = path_of c.args.style in
-    let half = half_width_of kind in
+    let style = c.args.style in
+    let half = half_width_of style in
     let corners = c.args.corners.now in
     let none : Point = record { x = pos 0; y = pos 0 } in
     let some : 0 < length corners = grind (arith, nat_tests) in
-    ap (λ boxes. map box_value boxes ++ map (box_of half) (pieces_ahead half (reach_behind kind) (knot_of c.first_corner-from.result) (map plane_point (drop 1 corners)))) c.new-boxes.ensures.items
-    ∙ ap (λ knot. map (box_of half) (pieces_ahead half (reach_behind kind) knot (map plane_point (drop 1 corners)))) c.first_corner-from.ensures
-    ∙ ap (map (box_of half)) (pieces_begin_at kind corners none some)
+    ap (λ boxes. map box_value boxes ++ map (box_of half) (pieces_ahead half (reach_behind style) (knot_of c.first_corner-from.result) ((drop 1 corners)))) c.new-boxes.ensures.items
+    ∙ ap (λ knot. map (box_of half) (pieces_ahead half (reach_behind style) knot ((drop 1 corners)))) c.first_corner-from.ensures
+    ∙ ap (map (box_of half)) (pieces_begin_at style corners none some)
 
 pub loop-i-preserved : goal.loop-i-preserved
 loop-i-preserved c =
-    let kind = path_of c.args.style in
-    let half = half_width_of kind in
-    let behind = reach_behind kind in
+    let style = c.args.style in
+    let half = half_width_of style in
+    let behind = reach_behind style in
     let corners = c.args.corners.now in
     let i = c.loop-i.i in
     let none : Point = record { x = pos 0; y = pos 0 } in
     let from = knot_of c.loop-i.from in
     let to = knot_of c.next_corner-to.result in
-    let all = map (box_of half) (pieces_between kind (map plane_point corners)) in
-    let At : Knot → Type 0 = λ knot. pieces_ahead half behind from (map plane_point (drop i corners)) ≡ (from, knot) ∷ pieces_ahead half behind knot (map plane_point (drop (suc i) corners)) in
+    let all = map (box_of half) (pieces_between style corners) in
+    let At : Knot → Type 0 = λ knot. pieces_ahead half behind from ((drop i corners)) ≡ (from, knot) ∷ pieces_ahead half behind knot ((drop (suc i) corners)) in
     let more : At to = subst At (sym c.next_corner-to.ensures)
     (piece_more half behind from corners i none c.loop-i-test.true (i + 1 == length corners) (λ e. grind (arith, nat_tests)) (λ e. grind (arith, nat_tests))) in
-    let ahead = pieces_ahead half behind to (map plane_point (drop (suc i) corners)) in
+    let ahead = pieces_ahead half behind to ((drop (suc i) corners)) in
     let narrow : to_z w32 (of_z w32 c.half_width.result) ≡ c.half_width.result = to_z-of_z w32 c.half_width.result (search rules) in
     let box : box_value c.between.result ≡ box_of half (from, to) = c.between.ensures ∙ ap (λ h. box_of h (from, to)) (narrow ∙ c.half_width.ensures) in
     let front = ap (λ pieces. map box_value c.loop-i.boxes.items ++ map (box_of half) pieces) (sym more) ∙ c.loop-i.invariant in
-    let Last : ℕ → Type 0 = λ n. map box_value c.push.new.self.items ++ map (box_of half) (pieces_ahead half behind to (map plane_point (drop n corners))) ≡ all in
+    let Last : ℕ → Type 0 = λ n. map box_value c.push.new.self.items ++ map (box_of half) (pieces_ahead half behind to ((drop n corners))) ≡ all in
     subst Last (sym (add-one i))
     (ap (λ boxes. map box_value boxes ++ map (box_of half) ahead) c.in_ok-push.ensures.items ∙ boxes_more half all c.loop-i.boxes.items c.between.result (from, to) ahead box front)
 
 pub returns : goal.returns
 returns c =
-    let kind = path_of c.args.style in
-    let half = half_width_of kind in
+    let style = c.args.style in
+    let half = half_width_of style in
     let corners = c.args.corners.now in
-    boxes_end half _ (map box_value c.loop-i.boxes.items) _ (no_piece_behind half (reach_behind kind) (knot_of c.loop-i.from) corners c.loop-i.i c.loop-i-test.false) c.loop-i.invariant
+    boxes_end half _ (map box_value c.loop-i.boxes.items) _ (no_piece_behind half (reach_behind style) (knot_of c.loop-i.from) corners c.loop-i.i c.loop-i-test.false) c.loop-i.invariant

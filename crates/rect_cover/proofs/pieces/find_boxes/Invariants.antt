@@ -1,12 +1,10 @@
 use Rattle.std.proofs.Common.{◌≡◌, ◌++◌, drop, map}
-use Rattle.flatten.specs.Steps.{plane_point}
-use Rattle.rect_cover.specs.Paths.{box_of, half_width_of, reach_behind, pieces_between}
-use Rattle.rect_cover.specs.Pieces.{box_value, knot_of}
-use Rattle.rect_cover.specs.Styles.{path_of}
+use Rattle.rect_cover.specs.PathPieces.{box_of, half_width_of, reach_behind, pieces_between}
+use Rattle.rect_cover.specs.inside.PieceBoxes.{box_value, knot_of}
 use Rattle.rect_cover.proofs.PieceLaws.{pieces_ahead}
 use Rattle.rect_cover.proofs.pieces.find_boxes.Given as goal
 
 abbrev pub invariant-loop-i : goal.invariant-loop-i
 invariant-loop-i l =
-    map box_value l.boxes.items ++ map (box_of (half_width_of (path_of l.style))) (pieces_ahead (half_width_of (path_of l.style)) (reach_behind (path_of l.style)) (knot_of l.from) (map plane_point (drop l.i l.corners)))
-    ≡ map (box_of (half_width_of (path_of l.style))) (pieces_between (path_of l.style) (map plane_point l.corners))
+    map box_value l.boxes.items ++ map (box_of (half_width_of l.style)) (pieces_ahead (half_width_of l.style) (reach_behind l.style) (knot_of l.from) ((drop l.i l.corners)))
+    ≡ map (box_of (half_width_of l.style)) (pieces_between l.style l.corners)

@@ -1,5 +1,5 @@
 use Rattle.std.proofs.Common.{◌≡◌, take, map}
-use Rattle.rect_cover.specs.Pieces.{box_value, rect_value}
+use Rattle.rect_cover.specs.inside.PieceBoxes.{box_value, rect_value}
 use Rattle.rect_cover.proofs.pieces.find_rects.Given as goal
 
 abbrev pub invariant-loop-piece : goal.invariant-loop-piece

@@ -1,4 +1,5 @@
+use Rattle.std.proofs.Common.{append_assoc}
 use Rattle.report.proofs.text.write_line.Goals as goal
 
 pub returns : goal.returns
-returns c = rw (c.as_str-layer.ensures, c.product-sum.ensures.exact) at c.in_ok-writeln.ensures.bytes
+returns c = simp append_assoc at (rw (c.word-kind.ensures, c.as_str-layer.ensures, c.letter-letter.ensures, c.listed-size.ensures, c.product-sum.ensures.exact) at c.in_ok-writeln.ensures.bytes)

@@ -1,7 +1,7 @@
 use Rattle.std.proofs.Common.{refl, sym, subst, arith}
 use Rattle.std.proofs.lemmas.Bool.{false≢true}
 use Rattle.short_area.specs.Labels.{TouchesTwoLabels}
-use Rattle.short_area.specs.Windows.{ArePiecesNear}
+use Rattle.short_area.specs.inside.Windows.{ArePiecesNear}
 use Rattle.short_area.proofs.NearLaws.{tally_none, tally_all, tally_near, two_whole}
 use Rattle.short_area.proofs.SizeLaws.{smaller_parts}
 use Rattle.short_area.proofs.TallyParts.{parts_tally, few_cells, few_tallied}
@@ -45,11 +45,13 @@ pub returns-clause-tally : goal.returns-clause-tally
 returns-clause-tally t c =
     let those = subst (ArePiecesNear c.args.pieces.now c.args.window c.args.r) (sym c.as_slice-near.ensures.value) c.in_ok-near.ensures in
     let parts = c.in-Some.ensures.some in
-    let sum = parts_tally (TouchesTwoLabels c.as_slice-near.result.now c.args.r) parts.0 c.args.window c.in-Some.first c.in-Some.second _ _ parts.1 c.in_ok-one-in-Some.ensures.tally c.in_ok-other-in-Some.ensures.tally in
+    let sum = parts_tally (TouchesTwoLabels c.as_slice-near.result.now c.args.r) parts.0 c.args.window c.in-Some.first c.in-Some.second _ _ parts.1 c.in_ok-one-in-Some.ensures.tally
+    c.in_ok-other-in-Some.ensures.tally in
     tally_near c.args.pieces.now c.args.window c.args.r c.requires.least c.as_slice-near.result.now those _ sum
 
 pub returns-clause-small : goal.returns-clause-small
 returns-clause-small t c =
     let parts = c.in-Some.ensures.some in
-    let sum = parts_tally (TouchesTwoLabels c.as_slice-near.result.now c.args.r) parts.0 c.args.window c.in-Some.first c.in-Some.second _ _ parts.1 c.in_ok-one-in-Some.ensures.tally c.in_ok-other-in-Some.ensures.tally in
+    let sum = parts_tally (TouchesTwoLabels c.as_slice-near.result.now c.args.r) parts.0 c.args.window c.in-Some.first c.in-Some.second _ _ parts.1 c.in_ok-one-in-Some.ensures.tally
+    c.in_ok-other-in-Some.ensures.tally in
     few_tallied _ c.args.window _ sum

@@ -1,6 +1,6 @@
 use Rattle.std.proofs.Common.{take}
 use Rattle.std.specs.Prelude.{IfNone, IfSome}
-use Rattle.short_area.specs.Places.{ArePiecesAlike, IsBetween}
+use Rattle.short_area.specs.inside.WindowPlaces.{ArePiecesAlike, IsBetween}
 use Rattle.short_area.proofs.changes.middle_change.Given as goal
 
 abbrev pub invariant-loop-piece : goal.invariant-loop-piece

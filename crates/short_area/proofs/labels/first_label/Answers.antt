@@ -1,8 +1,8 @@
 use Rattle.std.proofs.Common.{refl}
 use Rattle.std.proofs.lemmas.Bool.{false≢true}
-use Rattle.paths.proofs.ListLaws.{All-read, All-read_all}
 use Rattle.short_area.proofs.LabelLaws.{IsFar, label_near}
 use Rattle.short_area.proofs.labels.first_label.Goals as goal
+use Rattle.lists.proofs.Reading.{All-read, All-read_all}
 
 pub returns-then-is_near-clause-some : goal.returns-then-is_near-clause-some
 returns-then-is_near-clause-some c = label_near _ _ _ _ _ _ c.loop-piece-test.true c.piece-item.is (c.if-is_near.ensures.0 refl)

@@ -1,9 +1,9 @@
 use Rattle.std.proofs.Common.{refl, sym}
 use Rattle.std.proofs.lemmas.Bool.{false≢true}
-use Rattle.paths.proofs.ListLaws.{All-read, All-read_all}
 use Rattle.short_area.proofs.LabelLaws.{HasLabelIfNear, label_near, no_other}
 use Rattle.short_area.proofs.labels.has_other_label.Goals as goal
 use Rattle.short_area.proofs.labels.has_other_label.Goals.{else-piece-label-via-then-piece-label+else-is_near, else-piece-label-via-else-piece-label}
+use Rattle.lists.proofs.Reading.{All-read, All-read_all}
 
 pub returns-then-is_near : goal.returns-then-is_near
 returns-then-is_near c =
@@ -11,10 +11,11 @@ returns-then-is_near c =
     (λ _. (c.piece-item.result.label, near, λ e. c.if-piece-label.true (sym e)), λ _. refl)
 
 pub loop-piece-preserved : goal.loop-piece-preserved
-loop-piece-preserved c = All-read (HasLabelIfNear c.args.extent c.args.window c.args.radius c.args.label) _ _ _ c.loop-piece-test.true c.piece-item.is c.loop-piece.invariant (elim c.else-piece-label.branch [
-  | else-piece-label-via-then-piece-label+else-is_near w ↦ λ n. absurd (false≢true (w.if-is_near.ensures.1 n))
-  | else-piece-label-via-else-piece-label w ↦ λ n. w.if-piece-label.false
-])
+loop-piece-preserved c = All-read (HasLabelIfNear c.args.extent c.args.window c.args.radius c.args.label) _ _ _ c.loop-piece-test.true c.piece-item.is c.loop-piece.invariant
+    (elim c.else-piece-label.branch [
+      | else-piece-label-via-then-piece-label+else-is_near w ↦ λ n. absurd (false≢true (w.if-is_near.ensures.1 n))
+      | else-piece-label-via-else-piece-label w ↦ λ n. w.if-piece-label.false
+    ])
 
 pub returns : goal.returns
 returns c =

@@ -1,5 +1,5 @@
 use Rattle.geo_core.specs.Axes.{low_along, high_along}
-use Rattle.short_area.specs.Places.{ArePiecesAlike}
+use Rattle.short_area.specs.inside.WindowPlaces.{ArePiecesAlike}
 use Rattle.short_area.proofs.PlaceLaws.{each_axis, some_axis}
 use Rattle.short_area.proofs.windows.parts_of.Goals as goal
 

@@ -1,5 +1,5 @@
 use Rattle.std.proofs.Common.{◌∙◌}
-use Rattle.touch_sweep.specs.Entries.{IsByRow}
+use Rattle.touch_sweep.specs.inside.Entries.{IsByRow}
 use Rattle.touch_sweep.proofs.AcrossSteps.{is_before, is_behind, exact_across}
 use Rattle.touch_sweep.proofs.SearchSteps.{IsByRow-filter}
 use Rattle.touch_sweep.proofs.across.touching_across.Goals as goal

@@ -1,12 +1,13 @@
 use Rattle.std.proofs.Common.{◌∙◌, refl, arith}
 use Rattle.std.proofs.lemmas.Bool.Decides.{nat_tests}
 use Rattle.std.proofs.lemmas.Result.{IfOk-weaker}
-use Rattle.touch_sweep.specs.Strips.{begins_in, meets_partly}
+use Rattle.touch_sweep.specs.inside.Strips.{begins_in, meets_partly}
 use Rattle.touch_sweep.proofs.SearchSteps.{IsByRow-filter, nothing_begins, in_two_steps, from_sweep, from_halves}
 use Rattle.touch_sweep.proofs.search.+search.Goals as goal
 
 pub returns-then-is_empty : goal.returns-then-is_empty
-returns-then-is_empty t c = nothing_begins c.args.strip.low c.args.strip.high c.args.points.now c.args.spans.now c.as_slice-points.result.now _ (c.as_slice-points.ensures.value ∙ c.in_ok-points.ensures) refl c.args.pairs.now.items (let h = c.if-is_empty.ensures in grind (arith, nat_tests))
+returns-then-is_empty t c = nothing_begins c.args.strip.low c.args.strip.high c.args.points.now c.args.spans.now c.as_slice-points.result.now _ (c.as_slice-points.ensures.value
+    ∙ c.in_ok-points.ensures) refl c.args.pairs.now.items (let h = c.if-is_empty.ensures in grind (arith, nat_tests))
 
 pub pair_across-requires : goal.pair_across-requires
 pair_across-requires t c = record {

@@ -1,5 +1,5 @@
 use Rattle.std.proofs.Common.{◌∙◌}
-use Rattle.touch_sweep.specs.Strips.{crosses}
+use Rattle.touch_sweep.specs.inside.Strips.{crosses}
 use Rattle.touch_sweep.proofs.SearchSteps.{IsByRow-filter}
 use Rattle.touch_sweep.proofs.search.pair_across.Goals as goal
 

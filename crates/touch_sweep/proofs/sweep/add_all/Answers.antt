@@ -10,7 +10,8 @@ pub loop-other-preserved : goal.loop-other-preserved
 loop-other-preserved c = one_more c.args.one c.args.others.now c.loop-other.other-index c.other-item.result _ _ _ (omega arith) c.other-item.is c.loop-other.invariant c.in_ok-add.ensures
 
 pub returns-then-other-one : goal.returns-then-other-one
-returns-then-other-one c = rest_apart c.args.one c.args.others.now c.loop-other.other-index c.other-item.result _ _ (omega arith) c.other-item.is c.requires (omega (arith, ints)) c.loop-other.invariant
+returns-then-other-one c = rest_apart c.args.one c.args.others.now c.loop-other.other-index c.other-item.result _ _ (omega arith) c.other-item.is c.requires (omega (arith, ints))
+    c.loop-other.invariant
 
 pub returns : goal.returns
 returns c = all_others c.args.one c.args.others.now c.loop-other.other-index _ _ (omega arith) c.loop-other.invariant

@@ -4,7 +4,8 @@ use Rattle.command_line.specs.OptionNames.{Text}
 use Rattle.command_line.proofs.arguments.Arguments.in_one_form.Goals as goal
 
 -- one positional word more
-position_more : (start old new : List Text) (items positions : List (Bor Text)) (i : ℕ) (d : Bor Text) → items ≡ positions → i < length items → old ≡ start ++ map (λ word. word.now) (take i positions) → new ≡ old ++ (get_or items i d).now ∷ [] → new ≡ start ++ map (λ word. word.now) (take (i + 1) positions)
+position_more : (start old new : List Text) (items positions : List (Bor Text)) (i : ℕ) (d : Bor Text) → items ≡ positions → i < length items → old ≡ start ++ map (λ word. word.now) (take i positions)
+    → new ≡ old ++ (get_or items i d).now ∷ [] → new ≡ start ++ map (λ word. word.now) (take (i + 1) positions)
 position_more start old new items positions i d same within before is =
     let within_them : i < length positions = rw same at within in
     let is_more : new ≡ old ++ (get_or positions i d).now ∷ [] = rw same at is in
@@ -14,4 +15,5 @@ position_more start old new items positions i d same within before is =
 
 pub loop-position-preserved : goal.loop-position-preserved
 loop-position-preserved c =
-    position_more _ _ _ c.deref-position-items.result.now c.args.self.now.positions.items c.loop-position.position-index _ c.deref-position-items.ensures.value c.loop-position-test.true c.loop-position.invariant c.in_ok-push_text-2.ensures
+    position_more _ _ _ c.deref-position-items.result.now c.args.self.now.positions.items c.loop-position.position-index _ c.deref-position-items.ensures.value c.loop-position-test.true
+    c.loop-position.invariant c.in_ok-push_text-2.ensures

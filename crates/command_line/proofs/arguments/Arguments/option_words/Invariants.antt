@@ -1,5 +1,5 @@
 use Rattle.std.proofs.Common.{◌≡◌, map, string_bytes, take}
-use Rattle.command_line.specs.Arguments.{words_of_options}
+use Rattle.command_line.specs.inside.Arguments.{words_of_options}
 use Rattle.command_line.proofs.arguments.Arguments.option_words.Given as goal
 
 abbrev pub invariant-loop-name : goal.invariant-loop-name

@@ -1,5 +1,5 @@
 use Rattle.std.proofs.Common.{◌≡◌, ◌++◌, take}
-use Rattle.command_line.specs.Arguments.{given_by}
+use Rattle.command_line.specs.inside.Arguments.{given_by}
 use Rattle.command_line.proofs.arguments.Arguments.push_positions.Given as goal
 
 abbrev pub invariant-loop-word : goal.invariant-loop-word

@@ -1,5 +1,5 @@
 use Rattle.std.proofs.Common.{length}
-use Rattle.command_line.specs.Arguments.{HasRead, given_by}
+use Rattle.command_line.specs.inside.Arguments.{HasRead, given_by}
 use Rattle.command_line.proofs.arguments.Arguments.read.Given as goal
 
 abbrev pub invariant-loop-argument : goal.invariant-loop-argument

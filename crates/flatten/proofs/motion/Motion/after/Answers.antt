@@ -15,7 +15,8 @@ returns-clause-moves c =
     let y-is : turned.result.1 ≡ (image_under outer.turn (at inner.dx inner.dy)).y = turned_up outer.turn inner.dx inner.dy _ _ x-same y-same turned.result.1 turned.ensures.up in
     let across : to_z w64 (of_z w64 c.both_shifts.result) ≡ turned.result.0 +ℤ outer.dx = omega (arith, ints, c.requires.reach.across, turned.ensures.across_amount) in
     let up : to_z w64 (of_z w64 c.both_shifts-2.result) ≡ turned.result.1 +ℤ outer.dy = omega (arith, ints, c.requires.reach.up, turned.ensures.up_amount) in
-    moves_behind outer.turn inner.turn c.after.result (at outer.dx outer.dy) (at inner.dx inner.dy) (at (to_z w64 (of_z w64 c.both_shifts.result)) (to_z w64 (of_z w64 c.both_shifts-2.result))) c.after.ensures (rw (← x-is) across) (rw (← y-is) up)
+    moves_behind outer.turn inner.turn c.after.result (at outer.dx outer.dy) (at inner.dx inner.dy) (at (to_z w64 (of_z w64 c.both_shifts.result)) (to_z w64 (of_z w64 c.both_shifts-2.result)))
+    c.after.ensures (rw (← x-is) across) (rw (← y-is) up)
 
 pub returns-clause-reach : goal.returns-clause-reach
 returns-clause-reach c steps reach =

@@ -12,4 +12,5 @@ invariant_of-result c =
 
 pub returns-clause-moves : goal.returns-clause-moves
 returns-clause-moves c steps moves =
-    moves_on c.args.self.motion c.of_copy.result c.after.result steps (record { reference = c.args.reference.now; column = c.args.column; row = c.args.row }) moves c.of_copy.ensures.moves c.after.ensures.moves
+    moves_on c.args.self.motion c.of_copy.result c.after.result steps (record { reference = c.args.reference.now; column = c.args.column; row = c.args.row })
+    moves c.of_copy.ensures.moves c.after.ensures.moves

@@ -10,4 +10,5 @@ invariant_of-result c = record {
 
 pub returns : goal.returns
 returns c =
-    joined c.args.self.low c.args.self.high c.args.other.low c.args.other.high _ _ c.args.self.within.some c.args.other.within.some (grind (arith, to_z-of_z, c.min.ensures.value)) (grind (arith, to_z-of_z, c.max.ensures.value))
+    joined c.args.self.low c.args.self.high c.args.other.low c.args.other.high _ _ c.args.self.within.some c.args.other.within.some (grind (arith, to_z-of_z, c.min.ensures.value))
+    (grind (arith, to_z-of_z, c.max.ensures.value))

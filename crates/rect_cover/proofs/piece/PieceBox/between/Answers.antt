@@ -1,7 +1,7 @@
 use Rattle.std.proofs.Common.{sym, ◌∙◌, w32, rules}
 use mir.Val.{SFits}
-use Rattle.rect_cover.specs.Paths.{Piece, box_towards}
-use Rattle.rect_cover.specs.Pieces.{knot_of}
+use Rattle.rect_cover.specs.PathPieces.{Piece, box_towards}
+use Rattle.rect_cover.specs.inside.PieceBoxes.{knot_of}
 use Rattle.rect_cover.specs.declared.direction.Direction.TheVariants.{Right, Up, Left, Down}
 use Rattle.rect_cover.proofs.BoxLaws.{same_box, leading, lowered, raised}
 use Rattle.rect_cover.proofs.piece.PieceBox.between.Goals as goal

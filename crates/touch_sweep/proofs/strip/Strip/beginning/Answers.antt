@@ -1,7 +1,7 @@
-use Rattle.touch_sweep.specs.Strips.{begins_in}
-use Rattle.touch_sweep.proofs.ListLaws.{filter_takes, filter_leaves, filter_ends}
+use Rattle.touch_sweep.specs.inside.Strips.{begins_in}
 use Rattle.touch_sweep.proofs.strip.Strip.beginning.Goals as goal
 use Rattle.touch_sweep.proofs.strip.Strip.beginning.Goals.{then-has_begin_of+in_ok-push, else-has_begin_of}
+use Rattle.lists.proofs.Filtering.{filter_ends, filter_leaves, filter_takes}
 
 pub loop-entry-preserved : goal.loop-entry-preserved
 loop-entry-preserved c =

@@ -1,6 +1,6 @@
 use Rattle.std.proofs.Common.{◌≡◌, take}
 use Rattle.std.specs.Prelude.{filter}
-use Rattle.touch_sweep.specs.Strips.{begins_in}
+use Rattle.touch_sweep.specs.inside.Strips.{begins_in}
 use Rattle.touch_sweep.proofs.strip.Strip.beginning.Given as goal
 
 abbrev pub invariant-loop-entry : goal.invariant-loop-entry

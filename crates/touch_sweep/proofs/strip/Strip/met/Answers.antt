@@ -2,10 +2,10 @@ use Rattle.std.proofs.Common.{◌≡◌, ap, true, false}
 use Rattle.std.specs.Int.Signed.{le_z, lt_z}
 use Rattle.std.specs.Prelude.{ℤ, not, ◌&&◌}
 use Rattle.touch_sweep.specs.declared.numbered.Numbered.{Numbered}
-use Rattle.touch_sweep.specs.Strips.{crosses, meets_partly}
-use Rattle.touch_sweep.proofs.ListLaws.{filter_takes, filter_leaves, filter_ends}
+use Rattle.touch_sweep.specs.inside.Strips.{crosses, meets_partly}
 use Rattle.touch_sweep.proofs.strip.Strip.met.Goals as goal
 use Rattle.touch_sweep.proofs.strip.Strip.met.Goals.{then-is_crossed_by+in_ok-push, else-is_crossed_by+then-is_partly_met_by+in_ok-push-2, else-is_crossed_by+else-is_partly_met_by}
+use Rattle.lists.proofs.Filtering.{filter_ends, filter_leaves, filter_takes}
 
 -- an entry that crosses all columns does not count as meeting them in part
 not_partly : (low high : ℤ) (x : Numbered) → true ≡ crosses low high x → false ≡ meets_partly low high x

@@ -1,6 +1,6 @@
 use Rattle.std.proofs.Common.{◌≡◌, take}
 use Rattle.std.specs.Prelude.{filter}
-use Rattle.touch_sweep.specs.Strips.{crosses, meets_partly}
+use Rattle.touch_sweep.specs.inside.Strips.{crosses, meets_partly}
 use Rattle.touch_sweep.proofs.strip.Strip.met.Given as goal
 
 abbrev pub invariant-loop-entry : goal.invariant-loop-entry

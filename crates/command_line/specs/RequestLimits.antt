@@ -1,0 +1,21 @@
+-- the limits of the numbers of a request
+use Rattle.std.specs.Prelude.{ℕ, ◌≤◌}
+use Rattle.std.specs.Coded.{Unit-prop}
+use Rattle.std.proofs.Props.{props}
+use Rattle.command_line.specs.declared.task.Task.{Task}
+use Rattle.command_line.specs.declared.task.Task.TheVariants.{OneMetal, Mapped}
+
+-- the number lies within these bounds
+pub record IsWithin (low high n : ℕ) : Type 0 where
+  pub least : low ≤ n
+  pub most : n ≤ high
+
+-- the numbers of the task are within their limits
+abbrev pub IsWithinLimits : Task → Type 0
+IsWithinLimits (OneMetal layout layer datatype radius top) = IsWithin 0 65535 layer × IsWithin 0 65535 datatype × IsWithin 1 1000000 radius
+IsWithinLimits (Mapped layout map top) = Unit {0}
+
+-- this holds in one way at most
+pub IsWithinLimits-prop : (task : Task) → IsProp (IsWithinLimits task)
+IsWithinLimits-prop (OneMetal layout layer datatype radius top) = hlevel props
+IsWithinLimits-prop (Mapped layout map top) = Unit-prop

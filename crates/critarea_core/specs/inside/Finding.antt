@@ -1,0 +1,119 @@
+-- inside this crate: what is found before anything is printed, and how the printing ends. No definition above rests on it.
+use Rattle.std.specs.Prelude.{ℕ, List, ◌≡◌, ◌≢◌, ◌≤◌, Option, Contains, IfOk, length, Result, Ok, Err, Vec}
+use Rattle.std.specs.Global.{Global}
+use Rattle.first_refusal.specs.Answers.{Answers}
+use Rattle.first_refusal.specs.Outcomes.{Outcome, value, refused}
+use Rattle.edge_io.specs.declared.whole.ReadError.{ReadError}
+use Rattle.edge_io.specs.declared.whole.ReadError.TheVariants as read
+use Rattle.command_line.specs.declared.task.Task.{Task}
+use Rattle.command_line.specs.declared.task.Task.TheVariants.{OneMetal, Mapped}
+use Rattle.geo_core.specs.Bounds.{IsRadius}
+use Rattle.map_model.specs.LayerMap.{LayerMap}
+use Rattle.map_model.specs.MapView.{layer_map_of}
+use Rattle.map_model.specs.declared.map.Map.{Map}
+use Rattle.report.specs.Report.{report_text}
+use Rattle.questions.specs.declared.row.Row.{Row}
+use Rattle.questions.specs.declared.row.TheConstants.{MOST_ROWS}
+use Rattle.critarea_core.specs.Contents.{MayContain, MayHave}
+use Rattle.critarea_core.specs.Refusals.{refusal_text}
+use Rattle.critarea_core.specs.Run.{Change, HasRisen, IsCalm, IsIdle, MayComeTo, NameSomeFile, Output, Takes, FailsWithin}
+use Rattle.critarea_core.specs.Layout.{Subject}
+use Rattle.critarea_core.specs.Verdict.{LayoutComesTo, MapComesTo, AreRowsOn}
+use Rattle.critarea_core.specs.declared.refusal.Refusal.{Refusal}
+use Rattle.critarea_core.specs.declared.unreported.Unreported.{Unreported}
+use Rattle.critarea_core.specs.declared.unreported.Unreported.TheVariants.{Refused, FilesFailed, Memory}
+
+-- ---- faults, as why there is no report
+
+-- a fault is told as this: as the refusal that is its own, or as want of memory, if it is that
+pub data IsToldAs {F : Type 0} (memory : F) (refusal_of : F → Refusal) (fault : F) : Unreported → Type 0 where
+  as_memory : fault ≡ memory → IsToldAs memory refusal_of fault Memory
+  as_refusal : fault ≢ memory → IsToldAs memory refusal_of fault (Refused (refusal_of fault))
+
+-- why there is no map or report where a file was not read; this is the refusal of a file that is too long
+abbrev pub of_unread : Refusal → ReadError → Unreported
+of_unread too_long read.Fault = FilesFailed
+of_unread too_long read.TooLong = Refused too_long
+of_unread too_long read.Memory = Memory
+
+-- ---- what stages come to
+
+-- the outcome of a stage in the code's words: a thing that is so for the stage's value, or the stage's refusal
+pub data Gives {T V : Type 0} (Stage : Outcome V Refusal → Type 0) (IsFor : V → T → Type 0) : Outcome T Unreported → Type 0 where
+  gives_thing : {v : V} {thing : T} → Stage (value v) → IsFor v thing → Gives Stage IsFor (value thing)
+  gives_refusal : {refusal : Refusal} → Stage (refused refusal) → Gives Stage IsFor (refused (Refused refusal))
+
+-- the answer is that, or that no memory is left
+abbrev pub Finds : {T V : Type 0} → (Outcome V Refusal → Type 0) → (V → T → Type 0) → Result T Unreported → Type 0
+Finds Stage IsFor = Answers Memory (Gives Stage IsFor)
+
+-- where files are read for it: none failed and the answer is so; or they failed, of which there is one then
+pub data FindsInFiles {T V : Type 0} (failures : Change ℕ) (SomeFile : Type 0) (Stage : Outcome V Refusal → Type 0) (IsFor : V → T → Type 0)
+    : Result T Unreported → Type 0 where
+  files_serve : {answer : Result T Unreported} → IsCalm failures → Finds Stage IsFor answer
+      → FindsInFiles failures SomeFile Stage IsFor answer
+  files_fail : HasRisen failures → SomeFile → FindsInFiles failures SomeFile Stage IsFor (Err FilesFailed)
+
+-- ---- maps
+
+-- the map stands for the layer map
+abbrev pub IsMapOf : LayerMap → Map → Type 0
+IsMapOf layer_map made = layer_map ≡ layer_map_of made
+
+-- some bytes that the files may have where they are read as maps make the task's map come to this
+pub record MapMayCome (told : List ℕ → Option (List ℕ)) (task : Task) (outcome : Outcome LayerMap Refusal) : Type 0 where
+  pub bytes : List ℕ → List ℕ
+  pub may_be : MayContain told bytes
+  pub comes : MapComesTo task bytes outcome
+
+-- there is one of these names
+abbrev pub IsOneOf : List (List ℕ) → Type 0
+IsOneOf names = (name : List ℕ) × Contains names name
+
+-- the radius of the task is one of defects, where it has one
+abbrev pub IsRadiusOf : Task → Type 0
+IsRadiusOf (OneMetal layout layer datatype radius top) = IsRadius radius
+IsRadiusOf (Mapped layout map top) = Unit {0}
+
+-- ---- layouts
+
+-- some bytes that the file of this name may have come to this, where this top is wanted, or any
+pub record LayoutMayCome (told : List ℕ → Option (List ℕ)) (layer_map : LayerMap) (wanted : Option (List ℕ)) (name : List ℕ)
+    (outcome : Outcome Subject Refusal) : Type 0 where
+  pub bytes : List ℕ
+  pub may_be : MayHave (told name) bytes
+  pub comes : LayoutComesTo layer_map wanted bytes outcome
+
+-- these are the rows on the subject, as many as a report may have
+pub record HasRows (subject : Subject) (rows : Vec Row Global) : Type 0 where
+  pub are_rows : AreRowsOn subject rows.items
+  pub few : length rows.items ≤ MOST_ROWS
+
+-- what is found of the words and the files
+abbrev pub IsFound : List (List ℕ) → (List ℕ → Option (List ℕ)) → Change ℕ → Result (Vec Row Global) Unreported → Type 0
+IsFound words told failures = FindsInFiles failures (NameSomeFile words) (MayComeTo words told) HasRows
+
+-- rows that were found are as many as a report may have
+abbrev pub AreFew : Result (Vec Row Global) Unreported → Type 0
+AreFew found = IfOk found (λ rows. length rows.items ≤ MOST_ROWS)
+
+-- ---- the printing
+
+-- how the printing of a report ends, with this status
+pub data ReportEnds (rows : List Row) (out : Output) : ℕ → Type 0 where
+  report_out : Takes out (report_text rows) → ReportEnds rows out 0
+  report_cut : FailsWithin out (report_text rows) → ReportEnds rows out 5
+  no_report : IsIdle out → ReportEnds rows out 6
+
+-- how the printing of a refusal's line ends, with this status
+pub data LineEnds (refusal : Refusal) (err : Output) : ℕ → Type 0 where
+  line_out : Takes err (refusal_text refusal) → LineEnds refusal err refusal.status
+  line_cut : FailsWithin err (refusal_text refusal) → LineEnds refusal err 5
+  no_line : IsIdle err → LineEnds refusal err 6
+
+-- what was found is printed, with this status
+abbrev pub IsPrinted : Result (Vec Row Global) Unreported → Output → Output → ℕ → Type 0
+IsPrinted (Ok rows) out err status = ReportEnds rows.items out status × IsIdle err
+IsPrinted (Err (Refused refusal)) out err status = LineEnds refusal err status × IsIdle out
+IsPrinted (Err FilesFailed) out err status = (status ≡ 5) × IsIdle out × IsIdle err
+IsPrinted (Err Memory) out err status = (status ≡ 6) × IsIdle out × IsIdle err

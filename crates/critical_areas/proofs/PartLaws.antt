@@ -1,0 +1,80 @@
+-- the parts that come of nets
+use Rattle.std.proofs.Common.{◌≡◌, ◌<◌, ℕ, List, [], map, length, sym, subst, ap, ◌∙◌}
+use Rattle.std.specs.Prelude.{◌↔◌, Contains, slice_index_or, Ok, Err}
+use Rattle.std.specs.List.{enumerate_from}
+use Rattle.std.proofs.Math.ListN.{get_or-map}
+use Rattle.std.proofs.lemmas.List.{length-map}
+use Rattle.std.proofs.lemmas.List.Elements.{All-nil}
+use Rattle.first_refusal.proofs.CheckLaws.{none_fails}
+use Rattle.first_refusal.specs.Answers.{Answers, gives, refuses, no_memory}
+use Rattle.first_refusal.specs.Checks.{IsFirstFailing, all_hold, one_fails}
+use Rattle.geo_core.specs.Cells.{Has}
+use Rattle.geo_core.specs.Unions.{IsCoveredIn}
+use Rattle.geo_core.specs.declared.plane.Cell.{Cell}
+use Rattle.geo_core.specs.declared.plane.Half.{Half}
+use Rattle.geo_core.specs.declared.plane.Labelled.{Labelled}
+use Rattle.geo_core.specs.declared.plane.Rect.{Rect}
+use Rattle.fault_model.specs.Halves.{IsOn}
+use Rattle.lists.proofs.Mapping.{Contains-map, Contains-map_from}
+use Rattle.map_model.specs.LayerMap.{LayerMap}
+use Rattle.net_extract.specs.Cuts.{cuts_of}
+use Rattle.net_extract.specs.Extraction.{AreNetsOf, ComeToNets, IsOnItsMetal}
+use Rattle.net_extract.specs.NetLists.{NetLists, IsPieceCell, IsNetCell, pieces_on}
+use Rattle.net_extract.specs.declared.fault.NetFault.{NetFault}
+use Rattle.net_extract.specs.declared.fault.NetFault.TheVariants.{TerminalOffMetal, Memory}
+use Rattle.questions.specs.Questions.{questions}
+use Rattle.critical_areas.specs.AreaParts.{ArePartsOf, ArePiecesOf, ComeToParts, IsInPieces, by_net}
+use Rattle.critical_areas.specs.declared.parts.Parts.{Parts}
+
+module _ (layer_map : LayerMap) (lists : List (List Rect)) (made : NetLists) (are : AreNetsOf layer_map lists made) (metal : ℕ) where
+  abbrev pieces : List Labelled
+  pieces = map by_net (pieces_on made metal)
+
+  -- a half square of a piece lies in its net
+  in_net : (piece : Labelled) (h : Half) → Contains pieces piece → IsOn (Has piece.rect) h → IsOn (IsNetCell made metal piece.label) h
+  in_net piece h among on =
+      let found = Contains-map_from by_net (pieces_on made metal) piece among in
+      (on.0, on.1, record { piece = found.0; among = found.1; carries = ap (λ (l : Labelled). l.label) found.2; has = subst (λ (l : Labelled). Has l.rect on.0) (sym found.2) on.2 })
+
+  has_piece : (c : Cell) → IsInPieces pieces c ↔ IsPieceCell made metal c
+  has_piece c = (
+    λ v. let found = Contains-map_from by_net (pieces_on made metal) v.piece v.among in
+        record { piece = found.0; among = found.1; has = subst (λ (l : Labelled). Has l.rect c) (sym found.2) v.has },
+    λ v. record { piece = by_net v.piece; among = Contains-map by_net (pieces_on made metal) v.piece v.among; has = v.has },
+  )
+
+  -- the pieces of a metal, labelled by their nets
+  pub pieces_by_net : metal < length layer_map.metals → ArePiecesOf (IsCoveredIn lists) (cuts_of layer_map) metal pieces
+  pieces_by_net small = record {
+    cover = λ c. let covered = are.covered metal c small in (λ v. covered.0 ((has_piece c).0 v), λ v. (has_piece c).1 (covered.1 v));
+    nets = λ one other p q one_in other_in p_on q_on. are.nets metal metal one.label other.label p q (in_net one p one_in p_on) (in_net other q other_in q_on);
+  }
+
+pub parts_are : (layer_map : LayerMap) (lists : List (List Rect)) (made : NetLists) (parts : Parts) → AreNetsOf layer_map lists made → parts.questions ≡ questions layer_map
+    → parts.metals ≡ map (map by_net) made.pieces → ArePartsOf layer_map lists parts
+parts_are layer_map lists made parts are asked metals = record {
+  asked = asked;
+  one_each = ap length metals ∙ length-map made.pieces (map by_net) ∙ are.metals;
+  pieces = λ metal small.
+      let at = ap (λ ms. slice_index_or ms metal []) metals ∙ get_or-map (map by_net) made.pieces metal [] in
+      subst (ArePiecesOf (IsCoveredIn lists) (cuts_of layer_map) metal) (sym at) (pieces_by_net layer_map lists made are metal small);
+}
+
+module _ (layer_map : LayerMap) (lists : List (List Rect)) where
+  -- parts that are made from nets are what the layers come to
+  pub prepared : (made : NetLists) (parts : Parts) → Answers Memory (ComeToNets layer_map lists) (Ok made) → (AreNetsOf layer_map lists made → ArePartsOf layer_map lists parts)
+      → Answers Memory (ComeToParts layer_map lists) (Ok parts)
+  prepared made parts (gives (all_hold all are)) from = gives (all_hold all (from are))
+
+  -- and so is a fault
+  pub refused_too : (fault : NetFault) → Answers Memory (ComeToNets layer_map lists) (Err fault) → Answers Memory (ComeToParts layer_map lists) (Err fault)
+  refused_too fault (refuses (one_fails q)) = refuses (one_fails q)
+  refused_too fault no_memory = no_memory
+
+  -- without terminals all answers are parts, or that no memory is left
+  pub parts_given : (parts : Parts) → Answers Memory (ComeToParts layer_map lists) (Ok parts) → ArePartsOf layer_map lists parts
+  parts_given parts (gives (all_hold all are)) = are
+
+  pub not_off_metal : layer_map.terminals ≡ [] → (index : ℕ) → Answers Memory (ComeToParts layer_map lists) (Err (TerminalOffMetal index)) → ⊥
+  not_off_metal none index (refuses (one_fails q)) =
+      none_fails (IsOnItsMetal lists) [] (All-nil (IsOnItsMetal lists)) q.check (subst (λ ts. IsFirstFailing (IsOnItsMetal lists) (enumerate_from 0 ts) q.check) none q.is_first)

@@ -1,0 +1,41 @@
+use Rattle.std.proofs.Common.{◌≡◌, ◌∙◌, ◌<◌, ℕ, [], length, get_or, ap, sym, subst, arith}
+use Rattle.std.specs.Prelude.{Some}
+use Rattle.std.proofs.lemmas.Option.{get_or_from_slice_get, slice_get-get_or}
+use Rattle.std.proofs.lemmas.Result.{IfOk-weaker}
+use Rattle.fault_model.specs.Areas.{Tally, cells_of, cells_of_window, none}
+use Rattle.fault_model.specs.Faults.{IsShort}
+use Rattle.geo_core.specs.Bounds.{IsRadius}
+use Rattle.geo_core.specs.Unions.{IsCoveredIn}
+use Rattle.map_model.specs.Measures.{side_of}
+use Rattle.net_extract.specs.Cuts.{cuts_of}
+use Rattle.short_area.specs.Labels.{TouchesTwoLabels}
+use Rattle.critical_areas.proofs.PieceLaws.{reach_is_radius, shorts_are}
+use Rattle.critical_areas.proofs.shorts.shorts.Goals as goal
+
+pub returns-in_default-clause-tally : goal.returns-in_default-clause-tally
+returns-in_default-clause-tally c =
+    λ layer_map lists are.
+    let nothing : Tally (IsShort (IsCoveredIn lists) (cuts_of layer_map) c.args.metal (side_of c.args.measure)) [] 0 = none in rw c.in_default.is nothing
+
+pub short_area-requires : goal.short_area-requires
+short_area-requires c = subst IsRadius (sym c.reach.ensures) (reach_is_radius c.args.measure c.requires.some c.requires.within)
+
+-- the pieces that were read are those of the metal
+read : (c : goal.After-short_area) → c.as_slice-pieces.result.now ≡ get_or c.args.parts.now.metals c.args.metal []
+read c =
+    let list = c.index-as_slice-metal.result in
+    let lists = c.as_slice.result.now in
+    let small : c.args.metal < length lists = omega (arith, ap length c.as_slice.ensures, c.requires.metal) in
+    let found = get_or_from_slice_get lists c.args.metal list [] (slice_get-get_or lists c.args.metal list small ∙ ap Some (sym c.index-as_slice-metal.is)) in
+    c.as_slice-pieces.ensures ∙ sym found ∙ ap (λ ms. get_or ms c.args.metal []) c.as_slice.ensures
+
+pub returns-clause-tally : goal.returns-clause-tally
+returns-clause-tally c =
+    λ layer_map lists are.
+    let pieces = c.as_slice-pieces.result.now in
+    let radius = c.reach.result in
+    let Touched : ℕ → Type 0 = Tally (TouchesTwoLabels pieces radius) (cells_of c.in-Some.window) in
+    let Shorted : ℕ → Type 0 = Tally (IsShort (IsCoveredIn lists) (cuts_of layer_map) c.args.metal (side_of c.args.measure)) (cells_of_window c.args.window) in
+    IfOk-weaker c.short_area.result Touched Shorted (λ (n : ℕ) counted.
+    shorts_are layer_map lists c.args.parts.now c.args.metal radius c.args.measure pieces (cells_of_window c.args.window) n are c.requires.metal (read c) c.reach.ensures
+    (subst (λ w. Tally (TouchesTwoLabels pieces radius) (cells_of_window w) n) (sym c.in-Some.is) counted)) c.short_area.ensures.tally

@@ -1,0 +1,48 @@
+-- what the areas of a layout are counted from: what is asked, and the pieces of each metal, labelled by their nets
+use Rattle.std.specs.Prelude.{ℕ, List, [], Contains, length, slice_index_or, ◌≡◌, ◌<◌, ◌↔◌}
+use Rattle.std.specs.List.{enumerate_from}
+use Rattle.first_refusal.specs.Checks.{Checks}
+use Rattle.first_refusal.specs.Outcomes.{Outcome}
+use Rattle.geo_core.specs.Cells.{Has}
+use Rattle.geo_core.specs.Unions.{IsCoveredIn}
+use Rattle.geo_core.specs.declared.plane.Cell.{Cell}
+use Rattle.geo_core.specs.declared.plane.Half.{Half}
+use Rattle.geo_core.specs.declared.plane.Labelled.{Labelled}
+use Rattle.geo_core.specs.declared.plane.Rect.{Rect}
+use Rattle.fault_model.specs.Halves.{IsOn}
+use Rattle.fault_model.specs.Nets.{Cut, IsSameNetOn}
+use Rattle.map_model.specs.LayerMap.{LayerMap}
+use Rattle.net_extract.specs.Cuts.{cuts_of}
+use Rattle.net_extract.specs.Extraction.{IsOnItsMetal, off_metal}
+use Rattle.net_extract.specs.declared.fault.NetFault.{NetFault}
+use Rattle.net_extract.specs.declared.pieces.Piece.{Piece}
+use Rattle.questions.specs.Questions.{questions}
+use Rattle.critical_areas.specs.declared.parts.Parts.{Parts}
+
+-- one of the pieces has the cell
+pub record IsInPieces (pieces : List Labelled) (c : Cell) : Type 0 where
+  pub piece : Labelled
+  pub among : Contains pieces piece
+  pub has : Has piece.rect c
+
+-- the pieces have exactly the cells of the metal `m`, and two of them have the same label exactly where they are of one net
+pub record ArePiecesOf (covers : ℕ → Cell → Type 0) (cuts : List Cut) (m : ℕ) (pieces : List Labelled) : Type 0 where
+  pub cover : (c : Cell) → IsInPieces pieces c ↔ covers m c
+  pub nets : (one other : Labelled) (p q : Half) → Contains pieces one → Contains pieces other →
+      IsOn (Has one.rect) p → IsOn (Has other.rect) q → (one.label ≡ other.label) ↔ IsSameNetOn covers cuts m p q
+
+-- the parts are those of this layer map and of what the lists cover
+pub record ArePartsOf (layer_map : LayerMap) (lists : List (List Rect)) (parts : Parts) : Type 0 where
+  pub asked : parts.questions ≡ questions layer_map
+  pub one_each : length parts.metals ≡ length layer_map.metals
+  pub pieces : (metal : ℕ) → metal < length layer_map.metals →
+      ArePiecesOf (IsCoveredIn lists) (cuts_of layer_map) metal (slice_index_or parts.metals metal [])
+
+-- what layers come to: parts where all terminals are on their metals, and else the fault of the first that is not
+abbrev pub ComeToParts : LayerMap → List (List Rect) → Outcome Parts NetFault → Type 0
+ComeToParts layer_map lists =
+    Checks (IsOnItsMetal lists) (enumerate_from 0 layer_map.terminals) off_metal (ArePartsOf layer_map lists)
+
+-- a piece with its net as its label
+abbrev pub by_net : Piece → Labelled
+by_net piece = record { rect = piece.rect; label = piece.net }

@@ -1,0 +1,21 @@
+ghost use Rattle.std.specs.Prelude.{◌≤◌, All, length};
+ghost use Rattle.questions.specs.Questions.{IsAskable};
+ghost use Rattle.questions.specs.declared.row.TheConstants.{MOST_ROWS};
+
+use geo_core::Labelled;
+use lists::Items;
+use questions::Question;
+
+/// The pieces of a metal, labelled.
+pub type PieceList = Items<Labelled>;
+
+/// What all areas of a layout are counted from.
+#[derive(Debug, Drop)]
+pub struct Parts {
+    /// What is asked, in the order of the report.
+    pub questions: Items<Question>,
+    /// The pieces of each metal, labelled by their nets.
+    pub metals: Items<PieceList>,
+    pub ghost askable: { All (IsAskable (length metals)) questions },
+    pub ghost few: { length questions ≤ MOST_ROWS },
+}

@@ -1,0 +1,72 @@
+ghost use Rattle.std.specs.Prelude.{[], ◌≡◌, ◌<◌, ◌+◌, ◌^◌, IfOk, length, map};
+ghost use Rattle.first_refusal.specs.Answers.{Answers};
+ghost use Rattle.map_model.specs.MapView.{layer_map_of};
+ghost use Rattle.critical_areas.specs.AreaParts.{ArePartsOf, ComeToParts, by_net};
+
+use super::parts::{Parts, PieceList};
+use geo_core::Labelled;
+use lists::{Items, NoMemory};
+use map_model::{Layers, Map};
+use net_extract::{NetFault, Nets, Piece, extract};
+use questions::questions_of;
+use std::alloc::Global;
+
+/// Makes what all areas of these layers need, of which there is one list of rectangles for each metal of the map, and
+/// then one for each cut. The error is the first terminal that is not on its metal, or that no memory is left.
+#[tactic(auto, using(first_refusal::proofs::AnswerLaws::out_of_memory))]
+pub fn prepare(alloc: Global, map: &Map, layers: &Layers) -> Result<Parts, NetFault>
+    requires { length layers.now.lists.items ≡ length map.now.metals + length map.now.cuts }
+    ensures { Answers NetFault.Memory (ComeToParts (layer_map_of map.now) layers.now.lists.items) result }
+{
+    let nets = extract(alloc, layers, map)?;
+    let questions = questions_of(alloc, map)?;
+    let metals = pieces_by_net(alloc, &nets, map.metals.as_slice().len())?;
+    Ok(Parts {
+        questions: Items::from_vec(questions),
+        metals,
+    })
+}
+
+/// The same for a map without terminals, where the only error is that no memory is left.
+pub fn prepare_without_terminals(
+    alloc: Global,
+    map: &Map,
+    layers: &Layers,
+) -> Result<Parts, NoMemory>
+    requires no_terminals { map.now.terminals ≡ [] }
+    requires one_each { length layers.now.lists.items ≡ length map.now.metals + length map.now.cuts }
+    ensures { IfOk result (ArePartsOf (layer_map_of map.now) layers.now.lists.items) }
+{
+    match prepare(alloc, map, layers) {
+        Ok(parts) => Ok(parts),
+        Err(NetFault::Memory) => Err(NoMemory),
+        Err(NetFault::TerminalOffMetal { .. }) => unreachable!(),
+    }
+}
+
+/// The pieces of each of the metals, labelled by their nets.
+fn pieces_by_net(alloc: Global, nets: &Nets, metals: usize) -> Result<Items<PieceList>, NoMemory>
+    requires all { metals ≡ length nets.now.pieces }
+    requires small { metals < 2 ^ 32 }
+    ensures { IfOk result (λ lists. lists ≡ map (map by_net) nets.now.pieces) }
+{
+    let mut lists = Vec::new(alloc);
+    for metal in 0..metals as u32 {
+        lists.push(labelled(alloc, nets.pieces(metal))?)?;
+    }
+    Ok(Items::from_vec(lists))
+}
+
+/// The pieces with their nets as labels.
+fn labelled(alloc: Global, pieces: &[Piece]) -> Result<PieceList, NoMemory>
+    ensures { IfOk result (λ list. list ≡ map by_net pieces.now) }
+{
+    let mut list = Vec::with_capacity(alloc, pieces.len())?;
+    for piece in pieces {
+        list.push(Labelled {
+            rect: piece.rect,
+            label: piece.net,
+        })?;
+    }
+    Ok(Items::from_vec(list))
+}

@@ -1,0 +1,7 @@
+use Rattle.std.proofs.Common.{arith}
+use Rattle.std.proofs.lemmas.List.Elements.{All-from_get_or}
+use Rattle.lists.specs.ByteLists.{IsByte}
+use Rattle.edge_io.proofs.whole.tell_bytes.Goals as goal
+
+pub returns : goal.returns
+returns c = All-from_get_or IsByte c.args.bytes.now 0 (λ i lt. omega (arith, c.type_inv.bytes i))

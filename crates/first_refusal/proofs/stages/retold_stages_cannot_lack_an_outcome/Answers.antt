@@ -1,5 +1,0 @@
-use Rattle.first_refusal.proofs.StageLaws as laws
-use Rattle.first_refusal.proofs.stages.retold_stages_cannot_lack_an_outcome.Goals as goal
-
-pub returns : goal.returns
-returns g c = λ refusal_of. laws.retold_cannot_lack refusal_of g.S.Stage.outcomes

@@ -1,0 +1,28 @@
+-- the routes that begin at parts
+use Rattle.std.specs.Prelude.{ℕ, zero, suc, List, [], ◌∷◌, map, flat_map, Vec}
+use Rattle.std.specs.Global.{Global}
+use Rattle.flatten.specs.Steps.{steps_of}
+use Rattle.flatten.specs.Routes.{Route, behind_step}
+use Rattle.flatten.specs.inside.Parts.{parts_at}
+use Rattle.flatten.specs.declared.part.Part.{Part}
+use Rattle.flatten.specs.declared.part.Part.TheVariants.{End, Copies}
+
+-- the routes that begin at a part of the structure with this number, where those from targets are these
+abbrev pub part_routes : (ℕ → List Route) → ℕ → Part → List Route
+part_routes from structure (End element layer shape) = record {
+  steps = [];
+  structure = structure;
+  element = element;
+  shape = shape.now;
+} ∷ []
+part_routes from structure (Copies reference target) = flat_map (λ step. map (behind_step step) (from target)) (steps_of reference.now)
+
+-- the routes that begin at the parts of the structure with this number and have at most so many steps
+unfoldable pub node_routes : List (Vec Part Global) → ℕ → ℕ → List Route
+node_routes nodes zero one = flat_map (part_routes (λ target. []) one) (parts_at nodes one)
+node_routes nodes (suc steps) one = flat_map (part_routes (node_routes nodes steps) one) (parts_at nodes one)
+
+-- the routes from the target of a reference, where at most so many steps begin with that reference's
+abbrev pub routes_below : List (Vec Part Global) → ℕ → ℕ → List Route
+routes_below nodes zero target = []
+routes_below nodes (suc steps) target = node_routes nodes steps target

@@ -1,0 +1,2 @@
+pub mod ElementKinds
+pub mod Quarters

@@ -1,5 +1,0 @@
-use Rattle.layer_map.proofs.NameLaws.{padded}
-use Rattle.layer_map.proofs.name.LayerName.new.Goals as goal
-
-pub invariant_of-result : goal.invariant_of-result
-invariant_of-result c = rw c.copy_from_slice.ensures.after (padded c.args.name.now (c.is_name.ensures.0 c.if-not-is_name.false))

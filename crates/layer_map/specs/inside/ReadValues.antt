@@ -1,0 +1,26 @@
+-- what readers find where one value or several may stand
+use Rattle.std.specs.Prelude.{ℕ, ◌≡◌, ◌≤◌, List, map, Option, Some, None, All}
+use Rattle.std.specs.Borrow.{Bor}
+use Rattle.toml.specs.Data.{Data}
+use Rattle.layer_map.specs.Values.{whole_number}
+
+-- a thing of this kind is found, or there is none
+pub data Finds {A : Type 0} (Is : A → Type 0) : Option A → Type 0 where
+  finds : {thing : A} → Is thing → Finds Is (Some thing)
+  lacks : ((thing : A) → Is thing → ⊥) → Finds Is None
+
+-- the value is this whole number, which lies within these bounds
+pub record IsWholeIn (low high : ℕ) (value : Data) (number : ℕ) : Type 0 where
+  pub is_whole : value ≡ whole_number number
+  pub least : low ≤ number
+  pub most : number ≤ high
+
+-- the values are these whole numbers, each of which lies within these bounds
+pub record AreWholesIn (low high : ℕ) (values : List Data) (numbers : List ℕ) : Type 0 where
+  pub are_wholes : values ≡ map whole_number numbers
+  pub least : All (λ number. low ≤ number) numbers
+  pub most : All (λ number. number ≤ high) numbers
+
+-- texts, without where they lie
+abbrev pub texts_of : List (Bor (List ℕ)) → List (List ℕ)
+texts_of = map (λ text. text.now)

@@ -1,0 +1,376 @@
+-- What may follow at each place up to the end of a library, and so that records which lead to the end are in shape.
+use Rattle.std.proofs.Common.{◌≡◌, ◌≢◌, ℕ, suc, ◌⊎◌, inl, inr, Bool, true, false, not, ◌&&◌, ◌||◌, ◌==◌, if◌then◌else◌, List, [], ◌∷◌, ◌++◌, get_or, All, AllPairs, Contains, Option, Some, None, option_map, option_and_then, find, IfSome, refl, sym, ap, subst, ◌∙◌, arith, append_assoc}
+use Rattle.std.specs.Prelude.{option_to_list}
+use Rattle.std.specs.List.{flat_map}
+use Rattle.std.proofs.lemmas.Bool.{eqb-true, eqb-false}
+use Rattle.std.proofs.lemmas.List.Elements.{All-nil, All-cons, All-weaker}
+use Rattle.std.proofs.lemmas.List.Folds.{Any-from_list_any, list_any-append}
+use Rattle.std.proofs.lemmas.List.Kept.{AllPairs-cons}
+use Rattle.gds_records.specs.declared.kinds.TheConstants as kind
+use Rattle.gds_records.specs.Spelling.{Entry}
+use Rattle.library_grammar.specs.ElementForms.{ElementForm, element_forms, own_kinds}
+use Rattle.library_grammar.specs.Grammar.{kinds_of, head_kinds, IsOfKind, Property, property_records, IsProperty, ElementParts, element_records, IsElement, StructureParts, structure_records, IsStructure, IsInShape}
+use Rattle.library_grammar.specs.Places.{Place, before_header, before_bgnlib, before_name, before_units, between_structures, before_strname, behind_strname, between_elements, among_own, behind_attribute, behind_property, behind_endlib, has_kind, form_of, into_element, out_of_element, next_place, place_behind}
+
+-- ---- what leads to the end
+
+-- a record of this kind, and what leads to the end behind it
+record Begins (k : ℕ) (Ends : List Entry → Type 0) (entries : List Entry) : Type 0 where
+  first : Entry
+  is_first : IsOfKind k first
+  after : List Entry
+  ends : Ends after
+  parts : entries ≡ first ∷ after
+
+-- records of the head, a record of this kind, and what leads to the end behind it
+record EndsHead (k : ℕ) (Ends : List Entry → Type 0) (entries : List Entry) : Type 0 where
+  head : List Entry
+  are_head : All (λ e. Contains head_kinds e.kind) head
+  after : List Entry
+  ends : Begins k Ends after
+  parts : entries ≡ head ++ after
+
+-- structures, and ENDLIB
+record EndsLibrary (entries : List Entry) : Type 0 where
+  structures : List StructureParts
+  are_structures : All IsStructure structures
+  last : Entry
+  is_last : IsOfKind kind.ENDLIB last
+  parts : entries ≡ flat_map structure_records structures ++ last ∷ []
+
+-- elements, ENDSTR, and so on
+record EndsStructure (entries : List Entry) : Type 0 where
+  elements : List ElementParts
+  are_elements : All IsElement elements
+  last : Entry
+  is_last : IsOfKind kind.ENDSTR last
+  after : List Entry
+  ends : EndsLibrary after
+  parts : entries ≡ flat_map element_records elements ++ last ∷ after
+
+-- a class or none, elements, ENDSTR, and so on
+record EndsNamed (entries : List Entry) : Type 0 where
+  class : Option Entry
+  is_class : IfSome class (IsOfKind kind.STRCLASS)
+  after : List Entry
+  ends : EndsStructure after
+  parts : entries ≡ option_to_list class ++ after
+
+-- properties, ENDEL, and so on
+record EndsProperties (entries : List Entry) : Type 0 where
+  properties : List Property
+  are_properties : All IsProperty properties
+  last : Entry
+  is_last : IsOfKind kind.ENDEL last
+  after : List Entry
+  ends : EndsStructure after
+  parts : entries ≡ flat_map property_records properties ++ last ∷ after
+
+-- more records of an element's own, each once and of no kind that the element has, properties, ENDEL, and so on
+record EndsElement (form : ElementForm) (own : List ℕ) (entries : List Entry) : Type 0 where
+  more : List Entry
+  are_own : All (λ e. Contains (own_kinds form) e.kind) more
+  are_new : All (λ k. has_kind own k ≡ false) (kinds_of more)
+  once : AllPairs (λ one other. one ≢ other) (kinds_of more)
+  after : List Entry
+  ends : EndsProperties after
+  parts : entries ≡ more ++ after
+
+-- what leads from a place to the end
+abbrev Ends : Place → List Entry → Type 0
+Ends before_header entries = Begins kind.HEADER (Begins kind.BGNLIB (EndsHead kind.LIBNAME (EndsHead kind.UNITS EndsLibrary))) entries
+Ends before_bgnlib entries = Begins kind.BGNLIB (EndsHead kind.LIBNAME (EndsHead kind.UNITS EndsLibrary)) entries
+Ends before_name entries = EndsHead kind.LIBNAME (EndsHead kind.UNITS EndsLibrary) entries
+Ends before_units entries = EndsHead kind.UNITS EndsLibrary entries
+Ends between_structures entries = EndsLibrary entries
+Ends before_strname entries = Begins kind.STRNAME EndsNamed entries
+Ends behind_strname entries = EndsNamed entries
+Ends between_elements entries = EndsStructure entries
+Ends (among_own form own) entries = EndsElement form own entries
+Ends behind_attribute entries = Begins kind.PROPVALUE EndsProperties entries
+Ends behind_property entries = EndsProperties entries
+Ends behind_endlib entries = entries ≡ []
+
+-- ---- tests
+
+-- a choice is one of the two
+decided : {A : Type 0} (b : Bool) (x y z : A) → (if b then x else y) ≡ z → ((b ≡ true) × (x ≡ z)) ⊎ ((b ≡ false) × (y ≡ z))
+decided true x y z h = inl (refl, h)
+decided false x y z h = inr (refl, h)
+
+both_true : (a b : Bool) → (a && not b) ≡ true → (a ≡ true) × (b ≡ false)
+both_true true false h = (refl, refl)
+both_true true true h = absurd (cc)
+both_true false b h = absurd (cc)
+
+both_false : (a b : Bool) → (a || b) ≡ false → (a ≡ false) × (b ≡ false)
+both_false false b h = (refl, h)
+both_false true b h = absurd (cc)
+
+-- a list that has a kind contains it
+pub contains_kind : (kinds : List ℕ) (k : ℕ) → has_kind kinds k ≡ true → Contains kinds k
+contains_kind kinds k h =
+    let found = Any-from_list_any (λ other. other == k) kinds h in
+    let same : found.1 ≡ k = eqb-true found.1 k found.4 in
+    (found.0, found.2, subst (λ (x : ℕ). get_or kinds found.0 x ≡ x) same found.3)
+
+-- a list without a kind, of which the last is another
+kind_before : (own : List ℕ) (k x : ℕ) → has_kind (own ++ k ∷ []) x ≡ false → (has_kind own x ≡ false) × (k ≢ x)
+kind_before own k x h =
+    let apart = both_false (has_kind own x) (has_kind (k ∷ []) x) (sym (list_any-append (λ other. other == x) own (k ∷ [])) ∙ h) in
+    (apart.0, eqb-false k x (both_false (k == x) false apart.1).0)
+
+-- the form that is found is listed, and opens with the kind
+pub found_form : (forms : List ElementForm) (k : ℕ) (form : ElementForm) → find (λ f. f.opening == k) forms ≡ Some form → Contains forms form × (k ≡ form.opening)
+found_form [] k form h = absurd (cc)
+found_form (f ∷ forms) k form h =
+    elim (decided (f.opening == k) (Some f) (find (λ g. g.opening == k) forms) (Some form) h) [
+      | inl (test, some) ↦
+          let same : f ≡ form = cc in
+          let opens : f.opening ≡ k = eqb-true f.opening k test in
+          ((0, omega arith, same), sym opens ∙ ap (λ (g : ElementForm). g.opening) same)
+      | inr (test, later) ↦
+          let found = found_form forms k form later in
+          ((suc found.0.0, omega arith, found.0.2), found.1)
+    ]
+
+-- ---- one record more in front
+
+arrives : (p q : Place) (after : List Entry) → Some p ≡ Some q → Ends q after → Ends p after
+arrives p q after h ends = let same : p ≡ q = cc in subst (λ (r : Place). Ends r after) (sym same) ends
+
+-- where only one kind may follow
+only : (n : ℕ) (e : Entry) (p q : Place) (after : List Entry) → (if e.kind == n then Some p else None) ≡ Some q → Ends q after → IsOfKind n e × Ends p after
+only n e p q after h ends =
+    elim (decided (e.kind == n) (Some p) None (Some q) h) [
+      | inl (test, some) ↦ (eqb-true e.kind n test, arrives p q after some ends)
+      | inr (test, none) ↦ absurd (cc)
+    ]
+
+begins : {Rest : List Entry → Type 0} (n : ℕ) (e : Entry) (after : List Entry) → IsOfKind n e × Rest after → Begins n Rest (e ∷ after)
+begins n e after h = record { first = e; is_first = h.0; after = after; ends = h.1; parts = refl }
+
+-- in the head
+head_back : (Rest : List Entry → Type 0) (n : ℕ) (e : Entry) (here there q : Place) (after : List Entry) → (Ends here after → EndsHead n Rest after) → (Ends there after → Rest after)
+    → (if e.kind == n then Some there else if has_kind head_kinds e.kind then Some here else None) ≡ Some q → Ends q after → EndsHead n Rest (e ∷ after)
+head_back Rest n e here there q after stays leaves h ends =
+    elim (decided (e.kind == n) (Some there) (if has_kind head_kinds e.kind then Some here else None) (Some q) h) [
+      | inl (test, some) ↦
+          record {
+            head = [];
+            are_head = All-nil (λ o. Contains head_kinds o.kind);
+            after = e ∷ after;
+            ends = begins n e after (eqb-true e.kind n test, leaves (arrives there q after some ends));
+            parts = refl;
+          }
+      | inr (test, other) ↦
+          elim (decided (has_kind head_kinds e.kind) (Some here) None (Some q) other) [
+            | inl (is_head, some) ↦
+                let rest = stays (arrives here q after some ends) in
+                record {
+                  head = e ∷ rest.head;
+                  are_head = All-cons (λ o. Contains head_kinds o.kind) e rest.head (contains_kind head_kinds e.kind is_head) rest.are_head;
+                  after = rest.after;
+                  ends = rest.ends;
+                  parts = ap (λ (x : List Entry). e ∷ x) rest.parts;
+                }
+            | inr (no_head, none) ↦ absurd (cc)
+          ]
+    ]
+
+-- behind an element's own records
+out_back : (e : Entry) (q : Place) (after : List Entry) → out_of_element e.kind ≡ Some q → Ends q after → EndsProperties (e ∷ after)
+out_back e q after h ends =
+    elim (decided (e.kind == kind.PROPATTR) (Some behind_attribute) (if e.kind == kind.ENDEL then Some between_elements else None) (Some q) h) [
+      | inl (test, some) ↦
+          let text : Begins kind.PROPVALUE EndsProperties after = arrives behind_attribute q after some ends in
+          let rest : EndsProperties text.after = text.ends in
+          let one : Property = record { attribute = e; text = text.first } in
+          record {
+            properties = one ∷ rest.properties;
+            are_properties = All-cons IsProperty one rest.properties (record { attribute = eqb-true e.kind kind.PROPATTR test; text = text.is_first }) rest.are_properties;
+            last = rest.last;
+            is_last = rest.is_last;
+            after = rest.after;
+            ends = rest.ends;
+            parts = cc (text.parts, rest.parts);
+          }
+      | inr (test, other) ↦
+          let last = only kind.ENDEL e between_elements q after other ends in
+          record { properties = []; are_properties = All-nil IsProperty; last = e; is_last = last.0; after = after; ends = last.1; parts = refl }
+    ]
+
+-- among an element's own records
+own_longer : (form : ElementForm) (own : List ℕ) (e : Entry) (after : List Entry) → has_kind (own_kinds form) e.kind ≡ true → has_kind own e.kind ≡ false
+    → EndsElement form (own ++ e.kind ∷ []) after → EndsElement form own (e ∷ after)
+own_longer form own e after is_own is_new x =
+    let k : ℕ = e.kind in
+    let more : List ℕ = kinds_of x.more in
+    record {
+      more = e ∷ x.more;
+      are_own = All-cons (λ o. Contains (own_kinds form) o.kind) e x.more (contains_kind (own_kinds form) k is_own) x.are_own;
+      are_new = All-cons (λ n. has_kind own n ≡ false) k more is_new (All-weaker (λ n. has_kind (own ++ k ∷ []) n ≡ false) (λ n. has_kind own n ≡ false) (λ n h. (kind_before own k n h).0)
+          more x.are_new);
+      once = AllPairs-cons (λ one other. one ≢ other) k more (All-weaker (λ n. has_kind (own ++ k ∷ []) n ≡ false) (λ n. k ≢ n) (λ n h. (kind_before own k n h).1) more x.are_new) x.once;
+      after = x.after;
+      ends = x.ends;
+      parts = ap (λ (es : List Entry). e ∷ es) x.parts;
+    }
+
+own_back : (form : ElementForm) (own : List ℕ) (e : Entry) (q : Place) (after : List Entry) → next_place (among_own form own) e.kind ≡ Some q → Ends q after → EndsElement form own (e ∷ after)
+own_back form own e q after h ends =
+    elim (decided (has_kind (own_kinds form) e.kind && not (has_kind own e.kind)) (Some (among_own form (own ++ e.kind ∷ []))) (out_of_element e.kind) (Some q) h) [
+      | inl (test, some) ↦
+          let tests = both_true (has_kind (own_kinds form) e.kind) (has_kind own e.kind) test in
+          own_longer form own e after tests.0 tests.1 (arrives (among_own form (own ++ e.kind ∷ [])) q after some ends)
+      | inr (test, out) ↦
+          record {
+            more = [];
+            are_own = All-nil (λ o. Contains (own_kinds form) o.kind);
+            are_new = All-nil (λ n. has_kind own n ≡ false);
+            once = λ i j d l h. absurd (omega arith);
+            after = e ∷ after;
+            ends = out_back e q after out ends;
+            parts = refl;
+          }
+    ]
+
+-- between elements: an element that begins, or the end of the structure
+element_back : (e : Entry) (form : ElementForm) (after : List Entry) → Contains element_forms form × (e.kind ≡ form.opening) → EndsElement form [] after → EndsStructure (e ∷ after)
+element_back e form after opens x =
+    let closing : EndsProperties x.after = x.ends in
+    let others : EndsStructure closing.after = closing.ends in
+    let element : ElementParts = record { form = form; opening = e; own = x.more; properties = closing.properties; last = closing.last } in
+    let is : IsElement element =
+    record { opens = record { listed = opens.0; opening = opens.1 }; are_own = x.are_own; once = x.once; properties = closing.are_properties; ends = closing.is_last }
+    in
+    let same : e ∷ after ≡ e ∷ (x.more ++ (flat_map property_records closing.properties ++ closing.last ∷ (flat_map element_records others.elements ++ others.last ∷ others.after))) =
+    cc (x.parts, closing.parts, others.parts)
+    in
+    record {
+      elements = element ∷ others.elements;
+      are_elements = All-cons IsElement element others.elements is others.are_elements;
+      last = others.last;
+      is_last = others.is_last;
+      after = others.after;
+      ends = others.ends;
+      parts = simp append_assoc same;
+    }
+
+into_back : (e : Entry) (q : Place) (after : List Entry) → into_element e.kind ≡ Some q → Ends q after → EndsStructure (e ∷ after)
+into_back e q after h ends =
+    elim (decided (e.kind == kind.ENDSTR) (Some between_structures) (option_map (λ form. among_own form []) (form_of e.kind)) (Some q) h) [
+      | inl (test, some) ↦
+          record {
+            elements = [];
+            are_elements = All-nil IsElement;
+            last = e;
+            is_last = eqb-true e.kind kind.ENDSTR test;
+            after = after;
+            ends = arrives between_structures q after some ends;
+            parts = refl;
+          }
+      | inr (test, other) ↦ go (form_of e.kind) refl other
+    ]
+  where
+    go : (o : Option ElementForm) → form_of e.kind ≡ o → option_map (λ form. among_own form []) o ≡ Some q → EndsStructure (e ∷ after)
+    go None is_none none = absurd (cc)
+    go (Some form) is_form some = element_back e form after (found_form element_forms e.kind form is_form) (arrives (among_own form []) q after some ends)
+
+-- between structures: a structure that begins, or the end of the library
+structure_back : (e : Entry) (after : List Entry) → IsOfKind kind.BGNSTR e → Begins kind.STRNAME EndsNamed after → EndsLibrary (e ∷ after)
+structure_back e after opens x =
+    let named : EndsNamed x.after = x.ends in
+    let rest : EndsStructure named.after = named.ends in
+    let others : EndsLibrary rest.after = rest.ends in
+    let structure : StructureParts = record { opening = e; name = x.first; class = named.class; elements = rest.elements; last = rest.last } in
+    let is : IsStructure structure = record { opens = opens; names = x.is_first; class = named.is_class; elements = rest.are_elements; ends = rest.is_last } in
+    let same : e ∷ after ≡ e ∷ x.first ∷ (option_to_list named.class ++ (flat_map element_records rest.elements ++ rest.last ∷ (flat_map structure_records others.structures ++ others.last ∷ []))) =
+    cc (x.parts, named.parts, rest.parts, others.parts)
+    in
+    record {
+      structures = structure ∷ others.structures;
+      are_structures = All-cons IsStructure structure others.structures is others.are_structures;
+      last = others.last;
+      is_last = others.is_last;
+      parts = simp append_assoc same;
+    }
+
+library_back : (e : Entry) (q : Place) (after : List Entry) → next_place between_structures e.kind ≡ Some q → Ends q after → EndsLibrary (e ∷ after)
+library_back e q after h ends =
+    elim (decided (e.kind == kind.BGNSTR) (Some before_strname) (if e.kind == kind.ENDLIB then Some behind_endlib else None) (Some q) h) [
+      | inl (test, some) ↦ structure_back e after (eqb-true e.kind kind.BGNSTR test) (arrives before_strname q after some ends)
+      | inr (test, other) ↦
+          let last = only kind.ENDLIB e behind_endlib q after other ends in
+          record { structures = []; are_structures = All-nil IsStructure; last = e; is_last = last.0; parts = ap (λ (es : List Entry). e ∷ es) last.1 }
+    ]
+
+named_back : (e : Entry) (q : Place) (after : List Entry) → next_place behind_strname e.kind ≡ Some q → Ends q after → EndsNamed (e ∷ after)
+named_back e q after h ends =
+    elim (decided (e.kind == kind.STRCLASS) (Some between_elements) (into_element e.kind) (Some q) h) [
+      | inl (test, some) ↦ record { class = Some e; is_class = eqb-true e.kind kind.STRCLASS test; after = after; ends = arrives between_elements q after some ends; parts = refl }
+      | inr (test, into) ↦ record { class = None; is_class = tt; after = e ∷ after; ends = into_back e q after into ends; parts = refl }
+    ]
+
+back : (p q : Place) (e : Entry) (after : List Entry) → next_place p e.kind ≡ Some q → Ends q after → Ends p (e ∷ after)
+back before_header q e after h ends = begins kind.HEADER e after (only kind.HEADER e before_bgnlib q after h ends)
+back before_bgnlib q e after h ends = begins kind.BGNLIB e after (only kind.BGNLIB e before_name q after h ends)
+back before_name q e after h ends = head_back (EndsHead kind.UNITS EndsLibrary) kind.LIBNAME e before_name before_units q after (λ x. x) (λ x. x) h ends
+back before_units q e after h ends = head_back EndsLibrary kind.UNITS e before_units between_structures q after (λ x. x) (λ x. x) h ends
+back between_structures q e after h ends = library_back e q after h ends
+back before_strname q e after h ends = begins kind.STRNAME e after (only kind.STRNAME e behind_strname q after h ends)
+back behind_strname q e after h ends = named_back e q after h ends
+back between_elements q e after h ends = into_back e q after h ends
+back (among_own form own) q e after h ends = own_back form own e q after h ends
+back behind_attribute q e after h ends = begins kind.PROPVALUE e after (only kind.PROPVALUE e behind_property q after h ends)
+back behind_property q e after h ends = out_back e q after h ends
+back behind_endlib q e after h ends = absurd (cc)
+
+-- ---- the whole way
+
+-- records that lead from a place behind ENDLIB
+ends_of : (entries : List Entry) (p : Place) → place_behind p (kinds_of entries) ≡ Some behind_endlib → Ends p entries
+ends_of [] p h = arrives p behind_endlib [] h refl
+ends_of (e ∷ entries) p h = go (next_place p e.kind) refl h (ends_of entries)
+  where
+    go : (o : Option Place) → next_place p e.kind ≡ o → option_and_then (λ next. place_behind next (kinds_of entries)) o ≡ Some behind_endlib
+        → ((next : Place) → place_behind next (kinds_of entries) ≡ Some behind_endlib → Ends next entries) → Ends p (e ∷ entries)
+    go None is_none h further = absurd (cc)
+    go (Some next) is_next h further = back p next e entries is_next (further next h)
+
+-- records that lead to the end are in shape
+pub in_shape_of_end : (entries : List Entry) → place_behind before_header (kinds_of entries) ≡ Some behind_endlib → IsInShape entries
+in_shape_of_end entries h =
+    let version = ends_of entries before_header h in
+    let opening = version.ends in
+    let to_name = opening.ends in
+    let name = to_name.ends in
+    let to_units = name.ends in
+    let units = to_units.ends in
+    let rest : EndsLibrary units.after = units.ends in
+    let same : entries ≡ version.first ∷ opening.first ∷ (to_name.head ++ name.first ∷ (to_units.head ++ units.first ∷ (flat_map structure_records rest.structures ++ rest.last ∷ []))) =
+    cc (version.parts, opening.parts, to_name.parts, name.parts, to_units.parts, units.parts, rest.parts)
+    in
+    record {
+      library = record {
+        version = version.first;
+        opening = opening.first;
+        before_name = to_name.head;
+        name = name.first;
+        before_units = to_units.head;
+        units = units.first;
+        structures = rest.structures;
+        last = rest.last;
+      };
+      in_grammar = record {
+        version = version.is_first;
+        opens = opening.is_first;
+        before_name = to_name.are_head;
+        names = name.is_first;
+        before_units = to_units.are_head;
+        units = units.is_first;
+        structures = rest.are_structures;
+        ends = rest.is_last;
+      };
+      are_its = simp append_assoc same;
+    }

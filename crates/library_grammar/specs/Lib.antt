@@ -1,0 +1,10 @@
+pub mod ElementForms
+pub mod Grammar
+pub mod OwnRecords
+pub mod Sizes
+pub mod ElementChecks
+pub mod Elements
+pub mod Libraries
+pub mod SyntaxFaults
+pub mod Places
+pub mod FirstFault

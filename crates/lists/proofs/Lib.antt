@@ -1,0 +1,9 @@
+pub mod Comparing
+pub mod Containing
+pub mod Reading
+pub mod Mapping
+pub mod Filtering
+pub mod Numbering
+pub mod Pairing
+pub mod Differing
+pub mod Sorting

@@ -1,0 +1,67 @@
+-- on which islands terminals stand
+use Rattle.std.specs.Prelude.{ℕ, List, Contains, Option, Some, None, length, slice_get, ◌<◌, ◌≡◌, ◌⊎◌}
+use Rattle.std.specs.Option.{option_to_list}
+use Rattle.geo_core.specs.Cells.{Has}
+use Rattle.geo_core.specs.declared.plane.Cell.{Cell}
+use Rattle.geo_core.specs.declared.plane.Labelled.{Labelled}
+use Rattle.geo_core.specs.declared.plane.Rect.{Rect}
+use Rattle.map_model.specs.declared.layers.Terminal.{Terminal}
+use Rattle.net_extract.specs.inside.LabelledCells.{HasLabelled}
+use Rattle.net_extract.specs.inside.Numbering.{islands_on}
+use Rattle.net_extract.specs.declared.pieces.Anchor.{Anchor}
+use Rattle.net_extract.specs.declared.pieces.ContactPiece.{ContactPiece}
+
+-- the terminal with this number is the cell, on the metal
+pub record IsTerminalAt (terminals : List Terminal) (metal number : ℕ) (c : Cell) : Type 0 where
+  pub terminal : Terminal
+  pub numbered : slice_get terminals number ≡ Some terminal
+  pub on_metal : terminal.metal ≡ metal
+  pub at : terminal.cell ≡ c
+
+-- the rectangles are the cells of the metal's terminals, labelled by the numbers of these; a cell that no rectangle can
+-- have is left out
+pub record AreSpots (terminals : List Terminal) (metal : ℕ) (spots : List Labelled) : Type 0 where
+  pub sound : (number : ℕ) (c : Cell) → HasLabelled spots number c → IsTerminalAt terminals metal number c
+  pub complete : (number : ℕ) (c : Cell) (rect : Rect) → IsTerminalAt terminals metal number c → Has rect c → HasLabelled spots number c
+
+-- the same for one terminal with its number
+pub record IsSpotOf (terminal : Terminal) (number metal : ℕ) (spot : Option Labelled) : Type 0 where
+  pub sound : (label : ℕ) (c : Cell) → HasLabelled (option_to_list spot) label c →
+      (label ≡ number) × (terminal.metal ≡ metal) × (terminal.cell ≡ c)
+  pub complete : (rect : Rect) → terminal.metal ≡ metal → Has rect terminal.cell → HasLabelled (option_to_list spot) number terminal.cell
+
+-- the number, by which terminals go on the lower side of meetings, meets the island
+pub record Meets (met : List ContactPiece) (number island : ℕ) : Type 0 where
+  pub meeting : ContactPiece
+  pub among : Contains met meeting
+  pub lower_is : meeting.lower ≡ number
+  pub upper_is : meeting.upper ≡ island
+
+-- each number that meets an island has such an island now, and the others have what they had
+pub record IsMarked (old : List (Option ℕ)) (met : List ContactPiece) (new : List (Option ℕ)) : Type 0 where
+  pub one_each : length new ≡ length old
+  pub sound : (number island : ℕ) → slice_get new number ≡ Some (Some island) →
+      (slice_get old number ≡ Some (Some island)) ⊎ Meets met number island
+  pub had_none : (number : ℕ) → slice_get new number ≡ Some None → slice_get old number ≡ Some None
+  pub meets_none : (number island : ℕ) → slice_get new number ≡ Some None → Meets met number island → ⊥
+
+-- for each terminal the island on which it stands, where it stands on one; of terminals on other metals than the first
+-- so many it may be left open
+pub record AreFound (terminals : List Terminal) (islands : List (List Labelled)) (metals : ℕ) (found : List (Option ℕ)) : Type 0 where
+  pub one_each : length found ≡ length terminals
+  pub on_island : (number island : ℕ) (terminal : Terminal) →
+      slice_get terminals number ≡ Some terminal → slice_get found number ≡ Some (Some island) →
+      HasLabelled (islands_on islands terminal.metal) island terminal.cell
+  pub on_none : (number island : ℕ) (terminal : Terminal) →
+      slice_get terminals number ≡ Some terminal → slice_get found number ≡ Some None → terminal.metal < metals →
+      HasLabelled (islands_on islands terminal.metal) island terminal.cell → ⊥
+
+-- the terminal as an anchor of an island on which it stands
+pub record IsAnchorOf (islands : List (List Labelled)) (terminal : Terminal) (anchor : Anchor) : Type 0 where
+  pub metal : anchor.metal ≡ terminal.metal
+  pub cell : anchor.cell ≡ terminal.cell
+  pub on_island : HasLabelled (islands_on islands terminal.metal) anchor.island terminal.cell
+
+-- a terminal with its number: its cell lies on an island of its metal
+abbrev pub IsOnIsland : List (List Labelled) → ℕ × (ℕ × Cell) → Type 0
+IsOnIsland islands numbered = (i : ℕ) × HasLabelled (islands_on islands numbered.1.0) i numbered.1.1

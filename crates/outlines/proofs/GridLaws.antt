@@ -1,0 +1,201 @@
+-- an outline's cells, each as a rectangle of its own: some cover exists
+use Rattle.std.proofs.Common.{ℕ, zero, suc, ◌≡◌, ◌⊎◌, inl, inr, refl, sym, ap, subst, ◌∙◌, List, [], ◌∷◌, map, Bool, true, false, cond, not, arith}
+use Rattle.std.specs.Prelude.{ℤ, pos, neg_ℤ, ◌+ℤ◌, ◌-ℤ◌, ◌≤ℤ◌, ◌<ℤ◌, ◌&&◌, All, Contains}
+use Rattle.std.specs.List.{flat_map}
+use Rattle.std.proofs.lemmas.Bool.{and_right}
+use Rattle.std.proofs.lemmas.Int.{ints, by_lt_z}
+use Rattle.std.proofs.lemmas.List.Elements.{All-head, All-tail, All-map, All-weaker}
+use Rattle.geo_core.specs.Bounds.{IsInRange}
+use Rattle.geo_core.specs.Circuits.{circuit}
+use Rattle.geo_core.specs.Intervals.{IsIn, IsInterval}
+use Rattle.geo_core.specs.Cells.{Has, IsInLayout}
+use Rattle.geo_core.specs.declared.plane.Point.{Point}
+use Rattle.geo_core.specs.declared.bounds.TheConstants.{FARTHEST, FARTHEST_GROWN}
+use Rattle.geo_core.specs.declared.plane.Cell.{Cell}
+use Rattle.geo_core.specs.declared.plane.Rect.{Rect}
+use Rattle.outlines.specs.Fillings.{IsCover}
+use Rattle.outlines.specs.Outlines.{IsInside, winding_number}
+use Rattle.outlines.specs.Sights.{winding_number_by_right}
+use Rattle.outlines.proofs.CountLaws.{le_false, le_true, zero_or_not}
+use Rattle.outlines.proofs.WindLaws.{Place, place_of, counted, left_rises, left_falls, right_rises, right_falls, winds_by_places, by_right, right_tells}
+use Rattle.lists.proofs.Containing.{Contains-head, Contains-none, Contains-one, Contains-tail, all_of_each}
+use Rattle.lists.proofs.Mapping.{Contains-flat_map, Contains-flat_map_from, Contains-map}
+
+-- the column and the row of the cell lie within the range of points
+record IsWithin (c : Cell) : Type 0 where
+  left : neg_ℤ FARTHEST ≤ℤ c.i
+  right : c.i <ℤ FARTHEST
+  bottom : neg_ℤ FARTHEST ≤ℤ c.j
+  top : c.j <ℤ FARTHEST
+
+-- ---- cells that lie past all points are not covered
+
+none_counted : (P : Place → Type 0) (test : Place → Place → Bool) → ((p q : Place) → P p → P q → test p q ≡ false) → (places : List Place) → All P places → counted test places ≡ 0
+none_counted P test never [] all = refl
+none_counted P test never (p ∷ []) all = refl
+none_counted P test never (p ∷ q ∷ places) all =
+    let rest = All-tail P p (q ∷ places) all in
+    let here = never p q (All-head P p (q ∷ places) all) (All-head P q places rest) in
+    let none : ◌≡◌ {A = ℕ} (cond (test p q) 1 0) 0 = rw here refl in
+    let others = none_counted P test never (q ∷ places) rest in
+    omega arith
+
+module _ (points : List Point) (c : Cell) (range : All IsInRange points) where
+  places_all : (P : Place → Type 0) → ((p : Point) → IsInRange p → P (place_of c p)) → All P (map (place_of c) points)
+  places_all P each = All-map P (place_of c) points (All-weaker IsInRange (λ p. P (place_of c p)) each points range)
+
+  no_winding : (P : Place → Type 0) → ((p : Point) → IsInRange p → P (place_of c p)) → ((p q : Place) → P p → P q → left_rises p q ≡ false) → ((p q : Place) → P p → P q → left_falls p q ≡ false)
+      → winding_number points c ≡ pos 0
+  no_winding P each up down =
+      winds_by_places c points
+      ∙ ap (λ n. pos n -ℤ pos (counted left_falls (map (place_of c) points))) (none_counted P left_rises up (map (place_of c) points) (places_all P each))
+      ∙ ap (λ n. pos 0 -ℤ pos n) (none_counted P left_falls down (map (place_of c) points) (places_all P each))
+
+  under : c.j <ℤ neg_ℤ FARTHEST → winding_number points c ≡ pos 0
+  under h = no_winding (λ p. p.1 ≡ false) (λ p in_range. let b = in_range.bottom in le_false p.y c.j (omega (arith, ints)))
+      (λ p q e f. and_right p.0 (p.1 && not q.1) (rw e refl)) (λ p q e f. and_right p.0 (q.1 && not p.1) (rw f refl))
+
+  over : FARTHEST ≤ℤ c.j → winding_number points c ≡ pos 0
+  over h = no_winding (λ p. p.1 ≡ true) (λ p in_range. let b = in_range.top in le_true p.y c.j (omega (arith, ints)))
+      (λ p q e f. and_right p.0 (p.1 && not q.1) (rw (e, f) refl)) (λ p q e f. and_right p.0 (q.1 && not p.1) (rw (e, f) refl))
+
+  left_of_all : c.i <ℤ neg_ℤ FARTHEST → winding_number points c ≡ pos 0
+  left_of_all h = no_winding (λ p. p.0 ≡ false) (λ p in_range. let b = in_range.left in le_false p.x c.i (omega (arith, ints)))
+      (λ p q e f. rw e refl) (λ p q e f. rw e refl)
+
+  right_of_all : (corners : List Point) → points ≡ circuit corners → FARTHEST ≤ℤ c.i → winding_number points c ≡ pos 0
+  right_of_all corners closed h =
+      let P = λ (p : Place). p.0 ≡ true in
+      let all = places_all P (λ p in_range. let b = in_range.right in le_true p.x c.i (omega (arith, ints))) in
+      let none : winding_number_by_right points c ≡ pos 0 =
+      by_right c points
+      ∙ ap (λ n. pos n -ℤ pos (counted right_falls (map (place_of c) points))) (none_counted P right_rises (λ p q e f. rw e refl) (map (place_of c) points) all)
+      ∙ ap (λ n. pos 0 -ℤ pos n) (none_counted P right_falls (λ p q e f. rw e refl) (map (place_of c) points) all) in
+      zero_back (winding_number points c) (sym (subst (λ l. winding_number_by_right l c ≡ neg_ℤ (winding_number l c)) (sym closed) (right_tells corners c)) ∙ none)
+    where
+      zero_back : (z : ℤ) → neg_ℤ z ≡ pos 0 → z ≡ pos 0
+      zero_back z e = omega (arith, ints)
+
+  covered_within : (corners : List Point) → points ≡ circuit corners → IsInside points c → IsWithin c
+  covered_within corners closed winds = record {
+    left = by_lt_z c.i (neg_ℤ FARTHEST) (λ h. absurd (winds (left_of_all h))) (λ h. h);
+    right = by_lt_z c.i FARTHEST (λ h. h) (λ h. absurd (winds (right_of_all corners closed h)));
+    bottom = by_lt_z c.j (neg_ℤ FARTHEST) (λ h. absurd (winds (under h))) (λ h. h);
+    top = by_lt_z c.j FARTHEST (λ h. h) (λ h. absurd (winds (over h)));
+  }
+
+-- ---- a choice of a list's items, each with what is made of it
+
+module _ {X Y : Type 0} (P : X → Type 0) (decide : (x : X) → P x ⊎ (P x → ⊥)) (make : (x : X) → P x → Y) where
+  kept : (x : X) → P x ⊎ (P x → ⊥) → List Y
+  kept x (inl holds) = make x holds ∷ []
+  kept x (inr fails) = []
+
+  chosen : List X → List Y
+  chosen = flat_map (λ x. kept x (decide x))
+
+  kept_from : (x : X) (d : P x ⊎ (P x → ⊥)) (y : Y) → Contains (kept x d) y → (from : X) × (holds : P from) × (make from holds ≡ y)
+  unfolding kept
+  kept_from x (inl holds) y h = (x, holds, Contains-one (make x holds) y h)
+  kept_from x (inr fails) y h = absurd (Contains-none h)
+
+  chosen_from : (xs : List X) (y : Y) → Contains (chosen xs) y → (from : X) × (holds : P from) × (make from holds ≡ y)
+  unfolding chosen
+  chosen_from xs y h = let found = Contains-flat_map_from (λ x. kept x (decide x)) xs y h in kept_from found.0 (decide found.0) y found.2
+
+  kept_has : (x : X) (d : P x ⊎ (P x → ⊥)) → P x → (holds : P x) × Contains (kept x d) (make x holds)
+  unfolding kept
+  kept_has x (inl holds) h = (holds, Contains-head (make x holds) [])
+  kept_has x (inr fails) h = absurd (fails h)
+
+  chosen_has : (xs : List X) (x : X) → Contains xs x → P x → (holds : P x) × Contains (chosen xs) (make x holds)
+  unfolding chosen
+  chosen_has xs x among h = let k = kept_has x (decide x) h in (k.0, Contains-flat_map (λ x. kept x (decide x)) xs x (make x k.0) among k.1)
+
+-- ---- all cells
+
+-- so many numbers, from the least coordinate on
+numbers : ℕ → List ℤ
+numbers zero = []
+numbers (suc n) = (neg_ℤ FARTHEST +ℤ pos n) ∷ numbers n
+
+number_there : (n : ℕ) (z : ℤ) → neg_ℤ FARTHEST ≤ℤ z → z <ℤ (neg_ℤ FARTHEST +ℤ pos n) → Contains (numbers n) z
+unfolding numbers
+number_there zero z low high = absurd (omega (arith, ints))
+number_there (suc n) z low high = by_lt_z z (neg_ℤ FARTHEST +ℤ pos n)
+    (λ less. Contains-tail (neg_ℤ FARTHEST +ℤ pos n) (numbers n) z (number_there n z low less))
+    (λ last. let e : neg_ℤ FARTHEST +ℤ pos n ≡ z = omega (arith, ints) in subst (Contains ((neg_ℤ FARTHEST +ℤ pos n) ∷ numbers n)) e (Contains-head (neg_ℤ FARTHEST +ℤ pos n) (numbers n)))
+
+abbrev cell_at : ℤ → ℤ → Cell
+cell_at i j = record { i = i; j = j }
+
+all_cells : ℕ → List Cell
+all_cells n = flat_map (λ i. map (cell_at i) (numbers n)) (numbers n)
+
+cell_there : (n : ℕ) → pos n ≡ FARTHEST +ℤ FARTHEST → (c : Cell) → IsWithin c → Contains (all_cells n) c
+unfolding all_cells
+cell_there n far c within =
+    let left = within.left in let right = within.right in let bottom = within.bottom in let top = within.top in
+    Contains-flat_map (λ i. map (cell_at i) (numbers n)) (numbers n) c.i c (number_there n c.i left (omega (arith, ints)))
+    (Contains-map (cell_at c.i) (numbers n) c.j (number_there n c.j bottom (omega (arith, ints))))
+
+-- ---- a cell as a rectangle
+
+grown : (z : ℤ) → neg_ℤ FARTHEST ≤ℤ z → z <ℤ FARTHEST → IsInterval FARTHEST_GROWN z (z +ℤ pos 1)
+grown z low high = record { some = omega (arith, ints); least = omega (arith, ints); most = omega (arith, ints) }
+
+plain : (z : ℤ) → neg_ℤ FARTHEST ≤ℤ z → z <ℤ FARTHEST → IsInterval FARTHEST z (z +ℤ pos 1)
+plain z low high = record { some = omega (arith, ints); least = low; most = omega (arith, ints) }
+
+only_one : (z x : ℤ) → IsIn z (z +ℤ pos 1) x → x ≡ z
+only_one z x h = let f = h.from in let b = h.before in omega (arith, ints)
+
+its_own : (z : ℤ) → IsIn z (z +ℤ pos 1) z
+its_own z = record { from = omega (arith, ints); before = omega (arith, ints) }
+
+module _ (c : Cell) (within : IsWithin c) where
+  unit : Rect
+  unit = record { x0 = c.i; y0 = c.j; x1 = c.i +ℤ pos 1; y1 = c.j +ℤ pos 1; across = grown c.i within.left within.right; up = grown c.j within.bottom within.top }
+
+  unit_only : (d : Cell) → Has unit d → d ≡ c
+  unfolding unit
+  unit_only d h = ap (λ i. cell_at i d.j) (only_one c.i d.i h.across) ∙ ap (cell_at c.i) (only_one c.j d.j h.up)
+
+  unit_has : Has unit c
+  unfolding unit
+  unit_has = record { across = its_own c.i; up = its_own c.j }
+
+  unit_in_layout : IsInLayout unit
+  unfolding unit
+  unit_in_layout = record { across = plain c.i within.left within.right; up = plain c.j within.bottom within.top }
+
+module _ (points : List Point) (range : All IsInRange points) (corners : List Point) (closed : points ≡ circuit corners) where
+  within : (c : Cell) → IsInside points c → IsWithin c
+  within c = covered_within points c range corners closed
+
+  choice : (c : Cell) → IsInside points c ⊎ (IsInside points c → ⊥)
+  choice c = elim (zero_or_not (winding_number points c)) [ inl none ↦ inr (λ winds. winds none) | inr winds ↦ inl winds ]
+
+  as_unit : (c : Cell) → IsInside points c → Rect
+  as_unit c winds = unit c (within c winds)
+
+  pub cells_cover : (rects : List Rect) × IsCover (IsInside points) rects
+  unfolding as_unit
+  cells_cover =
+      let cells = all_cells 2000000000 in
+      let from = chosen_from (IsInside points) choice as_unit cells in (
+        chosen (IsInside points) choice as_unit cells,
+        record {
+          same = λ c. (
+            λ h.
+                let found = from h.rect h.among in
+                let is = unit_only found.0 (within found.0 found.1) c (subst (λ rect. Has rect c) (sym found.2) h.has) in
+                subst (IsInside points) (sym is) found.1,
+            λ winds.
+                let found = chosen_has (IsInside points) choice as_unit cells c (cell_there 2000000000 refl c (within c winds)) winds in
+                record { rect = as_unit c found.0; among = found.1; has = unit_has c (within c found.0) },
+          );
+          within = all_of_each IsInLayout (chosen (IsInside points) choice as_unit cells) (λ rect among.
+              let found = from rect among in subst IsInLayout found.2 (unit_in_layout found.0 (within found.0 found.1)));
+        },
+      )

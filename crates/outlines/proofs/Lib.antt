@@ -1,0 +1,12 @@
+pub mod EdgeLaws
+pub mod CountLaws
+pub mod WindLaws
+pub mod RectangleLaws
+pub mod JoinLaws
+pub mod GridLaws
+pub mod SideLaws
+pub mod GrowthLaws
+pub mod RunLaws
+pub mod CrossingLaws
+pub mod SweepLaws
+pub mod OutlineLaws

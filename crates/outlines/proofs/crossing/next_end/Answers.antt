@@ -1,0 +1,24 @@
+use Rattle.std.proofs.Common.{◌≡◌, w32, to_z, of_z, arith}
+use Rattle.std.proofs.lemmas.Int.{ints}
+use Rattle.outlines.proofs.CrossingLaws.{next_begun, next_nearer, next_found}
+use Rattle.outlines.proofs.crossing.next_end.Goals as goal
+
+pub loop-side-init : goal.loop-side-init
+loop-side-init c =
+    let same : to_z w32 (of_z w32 c.first_low-next.result) ≡ c.first_low-next.result = omega (arith, ints) in
+    rw same (next_begun c.args.crossing.now c.args.later.now _ c.first_low-next.ensures.least c.first_low-next.ensures.within c.first_low-next.ensures.further)
+
+pub loop-side-preserved : goal.loop-side-preserved
+loop-side-preserved c =
+    let side = c.side-item.result in
+    let high : to_z w32 (of_z w32 side.high) ≡ side.high = omega (arith, ints) in
+    let same : to_z w32 (of_z w32 c.min-next.result) ≡ c.min-next.result = omega (arith, ints) in
+    rw same (next_nearer c.args.crossing.now c.args.later.now c.loop-side.side-index (to_z w32 c.loop-side.next-bits) _ side c.loop-side-test.true c.side-item.is (rw high at c.min-next.ensures.value)
+    c.loop-side.invariant)
+
+pub returns : goal.returns
+returns c = record {
+  least = next_found c.args.crossing.now c.args.later.now c.loop-side.side-index _ c.loop-side-test.false c.loop-side.invariant;
+  within = c.loop-side.invariant.most;
+  further = c.loop-side.invariant.further;
+}

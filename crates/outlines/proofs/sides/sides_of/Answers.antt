@@ -1,0 +1,43 @@
+use Rattle.std.proofs.Common.{inl, inr, refl, sym, subst, ◌≡◌, []}
+use Rattle.std.specs.Prelude.{All}
+use Rattle.std.proofs.lemmas.List.Elements.{All-head, All-tail}
+use Rattle.geo_core.specs.Bounds.{IsInRange}
+use Rattle.outlines.specs.Outlines.{edges_of}
+use Rattle.outlines.specs.inside.Sides.{AreSidesOf}
+use Rattle.outlines.proofs.EdgeLaws.{edges_begun, edges_ended, edges_none}
+use Rattle.outlines.proofs.SideLaws.{no_sides, one_more_side, all_sides}
+use Rattle.outlines.proofs.sides.sides_of.Goals as goal
+
+pub returns-in_default : goal.returns-in_default
+returns-in_default c =
+    rw c.in_ok-sides.ensures.items (subst (λ es. AreSidesOf es []) (sym (edges_none c.args.points.now c.in_default.ensures.cases)) (record { up = λ at row. refl; down = λ at row. refl }))
+
+pub loop-from-init : goal.loop-from-init
+loop-from-init c =
+    let points = c.args.points.now in
+    let others = c.in-Some.others.now in
+    let parts = c.in-Some.ensures.cases.0 in
+    let z = c.into_iter-from-iterator.result in
+    let first : z.a.rest.now ≡ points = cc in
+    let second : z.b.rest.now ≡ others = cc in
+    rw c.in_ok-sides.ensures.items
+    (no_sides _ _ (edges_of points) (edges_begun points others _ _ c.in-Some.field-0-0.now parts first second)
+    (subst (All IsInRange) (sym first) c.requires) (subst (All IsInRange) (sym second) (All-tail IsInRange _ others (subst (All IsInRange) parts c.requires))))
+
+pub add_side-requires-clause-from : goal.add_side-requires-clause-from
+add_side-requires-clause-from c =
+    let froms = c.in-Some-2.ensures.steps.0 in All-head IsInRange c.in-Some-2.from.now _ (subst (All IsInRange) froms c.loop-from.invariant.froms_in_range)
+
+pub add_side-requires-clause-to : goal.add_side-requires-clause-to
+add_side-requires-clause-to c =
+    let tos = c.in-Some-2.ensures.steps.1 in All-head IsInRange c.in-Some-2.to.now _ (subst (All IsInRange) tos c.loop-from.invariant.tos_in_range)
+
+pub loop-from-preserved : goal.loop-from-preserved
+loop-from-preserved c =
+    let steps = c.in-Some-2.ensures.steps in
+    one_more_side _ _ (edges_of c.args.points.now) _ _ c.in-Some-2.from.now c.in-Some-2.to.now c.loop-from.sides.items _ steps.0 steps.1 c.in_ok-add_side.ensures c.loop-from.invariant
+
+pub returns : goal.returns
+returns c =
+    let ended = edges_ended _ _ (elim c.in-None.ensures.steps [ inl h ↦ inl h.1.0 | inr h ↦ inr h.1.0 ]) in
+    all_sides _ _ (edges_of c.args.points.now) c.loop-from.sides.items ended c.loop-from.invariant

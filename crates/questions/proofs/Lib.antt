@@ -1,0 +1,3 @@
+pub mod MapReading
+pub mod Asking
+pub mod RowLaws

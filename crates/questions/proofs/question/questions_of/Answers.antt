@@ -1,0 +1,39 @@
+use Rattle.std.proofs.Common.{◌≡◌, ◌++◌, ◌∙◌, List, length, arith, ap, sym, subst}
+use Rattle.std.specs.Prelude.{All}
+use Rattle.std.specs.List.{zip}
+use Rattle.std.proofs.lemmas.List.{length-map}
+use Rattle.std.proofs.lemmas.Slice.Zip.{length-zip}
+use Rattle.map_model.specs.LayerMap.{radius_size}
+use Rattle.map_model.specs.Layers.{metal_layer, mapped_cut}
+use Rattle.map_model.specs.MapView.{layer_map_of}
+use Rattle.questions.specs.Questions.{IsAskable, questions, of_kind, cut_layers, metal_layers}
+use Rattle.questions.specs.declared.kind.Kind.TheVariants.{Short, Open, Via}
+use Rattle.questions.specs.declared.question.Question.{Question}
+use Rattle.questions.proofs.Asking.{askable, askable_sizes, few_questions}
+use Rattle.questions.proofs.question.questions_of.Goals as goal
+
+asked : (c : goal.In_ok-ask_of_cuts) → c.ask_of_cuts.new.asked.items ≡ questions (layer_map_of c.args.map.now)
+asked c =
+    let layer_map = layer_map_of c.args.map.now in
+    let shorts : List Question = of_kind Short (metal_layers layer_map) layer_map.sizes in
+    let opens : List Question = of_kind Open (metal_layers layer_map) layer_map.sizes in
+    let vias : List Question = of_kind Via (cut_layers layer_map) layer_map.sizes in
+    c.in_ok-ask_of_cuts.ensures ∙ ap (λ more. more ++ vias) (c.in_ok-ask_of_metals-2.ensures
+    ∙ ap (λ more. more ++ opens) (c.in_ok-ask_of_metals.ensures ∙ ap (λ none. none ++ shorts) c.new-asked.ensures.items))
+
+pub returns-clause-questions : goal.returns-clause-questions
+returns-clause-questions = asked
+
+pub returns-clause-askable : goal.returns-clause-askable
+returns-clause-askable c =
+    let given = c.args.map.now in
+    let metals = length-map given.metals metal_layer in
+    let each = askable (layer_map_of given) (askable_sizes given.radii given.weights given.are_radii.each given.are_weights.each) in
+    subst (λ (qs : List Question). All (IsAskable (length given.metals)) qs) (sym (asked c)) (subst (λ n. All (IsAskable n) (questions (layer_map_of given))) metals each)
+
+pub returns-clause-few : goal.returns-clause-few
+returns-clause-few c =
+    let given = c.args.map.now in
+    let few = few_questions (layer_map_of given) (omega (arith, length-map given.metals metal_layer)) (omega (arith, length-map given.cuts mapped_cut))
+    (omega (arith, length-map (zip given.radii given.weights) radius_size, length-zip given.radii given.weights)) in
+    omega (arith, few, ap length (asked c))

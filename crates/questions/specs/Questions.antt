@@ -1,0 +1,53 @@
+-- the questions that a layer map asks, and the rows that answer them
+use Rattle.std.specs.Prelude.{ℕ, pos, ◌≡◌, ◌≢◌, ◌<◌, ◌≤◌, ◌≤ℤ◌, ◌/◌, List, ◌++◌, length, map}
+use Rattle.std.specs.List.{flat_map, enumerate_from}
+use Rattle.geo_core.specs.declared.bounds.TheConstants.{GREATEST_REACH}
+use Rattle.map_model.specs.LayerMap.{DefectSize, MappedLayer, LayerMap}
+use Rattle.map_model.specs.Measures.{side_of}
+use Rattle.map_model.specs.declared.limits.TheConstants.{GREATEST_WEIGHT}
+use Rattle.questions.specs.declared.kind.Kind.{Kind}
+use Rattle.questions.specs.declared.kind.Kind.TheVariants.{Short, Open, Via}
+use Rattle.questions.specs.declared.question.Question.{Question}
+use Rattle.questions.specs.declared.row.Row.{Row}
+
+-- this kind of fault, on the metal or at the cut with this number and name, by defects of this size
+abbrev pub question_of : Kind → ℕ → List ℕ → DefectSize → Question
+question_of kind number name size =
+    record { kind = kind; number = number; layer = name; measure = size.measure; weight = size.weight }
+
+-- the same for each size
+abbrev pub of_sizes : Kind → ℕ → List ℕ → List DefectSize → List Question
+of_sizes kind number name = map (question_of kind number name)
+
+-- one kind of fault, for each of these metals or cuts in order, and there for each size
+abbrev pub of_kind : Kind → List (ℕ × MappedLayer) → List DefectSize → List Question
+of_kind kind layers sizes = flat_map (λ numbered. of_sizes kind numbered.0 numbered.1.name sizes) layers
+
+-- the metals with their numbers
+abbrev pub metal_layers : LayerMap → List (ℕ × MappedLayer)
+metal_layers layer_map = enumerate_from 0 layer_map.metals
+
+-- the cuts with their numbers, which go on behind those of the metals
+abbrev pub cut_layers : LayerMap → List (ℕ × MappedLayer)
+cut_layers layer_map = enumerate_from (length layer_map.metals) (map (λ cut. cut.mapped) layer_map.cuts)
+
+-- the questions in order: shorts of each metal, opens of each metal, blocks of each cut
+abbrev pub questions : LayerMap → List Question
+questions layer_map =
+    of_kind Short (metal_layers layer_map) layer_map.sizes ++ of_kind Open (metal_layers layer_map) layer_map.sizes
+    ++ of_kind Via (cut_layers layer_map) layer_map.sizes
+
+-- what holds of each question of a map of so many metals: it is of one of these, unless it is of a cut, and for defects
+-- of a side of at least 1 that reach no further than a defect may
+pub record IsAskable (metals : ℕ) (question : Question) : Type 0 where
+  pub of_metal : question.kind ≢ Via → question.number < metals
+  pub some : 1 ≤ side_of question.measure
+  pub within : pos (side_of question.measure / 2) ≤ℤ GREATEST_REACH
+  pub light : question.weight ≤ GREATEST_WEIGHT
+
+-- the row is of the fault, the layer, the size and the weight that the question names
+pub record IsRowFor (question : Question) (row : Row) : Type 0 where
+  pub kind : row.kind ≡ question.kind
+  pub layer : row.layer ≡ question.layer
+  pub measure : row.measure ≡ question.measure
+  pub weight : row.weight ≡ question.weight

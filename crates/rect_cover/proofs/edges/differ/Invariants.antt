@@ -1,5 +1,0 @@
-use Rattle.rect_cover.proofs.EdgeLaws.{AreFirst}
-use Rattle.rect_cover.proofs.edges.differ.Given as goal
-
-abbrev pub invariant-loop-point : goal.invariant-loop-point
-invariant-loop-point l = AreFirst l.points l.point-index

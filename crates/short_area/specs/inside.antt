@@ -1,0 +1,2 @@
+pub mod WindowPlaces
+pub mod Windows
