@@ -5,4 +5,4 @@ pub mod runs;
 mod skyline;
 
 pub use geo_core::{NoMemory, Rect};
-pub use runs::{twice_runs, union_runs, union_runs_within};
+pub use runs::{twice_runs, union_runs};

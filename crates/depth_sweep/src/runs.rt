@@ -1,4 +1,4 @@
-ghost use Rattle.std.specs.Prelude.{IfOk, IfSome, ◌≤◌};
+ghost use Rattle.std.specs.Prelude.{IfOk};
 ghost use Rattle.std.specs.List.Sorted.{IsPermutation};
 ghost use Rattle.depth_sweep.specs.Runs.{AreApart, AreByRow, HaveCellsOfTwo, HaveSameCells};
 
@@ -18,31 +18,6 @@ pub fn union_runs(alloc: Global, rects: &[Rect]) -> Result<Vec<Rect>, NoMemory>
         skyline.add(*rect)?;
     }
     skyline.finish()
-}
-
-/// The same, or `None` where it takes more looks than are left; those that were taken are subtracted. Adding a
-/// rectangle takes one look, and one at each active rectangle over its columns: rectangles that overlap little take few,
-/// and crossing bars take as many as there are crossings. Looks are a matter of time alone.
-pub fn union_runs_within(
-    alloc: Global,
-    rects: &[Rect],
-    looks: &mut usize,
-) -> Result<Option<Vec<Rect>>, NoMemory>
-    ensures same { IfOk result (λ found. IfSome found (λ runs. HaveSameCells rects.now runs.items)) }
-    ensures apart { IfOk result (λ found. IfSome found (λ runs. AreApart runs.items)) }
-    ensures left { looks.new ≤ looks.old }
-{
-    let sorted = by_row(alloc, rects)?;
-    let mut skyline = Skyline::new(alloc);
-    for rect in sorted.as_slice() {
-        let taken = skyline.add(*rect)?;
-        if *looks < taken {
-            *looks = 0;
-            return Ok(None);
-        }
-        *looks -= taken;
-    }
-    Ok(Some(skyline.finish()?))
 }
 
 /// Rectangles without common cells that together have the cells that lie in two rectangles of the list or more. Equal

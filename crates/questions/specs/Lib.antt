@@ -1,1 +1,2 @@
+pub mod KindTexts
 pub mod Questions

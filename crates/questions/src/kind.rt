@@ -1,3 +1,8 @@
+ghost use Rattle.std.specs.Prelude.{Some};
+ghost use Rattle.questions.specs.KindTexts.{kind_text};
+
+use std::fmt;
+
 /// What a defect does to the wires and vias under it.
 #[derive(Clone, Copy, Debug, PartialEq, Eq)]
 pub enum Kind {
@@ -7,4 +12,16 @@ pub enum Kind {
     Open,
     /// It covers a whole cluster of contacts.
     Via,
+}
+
+impl fmt::Display for Kind {
+    ghost output = { λ kind. Some (kind_text kind) };
+
+    fn fmt<W: fmt::Write>(&self, f: &mut fmt::Formatter<W>) -> fmt::Result {
+        f.write_str(match self {
+            Kind::Short => "short",
+            Kind::Open => "open",
+            Kind::Via => "via",
+        })
+    }
 }

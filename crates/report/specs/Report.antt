@@ -7,6 +7,7 @@ use Rattle.map_model.specs.declared.measure.Measure.{Measure}
 use Rattle.map_model.specs.declared.measure.Measure.TheVariants.{Radius}
 use Rattle.questions.specs.declared.kind.Kind.{Kind}
 use Rattle.questions.specs.declared.kind.Kind.TheVariants.{Short, Open, Via}
+use Rattle.questions.specs.KindTexts.{kind_text}
 use Rattle.questions.specs.declared.row.Row.{Row}
 
 -- area times weight
@@ -27,12 +28,6 @@ total_of_kind kind rows = sum_by product_of (filter (λ row. is_kind kind row.ki
 -- the products of all rows, added up
 abbrev pub total_of : List Row → ℕ
 total_of rows = sum_by product_of rows
-
--- the word for the kind
-abbrev pub kind_text : Kind → List ℕ
-kind_text Short = codes "short"
-kind_text Open = codes "open"
-kind_text Via = codes "via"
 
 -- the letter that stands before the size
 abbrev pub letter_of : Measure → List ℕ

@@ -1,7 +1,7 @@
 ghost use Rattle.std.specs.Prelude.{◌≡◌, ◌≤◌, length, OnOk, OnErr, string_bytes};
 ghost use Rattle.std.specs.List.{flat_map};
 ghost use Rattle.report.specs.Gains.{Gains, GainsPrefix};
-ghost use Rattle.report.specs.Report.{kind_text, letter_of, line_text, totals_text, report_text};
+ghost use Rattle.report.specs.Report.{letter_of, line_text, totals_text, report_text};
 
 use super::totals::{product, sum_of_all, sum_of_kind};
 use lists::NoMemory;
@@ -40,28 +40,16 @@ fn write_lines(text: &mut String, rows: &[Row]) -> Result<(), NoMemory>
 fn write_line(text: &mut String, row: &Row) -> Result<(), NoMemory>
     ensures { OnOk result (Gains (string_bytes text.old) (string_bytes text.new) (line_text row.now)) }
 {
-    let kind = word(row.kind);
     let layer = row.layer.as_str();
     let letter = letter(row.measure);
     let size = row.measure.listed();
     let sum = product(row);
     writeln!(
         text,
-        "{kind} {layer} {letter}={size} area={} weight={} sum={sum}",
-        row.area, row.weight
+        "{} {layer} {letter}={size} area={} weight={} sum={sum}",
+        row.kind, row.area, row.weight
     )?;
     Ok(())
-}
-
-/// The word for the kind.
-fn word(kind: Kind) -> &'static str
-    ensures { result.now ≡ kind_text kind }
-{
-    match kind {
-        Kind::Short => "short",
-        Kind::Open => "open",
-        Kind::Via => "via",
-    }
 }
 
 /// The letter that stands before the size.

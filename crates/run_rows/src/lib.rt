@@ -3,8 +3,6 @@
 #![tactic(auto)]
 
 #[cfg(test)]
-mod budget_rows;
-#[cfg(test)]
 mod counting;
 #[cfg(test)]
 mod rows;
