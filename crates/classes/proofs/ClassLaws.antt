@@ -1,7 +1,7 @@
 -- two numbers have one class exactly where they are joined, and the pairs leave no choice of classes
 use Rattle.std.proofs.Common.{ℕ, ◌≤◌, ◌<◌, ◌≡◌, sym, subst, ◌∙◌, List, length, arith, inl, inr}
+use Rattle.lists.proofs.Words.{slice_get-get_or}
 use Rattle.std.proofs.lemmas.Grind.{same_number_lists}
-use Rattle.std.proofs.lemmas.Option.{slice_get-get_or}
 use Rattle.paths.proofs.PathLaws.{append, reverse}
 use Rattle.classes.specs.Classes.{IsPair, AreJoined, IsClasses}
 use Rattle.classes.specs.ClassConsequences.{EqualWhereJoined, ClassesAgree}

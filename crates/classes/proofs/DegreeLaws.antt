@@ -1,8 +1,6 @@
 -- degrees, counted pair by pair
-use Rattle.std.proofs.Common.{ℕ, ◌+◌, ◌<◌, ◌≡◌, ◌≢◌, refl, sym, ap, subst, ◌∙◌, List, length, sum, arith, inl, inr, get_or, set, get_or-set_same, get_or-set_other, length-set, drop, drop-cons, add-one}
-use Rattle.std.specs.Prelude.{Contains}
-use Rattle.std.proofs.lemmas.List.Sums.{sum_by-set}
-use Rattle.std.proofs.lemmas.Bool.Decides.{eqb_tells}
+use Rattle.std.proofs.Common.{drop-cons, ℕ, ◌+◌, ◌<◌, ◌≡◌, ◌≢◌, refl, sym, ap, subst, ◌∙◌, List, length, sum, arith, inl, inr, get_or, set, get_or-set_same, get_or-set_other, length-set, drop, add-one, Contains}
+use Rattle.lists.proofs.Words.{sum_by-set, eqb_tells}
 use Rattle.classes.specs.Classes.{AreBelow}
 use Rattle.classes.specs.inside.Degrees.{match_count, degree_of}
 use Rattle.lists.proofs.Comparing.{equal_or_not}

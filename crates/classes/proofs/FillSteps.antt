@@ -1,9 +1,6 @@
 -- filling an index, one neighbour at a time
-use Rattle.std.proofs.Common.{ℕ, zero, suc, ◌+◌, ◌-◌, ◌≤◌, ◌<◌, ◌≡◌, ◌≢◌, refl, sym, ap, subst, ◌∙◌, List, [], ◌∷◌, ◌++◌, length, arith, inl, inr, ◌⊎◌, get_or, set, get_or-set_same, get_or-set_other, length-set, take, drop}
-use Rattle.std.proofs.lemmas.Bool.Decides.{leb_tells}
-use Rattle.std.specs.Prelude.{Contains}
-use Rattle.std.proofs.lemmas.List.{take_more, take_all, drop_all}
-use Rattle.std.proofs.lemmas.List.Elements.{Contains-get_or, Contains-append_left, Contains-push, Contains-push_cases}
+use Rattle.std.proofs.Common.{ℕ, zero, suc, ◌+◌, ◌-◌, ◌≤◌, ◌<◌, ◌≡◌, ◌≢◌, refl, sym, ap, subst, ◌∙◌, List, [], ◌∷◌, ◌++◌, length, arith, inl, inr, ◌⊎◌, get_or, set, get_or-set_same, get_or-set_other, length-set, take, drop, Contains, take_all}
+use Rattle.lists.proofs.Words.{leb_tells, take_more, drop_all, Contains-get_or, Contains-append_left, Contains-push, Contains-push_cases}
 use Rattle.classes.specs.Classes.{IsPair}
 use Rattle.classes.specs.inside.Degrees.{match_count, degree_of}
 use Rattle.classes.specs.inside.Index.{IsLaidOut, IsIndexOf}

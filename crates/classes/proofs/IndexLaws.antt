@@ -1,8 +1,7 @@
 -- degrees lay out an index, and an index of pairs is a graph
 use Rattle.std.proofs.Common.{ℕ, suc, ◌+◌, ◌≤◌, ◌<◌, ◌≡◌, ap, ◌∙◌, List, length, sum, take, get_or, arith, inl, inr, ◌⊎◌, add-one}
-use Rattle.std.proofs.lemmas.List.{get_or_past}
-use Rattle.std.proofs.lemmas.Bool.Decides.{leb_tells}
-use Rattle.std.proofs.lemmas.List.Sums.{sum_by_more, sum_by-take-le}
+use Rattle.lists.proofs.Words.{get_or_past, leb_tells, sum_by_more}
+use Rattle.std.proofs.lemmas.List.Sums.{sum_by-take-le}
 use Rattle.classes.specs.Classes.{AreBelow}
 use Rattle.classes.specs.inside.Degrees.{AreDegrees}
 use Rattle.classes.specs.inside.Index.{IsStarts, IsLaidOut, IsIndexOf}

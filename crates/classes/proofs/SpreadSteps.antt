@@ -1,16 +1,11 @@
 -- the steps of the search for classes, and what each keeps
-use Rattle.std.proofs.Common.{ℕ, suc, ◌+◌, ◌≤◌, ◌<◌, ◌≡◌, ◌≢◌, refl, sym, ap, subst, ◌∙◌, List, [], ◌∷◌, ◌++◌, length, arith, inl, inr, ◌⊎◌, get_or, set, get_or-set_same, get_or-set_other, length-set, take, drop, take_all, sum, length-append}
-use Rattle.std.specs.Prelude.{Contains}
-use Rattle.std.proofs.lemmas.Option.{slice_get_within, get_or_from_slice_get, slice_get_read}
-use Rattle.std.proofs.lemmas.List.{take-append-le}
-use Rattle.std.proofs.lemmas.List.Elements.{Contains-append_left, Contains-push, Contains-push_cases}
+use Rattle.std.proofs.Common.{ℕ, suc, ◌+◌, ◌≤◌, ◌<◌, ◌≡◌, ◌≢◌, refl, sym, ap, subst, ◌∙◌, List, [], ◌∷◌, ◌++◌, length, arith, inl, inr, ◌⊎◌, get_or, set, get_or-set_same, get_or-set_other, length-set, take, drop, take_all, sum, length-append, Contains}
+use Rattle.lists.proofs.Words.{slice_get_within, get_or_from_slice_get, slice_get_read, take-append-le, Contains-append_left, Contains-push, Contains-push_cases, leb_tells, sum_by-set}
 use Rattle.paths.specs.Paths.{Path, stay, step}
 use Rattle.paths.proofs.PathLaws.{append, kept, first, retold}
 use Rattle.classes.specs.Classes.{IsClasses}
 use Rattle.classes.specs.inside.Index.{HasNeighbour, IsIndexOf}
 use Rattle.classes.specs.inside.Spreading.{IsPlaceOf, IsGraph, HasClass, IsSound, IsSettled, IsSpreading, IsMarked}
-use Rattle.std.proofs.lemmas.Bool.Decides.{leb_tells}
-use Rattle.std.proofs.lemmas.List.Sums.{sum_by-set}
 use Rattle.classes.proofs.IndexLaws.{in_starts}
 use Rattle.lists.proofs.Comparing.{equal_or_not}
 use Rattle.lists.proofs.Containing.{Contains-cons_cases, Contains-head, Contains-tail}

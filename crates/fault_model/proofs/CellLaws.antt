@@ -1,12 +1,10 @@
 -- the cells of a rectangle are listed once each, and no other is
-use Rattle.std.proofs.Common.{ℕ, zero, suc, ◌≤◌, ◌≡◌, refl, ap, subst, arith, inl, inr}
-use Rattle.std.specs.Prelude.{ℤ, pos, ◌+ℤ◌, ◌-ℤ◌, ◌≤ℤ◌, ◌<ℤ◌, ◌↔◌, Contains, map}
-use Rattle.std.specs.List.{flat_map}
-use Rattle.std.proofs.lemmas.Int.{ints, by_lt_z}
-use Rattle.geo_core.specs.Cells.{Has}
+use Rattle.std.proofs.Common.{ℕ, zero, suc, ◌≤◌, ◌≡◌, refl, ap, subst, arith, inl, inr, ℤ, pos, ◌+ℤ◌, ◌-ℤ◌, ◌≤ℤ◌, ◌<ℤ◌, ◌↔◌, Contains, map}
+use Rattle.lists.proofs.Words.{flat_map, ints, by_lt_z}
+use Rattle.geo_core.specs.Plane.{Has}
 use Rattle.geo_core.specs.declared.plane.Cell.{Cell}
 use Rattle.geo_core.specs.declared.plane.Rect.{Rect}
-use Rattle.fault_model.specs.Areas.{Tally, none, hit, miss, from, or_zero, row, cells_of}
+use Rattle.fault_model.specs.FaultNames.{Tally, none, hit, miss, from, or_zero, row, cells_of}
 use Rattle.fault_model.proofs.RangeLaws.{or_zero_is}
 use Rattle.fault_model.proofs.TallyLaws.{Tally-append, Tally-some, Tally-counts}
 use Rattle.geo_core.proofs.IntervalLaws.{in_or_not}

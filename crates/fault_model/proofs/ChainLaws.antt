@@ -1,17 +1,14 @@
 -- walks within rectangles, and chains of them
 use Rattle.std.proofs.Common.{ℕ, ◌<◌, length, ◌≡◌, refl, sym, subst, List, inl, inr, ◌⊎◌}
-use Rattle.std.proofs.lemmas.Option.{slice_get_within}
+use Rattle.lists.proofs.Words.{slice_get_within}
 use Rattle.paths.specs.Paths.{stay, step}
 use Rattle.paths.proofs.PathLaws.{first, append, within}
-use Rattle.geo_core.specs.Cells.{Has, Touch, ShareEdge}
+use Rattle.geo_core.specs.Plane.{Has, Touch, ShareEdge, HasNumber, IsInUnion}
 use Rattle.geo_core.specs.declared.plane.Cell.{Cell}
 use Rattle.geo_core.specs.declared.plane.Half.{Half}
 use Rattle.geo_core.specs.declared.plane.Rect.{Rect}
 use Rattle.geo_core.proofs.RectLaws.{Touch-sym}
-use Rattle.fault_model.specs.Halves.{LiesIn, IsOn, Neighbours}
-use Rattle.fault_model.specs.Walks.{Walk}
-use Rattle.fault_model.specs.RectChains.{IsAt, TouchAt, AreChained}
-use Rattle.geo_core.specs.Unions.{HasNumber, IsInUnion}
+use Rattle.fault_model.specs.FaultNames.{LiesIn, IsOn, Neighbours, Walk, IsAt, TouchAt, AreChained}
 use Rattle.fault_model.proofs.HalfLaws.{one_cell, some_half, cells_of_neighbours, edge_halves}
 use Rattle.fault_model.proofs.LineLaws.{walk_in_rect}
 

@@ -2,12 +2,12 @@
 use Rattle.std.proofs.Common.{◌≡◌, refl, ap, subst, inl, inr, ◌⊎◌}
 use Rattle.paths.specs.Paths.{stay, step}
 use Rattle.paths.proofs.PathLaws.{first, append}
-use Rattle.geo_core.specs.Cells.{ShareEdge}
+use Rattle.geo_core.specs.Plane.{ShareEdge}
 use Rattle.geo_core.specs.declared.plane.Cell.{Cell}
 use Rattle.geo_core.specs.declared.plane.Half.{Half}
 use Rattle.geo_core.proofs.IntervalLaws.{Adjoins-apart}
-use Rattle.fault_model.specs.Halves.{LiesIn, IsOn, MeetAtCorner}
-use Rattle.fault_model.specs.Walks.{Walk, IsSameIsland}
+use Rattle.fault_model.specs.FaultNames.{LiesIn, IsOn, Walk, IsSameIsland}
+use Rattle.fault_model.specs.Halves.{MeetAtCorner}
 use Rattle.fault_model.proofs.HalfLaws.{one_cell, cells_of_neighbours, edge_halves}
 use Rattle.fault_model.proofs.LineLaws.{in_cell}
 

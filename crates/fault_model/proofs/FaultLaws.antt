@@ -1,19 +1,17 @@
 -- faults of two defects at one cell: a larger one makes each that a smaller one does, and one that touches or covers
 -- the same cells makes the same
-use Rattle.std.proofs.Common.{ℕ, ◌+◌, ◌-◌, ◌/◌, ◌≤◌, ◌≡◌, subst, List, [], arith}
-use Rattle.std.specs.Prelude.{◌↔◌}
-use Rattle.std.proofs.lemmas.Int.{ints}
+use Rattle.std.proofs.Common.{ℕ, ◌+◌, ◌-◌, ◌/◌, ◌≤◌, ◌≡◌, subst, List, arith, ◌↔◌}
+use Rattle.lists.proofs.Words.{ints}
 use Rattle.geo_core.specs.declared.plane.Cell.{Cell}
 use Rattle.geo_core.specs.declared.plane.Half.{Half}
-use Rattle.fault_model.specs.Halves.{LiesIn, IsOn, IsTouched, IsSwallowed}
-use Rattle.fault_model.specs.Nets.{Cut, IsContact}
-use Rattle.fault_model.specs.Faults.{IsShort, IsOpen, IsViaBlock, IsSameCluster}
+use Rattle.fault_model.specs.FaultNames.{LiesIn, IsOn, IsTouched, IsSwallowed, Cut, IsContact, IsShort, IsOpen, IsViaBlock}
+use Rattle.fault_model.specs.Faults.{IsSameCluster}
 use Rattle.fault_model.specs.FaultConsequences.{IsNearTwoNets, IsNearCluster}
 use Rattle.paths.proofs.PathLaws.{append, within}
 use Rattle.geo_core.proofs.RectLaws.{same_cell}
 use Rattle.fault_model.proofs.HalfLaws.{cell_on}
 use Rattle.fault_model.proofs.LineLaws.{in_cell}
-use Rattle.fault_model.proofs.NetLaws.{in_one_cell, net_is_island}
+use Rattle.fault_model.proofs.NetLaws.{in_one_cell}
 use Rattle.fault_model.proofs.SizeLaws.{touched, swallowed, footprint_grows}
 
 module _ (covers : ℕ → Cell → Type 0) (s t : ℕ) (c : Cell) (larger : s ≤ t) where
@@ -149,20 +147,3 @@ module _ (covers : ℕ → Cell → Type 0) where
       let one = swallowed s n (omega arith) (omega arith) c in
       let two = swallowed (t + t) n (omega arith) (omega arith) c in
       (block_from cut s (t + t) c (λ d k. (two d).1 ((one d).0 k)), block_from cut (t + t) s c (λ d k. (one d).1 ((two d).0 k)))
-
--- what is covered alike has the same half squares, and without cuts the same shorts
-IsOn-same : {one other : Cell → Type 0} → ((c : Cell) → one c → other c) → (h : Half) → IsOn one h → IsOn other h
-IsOn-same f h on = (on.0, on.1, f on.0 on.2)
-
-pub short_same : (one other : ℕ → Cell → Type 0) (m s : ℕ) (c : Cell) → ((d : Cell) → one m d ↔ other m d) → IsShort one [] m s c → IsShort other [] m s c
-short_same one other m s c same short = record {
-  one = short.one;
-  other = short.other;
-  one_on = IsOn-same (λ d h. (same d).0 h) short.one short.one_on;
-  other_on = IsOn-same (λ d h. (same d).0 h) short.other short.other_on;
-  one_hit = short.one_hit;
-  other_hit = short.other_hit;
-  apart = λ net.
-      let island = (net_is_island other m short.one short.other).0 net in
-      short.apart ((net_is_island one m short.one short.other).1 (within (IsOn-same (λ d h. (same d).1 h)) island));
-}

@@ -1,14 +1,12 @@
 -- half units of a unit, in one dimension, and half squares of a cell
-use Rattle.std.proofs.Common.{ℕ, ◌/◌, ◌≡◌, refl, sym, subst, arith, inl, inr, ◌⊎◌}
-use Rattle.std.specs.Prelude.{ℤ, pos, negsuc, ◌+ℤ◌}
-use Rattle.std.proofs.lemmas.Int.{ints, by_lt_z}
-use Rattle.geo_core.specs.Intervals.{IsIn, Adjoins}
-use Rattle.geo_core.specs.Cells.{ShareEdge}
+use Rattle.std.proofs.Common.{ℕ, ◌/◌, ◌≡◌, refl, sym, subst, arith, inl, inr, ◌⊎◌, ℤ, pos, negsuc, ◌+ℤ◌}
+use Rattle.lists.proofs.Words.{ints, by_lt_z}
+use Rattle.geo_core.specs.Plane.{IsIn, Adjoins, ShareEdge}
 use Rattle.geo_core.specs.declared.plane.Cell.{Cell}
 use Rattle.geo_core.specs.declared.plane.Half.{Half}
 use Rattle.geo_core.proofs.IntervalLaws.{Adjoins-sym, in_or_not}
 use Rattle.geo_core.proofs.RectLaws.{same_cell}
-use Rattle.fault_model.specs.Halves.{IsHalfOf, LiesIn, IsOn, Neighbours, IsInFootprint}
+use Rattle.fault_model.specs.FaultNames.{IsHalfOf, LiesIn, IsOn, Neighbours, IsInFootprint}
 
 -- ---- in one dimension
 

@@ -7,6 +7,7 @@ pub mod CornerLaws
 pub mod NetLaws
 pub mod SizeLaws
 pub mod FaultLaws
+pub mod AlikeLaws
 pub mod TerminalLaws
 pub mod TallyLaws
 pub mod OrderLaws

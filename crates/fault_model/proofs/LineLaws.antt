@@ -1,16 +1,13 @@
 -- walks along lines, and within boxes of half squares
-use Rattle.std.proofs.Common.{ℕ, zero, suc, ◌+◌, ◌-◌, ◌≤◌, ◌≡◌, refl, subst, inl, inr, arith}
-use Rattle.std.specs.Prelude.{ℤ, pos, negsuc, ◌+ℤ◌, ◌≤ℤ◌}
-use Rattle.std.proofs.lemmas.Int.{ints, by_lt_z}
+use Rattle.std.proofs.Common.{ℕ, zero, suc, ◌+◌, ◌-◌, ◌≤◌, ◌≡◌, refl, subst, inl, inr, arith, ℤ, pos, negsuc, ◌+ℤ◌, ◌≤ℤ◌}
+use Rattle.lists.proofs.Words.{ints, by_lt_z}
 use Rattle.paths.specs.Paths.{stay, step}
 use Rattle.paths.proofs.PathLaws.{append, reverse}
-use Rattle.geo_core.specs.Intervals.{IsIn}
-use Rattle.geo_core.specs.Cells.{Has}
+use Rattle.geo_core.specs.Plane.{IsIn, Has}
 use Rattle.geo_core.specs.declared.plane.Cell.{Cell}
 use Rattle.geo_core.specs.declared.plane.Half.{Half}
 use Rattle.geo_core.specs.declared.plane.Rect.{Rect}
-use Rattle.fault_model.specs.Halves.{LiesIn, IsOn, Neighbours}
-use Rattle.fault_model.specs.Walks.{Walk}
+use Rattle.fault_model.specs.FaultNames.{LiesIn, IsOn, Neighbours, Walk}
 use Rattle.fault_model.proofs.HalfLaws.{Neighbours-sym, halves_in, whole_in}
 
 pub Walk-reverse : {S : Half → Type 0} {p q : Half} → Walk S p q → Walk S q p

@@ -1,10 +1,8 @@
 -- walks as lists
-use Rattle.std.proofs.Common.{ℕ, zero, suc, ◌≡◌, refl, sym, ap, ◌∙◌, subst, List, [], ◌∷◌, length, arith}
-use Rattle.std.specs.Prelude.{Some, slice_get}
+use Rattle.std.proofs.Common.{ℕ, zero, suc, ◌≡◌, refl, sym, ap, ◌∙◌, subst, List, [], ◌∷◌, length, arith, Some, slice_get}
 use Rattle.geo_core.specs.declared.plane.Half.{Half}
-use Rattle.fault_model.specs.Halves.{Neighbours}
+use Rattle.fault_model.specs.FaultNames.{Neighbours, Walk}
 use Rattle.paths.specs.Paths.{stay, step}
-use Rattle.fault_model.specs.Walks.{Walk}
 use Rattle.fault_model.specs.FaultConsequences.{IsListWalk}
 
 some_is : (a b : Half) → Some a ≡ Some b → a ≡ b

@@ -1,13 +1,10 @@
 -- net walks: they lead back, keep to metals, and without cuts keep to one
-use Rattle.std.proofs.Common.{ℕ, ◌<◌, ◌≡◌, refl, sym, subst, ◌∙◌, List, [], inl, inr, arith}
-use Rattle.std.specs.Prelude.{◌↔◌, Contains}
+use Rattle.std.proofs.Common.{ℕ, ◌<◌, ◌≡◌, refl, sym, subst, ◌∙◌, List, [], inl, inr, arith, ◌↔◌, Contains}
 use Rattle.geo_core.specs.declared.plane.Cell.{Cell}
 use Rattle.geo_core.specs.declared.plane.Half.{Half}
-use Rattle.fault_model.specs.Halves.{LiesIn, IsOn}
+use Rattle.fault_model.specs.FaultNames.{LiesIn, IsOn, Walk, IsSameIsland, IsEquivalenceOn, Cut, Place, Joins, NetStep, along, through, IsOnMetal, NetWalk, IsContact, IsSameNetOn}
 use Rattle.paths.specs.Paths.{stay, step}
-use Rattle.fault_model.specs.Walks.{Walk, IsSameIsland}
-use Rattle.fault_model.specs.FaultConsequences.{IsEquivalenceOn}
-use Rattle.fault_model.specs.Nets.{Cut, Place, Joins, JoinMetals, NetStep, along, through, IsOnMetal, NetWalk, IsContact, IsSameNetOn}
+use Rattle.fault_model.specs.Nets.{JoinMetals}
 use Rattle.paths.proofs.PathLaws.{first, last, append, reverse}
 use Rattle.fault_model.proofs.HalfLaws.{Neighbours-sym}
 use Rattle.fault_model.proofs.LineLaws.{in_cell}

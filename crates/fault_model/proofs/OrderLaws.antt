@@ -1,8 +1,7 @@
 -- two lists that have each cell equally often have the same tally
-use Rattle.std.proofs.Common.{ℕ, suc, ◌≤◌, ◌≡◌, refl, subst, List, [], ◌∷◌, arith, inl, inr}
-use Rattle.std.specs.Prelude.{Contains}
+use Rattle.std.proofs.Common.{ℕ, suc, ◌≤◌, ◌≡◌, refl, subst, List, [], ◌∷◌, arith, inl, inr, Contains}
 use Rattle.geo_core.specs.declared.plane.Cell.{Cell}
-use Rattle.fault_model.specs.Areas.{Tally, none, hit, miss}
+use Rattle.fault_model.specs.FaultNames.{Tally, none, hit, miss}
 use Rattle.geo_core.proofs.RectLaws.{cells_equal_or_not}
 use Rattle.fault_model.proofs.TallyLaws.{Tally-append, Tally-counts, Tally-grows, Tally-le-length, Tally-none, Tally-same, Tally-some, Tally-test, Tally-unique}
 use Rattle.lists.proofs.Containing.{Contains-cons_cases, Contains-head}

@@ -1,13 +1,13 @@
 -- which cells a defect touches, and which it covers wholly
-use Rattle.std.proofs.Common.{ℕ, ◌+◌, ◌≤◌, ◌<◌, arith}
-use Rattle.std.specs.Prelude.{ℤ, pos, ◌+ℤ◌, ◌↔◌}
-use Rattle.std.proofs.lemmas.Int.{ints, by_lt_z}
+use Rattle.std.proofs.Common.{ℕ, ◌+◌, ◌≤◌, ◌<◌, arith, ℤ, pos, ◌+ℤ◌, ◌↔◌}
+use Rattle.lists.proofs.Words.{ints, by_lt_z}
 use Rattle.geo_core.specs.Intervals.{IsWithin}
-use Rattle.geo_core.specs.Cells.{Has, IsNear, ComesNear}
+use Rattle.geo_core.specs.Plane.{Has, IsNear, ComesNear}
 use Rattle.geo_core.specs.declared.plane.Cell.{Cell}
 use Rattle.geo_core.specs.declared.plane.Half.{Half}
 use Rattle.geo_core.specs.declared.plane.Rect.{Rect}
-use Rattle.fault_model.specs.Halves.{IsHalfOf, IsOn, IsUnder, IsInFootprint, IsTouched, IsSwallowed}
+use Rattle.fault_model.specs.FaultNames.{IsHalfOf, IsOn, IsInFootprint, IsTouched, IsSwallowed}
+use Rattle.fault_model.specs.Halves.{IsUnder}
 use Rattle.fault_model.proofs.HalfLaws.{first_half, last_half}
 
 -- a half unit of a near unit is reached: its greater half from below, its lesser from above

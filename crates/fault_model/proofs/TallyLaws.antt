@@ -1,9 +1,8 @@
 -- tallies: they agree, add up, and follow the truth of the property
-use Rattle.std.proofs.Common.{ℕ, suc, ◌+◌, ◌≤◌, ◌≡◌, refl, sym, ap, subst, List, [], ◌∷◌, ◌++◌, length, Bool, true, false, cond, zero-add, arith, inl, inr}
-use Rattle.std.specs.Prelude.{Contains, IsTrue, count_by, ◌↔◌}
-use Rattle.std.proofs.lemmas.List.Sums.{sum_by-cons}
+use Rattle.std.proofs.Common.{ℕ, suc, ◌+◌, ◌≤◌, ◌≡◌, refl, sym, ap, subst, List, [], ◌∷◌, ◌++◌, length, Bool, true, false, cond, zero-add, arith, inl, inr, Contains, IsTrue, count_by, ◌↔◌}
+use Rattle.lists.proofs.Words.{sum_by-cons}
 use Rattle.geo_core.specs.declared.plane.Cell.{Cell}
-use Rattle.fault_model.specs.Areas.{Tally, none, hit, miss}
+use Rattle.fault_model.specs.FaultNames.{Tally, none, hit, miss}
 use Rattle.lists.proofs.Containing.{Contains-cons_cases, Contains-head, Contains-tail}
 
 pub Tally-unique : {P : Cell → Type 0} (cells : List Cell) (m n : ℕ) → Tally P cells m → Tally P cells n → m ≡ n

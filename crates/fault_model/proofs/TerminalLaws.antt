@@ -1,13 +1,10 @@
 -- terminals: those that are covered, those of cells, and those with vias among them
-use Rattle.std.proofs.Common.{ℕ, [], ◌≡◌}
-use Rattle.std.specs.Prelude.{◌≢◌, ◌↔◌}
+use Rattle.std.proofs.Common.{ℕ, [], ◌≡◌, ◌≢◌, ◌↔◌}
 use Rattle.geo_core.specs.declared.plane.Cell.{Cell}
 use Rattle.geo_core.specs.declared.plane.Half.{Half}
-use Rattle.fault_model.specs.Halves.{LiesIn, IsSwallowed}
-use Rattle.fault_model.specs.Walks.{IsSameIsland}
-use Rattle.fault_model.specs.Nets.{Cut}
+use Rattle.fault_model.specs.FaultNames.{LiesIn, IsSwallowed, IsSameIsland, Cut, IsViasOpen}
 use Rattle.fault_model.specs.Faults.{AreTied, AreParted, IsCellsOpen}
-use Rattle.fault_model.specs.Vias.{TerminalName, named_cell, via, IsInTerminal, Differ, IsViasOpen}
+use Rattle.fault_model.specs.Vias.{TerminalName, named_cell, via, IsInTerminal, Differ}
 use Rattle.paths.proofs.PathLaws.{first, append}
 use Rattle.fault_model.proofs.LineLaws.{in_cell}
 use Rattle.fault_model.proofs.HalfLaws.{some_half}

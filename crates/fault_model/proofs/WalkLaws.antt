@@ -2,9 +2,7 @@
 use Rattle.paths.specs.Paths.{stay}
 use Rattle.paths.proofs.PathLaws.{first, last, append}
 use Rattle.geo_core.specs.declared.plane.Cell.{Cell}
-use Rattle.fault_model.specs.Halves.{IsOn}
-use Rattle.fault_model.specs.Walks.{IsSameIsland}
-use Rattle.fault_model.specs.FaultConsequences.{IsEquivalenceOn}
+use Rattle.fault_model.specs.FaultNames.{IsOn, IsSameIsland, IsEquivalenceOn}
 use Rattle.fault_model.proofs.LineLaws.{Walk-reverse}
 
 pub islands_are_classes : (covered : Cell → Type 0) → IsEquivalenceOn (IsOn covered) (IsSameIsland covered)

@@ -1,18 +1,14 @@
 -- a set of cells has one window at most, and no fault within reach happens outside it
-use Rattle.std.proofs.Common.{ℕ, ◌+◌, ◌/◌, ◌≤◌, ◌<◌, ◌≡◌, refl, ap, arith, inl, inr, List}
-use Rattle.std.specs.Prelude.{pos, ◌↔◌, Option, Some, None}
-use Rattle.std.proofs.lemmas.Int.{ints}
+use Rattle.std.proofs.Common.{ℕ, ◌+◌, ◌/◌, ◌≤◌, ◌<◌, ◌≡◌, refl, ap, arith, inl, inr, List, pos, ◌↔◌, Option, Some, None}
+use Rattle.lists.proofs.Words.{ints}
 use Rattle.paths.specs.Paths.{stay}
 use Rattle.paths.proofs.PathLaws.{within_or_over}
-use Rattle.geo_core.specs.Cells.{Has}
+use Rattle.geo_core.specs.Plane.{Has}
 use Rattle.geo_core.specs.declared.plane.Cell.{Cell}
 use Rattle.geo_core.specs.declared.plane.Half.{Half}
 use Rattle.geo_core.specs.declared.plane.Rect.{Rect}
 use Rattle.geo_core.proofs.RectLaws.{same_cells_same_rect}
-use Rattle.fault_model.specs.Halves.{IsOn, IsInFootprint, IsTouched}
-use Rattle.fault_model.specs.Nets.{Cut}
-use Rattle.fault_model.specs.Faults.{IsShort, IsOpen, IsViaBlock}
-use Rattle.fault_model.specs.Areas.{cells_of, cells_of_window, IsBoundsOf, IsWindow, IsWindowOf, IsCovered}
+use Rattle.fault_model.specs.FaultNames.{IsOn, IsInFootprint, IsTouched, Cut, IsShort, IsOpen, IsViaBlock, cells_of, cells_of_window, IsBoundsOf, IsWindow, IsWindowOf, IsCovered}
 use Rattle.fault_model.proofs.HalfLaws.{hit_or_not}
 use Rattle.fault_model.proofs.SizeLaws.{reached}
 

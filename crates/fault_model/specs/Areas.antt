@@ -1,7 +1,6 @@
 -- areas: of how many cells of a window a property holds
-use Rattle.std.specs.Prelude.{ℤ, pos, negsuc, ℕ, suc, zero, ◌+ℤ◌, ◌-ℤ◌, ◌↔◌, List, [], ◌∷◌, map, Option, Some, None}
-use Rattle.std.specs.List.{flat_map}
-use Rattle.geo_core.specs.Cells.{Has, ComesNear}
+use Rattle.std.specs.Prelude.{ℤ, pos, negsuc, ℕ, suc, zero, ◌+ℤ◌, ◌-ℤ◌, ◌↔◌, List, [], ◌∷◌, map, Option, Some, None, flat_map}
+use Rattle.geo_core.specs.Plane.{Has, ComesNear}
 use Rattle.geo_core.specs.declared.plane.Cell.{Cell}
 use Rattle.geo_core.specs.declared.plane.Rect.{Rect}
 

@@ -1,6 +1,6 @@
 -- what the laws say of these definitions in other words
 use Rattle.std.specs.Prelude.{pos, ℕ, suc, ◌-◌, ◌≡◌, List, Some, slice_get, length}
-use Rattle.geo_core.specs.Cells.{IsNear}
+use Rattle.geo_core.specs.Plane.{IsNear}
 use Rattle.geo_core.specs.declared.plane.Cell.{Cell}
 use Rattle.geo_core.specs.declared.plane.Half.{Half}
 use Rattle.fault_model.specs.Halves.{LiesIn, Neighbours}

@@ -1,6 +1,6 @@
 -- half squares: four to a cell, and which of them are covered, and which a defect has
 use Rattle.std.specs.Prelude.{ℤ, pos, ℕ, ◌+ℤ◌, ◌-ℤ◌, ◌≡◌, ◌⊎◌}
-use Rattle.geo_core.specs.Intervals.{IsIn, Adjoins}
+use Rattle.geo_core.specs.Plane.{IsIn, Adjoins}
 use Rattle.geo_core.specs.declared.plane.Cell.{Cell}
 use Rattle.geo_core.specs.declared.plane.Half.{Half}
 

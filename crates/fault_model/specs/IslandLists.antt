@@ -3,7 +3,7 @@ use Rattle.std.specs.Prelude.{List, AllPairs, Contains, ◌≢◌}
 use Rattle.geo_core.specs.declared.plane.Cell.{Cell}
 use Rattle.geo_core.specs.declared.plane.Half.{Half}
 use Rattle.geo_core.specs.declared.plane.Rect.{Rect}
-use Rattle.geo_core.specs.Unions.{IsInUnion}
+use Rattle.geo_core.specs.Plane.{IsInUnion}
 use Rattle.fault_model.specs.Halves.{IsOn}
 use Rattle.fault_model.specs.Walks.{IsSameIsland}
 

@@ -9,3 +9,4 @@ pub mod RectChains
 pub mod IslandLists
 -- what the laws of this crate alone cite
 pub mod FaultConsequences
+pub mod FaultNames

@@ -1,10 +1,9 @@
 -- chains: how rectangles of a list are connected
 use Rattle.std.specs.Prelude.{ℕ, List, Some, ◌≡◌, ◌≤◌, ◌<◌, length, slice_get}
-use Rattle.geo_core.specs.Cells.{Has, Touch}
+use Rattle.geo_core.specs.Plane.{Has, Touch, HasNumber}
 use Rattle.geo_core.specs.declared.plane.Cell.{Cell}
 use Rattle.geo_core.specs.declared.plane.Half.{Half}
 use Rattle.geo_core.specs.declared.plane.Rect.{Rect}
-use Rattle.geo_core.specs.Unions.{HasNumber}
 use Rattle.fault_model.specs.Halves.{IsOn}
 use Rattle.paths.specs.Paths.{Path}
 

@@ -1,9 +1,7 @@
 -- whole numbers, and intervals of them
-use Rattle.std.proofs.Common.{◌≡◌, refl, arith, inl, inr, ◌⊎◌}
-use Rattle.std.specs.Prelude.{ℤ, pos, ◌+ℤ◌, ◌-ℤ◌, ◌≤ℤ◌, ◌<ℤ◌, ◌↔◌}
-use Rattle.std.specs.Int.{int_max, int_min}
-use Rattle.std.proofs.lemmas.Int.{ints, clamps, by_lt_z}
-use Rattle.geo_core.specs.Intervals.{IsIn, IsInterval, Adjoins, ComesWithin, IntervalsOverlap, IntervalsTouch, IsPartOf, IsIntervalJoin}
+use Rattle.std.proofs.Common.{◌≡◌, refl, arith, inl, inr, ◌⊎◌, ℤ, pos, ◌+ℤ◌, ◌-ℤ◌, ◌≤ℤ◌, ◌<ℤ◌, ◌↔◌}
+use Rattle.lists.proofs.Words.{int_max, int_min, ints, clamps, by_lt_z}
+use Rattle.geo_core.specs.Plane.{IsIn, IsInterval, Adjoins, ComesWithin, IntervalsOverlap, IntervalsTouch, IsPartOf, IsIntervalJoin}
 
 -- two numbers are one, or not
 pub equal_or_not : (a b : ℤ) → (a ≡ b) ⊎ (a ≡ b → ⊥)

@@ -1,10 +1,8 @@
 -- cells, and rectangles by their columns and their rows
-use Rattle.std.proofs.Common.{◌≡◌, refl, sym, subst, ap, ◌∙◌, arith, inl, inr, ◌⊎◌}
-use Rattle.std.specs.Prelude.{ℤ, pos, neg_ℤ, ◌+ℤ◌, ◌-ℤ◌, ◌≤ℤ◌, ◌<ℤ◌, ◌↔◌}
+use Rattle.std.proofs.Common.{◌≡◌, refl, sym, subst, ap, ◌∙◌, arith, inl, inr, ◌⊎◌, ℤ, pos, neg_ℤ, ◌+ℤ◌, ◌-ℤ◌, ◌≤ℤ◌, ◌<ℤ◌, ◌↔◌}
+use Rattle.lists.proofs.Words.{ints}
 use Rattle.std.proofs.Math.Dec.{T_prop}
-use Rattle.std.proofs.lemmas.Int.{ints}
-use Rattle.geo_core.specs.Intervals.{IsIn, IsInterval, ComesWithin, IntervalsOverlap, IntervalsTouch, IsPartOf, IsIntervalJoin}
-use Rattle.geo_core.specs.Cells.{Has, IsInLayout, ComesNear, IsJoin, Overlap, ShareEdge, Touch}
+use Rattle.geo_core.specs.Plane.{IsIn, IsInterval, ComesWithin, IntervalsOverlap, IntervalsTouch, IsPartOf, IsIntervalJoin, Has, IsInLayout, ComesNear, IsJoin, Overlap, ShareEdge, Touch}
 use Rattle.geo_core.specs.declared.bounds.TheConstants.{FARTHEST, FARTHEST_GROWN}
 use Rattle.geo_core.specs.declared.interval.Interval.{Interval}
 use Rattle.geo_core.specs.declared.plane.Cell.{Cell}

@@ -1,7 +1,6 @@
 -- turns one after the other
-use Rattle.std.proofs.Common.{ℕ, zero, suc, ◌+◌, ◌*◌, ◌-◌, ◌/◌, ◌%◌, ◌<◌, ◌≡◌, refl, sym, ap, ◌∙◌, arith, Bool, true, false, not}
-use Rattle.std.specs.Prelude.{ℤ, pos, negsuc, neg_ℤ, if◌then◌else◌}
-use Rattle.geo_core.specs.Turns.{mirror_image, quarter_turn, quarter_turns}
+use Rattle.std.proofs.Common.{ℕ, zero, suc, ◌+◌, ◌*◌, ◌-◌, ◌/◌, ◌%◌, ◌<◌, ◌≡◌, refl, sym, ap, ◌∙◌, arith, Bool, true, false, not, ℤ, pos, negsuc, neg_ℤ, if◌then◌else◌}
+use Rattle.geo_core.specs.Plane.{mirror_image, quarter_turn, quarter_turns}
 use Rattle.geo_core.specs.declared.plane.Point.{Point}
 
 pub neg-neg : (z : ℤ) → neg_ℤ (neg_ℤ z) ≡ z

@@ -6,3 +6,4 @@ pub mod Turns
 pub mod Unions
 pub mod Circuits
 pub mod NodeLists
+pub mod Plane

@@ -1,19 +1,10 @@
 -- A stream has one first fault at most, and none where it is a library: so bytes come to one thing at most.
 use Rattle.std.proofs.Common.{◌≡◌, inl, inr, ℕ, List, [], ◌∷◌, ◌++◌, Some, refl, sym, ap, subst, ◌∙◌, arith, append_assoc}
-use Rattle.std.proofs.lemmas.List.{map-append}
-use Rattle.first_refusal.specs.Laws.{IsUnique}
-use Rattle.first_refusal.specs.Outcomes.{value, refused}
+use Rattle.lists.proofs.Words.{map-append}
+use Rattle.library_grammar.specs.GrammarNames.{IsUnique, value, refused, Entry, End, whole, ElementHolds, element_checks, element_fault, IsElementFault, ElementForm, EndsOwnRecords, Shows, may_not_stand, repeats, is_faulty, NoneShows, IsFirstFault, at_record, at_end, BytesComeTo, are_library, have_fault, behind, IsLibrary, Place, before_header, behind_endlib, among_own, place_behind, kinds_of, MayStand}
 use Rattle.first_refusal.proofs.CheckLaws.{first_refusals_agree}
 use Rattle.gds_records.specs.declared.kinds.TheConstants as kind
-use Rattle.gds_records.specs.Spelling.{Entry}
-use Rattle.gds_records.specs.Split.{End, whole}
 use Rattle.gds_records.proofs.SplitLaws.{splits_agree}
-use Rattle.library_grammar.specs.ElementChecks.{ElementHolds, element_checks, element_fault, IsElementFault}
-use Rattle.library_grammar.specs.ElementForms.{ElementForm}
-use Rattle.library_grammar.specs.FirstFault.{EndsOwnRecords, Shows, may_not_stand, repeats, is_faulty, NoneShows, IsFirstFault, at_record, at_end, BytesComeTo, are_library, have_fault}
-use Rattle.library_grammar.specs.Libraries.{behind, IsLibrary}
-use Rattle.library_grammar.specs.Places.{Place, before_header, behind_endlib, among_own, place_behind}
-use Rattle.library_grammar.specs.Grammar.{kinds_of, MayStand}
 use Rattle.library_grammar.specs.declared.fault.SyntaxFault.{SyntaxFault}
 use Rattle.library_grammar.specs.declared.fault.SyntaxFault.TheVariants.{Record}
 use Rattle.library_model.specs.declared.library.Library.{Library}

@@ -1,18 +1,11 @@
 -- The numbers in bodies of bytes fit their widths.
-use Rattle.std.proofs.Common.{◌≡◌, inl, inr, ℕ, ℤ, pos, ◌+◌, ◌*◌, ◌/◌, ◌<◌, ◌^◌, Bool, true, false, cond, ◌==◌, List, [], ◌∷◌, length, get_or, drop, All, Option, Some, None, option_map, IfSome, refl, sym, subst, arith}
-use Rattle.std.specs.Prelude.{find, unwrap_or, slice_index, FitsSigned}
-use Rattle.std.specs.Int.{Width, w16, w32, cast_signed}
-use Rattle.std.specs.List.{range_with_len}
+use Rattle.std.proofs.Common.{◌≡◌, inl, inr, ℕ, ℤ, pos, ◌+◌, ◌*◌, ◌/◌, ◌<◌, ◌^◌, Bool, true, false, cond, ◌==◌, List, [], ◌∷◌, length, get_or, drop, All, Option, Some, None, option_map, IfSome, refl, sym, subst, arith, find, unwrap_or, FitsSigned, w16, w32}
+use Rattle.lists.proofs.Words.{cast_signed, range_with_len, cases_lt, get_or_past, All-nil, All-head, All-tail, All-drop, All-map}
+use Rattle.std.specs.Prelude.{slice_index}
+use Rattle.std.specs.Int.{Width}
 use Rattle.std.proofs.Math.Facts.{sfits_to_z}
-use Rattle.std.proofs.lemmas.Bool.{cases_lt}
-use Rattle.std.proofs.lemmas.List.{get_or_past}
-use Rattle.std.proofs.lemmas.List.Elements.{All-nil, All-head, All-tail, All-drop, All-map}
-use Rattle.gds_records.specs.Fields.{item}
+use Rattle.library_grammar.specs.GrammarNames.{item, Entry, IsByte, AreBytes, field, body_of, point_in, points_of, unsigned_of, short_of, long_of, columns_of, rows_of, IsPoint, ArePoints}
 use Rattle.gds_records.specs.declared.kinds.TheConstants as kind
-use Rattle.gds_records.specs.Spelling.{Entry}
-use Rattle.lists.specs.ByteLists.{IsByte, AreBytes}
-use Rattle.library_grammar.specs.OwnRecords.{field, body_of, point_in, points_of, unsigned_of, short_of, long_of, columns_of, rows_of}
-use Rattle.library_model.specs.Ranges.{IsPoint, ArePoints}
 
 -- the bodies of records are of bytes
 abbrev pub HaveBytes : List Entry → Type 0

@@ -1,18 +1,13 @@
 -- What is kept of an element is one thing at most.
-use Rattle.std.proofs.Common.{◌≡◌, ◌↔◌, ℕ, ℤ, pos, negsuc, suc, ◌+ℤ◌, ◌*ℤ◌, ◌*◌, ◌/◌, ◌<◌, ◌≤◌, Bool, true, false, List, Option, Some, None, IsTrue, refl, sym, ap, ◌∙◌, arith}
-use Rattle.std.specs.Prelude.{MatchOption}
-use Rattle.std.proofs.Math.IntN.{pos-*ℤ-pos, pos-*ℤ-negsuc}
-use Rattle.std.proofs.Math.Nat.{mul-div_cancel_left, le-mul_of_pos_right}
-use Rattle.std.proofs.lemmas.Int.{ints}
-use Rattle.first_refusal.specs.Laws.{IsUnique}
+use Rattle.std.proofs.Common.{◌≡◌, ◌↔◌, ℕ, ℤ, pos, negsuc, suc, ◌+ℤ◌, ◌*ℤ◌, ◌*◌, ◌/◌, ◌<◌, ◌≤◌, Bool, true, false, List, Option, Some, None, IsTrue, refl, sym, ap, ◌∙◌, arith, MatchOption}
+use Rattle.lists.proofs.Words.{pos-*ℤ-negsuc, le-mul_of_pos_right, ints}
+use Rattle.std.proofs.Math.IntN.{pos-*ℤ-pos}
+use Rattle.std.proofs.Math.Nat.{mul-div_cancel_left}
+use Rattle.library_grammar.specs.GrammarNames.{IsUnique, HasValue, Entry, IsShape, IsTurn, IsReference, IsLattice, IsKept, boundary, path, sref, aref, text, node, box, field, body_of, columns_of, rows_of, Leads}
 use Rattle.geo_core.specs.declared.plane.Point.{Point}
 use Rattle.gds_records.specs.declared.kinds.TheConstants as kind
-use Rattle.gds_records.specs.Reals.{HasValue}
-use Rattle.gds_records.specs.Spelling.{Entry}
 use Rattle.gds_records.proofs.RealLaws.{values_agree}
 use Rattle.gds_records.proofs.TextLaws.{texts_agree}
-use Rattle.library_grammar.specs.Elements.{IsShape, IsTurn, IsReference, IsLattice, IsKept, boundary, path, sref, aref, text, node, box}
-use Rattle.library_grammar.specs.OwnRecords.{field, body_of, columns_of, rows_of, Leads}
 use Rattle.library_model.specs.declared.element.Element.TheVariants.{Shape as shape_element, Reference as reference_element}
 use Rattle.library_model.specs.declared.element.Reference.{Reference}
 use Rattle.library_model.specs.declared.element.ShapeKind.{ShapeKind}

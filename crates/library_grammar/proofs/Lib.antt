@@ -17,3 +17,4 @@ pub mod LibraryThere
 pub mod NextRecords
 pub mod PointLaws
 pub mod PointedLaws
+pub mod StandLaws

@@ -1,47 +1,23 @@
 -- What a library that bytes come to has besides: its structures' names differ, since a record that names one again would show a
 -- fault, and its shapes have their points, since an element without them would show one.
-use Rattle.std.proofs.Common.{◌≡◌, ◌≢◌, ◌⊎◌, inl, inr, ℕ, ℤ, List, [], ◌∷◌, ◌++◌, All, Option, Some, None, IfSome, refl, sym, ap, subst, ◌∙◌, arith, append_assoc, length, ◌≤◌}
-use Rattle.std.specs.Prelude.{option_to_list}
-use Rattle.std.specs.List.{flat_map}
-use Rattle.std.proofs.lemmas.Bool.Decides.{leb_tells}
-use Rattle.std.proofs.lemmas.List.{append-nil}
-use Rattle.std.proofs.lemmas.List.Elements.{All-nil, All-cons, All-head, All-tail}
-use Rattle.std.proofs.lemmas.List.Kept.{AllPairs-cons}
-use Rattle.lists.specs.Differing.{AreDifferent}
+use Rattle.std.proofs.Common.{get_or, ◌≡◌, ◌≢◌, ◌⊎◌, inl, inr, ℕ, ℤ, List, [], ◌∷◌, ◌++◌, All, Option, Some, None, IfSome, refl, sym, ap, subst, ◌∙◌, arith, append_assoc, length, ◌≤◌, option_to_list}
+use Rattle.lists.proofs.Words.{flat_map, leb_tells, append-nil, All-nil, All-cons, All-head, All-tail, AllPairs-cons}
+use Rattle.library_grammar.specs.GrammarNames.{AreDifferent, value, Entry, BytesComeTo, are_library, IsNameIn, NoneShows, may_not_stand, repeats, ElementParts, element_records, IsElement, StructureParts, structure_head, structure_records, IsStructure, library_head, IsInShape, behind, SayElements, SaysStructure, SayStructures, names_of, HasItsPoints, IsWellPointed, AreWellPointed, IsClosed, IsOutline}
 use Rattle.lists.proofs.Comparing.{same_or_not}
 use Rattle.lists.proofs.Reading.{last_or_before}
-use Rattle.first_refusal.specs.Outcomes.{value}
 use Rattle.geo_core.specs.declared.plane.Point.{Point}
-use Rattle.gds_records.specs.Spelling.{Entry}
-use Rattle.library_grammar.specs.FirstFault.{BytesComeTo, are_library, IsNameIn, NoneShows, may_not_stand, repeats}
-use Rattle.library_grammar.specs.Grammar.{ElementParts, element_records, IsElement, StructureParts, structure_head, structure_records, IsStructure, library_head, IsInShape}
-use Rattle.library_grammar.specs.Libraries.{behind, SayElements, no_more as no_elements, one_more as one_element, SaysStructure, SayStructures, no_more as no_structures, one_more as one_structure}
-use Rattle.library_model.specs.Names.{names_of}
-use Rattle.library_model.specs.Points.{HasItsPoints, IsWellPointed, AreWellPointed}
-use Rattle.geo_core.specs.Circuits.{IsClosed, IsOutline}
+use Rattle.library_grammar.specs.Libraries.{no_more as no_elements, one_more as one_element, no_more as no_structures, one_more as one_structure}
 use Rattle.library_model.specs.declared.element.Element.{Element}
 use Rattle.library_model.specs.declared.element.Element.TheVariants.{Shape as shape_element, Reference as reference_element}
 use Rattle.library_model.specs.declared.element.ShapeKind.{ShapeKind}
 use Rattle.library_model.specs.declared.element.ShapeKind.TheVariants.{Boundary, BoxElement, Path}
 use Rattle.library_model.specs.declared.library.Library.{Library}
 use Rattle.library_model.specs.declared.library.Structure.{Structure}
+use Rattle.library_grammar.proofs.NextRecords.{among_more}
 use Rattle.library_grammar.proofs.LibraryThere.{checks_cannot_fail, second_part, split_part}
 use Rattle.library_grammar.proofs.PointedLaws.{kept_is_pointed}
 
 -- ---- names
-
--- a name that stands among records stands among more of them
-among_more : (front entries after : List Entry) (name : List ℕ) → IsNameIn entries name → IsNameIn (front ++ (entries ++ after)) name
-among_more front entries after name h = record {
-  earlier = front ++ h.earlier;
-  record_of_name = h.record_of_name;
-  later = h.later ++ after;
-  parts =
-      ap (λ (x : List Entry). front ++ (x ++ after)) h.parts ∙ ap (λ (x : List Entry). front ++ x) (append_assoc h.earlier (h.record_of_name ∷ h.later) after)
-      ∙ sym (append_assoc front h.earlier (h.record_of_name ∷ (h.later ++ after)));
-  names = h.names;
-  is_text = h.is_text;
-}
 
 -- a structure's records have its name
 names_itself : (at : ℕ) (s : StructureParts) (structure : Structure) → IsStructure s → SaysStructure at s structure → IsNameIn (structure_records s) structure.name
@@ -68,17 +44,9 @@ all_named at _ _ are (one_structure {parts = s} {others = others} {structure = t
     let named = all_named (behind at (structure_records s)) others structures (All-tail IsStructure s others are) more in
     All-cons (IsNameIn (structure_records s ++ rest)) t.name (names_of structures)
     (among_more [] (structure_records s) rest t.name (names_itself at s t (All-head IsStructure s others are) says))
-    (λ k d lt. behind_them (structure_records s) rest _ (named k d lt))
-  where
-    behind_them : (front entries : List Entry) (name : List ℕ) → IsNameIn entries name → IsNameIn (front ++ entries) name
-    behind_them front entries name h = record {
-      earlier = front ++ h.earlier;
-      record_of_name = h.record_of_name;
-      later = h.later;
-      parts = ap (λ (x : List Entry). front ++ x) h.parts ∙ sym (append_assoc front h.earlier (h.record_of_name ∷ h.later));
-      names = h.names;
-      is_text = h.is_text;
-    }
+    (λ k d lt.
+    let name : List ℕ = get_or (names_of structures) k d in
+    subst (λ (x : List Entry). IsNameIn (structure_records s ++ x) name) (append-nil rest) (among_more (structure_records s) rest [] name (named k d lt)))
 
 -- the names of structures differ, where no record of the whole list shows a fault
 all_differ : (whole front after : List Entry) (at : ℕ) (parts : List StructureParts) (structures : List Structure) → NoneShows whole

@@ -1,22 +1,11 @@
 -- A whole stream of which no record shows a fault says a library, and so bytes come to something.
-use Rattle.std.proofs.Common.{◌≡◌, ℕ, suc, List, [], ◌∷◌, ◌++◌, length, All, refl, sym, ap, subst, ◌∙◌, arith, append_assoc, append-nil}
-use Rattle.std.specs.Prelude.{option_to_list}
-use Rattle.std.specs.List.{flat_map}
-use Rattle.std.proofs.lemmas.List.Elements.{All-head, All-tail, All-same, All-weaker}
+use Rattle.std.proofs.Common.{◌≡◌, ℕ, suc, List, [], ◌∷◌, ◌++◌, length, All, refl, sym, ap, subst, ◌∙◌, arith, append_assoc, option_to_list}
+use Rattle.lists.proofs.Words.{append-nil, flat_map, All-head, All-tail, All-same, All-weaker}
 use Rattle.lists.proofs.Containing.{All-front, All-back}
-use Rattle.lists.specs.ByteLists.{AreBytes}
-use Rattle.first_refusal.specs.Laws.{CannotLack}
-use Rattle.first_refusal.specs.Outcomes.{value, refused}
+use Rattle.library_grammar.specs.GrammarNames.{AreBytes, CannotLack, value, refused, IsInProfile, Entry, End, whole, stops, Splits, ElementHolds, element_checks, element_fault, IsKept, Shows, is_faulty, NoneShows, at_record, at_end, BytesComeTo, are_library, have_fault, property_records, ElementParts, element_records, IsElement, StructureParts, structure_head, structure_records, IsStructure, library_head, IsInShape, MayStand, behind, SayElements, SaysStructure, SayStructures, IsLibrary}
 use Rattle.first_refusal.proofs.CheckLaws.{cannot_lack_both}
-use Rattle.gds_records.specs.Profile.{IsInProfile}
-use Rattle.gds_records.specs.Spelling.{Entry}
-use Rattle.gds_records.specs.Split.{End, whole, stops, Splits}
 use Rattle.gds_records.proofs.SplitLaws.{has_split}
-use Rattle.library_grammar.specs.ElementChecks.{ElementHolds, element_checks, element_fault}
-use Rattle.library_grammar.specs.Elements.{IsKept}
-use Rattle.library_grammar.specs.FirstFault.{Shows, is_faulty, NoneShows, at_record, at_end, BytesComeTo, are_library, have_fault}
-use Rattle.library_grammar.specs.Grammar.{property_records, ElementParts, element_records, IsElement, StructureParts, structure_head, structure_records, IsStructure, library_head, IsInShape, MayStand}
-use Rattle.library_grammar.specs.Libraries.{behind, SayElements, no_more as no_elements, one_more as one_element, SaysStructure, SayStructures, no_more as no_structures, one_more as one_structure, IsLibrary}
+use Rattle.library_grammar.specs.Libraries.{no_more as no_elements, one_more as one_element, no_more as no_structures, one_more as one_structure}
 use Rattle.library_grammar.specs.declared.fault.SyntaxFault.{SyntaxFault}
 use Rattle.library_grammar.specs.declared.fault.SyntaxFault.TheVariants.{Record as record_fault}
 use Rattle.library_grammar.proofs.FieldRanges.{HaveBytes}

@@ -1,17 +1,11 @@
 -- Among the own records of an element: the place there says which element it is, and which of its own records stand behind the one
 -- that opens it.
-use Rattle.std.proofs.Common.{◌≡◌, ℕ, Bool, true, false, not, ◌&&◌, ◌==◌, if◌then◌else◌, List, [], ◌∷◌, ◌++◌, length, All, Contains, Option, Some, None, option_map, option_and_then, refl, sym, ap, subst, ◌∙◌, arith, append_assoc, append-nil, ne_eqb}
+use Rattle.std.proofs.Common.{ne_eqb, ◌≡◌, ℕ, Bool, true, false, not, ◌&&◌, ◌==◌, if◌then◌else◌, List, [], ◌∷◌, ◌++◌, length, All, Contains, Option, Some, None, option_map, option_and_then, refl, sym, ap, subst, ◌∙◌, arith, append_assoc, length-append}
+use Rattle.lists.proofs.Words.{append-nil, list_all, map-append, length-map, All-head, All-tail, All-contains, All-map, AllPass-from_list_all}
 use Rattle.std.specs.Prelude.{is_none}
-use Rattle.std.specs.List.{list_all}
 use Rattle.std.proofs.lemmas.Bool.{true≢false}
-use Rattle.std.proofs.lemmas.List.{map-append, length-append, length-map}
-use Rattle.std.proofs.lemmas.List.Elements.{All-head, All-tail, All-contains, All-map}
-use Rattle.std.proofs.lemmas.List.Sums.{AllPass-from_list_all}
 use Rattle.gds_records.specs.declared.kinds.TheConstants as kind
-use Rattle.gds_records.specs.Spelling.{Entry}
-use Rattle.library_grammar.specs.ElementForms.{ElementForm, Opens, element_forms, own_kinds}
-use Rattle.library_grammar.specs.Places.{Place, before_header, before_bgnlib, before_name, before_units, between_structures, before_strname, behind_strname, between_elements, among_own, behind_attribute, behind_property, behind_endlib, has_kind, form_of, into_element, out_of_element, next_place, place_behind}
-use Rattle.library_grammar.specs.Grammar.{kinds_of, head_kinds}
+use Rattle.library_grammar.specs.GrammarNames.{Entry, ElementForm, Opens, element_forms, own_kinds, Place, before_header, before_bgnlib, before_name, before_units, between_structures, before_strname, behind_strname, between_elements, among_own, behind_attribute, behind_property, behind_endlib, has_kind, form_of, into_element, out_of_element, next_place, place_behind, kinds_of, head_kinds}
 use Rattle.library_grammar.proofs.PlaceEndings.{found_form}
 use Rattle.library_grammar.proofs.PlaceRuns.{begins_element, begins_first, each_form, has_contained, own_step, place_behind-append}
 use Rattle.library_grammar.proofs.PlainKinds.{own_is_plain}

@@ -1,13 +1,9 @@
 -- What may stand behind records is what their place says: each place has a way to the end, and a list in shape stops nowhere.
 use Rattle.std.proofs.Common.{◌≡◌, ℕ, Bool, true, false, not, ◌&&◌, ◌==◌, ◌↔◌, List, [], ◌∷◌, ◌++◌, Option, Some, None, IsSome, option_and_then, refl, sym, ap, ◌∙◌}
-use Rattle.std.proofs.lemmas.List.Folds.{list_any-append}
-use Rattle.std.proofs.Math.Bool.{or-true, and-false}
-use Rattle.std.proofs.lemmas.List.{map-append}
+use Rattle.lists.proofs.Words.{list_any-append, or-true, map-append}
+use Rattle.std.proofs.Math.Bool.{and-false}
 use Rattle.gds_records.specs.declared.kinds.TheConstants as kind
-use Rattle.gds_records.specs.Spelling.{Entry}
-use Rattle.library_grammar.specs.ElementForms.{ElementForm, own_kinds}
-use Rattle.library_grammar.specs.Grammar.{kinds_of, MayStand}
-use Rattle.library_grammar.specs.Places.{Place, before_header, before_bgnlib, before_name, before_units, between_structures, before_strname, behind_strname, between_elements, among_own, behind_attribute, behind_property, behind_endlib, has_kind, next_place, place_behind}
+use Rattle.library_grammar.specs.GrammarNames.{Entry, ElementForm, own_kinds, kinds_of, MayStand, Place, before_header, before_bgnlib, before_name, before_units, between_structures, before_strname, behind_strname, between_elements, among_own, behind_attribute, behind_property, behind_endlib, has_kind, next_place, place_behind}
 use Rattle.library_grammar.proofs.PlaceEndings.{in_shape_of_end}
 use Rattle.library_grammar.proofs.PlaceRuns.{LeadTo, place_behind-append, step, end_of_shape}
 

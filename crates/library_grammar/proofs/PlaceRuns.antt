@@ -1,15 +1,9 @@
 -- Records in the grammar lead on: each part of a library leads from one place to the next.
-use Rattle.std.proofs.Common.{◌≡◌, ◌≢◌, ℕ, suc, true, false, List, [], ◌∷◌, ◌++◌, get_or, All, AllPairs, Contains, Option, Some, None, option_and_then, IfSome, refl, ap, ◌∙◌, arith, append_assoc, append-nil, eq-eqb, ne_eqb}
-use Rattle.std.specs.Prelude.{◌==◌, option_to_list}
-use Rattle.std.specs.List.{flat_map}
-use Rattle.std.proofs.lemmas.List.{map-append}
-use Rattle.std.proofs.lemmas.List.Elements.{All-head, All-tail, All-contains, All-from_recursion, All-map}
-use Rattle.std.proofs.lemmas.List.Folds.{list_any_at, list_any-append}
+use Rattle.std.proofs.Common.{eq-eqb, ne_eqb, ◌≡◌, ◌≢◌, ℕ, suc, true, false, List, [], ◌∷◌, ◌++◌, get_or, All, AllPairs, Contains, Option, Some, None, option_and_then, IfSome, refl, ap, ◌∙◌, arith, append_assoc, ◌==◌, option_to_list}
+use Rattle.lists.proofs.Words.{append-nil, flat_map, map-append, All-head, All-tail, All-contains, All-from_recursion, All-map, list_any-append}
+use Rattle.std.proofs.lemmas.List.Folds.{list_any_at}
 use Rattle.gds_records.specs.declared.kinds.TheConstants as kind
-use Rattle.gds_records.specs.Spelling.{Entry}
-use Rattle.library_grammar.specs.ElementForms.{ElementForm, boundary_form, path_form, sref_form, aref_form, text_form, node_form, box_form, element_forms, own_kinds}
-use Rattle.library_grammar.specs.Grammar.{kinds_of, head_kinds, IsOfKind, Property, property_records, IsProperty, ElementParts, element_records, IsElement, StructureParts, structure_records, IsStructure, IsInShape}
-use Rattle.library_grammar.specs.Places.{Place, before_header, before_bgnlib, before_name, before_units, between_structures, before_strname, behind_strname, between_elements, among_own, behind_attribute, behind_property, behind_endlib, has_kind, next_place, place_behind}
+use Rattle.library_grammar.specs.GrammarNames.{Entry, ElementForm, boundary_form, path_form, sref_form, aref_form, text_form, node_form, box_form, element_forms, own_kinds, kinds_of, head_kinds, IsOfKind, Property, property_records, IsProperty, ElementParts, element_records, IsElement, StructureParts, structure_records, IsStructure, IsInShape, Place, before_header, before_bgnlib, before_name, before_units, between_structures, before_strname, behind_strname, between_elements, among_own, behind_attribute, behind_property, behind_endlib, has_kind, next_place, place_behind}
 
 -- ---- ways
 
@@ -91,7 +85,7 @@ has_neither own k x old new = list_any-append (λ other. other == x) own (k ∷ 
 pub own_step : (form : ElementForm) (own : List ℕ) (k : ℕ) → Contains (own_kinds form) k → has_kind own k ≡ false → next_place (among_own form own) k ≡ Some (among_own form (own ++ k ∷ []))
 own_step form own k listed new = rw (has_contained (own_kinds form) k listed, new)
 
-own_run : (form : ElementForm) (more own : List ℕ) → All (Contains (own_kinds form)) more → All (λ k. has_kind own k ≡ false) more → AllPairs (λ one other. one ≢ other) more
+pub own_run : (form : ElementForm) (more own : List ℕ) → All (Contains (own_kinds form)) more → All (λ k. has_kind own k ≡ false) more → AllPairs (λ one other. one ≢ other) more
     → place_behind (among_own form own) more ≡ Some (among_own form (own ++ more))
 own_run form [] own are_own new once = simp append-nil
 own_run form (k ∷ more) own are_own new once =

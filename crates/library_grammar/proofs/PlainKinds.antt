@@ -1,14 +1,10 @@
 -- Records that name no structure and end no own records: those of the head and the own records of elements.
-use Rattle.std.proofs.Common.{◌≡◌, ◌≢◌, ℕ, Bool, true, false, List, refl, sym, ap, ◌∙◌}
-use Rattle.std.specs.Prelude.{Contains, not, ◌&&◌, ◌==◌}
-use Rattle.std.specs.List.{list_all}
+use Rattle.std.proofs.Common.{◌≡◌, ◌≢◌, ℕ, Bool, true, false, List, refl, sym, ap, ◌∙◌, Contains, not, ◌&&◌, ◌==◌}
+use Rattle.lists.proofs.Words.{list_all, All-contains, AllPass-from_list_all}
 use Rattle.std.proofs.lemmas.Bool.{true≢false}
-use Rattle.std.proofs.lemmas.List.Elements.{All-contains}
-use Rattle.std.proofs.lemmas.List.Sums.{AllPass-from_list_all}
 use Rattle.gds_records.specs.declared.kinds.TheConstants as kind
-use Rattle.library_grammar.specs.ElementForms.{ElementForm, element_forms, own_kinds}
-use Rattle.library_grammar.specs.Places.{IsPlain}
-use Rattle.library_grammar.specs.Grammar.{head_kinds}
+use Rattle.library_grammar.proofs.PlaceRuns.{each_form}
+use Rattle.library_grammar.specs.GrammarNames.{ElementForm, element_forms, own_kinds, IsPlain, head_kinds}
 
 -- the test of it
 abbrev plain_test : ℕ → Bool
@@ -40,3 +36,7 @@ own_is_plain form listed k has =
     (All-contains (λ f. list_all plain_test (own_kinds f) ≡ true) element_forms form
     (AllPass-from_list_all (λ f. list_all plain_test (own_kinds f)) element_forms refl) listed)
     has
+
+-- so is one that opens an element
+pub opening_is_plain : (form : ElementForm) → Contains element_forms form → IsPlain form.opening
+opening_is_plain = each_form (λ form. IsPlain form.opening) (plain _ refl) (plain _ refl) (plain _ refl) (plain _ refl) (plain _ refl) (plain _ refl) (plain _ refl)

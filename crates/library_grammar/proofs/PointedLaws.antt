@@ -1,14 +1,7 @@
 -- The shape of an element whose checks hold has its points.
-use Rattle.std.proofs.Common.{◌≡◌, ℕ, List, refl, subst, Option, arith, length, ◌≤◌}
-use Rattle.std.specs.Prelude.{All, IfSome}
+use Rattle.std.proofs.Common.{◌≡◌, ℕ, List, refl, subst, Option, arith, length, ◌≤◌, All, IfSome}
 use Rattle.gds_records.specs.declared.kinds.TheConstants as kind
-use Rattle.gds_records.specs.Spelling.{Entry}
-use Rattle.library_grammar.specs.ElementChecks.{ElementHolds, element_checks, is_closed}
-use Rattle.library_grammar.specs.ElementForms.{ElementForm, Opens, boundary_form, path_form, box_form}
-use Rattle.library_grammar.specs.Elements.{IsKept, boundary, path, sref, aref, text, node, box}
-use Rattle.library_grammar.specs.OwnRecords.{points_of}
-use Rattle.library_model.specs.Points.{IsWellPointed}
-use Rattle.geo_core.specs.Circuits.{IsOutline}
+use Rattle.library_grammar.specs.GrammarNames.{Entry, ElementHolds, element_checks, is_closed, ElementForm, Opens, boundary_form, path_form, box_form, IsKept, boundary, path, sref, aref, text, node, box, points_of, IsWellPointed, IsOutline}
 use Rattle.library_model.specs.declared.element.Element.{Element}
 use Rattle.library_grammar.proofs.PartsAgree.{forms_agree}
 

@@ -1,11 +1,8 @@
 -- The parts of a library say one library at most, and so do its records.
-use Rattle.std.proofs.Common.{◌≡◌, ℕ, List, ◌∷◌, ◌++◌, Option, refl, sym, ap, subst, ◌∙◌}
-use Rattle.std.specs.Prelude.{option_to_list}
-use Rattle.first_refusal.specs.Laws.{IsUnique}
-use Rattle.gds_records.specs.Spelling.{Entry}
+use Rattle.std.proofs.Common.{◌≡◌, ℕ, List, ◌∷◌, ◌++◌, Option, refl, sym, ap, subst, ◌∙◌, option_to_list}
+use Rattle.library_grammar.specs.GrammarNames.{IsUnique, Entry, ElementParts, element_records, StructureParts, structure_records, LibraryParts, behind, SayElements, SayStructures, SaysLibrary, IsLibrary}
 use Rattle.gds_records.proofs.TextLaws.{texts_agree}
-use Rattle.library_grammar.specs.Grammar.{ElementParts, element_records, StructureParts, structure_records, LibraryParts}
-use Rattle.library_grammar.specs.Libraries.{behind, SayElements, no_more as no_elements, one_more as one_element, SayStructures, no_more as no_structures, one_more as one_structure, SaysLibrary, IsLibrary}
+use Rattle.library_grammar.specs.Libraries.{no_more as no_elements, one_more as one_element, no_more as no_structures, one_more as one_structure}
 use Rattle.library_model.specs.declared.element.Element.{Element}
 use Rattle.library_model.specs.declared.library.Structure.{Structure}
 use Rattle.library_model.proofs.SameParts.{same_structure, same_library}

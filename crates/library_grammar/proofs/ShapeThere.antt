@@ -1,14 +1,9 @@
 -- Where no record of a whole stream shows a fault, its records are in shape.
-use Rattle.std.proofs.Common.{◌≡◌, ℕ, false, List, [], ◌∷◌, ◌++◌, Option, Some, None, refl, sym, ap, subst, ◌∙◌, append_assoc, append-nil}
-use Rattle.std.proofs.lemmas.List.{map-append}
+use Rattle.std.proofs.Common.{◌≡◌, ℕ, false, List, [], ◌∷◌, ◌++◌, Option, Some, None, refl, sym, ap, subst, ◌∙◌, append_assoc}
+use Rattle.lists.proofs.Words.{append-nil, map-append}
 use Rattle.gds_records.specs.declared.kinds.TheConstants as kind
-use Rattle.gds_records.specs.Spelling.{Entry}
-use Rattle.gds_records.specs.Split.{EndsWithEndlib}
-use Rattle.library_grammar.specs.ElementForms.{own_kinds}
-use Rattle.library_grammar.specs.FirstFault.{NoneShows, may_not_stand as shows_unexpected}
-use Rattle.library_grammar.specs.Libraries.{behind}
-use Rattle.library_grammar.specs.Places.{Place, before_header, before_bgnlib, before_name, before_units, between_structures, before_strname, behind_strname, between_elements, among_own, behind_attribute, behind_property, behind_endlib, has_kind, next_place, place_behind}
-use Rattle.library_grammar.specs.Grammar.{kinds_of, IsInShape}
+use Rattle.library_grammar.specs.GrammarNames.{Entry, EndsWithEndlib, own_kinds, NoneShows, behind, Place, before_header, before_bgnlib, before_name, before_units, between_structures, before_strname, behind_strname, between_elements, among_own, behind_attribute, behind_property, behind_endlib, has_kind, next_place, place_behind, kinds_of, IsInShape}
+use Rattle.library_grammar.specs.FirstFault.{may_not_stand as shows_unexpected}
 use Rattle.library_grammar.specs.declared.fault.SyntaxFault.TheVariants.{Unexpected}
 use Rattle.library_grammar.proofs.OwnPlaces.{IsOfForm, behind_of_form, way_in_parts, way_in_steps}
 use Rattle.library_grammar.proofs.PlaceEndings.{in_shape_of_end}

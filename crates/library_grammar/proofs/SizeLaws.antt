@@ -1,11 +1,10 @@
 -- how many bytes the bodies of each kind have, by the table of records
-use Rattle.std.proofs.Common.{◌≡◌, ◌∙◌, sym, ap, ℕ, length}
-use Rattle.std.specs.Prelude.{MatchOption}
-use Rattle.std.proofs.lemmas.Option.{MatchOption-at_some}
+use Rattle.std.proofs.Common.{◌≡◌, ◌∙◌, sym, ap, ℕ, length, MatchOption}
+use Rattle.lists.proofs.Words.{MatchOption-at_some}
 use Rattle.gds_records.specs.declared.kinds.TheConstants as kind
-use Rattle.gds_records.specs.Table.{table, rule_at, TakesSize}
+use Rattle.library_grammar.specs.GrammarNames.{rule_at, TakesSize, BodiesHave}
+use Rattle.gds_records.specs.Table.{table}
 use Rattle.gds_records.proofs.TableLaws.{only_rule}
-use Rattle.library_grammar.specs.Sizes.{BodiesHave}
 
 -- the table has the kind, with this size alone
 abbrev IsSized : ℕ → ℕ → Type 0

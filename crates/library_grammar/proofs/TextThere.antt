@@ -1,8 +1,7 @@
 -- Each body has a text.
 use Rattle.std.proofs.Common.{◌≡◌, ◌≢◌, ℕ, zero, suc, List, [], ◌∷◌, ◌++◌, refl, ap, arith}
-use Rattle.std.proofs.lemmas.List.Elements.{All-nil, All-cons, All-head, All-tail}
-use Rattle.gds_records.specs.Fields.{IsText}
-use Rattle.lists.specs.ByteLists.{IsByte, AreBytes}
+use Rattle.lists.proofs.Words.{All-nil, All-cons, All-head, All-tail}
+use Rattle.library_grammar.specs.GrammarNames.{IsText, IsByte, AreBytes}
 
 -- a text with one more byte in front
 text_with : (b c : ℕ) (body text : List ℕ) → IsText body (c ∷ text) → IsText (b ∷ body) (b ∷ c ∷ text)

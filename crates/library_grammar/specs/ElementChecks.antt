@@ -9,7 +9,7 @@ use Rattle.library_grammar.specs.ElementForms as forms
 use Rattle.library_grammar.specs.ElementForms.{ElementForm, Sort, outline, open_line, reference, array, annotation, IsCount}
 use Rattle.library_grammar.specs.Grammar.{kinds_of}
 use Rattle.library_grammar.specs.OwnRecords.{field, points_of, HasAbsoluteAngle, HasQuarters, columns_of, rows_of, HasSteps}
-use Rattle.geo_core.specs.Circuits.{IsClosed}
+use Rattle.geo_core.specs.Plane.{IsClosed}
 use Rattle.library_grammar.specs.declared.fault.SyntaxFault.{SyntaxFault}
 use Rattle.library_grammar.specs.declared.fault.SyntaxFault.TheVariants.{Missing, PointCount, NotClosed, Magnified, BadAngle, AbsoluteAngle, EmptyArray, UnevenArray, Memory}
 

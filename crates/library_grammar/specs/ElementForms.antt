@@ -24,75 +24,40 @@ pub record ElementForm : Type 0 where
   pub optional : List ℕ
   pub points : PointCount
 
--- BOUNDARY
+-- an element that may have flags and a plex number, as each may, and these besides
+abbrev form : ℕ → Sort → List ℕ → List ℕ → PointCount → ElementForm
+form opening sort required besides points =
+    record { opening = opening; sort = sort; required = required; optional = kind.ELFLAGS ∷ kind.PLEX ∷ besides; points = points }
+
+-- how a reference, or a text, is turned
+abbrev turn_kinds : List ℕ
+turn_kinds = kind.STRANS ∷ kind.MAG ∷ kind.ANGLE ∷ []
+
+-- each element: what opens it, its sort, what it needs, what it may have besides, and how many points
 abbrev pub boundary_form : ElementForm
-boundary_form = record {
-  opening = kind.BOUNDARY;
-  sort = outline;
-  required = kind.LAYER ∷ kind.DATATYPE ∷ kind.XY ∷ [];
-  optional = kind.ELFLAGS ∷ kind.PLEX ∷ [];
-  points = at_least 4;
-}
+boundary_form = form kind.BOUNDARY outline (kind.LAYER ∷ kind.DATATYPE ∷ kind.XY ∷ []) [] (at_least 4)
 
--- PATH
 abbrev pub path_form : ElementForm
-path_form = record {
-  opening = kind.PATH;
-  sort = open_line;
-  required = kind.LAYER ∷ kind.DATATYPE ∷ kind.XY ∷ [];
-  optional = kind.ELFLAGS ∷ kind.PLEX ∷ kind.PATHTYPE ∷ kind.WIDTH ∷ kind.BGNEXTN ∷ kind.ENDEXTN ∷ [];
-  points = at_least 1;
-}
+path_form =
+    form kind.PATH open_line (kind.LAYER ∷ kind.DATATYPE ∷ kind.XY ∷ [])
+    (kind.PATHTYPE ∷ kind.WIDTH ∷ kind.BGNEXTN ∷ kind.ENDEXTN ∷ []) (at_least 1)
 
--- SREF
 abbrev pub sref_form : ElementForm
-sref_form = record {
-  opening = kind.SREF;
-  sort = reference;
-  required = kind.XY ∷ kind.SNAME ∷ [];
-  optional = kind.ELFLAGS ∷ kind.PLEX ∷ kind.STRANS ∷ kind.MAG ∷ kind.ANGLE ∷ [];
-  points = exactly 1;
-}
+sref_form = form kind.SREF reference (kind.XY ∷ kind.SNAME ∷ []) turn_kinds (exactly 1)
 
--- AREF
 abbrev pub aref_form : ElementForm
-aref_form = record {
-  opening = kind.AREF;
-  sort = array;
-  required = kind.XY ∷ kind.SNAME ∷ kind.COLROW ∷ [];
-  optional = kind.ELFLAGS ∷ kind.PLEX ∷ kind.STRANS ∷ kind.MAG ∷ kind.ANGLE ∷ [];
-  points = exactly 3;
-}
+aref_form = form kind.AREF array (kind.XY ∷ kind.SNAME ∷ kind.COLROW ∷ []) turn_kinds (exactly 3)
 
--- TEXT
 abbrev pub text_form : ElementForm
-text_form = record {
-  opening = kind.TEXT;
-  sort = annotation;
-  required = kind.LAYER ∷ kind.XY ∷ kind.TEXTTYPE ∷ kind.STRING ∷ [];
-  optional = kind.ELFLAGS ∷ kind.PLEX ∷ kind.PRESENTATION ∷ kind.PATHTYPE ∷ kind.WIDTH ∷ kind.STRANS ∷ kind.MAG ∷ kind.ANGLE ∷ [];
-  points = at_least 1;
-}
+text_form =
+    form kind.TEXT annotation (kind.LAYER ∷ kind.XY ∷ kind.TEXTTYPE ∷ kind.STRING ∷ [])
+    (kind.PRESENTATION ∷ kind.PATHTYPE ∷ kind.WIDTH ∷ turn_kinds) (at_least 1)
 
--- NODE
 abbrev pub node_form : ElementForm
-node_form = record {
-  opening = kind.NODE;
-  sort = annotation;
-  required = kind.LAYER ∷ kind.XY ∷ kind.NODETYPE ∷ [];
-  optional = kind.ELFLAGS ∷ kind.PLEX ∷ [];
-  points = at_least 1;
-}
+node_form = form kind.NODE annotation (kind.LAYER ∷ kind.XY ∷ kind.NODETYPE ∷ []) [] (at_least 1)
 
--- BOX
 abbrev pub box_form : ElementForm
-box_form = record {
-  opening = kind.BOX;
-  sort = outline;
-  required = kind.LAYER ∷ kind.XY ∷ kind.BOXTYPE ∷ [];
-  optional = kind.ELFLAGS ∷ kind.PLEX ∷ [];
-  points = at_least 4;
-}
+box_form = form kind.BOX outline (kind.LAYER ∷ kind.XY ∷ kind.BOXTYPE ∷ []) [] (at_least 4)
 
 -- all elements
 abbrev pub element_forms : List ElementForm

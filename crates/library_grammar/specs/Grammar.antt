@@ -1,8 +1,7 @@
 -- The grammar of a library over its records (GDSII Stream Format Manual, Release 6.0, 'Stream Syntax'): each part of a library is
 -- said by the records that it holds, in their order, and what a library says is said of the same parts. Of the own records of an
 -- element some that it needs may be missing here: what an element lacks is one of its own checks.
-use Rattle.std.specs.Prelude.{ℕ, List, [], ◌∷◌, ◌++◌, map, All, Contains, Option, IfSome, option_to_list, ◌≡◌}
-use Rattle.std.specs.List.{flat_map}
+use Rattle.std.specs.Prelude.{ℕ, List, [], ◌∷◌, ◌++◌, map, All, Contains, Option, IfSome, option_to_list, ◌≡◌, flat_map}
 use Rattle.lists.specs.Differing.{AreDifferent}
 use Rattle.gds_records.specs.declared.kinds.TheConstants as kind
 use Rattle.gds_records.specs.Spelling.{Entry}

@@ -8,3 +8,4 @@ pub mod Libraries
 pub mod SyntaxFaults
 pub mod Places
 pub mod FirstFault
+pub mod GrammarNames

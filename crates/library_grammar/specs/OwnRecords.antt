@@ -1,7 +1,7 @@
 -- what an element's own records say, each by its kind
 use Rattle.std.specs.Prelude.{ℕ, ℤ, pos, ◌+ℤ◌, ◌*ℤ◌, List, [], map, length, Option, option_map, unwrap_or, find, MatchOption, ◌==◌, ◌+◌, ◌*◌, ◌/◌, ◌%◌, ◌^◌, ◌≡◌}
-use Rattle.std.specs.Int.{w16, w32, cast_signed}
-use Rattle.std.specs.List.{range_with_len}
+use Rattle.lists.specs.Words.{w16, w32, range_with_len}
+use Rattle.std.specs.Int.{cast_signed}
 use Rattle.geo_core.specs.declared.plane.Point.{Point}
 use Rattle.gds_records.specs.declared.kinds.TheConstants as kind
 use Rattle.gds_records.specs.Fields.{item}

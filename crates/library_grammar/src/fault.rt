@@ -4,6 +4,8 @@ ghost use Rattle.library_grammar.specs.declared.fault.SyntaxFault.TheVariants.{M
 use gds_records::RecordFault;
 use geo_core::NoMemory;
 use std::alloc::{AllocError, AllocFailed};
+use std::error::Error;
+use std::fmt;
 
 /// Why bytes are no library: the first fault in them. Each offset is in bytes from the start of the stream.
 #[derive(Clone, Copy, Debug, PartialEq, Eq)]
@@ -112,6 +114,28 @@ impl SyntaxFault {
         }
     }
 }
+
+impl fmt::Display for SyntaxFault {
+    fn fmt<W: fmt::Write>(&self, f: &mut fmt::Formatter<W>) -> fmt::Result {
+        f.write_str(match self {
+            SyntaxFault::Record(_) => "bytes are no record",
+            SyntaxFault::Unexpected { .. } => "a record may not stand there",
+            SyntaxFault::Missing { .. } => "an element lacks a record that it needs",
+            SyntaxFault::RepeatedStructure { .. } => "an earlier structure has the same name",
+            SyntaxFault::PointCount { .. } => "an element has too few or too many points",
+            SyntaxFault::NotClosed { .. } => "an outline does not end where it begins",
+            SyntaxFault::Magnified { .. } => "a reference is magnified",
+            SyntaxFault::BadAngle { .. } =>
+                "a reference is turned by no whole quarters of a circle",
+            SyntaxFault::AbsoluteAngle { .. } => "a reference has an absolute angle",
+            SyntaxFault::EmptyArray { .. } => "an array has no columns or no rows",
+            SyntaxFault::UnevenArray { .. } => "the steps of an array are no whole numbers",
+            SyntaxFault::Memory => "no memory is left",
+        })
+    }
+}
+
+impl Error for SyntaxFault {}
 
 impl<T: Drop> From<AllocFailed<T>> for SyntaxFault {
     ghost from_gives = { λ _ fault. fault ≡ Memory };

@@ -1,14 +1,10 @@
 -- Names by their places, as a test of names finds them.
-use Rattle.std.proofs.Common.{◌≡◌, ◌≢◌, ◌↔◌, ℕ, ◌<◌, ◌≤◌, ◌+◌, Bool, true, false, cond, ◌||◌, not, nat_eq, List, [], ◌∷◌, ◌++◌, map, length, get_or, Option, Some, None, Contains, IsTrue, take, position, inl, inr, if◌then◌else◌, refl, sym, ap, subst, ◌∙◌, true≢false, arith}
+use Rattle.std.proofs.Common.{◌≡◌, ◌≢◌, ◌↔◌, ℕ, ◌<◌, ◌≤◌, ◌+◌, Bool, true, false, cond, ◌||◌, not, nat_eq, List, [], ◌∷◌, ◌++◌, map, length, get_or, Option, Some, None, Contains, IsTrue, take, inl, inr, if◌then◌else◌, refl, sym, ap, subst, ◌∙◌, true≢false, arith, length-append}
+use Rattle.lists.proofs.Words.{position, list_any, position_or_len, prefix_len, common_steps, get_or-map, get_or-take, length-map, length-take-le, map-append, take_more, all_pairs_push, Contains-from_any, cases_lt, get_or_from_slice_get, slice_get-get_or, slice_get_within}
 use Rattle.std.specs.Cmp.Lexicographic.{pointwise, bytes_decides, nat_list_eq_equiv}
-use Rattle.std.specs.List.{list_any, position_or_len, prefix_len}
-use Rattle.std.proofs.lemmas.Grind.{common_steps}
 use Rattle.std.proofs.lemmas.List.Sums.{fails_before_first}
-use Rattle.std.proofs.lemmas.List.{get_or-map, get_or-take, length-append, length-map, length-take-le, map-append, take_more}
-use Rattle.std.proofs.lemmas.List.Quantifiers.{position-Some, all_pairs_push}
-use Rattle.std.proofs.lemmas.Map.Views.{list_any-from_Contains, Contains-from_any}
-use Rattle.std.proofs.lemmas.Bool.{cases_lt}
-use Rattle.std.proofs.lemmas.Option.{get_or_from_slice_get, slice_get-get_or, slice_get_within}
+use Rattle.std.proofs.lemmas.List.Quantifiers.{position-Some}
+use Rattle.std.proofs.lemmas.Map.Views.{list_any-from_Contains}
 use Rattle.lists.specs.Differing.{AreDifferent}
 use Rattle.library_model.specs.Names.{StandsAt, names_of, place_of}
 use Rattle.library_model.specs.declared.library.Structure.{Structure}

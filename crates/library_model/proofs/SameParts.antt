@@ -1,6 +1,6 @@
 -- What a stream contains is told by its contents: the facts that go with them hold in one way at most.
 use Rattle.std.proofs.Common.{◌≡◌, ℕ, ℤ, ◌<◌, ◌≤◌, ◌^◌, Bool, List, length, Option, ap, subst}
-use Rattle.std.proofs.Props.{props}
+use Rattle.lists.proofs.Words.{props}
 use Rattle.geo_core.specs.declared.plane.Point.{Point}
 use Rattle.geo_core.specs.declared.plane.Turn.{Turn}
 use Rattle.lists.specs.ByteLists.{AreBytes}

@@ -1,5 +1,5 @@
 -- the names of structures
-use Rattle.std.specs.Prelude.{ℕ, List, map, position, slice_get, Option, Some, bytes_eq, ◌≡◌}
+use Rattle.std.specs.Prelude.{bytes_eq, ℕ, List, map, position, slice_get, Option, Some, ◌≡◌}
 use Rattle.library_model.specs.declared.library.Structure.{Structure}
 
 -- the names of the structures, in their order

@@ -1,6 +1,6 @@
 -- the points that a shape has to have
 use Rattle.std.specs.Prelude.{List, length, All, ◌≤◌}
-use Rattle.geo_core.specs.Circuits.{IsOutline}
+use Rattle.geo_core.specs.Plane.{IsOutline}
 use Rattle.geo_core.specs.declared.plane.Point.{Point}
 use Rattle.library_model.specs.declared.element.Element.{Element}
 use Rattle.library_model.specs.declared.element.Element.TheVariants.{Shape as shape_element, Reference as reference_element}

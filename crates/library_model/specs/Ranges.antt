@@ -1,8 +1,6 @@
 -- the ranges of the numbers in a library
-use Rattle.std.specs.Prelude.{ℤ, List, All, ◌≤◌, ◌^◌, nat_abs, FitsSigned}
-use Rattle.std.specs.Int.{w16, w32}
-use Rattle.std.specs.Coded.{Unit-prop}
-use Rattle.std.proofs.Props.{props}
+use Rattle.std.specs.Prelude.{FitsSigned, ℤ, List, All, ◌≤◌, ◌^◌, nat_abs}
+use Rattle.lists.specs.Words.{w16, w32, Unit-prop, props}
 use Rattle.geo_core.specs.declared.plane.Point.{Point}
 use Rattle.library_model.specs.declared.element.ShapeKind.{ShapeKind}
 use Rattle.library_model.specs.declared.element.ShapeKind.TheVariants.{Boundary, BoxElement, Path}

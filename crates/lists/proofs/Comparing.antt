@@ -1,7 +1,6 @@
 -- numbers that are equal or not
-use Rattle.std.proofs.Common.{inl, inr, ℕ, ℤ, int_eq, ◌≡◌, ◌≢◌, ◌⊎◌}
-use Rattle.std.proofs.lemmas.Bool.{cases_Bool}
-use Rattle.std.proofs.lemmas.Bool.Decides.{eqb_tells, Decides-int_eq}
+use Rattle.std.proofs.Common.{int_eq, inl, inr, ℕ, ℤ, ◌≡◌, ◌≢◌, ◌⊎◌}
+use Rattle.lists.proofs.Words.{cases_Bool, eqb_tells, Decides-int_eq}
 
 -- two numbers are one, or not
 pub equal_or_not : (a b : ℕ) → (a ≡ b) ⊎ (a ≢ b)

@@ -1,9 +1,6 @@
 -- what lists contain, and what holds of each item
-use Rattle.std.proofs.Common.{List, [], arith, get_or, inl, inr, length, refl, subst, suc, suc-add, sym, take, zero, zero-add, ℕ, ◌++◌, ◌+◌, ◌<◌, ◌∷◌, ◌≡◌, ◌⊎◌}
-use Rattle.std.proofs.lemmas.List.{take_more}
-use Rattle.std.proofs.lemmas.List.Elements.{All-cons, All-head, All-nil, All-tail, Contains-push_cases}
-use Rattle.std.proofs.lemmas.Option.{get_or_from_slice_get, slice_get_read, slice_get_within}
-use Rattle.std.specs.Prelude.{All, Contains, Some, slice_get}
+use Rattle.std.proofs.Common.{List, [], arith, get_or, inl, inr, length, refl, subst, suc, suc-add, sym, take, zero, zero-add, ℕ, ◌++◌, ◌+◌, ◌<◌, ◌∷◌, ◌≡◌, ◌⊎◌, All, Contains, Some, slice_get}
+use Rattle.lists.proofs.Words.{take_more, All-cons, All-head, All-nil, All-tail, Contains-push_cases, get_or_from_slice_get, slice_get_read, slice_get_within}
 
 module _ {X : Type 0} where
   -- an empty list contains nothing

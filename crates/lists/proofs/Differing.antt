@@ -1,10 +1,7 @@
 -- lists whose items differ, and facts about each two items
-use Rattle.std.proofs.Common.{List, ap, arith, get_or, inl, inr, length, length-append, map, subst, suc, sym, take, ℕ, ◌++◌, ◌+◌, ◌<◌, ◌∙◌, ◌∷◌, ◌≡◌, ◌≢◌, ◌⊎◌, [], zero}
-use Rattle.std.proofs.lemmas.Bool.Decides.{leb_tells}
-use Rattle.std.proofs.lemmas.List.{get_or-append-add, get_or-map, get_or-take, get_or_append_left, get_or_default, length-map, length-take}
-use Rattle.std.proofs.lemmas.List.Elements.{All-nil, All-cons, All-append}
-use Rattle.std.proofs.lemmas.List.Kept.{AllPairs-cons}
-use Rattle.std.specs.Prelude.{All, AllPairs, Contains}
+use Rattle.std.proofs.Common.{List, ap, arith, get_or, inl, inr, length, length-append, map, subst, suc, sym, take, ℕ, ◌++◌, ◌+◌, ◌<◌, ◌∙◌, ◌∷◌, ◌≡◌, ◌≢◌, ◌⊎◌, [], zero, All, AllPairs, Contains}
+use Rattle.lists.proofs.Words.{leb_tells, get_or-map, get_or-take, get_or_append_left, get_or_default, length-map, length-take, All-nil, All-cons, All-append, AllPairs-cons}
+use Rattle.std.proofs.lemmas.List.{get_or-append-add}
 use Rattle.lists.proofs.Containing.{some_item}
 use Rattle.lists.specs.Differing.{AreDifferent}
 

@@ -1,8 +1,7 @@
 -- what filters keep
-use Rattle.std.proofs.Common.{Bool, List, [], ap, cond, false, get_or, inl, inr, length, subst, sym, take, take_all, true, ℕ, ◌++◌, ◌+◌, ◌<◌, ◌∙◌, ◌∷◌, ◌≡◌, ◌≤◌}
-use Rattle.std.proofs.lemmas.List.{append-nil}
-use Rattle.std.proofs.lemmas.List.Elements.{All-contains, All-contains_itself, All-filter, filter_more, filter_passes}
-use Rattle.std.specs.Prelude.{Contains, filter}
+use Rattle.std.proofs.Common.{Bool, List, [], ap, cond, false, get_or, inl, inr, length, subst, sym, take, take_all, true, ℕ, ◌++◌, ◌+◌, ◌<◌, ◌∙◌, ◌∷◌, ◌≡◌, ◌≤◌, Contains, filter}
+use Rattle.lists.proofs.Words.{append-nil, All-contains, All-filter, filter_more, filter_passes}
+use Rattle.std.proofs.lemmas.List.Elements.{All-contains_itself}
 use Rattle.lists.proofs.Containing.{Contains-cons_cases, Contains-head, Contains-none, Contains-tail}
 
 module _ {X : Type 0} where

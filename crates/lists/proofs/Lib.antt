@@ -7,3 +7,4 @@ pub mod Numbering
 pub mod Pairing
 pub mod Differing
 pub mod Sorting
+pub mod Words

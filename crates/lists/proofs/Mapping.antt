@@ -1,8 +1,6 @@
 -- what mapped lists contain
-use Rattle.std.proofs.Common.{List, [], ◌++◌, ap, inl, inr, map, refl, subst, sym, ◌∷◌, ◌≡◌}
-use Rattle.std.proofs.lemmas.List.Elements.{All-append, All-nil, Contains-append_cases, Contains-append_left, Contains-append_right}
-use Rattle.std.specs.List.{flat_map}
-use Rattle.std.specs.Prelude.{All, Contains}
+use Rattle.std.proofs.Common.{List, [], ◌++◌, ap, inl, inr, map, refl, subst, sym, ◌∷◌, ◌≡◌, All, Contains}
+use Rattle.lists.proofs.Words.{All-append, All-nil, Contains-append_cases, Contains-append_left, Contains-append_right, flat_map}
 use Rattle.lists.proofs.Containing.{Contains-cons_cases, Contains-head, Contains-none, Contains-tail}
 
 module _ {X Y : Type 0} where

@@ -1,7 +1,6 @@
 -- the items of a list with their numbers
-use Rattle.std.proofs.Common.{List, [], ap, arith, inl, inr, subst, suc, sym, zero, ℕ, ◌+◌, ◌∙◌, ◌∷◌, ◌≡◌, ◌≤◌}
-use Rattle.std.specs.List.{enumerate_from}
-use Rattle.std.specs.Prelude.{Contains, Some, slice_get}
+use Rattle.std.proofs.Common.{List, [], ap, arith, inl, inr, subst, suc, sym, zero, ℕ, ◌+◌, ◌∙◌, ◌∷◌, ◌≡◌, ◌≤◌, Contains, Some, slice_get}
+use Rattle.lists.proofs.Words.{enumerate_from}
 use Rattle.lists.proofs.Containing.{Contains-cons_cases, Contains-head, Contains-none, Contains-tail}
 
 module _ {X : Type 0} where

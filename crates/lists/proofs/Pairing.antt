@@ -1,8 +1,7 @@
 -- two lists side by side
-use Rattle.std.proofs.Common.{List, [], ap, get_or, length, map, subst, suc, sym, take, zero, ℕ, ◌++◌, ◌+◌, ◌<◌, ◌∙◌, ◌∷◌, ◌≡◌}
-use Rattle.std.proofs.lemmas.List.{take_more}
-use Rattle.std.specs.List.{AllByRecursion, AllZip, zip}
-use Rattle.std.specs.Prelude.{Some, slice_get}
+use Rattle.std.proofs.Common.{List, [], ap, get_or, length, map, subst, suc, sym, take, zero, ℕ, ◌++◌, ◌+◌, ◌<◌, ◌∙◌, ◌∷◌, ◌≡◌, Some, slice_get}
+use Rattle.lists.proofs.Words.{take_more, AllZip, zip}
+use Rattle.std.specs.List.{AllByRecursion}
 
 module _ {X Y : Type 0} (R : X → Y → Type 0) where
   -- pairs of lists, one behind the other

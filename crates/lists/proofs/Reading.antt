@@ -1,11 +1,6 @@
 -- lists that are read, or made, item by item
-use Rattle.std.proofs.Common.{List, [], ap, append_assoc, arith, drop, get_or, inl, inr, length, length-append, map, refl, subst, sym, take, take_all, ℕ, ◌++◌, ◌+◌, ◌<◌, ◌∙◌, ◌∷◌, ◌≡◌, ◌≤◌, ◌⊎◌}
-use Rattle.std.proofs.lemmas.Grind.{flat_map-append}
-use Rattle.std.proofs.lemmas.List.{append-nil, map-append, map_more, take_more}
-use Rattle.std.proofs.lemmas.List.Elements.{All-more, All-nil, All-cons, All-head, All-tail}
-use Rattle.std.proofs.lemmas.Option.{get_or_from_slice_get, slice_get_within}
-use Rattle.std.specs.List.{flat_map}
-use Rattle.std.specs.Prelude.{All, Some, slice_get, ◌↔◌}
+use Rattle.std.proofs.Common.{List, [], ap, append_assoc, arith, drop, get_or, inl, inr, length, length-append, map, refl, subst, sym, take, take_all, ℕ, ◌++◌, ◌+◌, ◌<◌, ◌∙◌, ◌∷◌, ◌≡◌, ◌≤◌, ◌⊎◌, All, Some, slice_get, ◌↔◌}
+use Rattle.lists.proofs.Words.{flat_map-append, append-nil, map-append, map_more, take_more, All-more, All-nil, All-cons, All-head, All-tail, get_or_from_slice_get, slice_get_within, flat_map}
 
 module _ {A : Type 0} (P : A → Type 0) (xs : List A) (k : ℕ) where
   -- one item more

@@ -1,15 +1,6 @@
 -- lists in the order of a sort by whole numbers
-use Rattle.std.proofs.Common.{List, arith, get_or, refl, ◌≡◌}
-use Rattle.std.proofs.lemmas.Cmp.{int_cmp_total, int_ranked}
-use Rattle.std.proofs.lemmas.Fn.{always_returns_same}
-use Rattle.std.proofs.lemmas.Int.{ints}
-use Rattle.std.proofs.lemmas.List.Sorted.{ranks_by, sorted_far}
-use Rattle.std.specs.Fn.{Called, ComputesKey}
-use Rattle.std.specs.List.Sorted.{IsSortedByKey}
-use Rattle.std.specs.Ordering.{MatchOrdering, int_cmp, is_lt}
-use Rattle.std.specs.declared.cmp.Ordering.{Ordering}
-use Rattle.std.specs.declared.cmp.Ordering.TheVariants.{Less, Equal, Greater}
-use Rattle.std.specs.Prelude.{AllPairs, Bool, false, ℤ, ◌≤ℤ◌, ◌<ℤ◌}
+use Rattle.std.proofs.Common.{List, arith, get_or, refl, ◌≡◌, AllPairs, Bool, false, ℤ, ◌≤ℤ◌, ◌<ℤ◌}
+use Rattle.lists.proofs.Words.{int_cmp_total, int_ranked, always_returns_same, ints, ranks_by, sorted_far, Called, ComputesKey, IsSortedByKey, MatchOrdering, int_cmp, is_lt, Ordering, Less, Equal, Greater}
 use denote.Param.Members.{Mut}
 use denote.Ref.{Bor}
 

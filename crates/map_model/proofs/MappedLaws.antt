@@ -1,13 +1,9 @@
 -- which layer a pair is mapped to
-use Rattle.std.proofs.Common.{◌≡◌, ℕ, zero, suc, ◌+◌, ◌<◌, List, [], ◌∷◌, ◌++◌, length, Some, None, map, get_or, ◌↔◌, refl, sym, ap, ◌∙◌, subst, arith, zero-add, suc-add, below_more, option_map}
-use Rattle.std.proofs.lemmas.List.{length-map}
-use Rattle.std.specs.Prelude.{Contains, slice_get}
-use Rattle.std.proofs.lemmas.Option.{slice_get-get_or, slice_get-map, slice_get_within, same_Some}
-use Rattle.std.proofs.lemmas.List.Elements.{Contains-append_left, Contains-append_right}
+use Rattle.std.proofs.Common.{◌≡◌, ℕ, zero, suc, ◌+◌, ◌<◌, List, [], ◌∷◌, ◌++◌, length, Some, None, map, get_or, ◌↔◌, refl, sym, ap, ◌∙◌, subst, arith, zero-add, suc-add, below_more, option_map, Contains, slice_get}
+use Rattle.lists.proofs.Words.{length-map, slice_get-get_or, slice_get-map, slice_get_within, same_Some, Contains-append_left, Contains-append_right}
 use Rattle.lists.specs.Differing.{AreDifferent}
-use Rattle.map_model.specs.LayerMap.{MappedLayer, HasPair, layers_of}
-use Rattle.map_model.specs.Layers.{pairs_of, metal_layer, cut_layer, mapped_cut}
-use Rattle.map_model.specs.MapView.{layer_map_of}
+use Rattle.map_model.specs.MapNames.{MappedLayer, layers_of, pairs_of, metal_layer, cut_layer, mapped_cut, layer_map_of}
+use Rattle.map_model.specs.LayerMap.{HasPair}
 use Rattle.map_model.specs.declared.layers.Metal.{Metal}
 use Rattle.map_model.specs.declared.layers.Cut.{Cut}
 use Rattle.map_model.specs.declared.map.Map.{Map}

@@ -1,10 +1,8 @@
 -- names and how they are kept
-use Rattle.std.proofs.Common.{◌≡◌, ℕ, ◌<◌, true, List, ◌++◌, length, get_or, take, drop, replicate, refl, ap, arith, inl, inr, IsAscii, IsUtf8}
-use Rattle.std.proofs.lemmas.Bool.{cases_lt}
-use Rattle.std.proofs.lemmas.Bool.Decides.{nat_tests}
-use Rattle.std.proofs.lemmas.List.{take_at, drop-replicate, get_or_past}
-use Rattle.std.proofs.lemmas.Str.{IsUtf8-from_ascii}
-use Rattle.map_model.specs.LayerNames.{is_name_byte, IsLayerName}
+use Rattle.std.proofs.Common.{IsAscii, IsUtf8, ◌≡◌, ℕ, ◌<◌, true, List, ◌++◌, length, get_or, take, drop, replicate, refl, ap, arith, inl, inr}
+use Rattle.lists.proofs.Words.{cases_lt, nat_tests, take_at, get_or_past, IsUtf8-from_ascii}
+use Rattle.std.proofs.lemmas.List.{drop-replicate}
+use Rattle.map_model.specs.MapNames.{is_name_byte, IsLayerName}
 use Rattle.map_model.specs.NameFields.{IsPadded}
 use Rattle.map_model.specs.declared.limits.TheConstants.{LONGEST_NAME}
 

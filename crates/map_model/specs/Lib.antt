@@ -5,3 +5,4 @@ pub mod MapView
 pub mod Measures
 pub mod NameFields
 pub mod LayerNames
+pub mod MapNames

@@ -1,7 +1,7 @@
 -- the numbers that a map may have
 use Rattle.std.specs.Prelude.{ℕ, ◌≡◌, ◌≤◌, List, length, All}
 use Rattle.std.specs.List.Sorted.{IsStrictlyIncreasing}
-use Rattle.geo_core.specs.Bounds.{IsRadius}
+use Rattle.geo_core.specs.Plane.{IsRadius}
 use Rattle.map_model.specs.declared.limits.TheConstants.{GREATEST_PAIR_NUMBER, MOST_PAIRS, MOST_SIZES, GREATEST_WEIGHT}
 
 -- the numbers are the radii of a map: 1 to 32 radii, each greater than the one before

@@ -1,6 +1,5 @@
 -- a map as a layer map
-use Rattle.std.specs.Prelude.{ℕ, List, map}
-use Rattle.std.specs.List.{zip}
+use Rattle.std.specs.Prelude.{ℕ, List, map, zip}
 use Rattle.geo_core.specs.declared.plane.Cell.{Cell}
 use Rattle.map_model.specs.LayerMap.{LayerMap, DefectSize, radius_size}
 use Rattle.map_model.specs.Layers.{metal_layer, mapped_cut}

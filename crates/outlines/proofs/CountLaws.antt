@@ -1,9 +1,7 @@
 -- how many items of a list pass a test
-use Rattle.std.proofs.Common.{ℕ, zero, suc, ◌≢◌, ◌⊎◌, inl, inr, ◌+◌, ◌<◌, ◌≡◌, refl, sym, ap, ◌∙◌, List, [], ◌∷◌, get_or, arith, Bool, true, false, cond}
-use Rattle.std.specs.Prelude.{ℤ, pos, negsuc, ◌≤ℤ◌, ◌<ℤ◌, int_le, int_lt, All, Contains, count_by, filter}
-use Rattle.std.proofs.lemmas.Int.{ints}
-use Rattle.std.proofs.lemmas.List.Elements.{All-head, All-tail, Contains-append_right}
-use Rattle.std.proofs.lemmas.List.Sums.{sum_by-cons, get_or-le-sum_by}
+use Rattle.std.proofs.Common.{ℕ, zero, suc, ◌≢◌, ◌⊎◌, inl, inr, ◌+◌, ◌<◌, ◌≡◌, refl, sym, ap, ◌∙◌, List, [], ◌∷◌, get_or, arith, Bool, true, false, cond, ℤ, pos, negsuc, ◌≤ℤ◌, ◌<ℤ◌, int_le, int_lt, All, Contains, count_by, filter}
+use Rattle.lists.proofs.Words.{ints, All-head, All-tail, Contains-append_right, sum_by-cons}
+use Rattle.std.proofs.lemmas.List.Sums.{get_or-le-sum_by}
 
 -- ---- tests of whole numbers
 

@@ -1,20 +1,7 @@
 -- which sides cross a row, and the next row at which one begins or ends
-use Rattle.std.proofs.Common.{ℕ, zero, suc, ◌+◌, ◌<◌, ◌≤◌, ◌≡◌, refl, sym, ap, subst, ◌∙◌, List, [], ◌∷◌, ◌++◌, length, get_or, take, arith, Bool, true, false, cond}
-use Rattle.std.specs.Prelude.{ℤ, ◌≤ℤ◌, ◌<ℤ◌, ◌&&◌, int_le, int_lt, All, AllPairs, filter}
-use Rattle.std.specs.Int.{int_min}
-use Rattle.std.specs.Fn.{Called, ComputesKey}
-use Rattle.std.specs.List.Sorted.{IsPermutation, IsSortedByKey}
-use Rattle.std.specs.Ordering.{MatchOrdering, int_cmp, is_lt}
-use Rattle.std.specs.declared.cmp.Ordering.{Ordering}
-use Rattle.std.specs.declared.cmp.Ordering.TheVariants.{Less, Equal, Greater}
-use Rattle.std.proofs.lemmas.Bool.{and_right}
-use Rattle.std.proofs.lemmas.Cmp.{int_ranked, int_cmp_total}
-use Rattle.std.proofs.lemmas.Fn.{always_returns_same}
-use Rattle.std.proofs.lemmas.Int.{ints, clamps, by_lt_z}
-use Rattle.std.proofs.lemmas.List.{take_all, get_or_default}
-use Rattle.std.proofs.lemmas.List.Elements.{All-push, All-get_or, All-weaker, All-more, All-filter, filter_passes}
-use Rattle.std.proofs.lemmas.List.Sorted.{All-permutation, ranks_by, sorted_far, sum_by-IsPermutation}
-use Rattle.std.proofs.lemmas.List.Sums.{sum_by_push, sum_by-cons}
+use Rattle.std.proofs.Common.{ℕ, zero, suc, ◌+◌, ◌<◌, ◌≤◌, ◌≡◌, refl, sym, ap, subst, ◌∙◌, List, [], ◌∷◌, ◌++◌, length, get_or, take, arith, Bool, true, false, cond, ℤ, ◌≤ℤ◌, ◌<ℤ◌, ◌&&◌, int_le, int_lt, All, AllPairs, filter, take_all}
+use Rattle.lists.proofs.Words.{int_min, Called, ComputesKey, IsPermutation, IsSortedByKey, MatchOrdering, int_cmp, is_lt, Ordering, Less, Equal, Greater, and_right, int_ranked, int_cmp_total, always_returns_same, ints, clamps, by_lt_z, get_or_default, All-push, All-get_or, All-weaker, All-more, All-filter, filter_passes, ranks_by, sorted_far, sum_by-IsPermutation, sum_by_push, sum_by-cons}
+use Rattle.std.proofs.lemmas.List.Sorted.{All-permutation}
 use denote.Param.Members.{Mut}
 use denote.Ref.{Bor}
 use Rattle.geo_core.specs.declared.bounds.TheConstants.{FARTHEST}

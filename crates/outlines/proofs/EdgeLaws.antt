@@ -1,6 +1,6 @@
 -- the edges between points that are taken in pairs: each point with the one behind it
 use Rattle.std.proofs.Common.{◌≡◌, ◌⊎◌, inl, inr, List, [], ◌∷◌, drop, length, refl, ap, arith}
-use Rattle.std.specs.Prelude.{zip}
+use Rattle.lists.proofs.Words.{zip}
 use Rattle.geo_core.specs.declared.plane.Point.{Point}
 use Rattle.outlines.specs.Outlines.{edges_of}
 

@@ -1,14 +1,7 @@
 -- an outline's cells, each as a rectangle of its own: some cover exists
-use Rattle.std.proofs.Common.{ℕ, zero, suc, ◌≡◌, ◌⊎◌, inl, inr, refl, sym, ap, subst, ◌∙◌, List, [], ◌∷◌, map, Bool, true, false, cond, not, arith}
-use Rattle.std.specs.Prelude.{ℤ, pos, neg_ℤ, ◌+ℤ◌, ◌-ℤ◌, ◌≤ℤ◌, ◌<ℤ◌, ◌&&◌, All, Contains}
-use Rattle.std.specs.List.{flat_map}
-use Rattle.std.proofs.lemmas.Bool.{and_right}
-use Rattle.std.proofs.lemmas.Int.{ints, by_lt_z}
-use Rattle.std.proofs.lemmas.List.Elements.{All-head, All-tail, All-map, All-weaker}
-use Rattle.geo_core.specs.Bounds.{IsInRange}
-use Rattle.geo_core.specs.Circuits.{circuit}
-use Rattle.geo_core.specs.Intervals.{IsIn, IsInterval}
-use Rattle.geo_core.specs.Cells.{Has, IsInLayout}
+use Rattle.std.proofs.Common.{ℕ, zero, suc, ◌≡◌, ◌⊎◌, inl, inr, refl, sym, ap, subst, ◌∙◌, List, [], ◌∷◌, map, Bool, true, false, cond, not, arith, ℤ, pos, neg_ℤ, ◌+ℤ◌, ◌-ℤ◌, ◌≤ℤ◌, ◌<ℤ◌, ◌&&◌, All, Contains}
+use Rattle.lists.proofs.Words.{flat_map, and_right, ints, by_lt_z, All-head, All-tail, All-map, All-weaker}
+use Rattle.geo_core.specs.Plane.{IsInRange, circuit, IsIn, IsInterval, Has, IsInLayout}
 use Rattle.geo_core.specs.declared.plane.Point.{Point}
 use Rattle.geo_core.specs.declared.bounds.TheConstants.{FARTHEST, FARTHEST_GROWN}
 use Rattle.geo_core.specs.declared.plane.Cell.{Cell}

@@ -1,12 +1,7 @@
 -- rectangles that grow from band to band, and how often they have a cell
-use Rattle.std.proofs.Common.{ℕ, ◌+◌, ◌<◌, ◌≤◌, ◌≡◌, refl, sym, ap, subst, ◌∙◌, List, [], ◌∷◌, ◌++◌, length, get_or, take, arith, Bool, true, false, cond}
-use Rattle.std.specs.Prelude.{ℤ, ◌<ℤ◌, ◌&&◌, All}
-use Rattle.std.proofs.lemmas.Int.{ints, by_lt_z}
-use Rattle.std.proofs.lemmas.List.{take_all}
-use Rattle.std.proofs.lemmas.List.Elements.{All-get_or}
-use Rattle.std.proofs.lemmas.List.Sums.{sum_by_push, sum_by-append, sum_by-cons, sum_by_more}
-use Rattle.geo_core.specs.Cells.{IsInLayout}
-use Rattle.geo_core.specs.Intervals.{IsInterval}
+use Rattle.std.proofs.Common.{ℕ, ◌+◌, ◌<◌, ◌≤◌, ◌≡◌, refl, sym, ap, subst, ◌∙◌, List, [], ◌∷◌, ◌++◌, length, get_or, take, arith, Bool, true, false, cond, ℤ, ◌<ℤ◌, ◌&&◌, All, take_all}
+use Rattle.lists.proofs.Words.{ints, by_lt_z, All-get_or, sum_by_push, sum_by-append, sum_by-cons, sum_by_more}
+use Rattle.geo_core.specs.Plane.{IsInLayout, IsInterval}
 use Rattle.geo_core.specs.declared.bounds.TheConstants.{FARTHEST}
 use Rattle.geo_core.specs.declared.interval.Interval.{Interval}
 use Rattle.geo_core.specs.declared.plane.Cell.{Cell}

@@ -1,11 +1,10 @@
 -- a closed outline crosses each row as often upwards as downwards, and what lies between its sides
-use Rattle.std.proofs.Common.{ℕ, ◌≡◌, ◌≢◌, sym, ap, ◌∙◌, List, ◌∷◌, arith}
-use Rattle.std.specs.Prelude.{ℤ, pos, ◌-ℤ◌, ◌&&◌, ◌↔◌, int_le}
-use Rattle.std.proofs.lemmas.Int.{ints}
+use Rattle.std.proofs.Common.{ℕ, ◌≡◌, ◌≢◌, sym, ap, ◌∙◌, List, ◌∷◌, arith, ℤ, pos, ◌-ℤ◌, ◌&&◌, ◌↔◌, int_le}
+use Rattle.lists.proofs.Words.{ints}
 use Rattle.geo_core.specs.declared.plane.Cell.{Cell}
 use Rattle.geo_core.specs.declared.plane.Point.{Point}
 use Rattle.geo_core.specs.declared.plane.Rect.{Rect}
-use Rattle.geo_core.specs.Circuits.{IsClosed}
+use Rattle.geo_core.specs.Plane.{IsClosed}
 use Rattle.outlines.specs.Fillings.{IsCover}
 use Rattle.outlines.specs.Outlines.{IsInside, edges_of, goes_up_across, goes_down_across}
 use Rattle.outlines.specs.inside.Sides.{AreSidesOf, IsBalanced, IsBetween, edges_down, edges_up, everywhere, up_to}

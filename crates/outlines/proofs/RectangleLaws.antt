@@ -1,15 +1,12 @@
 -- the outlines of a rectangle wind round its cells, once
-use Rattle.std.proofs.Common.{ℕ, zero, suc, ◌<◌, ◌≡◌, ◌≢◌, refl, sym, ap, ◌∙◌, List, [], ◌∷◌, map, reverse, Bool, true, false, arith}
-use Rattle.std.specs.Prelude.{ℤ, pos, negsuc, neg_ℤ, ◌-ℤ◌, ◌<ℤ◌, ◌↔◌, int_le}
-use Rattle.std.proofs.lemmas.Int.{ints, by_lt_z}
-use Rattle.geo_core.specs.Intervals.{IsIn}
-use Rattle.geo_core.specs.Cells.{Has}
+use Rattle.std.proofs.Common.{reverse, ℕ, zero, suc, ◌<◌, ◌≡◌, ◌≢◌, refl, sym, ap, ◌∙◌, List, [], ◌∷◌, map, Bool, true, false, arith, ℤ, pos, negsuc, neg_ℤ, ◌-ℤ◌, ◌<ℤ◌, ◌↔◌, int_le}
+use Rattle.lists.proofs.Words.{ints, by_lt_z}
+use Rattle.geo_core.specs.Plane.{IsIn, Has, circuit}
 use Rattle.geo_core.specs.declared.plane.Point.{Point}
 use Rattle.geo_core.specs.declared.plane.Cell.{Cell}
 use Rattle.geo_core.specs.declared.plane.Rect.{Rect}
 use Rattle.outlines.specs.Outlines.{winding_number}
 use Rattle.outlines.specs.Rectangles.{rectangle_corners, rotation, GoesRound, counterclockwise, clockwise}
-use Rattle.geo_core.specs.Circuits.{circuit}
 use Rattle.outlines.proofs.CountLaws.{le_false, le_true}
 use Rattle.outlines.proofs.WindLaws.{Place, place_of, counted, left_rises, left_falls, winds_by_places}
 

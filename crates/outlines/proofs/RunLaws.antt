@@ -1,12 +1,9 @@
 -- from the sides that cross a row to runs of columns
-use Rattle.std.proofs.Common.{ℕ, ◌+◌, ◌<◌, ◌≤◌, ◌≡◌, ◌≢◌, refl, sym, ap, subst, ◌∙◌, List, [], ◌∷◌, ◌++◌, length, get_or, take, arith, inl, inr, ◌⊎◌, Bool, cond, Some}
-use Rattle.std.specs.Prelude.{ℤ, neg_ℤ, ◌≤ℤ◌, ◌<ℤ◌, ◌&&◌, ◌↔◌, not, int_le, int_lt, All, count_by}
-use Rattle.std.proofs.lemmas.Bool.{and_right}
-use Rattle.std.proofs.lemmas.Int.{ints, by_lt_z}
-use Rattle.std.proofs.lemmas.List.{take_all, append-nil, get_or_default, length-take}
-use Rattle.std.proofs.lemmas.List.Elements.{All-pop, All-weaker, All-more}
-use Rattle.std.proofs.lemmas.List.Sums.{sum_by_push, sum_by_more, count_by-le-length}
-use Rattle.geo_core.specs.Intervals.{IsInterval}
+use Rattle.std.proofs.Common.{ℕ, ◌+◌, ◌<◌, ◌≤◌, ◌≡◌, ◌≢◌, refl, sym, ap, subst, ◌∙◌, List, [], ◌∷◌, ◌++◌, length, get_or, take, arith, inl, inr, ◌⊎◌, Bool, cond, Some, ℤ, neg_ℤ, ◌≤ℤ◌, ◌<ℤ◌, ◌&&◌, ◌↔◌, not, int_le, int_lt, All, count_by, take_all}
+use Rattle.lists.proofs.Words.{and_right, ints, by_lt_z, append-nil, get_or_default, length-take, All-weaker, All-more, sum_by_push, sum_by_more}
+use Rattle.std.proofs.lemmas.List.Elements.{All-pop}
+use Rattle.std.proofs.lemmas.List.Sums.{count_by-le-length}
+use Rattle.geo_core.specs.Plane.{IsInterval}
 use Rattle.geo_core.specs.declared.bounds.TheConstants.{FARTHEST}
 use Rattle.geo_core.specs.declared.interval.Interval.{Interval}
 use Rattle.outlines.specs.inside.Sides.{AreByColumn, everywhere, goes_down_at, goes_up_at, up_to}

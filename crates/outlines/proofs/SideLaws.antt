@@ -1,12 +1,8 @@
 -- the edges of an outline as sides
-use Rattle.std.proofs.Common.{ℕ, ◌+◌, ◌≡◌, refl, sym, ap, subst, ◌∙◌, List, [], ◌∷◌, ◌++◌, arith, Bool, true, false, cond}
-use Rattle.std.specs.Prelude.{ℤ, ◌≤ℤ◌, ◌<ℤ◌, ◌&&◌, int_le, int_lt, All, zip}
-use Rattle.std.proofs.lemmas.Bool.{and_right}
-use Rattle.std.proofs.lemmas.Int.{ints, by_lt_z}
-use Rattle.std.proofs.lemmas.List.Elements.{All-tail}
-use Rattle.std.proofs.lemmas.List.Sums.{sum_by_push, sum_by-cons}
+use Rattle.std.proofs.Common.{ℕ, ◌+◌, ◌≡◌, refl, sym, ap, subst, ◌∙◌, List, [], ◌∷◌, ◌++◌, arith, Bool, true, false, cond, ℤ, ◌≤ℤ◌, ◌<ℤ◌, ◌&&◌, int_le, int_lt, All}
+use Rattle.lists.proofs.Words.{zip, and_right, ints, by_lt_z, All-tail, sum_by_push, sum_by-cons}
 use Rattle.geo_core.specs.declared.plane.Point.{Point}
-use Rattle.geo_core.specs.Bounds.{IsInRange}
+use Rattle.geo_core.specs.Plane.{IsInRange}
 use Rattle.outlines.specs.Outlines.{Edge, goes_up_across, goes_down_across}
 use Rattle.outlines.specs.inside.Sides.{AddsSideOf, AreSidesOf, crossing_count, edges_down, edges_up, goes_down_at, goes_up_at, spans}
 use Rattle.outlines.specs.declared.side.Side.{Side}

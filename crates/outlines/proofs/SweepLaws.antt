@@ -1,15 +1,8 @@
 -- a sweep fills band by band what the sides have between them
-use Rattle.std.proofs.Common.{ℕ, ◌+◌, ◌<◌, ◌≡◌, refl, sym, ◌∙◌, List, [], get_or, arith, inl, inr, Bool, true, false, cond, Vec, Global, Result, Ok, Err, IfOk}
-use Rattle.std.specs.Prelude.{ℤ, pos, negsuc, neg_ℤ, ◌-ℤ◌, ◌≤ℤ◌, ◌<ℤ◌, ◌&&◌, ◌↔◌, int_le, int_lt, All, count_by, unsigned_abs}
-use Rattle.std.specs.List.Sorted.{IsPermutation}
+use Rattle.std.proofs.Common.{Global, ℕ, ◌+◌, ◌<◌, ◌≡◌, refl, sym, ◌∙◌, List, [], get_or, arith, inl, inr, Bool, true, false, cond, Vec, Result, Ok, Err, IfOk, ℤ, pos, negsuc, neg_ℤ, ◌-ℤ◌, ◌≤ℤ◌, ◌<ℤ◌, ◌&&◌, ◌↔◌, int_le, int_lt, All, count_by, unsigned_abs}
+use Rattle.lists.proofs.Words.{IsPermutation, and_parts, and_right, leb_tells, ints, by_lt_z, All-weaker, sum_by-IsPermutation}
 use Rattle.std.specs.declared.alloc.AllocError.{AllocError}
-use Rattle.std.proofs.lemmas.Bool.{and_parts, and_right}
-use Rattle.std.proofs.lemmas.Bool.Decides.{leb_tells}
-use Rattle.std.proofs.lemmas.Int.{ints, by_lt_z}
-use Rattle.std.proofs.lemmas.List.Elements.{All-weaker}
-use Rattle.std.proofs.lemmas.List.Sorted.{sum_by-IsPermutation}
-use Rattle.geo_core.specs.Cells.{Has, IsInLayout}
-use Rattle.geo_core.specs.Intervals.{IsIn}
+use Rattle.geo_core.specs.Plane.{Has, IsInLayout, IsIn}
 use Rattle.geo_core.specs.declared.bounds.TheConstants.{FARTHEST}
 use Rattle.geo_core.specs.declared.interval.Interval.{Interval}
 use Rattle.geo_core.specs.declared.plane.Cell.{Cell}

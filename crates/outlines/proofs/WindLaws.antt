@@ -1,13 +1,10 @@
 -- how often an outline winds round a cell, by the sides of the cell on which its points lie
-use Rattle.std.proofs.Common.{ℕ, ◌+◌, ◌≡◌, refl, sym, ap, subst, ◌∙◌, List, [], ◌∷◌, ◌++◌, map, Bool, true, false, cond, not, arith}
-use Rattle.std.specs.Prelude.{ℤ, pos, neg_ℤ, ◌-ℤ◌, ◌&&◌, int_le, int_lt, count_by}
-use Rattle.std.proofs.lemmas.Int.{ints}
-use Rattle.std.proofs.lemmas.List.{map-append}
-use Rattle.std.proofs.lemmas.List.Sums.{sum_by-cons}
+use Rattle.std.proofs.Common.{ℕ, ◌+◌, ◌≡◌, refl, sym, ap, subst, ◌∙◌, List, [], ◌∷◌, ◌++◌, map, Bool, true, false, cond, not, arith, ℤ, pos, neg_ℤ, ◌-ℤ◌, ◌&&◌, int_le, int_lt, count_by}
+use Rattle.lists.proofs.Words.{ints, map-append, sum_by-cons}
 use Rattle.geo_core.specs.declared.plane.Point.{Point}
 use Rattle.geo_core.specs.declared.plane.Cell.{Cell}
 use Rattle.outlines.specs.Outlines.{Edge, edges_of, is_left_of, goes_up_across, goes_down_across, winding_number}
-use Rattle.geo_core.specs.Circuits.{circuit}
+use Rattle.geo_core.specs.Plane.{circuit}
 use Rattle.outlines.specs.Sights.{is_right_of, winding_number_by_right}
 
 -- of a point: whether it lies no further right than the left side of the cell, and no higher than its lower side

@@ -1,6 +1,6 @@
 -- lists of rectangles that have together a set of cells
 use Rattle.std.specs.Prelude.{List, All, Contains, ◌↔◌}
-use Rattle.geo_core.specs.Cells.{Has, IsInLayout}
+use Rattle.geo_core.specs.Plane.{Has, IsInLayout}
 use Rattle.geo_core.specs.declared.plane.Cell.{Cell}
 use Rattle.geo_core.specs.declared.plane.Rect.{Rect}
 

@@ -1,6 +1,6 @@
 -- the outlines of a rectangle
-use Rattle.std.specs.Prelude.{ℕ, List, [], ◌∷◌, ◌++◌, take, drop, reverse, ◌<◌, ◌≡◌}
-use Rattle.geo_core.specs.Circuits.{circuit}
+use Rattle.std.specs.Prelude.{reverse, ℕ, List, [], ◌∷◌, ◌++◌, take, drop, ◌<◌, ◌≡◌}
+use Rattle.geo_core.specs.Plane.{circuit}
 use Rattle.geo_core.specs.declared.plane.Point.{Point}
 use Rattle.geo_core.specs.declared.plane.Rect.{Rect}
 

@@ -1,5 +1,5 @@
 -- the search for classes, at any moment
-use Rattle.std.specs.Prelude.{ℕ, suc, List, [], ◌∷◌, ◌++◌, Contains, length, slice_index, slice_set, ◌≡◌, ◌≤◌, ◌<◌, ◌⊎◌}
+use Rattle.std.specs.Prelude.{slice_set, ℕ, suc, List, [], ◌∷◌, ◌++◌, Contains, length, slice_index, ◌≡◌, ◌≤◌, ◌<◌, ◌⊎◌}
 use Rattle.paths.specs.Paths.{Path}
 use Rattle.classes.specs.inside.Index.{HasNeighbour}
 

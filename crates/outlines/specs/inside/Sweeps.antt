@@ -1,7 +1,6 @@
 -- a sweep up the rows: which sides cross the row that it has come to, and what is filled below it
 use Rattle.std.specs.Prelude.{ℕ, ℤ, ◌+◌, ◌<◌, ◌≡◌, ◌≢◌, ◌↔◌, ◌≤ℤ◌, ◌<ℤ◌, Bool, cond, ◌&&◌, int_le, int_lt, List, All, count_by}
-use Rattle.geo_core.specs.Cells.{IsInLayout}
-use Rattle.geo_core.specs.Intervals.{IsInterval}
+use Rattle.geo_core.specs.Plane.{IsInLayout, IsInterval}
 use Rattle.geo_core.specs.declared.bounds.TheConstants.{FARTHEST}
 use Rattle.geo_core.specs.declared.interval.Interval.{Interval}
 use Rattle.geo_core.specs.declared.plane.Cell.{Cell}

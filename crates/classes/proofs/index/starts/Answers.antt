@@ -1,5 +1,5 @@
 use Rattle.std.proofs.Common.{ℕ, ◌+◌, ◌<◌, ◌≤◌, ◌≡◌, ◌++◌, ◌∷◌, [], List, length, sum, get_or, take, arith}
-use Rattle.std.proofs.lemmas.Grind.{common_steps}
+use Rattle.lists.proofs.Words.{common_steps}
 use Rattle.classes.proofs.index.starts.Goals as goal
 
 sum_more : (xs : List ℕ) (i : ℕ) → i < length xs → sum (take i xs) + get_or xs i 0 ≡ sum (take (i + 1) xs)

@@ -1,5 +1,5 @@
 use Rattle.std.proofs.Common.{◌≡◌, ◌+◌, ◌≤◌, sum, get_or}
-use Rattle.std.specs.VecDeque.{deque_len}
+use Rattle.lists.proofs.Words.{deque_len}
 use Rattle.classes.specs.inside.Spreading.{IsSpreading}
 use Rattle.classes.proofs.spread.reach.Given as goal
 

@@ -1,5 +1,5 @@
 use Rattle.std.proofs.Common.{arith}
-use Rattle.std.proofs.lemmas.Int.{ints}
+use Rattle.lists.proofs.Words.{ints}
 use Rattle.fault_model.proofs.sizes.side_0_touches_none.Goals as goal
 
 pub returns : goal.returns

@@ -1,6 +1,5 @@
-use Rattle.std.proofs.Common.{sym, ap, ◌∙◌}
-use Rattle.std.specs.Prelude.{if◌then◌else◌}
-use Rattle.geo_core.specs.Turns.{mirror_image, quarter_turns, image_under}
+use Rattle.std.proofs.Common.{sym, ap, ◌∙◌, if◌then◌else◌}
+use Rattle.geo_core.specs.Plane.{mirror_image, quarter_turns, image_under}
 use Rattle.geo_core.proofs.TurnLaws.{after_mirror, after_plain}
 use Rattle.geo_core.proofs.turns.after.Goals as goal
 

@@ -1,4 +1,4 @@
-use Rattle.std.proofs.lemmas.Result.{IfOk-weaker}
+use Rattle.lists.proofs.Words.{IfOk-weaker}
 use Rattle.outlines.proofs.OutlineLaws.{closed_balanced, filled_is_cover}
 use Rattle.outlines.proofs.cover.cover_outline.Goals as goal
 

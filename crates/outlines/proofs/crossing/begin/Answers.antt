@@ -1,5 +1,5 @@
 use Rattle.std.proofs.Common.{w32, arith}
-use Rattle.std.proofs.lemmas.Int.{ints, to_z-of_z}
+use Rattle.lists.proofs.Words.{ints, to_z-of_z}
 use Rattle.outlines.proofs.CrossingLaws.{none_begun, one_begun, one_passed, all_begun, rest_above}
 use Rattle.outlines.proofs.crossing.begin.Goals as goal
 

@@ -1,7 +1,6 @@
-use Rattle.std.proofs.Common.{rules, w32}
-use Rattle.std.specs.Prelude.{int_lt}
+use Rattle.std.proofs.Common.{rules, w32, int_lt}
+use Rattle.lists.proofs.Words.{to_z-of_z}
 use Rattle.std.proofs.lemmas.Fn.{filter_same}
-use Rattle.std.proofs.lemmas.Int.{to_z-of_z}
 use Rattle.outlines.proofs.CrossingLaws.{IsKept, kept_begun, kept_lasting, crossed, moved_at_row, ordered_by_sort}
 use Rattle.outlines.proofs.crossing.cross.Goals as goal
 

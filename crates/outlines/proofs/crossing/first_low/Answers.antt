@@ -1,5 +1,5 @@
 use Rattle.std.proofs.Common.{◌≡◌, w32, to_z, of_z, arith}
-use Rattle.std.proofs.lemmas.Int.{ints}
+use Rattle.lists.proofs.Words.{ints}
 use Rattle.outlines.specs.inside.Sweeps.{IsAbove}
 use Rattle.outlines.proofs.CrossingLaws.{first_is_least, first_holds}
 use Rattle.outlines.proofs.crossing.first_low.Goals as goal

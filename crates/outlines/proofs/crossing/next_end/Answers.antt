@@ -1,5 +1,5 @@
 use Rattle.std.proofs.Common.{◌≡◌, w32, to_z, of_z, arith}
-use Rattle.std.proofs.lemmas.Int.{ints}
+use Rattle.lists.proofs.Words.{ints}
 use Rattle.outlines.proofs.CrossingLaws.{next_begun, next_nearer, next_found}
 use Rattle.outlines.proofs.crossing.next_end.Goals as goal
 

@@ -1,6 +1,5 @@
-use Rattle.std.proofs.Common.{inl, inr, refl, sym, subst, true, false, ◌≡◌}
-use Rattle.std.specs.Prelude.{All}
-use Rattle.std.proofs.lemmas.List.Elements.{All-nil}
+use Rattle.std.proofs.Common.{inl, inr, refl, sym, subst, true, false, ◌≡◌, All}
+use Rattle.lists.proofs.Words.{All-nil}
 use Rattle.lists.proofs.Reading.{left_holds, left_fails, none_left}
 use Rattle.outlines.specs.Outlines.{IsAlongAxis, edges_of}
 use Rattle.outlines.proofs.EdgeLaws.{edges_begun, edges_next, edges_ended, edges_none}

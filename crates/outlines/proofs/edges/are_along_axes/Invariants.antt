@@ -1,7 +1,5 @@
-use Rattle.std.proofs.Common.{◌↔◌}
-use Rattle.std.specs.Prelude.{All, zip}
-use Rattle.std.specs.Slice.Iter.{iter_rest}
-use Rattle.std.specs.Iterator.Adapters.{zip_first, zip_second}
+use Rattle.std.proofs.Common.{◌↔◌, All}
+use Rattle.lists.proofs.Words.{zip, iter_rest, zip_first, zip_second}
 use Rattle.outlines.specs.Outlines.{IsAlongAxis, edges_of}
 use Rattle.outlines.proofs.edges.are_along_axes.Given as goal
 

@@ -1,8 +1,6 @@
-use Rattle.std.proofs.Common.{◌≡◌, sym, subst, ◌∙◌, arith}
-use Rattle.std.specs.Prelude.{All}
-use Rattle.std.proofs.lemmas.Int.{ints}
-use Rattle.std.proofs.lemmas.List.Elements.{All-push, All-head, All-tail}
-use Rattle.geo_core.specs.Cells.{IsInLayout}
+use Rattle.std.proofs.Common.{◌≡◌, sym, subst, ◌∙◌, arith, All}
+use Rattle.lists.proofs.Words.{ints, All-push, All-head, All-tail}
+use Rattle.geo_core.specs.Plane.{IsInLayout}
 use Rattle.outlines.proofs.GrowthLaws.{run_continues, run_pushed, rect_in_layout, longer_in_layout}
 use Rattle.outlines.proofs.growth.add_run.Goals as goal
 

@@ -1,7 +1,6 @@
-use Rattle.std.proofs.Common.{subst}
-use Rattle.std.specs.Prelude.{All}
-use Rattle.std.proofs.lemmas.List.Elements.{All-push, All-head, All-tail}
-use Rattle.geo_core.specs.Cells.{IsInLayout}
+use Rattle.std.proofs.Common.{subst, All}
+use Rattle.lists.proofs.Words.{All-push, All-head, All-tail}
+use Rattle.geo_core.specs.Plane.{IsInLayout}
 use Rattle.outlines.proofs.GrowthLaws.{none_moved, one_moved}
 use Rattle.outlines.proofs.growth.finish_left_of.Goals as goal
 

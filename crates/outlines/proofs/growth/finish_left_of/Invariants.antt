@@ -1,6 +1,5 @@
-use Rattle.std.proofs.Common.{length}
-use Rattle.std.specs.Prelude.{All}
-use Rattle.geo_core.specs.Cells.{IsInLayout}
+use Rattle.std.proofs.Common.{length, All}
+use Rattle.geo_core.specs.Plane.{IsInLayout}
 use Rattle.outlines.specs.inside.Sweeps.{HasSameCells}
 use Rattle.outlines.proofs.growth.finish_left_of.Given as goal
 

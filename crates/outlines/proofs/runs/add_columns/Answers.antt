@@ -1,7 +1,5 @@
-use Rattle.std.proofs.Common.{◌≡◌, sym, subst, arith}
-use Rattle.std.specs.Prelude.{All}
-use Rattle.std.proofs.lemmas.Int.{ints}
-use Rattle.std.proofs.lemmas.List.Elements.{All-push}
+use Rattle.std.proofs.Common.{◌≡◌, sym, subst, arith, All}
+use Rattle.lists.proofs.Words.{ints, All-push}
 use Rattle.outlines.specs.inside.Sweeps.{IsRunInLayout}
 use Rattle.outlines.proofs.RunLaws.{columns_pushed, columns_joined, joined_within, none_popped, last_within, run_of_ends}
 use Rattle.outlines.proofs.runs.add_columns.Goals as goal

@@ -1,6 +1,5 @@
-use Rattle.std.proofs.Common.{◌≡◌, ◌+◌, refl, sym, subst, arith, inl, inr, w32, to_z, of_z}
-use Rattle.std.specs.Prelude.{not}
-use Rattle.std.proofs.lemmas.Int.{ints}
+use Rattle.std.proofs.Common.{◌≡◌, ◌+◌, refl, sym, subst, arith, inl, inr, w32, to_z, of_z, not}
+use Rattle.lists.proofs.Words.{ints}
 use Rattle.outlines.proofs.GrowthLaws.{one}
 use Rattle.outlines.proofs.RunLaws.{AreRunsSoFar, FillsTo, no_runs, fills_added, fills_nothing, next_run, all_runs, ups_fit}
 use Rattle.outlines.proofs.runs.runs_between.Goals as goal

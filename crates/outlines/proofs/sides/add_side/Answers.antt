@@ -1,5 +1,5 @@
 use Rattle.std.proofs.Common.{refl, arith}
-use Rattle.std.proofs.lemmas.Int.{ints}
+use Rattle.lists.proofs.Words.{ints}
 use Rattle.outlines.proofs.SideLaws.{adds_up, adds_down, adds_none}
 use Rattle.outlines.proofs.sides.add_side.Goals as goal
 

@@ -1,7 +1,6 @@
-use Rattle.std.proofs.Common.{inl, inr, refl, sym, subst, ◌≡◌, []}
-use Rattle.std.specs.Prelude.{All}
-use Rattle.std.proofs.lemmas.List.Elements.{All-head, All-tail}
-use Rattle.geo_core.specs.Bounds.{IsInRange}
+use Rattle.std.proofs.Common.{inl, inr, refl, sym, subst, ◌≡◌, [], All}
+use Rattle.lists.proofs.Words.{All-head, All-tail}
+use Rattle.geo_core.specs.Plane.{IsInRange}
 use Rattle.outlines.specs.Outlines.{edges_of}
 use Rattle.outlines.specs.inside.Sides.{AreSidesOf}
 use Rattle.outlines.proofs.EdgeLaws.{edges_begun, edges_ended, edges_none}

@@ -1,5 +1,4 @@
-use Rattle.std.specs.Slice.Iter.{iter_rest}
-use Rattle.std.specs.Iterator.Adapters.{zip_first, zip_second}
+use Rattle.lists.proofs.Words.{iter_rest, zip_first, zip_second}
 use Rattle.outlines.specs.Outlines.{edges_of}
 use Rattle.outlines.proofs.SideLaws.{AreSidesBut}
 use Rattle.outlines.proofs.sides.sides_of.Given as goal

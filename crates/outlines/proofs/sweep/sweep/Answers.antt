@@ -1,6 +1,5 @@
-use Rattle.std.proofs.Common.{◌≡◌, ◌<◌, w32, to_z, of_z, arith, sym, subst}
-use Rattle.std.specs.Prelude.{◌<ℤ◌, ◌-ℤ◌, All, unsigned_abs}
-use Rattle.std.proofs.lemmas.Int.{ints}
+use Rattle.std.proofs.Common.{◌≡◌, ◌<◌, w32, to_z, of_z, arith, sym, subst, ◌<ℤ◌, ◌-ℤ◌, All, unsigned_abs}
+use Rattle.lists.proofs.Words.{ints}
 use Rattle.geo_core.specs.declared.bounds.TheConstants.{FARTHEST}
 use Rattle.outlines.specs.inside.Sweeps.{GoesOnPast}
 use Rattle.outlines.proofs.SweepLaws.{swept_none, swept_on, evenly, nearer, finished}

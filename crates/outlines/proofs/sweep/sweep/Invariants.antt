@@ -1,4 +1,4 @@
-use Rattle.std.specs.Prelude.{◌-ℤ◌, unsigned_abs}
+use Rattle.std.proofs.Common.{◌-ℤ◌, unsigned_abs}
 use Rattle.geo_core.specs.declared.bounds.TheConstants.{FARTHEST}
 use Rattle.outlines.proofs.SweepLaws.{IsSweptTo}
 use Rattle.outlines.proofs.sweep.sweep.Given as goal

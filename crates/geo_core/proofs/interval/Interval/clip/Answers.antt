@@ -1,5 +1,5 @@
 use Rattle.std.proofs.Common.{arith, w32, to_z, of_z}
-use Rattle.std.proofs.lemmas.Int.{ints, to_z-of_z}
+use Rattle.lists.proofs.Words.{ints, to_z-of_z}
 use Rattle.geo_core.proofs.IntervalLaws.{clipped, clip_none}
 use Rattle.geo_core.proofs.interval.Interval.clip.Goals as goal
 

@@ -1,5 +1,5 @@
 use Rattle.std.proofs.Common.{arith, refl}
-use Rattle.std.proofs.lemmas.Int.{ints}
+use Rattle.lists.proofs.Words.{ints}
 use Rattle.geo_core.proofs.IntervalLaws.{grown, IsIn-at}
 use Rattle.geo_core.proofs.interval.Interval.grow.Goals as goal
 

@@ -1,5 +1,5 @@
 use Rattle.std.proofs.Common.{arith}
-use Rattle.std.proofs.lemmas.Int.{to_z-of_z}
+use Rattle.lists.proofs.Words.{to_z-of_z}
 use Rattle.geo_core.proofs.IntervalLaws.{joined, join_within}
 use Rattle.geo_core.proofs.interval.Interval.join.Goals as goal
 

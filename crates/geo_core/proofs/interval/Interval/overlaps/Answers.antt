@@ -1,5 +1,5 @@
 use Rattle.std.proofs.Common.{arith}
-use Rattle.std.proofs.lemmas.Int.{ints}
+use Rattle.lists.proofs.Words.{ints}
 use Rattle.geo_core.proofs.IntervalLaws.{overlapping}
 use Rattle.geo_core.proofs.interval.Interval.overlaps.Goals as goal
 

@@ -1,5 +1,5 @@
 use Rattle.std.proofs.Common.{refl, ap, length, arith}
-use Rattle.std.proofs.lemmas.List.{length-map}
+use Rattle.lists.proofs.Words.{length-map}
 use Rattle.library_model.proofs.NameLaws.{known_with, fresh_with, names_with, names_with_differ, count_with}
 use Rattle.library_model.proofs.name_index.NameIndex.add.Goals as goal
 

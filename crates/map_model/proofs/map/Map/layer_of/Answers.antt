@@ -1,6 +1,5 @@
-use Rattle.std.proofs.Common.{◌≡◌, ℕ, ◌<◌, List, length, get_or, sym, subst, arith}
-use Rattle.std.specs.Prelude.{Contains}
-use Rattle.map_model.specs.Layers.{metal_layer, cut_layer}
+use Rattle.std.proofs.Common.{◌≡◌, ℕ, ◌<◌, List, length, get_or, sym, subst, arith, Contains}
+use Rattle.map_model.specs.MapNames.{metal_layer, cut_layer}
 use Rattle.map_model.specs.declared.layers.Cut.{Cut}
 use Rattle.map_model.specs.declared.layers.Metal.{Metal}
 use Rattle.map_model.proofs.MappedLaws.{metal_has, cut_has, neither_has, none_has_more}

@@ -1,5 +1,5 @@
 use Rattle.std.proofs.Common.{map}
-use Rattle.map_model.specs.Layers.{metal_layer, cut_layer}
+use Rattle.map_model.specs.MapNames.{metal_layer, cut_layer}
 use Rattle.map_model.proofs.MappedLaws.{NoneHas}
 use Rattle.map_model.proofs.map.Map.layer_of.Given as goal
 

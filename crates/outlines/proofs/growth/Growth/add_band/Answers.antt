@@ -1,6 +1,6 @@
 use Rattle.std.proofs.Common.{sym}
-use Rattle.std.proofs.lemmas.List.Elements.{All-append}
-use Rattle.geo_core.specs.Cells.{IsInLayout}
+use Rattle.lists.proofs.Words.{All-append}
+use Rattle.geo_core.specs.Plane.{IsInLayout}
 use Rattle.outlines.proofs.GrowthLaws.{band_begun, run_added, band_added, run_within}
 use Rattle.outlines.proofs.growth.Growth.add_band.Goals as goal
 
