@@ -1,7 +1,6 @@
 -- how a range's change of a part follows from what was done below it
-use Rattle.std.proofs.Common.{ℕ, ◌+◌, ◌^◌, ◌<◌, ◌≤◌, ◌≡◌, ◌≢◌, refl, sym, ap, ◌∙◌, subst, arith, inl, inr, ◌⊎◌, List, length, set, get_or-set_same, get_or-set_other, length-set}
-use Rattle.std.specs.Prelude.{ℤ, pos}
-use Rattle.std.proofs.lemmas.Bool.{cases_lt}
+use Rattle.std.proofs.Common.{ℕ, ◌+◌, ◌^◌, ◌<◌, ◌≤◌, ◌≡◌, ◌≢◌, refl, sym, ap, ◌∙◌, subst, arith, inl, inr, ◌⊎◌, List, length, set, get_or-set_same, get_or-set_other, length-set, ℤ, pos}
+use Rattle.lists.proofs.Words.{cases_lt}
 use Rattle.geo_core.specs.declared.counts.Node.{Node}
 use Rattle.cover_tree.specs.TreeNodes.{node_over, number_of, times_in_cut}
 use Rattle.cover_tree.specs.TreeParts.{IsPart, IsUnder, IsElsewhere, numbered_node, row_node, row_depth, part_width, AreWidths, KeepsWidths, IsKept, IsLowerKept, IsChangedBy, MayChange, MayChangeIn, IsPartChanged}

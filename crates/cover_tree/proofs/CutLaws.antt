@@ -1,8 +1,7 @@
 -- how often the standard cut of a range has the nodes over a column
-use Rattle.std.proofs.Common.{ℕ, suc, ◌+◌, ◌/◌, ◌^◌, ◌<◌, ◌≤◌, ◌≡◌, ap, ◌∙◌, arith, inl, inr, ◌⊎◌, true, false, cond}
-use Rattle.std.specs.Prelude.{◌||◌, not, nat_le}
-use Rattle.std.proofs.lemmas.Bool.{leb-true, leb-false, le-leb, lt-leb, and_parts, and_from, and_left, and_right, or_left, or_right, cases_Bool, false_from_ne_true, not_from_false}
-use Rattle.std.proofs.lemmas.Nat.{shr-shr}
+use Rattle.std.proofs.Common.{ℕ, suc, ◌+◌, ◌/◌, ◌^◌, ◌<◌, ◌≤◌, ◌≡◌, ap, ◌∙◌, arith, inl, inr, ◌⊎◌, true, false, cond, ◌||◌, not, nat_le}
+use Rattle.lists.proofs.Words.{le-leb, lt-leb, and_parts, and_right, cases_Bool, shr-shr}
+use Rattle.std.proofs.lemmas.Bool.{leb-true, leb-false, and_from, and_left, or_left, or_right, false_from_ne_true, not_from_false}
 use Rattle.cover_tree.specs.TreeNodes.{TreeNode, node_over, parent_of, first_of, end_of, lies_in, times_in_cut}
 use Rattle.cover_tree.specs.TreeParts.{IsPart, IsUnder, IsHighest}
 use Rattle.cover_tree.specs.declared.parts.Part.{Part}

@@ -1,9 +1,7 @@
 -- each column of a range is under one node of its standard cut, and no other column is: so a put adds one to the depths of
 -- the range's columns alone
-use Rattle.std.proofs.Common.{ℕ, zero, suc, ◌+◌, ◌*◌, ◌/◌, ◌^◌, ◌<◌, ◌≤◌, ◌≡◌, refl, sym, ap, ◌∙◌, arith, inl, inr, Bool, true, false, cond}
-use Rattle.std.specs.Prelude.{nat_le, ◌&&◌}
-use Rattle.std.proofs.lemmas.Bool.{cases_Bool}
-use Rattle.std.proofs.lemmas.Nat.{mul-le}
+use Rattle.std.proofs.Common.{ℕ, zero, suc, ◌+◌, ◌*◌, ◌/◌, ◌^◌, ◌<◌, ◌≤◌, ◌≡◌, refl, sym, ap, ◌∙◌, arith, inl, inr, Bool, true, false, cond, nat_le, ◌&&◌}
+use Rattle.lists.proofs.Words.{cases_Bool, mul-le}
 use Rattle.cover_tree.specs.TreeNodes.{node_over, parent_of, lies_in, times_in_cut}
 use Rattle.cover_tree.specs.CoverTrees.{Cover, depth_up_to, depth_at, IsPut, IsTaken}
 use Rattle.cover_tree.proofs.Powers.{double}

@@ -1,7 +1,6 @@
 -- parts of a tree: the numbers and the columns of their nodes, and their halves
 use Rattle.std.proofs.Common.{ℕ, suc, ◌+◌, ◌-◌, ◌*◌, ◌/◌, ◌^◌, ◌<◌, ◌≤◌, ◌≡◌, ◌≢◌, sym, ap, ◌∙◌, subst, arith, inl, inr, ◌⊎◌}
-use Rattle.std.proofs.lemmas.Bool.{cases_lt}
-use Rattle.std.proofs.lemmas.Nat.{pow_pos, pow-add, mul-le, shr-shr}
+use Rattle.lists.proofs.Words.{cases_lt, pow_pos, pow-add, mul-le, shr-shr}
 use Rattle.cover_tree.specs.TreeNodes.{node_over, number_of, first_of, end_of}
 use Rattle.cover_tree.specs.TreeParts.{IsPart, IsUnder, IsElsewhere}
 use Rattle.cover_tree.specs.declared.parts.Part.{Part}

@@ -1,7 +1,8 @@
 -- powers of two, and the numbers of nodes
-use Rattle.std.proofs.Common.{ℕ, suc, ◌+◌, ◌-◌, ◌*◌, ◌/◌, ◌^◌, ◌<◌, ◌≤◌, ◌≡◌, sym, ap, ◌∙◌, arith, inl, inr, pow-suc}
+use Rattle.std.proofs.Common.{pow-suc, ℕ, suc, ◌+◌, ◌-◌, ◌*◌, ◌/◌, ◌^◌, ◌<◌, ◌≤◌, ◌≡◌, sym, ap, ◌∙◌, arith, inl, inr}
+use Rattle.lists.proofs.Words.{pow_pos}
 use Rattle.std.proofs.lemmas.Bool.{cases_order}
-use Rattle.std.proofs.lemmas.Nat.{pow_pos, pow_below, div-mul-add, shr_split, mod_below, shr_below}
+use Rattle.std.proofs.lemmas.Nat.{pow_below, div-mul-add, shr_split, mod_below, shr_below}
 use Rattle.std.proofs.Math.Nat.{pow-le-pow_right}
 
 pub double : (n : ℕ) → 2 ^ suc n ≡ 2 * 2 ^ n

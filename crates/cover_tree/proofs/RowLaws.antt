@@ -1,10 +1,8 @@
 -- the row of a whole tree, and what contracts see of it
-use Rattle.std.proofs.Common.{ℕ, zero, suc, ◌+◌, ◌-◌, ◌*◌, ◌%◌, ◌^◌, ◌<◌, ◌≤◌, ◌≡◌, refl, sym, ap, ◌∙◌, subst, arith, inl, inr, List, length, get_or, min, Bool, true, false, cond}
-use Rattle.std.specs.Prelude.{ℤ, pos, ◌-ℤ◌, unsigned_abs, nat_le}
-use Rattle.std.proofs.lemmas.Bool.{cases_lt, cond_both}
-use Rattle.std.proofs.lemmas.Int.{ints}
-use Rattle.std.proofs.lemmas.List.{get_or-replicate, get_or_past, length-replicate}
+use Rattle.std.proofs.Common.{ℕ, zero, suc, ◌+◌, ◌-◌, ◌*◌, ◌%◌, ◌^◌, ◌<◌, ◌≤◌, ◌≡◌, refl, sym, ap, ◌∙◌, subst, arith, inl, inr, List, length, get_or, min, Bool, true, false, cond, ℤ, pos, ◌-ℤ◌, unsigned_abs, nat_le}
+use Rattle.lists.proofs.Words.{cases_lt, cond_both, ints, get_or_past, length-replicate}
 use Rattle.std.proofs.Math.ListN.{get_or-map}
+use Rattle.std.proofs.lemmas.List.{get_or-replicate}
 use Rattle.std.proofs.lemmas.Nat.{shl-shr, shl_below, shl_whole, one_shl}
 use Rattle.geo_core.specs.declared.counts.Node.{Node}
 use Rattle.geo_core.specs.NodeLists.{zeros}

@@ -1,8 +1,6 @@
 -- sums of values, and the widths of columns
-use Rattle.std.proofs.Common.{ℕ, zero, suc, ◌+◌, ◌-◌, ◌<◌, ◌≤◌, ◌≡◌, refl, sym, ap, ◌∙◌, List, length, arith, inl, inr, min, cond}
-use Rattle.std.specs.Prelude.{ℤ, pos, negsuc, ◌-ℤ◌, ◌≤ℤ◌, unsigned_abs, nat_le}
-use Rattle.std.proofs.lemmas.Int.{ints}
-use Rattle.std.proofs.lemmas.Bool.{cond_both, le-leb, lt-leb, cases_lt}
+use Rattle.std.proofs.Common.{ℕ, zero, suc, ◌+◌, ◌-◌, ◌<◌, ◌≤◌, ◌≡◌, refl, sym, ap, ◌∙◌, List, length, arith, inl, inr, min, cond, ℤ, pos, negsuc, ◌-ℤ◌, ◌≤ℤ◌, unsigned_abs, nat_le}
+use Rattle.lists.proofs.Words.{ints, cond_both, le-leb, lt-leb, cases_lt}
 use Rattle.cover_tree.specs.Columns.{AreRising, place_at, width_of, total, deep_width}
 
 -- ---- sums

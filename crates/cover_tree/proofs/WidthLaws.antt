@@ -1,9 +1,6 @@
 -- the widths that nodes keep
-use Rattle.std.proofs.Common.{ℕ, zero, suc, ◌+◌, ◌*◌, ◌/◌, ◌^◌, ◌<◌, ◌≤◌, ◌≡◌, refl, sym, ap, ◌∙◌, arith, List, length, set, get_or-set_same, get_or-set_other}
-use Rattle.std.specs.Prelude.{ℤ, pos, Some, slice_get, ◌+ℤ◌, FitsSigned}
-use Rattle.std.specs.Int.{w64}
-use Rattle.std.proofs.lemmas.Int.{ints}
-use Rattle.std.proofs.lemmas.Option.{get_or_from_slice_get}
+use Rattle.std.proofs.Common.{ℕ, zero, suc, ◌+◌, ◌*◌, ◌/◌, ◌^◌, ◌<◌, ◌≤◌, ◌≡◌, refl, sym, ap, ◌∙◌, arith, List, length, set, get_or-set_same, get_or-set_other, ℤ, pos, Some, slice_get, ◌+ℤ◌, FitsSigned, w64}
+use Rattle.lists.proofs.Words.{ints, get_or_from_slice_get}
 use Rattle.geo_core.specs.declared.counts.Node.{Node}
 use Rattle.cover_tree.specs.Columns.{width_of, total, deep_width}
 use Rattle.cover_tree.specs.TreeNodes.{node_over, number_of}

@@ -1,10 +1,7 @@
 -- a rectangle that is added from the right to the left
-use Rattle.std.proofs.Common.{subst, inl, inr, arith, ◌≡◌, ◌⊎◌}
-use Rattle.std.proofs.lemmas.Int.{ints, clamps, by_lt_z}
-use Rattle.std.specs.Int.{int_max}
-use Rattle.std.specs.Prelude.{ℤ, ◌≤ℤ◌, ◌<ℤ◌, ◌↔◌}
-use Rattle.geo_core.specs.Cells.{Has}
-use Rattle.geo_core.specs.Intervals.{IsIn}
+use Rattle.std.proofs.Common.{subst, inl, inr, arith, ◌≡◌, ◌⊎◌, ℤ, ◌≤ℤ◌, ◌<ℤ◌, ◌↔◌}
+use Rattle.lists.proofs.Words.{ints, clamps, by_lt_z, int_max}
+use Rattle.geo_core.specs.Plane.{Has, IsIn}
 use Rattle.geo_core.specs.declared.plane.Cell.{Cell}
 use Rattle.geo_core.specs.declared.plane.Rect.{Rect}
 use Rattle.depth_sweep.specs.inside.Skylines.{Activates, HasRoom, IsActiveIn, IsActiveOver, IsAddedTo, IsBelow, IsInPart, IsInRest, IsNextActive, IsSkyline, IsUnder, KeepsRest, TakesOut}

@@ -1,11 +1,7 @@
 -- what a rectangle has in common with a skyline
-use Rattle.std.proofs.Common.{List, [], arith, inl, inr, subst, sym, ◌++◌, ◌∷◌, ◌≡◌}
-use Rattle.std.proofs.lemmas.Int.{ints, by_lt_z}
-use Rattle.std.proofs.lemmas.List.Elements.{All-push}
-use Rattle.std.specs.Prelude.{All, ℤ, ◌≤ℤ◌, ◌<ℤ◌, ◌↔◌}
-use Rattle.geo_core.specs.Cells.{Has}
-use Rattle.geo_core.specs.Intervals.{IsIn}
-use Rattle.geo_core.specs.Unions.{IsInUnion}
+use Rattle.std.proofs.Common.{List, [], arith, inl, inr, subst, sym, ◌++◌, ◌∷◌, ◌≡◌, All, ℤ, ◌≤ℤ◌, ◌<ℤ◌, ◌↔◌}
+use Rattle.lists.proofs.Words.{ints, by_lt_z, All-push}
+use Rattle.geo_core.specs.Plane.{Has, IsIn, IsInUnion}
 use Rattle.geo_core.specs.declared.plane.Cell.{Cell}
 use Rattle.geo_core.specs.declared.plane.Rect.{Rect}
 use Rattle.depth_sweep.specs.inside.Skylines.{GainsCommon, IsActiveIn, IsActiveOver, IsBelow, IsCommonFrom, IsSkyline, IsUnder}

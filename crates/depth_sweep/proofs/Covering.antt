@@ -1,11 +1,7 @@
 -- rectangles that are added to a skyline one after the other
-use Rattle.std.proofs.Common.{List, [], ap, arith, get_or, inl, inr, length, subst, sym, take, take_all, ℕ, ◌+◌, ◌<◌, ◌≡◌, ◌≤◌, ◌⊎◌}
-use Rattle.std.proofs.lemmas.Int.{ints}
-use Rattle.std.proofs.lemmas.List.Elements.{All-get_or}
-use Rattle.std.proofs.lemmas.Option.{get_or_from_slice_get, slice_get_within}
-use Rattle.std.specs.Prelude.{All, Some, slice_get, ℤ, ◌≤ℤ◌, ◌↔◌}
-use Rattle.geo_core.specs.Cells.{Has}
-use Rattle.geo_core.specs.Unions.{IsInUnion}
+use Rattle.std.proofs.Common.{List, [], ap, arith, get_or, inl, inr, length, subst, sym, take, take_all, ℕ, ◌+◌, ◌<◌, ◌≡◌, ◌≤◌, ◌⊎◌, All, Some, slice_get, ℤ, ◌≤ℤ◌, ◌↔◌}
+use Rattle.lists.proofs.Words.{ints, All-get_or, get_or_from_slice_get, slice_get_within}
+use Rattle.geo_core.specs.Plane.{Has, IsInUnion}
 use Rattle.geo_core.specs.declared.plane.Cell.{Cell}
 use Rattle.geo_core.specs.declared.plane.Rect.{Rect}
 use Rattle.depth_sweep.specs.Runs.{AreByRow}

@@ -1,11 +1,8 @@
 -- maps of rectangles by their leftmost columns, of which one entry changes
-use Rattle.std.proofs.Common.{sym, ap, inl, inr, ◌∙◌, ◌≡◌, ◌⊎◌}
-use Rattle.std.proofs.lemmas.Bool.{cases_Bool}
+use Rattle.std.proofs.Common.{sym, ap, inl, inr, ◌∙◌, ◌≡◌, ◌⊎◌, ℤ, Option}
+use Rattle.lists.proofs.Words.{cases_Bool, BTreeMap, Updates, get, is_at, int_cmp}
 use Rattle.std.proofs.lemmas.Map.Lookups.{exact_signed}
 use Rattle.std.proofs.lemmas.Map.Views.{tells_apart}
-use Rattle.std.specs.BTreeMap.{BTreeMap, Updates, get, is_at}
-use Rattle.std.specs.Ordering.{int_cmp}
-use Rattle.std.specs.Prelude.{ℤ, Option}
 use Rattle.geo_core.specs.declared.plane.Rect.{Rect}
 
 -- a map has this at the one column, and at each other column what it had

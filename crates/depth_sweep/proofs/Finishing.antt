@@ -1,11 +1,8 @@
 -- active rectangles are finished, one after the other
-use Rattle.std.proofs.Common.{Bool, List, [], arith, inl, inr, length, sym, ◌++◌, ◌<◌, ◌∷◌, ◌≡◌}
-use Rattle.std.specs.BTreeMap.{BTreeMap, Updates, btree_map_len, get, is_at}
-use Rattle.std.specs.Global.{Global}
+use Rattle.std.proofs.Common.{Bool, List, [], arith, inl, inr, length, sym, ◌++◌, ◌<◌, ◌∷◌, ◌≡◌, ℤ, None, Some, Vec, ◌↔◌}
+use Rattle.lists.proofs.Words.{BTreeMap, Updates, btree_map_len, get, is_at, Global, int_cmp}
 use Rattle.std.specs.Map.{lookup}
-use Rattle.std.specs.Ordering.{int_cmp}
-use Rattle.std.specs.Prelude.{ℤ, None, Some, Vec, ◌↔◌}
-use Rattle.geo_core.specs.Unions.{IsInUnion}
+use Rattle.geo_core.specs.Plane.{IsInUnion}
 use Rattle.geo_core.specs.declared.plane.Cell.{Cell}
 use Rattle.geo_core.specs.declared.plane.Rect.{Rect}
 use Rattle.depth_sweep.specs.inside.Skylines.{IsSkyline, IsUnder}

@@ -1,10 +1,8 @@
 -- active rectangles that are joined with their neighbours, and parts of rectangles
-use Rattle.std.proofs.Common.{refl, sym, subst, inl, inr, arith, ◌∙◌, ◌≡◌, ◌⊎◌}
-use Rattle.std.proofs.lemmas.Int.{ints, by_lt_z}
-use Rattle.std.specs.Prelude.{ℤ, Contains, ◌≤ℤ◌, ◌<ℤ◌, ◌↔◌}
+use Rattle.std.proofs.Common.{refl, sym, subst, inl, inr, arith, ◌∙◌, ◌≡◌, ◌⊎◌, ℤ, Contains, ◌≤ℤ◌, ◌<ℤ◌, ◌↔◌}
+use Rattle.lists.proofs.Words.{ints, by_lt_z}
 use Rattle.geo_core.proofs.IntervalLaws.{IsIn-at}
-use Rattle.geo_core.specs.Cells.{Has}
-use Rattle.geo_core.specs.Intervals.{IsIn}
+use Rattle.geo_core.specs.Plane.{Has, IsIn}
 use Rattle.geo_core.specs.declared.plane.Cell.{Cell}
 use Rattle.geo_core.specs.declared.plane.Rect.{Rect}
 use Rattle.depth_sweep.specs.inside.Skylines.{Activates, HasRoom, IsActiveOver, IsDoneIn, IsInPart, IsSkyline, Joins, TakesOut}

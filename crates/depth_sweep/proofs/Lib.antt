@@ -1,3 +1,6 @@
+pub mod Depths
+pub mod Sums
+pub mod EventLaws
 pub mod Entries
 pub mod Primitives
 pub mod Searches
@@ -10,3 +13,9 @@ pub mod Commons
 pub mod Covering
 pub mod TwiceSteps
 pub mod TwiceCovering
+pub mod PlaceLaws
+pub mod BarLaws
+pub mod RowTallies
+pub mod Sweeping
+pub mod StepLaws
+pub mod SweepSteps

@@ -1,15 +1,7 @@
 -- what becomes of a skyline where one rectangle is made active, taken out, or finished
-use Rattle.std.proofs.Common.{[], get_or, refl, sym, ap, subst, inl, inr, arith, ◌++◌, ◌∷◌, ◌∙◌, ◌≡◌, ◌⊎◌}
-use Rattle.std.proofs.lemmas.Int.{ints}
-use Rattle.std.proofs.lemmas.List.Elements.{Contains-append_left, Contains-get_or, Contains-push, Contains-push_cases}
-use Rattle.std.proofs.lemmas.List.Quantifiers.{all_pairs_push}
-use Rattle.std.specs.BTreeMap.{BTreeMap, get}
-use Rattle.std.specs.Global.{Global}
-use Rattle.std.specs.Prelude.{Vec}
-use Rattle.std.specs.Ordering.{int_cmp}
-use Rattle.std.specs.Prelude.{ℤ, Contains, Some, None, ◌≤ℤ◌}
-use Rattle.geo_core.specs.Cells.{Has, Overlap}
-use Rattle.geo_core.specs.Intervals.{IsIn}
+use Rattle.std.proofs.Common.{[], get_or, refl, sym, ap, subst, inl, inr, arith, ◌++◌, ◌∷◌, ◌∙◌, ◌≡◌, ◌⊎◌, Vec, ℤ, Contains, Some, None, ◌≤ℤ◌}
+use Rattle.lists.proofs.Words.{ints, Contains-append_left, Contains-get_or, Contains-push, Contains-push_cases, all_pairs_push, BTreeMap, get, Global, int_cmp}
+use Rattle.geo_core.specs.Plane.{Has, Overlap, IsIn}
 use Rattle.geo_core.specs.declared.plane.Cell.{Cell}
 use Rattle.geo_core.specs.declared.plane.Rect.{Rect}
 use Rattle.depth_sweep.specs.Runs.{AreApart}

@@ -1,11 +1,8 @@
 -- what is kept of an active rectangle that another one takes the place of
-use Rattle.std.proofs.Common.{subst, inl, inr, arith, ◌∙◌, ◌≡◌, ◌⊎◌}
-use Rattle.std.proofs.lemmas.Int.{ints, clamps, by_lt_z}
-use Rattle.std.specs.Int.{int_max, int_min}
-use Rattle.std.specs.Prelude.{ℤ, Contains, ◌≤ℤ◌, ◌<ℤ◌}
+use Rattle.std.proofs.Common.{subst, inl, inr, arith, ◌∙◌, ◌≡◌, ◌⊎◌, ℤ, Contains, ◌≤ℤ◌, ◌<ℤ◌}
+use Rattle.lists.proofs.Words.{ints, clamps, by_lt_z, int_max, int_min}
 use Rattle.geo_core.proofs.IntervalLaws.{clipped}
-use Rattle.geo_core.specs.Cells.{Has}
-use Rattle.geo_core.specs.Intervals.{IsIn, IsInterval}
+use Rattle.geo_core.specs.Plane.{Has, IsIn, IsInterval}
 use Rattle.geo_core.specs.declared.plane.Cell.{Cell}
 use Rattle.geo_core.specs.declared.plane.Rect.{Rect}
 use Rattle.depth_sweep.specs.inside.Skylines.{Activates, Finishes, FinishesLower, HasRoom, IsActiveOver, IsDoneIn, IsInLower, IsInPart, IsInRest, IsSkyline, KeepsRest}

@@ -1,13 +1,8 @@
 -- the last active rectangle before a column
-use Rattle.std.proofs.Common.{refl, sym, ap, subst, arith, ◌∙◌, ◌≡◌}
-use Rattle.std.proofs.lemmas.Cmp.{int_ranked}
-use Rattle.std.proofs.lemmas.Int.{ints}
-use Rattle.std.specs.BTreeMap.{get}
+use Rattle.std.proofs.Common.{refl, sym, ap, subst, arith, ◌∙◌, ◌≡◌, ℤ, IsSome, Some, ◌≤ℤ◌, ◌<ℤ◌}
+use Rattle.lists.proofs.Words.{int_ranked, ints, get, int_cmp, Less}
 use Rattle.std.specs.Cmp.{int_cmp_is}
-use Rattle.std.specs.Ordering.{int_cmp}
-use Rattle.std.specs.declared.cmp.Ordering.TheVariants.{Less}
-use Rattle.std.specs.Prelude.{ℤ, IsSome, Some, ◌≤ℤ◌, ◌<ℤ◌}
-use Rattle.geo_core.specs.Intervals.{IsIn}
+use Rattle.geo_core.specs.Plane.{IsIn}
 use Rattle.geo_core.specs.declared.plane.Rect.{Rect}
 use Rattle.depth_sweep.specs.inside.Skylines.{IsActiveIn, IsActiveOver, IsSkyline}
 use Rattle.depth_sweep.specs.declared.skyline.Skyline.{Skyline}

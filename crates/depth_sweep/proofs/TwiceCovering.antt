@@ -1,11 +1,7 @@
 -- two skylines: the one has the cells of the rectangles so far, the other one those in two of them
-use Rattle.std.proofs.Common.{List, ap, arith, get_or, inl, inr, length, subst, take, take_all, ℕ, ◌+◌, ◌<◌, ◌≡◌, ◌≤◌, ◌⊎◌}
-use Rattle.std.proofs.lemmas.Int.{ints}
-use Rattle.std.proofs.lemmas.Option.{get_or_from_slice_get, slice_get_within}
-use Rattle.std.specs.List.Sorted.{IsPermutation}
-use Rattle.std.specs.Prelude.{Some, slice_get, ℤ, ◌↔◌}
-use Rattle.geo_core.specs.Cells.{Has}
-use Rattle.geo_core.specs.Unions.{IsInUnion}
+use Rattle.std.proofs.Common.{List, ap, arith, get_or, inl, inr, length, subst, take, take_all, ℕ, ◌+◌, ◌<◌, ◌≡◌, ◌≤◌, ◌⊎◌, Some, slice_get, ℤ, ◌↔◌}
+use Rattle.lists.proofs.Words.{ints, get_or_from_slice_get, slice_get_within, IsPermutation}
+use Rattle.geo_core.specs.Plane.{Has, IsInUnion}
 use Rattle.geo_core.specs.declared.plane.Cell.{Cell}
 use Rattle.geo_core.specs.declared.plane.Rect.{Rect}
 use Rattle.depth_sweep.specs.Runs.{AreByRow, HaveCellsOfTwo, HaveSameCells, IsInTwo}

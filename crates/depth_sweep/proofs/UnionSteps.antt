@@ -1,11 +1,7 @@
 -- unions of lists of rectangles that are read one by one
-use Rattle.std.proofs.Common.{List, [], get_or, inl, inr, length, subst, sym, take, ℕ, ◌++◌, ◌+◌, ◌<◌, ◌∷◌, ◌≡◌, ◌⊎◌}
-use Rattle.std.proofs.lemmas.List.Elements.{Contains-append_left, Contains-push, Contains-push_cases}
-use Rattle.std.proofs.lemmas.List.Sorted.{Contains-permutation, IsPermutation-sym}
-use Rattle.std.specs.List.Sorted.{IsPermutation}
-use Rattle.std.specs.Prelude.{Contains, ◌↔◌}
-use Rattle.geo_core.specs.Cells.{Has}
-use Rattle.geo_core.specs.Unions.{IsInUnion}
+use Rattle.std.proofs.Common.{List, [], get_or, inl, inr, length, subst, sym, take, ℕ, ◌++◌, ◌+◌, ◌<◌, ◌∷◌, ◌≡◌, ◌⊎◌, Contains, ◌↔◌}
+use Rattle.lists.proofs.Words.{Contains-append_left, Contains-push, Contains-push_cases, Contains-permutation, IsPermutation-sym, IsPermutation}
+use Rattle.geo_core.specs.Plane.{Has, IsInUnion}
 use Rattle.geo_core.specs.declared.plane.Cell.{Cell}
 use Rattle.geo_core.specs.declared.plane.Rect.{Rect}
 use Rattle.lists.proofs.Containing.{Contains-none, Contains-slice_get, number_of}

@@ -1,3 +1,4 @@
 pub mod Runs
+pub mod RectSides
 -- what only this crate's proofs and private contracts cite
 pub mod inside

@@ -1,7 +1,6 @@
 -- lists of rectangles that have the same cells, and that have none in common
 use Rattle.std.specs.Prelude.{ℕ, List, AllPairs, ◌<◌, ◌≤ℤ◌, ◌↔◌}
-use Rattle.geo_core.specs.Cells.{Has, Overlap}
-use Rattle.geo_core.specs.Unions.{HasNumber, IsInUnion}
+use Rattle.geo_core.specs.Plane.{Has, Overlap, HasNumber, IsInUnion}
 use Rattle.geo_core.specs.declared.plane.Cell.{Cell}
 use Rattle.geo_core.specs.declared.plane.Rect.{Rect}
 

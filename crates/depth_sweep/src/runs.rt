@@ -1,4 +1,4 @@
-ghost use Rattle.std.specs.Prelude.{IfOk};
+ghost use Rattle.std.specs.Prelude.{◌≤◌, IfOk, IfSome, length};
 ghost use Rattle.std.specs.List.Sorted.{IsPermutation};
 ghost use Rattle.depth_sweep.specs.Runs.{AreApart, AreByRow, HaveCellsOfTwo, HaveSameCells};
 
@@ -48,4 +48,42 @@ fn by_row(alloc: Global, rects: &[Rect]) -> Result<Vec<Rect>, AllocError>
     let mut sorted = Vec::from_slice(alloc, rects)?;
     sorted.sort_unstable_by_key(|rect| rect.y0);
     Ok(sorted)
+}
+
+/// How many looks at active rectangles are taken for each rectangle before its list is left as it is.
+const LOOKS_EACH: usize = 8;
+
+/// Rectangles that together have the cells of these, and are no more.
+///
+/// They are rectangles without common cells where these are no more and are found with few looks, and else those of the
+/// list. So equal and nested rectangles become one, and a mesh, which falls into as many rectangles as it has holes, stays
+/// as it is. Their order is left open. The only error is that no memory is left.
+pub fn merge_rects(alloc: Global, rects: &[Rect]) -> Result<Vec<Rect>, NoMemory>
+    ensures same { IfOk result (λ merged. HaveSameCells rects.now merged.items) }
+    ensures few { IfOk result (λ merged. length merged.items ≤ length rects.now) }
+{
+    let most = rects.len().saturating_mul(LOOKS_EACH);
+    if let Some(runs) = runs_within(alloc, rects, most)? {
+        if runs.len() <= rects.len() {
+            return Ok(runs);
+        }
+    }
+    Ok(Vec::from_slice(alloc, rects)?)
+}
+
+/// Rectangles without common cells that together have the cells of these, if no more looks are taken.
+fn runs_within(alloc: Global, rects: &[Rect], most: usize) -> Result<Option<Vec<Rect>>, NoMemory>
+    ensures { IfOk result (λ found. IfSome found (λ runs. HaveSameCells rects.now runs.items)) }
+{
+    let sorted = by_row(alloc, rects)?;
+    let mut skyline = Skyline::new(alloc);
+    let mut left = most;
+    for rect in sorted.as_slice() {
+        let looks = skyline.add(*rect)?;
+        if looks > left {
+            return Ok(None);
+        }
+        left -= looks;
+    }
+    Ok(Some(skyline.finish()?))
 }

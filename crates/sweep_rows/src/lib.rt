@@ -3,4 +3,6 @@
 #![tactic(auto)]
 
 #[cfg(test)]
+mod area_rows;
+#[cfg(test)]
 mod tree_rows;

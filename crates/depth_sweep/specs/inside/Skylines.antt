@@ -2,9 +2,7 @@
 use Rattle.std.specs.Prelude.{ℤ, List, All, Contains, Some, ◌++◌, ◌∷◌, [], ◌≤ℤ◌, ◌<ℤ◌, ◌≡◌, ◌⊎◌, ◌↔◌}
 use Rattle.std.specs.BTreeMap.{get}
 use Rattle.std.specs.Ordering.{int_cmp}
-use Rattle.geo_core.specs.Cells.{Has}
-use Rattle.geo_core.specs.Intervals.{IsIn}
-use Rattle.geo_core.specs.Unions.{IsInUnion}
+use Rattle.geo_core.specs.Plane.{Has, IsIn, IsInUnion}
 use Rattle.geo_core.specs.declared.plane.Cell.{Cell}
 use Rattle.geo_core.specs.declared.plane.Rect.{Rect}
 use Rattle.depth_sweep.specs.Runs.{AreApart}

@@ -1,7 +1,7 @@
 -- a range that misses the part changes nothing; one that has all of it changes its highest node; and else its halves are
 -- changed one after the other, and the highest node gets its widths anew
 use Rattle.std.proofs.Common.{◌<◌, ◌+◌, ◌∙◌, ◌⊎◌, arith, rules, inl, inr, ap, sym, subst}
-use Rattle.std.proofs.lemmas.Bool.{cases_lt}
+use Rattle.lists.proofs.Words.{cases_lt}
 use Rattle.cover_tree.specs.TreeNodes.{node_over, times_in_cut}
 use Rattle.cover_tree.specs.TreeParts.{MayChange, IsChangedBy, row_node}
 use Rattle.geo_core.specs.declared.counts.Node.{Node}

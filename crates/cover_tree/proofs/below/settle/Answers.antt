@@ -1,8 +1,6 @@
 -- what is written is what the part's columns have by the count and by what its halves have
-use Rattle.std.proofs.Common.{arith, rules}
-use Rattle.std.specs.Prelude.{FitsSigned}
-use Rattle.std.specs.Int.{w64}
-use Rattle.std.proofs.lemmas.Int.{ints, to_z-of_z}
+use Rattle.std.proofs.Common.{arith, rules, FitsSigned, w64}
+use Rattle.lists.proofs.Words.{ints, to_z-of_z}
 use Rattle.cover_tree.proofs.PartLaws.{number_fits}
 use Rattle.cover_tree.proofs.WidthLaws.{widths_written}
 use Rattle.cover_tree.proofs.below.settle.Goals as goal

@@ -1,8 +1,6 @@
-use Rattle.std.proofs.Common.{Global, Vec, subst, sym}
-use Rattle.std.proofs.lemmas.Result.{IfOk-weaker}
-use Rattle.std.specs.List.Sorted.{IsPermutation}
-use Rattle.std.specs.Prelude.{List, ◌↔◌}
-use Rattle.geo_core.specs.Unions.{IsInUnion}
+use Rattle.std.proofs.Common.{Global, Vec, subst, sym, List, ◌↔◌}
+use Rattle.lists.proofs.Words.{IfOk-weaker, IsPermutation}
+use Rattle.geo_core.specs.Plane.{IsInUnion}
 use Rattle.geo_core.specs.declared.plane.Cell.{Cell}
 use Rattle.geo_core.specs.declared.plane.Rect.{Rect}
 use Rattle.depth_sweep.specs.Runs.{AreByRow, HaveSameCells}

@@ -1,5 +1,5 @@
 use Rattle.std.proofs.Common.{arith}
-use Rattle.std.proofs.lemmas.Int.{ints}
+use Rattle.lists.proofs.Words.{ints}
 use Rattle.cover_tree.proofs.Totals.{width_across}
 use Rattle.cover_tree.proofs.columns.Columns.width.Goals as goal
 

@@ -1,8 +1,6 @@
 -- the widths of the root are those of the columns
-use Rattle.std.proofs.Common.{rules, ap, ◌∙◌}
-use Rattle.std.specs.Prelude.{pos, FitsSigned}
-use Rattle.std.specs.Int.{w64}
-use Rattle.std.proofs.lemmas.Int.{to_z-of_z}
+use Rattle.std.proofs.Common.{rules, ap, ◌∙◌, pos, FitsSigned, w64}
+use Rattle.lists.proofs.Words.{to_z-of_z}
 use Rattle.cover_tree.specs.CoverTrees.{width_of_depth}
 use Rattle.cover_tree.proofs.RowLaws.{width_is_whole}
 use Rattle.cover_tree.proofs.tree.CoverTree.twice.Goals as goal

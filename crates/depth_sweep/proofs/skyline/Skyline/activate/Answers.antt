@@ -1,6 +1,5 @@
-use Rattle.std.proofs.Common.{arith}
-use Rattle.std.proofs.lemmas.Int.{ints}
-use Rattle.std.specs.Prelude.{Some}
+use Rattle.std.proofs.Common.{arith, Some}
+use Rattle.lists.proofs.Words.{ints}
 use Rattle.depth_sweep.proofs.Entries.{changes_from_updates}
 use Rattle.depth_sweep.proofs.Primitives.{activated}
 use Rattle.depth_sweep.proofs.skyline.Skyline.activate.Goals as goal

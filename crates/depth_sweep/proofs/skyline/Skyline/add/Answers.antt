@@ -1,5 +1,5 @@
 use Rattle.std.proofs.Common.{arith}
-use Rattle.std.proofs.lemmas.Int.{ints}
+use Rattle.lists.proofs.Words.{ints}
 use Rattle.depth_sweep.proofs.Adding.{all_added, room_above}
 use Rattle.depth_sweep.proofs.Resting.{activates_at, less_room}
 use Rattle.depth_sweep.proofs.skyline.Skyline.add.Goals as goal

@@ -1,5 +1,5 @@
 use Rattle.std.proofs.Common.{arith}
-use Rattle.std.proofs.lemmas.Int.{ints}
+use Rattle.lists.proofs.Words.{ints}
 use Rattle.depth_sweep.proofs.Adding.{added_at, added_free, added_more, free_from_behind, free_from_none, next_active}
 use Rattle.depth_sweep.proofs.skyline.Skyline.add_over.Goals as goal
 

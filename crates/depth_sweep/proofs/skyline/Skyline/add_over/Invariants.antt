@@ -1,4 +1,4 @@
-use Rattle.std.specs.Prelude.{◌+ℤ◌, unsigned_abs}
+use Rattle.std.proofs.Common.{◌+ℤ◌, unsigned_abs}
 use Rattle.geo_core.specs.declared.bounds.TheConstants.{FARTHEST_GROWN}
 use Rattle.depth_sweep.specs.inside.Skylines.{IsAddedTo}
 use Rattle.depth_sweep.proofs.skyline.Skyline.add_over.Given as goal

@@ -1,5 +1,5 @@
 use Rattle.std.proofs.Common.{arith}
-use Rattle.std.proofs.lemmas.Int.{ints}
+use Rattle.lists.proofs.Words.{ints}
 use Rattle.depth_sweep.proofs.Commons.{all_common, common_done, common_more}
 use Rattle.depth_sweep.proofs.skyline.Skyline.common.Goals as goal
 

@@ -1,4 +1,4 @@
-use Rattle.std.specs.BTreeMap.{btree_map_len}
+use Rattle.lists.proofs.Words.{btree_map_len}
 use Rattle.depth_sweep.proofs.Finishing.{IsFinishing}
 use Rattle.depth_sweep.proofs.skyline.Skyline.finish.Given as goal
 

@@ -1,6 +1,5 @@
 use Rattle.std.proofs.Common.{arith}
-use Rattle.std.proofs.lemmas.Int.{ints, to_z-of_z}
-use Rattle.std.proofs.lemmas.Result.{on_ok_weaker}
+use Rattle.lists.proofs.Words.{ints, to_z-of_z, on_ok_weaker}
 use Rattle.depth_sweep.proofs.Resting.{IsLowerPart, lower_finished, lower_interval, none_lower, room_lower}
 use Rattle.depth_sweep.proofs.skyline.Skyline.finish_lower.Goals as goal
 

@@ -1,5 +1,5 @@
 use Rattle.std.proofs.Common.{arith}
-use Rattle.std.proofs.lemmas.Int.{ints}
+use Rattle.lists.proofs.Words.{ints}
 use Rattle.depth_sweep.proofs.Joining.{both_abutting, joined}
 use Rattle.depth_sweep.proofs.skyline.Skyline.joined_left.Goals as goal
 

@@ -1,5 +1,5 @@
 use Rattle.std.proofs.Common.{arith, sym, ◌∙◌, ◌≡◌}
-use Rattle.std.proofs.lemmas.Int.{ints}
+use Rattle.lists.proofs.Words.{ints}
 use Rattle.depth_sweep.proofs.Joining.{both_abutting, both_turned, joined}
 use Rattle.depth_sweep.proofs.skyline.Skyline.joined_right.Goals as goal
 

@@ -1,6 +1,5 @@
 use Rattle.std.proofs.Common.{arith}
-use Rattle.std.proofs.lemmas.Int.{ints}
-use Rattle.std.proofs.lemmas.Result.{on_ok_weaker}
+use Rattle.lists.proofs.Words.{ints, on_ok_weaker}
 use Rattle.depth_sweep.proofs.Joining.{none_activated, part_activated, room_of_part}
 use Rattle.depth_sweep.proofs.skyline.Skyline.keep.Goals as goal
 

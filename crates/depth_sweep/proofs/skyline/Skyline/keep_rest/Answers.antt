@@ -1,7 +1,5 @@
-use Rattle.std.proofs.Common.{arith, subst, w32}
-use Rattle.std.proofs.lemmas.Int.{ints, to_z-of_z}
-use Rattle.std.proofs.lemmas.Result.{on_ok_weaker}
-use Rattle.std.specs.Prelude.{ℤ}
+use Rattle.std.proofs.Common.{arith, subst, w32, ℤ}
+use Rattle.lists.proofs.Words.{ints, to_z-of_z, on_ok_weaker}
 use Rattle.depth_sweep.proofs.Resting.{activates_at, all_kept, clear_between, less_room, rest_kept, room_between, room_right_of}
 use Rattle.depth_sweep.specs.inside.Skylines.{FinishesLower}
 use Rattle.depth_sweep.proofs.skyline.Skyline.keep_rest.Goals as goal

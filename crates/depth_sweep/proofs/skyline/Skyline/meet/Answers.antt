@@ -1,6 +1,5 @@
-use Rattle.std.proofs.Common.{arith, subst, sym, w32}
-use Rattle.std.proofs.lemmas.Int.{ints, to_z-of_z}
-use Rattle.std.specs.Prelude.{ℤ}
+use Rattle.std.proofs.Common.{arith, subst, sym, w32, ℤ}
+use Rattle.lists.proofs.Words.{ints, to_z-of_z}
 use Rattle.depth_sweep.proofs.Adding.{met_over, met_under, room_above}
 use Rattle.depth_sweep.proofs.Resting.{activates_at, less_room}
 use Rattle.depth_sweep.specs.inside.Skylines.{IsAddedTo, KeepsRest}

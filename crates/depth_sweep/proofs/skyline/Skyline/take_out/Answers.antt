@@ -1,6 +1,5 @@
-use Rattle.std.proofs.Common.{arith}
-use Rattle.std.proofs.lemmas.Int.{ints}
-use Rattle.std.specs.Prelude.{None}
+use Rattle.std.proofs.Common.{arith, None}
+use Rattle.lists.proofs.Words.{ints}
 use Rattle.depth_sweep.proofs.Entries.{changes_from_updates}
 use Rattle.depth_sweep.proofs.Primitives.{taken_out}
 use Rattle.depth_sweep.proofs.skyline.Skyline.take_out.Goals as goal

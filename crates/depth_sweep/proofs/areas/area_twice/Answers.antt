@@ -1,0 +1,15 @@
+use Rattle.lists.proofs.Words.{IfOk-weaker}
+use Rattle.depth_sweep.specs.Runs.{IsInTwo}
+use Rattle.fault_model.specs.FaultNames.{Tally, cells_of}
+use Rattle.fault_model.proofs.TallyLaws.{Tally-same_all}
+use Rattle.depth_sweep.specs.inside.Depths.{IsDeep}
+use Rattle.depth_sweep.proofs.Depths.{twice_is}
+use Rattle.depth_sweep.proofs.StepLaws.{none_taken}
+use Rattle.depth_sweep.proofs.areas.area_twice.Goals as goal
+
+pub returns-clause-tally : goal.returns-clause-tally
+returns-clause-tally g c = IfOk-weaker c.area.result (λ n. Tally (IsDeep c.args.rects.now 2) (cells_of c.args.window) n) (λ n. Tally (IsInTwo c.args.rects.now) (cells_of c.args.window) n)
+    (λ n t. Tally-same_all (cells_of c.args.window) n (λ cell. twice_is cell c.args.rects.now) t) c.area.ensures.tally
+
+pub returns-clause-no_steps : goal.returns-clause-no_steps
+returns-clause-no_steps g c = λ e. none_taken c.args.rects.now _ _ e c.area.ensures.steps_rise c.area.ensures.few_steps

@@ -1,0 +1,21 @@
+use Rattle.std.proofs.Common.{List, subst, sym}
+use Rattle.lists.proofs.Words.{IsPermutation}
+use Rattle.geo_core.specs.declared.plane.Rect.{Rect}
+use Rattle.depth_sweep.specs.Runs.{AreByRow}
+use Rattle.depth_sweep.proofs.Covering.{union_begun, union_next}
+use Rattle.depth_sweep.proofs.TwiceCovering.{same_cells}
+use Rattle.depth_sweep.proofs.runs.runs_within.Goals as goal
+
+pub loop-rect-init : goal.loop-rect-init
+loop-rect-init c = union_begun c.new-skyline.result c.as_slice-rect-items.result.now c.new-skyline.ensures.sound c.new-skyline.ensures.below c.new-skyline.ensures.none
+
+pub loop-rect-preserved : goal.loop-rect-preserved
+loop-rect-preserved c = union_next c.loop-rect.skyline c.add.new.self c.as_slice-rect-items.result.now c.loop-rect.rect-index c.rect-item.result
+    (subst AreByRow (sym c.as_slice-rect-items.ensures.value) c.in_ok-sorted.ensures.ordered) c.loop-rect-test.true c.rect-item.is
+    c.loop-rect.invariant c.in_ok-looks.ensures.sound c.in_ok-looks.ensures.below c.in_ok-looks.ensures.cells
+
+pub returns : goal.returns
+returns c =
+    let moved = subst (λ (xs : List Rect). IsPermutation c.args.rects.now xs) (sym c.as_slice-rect-items.ensures.value) c.in_ok-sorted.ensures.same in
+    same_cells c.loop-rect.skyline c.args.rects.now c.as_slice-rect-items.result.now c.in_ok-finish.field-0.items c.loop-rect.rect-index c.loop-rect-test.false moved
+    c.loop-rect.invariant c.in_ok-finish.ensures.cells

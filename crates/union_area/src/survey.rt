@@ -1,0 +1,200 @@
+use super::windows::{half_way, halved_along, parts_at};
+use geo_core::{Axis, Interval, Rect};
+use std::marker::Model;
+
+/// Where so many broad rectangles lie over the middle, parts of the window are soon covered whole.
+const MANY_BROAD: usize = 8;
+
+/// No more than one rectangle of so many is to lie on both sides of where the window is parted.
+const TO_EACH_ACROSS: usize = 8;
+
+/// The middle of places along an axis, and what lies near it.
+#[derive(Clone, Copy)]
+struct Middle {
+    places: Interval,
+    at: i32,
+    /// How many rectangles lie on both sides.
+    across: usize,
+    /// An edge of a rectangle, of which none is nearer.
+    edge: i32,
+}
+
+/// How rectangles lie in a window, by which it is decided where to part it. Any decision is right, and all of this is
+/// for speed. Contracts see the window.
+#[derive(Drop)]
+pub struct Survey {
+    window: Rect,
+    count: usize,
+    columns: Middle,
+    rows: Middle,
+    broad: usize,
+}
+
+impl Model for Survey {
+    ghost use Rattle.geo_core.specs.declared.plane.Rect.{Rect};
+
+    ghost Value = { Rect };
+
+    ghost view = { λ survey. survey.window };
+}
+
+/// How far the place is from the middle of the places, twice.
+fn distance_from_middle(places: Interval, place: i32) -> u64 {
+    let middle = i64::from(places.low) + i64::from(places.high);
+    (2 * i64::from(place)).abs_diff(middle)
+}
+
+/// The one of two places that is nearer to the middle.
+fn nearer(places: Interval, place: i32, other: i32) -> i32 {
+    if distance_from_middle(places, other) < distance_from_middle(places, place) {
+        return other;
+    }
+    place
+}
+
+/// One more where something is so.
+fn more_if(is_so: bool, count: usize) -> usize {
+    if is_so {
+        return count.saturating_add(1);
+    }
+    count
+}
+
+/// Whether neither side is longer than four times the other.
+fn is_broad(rect: Rect) -> bool {
+    let width = u64::from(rect.x1.abs_diff(rect.x0));
+    let height = u64::from(rect.y1.abs_diff(rect.y0));
+    width <= 4 * height && height <= 4 * width
+}
+
+impl Middle {
+    /// The middle of these places.
+    fn of(places: Interval) -> Middle {
+        Middle {
+            places,
+            at: half_way(places),
+            across: 0,
+            edge: places.low,
+        }
+    }
+
+    /// Whether these lie on both sides.
+    fn is_in(self, places: Interval) -> bool {
+        places.low < self.at && self.at < places.high
+    }
+
+    /// The same with these places of one more rectangle.
+    fn with(self, places: Interval) -> Middle {
+        let edge = nearer(self.places, self.edge, places.low);
+        Middle {
+            places: self.places,
+            at: self.at,
+            across: more_if(self.is_in(places), self.across),
+            edge: nearer(self.places, edge, places.high),
+        }
+    }
+}
+
+impl Survey {
+    ghost use Rattle.std.specs.Prelude.{◌≡◌, IfSome};
+    ghost use Rattle.union_area.specs.inside.WindowParts.{AreParts};
+
+    /// Of no rectangles so far.
+    pub fn of(window: Rect) -> Survey
+        ensures { result ≡ window }
+    {
+        Survey {
+            window,
+            count: 0,
+            columns: Middle::of(window.columns()),
+            rows: Middle::of(window.rows()),
+            broad: 0,
+        }
+    }
+
+    /// Looks at one more rectangle, which lies in the window.
+    pub fn add(&mut self, rect: Rect)
+        ensures { self.new ≡ self.old }
+    {
+        let is_over = self.columns.is_in(rect.columns()) && self.rows.is_in(rect.rows());
+        self.count = self.count.saturating_add(1);
+        self.columns = self.columns.with(rect.columns());
+        self.rows = self.rows.with(rect.rows());
+        self.broad = more_if(is_over && is_broad(rect), self.broad);
+    }
+
+    /// Whether many broad rectangles lie over the middle.
+    pub fn has_many_broad(&self) -> bool {
+        MANY_BROAD <= self.broad
+    }
+
+    /// Whether few rectangles lie on both sides of the middle along some axis.
+    pub fn parts_well(&self) -> bool {
+        let across = self.columns.across.min(self.rows.across);
+        across <= self.count / TO_EACH_ACROSS
+    }
+
+    /// Two parts of the window; a single cell has none. The window is halved along the axis on which fewer rectangles
+    /// lie on both sides, if they are few. Else it is parted at the edge of a rectangle that is nearest to the middle of
+    /// its longer side, or of the other one, since rectangles that reach over all of a part soon decide it.
+    pub fn halves(&self) -> Option<(Rect, Rect)>
+        ensures { IfSome result (λ parts. AreParts self.now parts.0 parts.1) }
+    {
+        if self.parts_well() {
+            return self.halved();
+        }
+        let (longer, shorter) = self.longer_first();
+        if let Some(parts) = self.parts_at_edge(longer) {
+            return Some(parts);
+        }
+        if let Some(parts) = self.parts_at_edge(shorter) {
+            return Some(parts);
+        }
+        self.halved()
+    }
+
+    /// Two parts, cut in the middle along one of the axes.
+    fn halved(&self) -> Option<(Rect, Rect)>
+        ensures { IfSome result (λ parts. AreParts self.now parts.0 parts.1) }
+    {
+        let (first, second) = self.clearer_first();
+        match halved_along(self.window, first) {
+            None => halved_along(self.window, second),
+            Some(parts) => Some(parts),
+        }
+    }
+
+    /// Two parts, cut at the edge that is nearest to the middle, where one lies within.
+    fn parts_at_edge(&self, axis: Axis) -> Option<(Rect, Rect)>
+        ensures { IfSome result (λ parts. AreParts self.now parts.0 parts.1) }
+    {
+        let places = self.window.along(axis);
+        let edge = match axis {
+            Axis::X => self.columns.edge,
+            Axis::Y => self.rows.edge,
+        };
+        if edge <= places.low || places.high <= edge {
+            return None;
+        }
+        Some(parts_at(self.window, axis, edge))
+    }
+
+    /// The axis of the window's longer side, and the other one.
+    fn longer_first(&self) -> (Axis, Axis) {
+        if self.window.x1.abs_diff(self.window.x0) < self.window.y1.abs_diff(self.window.y0) {
+            return (Axis::Y, Axis::X);
+        }
+        (Axis::X, Axis::Y)
+    }
+
+    /// The axis on which fewer rectangles lie on both sides of the middle, and the other one.
+    fn clearer_first(&self) -> (Axis, Axis) {
+        if self.columns.across < self.rows.across {
+            return (Axis::X, Axis::Y);
+        }
+        if self.rows.across < self.columns.across {
+            return (Axis::Y, Axis::X);
+        }
+        self.longer_first()
+    }
+}
