@@ -1,22 +1,25 @@
 //! Sixteen metals, joined by cuts in a row or in a ring.
 
-ghost use Rattle.std.specs.Prelude.{◌≡◌, IfOk, length};
+ghost use Rattle.std.specs.Prelude.{◌≡◌, length};
 
-use geo_core::{Rect, RectList};
-use layer_map::read_map;
-use net_extract::{Layers, NetFault, Nets, extract};
+use super::nets::nets_of;
+use super::sides::Sides;
+use net_extract::Nets;
 use std::alloc::{AllocError, Global};
 
-/// A map of the metals `m0` to `m15` and so many cuts, of which each joins a metal to the next one, and the last metal to
-/// the first.
-fn map_text(alloc: Global, cuts: usize) -> Result<String, AllocError> {
-    let mut text = String::from_str(alloc, "version = 1\nradii = [1]\nweights = [1]\n")?;
+/// Appends to a map the metals `m0` to `m15`.
+fn write_metals(text: &mut String) -> Result<(), AllocError> {
     for metal in 0..16usize {
         write!(
             text,
             "[[metal]]\nname = \"m{metal}\"\npairs = [[{metal}, 0]]\n"
         )?;
     }
+    Ok(())
+}
+
+/// Appends so many cuts, of which each joins a metal to the next one, and the last metal to the first.
+fn write_cuts(text: &mut String, cuts: usize) -> Result<(), AllocError> {
     for cut in 0..cuts.min(16) {
         let upper = (cut + 1) % 16;
         write!(
@@ -24,48 +27,40 @@ fn map_text(alloc: Global, cuts: usize) -> Result<String, AllocError> {
             "[[cut]]\nname = \"v{cut}\"\npairs = [[{cut}, 1]]\nlower = \"m{cut}\"\nupper = \"m{upper}\"\n"
         )?;
     }
+    Ok(())
+}
+
+/// A map of 16 metals and so many cuts.
+fn map_text(alloc: Global, cuts: usize) -> Result<String, AllocError> {
+    let mut text = String::from_str(alloc, "version = 1\nradii = [1]\nweights = [1]\n")?;
+    write_metals(&mut text)?;
+    write_cuts(&mut text, cuts)?;
     Ok(text)
 }
 
-/// So many times the same square.
-fn squares(alloc: Global, count: usize) -> Result<RectList, AllocError> {
-    let mut rects = Vec::new(alloc);
-    for _ in 0..count {
-        rects.push(Rect::new(0, 0, 2, 2))?;
-    }
-    Ok(RectList::from_vec(rects))
-}
+/// A square.
+const SQUARE: &[Sides] = &[(0, 0, 2, 2)];
 
-/// The nets of a square on each metal and on each cut but those that are missing.
-fn nets_of(alloc: Global, cuts: usize, missing: &[usize]) -> Result<Nets, NetFault>
-    ensures { IfOk result (λ nets. length nets.pieces ≡ 16) }
-{
-    let mut lists = Vec::new(alloc);
+/// A square on each metal and on each cut but those that are missing.
+fn tables_of(
+    alloc: Global,
+    cuts: usize,
+    missing: &[usize],
+) -> Result<Vec<&'static [Sides]>, AllocError> {
+    let mut tables = Vec::new(alloc);
     for _ in 0..16 {
-        lists.push(squares(alloc, 1)?)?;
+        tables.push(SQUARE)?;
     }
     for cut in 0..cuts.min(16) {
-        let count = if missing.contains(&cut) { 0 } else { 1 };
-        lists.push(squares(alloc, count)?)?;
+        tables.push(if missing.contains(&cut) { &[] } else { SQUARE })?;
     }
-    let text = map_text(alloc, cuts)?;
-    match read_map(alloc, text.as_bytes()) {
-        Ok(map) => {
-            let metals = map.metals.as_slice().len();
-            let cuts = map.cuts.as_slice().len();
-            if metals == 16 && cuts <= 16 && lists.len() == metals + cuts {
-                extract(alloc, &Layers { lists }, &map)
-            } else {
-                Err(NetFault::Memory)
-            }
-        }
-        Err(_) => Err(NetFault::Memory),
-    }
+    Ok(tables)
 }
 
 /// How many of the metals are of one net with the first. There is one island on each, and no number is of two islands.
-fn of_one_net(alloc: Global, cuts: usize, missing: &[usize]) -> Result<usize, NetFault> {
-    let nets = nets_of(alloc, cuts, missing)?;
+fn with_the_first(nets: &Nets) -> usize
+    requires { length nets.now.pieces ≡ 16 }
+{
     let mut count = 0usize;
     for metal in 0..16 {
         if let (Some(first), Some(piece)) = (nets.pieces(0).first(), nets.pieces(metal).first()) {
@@ -74,7 +69,17 @@ fn of_one_net(alloc: Global, cuts: usize, missing: &[usize]) -> Result<usize, Ne
             }
         }
     }
-    Ok(count)
+    count
+}
+
+/// How many they are where so many cuts join them, of which these are missing.
+fn of_one_net(alloc: Global, cuts: usize, missing: &[usize]) -> Option<usize> {
+    let text = map_text(alloc, cuts).ok()?;
+    let tables = tables_of(alloc, cuts, missing).ok()?;
+    match nets_of(alloc, text.as_str(), 16, cuts, tables.as_slice()) {
+        Ok(nets) => Some(with_the_first(&nets)),
+        Err(_) => None,
+    }
 }
 
 /// How many cuts there are, which of them are empty, and how many metals are then of one net with the first.
@@ -94,7 +99,7 @@ const CHAINS: &[(usize, &[usize], usize)] = &[
 fn metals_are_joined_through_chains_of_cuts(rt: HostRuntime) {
     for (cuts, missing, wanted) in CHAINS {
         assert!(rt;
-            of_one_net(rt.alloc(), *cuts, missing) == Ok(*wanted),
+            of_one_net(rt.alloc(), *cuts, missing) == Some(*wanted),
             "{cuts} {missing:?}"
         );
     }

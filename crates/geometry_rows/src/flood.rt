@@ -1,6 +1,7 @@
 //! What hangs together on a small field, cell by cell: each cell takes the least number of its neighbours, again and
 //! again.
 
+use super::sides::Sides;
 use geo_core::Rect;
 use std::alloc::{AllocError, Global};
 
@@ -10,73 +11,88 @@ pub const SIDE: usize = 12;
 /// How many cells the field has.
 pub const AREA: usize = 144;
 
-/// Whether one of the rectangles has the cell with this number. Cells are numbered row by row from the lowest.
-pub fn is_covered(rects: &[Rect], cell: usize) -> bool {
+/// Whether the rectangle has the cell with this number. Cells are numbered row by row from the lowest.
+pub fn has(sides: Sides, cell: usize) -> bool {
     let cell = cell % AREA;
     let i = (cell % SIDE) as i32;
     let j = (cell / SIDE) as i32;
-    for rect in rects {
-        if rect.x0 <= i && i < rect.x1 && rect.y0 <= j && j < rect.y1 {
+    sides.0 <= i && i < sides.2 && sides.1 <= j && j < sides.3
+}
+
+/// Whether one of the rectangles has the cell.
+pub fn is_covered(table: &[Sides], cell: usize) -> bool {
+    for sides in table {
+        if has(*sides, cell) {
             return true;
         }
     }
     false
 }
 
-/// The number of a cell of this metal among the cells of all metals.
-fn place_at(metal: u8, cell: usize) -> usize {
-    usize::from(metal) * AREA + cell % AREA
-}
-
-/// The number of the lower left cell of a rectangle of this metal among the cells of all metals.
-pub fn place_of(metal: u8, rect: Rect) -> usize {
-    let x = rect.x0.clamp(0, 11) as usize;
-    let y = rect.y0.clamp(0, 11) as usize;
-    place_at(metal, y * SIDE + x)
-}
-
-/// Adds the pairs of cells of a metal that share an edge, where the rectangles have both.
-pub fn add_edges(
-    metal: u8,
-    rects: &[Rect],
-    joins: &mut Vec<(usize, usize)>,
-) -> Result<(), AllocError> {
-    for cell in 0..AREA {
-        if !is_covered(rects, cell) {
-            continue;
-        }
-        if cell % SIDE + 1 < SIDE && is_covered(rects, cell + 1) {
-            joins.push((place_at(metal, cell), place_at(metal, cell + 1)))?;
-        }
-        if cell + SIDE < AREA && is_covered(rects, cell + SIDE) {
-            joins.push((place_at(metal, cell), place_at(metal, cell + SIDE)))?;
-        }
-    }
-    Ok(())
-}
-
-/// Whether the rectangles of each of the three lists have the cell.
-pub fn is_in_all(lists: [&[Rect]; 3], cell: usize) -> bool {
-    for rects in lists {
-        if !is_covered(rects, cell) {
+/// Whether the rectangles of each table have the cell.
+pub fn is_in_all(tables: &[&[Sides]], cell: usize) -> bool {
+    for table in tables {
+        if !is_covered(table, cell) {
             return false;
         }
     }
     true
 }
 
-/// Adds the pairs of the same cell on the metals 0 and 1, where all three lists have it: those of both metals and of
-/// the cut between them.
-pub fn add_contacts(
-    lists: [&[Rect]; 3],
+/// The number of a cell of one of two metals among the cells of both.
+fn place_at(metal: usize, cell: usize) -> usize {
+    metal % 2 * AREA + cell % AREA
+}
+
+/// The number of the lower left cell of a rectangle of this metal among the cells of both metals.
+pub fn place_of(metal: usize, rect: Rect) -> usize {
+    let x = rect.x0.clamp(0, 11) as usize;
+    let y = rect.y0.clamp(0, 11) as usize;
+    place_at(metal, y * SIDE + x)
+}
+
+/// Adds the pairs of cells of a metal that share an edge, where the rectangles have both.
+fn add_edges(
+    metal: usize,
+    table: &[Sides],
     joins: &mut Vec<(usize, usize)>,
 ) -> Result<(), AllocError> {
     for cell in 0..AREA {
-        if is_in_all(lists, cell) {
-            joins.push((place_at(0, cell), place_at(1, cell)))?;
+        if !is_covered(table, cell) {
+            continue;
+        }
+        if cell % SIDE + 1 < SIDE && is_covered(table, cell + 1) {
+            joins.push((place_at(metal, cell), place_at(metal, cell + 1)))?;
+        }
+        if cell + SIDE < AREA && is_covered(table, cell + SIDE) {
+            joins.push((place_at(metal, cell), place_at(metal, cell + SIDE)))?;
         }
     }
     Ok(())
+}
+
+/// The pairs of cells that share an edge, on each of these metals.
+pub fn edges(alloc: Global, metals: &[&[Sides]]) -> Result<Vec<(usize, usize)>, AllocError> {
+    let mut joins = Vec::new(alloc);
+    for (metal, table) in metals.iter().enumerate() {
+        add_edges(metal, table, &mut joins)?;
+    }
+    Ok(joins)
+}
+
+/// These pairs and those of the same cell on both metals, where all three tables have it: those of both metals and of the
+/// cut between them.
+pub fn edges_and_contacts(
+    alloc: Global,
+    tables: &[&[Sides]; 3],
+) -> Result<Vec<(usize, usize)>, AllocError> {
+    let mut joins = edges(alloc, &tables[..2])?;
+    for cell in 0..AREA {
+        if is_in_all(tables, cell) {
+            joins.push((place_at(0, cell), place_at(1, cell)))?;
+        }
+    }
+    Ok(joins)
 }
 
 /// Gives both of each pair the lesser one of their labels.
@@ -91,19 +107,19 @@ fn pass_on(labels: &mut [usize], joins: &[(usize, usize)]) {
 }
 
 /// A label for each cell of two metals, the same where pairs lead from the one cell to the other.
-pub fn flooded(alloc: Global, joins: &[(usize, usize)]) -> Result<Vec<usize>, AllocError> {
+fn flooded(alloc: Global, joins: &[(usize, usize)]) -> Result<Vec<usize>, AllocError> {
     let mut labels = Vec::new(alloc);
     for place in 0..2 * AREA {
         labels.push(place)?;
     }
     for _ in 0..2 * AREA {
-        pass_on(&mut labels, joins);
+        pass_on(labels.as_mut_slice(), joins);
     }
     Ok(labels)
 }
 
 /// Whether any two of the numbered places have the same number exactly where they have the same label.
-pub fn agree(numbered: &[(usize, usize)], labels: &[usize]) -> bool {
+fn agree(numbered: &[(usize, usize)], labels: &[usize]) -> bool {
     for (place, number) in numbered {
         for (other_place, other_number) in numbered {
             let same_label = labels.get(*place) == labels.get(*other_place);
@@ -113,4 +129,25 @@ pub fn agree(numbered: &[(usize, usize)], labels: &[usize]) -> bool {
         }
     }
     true
+}
+
+/// The same with the labels of a flood over these pairs.
+fn agree_over(alloc: Global, numbered: &[(usize, usize)], joins: &[(usize, usize)]) -> bool {
+    match flooded(alloc, joins) {
+        Ok(labels) => agree(numbered, labels.as_slice()),
+        Err(_) => false,
+    }
+}
+
+/// Whether there are numbered places, any two of which have the same number exactly where pairs lead from the one to
+/// the other.
+pub fn agree_with(
+    alloc: Global,
+    numbered: Option<Vec<(usize, usize)>>,
+    joins: Result<Vec<(usize, usize)>, AllocError>,
+) -> bool {
+    match (numbered, joins) {
+        (Some(numbered), Ok(joins)) => agree_over(alloc, numbered.as_slice(), joins.as_slice()),
+        _ => false,
+    }
 }

@@ -1,15 +1,15 @@
 use super::flood::{
-    AREA, add_contacts, add_edges, agree, flooded, is_covered, is_in_all, place_of,
+    AREA, agree_with, edges, edges_and_contacts, has, is_covered, is_in_all, place_of,
 };
-use super::net_rows::{Shapes, nets_of};
-use super::sides::{Sides, rects_of};
-use geo_core::{NoMemory, Rect};
+use super::net_rows::{Shapes, nets_with};
+use super::sides::{Sides, rects_of, sides_of};
+use geo_core::Rect;
 use islands::label;
-use net_extract::{ContactPiece, NetFault, Nets, Piece};
+use net_extract::{ContactPiece, Piece};
 use std::alloc::{AllocError, Global};
 
 /// One of many rectangles of the field, at most `longest` columns and rows long. Other seeds give others.
-fn scattered(seed: usize, number: usize, longest: usize) -> Rect {
+fn scattered(seed: usize, number: usize, longest: usize) -> Sides {
     let seed = seed % 100;
     let number = number % 100;
     let longest = longest.clamp(1, 4);
@@ -17,7 +17,7 @@ fn scattered(seed: usize, number: usize, longest: usize) -> Rect {
     let y = ((number * 53 + seed * 29) % 9) as i32;
     let width = ((number * 11 + seed * 5) % longest) as i32 + 1;
     let height = ((number * 17 + seed * 3) % longest) as i32 + 1;
-    Rect::new(x, y, x + width, y + height)
+    (x, y, x + width, y + height)
 }
 
 /// So many of them.
@@ -26,25 +26,51 @@ fn field(
     seed: usize,
     count: usize,
     longest: usize,
-) -> Result<Vec<Rect>, AllocError> {
-    let mut rects = Vec::new(alloc);
+) -> Result<Vec<Sides>, AllocError> {
+    let mut table = Vec::new(alloc);
     for number in 0..count {
-        rects.push(scattered(seed, number, longest))?;
+        table.push(scattered(seed, number, longest))?;
     }
-    Ok(rects)
+    Ok(table)
+}
+
+/// The places of the rectangles with their labels.
+fn places_with(
+    alloc: Global,
+    rects: &[Rect],
+    labels: &[usize],
+) -> Result<Vec<(usize, usize)>, AllocError> {
+    let mut numbered = Vec::new(alloc);
+    for (rect, label) in rects.iter().zip(labels) {
+        numbered.push((place_of(0, *rect), *label))?;
+    }
+    Ok(numbered)
+}
+
+/// The same, with the labels that the rectangles have.
+fn labelled(alloc: Global, rects: &[Rect]) -> Option<Vec<(usize, usize)>> {
+    match label(alloc, rects) {
+        Ok(labels) => {
+            if labels.len() == rects.len() {
+                places_with(alloc, rects, labels.as_slice()).ok()
+            } else {
+                None
+            }
+        }
+        Err(_) => None,
+    }
 }
 
 /// Whether the labels of the rectangles are those of a flood.
-fn labels_agree(alloc: Global, rects: &[Rect]) -> Result<bool, NoMemory> {
-    let labels = label(alloc, rects)?;
-    let mut numbered = Vec::new(alloc);
-    for (rect, label) in rects.iter().zip(&labels) {
-        numbered.push((place_of(0, *rect), *label))?;
+fn labels_agree(alloc: Global, table: &[Sides]) -> bool {
+    match rects_of(alloc, table) {
+        Some(rects) => agree_with(
+            alloc,
+            labelled(alloc, rects.as_slice()),
+            edges(alloc, &[table]),
+        ),
+        None => false,
     }
-    let mut joins = Vec::new(alloc);
-    add_edges(0, rects, &mut joins)?;
-    let flooded = flooded(alloc, &joins)?;
-    Ok(labels.len() == rects.len() && agree(&numbered, &flooded))
 }
 
 /// Layouts of one kind each.
@@ -94,62 +120,83 @@ const LAYOUTS: &[&[Sides]] = &[
     &[],
 ];
 
-/// Whether the labels of each layout agree, and those of scattered rectangles, too.
-fn all_labels_agree(alloc: Global) -> Option<bool> {
-    for sides in LAYOUTS {
-        let rects = rects_of(alloc, sides)?;
-        if !labels_agree(alloc, &rects).ok()? {
-            return Some(false);
-        }
+/// Whether the labels of scattered rectangles agree.
+fn scattered_labels_agree(alloc: Global, seed: usize) -> bool {
+    match field(alloc, seed, 6 + seed % 24, 1 + seed % 4) {
+        Ok(table) => labels_agree(alloc, table.as_slice()),
+        Err(_) => false,
     }
-    for seed in 0..24 {
-        let rects = field(alloc, seed, 6 + seed, 1 + seed % 4).ok()?;
-        if !labels_agree(alloc, &rects).ok()? {
-            return Some(false);
-        }
-    }
-    Some(true)
 }
 
 #[test]
 fn labels_agree_with_a_flood(rt: HostRuntime) {
-    assert!(rt; all_labels_agree(rt.alloc()) == Some(true));
+    for (number, table) in LAYOUTS.iter().enumerate() {
+        assert!(rt; labels_agree(rt.alloc(), table), "layout {number}");
+    }
+    for seed in 0..24 {
+        assert!(rt; scattered_labels_agree(rt.alloc(), seed), "seed {seed}");
+    }
 }
 
-/// Adds the pieces of a metal with their islands and with their nets.
+/// Adds the places of the pieces of a metal, each with its island or with its net.
 fn add_numbered(
-    metal: u8,
+    metal: usize,
     pieces: &[Piece],
-    islands: &mut Vec<(usize, usize)>,
-    nets: &mut Vec<(usize, usize)>,
+    are_nets: bool,
+    numbered: &mut Vec<(usize, usize)>,
 ) -> Result<(), AllocError> {
     for piece in pieces {
-        islands.push((place_of(metal, piece.rect), piece.island))?;
-        nets.push((place_of(metal, piece.rect), piece.net))?;
+        let number = if are_nets { piece.net } else { piece.island };
+        numbered.push((place_of(metal, piece.rect), number))?;
     }
     Ok(())
 }
 
+/// The places of the pieces of both metals, each with its island or with its net.
+fn numbered(
+    alloc: Global,
+    lower: &[Piece],
+    upper: &[Piece],
+    are_nets: bool,
+) -> Result<Vec<(usize, usize)>, AllocError> {
+    let mut numbered = Vec::new(alloc);
+    add_numbered(0, lower, are_nets, &mut numbered)?;
+    add_numbered(1, upper, are_nets, &mut numbered)?;
+    Ok(numbered)
+}
+
+/// Whether the islands of the pieces are those of a flood over edges.
+fn islands_agree(alloc: Global, lower: &[Piece], upper: &[Piece], shapes: &Shapes) -> bool {
+    let islands = numbered(alloc, lower, upper, false).ok();
+    agree_with(alloc, islands, edges(alloc, &shapes[..2]))
+}
+
+/// Whether their nets are those of a flood over edges and contacts.
+fn nets_agree(alloc: Global, lower: &[Piece], upper: &[Piece], shapes: &Shapes) -> bool {
+    let nets = numbered(alloc, lower, upper, true).ok();
+    agree_with(alloc, nets, edges_and_contacts(alloc, shapes))
+}
+
 /// Whether the pieces have all cells of the rectangles, and no others.
-fn have_cells(pieces: &[Piece], rects: &[Rect]) -> bool {
+fn have_cells(pieces: &[Piece], table: &[Sides]) -> bool {
     for cell in 0..AREA {
         let mut found = false;
         for piece in pieces {
-            found = found || is_covered(&[piece.rect], cell);
+            found = found || has(sides_of(piece.rect), cell);
         }
-        if found != is_covered(rects, cell) {
+        if found != is_covered(table, cell) {
             return false;
         }
     }
     true
 }
 
-/// Whether the contact pieces have all cells that all three lists have, and no others.
-fn contacts_have_cells(contacts: &[ContactPiece], shapes: Shapes) -> bool {
+/// Whether the contact pieces have all cells that all three tables have, and no others.
+fn contacts_have_cells(contacts: &[ContactPiece], shapes: &Shapes) -> bool {
     for cell in 0..AREA {
         let mut found = false;
         for contact in contacts {
-            found = found || is_covered(&[contact.rect], cell);
+            found = found || has(sides_of(contact.rect), cell);
         }
         if found != is_in_all(shapes, cell) {
             return false;
@@ -158,10 +205,10 @@ fn contacts_have_cells(contacts: &[ContactPiece], shapes: Shapes) -> bool {
     true
 }
 
-/// Whether a piece of this island has the lower left cell of the rectangle.
-fn lies_on(rect: Rect, pieces: &[Piece], island: usize) -> bool {
+/// Whether a piece of this island has the lower left cell of the contact piece.
+fn lies_on(contact: &ContactPiece, pieces: &[Piece], island: usize) -> bool {
     for piece in pieces {
-        if piece.island == island && is_covered(&[piece.rect], place_of(0, rect)) {
+        if piece.island == island && has(sides_of(piece.rect), place_of(0, contact.rect)) {
             return true;
         }
     }
@@ -171,62 +218,74 @@ fn lies_on(rect: Rect, pieces: &[Piece], island: usize) -> bool {
 /// Whether each contact piece lies on the islands that it carries.
 fn contacts_lie_on_islands(contacts: &[ContactPiece], lower: &[Piece], upper: &[Piece]) -> bool {
     for contact in contacts {
-        if !lies_on(contact.rect, lower, contact.lower)
-            || !lies_on(contact.rect, upper, contact.upper)
-        {
+        if !lies_on(contact, lower, contact.lower) || !lies_on(contact, upper, contact.upper) {
             return false;
         }
     }
     true
 }
 
-/// Whether the islands and the nets of two metals and a cut are those of a flood.
-fn nets_agree(alloc: Global, shapes: Shapes) -> Result<bool, NetFault> {
-    let nets = nets_of(alloc, "", shapes)?;
-    let lower = nets.pieces(0);
-    let upper = nets.pieces(1);
-    let contacts = nets.contacts(0);
-    let mut islands = Vec::new(alloc);
-    let mut numbered = Vec::new(alloc);
-    add_numbered(0, lower, &mut islands, &mut numbered)?;
-    add_numbered(1, upper, &mut islands, &mut numbered)?;
-    let mut joins = Vec::new(alloc);
-    add_edges(0, shapes[0], &mut joins)?;
-    add_edges(1, shapes[1], &mut joins)?;
-    let by_edges = flooded(alloc, &joins)?;
-    add_contacts(shapes, &mut joins)?;
-    let by_all = flooded(alloc, &joins)?;
-    let pieces = have_cells(lower, shapes[0]) && have_cells(upper, shapes[1]);
-    let numbers = agree(&islands, &by_edges) && agree(&numbered, &by_all);
-    let of_contacts = contacts_have_cells(contacts, shapes)
-        && contacts_lie_on_islands(contacts, lower, upper);
-    Ok(pieces && numbers && of_contacts)
+/// Whether the pieces and contact pieces of two metals and a cut are those of a flood.
+fn are_flooded(
+    alloc: Global,
+    lower: &[Piece],
+    upper: &[Piece],
+    contacts: &[ContactPiece],
+    shapes: &Shapes,
+) -> bool {
+    have_cells(lower, shapes[0])
+        && have_cells(upper, shapes[1])
+        && contacts_have_cells(contacts, shapes)
+        && contacts_lie_on_islands(contacts, lower, upper)
+        && islands_agree(alloc, lower, upper, shapes)
+        && nets_agree(alloc, lower, upper, shapes)
 }
 
-/// Whether nets agree where the metals and the cut are layouts of one kind each, and where they are scattered.
-fn all_nets_agree(alloc: Global) -> Option<bool> {
-    for lower in LAYOUTS {
-        for cut in LAYOUTS {
-            let lower = rects_of(alloc, lower)?;
-            let cut = rects_of(alloc, cut)?;
-            let upper = field(alloc, lower.len(), 10, 3).ok()?;
-            if !nets_agree(alloc, [&lower, &upper, &cut]).ok()? {
-                return Some(false);
-            }
-        }
+/// Whether the islands and the nets of two metals and a cut are those of a flood.
+fn all_agree(alloc: Global, shapes: Shapes) -> bool {
+    match nets_with(alloc, "", shapes) {
+        Ok(nets) => are_flooded(
+            alloc,
+            nets.pieces(0),
+            nets.pieces(1),
+            nets.contacts(0),
+            &shapes,
+        ),
+        Err(_) => false,
     }
-    for seed in 0..20 {
-        let lower = field(alloc, seed, 12, 4).ok()?;
-        let upper = field(alloc, seed + 31, 9, 3).ok()?;
-        let cut = field(alloc, seed + 62, 6, 2).ok()?;
-        if !nets_agree(alloc, [&lower, &upper, &cut]).ok()? {
-            return Some(false);
-        }
+}
+
+/// Whether they are where the lower metal and the cut are such layouts, and the upper metal is scattered.
+fn layouts_agree(alloc: Global, lower: &[Sides], cut: &[Sides]) -> bool {
+    match field(alloc, lower.len(), 10, 3) {
+        Ok(upper) => all_agree(alloc, [lower, upper.as_slice(), cut]),
+        Err(_) => false,
     }
-    Some(true)
+}
+
+/// Whether they are where all three are scattered.
+fn scattered_agree(alloc: Global, seed: usize) -> bool {
+    let seed = seed % 100;
+    match (
+        field(alloc, seed, 12, 4),
+        field(alloc, seed + 31, 9, 3),
+        field(alloc, seed + 62, 6, 2),
+    ) {
+        (Ok(lower), Ok(upper), Ok(cut)) => {
+            all_agree(alloc, [lower.as_slice(), upper.as_slice(), cut.as_slice()])
+        }
+        _ => false,
+    }
 }
 
 #[test]
 fn nets_agree_with_a_flood(rt: HostRuntime) {
-    assert!(rt; all_nets_agree(rt.alloc()) == Some(true));
+    for (number, lower) in LAYOUTS.iter().enumerate() {
+        for cut in LAYOUTS {
+            assert!(rt; layouts_agree(rt.alloc(), lower, cut), "layout {number}");
+        }
+    }
+    for seed in 0..20 {
+        assert!(rt; scattered_agree(rt.alloc(), seed), "seed {seed}");
+    }
 }

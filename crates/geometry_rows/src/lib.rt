@@ -13,9 +13,13 @@ mod flood_rows;
 #[cfg(test)]
 mod island_rows;
 #[cfg(test)]
+mod link_rows;
+#[cfg(test)]
 mod many_squares;
 #[cfg(test)]
 mod net_rows;
+#[cfg(test)]
+mod nets;
 #[cfg(test)]
 mod rect_lists;
 #[cfg(test)]

@@ -1,7 +1,10 @@
 //! 5,000 squares in 50 rows of 100, each of which begins ten columns or rows after the one before.
 
+use super::net_rows::nets_with;
+use super::sides::{Sides, sides_of};
 use geo_core::{Labelled, NoMemory, Rect};
 use islands::label;
+use net_extract::{ContactPiece, Piece};
 use short_area::short_area;
 use std::alloc::{AllocError, Global};
 
@@ -93,4 +96,47 @@ fn many_squares_have_their_areas(rt: HostRuntime) {
     let near_two = 1002 * 502 - 804 * 404;
     assert!(rt; area(rt.alloc(), 4) == Ok(0));
     assert!(rt; area(rt.alloc(), 5) == Ok(near_two));
+}
+
+/// The sides of the squares of this side.
+fn table(alloc: Global, side: u8) -> Result<Vec<Sides>, AllocError> {
+    let mut table = Vec::new(alloc);
+    for number in 0..COUNT {
+        table.push(sides_of(square(number, side)))?;
+    }
+    Ok(table)
+}
+
+/// Whether there is a piece and a contact piece for each square, all of one net with the one piece of the other metal.
+fn are_one_net(pieces: &[Piece], plates: &[Piece], contacts: &[ContactPiece]) -> bool {
+    let [plate] = plates else {
+        return false;
+    };
+    for piece in pieces {
+        if piece.net != plate.net || piece.island == plate.island {
+            return false;
+        }
+    }
+    pieces.len() == COUNT && contacts.len() == COUNT
+}
+
+/// Whether a plate over all of the squares makes one net of them through a cut of one cell in each.
+fn are_joined(alloc: Global, squares: &[Sides], cells: &[Sides]) -> bool {
+    match nets_with(alloc, "", [squares, &[(0, 0, 1000, 500)], cells]) {
+        Ok(nets) => are_one_net(nets.pieces(0), nets.pieces(1), nets.contacts(0)),
+        Err(_) => false,
+    }
+}
+
+/// The same of the small squares.
+fn small_ones_are_joined(alloc: Global) -> bool {
+    match (table(alloc, 2), table(alloc, 1)) {
+        (Ok(squares), Ok(cells)) => are_joined(alloc, squares.as_slice(), cells.as_slice()),
+        _ => false,
+    }
+}
+
+#[test]
+fn many_squares_are_one_net(rt: HostRuntime) {
+    assert!(rt; small_ones_are_joined(rt.alloc()));
 }

@@ -35,6 +35,11 @@ pub fn rect_of(sides: &Sides) -> Option<Rect> {
     Some(Rect::new(x0, y0, x1, y1))
 }
 
+/// The sides of a rectangle.
+pub fn sides_of(rect: Rect) -> Sides {
+    (rect.x0, rect.y0, rect.x1, rect.y1)
+}
+
 /// The rectangles with these sides.
 pub fn rects_of(alloc: Global, table: &[Sides]) -> Option<Vec<Rect>> {
     let mut rects = Vec::new(alloc);

@@ -1,7 +1,7 @@
 use super::sides::{Sides, rects_of};
 use geo_core::{FARTHEST_GROWN, NoMemory, Rect, overlaps, touches};
 use std::alloc::{AllocError, Global};
-use touch_sweep::{meetings, touch_pairs};
+use touch_sweep::{meetings, touch_links, touch_pairs};
 
 /// Whether these are the pairs of rectangles that touch, of those with these sides.
 fn have_pairs(alloc: Global, table: &[Sides], wanted: &[(usize, usize)]) -> bool {
@@ -10,6 +10,17 @@ fn have_pairs(alloc: Global, table: &[Sides], wanted: &[(usize, usize)]) -> bool
     };
     match touch_pairs(alloc, rects.as_slice()) {
         Ok(pairs) => pairs.as_slice() == wanted,
+        Err(_) => false,
+    }
+}
+
+/// Whether the rectangles with these sides are linked by some of these pairs alone.
+fn have_links(alloc: Global, table: &[Sides], wanted: &[(usize, usize)]) -> bool {
+    let Some(rects) = rects_of(alloc, table) else {
+        return false;
+    };
+    match touch_links(alloc, rects.as_slice()) {
+        Ok(links) => links.as_slice().iter().all(|link| wanted.contains(link)),
         Err(_) => false,
     }
 }
@@ -83,6 +94,13 @@ const PAIRS: &[(&[Sides], &[(usize, usize)])] = &[
 fn rectangles_that_touch_are_paired(rt: HostRuntime) {
     for (table, wanted) in PAIRS {
         assert!(rt; have_pairs(rt.alloc(), table, wanted), "{table:?}");
+    }
+}
+
+#[test]
+fn rectangles_that_touch_are_linked(rt: HostRuntime) {
+    for (table, wanted) in PAIRS {
+        assert!(rt; have_links(rt.alloc(), table, wanted), "{table:?}");
     }
 }
 

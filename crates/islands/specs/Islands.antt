@@ -2,9 +2,8 @@
 use Rattle.std.specs.Prelude.{ℕ, List, Some, slice_get, ◌≡◌, ◌↔◌}
 use Rattle.geo_core.specs.declared.plane.Half.{Half}
 use Rattle.geo_core.specs.declared.plane.Rect.{Rect}
-use Rattle.fault_model.specs.RectChains.{IsAt}
-use Rattle.geo_core.specs.Unions.{IsInUnion}
-use Rattle.fault_model.specs.Walks.{IsSameIsland}
+use Rattle.fault_model.specs.FaultNames.{IsAt, IsSameIsland}
+use Rattle.geo_core.specs.Plane.{IsInUnion}
 
 -- half squares in two of the rectangles are of one island exactly where the labels of the two are the same; islands are
 -- those of all that the rectangles cover

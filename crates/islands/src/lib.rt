@@ -8,7 +8,7 @@ ghost use Rattle.islands.specs.Islands.{LabelsAreIslands};
 use classes::classes;
 use geo_core::{NoMemory, Rect};
 use std::alloc::Global;
-use touch_sweep::touch_pairs;
+use touch_sweep::touch_links;
 
 /// Labels each rectangle with its island, which goes by the least number of its rectangles.
 ///
@@ -20,6 +20,6 @@ pub fn label(alloc: Global, rects: &[Rect]) -> Result<Vec<usize>, NoMemory>
     ensures least { IfOk result (λ labels. IsLabelling rects.now labels.items) }
     ensures islands { IfOk result (λ labels. LabelsAreIslands rects.now labels.items) }
 {
-    let pairs = touch_pairs(alloc, rects)?;
+    let pairs = touch_links(alloc, rects)?;
     Ok(classes(alloc, rects.len(), &pairs)?)
 }

@@ -1,14 +1,10 @@
 -- terminals as anchors, one after the other
-use Rattle.std.proofs.Common.{ℕ, zero, suc, ◌+◌, ◌≡◌, refl, sym, ap, ◌∙◌, subst, List, [], ◌∷◌, ◌++◌, length, take, drop, map, arith}
-use Rattle.std.specs.Prelude.{All, Some, slice_get}
-use Rattle.std.specs.List.{AllZip, enumerate_from}
-use Rattle.std.proofs.lemmas.List.{take-append-drop, drop_more}
-use Rattle.std.proofs.lemmas.List.Elements.{All-more}
-use Rattle.std.proofs.lemmas.Option.{slice_get_within, get_or_from_slice_get}
+use Rattle.std.proofs.Common.{ℕ, zero, suc, ◌+◌, ◌≡◌, refl, sym, ap, ◌∙◌, subst, List, [], ◌∷◌, ◌++◌, length, take, drop, map, arith, All, Some, slice_get}
+use Rattle.lists.proofs.Words.{AllZip, enumerate_from, take-append-drop, drop_more, All-more, slice_get_within, get_or_from_slice_get}
 use Rattle.first_refusal.specs.Checks.{IsRefusalOfFirst}
 use Rattle.geo_core.specs.declared.plane.Cell.{Cell}
 use Rattle.geo_core.specs.declared.plane.Labelled.{Labelled}
-use Rattle.map_model.specs.MapView.{terminal_of}
+use Rattle.map_model.specs.MapNames.{terminal_of}
 use Rattle.map_model.specs.declared.layers.Terminal.{Terminal}
 use Rattle.net_extract.specs.inside.Anchoring.{IsOnIsland}
 use Rattle.net_extract.specs.Extraction.{off_metal}

@@ -1,26 +1,20 @@
 -- islands with their anchors
-use Rattle.std.proofs.Common.{ℕ, ◌+◌, ◌<◌, ◌≤◌, ◌≡◌, ◌≢◌, refl, sym, ap, ◌∙◌, subst, List, [], ◌∷◌, ◌++◌, Bool, true, false, ◌&&◌, length, get_or, take, arith, inl, inr}
-use Rattle.std.specs.Prelude.{All, ◌==◌, Contains, filter, nat_le}
-use Rattle.std.specs.List.{AllZip}
-use Rattle.std.proofs.lemmas.Bool.Decides.{Decides-eqb, leb_tells}
-use Rattle.std.proofs.lemmas.List.{append-nil}
-use Rattle.std.proofs.lemmas.List.Elements.{All-nil, All-cons, All-contains, filter_more, filter_passes}
-use Rattle.std.proofs.lemmas.List.Kept.{AllPairs-filter}
+use Rattle.std.proofs.Common.{ℕ, ◌+◌, ◌<◌, ◌≤◌, ◌≡◌, ◌≢◌, refl, sym, ap, ◌∙◌, subst, List, [], ◌∷◌, ◌++◌, Bool, true, false, ◌&&◌, length, get_or, take, arith, inl, inr, All, ◌==◌, Contains, filter, nat_le}
+use Rattle.lists.proofs.Words.{AllZip, Decides-eqb, leb_tells, append-nil, All-nil, All-cons, All-contains, filter_more, filter_passes, AllPairs-filter, and_parts}
 use Rattle.paths.proofs.PathLaws.{within}
-use Rattle.geo_core.specs.Cells.{Has}
+use Rattle.geo_core.specs.Plane.{Has, IsInUnion}
 use Rattle.geo_core.specs.declared.plane.Cell.{Cell}
 use Rattle.geo_core.specs.declared.plane.Rect.{Rect}
-use Rattle.geo_core.specs.Unions.{IsInUnion}
 use Rattle.lists.specs.Differing.{AreDifferent}
 use Rattle.net_extract.specs.AnchoredIslands.{rects_of_island, anchors_of_island, IsIslandNumbered, AreAnchoredIslands, AreDifferentCarried}
-use Rattle.fault_model.specs.IslandLists.{IslandLists, IsAnchoredIsland}
+use Rattle.fault_model.specs.FaultNames.{IslandLists}
+use Rattle.fault_model.specs.IslandLists.{IsAnchoredIsland}
 use Rattle.net_extract.specs.NetFacts.{AreNets}
 use Rattle.net_extract.specs.NetLists.{NetLists, IsIslandCell, pieces_on}
 use Rattle.net_extract.specs.declared.pieces.Anchor.{Anchor}
 use Rattle.net_extract.specs.declared.pieces.Piece.{Piece}
 use Rattle.lists.proofs.Pairing.{AllZip-push}
 use Rattle.net_extract.proofs.MadeLaws.{place_of}
-use Rattle.std.proofs.lemmas.Bool.{and_parts}
 use Rattle.lists.proofs.Containing.{Contains-slice_get, number_of, some_item}
 use Rattle.lists.proofs.Differing.{AllPairs-map, AllPairs-unmap}
 use Rattle.lists.proofs.Filtering.{Contains-filter, Contains-filter_passes, Contains-from_filter}

@@ -1,11 +1,7 @@
 -- islands that anchors carry
-use Rattle.std.proofs.Common.{ℕ, ◌≡◌, sym, ap, ◌∙◌, subst, List, [], ◌∷◌, ◌++◌, eqb, nat_cmp, arith, inl, inr}
-use Rattle.std.specs.Prelude.{Contains}
-use Rattle.std.specs.List.{dedup}
-use Rattle.std.specs.List.Sorted.{IsPermutation, IsSorted}
-use Rattle.std.proofs.lemmas.List.Elements.{Contains-append_left, Contains-push, Contains-push_cases}
+use Rattle.std.proofs.Common.{ℕ, ◌≡◌, sym, ap, ◌∙◌, subst, List, [], ◌∷◌, ◌++◌, eqb, nat_cmp, arith, inl, inr, Contains}
+use Rattle.lists.proofs.Words.{dedup, IsPermutation, IsSorted, Contains-append_left, Contains-push, Contains-push_cases, Contains-permutation}
 use Rattle.std.proofs.lemmas.List.Kept.{AllPairs-from_increasing, Contains-dedup_nat}
-use Rattle.std.proofs.lemmas.List.Sorted.{Contains-permutation}
 use Rattle.std.proofs.lemmas.Map.Keys.{IsStrictlyIncreasing-dedup}
 use Rattle.lists.specs.Differing.{AreDifferent}
 use Rattle.net_extract.specs.AnchoredIslands.{AreDifferentCarried}

@@ -1,13 +1,10 @@
 -- contact pieces of cuts
-use Rattle.std.proofs.Common.{ℕ, ◌+◌, ◌<◌, ◌≡◌, refl, sym, ap, ◌∙◌, subst, List, [], ◌∷◌, ◌++◌, length, get_or, map, arith, inl, inr}
-use Rattle.std.specs.Prelude.{Contains, Some, slice_get}
-use Rattle.std.proofs.lemmas.Option.{slice_get_within}
-use Rattle.std.proofs.lemmas.List.{length_push}
-use Rattle.geo_core.specs.Cells.{Has}
+use Rattle.std.proofs.Common.{ℕ, ◌+◌, ◌<◌, ◌≡◌, refl, sym, ap, ◌∙◌, subst, List, [], ◌∷◌, ◌++◌, length, get_or, map, arith, inl, inr, Contains, Some, slice_get}
+use Rattle.lists.proofs.Words.{slice_get_within, length_push}
+use Rattle.geo_core.specs.Plane.{Has, IsInUnion}
 use Rattle.geo_core.specs.declared.plane.Cell.{Cell}
 use Rattle.geo_core.specs.declared.plane.Labelled.{Labelled}
 use Rattle.geo_core.specs.declared.plane.Rect.{Rect}
-use Rattle.geo_core.specs.Unions.{IsInUnion}
 use Rattle.map_model.specs.declared.layers.Cut.{Cut}
 use Rattle.net_extract.specs.inside.LabelledCells.{HasLabelled, AreMeetings, AreContactsOf, ArePartsIn}
 use Rattle.net_extract.specs.inside.Numbering.{AreContactLists, islands_on}

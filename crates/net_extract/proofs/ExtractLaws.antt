@@ -1,18 +1,12 @@
 -- what layers come to
-use Rattle.std.proofs.Common.{ℕ, ◌<◌, ◌≡◌, refl, sym, ap, ◌∙◌, subst, List, [], ◌∷◌, length, map}
-use Rattle.std.specs.Prelude.{All, Contains, Result, Ok, Err, IsErrAnd}
-use Rattle.std.specs.List.{AllZip, enumerate_from}
-use Rattle.std.proofs.lemmas.List.{length-map}
-use Rattle.std.proofs.lemmas.Simd.{map-map}
-use Rattle.std.proofs.lemmas.List.Elements.{All-contains, All-weaker, Contains-append_right}
+use Rattle.std.proofs.Common.{ℕ, ◌<◌, ◌≡◌, refl, sym, ap, ◌∙◌, subst, List, [], ◌∷◌, length, map, All, Contains, Result, Ok, Err, IsErrAnd}
+use Rattle.lists.proofs.Words.{AllZip, enumerate_from, length-map, map-map, All-contains, All-weaker, Contains-append_right}
 use Rattle.first_refusal.specs.Checks.{Checks, all_hold, one_fails, IsRefusalOfFirst}
 use Rattle.first_refusal.specs.Outcomes.{Outcome}
 use Rattle.geo_core.specs.declared.plane.Cell.{Cell}
 use Rattle.geo_core.specs.declared.plane.Labelled.{Labelled}
 use Rattle.geo_core.specs.declared.plane.Rect.{Rect}
-use Rattle.map_model.specs.LayerMap.{MappedCut}
-use Rattle.map_model.specs.Layers.{JoinsMetals, metal_layer, mapped_cut}
-use Rattle.map_model.specs.MapView.{layer_map_of, terminal_of}
+use Rattle.map_model.specs.MapNames.{MappedCut, JoinsMetals, metal_layer, mapped_cut, layer_map_of, terminal_of}
 use Rattle.map_model.specs.declared.layers.Cut.{Cut as GivenCut}
 use Rattle.map_model.specs.declared.layers.Terminal.{Terminal}
 use Rattle.map_model.specs.declared.map.Map.{Map}

@@ -1,15 +1,10 @@
 -- pieces in the order of their islands
-use Rattle.std.proofs.Common.{ℕ, ◌+◌, ◌<◌, ◌≤◌, ◌≡◌, refl, sym, ap, ◌∙◌, List, [], ◌∷◌, ◌++◌, Bool, true, false, not, ◌&&◌, length, take, drop, map, ltb, leb, nat_cmp, arith}
-use Rattle.std.specs.Prelude.{pos, ◌==◌, All, filter}
+use Rattle.std.proofs.Common.{ℕ, ◌+◌, ◌<◌, ◌≤◌, ◌≡◌, refl, sym, ap, ◌∙◌, List, [], ◌∷◌, ◌++◌, Bool, true, false, not, ◌&&◌, length, take, drop, map, ltb, leb, nat_cmp, arith, pos, ◌==◌, All, filter}
+use Rattle.lists.proofs.Words.{Called, ComputesKey, is_lt, nat_tests, always_returns_same, ints, append-nil, get_or-take, length-drop, length-take, take-append-drop, All-head, All-tail, filter-append}
 use Rattle.std.specs.List.{AllWithin}
-use Rattle.std.specs.Fn.{Called, ComputesKey}
 use Rattle.std.specs.List.Sorted.{IsStableByKey}
-use Rattle.std.specs.Ordering.{is_lt}
-use Rattle.std.proofs.lemmas.Bool.Decides.{nat_tests}
-use Rattle.std.proofs.lemmas.Fn.{always_returns_same}
-use Rattle.std.proofs.lemmas.Int.{ints}
-use Rattle.std.proofs.lemmas.List.{append-nil, get_or-drop, get_or-take, length-drop, length-take, take-append-drop}
-use Rattle.std.proofs.lemmas.List.Elements.{All-head, All-tail, filter-append, filter_agree}
+use Rattle.std.proofs.lemmas.List.{get_or-drop}
+use Rattle.std.proofs.lemmas.List.Elements.{filter_agree}
 use denote.Param.Members.{Mut}
 use denote.Ref.{Bor}
 use Rattle.geo_core.specs.declared.plane.Rect.{Rect}
@@ -17,13 +12,19 @@ use Rattle.net_extract.specs.AnchoredIslands.{rects_of_island}
 use Rattle.net_extract.specs.NetLists.{NetLists, pieces_on}
 use Rattle.net_extract.specs.declared.pieces.Piece.{Piece}
 
+-- a test that nothing passes, and one that all pass
+module _ {X : Type 0} (test : X → Bool) where
+  pub none_kept : (xs : List X) → All (λ x. test x ≡ false) xs → filter test xs ≡ []
+  none_kept [] all = refl
+  none_kept (x ∷ xs) all = rw (All-head (λ y. test y ≡ false) x xs all) (none_kept xs (All-tail (λ y. test y ≡ false) x xs all))
+
+  pub all_kept : (xs : List X) → All (λ x. test x ≡ true) xs → filter test xs ≡ xs
+  all_kept [] all = refl
+  all_kept (x ∷ xs) all = rw (All-head (λ y. test y ≡ true) x xs all) (ap (λ ys. x ∷ ys) (all_kept xs (All-tail (λ y. test y ≡ true) x xs all)))
+
 module _ (island : ℕ) where
   abbrev pub carries : Piece → Bool
   carries piece = piece.island == island
-
-  none_kept : (xs : List Piece) → All (λ piece. carries piece ≡ false) xs → filter carries xs ≡ []
-  none_kept [] all = refl
-  none_kept (x ∷ xs) all = rw (All-head (λ piece. carries piece ≡ false) x xs all) (none_kept xs (All-tail (λ piece. carries piece ≡ false) x xs all))
 
   both_parts : (xs : List Piece) (i : ℕ) → filter carries xs ≡ filter carries (take i xs) ++ filter carries (drop i xs)
   both_parts xs i = ap (filter carries) (sym (take-append-drop i xs)) ∙ filter-append carries (take i xs) (drop i xs)
@@ -31,7 +32,7 @@ module _ (island : ℕ) where
   -- the pieces of lesser islands in front do not count
   pub in_rest : (xs : List Piece) (i : ℕ) → i ≤ length xs → AllWithin (λ piece. ltb piece.island island ≡ true) xs 0 i → filter carries (drop i xs) ≡ filter carries xs
   in_rest xs i small less =
-      let none = none_kept (take i xs) (λ k d within.
+      let none = none_kept carries (take i xs) (λ k d within.
       let lt : k < i = omega (arith, length-take i xs) in
       let h = less k d (omega arith) lt in
       rw get_or-take (grind (arith, nat_tests, h))) in
@@ -40,14 +41,14 @@ module _ (island : ℕ) where
   -- and those of greater islands behind do not either
   pub in_front : (xs : List Piece) (i : ℕ) → AllWithin (λ piece. leb piece.island island ≡ false) xs i (length xs) → filter carries (take i xs) ≡ filter carries xs
   in_front xs i more =
-      let none = none_kept (drop i xs) (λ k d within.
+      let none = none_kept carries (drop i xs) (λ k d within.
       let lt : i + k < length xs = omega (arith, length-drop i xs) in
       let h = more (i + k) d (omega arith) lt in
       rw get_or-drop (grind (arith, nat_tests, h))) in
       sym (both_parts xs i ∙ ap (λ ys. filter carries (take i xs) ++ ys) none ∙ append-nil (filter carries (take i xs)))
 
 -- a cell, for a piece of any island
-unit : Rect
+pub unit : Rect
 unit = record {
   x0 = pos 0;
   y0 = pos 0;

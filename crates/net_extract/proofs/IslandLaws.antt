@@ -1,17 +1,13 @@
 -- rectangles of a metal with their islands
-use Rattle.std.proofs.Common.{ℕ, zero, suc, ◌+◌, ◌<◌, ◌≤◌, ◌≡◌, refl, sym, ap, ◌∙◌, subst, List, [], ◌∷◌, length, map, arith}
-use Rattle.std.specs.Prelude.{◌↔◌, Some, slice_get}
-use Rattle.std.proofs.lemmas.Option.{slice_get_within}
+use Rattle.std.proofs.Common.{ℕ, zero, suc, ◌+◌, ◌<◌, ◌≤◌, ◌≡◌, refl, sym, ap, ◌∙◌, subst, List, [], ◌∷◌, length, map, arith, ◌↔◌, Some, slice_get}
+use Rattle.lists.proofs.Words.{slice_get_within}
 use Rattle.paths.specs.Paths.{stay}
-use Rattle.geo_core.specs.Cells.{Has}
+use Rattle.geo_core.specs.Plane.{Has, HasNumber, IsInUnion}
 use Rattle.geo_core.specs.declared.plane.Cell.{Cell}
 use Rattle.geo_core.specs.declared.plane.Half.{Half}
 use Rattle.geo_core.specs.declared.plane.Labelled.{Labelled}
 use Rattle.geo_core.specs.declared.plane.Rect.{Rect}
-use Rattle.fault_model.specs.RectChains.{IsLabelling}
-use Rattle.geo_core.specs.Unions.{HasNumber, IsInUnion}
-use Rattle.fault_model.specs.Halves.{IsOn}
-use Rattle.fault_model.specs.Walks.{IsSameIsland}
+use Rattle.fault_model.specs.FaultNames.{IsLabelling, IsOn, IsSameIsland}
 use Rattle.islands.specs.Islands.{LabelsAreIslands}
 use Rattle.net_extract.specs.inside.LabelledCells.{HasLabelled}
 use Rattle.net_extract.specs.inside.Numbering.{AreIslandsFrom}

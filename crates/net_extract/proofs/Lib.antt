@@ -12,3 +12,6 @@ pub mod ExtractLaws
 pub mod CarriedLaws
 pub mod AnchoredLaws
 pub mod GroupLaws
+pub mod ContactGroupLaws
+pub mod ClusterLaws
+pub mod SlimLaws

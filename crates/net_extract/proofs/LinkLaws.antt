@@ -1,9 +1,6 @@
 -- islands that contact pieces link
-use Rattle.std.proofs.Common.{ℕ, ◌<◌, ◌≡◌, sym, ap, subst, List, map, get_or, arith, inl, inr, ◌⊎◌}
-use Rattle.std.specs.Prelude.{Contains, ◌↔◌}
-use Rattle.std.specs.List.{flat_map}
-use Rattle.std.proofs.lemmas.List.Elements.{Contains-get_or}
-use Rattle.std.proofs.lemmas.Option.{slice_get-get_or}
+use Rattle.std.proofs.Common.{ℕ, ◌<◌, ◌≡◌, sym, ap, subst, List, map, get_or, arith, inl, inr, ◌⊎◌, Contains, ◌↔◌}
+use Rattle.lists.proofs.Words.{flat_map, Contains-get_or, slice_get-get_or}
 use Rattle.paths.proofs.PathLaws.{retold}
 use Rattle.classes.specs.Classes.{AreBelow, IsPair, IsClasses}
 use Rattle.classes.specs.ClassConsequences.{EqualWhereJoined}

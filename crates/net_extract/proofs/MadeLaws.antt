@@ -1,28 +1,19 @@
 -- the lists of nets tell what was found
-use Rattle.std.proofs.Common.{length, inl, inr, ◌+◌, ℕ, zero, suc, ◌<◌, ◌≡◌, ◌≢◌, refl, sym, ap, ◌∙◌, subst, List, [], ◌∷◌, get_or, map, arith}
-use Rattle.std.specs.Prelude.{◌↔◌, All, Contains, Some, slice_get}
-use Rattle.std.specs.List.{AllZip}
-use Rattle.std.proofs.lemmas.Bool.Decides.{leb_tells}
-use Rattle.std.proofs.lemmas.List.{get_or_past, length-map, get_or_default}
-use Rattle.std.proofs.lemmas.List.Elements.{All-contains, Contains-get_or}
+use Rattle.std.proofs.Common.{length, inl, inr, ◌+◌, ℕ, zero, suc, ◌<◌, ◌≡◌, ◌≢◌, refl, sym, ap, ◌∙◌, subst, List, [], ◌∷◌, get_or, map, arith, ◌↔◌, All, Contains, Some, slice_get}
+use Rattle.lists.proofs.Words.{AllZip, leb_tells, get_or_past, length-map, get_or_default, All-contains, Contains-get_or}
 use Rattle.paths.proofs.PathLaws.{within}
-use Rattle.geo_core.specs.Cells.{Has}
+use Rattle.geo_core.specs.Plane.{Has, IsInUnion, IsCoveredIn}
 use Rattle.geo_core.specs.declared.plane.Cell.{Cell}
 use Rattle.geo_core.specs.declared.plane.Half.{Half}
 use Rattle.geo_core.specs.declared.plane.Labelled.{Labelled}
 use Rattle.geo_core.specs.declared.plane.Rect.{Rect}
-use Rattle.geo_core.specs.Unions.{IsInUnion}
-use Rattle.fault_model.specs.Halves.{IsOn}
-use Rattle.fault_model.specs.Nets.{Cut, Place, IsContact, IsSameNet}
-use Rattle.fault_model.specs.Walks.{IsSameIsland}
+use Rattle.fault_model.specs.FaultNames.{IsOn, Cut, Place, IsContact, IsSameNet, IsSameIsland}
 use Rattle.fault_model.proofs.HalfLaws.{cell_on}
-use Rattle.map_model.specs.Layers.{JoinsMetals}
+use Rattle.map_model.specs.MapNames.{JoinsMetals, terminal_of}
 use Rattle.lists.specs.Differing.{AreDifferent}
-use Rattle.map_model.specs.MapView.{terminal_of}
 use Rattle.map_model.specs.declared.layers.Cut.{Cut as GivenCut}
 use Rattle.map_model.specs.declared.layers.Terminal.{Terminal}
 use Rattle.net_extract.specs.inside.Anchoring.{IsAnchorOf}
-use Rattle.geo_core.specs.Unions.{IsCoveredIn}
 use Rattle.net_extract.specs.inside.LabelledCells.{HasLabelled}
 use Rattle.net_extract.specs.NetFacts.{AreNets, LiesOnIslands}
 use Rattle.net_extract.specs.NetLists.{NetLists, IsPieceCell, IsIslandCell, IsNetCell, IsContactCell}

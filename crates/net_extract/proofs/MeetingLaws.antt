@@ -1,21 +1,9 @@
 -- where rectangles of two lists have cells in common
-use Rattle.std.proofs.Common.{Bool, true, ℕ, ◌<◌, ◌≡◌, sym, ap, ◌∙◌, subst, List, [], ◌∷◌, ◌++◌, length, get_or, map, arith, inl, inr}
-use Rattle.std.specs.Prelude.{◌↔◌, ◌&&◌, nat_eq, Contains, Option, Some, None, slice_get}
-use Rattle.std.specs.Cmp.{IsEquivalence}
-use Rattle.std.specs.List.{dedup}
-use Rattle.std.specs.List.Sorted.{IsPermutation}
-use Rattle.std.specs.Ordering.{int_eq}
-use Rattle.std.specs.Option.{option_to_list}
-use Rattle.std.proofs.lemmas.Bool.{and_parts}
-use Rattle.std.proofs.lemmas.Bool.Decides.{Decides-int_eq, nat_tests}
-use Rattle.std.proofs.lemmas.Cmp.{and_equiv, on_equiv, int_eq_equiv, nat_eq_equiv}
-use Rattle.std.proofs.lemmas.List.Kept.{Contains-dedup, Contains-from_dedup}
-use Rattle.std.proofs.lemmas.List.Sorted.{Contains-permutation, IsPermutation-sym}
+use Rattle.std.proofs.Common.{Bool, true, ℕ, ◌<◌, ◌≡◌, sym, ap, ◌∙◌, subst, List, [], ◌∷◌, ◌++◌, length, get_or, map, arith, inl, inr, ◌↔◌, ◌&&◌, nat_eq, Contains, Option, Some, None, slice_get, option_to_list}
+use Rattle.lists.proofs.Words.{IsEquivalence, dedup, IsPermutation, int_eq, and_parts, Decides-int_eq, nat_tests, and_equiv, on_equiv, nat_eq_equiv, Contains-dedup, Contains-from_dedup, Contains-permutation, IsPermutation-sym, length-map, Contains-append_left, Contains-append_right, Contains-append_cases, Contains-get_or, Contains-push, Contains-push_cases, slice_get_within}
+use Rattle.std.proofs.lemmas.Cmp.{int_eq_equiv}
 use Rattle.geo_core.proofs.RectLaws.{same_rect}
-use Rattle.std.proofs.lemmas.List.{length-map}
-use Rattle.std.proofs.lemmas.List.Elements.{Contains-append_left, Contains-append_right, Contains-append_cases, Contains-get_or, Contains-push, Contains-push_cases}
-use Rattle.std.proofs.lemmas.Option.{slice_get_within}
-use Rattle.geo_core.specs.Cells.{Has}
+use Rattle.geo_core.specs.Plane.{Has}
 use Rattle.geo_core.specs.declared.plane.Cell.{Cell}
 use Rattle.geo_core.specs.declared.plane.Labelled.{Labelled}
 use Rattle.geo_core.specs.declared.plane.Rect.{Rect}

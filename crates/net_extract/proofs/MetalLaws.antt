@@ -1,15 +1,12 @@
 -- islands of the first metals, and those of one metal more
-use Rattle.std.proofs.Common.{ℕ, ◌+◌, ◌<◌, ◌≤◌, ◌≡◌, refl, sym, ap, ◌∙◌, subst, List, [], ◌∷◌, ◌++◌, length, get_or, arith, inl, inr, ◌⊎◌}
-use Rattle.std.specs.Prelude.{◌↔◌}
-use Rattle.std.proofs.lemmas.Bool.Decides.{leb_tells}
-use Rattle.std.proofs.lemmas.List.{get_or_append_left, get_or_push, get_or_past, length_push}
+use Rattle.std.proofs.Common.{ℕ, ◌+◌, ◌<◌, ◌≤◌, ◌≡◌, refl, sym, ap, ◌∙◌, subst, List, [], ◌∷◌, ◌++◌, length, get_or, arith, inl, inr, ◌⊎◌, ◌↔◌}
+use Rattle.lists.proofs.Words.{leb_tells, get_or_append_left, get_or_push, get_or_past, length_push}
 use Rattle.geo_core.specs.declared.plane.Cell.{Cell}
 use Rattle.geo_core.specs.declared.plane.Half.{Half}
 use Rattle.geo_core.specs.declared.plane.Labelled.{Labelled}
 use Rattle.geo_core.specs.declared.plane.Rect.{Rect}
-use Rattle.fault_model.specs.Halves.{IsOn}
-use Rattle.fault_model.specs.Walks.{IsSameIsland}
-use Rattle.geo_core.specs.Unions.{IsCoveredIn}
+use Rattle.fault_model.specs.FaultNames.{IsOn, IsSameIsland}
+use Rattle.geo_core.specs.Plane.{IsCoveredIn}
 use Rattle.net_extract.specs.inside.LabelledCells.{HasLabelled}
 use Rattle.net_extract.specs.inside.Numbering.{AreIslandsFrom, AreIslandsOf, islands_on}
 use Rattle.lists.proofs.Comparing.{equal_or_not}

@@ -1,12 +1,7 @@
 -- cells of terminals as rectangles
-use Rattle.std.proofs.Common.{ℕ, ◌+◌, ◌<◌, ◌≤◌, ◌≡◌, refl, sym, ap, ◌∙◌, subst, List, [], ◌++◌, length, arith, inl, inr}
-use Rattle.std.specs.Prelude.{ℤ, pos, ◌+ℤ◌, ◌↔◌, Option, Some, None, slice_get}
-use Rattle.std.specs.Option.{option_to_list}
-use Rattle.std.proofs.lemmas.Int.{ints}
-use Rattle.std.proofs.lemmas.List.Elements.{Contains-append_left, Contains-append_right, Contains-append_cases}
-use Rattle.std.proofs.lemmas.Option.{slice_get_within}
-use Rattle.geo_core.specs.Intervals.{IsIn}
-use Rattle.geo_core.specs.Cells.{Has}
+use Rattle.std.proofs.Common.{ℕ, ◌+◌, ◌<◌, ◌≤◌, ◌≡◌, refl, sym, ap, ◌∙◌, subst, List, [], ◌++◌, length, arith, inl, inr, ℤ, pos, ◌+ℤ◌, ◌↔◌, Option, Some, None, slice_get, option_to_list}
+use Rattle.lists.proofs.Words.{ints, Contains-append_left, Contains-append_right, Contains-append_cases, slice_get_within}
+use Rattle.geo_core.specs.Plane.{IsIn, Has}
 use Rattle.geo_core.specs.declared.plane.Cell.{Cell}
 use Rattle.geo_core.specs.declared.plane.Labelled.{Labelled}
 use Rattle.geo_core.specs.declared.plane.Rect.{Rect}

@@ -1,26 +1,18 @@
 -- net walks, and contact pieces that lead from island to island
-use Rattle.std.proofs.Common.{ℕ, zero, suc, ◌+◌, ◌<◌, ◌≡◌, refl, sym, ap, ◌∙◌, subst, List, [], ◌∷◌, length, get_or, map, arith, inl, inr, ◌⊎◌}
-use Rattle.std.specs.Prelude.{All, Contains, Some, slice_get}
-use Rattle.std.specs.List.{enumerate_from}
-use Rattle.std.proofs.lemmas.Bool.Decides.{leb_tells}
-use Rattle.std.proofs.lemmas.List.{get_or_past}
-use Rattle.std.proofs.lemmas.List.Elements.{All-contains, Contains-get_or}
-use Rattle.std.proofs.lemmas.Option.{slice_get_within, get_or_from_slice_get}
+use Rattle.std.proofs.Common.{ℕ, zero, suc, ◌+◌, ◌<◌, ◌≡◌, refl, sym, ap, ◌∙◌, subst, List, [], ◌∷◌, length, get_or, map, arith, inl, inr, ◌⊎◌, All, Contains, Some, slice_get}
+use Rattle.lists.proofs.Words.{enumerate_from, leb_tells, get_or_past, All-contains, Contains-get_or, slice_get_within, get_or_from_slice_get}
 use Rattle.paths.specs.Paths.{stay, step}
 use Rattle.paths.proofs.PathLaws.{first, append}
 use Rattle.geo_core.specs.declared.plane.Cell.{Cell}
 use Rattle.geo_core.specs.declared.plane.Half.{Half}
 use Rattle.geo_core.specs.declared.plane.Labelled.{Labelled}
 use Rattle.geo_core.specs.declared.plane.Rect.{Rect}
-use Rattle.fault_model.specs.Halves.{LiesIn, IsOn, Neighbours}
-use Rattle.fault_model.specs.Nets.{Cut, Place, Joins, IsContact, IsOnMetal, NetStep, along, through, NetWalk}
-use Rattle.fault_model.specs.Walks.{Walk}
+use Rattle.fault_model.specs.FaultNames.{LiesIn, IsOn, Neighbours, Cut, Place, Joins, IsContact, IsOnMetal, NetStep, along, through, NetWalk, Walk}
 use Rattle.fault_model.proofs.HalfLaws.{cell_on, some_half}
 use Rattle.fault_model.proofs.NetLaws.{leads_back, on_metal, at_contact}
-use Rattle.map_model.specs.LayerMap.{MappedCut}
-use Rattle.map_model.specs.Layers.{JoinsMetals, mapped_cut}
+use Rattle.map_model.specs.MapNames.{MappedCut, JoinsMetals, mapped_cut}
 use Rattle.map_model.specs.declared.layers.Cut.{Cut as GivenCut}
-use Rattle.geo_core.specs.Unions.{IsCoveredIn}
+use Rattle.geo_core.specs.Plane.{IsCoveredIn}
 use Rattle.net_extract.specs.Cuts.{cut_of}
 use Rattle.net_extract.specs.inside.LabelledCells.{HasLabelled, AreContactsOf}
 use Rattle.net_extract.specs.inside.Numbering.{AreIslandsOf, AreContactLists, IsLink, AreLinked, islands_on}

@@ -1,10 +1,10 @@
 -- the islands of a metal that have two anchors or more
 use Rattle.std.specs.Prelude.{ℕ, List, Contains, map, filter, length, ◌==◌, ◌&&◌, ◌≡◌, ◌≤◌, ◌↔◌}
-use Rattle.std.specs.List.{AllZip}
+use Rattle.lists.specs.Words.{AllZip}
 use Rattle.geo_core.specs.declared.plane.Cell.{Cell}
 use Rattle.geo_core.specs.declared.plane.Rect.{Rect}
 use Rattle.lists.specs.Differing.{AreDifferent}
-use Rattle.fault_model.specs.IslandLists.{IslandLists}
+use Rattle.fault_model.specs.FaultNames.{IslandLists}
 use Rattle.net_extract.specs.NetLists.{NetLists, pieces_on}
 use Rattle.net_extract.specs.declared.pieces.Anchor.{Anchor}
 

@@ -1,8 +1,8 @@
 -- the cuts of a layer map, as nets and clusters take them
 use Rattle.std.specs.Prelude.{ℕ, List, map, filter, length}
-use Rattle.std.specs.List.{enumerate_from}
-use Rattle.fault_model.specs.Nets.{Cut}
-use Rattle.map_model.specs.LayerMap.{LayerMap, MappedCut}
+use Rattle.lists.specs.Words.{enumerate_from}
+use Rattle.fault_model.specs.FaultNames.{Cut}
+use Rattle.map_model.specs.MapNames.{LayerMap, MappedCut}
 
 -- the cuts, each with its number, which goes on behind those of the metals
 abbrev pub numbered_cuts : LayerMap → List (ℕ × MappedCut)

@@ -1,16 +1,14 @@
 -- what becomes of layers: their nets, or the first terminal that is not on its metal
 use Rattle.std.specs.Prelude.{ℕ, List, Some, length, slice_get, ◌<◌, ◌≡◌, ◌↔◌}
-use Rattle.std.specs.List.{enumerate_from}
+use Rattle.lists.specs.Words.{enumerate_from}
 use Rattle.geo_core.specs.declared.plane.Cell.{Cell}
 use Rattle.geo_core.specs.declared.plane.Half.{Half}
 use Rattle.geo_core.specs.declared.plane.Rect.{Rect}
-use Rattle.fault_model.specs.Halves.{IsOn}
-use Rattle.fault_model.specs.Nets.{Cut, Place, IsContact, IsSameNet}
-use Rattle.fault_model.specs.Walks.{IsSameIsland}
+use Rattle.fault_model.specs.FaultNames.{IsOn, Cut, Place, IsContact, IsSameNet, IsSameIsland}
 use Rattle.first_refusal.specs.Checks.{Checks}
 use Rattle.first_refusal.specs.Outcomes.{Outcome}
-use Rattle.map_model.specs.LayerMap.{LayerMap}
-use Rattle.geo_core.specs.Unions.{IsCoveredIn}
+use Rattle.map_model.specs.MapNames.{LayerMap}
+use Rattle.geo_core.specs.Plane.{IsCoveredIn}
 use Rattle.net_extract.specs.Cuts.{cuts_of, ends_of}
 use Rattle.net_extract.specs.NetFacts.{AreNets}
 use Rattle.net_extract.specs.NetLists.{NetLists, IsPieceCell, IsIslandCell, IsNetCell, IsContactCell, places_of}

@@ -5,5 +5,6 @@ pub mod NetFacts
 pub mod NetFaults
 pub mod Extraction
 pub mod AnchoredIslands
+pub mod ContactGroups
 -- what only this crate's proofs and private contracts cite
 pub mod inside

@@ -1,10 +1,9 @@
 -- facts of all nets, whatever they were made from
 use Rattle.std.specs.Prelude.{ℕ, Contains, Some, length, slice_get, ◌≡◌}
-use Rattle.geo_core.specs.Cells.{Has}
+use Rattle.geo_core.specs.Plane.{Has}
 use Rattle.geo_core.specs.declared.plane.Cell.{Cell}
 use Rattle.geo_core.specs.declared.plane.Half.{Half}
-use Rattle.fault_model.specs.Halves.{IsOn}
-use Rattle.fault_model.specs.Walks.{IsSameIsland}
+use Rattle.fault_model.specs.FaultNames.{IsOn, IsSameIsland}
 use Rattle.lists.specs.Differing.{AreDifferent}
 use Rattle.net_extract.specs.NetLists.{NetLists, IsIslandCell, contacts_of, places_of}
 use Rattle.net_extract.specs.declared.pieces.Anchor.{Anchor}

@@ -1,6 +1,6 @@
 -- nets as contracts see them
 use Rattle.std.specs.Prelude.{ℕ, List, [], Contains, map, slice_index_or, ◌≡◌}
-use Rattle.geo_core.specs.Cells.{Has}
+use Rattle.geo_core.specs.Plane.{Has}
 use Rattle.geo_core.specs.declared.plane.Cell.{Cell}
 use Rattle.net_extract.specs.declared.pieces.Anchor.{Anchor}
 use Rattle.net_extract.specs.declared.pieces.ContactPiece.{ContactPiece}

@@ -1,3 +1,4 @@
 pub mod Anchoring
 pub mod LabelledCells
 pub mod Numbering
+pub mod GroupSteps

@@ -6,6 +6,7 @@ ghost use Rattle.net_extract.specs.inside.Numbering.{AreContactLists};
 use super::meetings::meetings;
 use super::metals::IslandList;
 use super::pieces::ContactList;
+use super::slimming::slim;
 use geo_core::{Items, Labelled, NoMemory, Rect, RectList};
 use map_model::Cut;
 use std::alloc::Global;
@@ -41,7 +42,7 @@ fn contacts_in(
 ) -> Result<ContactList, NoMemory>
     ensures { IfOk result (λ contacts. AreContactsOf cut.now lower.now upper.now contacts) }
 {
-    let parts = parts_in(alloc, cut, lower)?;
+    let parts = slim(alloc, parts_in(alloc, cut, lower)?)?;
     Ok(ContactList::from_vec(meetings(alloc, &parts, upper)?))
 }
 

@@ -4,14 +4,17 @@
 
 mod anchors;
 mod carried;
+mod contact_groups;
 mod contacts;
 mod fault;
 mod grouped;
+pub mod laws;
 mod meetings;
 mod metals;
 mod nets;
 mod numbers;
 mod pieces;
+mod slimming;
 
 ghost use Rattle.std.specs.Prelude.{◌≡◌, ◌+◌, IfOk, length, map};
 ghost use Rattle.map_model.specs.MapView.{layer_map_of};
@@ -28,7 +31,7 @@ use map_model::{Cut, Map};
 use metals::metal_islands;
 pub use nets::Nets;
 use numbers::{net_numbers, piece_lists};
-pub use pieces::{Anchor, ContactList, ContactPiece, Piece, PieceList};
+pub use pieces::{Anchor, ContactGroup, ContactList, ContactPiece, Piece, PieceList};
 use std::alloc::Global;
 
 /// The nets of what the rectangles cover, of which there is one list for each metal of the map, and then one for each cut.

@@ -42,7 +42,7 @@ fn each_once(mut contacts: Vec<ContactPiece>) -> Vec<ContactPiece>
 }
 
 /// The rectangles without their labels.
-fn rects_of(alloc: Global, labelled: &[Labelled]) -> Result<Vec<Rect>, NoMemory>
+pub fn rects_of(alloc: Global, labelled: &[Labelled]) -> Result<Vec<Rect>, NoMemory>
     ensures { IfOk result (λ rects. rects.items ≡ map (λ one. one.rect) labelled.now) }
 {
     let mut rects = Vec::with_capacity(alloc, labelled.len())?;

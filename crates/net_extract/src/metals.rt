@@ -1,6 +1,7 @@
 ghost use Rattle.std.specs.Prelude.{◌+◌, ◌^◌, ◌<◌, ◌≤◌, IfOk, length};
 ghost use Rattle.net_extract.specs.inside.Numbering.{AreIslandsFrom, AreIslandsOf};
 
+use super::slimming::slim;
 use geo_core::{Items, Labelled, NoMemory, Rect, RectList};
 use islands::label;
 use std::alloc::Global;
@@ -43,7 +44,8 @@ pub fn metal_islands(
     })
 }
 
-/// The rectangles with their islands, which are numbered from `first` on.
+/// The cells of the rectangles with their islands, which are numbered from `first` on. Rectangles of one island that
+/// overlap are replaced by others with the same cells where these are no more.
 fn islands_from(alloc: Global, rects: &[Rect], first: usize) -> Result<IslandList, NoMemory>
     requires { first + length rects.now < 2 ^ 64 }
     ensures { IfOk result (λ islands. AreIslandsFrom rects.now first (first + length rects.now) islands) }
@@ -56,5 +58,5 @@ fn islands_from(alloc: Global, rects: &[Rect], first: usize) -> Result<IslandLis
             label: first + labels[k],
         })?;
     }
-    Ok(IslandList::from_vec(islands))
+    Ok(IslandList::from_vec(slim(alloc, islands)?))
 }

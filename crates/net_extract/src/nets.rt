@@ -1,8 +1,9 @@
 ghost use Rattle.std.specs.Prelude.{◌≡◌, ◌<◌, All, IfOk, length};
 
 use super::carried::{cells_on, islands_carried, rects_on};
+use super::contact_groups::group_contacts;
 use super::grouped::{by_island, part_of};
-use super::pieces::{Anchor, ContactList, ContactPiece, Piece, PieceList};
+use super::pieces::{Anchor, ContactGroup, ContactList, ContactPiece, Piece, PieceList};
 use fault_model::Island;
 use geo_core::{CellList, Items, NoMemory, RectList};
 use std::alloc::Global;
@@ -45,6 +46,7 @@ impl Model for Nets {
 
 impl Nets {
     ghost use Rattle.net_extract.specs.AnchoredIslands.{AreAnchoredIslands};
+    ghost use Rattle.net_extract.specs.ContactGroups.{AreGroupsOf};
     ghost use Rattle.fault_model.specs.IslandLists.{IsAnchoredIsland};
     ghost use Rattle.net_extract.specs.NetFacts.{AreNets};
     ghost use Rattle.net_extract.specs.NetLists.{pieces_on, contacts_of};
@@ -83,6 +85,16 @@ impl Nets {
         ensures sound { AreNets self.now }
     {
         self.contacts.as_slice()[cut as usize].as_slice()
+    }
+
+    /// The groups of the contact pieces of the cut with this number, counted from 0 among the cuts: one for each two
+    /// islands that a contact piece carries, with all that carry these two. They come in no promised order. The only
+    /// error is that no memory is left.
+    pub fn contact_groups(&self, alloc: Global, cut: u32) -> Result<Vec<ContactGroup>, NoMemory>
+        requires { cut < length self.now.contacts }
+        ensures { IfOk result (λ groups. AreGroupsOf (contacts_of self.now cut) groups.items) }
+    {
+        group_contacts(alloc, self.contacts(cut))
     }
 
     /// The anchors: the terminals of the map in order.

@@ -1,4 +1,6 @@
-use geo_core::{Cell, Items, Rect};
+ghost use Rattle.std.specs.Prelude.{◌<◌, length};
+
+use geo_core::{Cell, Items, Rect, RectList};
 
 /// A rectangle of a metal with the numbers of an island and of a net. In `Nets`, pieces of one metal have the same
 /// `island` exactly where they are of one island, and pieces of any metals have the same `net` exactly where they are of
@@ -17,6 +19,17 @@ pub struct ContactPiece {
     pub rect: Rect,
     pub lower: usize,
     pub upper: usize,
+}
+
+/// The contact pieces of a cut that carry the same two islands: an island of the cut's lower metal and one of its upper
+/// metal. In nets that `extract` makes they are a via cluster.
+#[derive(Debug, Drop)]
+pub struct ContactGroup {
+    pub lower: usize,
+    pub upper: usize,
+    /// The rectangles of the contact pieces.
+    pub rects: RectList,
+    pub ghost some: { 0 < length rects },
 }
 
 /// A cell of a metal with the number of an island of this. In `Nets` it is a terminal and stands on the island.

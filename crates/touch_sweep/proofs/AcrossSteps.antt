@@ -1,12 +1,7 @@
 -- pairs of rectangles of two lists, in one numbering and in two
-use Rattle.std.proofs.Common.{◌∙◌, ℕ, zero, suc, ◌+◌, ◌-◌, ◌<◌, ◌≤◌, ◌≡◌, refl, sym, ap, subst, List, [], ◌∷◌, ◌++◌, length, get_or, arith, inl, inr, ◌⊎◌, Bool, true, nat_lt, not}
-use Rattle.std.specs.Prelude.{ℤ, All, Contains, Some, filter, slice_get, ◌↔◌}
-use Rattle.std.proofs.lemmas.Bool.Decides.{nat_tests}
-use Rattle.std.proofs.lemmas.List.{length-append}
-use Rattle.std.proofs.lemmas.List.Elements.{All-contains, Contains-append_left, Contains-get_or, Contains-push, Contains-push_cases, filter_passes}
-use Rattle.std.proofs.lemmas.Option.{slice_get_within}
-use Rattle.geo_core.specs.Cells.{Overlap}
-use Rattle.geo_core.specs.Intervals.{IsIn}
+use Rattle.std.proofs.Common.{◌∙◌, ℕ, ◌+◌, ◌-◌, ◌<◌, ◌≤◌, ◌≡◌, refl, sym, ap, subst, List, [], ◌∷◌, ◌++◌, length, get_or, arith, inl, inr, ◌⊎◌, Bool, true, nat_lt, not, ℤ, All, Contains, Some, filter, slice_get, ◌↔◌, length-append}
+use Rattle.lists.proofs.Words.{nat_tests, All-contains, Contains-append_left, Contains-get_or, Contains-push, Contains-push_cases, filter_passes, slice_get_within}
+use Rattle.geo_core.specs.Plane.{Overlap, IsIn}
 use Rattle.geo_core.specs.declared.plane.Rect.{Rect}
 use Rattle.touch_sweep.specs.inside.Entries.{AreNumbered}
 use Rattle.touch_sweep.specs.inside.Matches.{IsPairOf, IsMatchOf, IsMatchFrom, Gains}

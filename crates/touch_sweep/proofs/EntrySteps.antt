@@ -1,21 +1,6 @@
 -- rectangles are numbered one after the other
-use Rattle.std.proofs.Common.{ℕ, ◌+◌, ◌<◌, ◌≡◌, refl, sym, ap, subst, ◌∙◌, List, [], ◌∷◌, ◌++◌, length, get_or, arith, inl, inr, Some, false}
-use Rattle.std.specs.Prelude.{Contains, slice_get, ◌↔◌}
-use Rattle.std.proofs.lemmas.Bool.Decides.{eqb_tells}
-use Rattle.std.proofs.lemmas.List.Elements.{Contains-append_left, Contains-push, Contains-push_cases}
-use Rattle.std.proofs.lemmas.List.Sorted.{Contains-permutation, IsPermutation-sym}
-use Rattle.std.proofs.lemmas.Option.{slice_get_within}
-use Rattle.std.specs.List.Sorted.{IsPermutation}
-use Rattle.std.proofs.lemmas.List.Sorted.{ranks_by, sorted_far}
-use Rattle.std.proofs.lemmas.Cmp.{int_ranked, int_cmp_total}
-use Rattle.std.proofs.lemmas.Fn.{always_returns_same}
-use Rattle.std.proofs.lemmas.Int.{ints}
-use Rattle.std.specs.Fn.{Called, ComputesKey}
-use Rattle.std.specs.List.Sorted.{IsSortedByKey}
-use Rattle.std.specs.Ordering.{MatchOrdering, int_cmp, is_lt}
-use Rattle.std.specs.declared.cmp.Ordering.{Ordering}
-use Rattle.std.specs.declared.cmp.Ordering.TheVariants.{Less, Equal, Greater}
-use Rattle.std.specs.Prelude.{ℤ, ◌≤ℤ◌, ◌<ℤ◌}
+use Rattle.std.proofs.Common.{ℕ, ◌+◌, ◌<◌, ◌≡◌, refl, sym, ap, subst, ◌∙◌, List, [], ◌∷◌, ◌++◌, length, get_or, arith, inl, inr, Some, false, Contains, slice_get, ◌↔◌, ℤ, ◌≤ℤ◌, ◌<ℤ◌}
+use Rattle.lists.proofs.Words.{eqb_tells, Contains-append_left, Contains-push, Contains-push_cases, Contains-permutation, IsPermutation-sym, slice_get_within, IsPermutation, ranks_by, sorted_far, int_ranked, int_cmp_total, always_returns_same, ints, Called, ComputesKey, IsSortedByKey, MatchOrdering, int_cmp, is_lt, Ordering, Less, Equal, Greater}
 use denote.Param.Members.{Mut}
 use denote.Ref.{Bor}
 use Rattle.geo_core.specs.declared.plane.Rect.{Rect}

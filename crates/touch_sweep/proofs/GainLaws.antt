@@ -1,7 +1,6 @@
 -- what a list of pairs gains, step by step
-use Rattle.std.proofs.Common.{ℕ, ◌≡◌, sym, subst, List, [], ◌∷◌, ◌++◌, inl, inr, ◌⊎◌}
-use Rattle.std.specs.Prelude.{Contains}
-use Rattle.std.proofs.lemmas.List.Elements.{Contains-append_left, Contains-push, Contains-push_cases}
+use Rattle.std.proofs.Common.{ℕ, ◌≡◌, sym, subst, List, [], ◌∷◌, ◌++◌, inl, inr, ◌⊎◌, Contains}
+use Rattle.lists.proofs.Words.{Contains-append_left, Contains-push, Contains-push_cases}
 use Rattle.touch_sweep.specs.inside.Matches.{Gains}
 
 pub gains_nothing : {must may : ℕ × ℕ → Type 0} (pairs : List (ℕ × ℕ)) → ((p : ℕ × ℕ) → must p → ⊥) → Gains must may pairs pairs

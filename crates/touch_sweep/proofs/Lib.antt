@@ -6,3 +6,8 @@ pub mod StripSteps
 pub mod EntrySteps
 pub mod PairSteps
 pub mod AcrossSteps
+pub mod FarthestSteps
+pub mod LinkLaws
+pub mod ChainSteps
+pub mod LinkSteps
+pub mod LinkedRects

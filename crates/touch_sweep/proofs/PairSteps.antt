@@ -1,19 +1,12 @@
 -- from what the search found to the answer
-use Rattle.std.proofs.Common.{ℕ, ◌<◌, ◌≡◌, refl, sym, subst, List, [], ◌∷◌, arith, inl, inr, Bool, true, Some}
-use Rattle.std.specs.Prelude.{ℤ, ◌&&◌, nat_eq, All, AllPairs, Contains, slice_get, ◌↔◌, ◌≤ℤ◌}
-use Rattle.std.specs.Cmp.{IsEquivalence, IsTotalOrder, nat_cmp_total}
-use Rattle.std.specs.List.{dedup}
-use Rattle.std.specs.List.Sorted.{IsPermutation, IsSorted, IsStrictlySortedBy}
-use Rattle.std.specs.Ordering.{MatchOrdering, nat_cmp, ordering_then, eq_by_cmp}
-use Rattle.std.specs.declared.cmp.Ordering.{Ordering}
-use Rattle.std.specs.declared.cmp.Ordering.TheVariants.{Less, Equal, Greater}
-use Rattle.std.proofs.lemmas.Bool.Decides.{nat_tests}
-use Rattle.std.proofs.lemmas.Cmp.{ranked, on_total, then_total, on_equiv, and_equiv, nat_eq_equiv}
-use Rattle.std.proofs.lemmas.Int.{ints, by_lt_z}
-use Rattle.std.proofs.lemmas.List.Elements.{All-contains, All-from_recursion, All-weaker}
-use Rattle.std.proofs.lemmas.List.Kept.{AllPairs-cons, Contains-dedup, Contains-from_dedup, IsStrictlySortedBy-dedup}
-use Rattle.std.proofs.lemmas.List.Sorted.{Contains-permutation, IsPermutation-sym}
-use Rattle.geo_core.specs.Intervals.{IsIn}
+use Rattle.std.proofs.Common.{ℕ, ◌<◌, ◌≡◌, refl, sym, subst, List, [], ◌∷◌, arith, inl, inr, Bool, true, Some, ℤ, ◌&&◌, nat_eq, All, AllPairs, Contains, slice_get, ◌↔◌, ◌≤ℤ◌}
+use Rattle.lists.proofs.Words.{IsEquivalence, dedup, IsPermutation, IsSorted, MatchOrdering, Ordering, Less, Equal, Greater, nat_tests, on_equiv, and_equiv, nat_eq_equiv, ints, by_lt_z, All-contains, All-from_recursion, All-weaker, AllPairs-cons, Contains-dedup, Contains-from_dedup, Contains-permutation, IsPermutation-sym}
+use Rattle.std.specs.Cmp.{IsTotalOrder, nat_cmp_total}
+use Rattle.std.specs.List.Sorted.{IsStrictlySortedBy}
+use Rattle.std.specs.Ordering.{nat_cmp, ordering_then, eq_by_cmp}
+use Rattle.std.proofs.lemmas.Cmp.{ranked, on_total, then_total}
+use Rattle.std.proofs.lemmas.List.Kept.{IsStrictlySortedBy-dedup}
+use Rattle.geo_core.specs.Plane.{IsIn}
 use Rattle.geo_core.specs.declared.plane.Rect.{Rect}
 use Rattle.geo_core.proofs.RectLaws.{Touch-sym}
 use Rattle.touch_sweep.specs.inside.Entries.{AreNumbered}

@@ -1,9 +1,7 @@
 -- the steps of the search in a strip of columns
-use Rattle.std.proofs.Common.{ℕ, ◌≡◌, sym, subst, List, length, arith, inl, inr, ◌⊎◌, Bool, true}
-use Rattle.std.specs.Prelude.{ℤ, Contains, filter, ◌≤ℤ◌, ◌<ℤ◌}
-use Rattle.std.proofs.lemmas.Int.{ints, by_lt_z}
-use Rattle.std.proofs.lemmas.List.Kept.{AllPairs-filter}
-use Rattle.geo_core.specs.Intervals.{IsIn}
+use Rattle.std.proofs.Common.{ℕ, ◌≡◌, sym, subst, List, length, arith, inl, inr, ◌⊎◌, Bool, true, ℤ, Contains, filter, ◌≤ℤ◌, ◌<ℤ◌}
+use Rattle.lists.proofs.Words.{ints, by_lt_z, AllPairs-filter}
+use Rattle.geo_core.specs.Plane.{IsIn}
 use Rattle.touch_sweep.specs.inside.Entries.{IsByRow}
 use Rattle.touch_sweep.specs.inside.Strips.{begins_in, crosses, meets_partly}
 use Rattle.touch_sweep.specs.inside.Matches.{IsMatchOf, IsMatchFrom, Gains}
@@ -26,7 +24,7 @@ met low high e f g = by_lt_z low e.rect.x0
     (λ h. by_lt_z e.rect.x1 high (λ k. inr (grind (arith, ints))) (λ k. inl (grind (arith, ints))))
 
 -- matches of fewer entries
-of_more : {points spans some_points some_spans : List Numbered} → ((e : Numbered) → Contains some_points e → Contains points e) → ((e : Numbered) → Contains some_spans e → Contains spans e)
+pub of_more : {points spans some_points some_spans : List Numbered} → ((e : Numbered) → Contains some_points e → Contains points e) → ((e : Numbered) → Contains some_spans e → Contains spans e)
     → (p : ℕ × ℕ) → IsMatchOf some_points some_spans p → IsMatchOf points spans p
 of_more f g p m = record { point = m.point; among = f m.point m.among; match = record { other = m.match.other; among = g m.match.other m.match.among; match = m.match.match } }
 
@@ -34,25 +32,25 @@ module _ (low high : ℤ) (points spans inner partly : List Numbered) (inner_is 
   abbrev across : List Numbered
   across = filter (crosses low high) spans
 
-  in_points : (e : Numbered) → Contains inner e → Contains points e
+  pub in_points : (e : Numbered) → Contains inner e → Contains points e
   in_points e c = Contains-from_filter (begins_in low high) points e (subst (λ ys. Contains ys e) inner_is c)
 
-  across_in_spans : (e : Numbered) → Contains across e → Contains spans e
+  pub across_in_spans : (e : Numbered) → Contains across e → Contains spans e
   across_in_spans e c = Contains-from_filter (crosses low high) spans e c
 
-  partly_in_spans : (e : Numbered) → Contains partly e → Contains spans e
+  pub partly_in_spans : (e : Numbered) → Contains partly e → Contains spans e
   partly_in_spans e c = Contains-from_filter (meets_partly low high) spans e (subst (λ ys. Contains ys e) partly_is c)
 
-  in_inner : (e : Numbered) → Contains points e → IsIn low high e.rect.x0 → Contains inner e
+  pub in_inner : (e : Numbered) → Contains points e → IsIn low high e.rect.x0 → Contains inner e
   in_inner e c h = subst (λ ys. Contains ys e) (sym inner_is) (Contains-filter (begins_in low high) points e c (begins low high e h))
 
-  across_or_partly : (e : Numbered) → Contains spans e → e.rect.x0 <ℤ high → low ≤ℤ e.rect.x1 → Contains across e ⊎ Contains partly e
+  pub across_or_partly : (e : Numbered) → Contains spans e → e.rect.x0 <ℤ high → low ≤ℤ e.rect.x1 → Contains across e ⊎ Contains partly e
   across_or_partly e c f g = elim (met low high e f g) [
     | inl t ↦ inl (Contains-filter (crosses low high) spans e c t)
     | inr t ↦ inr (subst (λ ys. Contains ys e) (sym partly_is) (Contains-filter (meets_partly low high) spans e c t))
   ]
 
-  split : (p : ℕ × ℕ) → IsMatchFrom low high points spans p → IsMatchOf inner across p ⊎ IsMatchFrom low high inner partly p
+  pub split : (p : ℕ × ℕ) → IsMatchFrom low high points spans p → IsMatchOf inner across p ⊎ IsMatchFrom low high inner partly p
   split p m =
       let from = m.begins.from in let before = m.begins.before in let reached = m.reached in
       let ends = (touch_begins m.found.match.other.rect m.found.point.rect (Touch-sym _ _ m.found.match.match.touch)).0 in
@@ -81,14 +79,18 @@ pub from_sweep : (low high : ℤ) (points spans : List Numbered) {old new : List
     → Gains (IsMatchFrom low high points spans) (IsMatchOf points spans) old new
 from_sweep low high points spans g = gains_less g (λ p (m : IsMatchFrom low high points spans p). m.found) (λ p m. m)
 
+-- what begins in some columns begins in those before a middle one, or in the others
+pub in_a_half : (low high left_low left_high right_low right_high : ℤ) (points spans : List Numbered) → left_low ≡ low → left_high ≡ right_low → right_high ≡ high
+    → (p : ℕ × ℕ) → IsMatchFrom low high points spans p → IsMatchFrom left_low left_high points spans p ⊎ IsMatchFrom right_low right_high points spans p
+in_a_half low high left_low left_high right_low right_high points spans begins_is meets_is ends_is p m =
+    let from = m.begins.from in let before = m.begins.before in
+    by_lt_z m.found.point.rect.x0 right_low
+    (λ l. inl (record { found = m.found; begins = record { from = omega (arith, ints); before = omega (arith, ints) }; reached = m.reached }))
+    (λ l. inr (record { found = m.found; begins = record { from = l; before = omega (arith, ints) }; reached = m.reached }))
+
 -- the columns before a middle one, and the others
 pub from_halves : (low high left_low left_high right_low right_high : ℤ) (points spans : List Numbered) {old middle new : List (ℕ × ℕ)} → left_low ≡ low → left_high ≡ right_low → right_high ≡ high
     → Gains (IsMatchFrom left_low left_high points spans) (IsMatchOf points spans) old middle → Gains (IsMatchFrom right_low right_high points spans) (IsMatchOf points spans) middle new
     → Gains (IsMatchFrom low high points spans) (IsMatchOf points spans) old new
-from_halves low high left_low left_high right_low right_high points spans begins_is meets_is ends_is g h = gains_both g h half (λ p m. m) (λ p m. m) where
-  half : (p : ℕ × ℕ) → IsMatchFrom low high points spans p → IsMatchFrom left_low left_high points spans p ⊎ IsMatchFrom right_low right_high points spans p
-  half p m =
-      let from = m.begins.from in let before = m.begins.before in
-      by_lt_z m.found.point.rect.x0 right_low
-      (λ l. inl (record { found = m.found; begins = record { from = omega (arith, ints); before = omega (arith, ints) }; reached = m.reached }))
-      (λ l. inr (record { found = m.found; begins = record { from = l; before = omega (arith, ints) }; reached = m.reached }))
+from_halves low high left_low left_high right_low right_high points spans begins_is meets_is ends_is g h =
+    gains_both g h (in_a_half low high left_low left_high right_low right_high points spans begins_is meets_is ends_is) (λ p m. m) (λ p m. m)

@@ -1,10 +1,7 @@
 -- the columns in which entries begin
-use Rattle.std.proofs.Common.{ℕ, ◌+◌, ◌<◌, ◌≤◌, ◌≡◌, subst, List, length, get_or, take, arith}
-use Rattle.std.specs.Prelude.{ℤ, All, ◌≤ℤ◌, ◌<ℤ◌}
-use Rattle.std.proofs.lemmas.Int.{ints}
-use Rattle.std.proofs.lemmas.List.{take_all}
-use Rattle.std.proofs.lemmas.List.Elements.{All-more, All-weaker}
-use Rattle.geo_core.specs.Intervals.{IsIn}
+use Rattle.std.proofs.Common.{ℕ, ◌+◌, ◌<◌, ◌≤◌, ◌≡◌, subst, List, length, get_or, take, arith, ℤ, All, ◌≤ℤ◌, ◌<ℤ◌, take_all}
+use Rattle.lists.proofs.Words.{ints, All-more, All-weaker}
+use Rattle.geo_core.specs.Plane.{IsIn}
 use Rattle.touch_sweep.specs.declared.numbered.Numbered.{Numbered}
 
 -- the entries begin from `low` to before `high`

@@ -1,9 +1,7 @@
 -- the steps of a sweep up the rows
-use Rattle.std.proofs.Common.{ℕ, ◌+◌, ◌<◌, ◌≤◌, ◌≡◌, ◌∙◌, refl, sym, subst, List, [], ◌∷◌, ◌++◌, length, get_or, take, arith, inl, inr, ◌⊎◌}
-use Rattle.std.specs.Prelude.{Contains, ◌≤ℤ◌, ◌<ℤ◌}
-use Rattle.std.proofs.lemmas.Int.{ints}
-use Rattle.std.proofs.lemmas.List.{take_all}
-use Rattle.geo_core.specs.Cells.{Touch}
+use Rattle.std.proofs.Common.{ℕ, ◌+◌, ◌<◌, ◌≤◌, ◌≡◌, ◌∙◌, refl, sym, subst, List, [], ◌∷◌, ◌++◌, length, get_or, take, arith, inl, inr, ◌⊎◌, Contains, ◌≤ℤ◌, ◌<ℤ◌, take_all}
+use Rattle.lists.proofs.Words.{ints}
+use Rattle.geo_core.specs.Plane.{Touch}
 use Rattle.touch_sweep.specs.inside.Entries.{IsByRow}
 use Rattle.touch_sweep.specs.inside.Matches.{IsMatch, IsMatchWith, IsMatchOf, Gains}
 use Rattle.touch_sweep.specs.declared.numbered.Numbered.{Numbered}
@@ -12,7 +10,7 @@ use Rattle.touch_sweep.proofs.TouchLaws.{touch_begins, IsMatch-sym}
 use Rattle.lists.proofs.Containing.{Contains-cons_cases, Contains-head, Contains-none, Contains-tail, Contains-take_cases}
 use Rattle.lists.proofs.Differing.{AllPairs-tail, at_or_past}
 
-IsByRow-tail : (x : Numbered) (rest : List Numbered) → IsByRow (x ∷ rest) → IsByRow rest
+pub IsByRow-tail : (x : Numbered) (rest : List Numbered) → IsByRow (x ∷ rest) → IsByRow rest
 IsByRow-tail = AllPairs-tail (λ a b. a.rect.y0 ≤ℤ b.rect.y0)
 
 -- ---- two entries

@@ -1,6 +1,6 @@
 -- the rectangles of a list that touch, and those of two lists that meet, as pairs of their numbers
 use Rattle.std.specs.Prelude.{ℕ, List, Some, slice_get, ◌<◌, ◌≤◌, ◌≡◌, ◌⊎◌}
-use Rattle.geo_core.specs.Cells.{Overlap, Touch}
+use Rattle.geo_core.specs.Plane.{Overlap, Touch}
 use Rattle.geo_core.specs.declared.plane.Rect.{Rect}
 
 -- the numbers, counted from 0, of two rectangles of the list that touch, the lesser number first

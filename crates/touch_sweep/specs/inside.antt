@@ -1,3 +1,4 @@
 pub mod Entries
 pub mod Matches
+pub mod Chains
 pub mod Strips

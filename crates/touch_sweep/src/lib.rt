@@ -4,17 +4,21 @@
 #![tactic(auto)]
 
 mod across;
+mod chain;
+mod link;
 mod numbered;
 mod order;
 mod search;
 mod strip;
 mod sweep;
 
-ghost use Rattle.std.specs.Prelude.{ℕ, AllPairs, Contains, IfOk, ◌↔◌};
+ghost use Rattle.std.specs.Prelude.{ℕ, length, AllPairs, Contains, IfOk, ◌↔◌};
+ghost use Rattle.classes.specs.Classes.{AreJoined};
 ghost use Rattle.touch_sweep.specs.Touching.{AreMeeting, AreTouching, ComesBefore};
 
 use across::{joined, meeting_among, touching_across};
 use geo_core::{NoMemory, Rect};
+use link::link;
 use numbered::by_row;
 use order::in_order;
 use search::search;
@@ -37,6 +41,26 @@ pub fn touch_pairs(alloc: Global, rects: &[Rect]) -> Result<Vec<(usize, usize)>,
     let mut pairs = Vec::new(alloc);
     search(alloc, entries, entries, strip, &mut pairs)?;
     Ok(in_order(pairs))
+}
+
+/// Some pairs of rectangles that touch, by which all that touch are joined: where two rectangles touch, a chain of the
+/// pairs leads from the one to the other.
+///
+/// Where many rectangles lie on one another, or across one another, these are far fewer than all pairs. A pair has the
+/// lesser number first. Pairs come in no order, and may come more than once. Numbers are counted from 0. The only error is
+/// that no memory is left.
+pub fn touch_links(alloc: Global, rects: &[Rect]) -> Result<Vec<(usize, usize)>, NoMemory>
+    ensures touching { IfOk result (λ pairs. (a b : ℕ) → Contains pairs.items (a, b) → AreTouching rects.now a b) }
+    ensures joined { IfOk result (λ pairs. (a b : ℕ) → AreTouching rects.now a b →
+        AreJoined (length rects.now) pairs.items a b) }
+{
+    let entries = by_row(alloc, rects)?;
+    let entries = entries.as_slice();
+    let columns = beginnings(alloc, rects)?;
+    let strip = Strip::around(entries, columns.as_slice());
+    let mut pairs = Vec::new(alloc);
+    link(alloc, entries, entries, strip, &mut pairs)?;
+    Ok(pairs)
 }
 
 /// All pairs of a rectangle of the first list and one of the second list that have a cell in common, by their numbers,

@@ -1,4 +1,4 @@
-ghost use Rattle.std.specs.Prelude.{filter, length, All, IfOk, ◌≡◌, ◌<◌, ◌≤◌};
+ghost use Rattle.std.specs.Prelude.{pos, filter, length, All, IfOk, IsTrue, ◌+ℤ◌, ◌≡◌, ◌<◌, ◌≤◌, ◌≤ℤ◌};
 ghost use Rattle.touch_sweep.specs.inside.Strips.{begins_in, crosses, meets_partly};
 ghost use Rattle.geo_core.specs.Intervals.{IsIn};
 
@@ -51,6 +51,13 @@ impl<'a> Strip<'a> {
             splits: after,
         };
         (left, right)
+    }
+
+    /// Whether there is one column at most.
+    pub fn is_narrow(self) -> bool
+        ensures { IsTrue result → self.entry.high ≤ℤ (self.entry.low +ℤ pos 1) }
+    {
+        self.high <= self.low.saturating_add(1)
     }
 
     /// Whether the entry begins in one of the columns.

@@ -1,4 +1,4 @@
-ghost use Rattle.std.specs.Prelude.{OnOk};
+ghost use Rattle.std.specs.Prelude.{true, IfOk, OnOk, ◌≡◌};
 ghost use Rattle.touch_sweep.specs.inside.Entries.{IsByRow};
 ghost use Rattle.touch_sweep.specs.inside.Matches.{IsMatch, IsMatchWith, IsMatchOf, Gains};
 
@@ -33,6 +33,39 @@ pub fn sweep(
     Ok(())
 }
 
+/// Does the same, or ends early where there are more than so many pairs, and tells whether it came to the end.
+pub fn sweep_some(
+    mut points: &[Numbered],
+    mut spans: &[Numbered],
+    most: usize,
+    pairs: &mut Vec<(usize, usize)>,
+) -> Result<bool, AllocError>
+    requires points { IsByRow points.now }
+    requires spans { IsByRow spans.now }
+    ensures some { OnOk result (Gains (λ p. ⊥) (IsMatchOf points.entry.now spans.entry.now)
+        pairs.old.items pairs.new.items) }
+    ensures all { IfOk result (λ is_whole. is_whole ≡ true →
+        let found = IsMatchOf points.entry.now spans.entry.now in
+        Gains found found pairs.old.items pairs.new.items) }
+{
+    while let Some((point, later_points)) = points.split_first() {
+        let Some((span, later_spans)) = spans.split_first() else {
+            return Ok(true);
+        };
+        if pairs.len() > most {
+            return Ok(false);
+        }
+        if point.rect.y0 <= span.rect.y0 {
+            add_all(*point, spans, pairs)?;
+            points = later_points;
+        } else {
+            add_all(*span, points, pairs)?;
+            spans = later_spans;
+        }
+    }
+    Ok(true)
+}
+
 /// Adds the numbers of this entry and each of the others that it touches. The others are in the order of their lowest
 /// rows, and those that begin above it are not looked at.
 fn add_all(
@@ -54,7 +87,11 @@ fn add_all(
 }
 
 /// Adds the numbers of the two entries, the lesser one first, where they touch and are not the same.
-fn add(one: Numbered, other: Numbered, pairs: &mut Vec<(usize, usize)>) -> Result<(), AllocError>
+pub fn add(
+    one: Numbered,
+    other: Numbered,
+    pairs: &mut Vec<(usize, usize)>,
+) -> Result<(), AllocError>
     ensures { OnOk result (let found = IsMatch one other in
         Gains found found pairs.old.items pairs.new.items) }
 {

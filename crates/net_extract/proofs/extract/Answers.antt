@@ -1,9 +1,7 @@
-use Rattle.std.proofs.Common.{◌≡◌, ◌∙◌, length, map, arith}
-use Rattle.std.specs.Prelude.{All, Err}
-use Rattle.std.specs.List.{AllZip, enumerate_from}
-use Rattle.std.proofs.lemmas.List.{length-map}
+use Rattle.std.proofs.Common.{◌≡◌, ◌∙◌, length, map, arith, All, Err}
+use Rattle.lists.proofs.Words.{AllZip, enumerate_from, length-map}
 use Rattle.first_refusal.specs.Checks.{Checks, all_hold}
-use Rattle.map_model.specs.MapView.{terminal_of}
+use Rattle.map_model.specs.MapNames.{terminal_of}
 use Rattle.net_extract.specs.inside.Anchoring.{IsAnchorOf, IsOnIsland}
 use Rattle.net_extract.specs.Extraction.{off_metal}
 use Rattle.net_extract.specs.inside.Numbering.{AreIslandsOf, AreContactLists, AreNetNumbers, piece_of}

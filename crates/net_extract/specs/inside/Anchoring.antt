@@ -1,7 +1,6 @@
 -- on which islands terminals stand
-use Rattle.std.specs.Prelude.{ℕ, List, Contains, Option, Some, None, length, slice_get, ◌<◌, ◌≡◌, ◌⊎◌}
-use Rattle.std.specs.Option.{option_to_list}
-use Rattle.geo_core.specs.Cells.{Has}
+use Rattle.std.specs.Prelude.{ℕ, List, Contains, Option, Some, None, length, slice_get, ◌<◌, ◌≡◌, ◌⊎◌, option_to_list}
+use Rattle.geo_core.specs.Plane.{Has}
 use Rattle.geo_core.specs.declared.plane.Cell.{Cell}
 use Rattle.geo_core.specs.declared.plane.Labelled.{Labelled}
 use Rattle.geo_core.specs.declared.plane.Rect.{Rect}

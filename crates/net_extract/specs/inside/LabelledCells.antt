@@ -1,10 +1,9 @@
 -- cells of labelled rectangles, and of contact pieces
 use Rattle.std.specs.Prelude.{ℕ, List, Contains, ◌≡◌, ◌↔◌}
-use Rattle.geo_core.specs.Cells.{Has}
+use Rattle.geo_core.specs.Plane.{Has, IsInUnion}
 use Rattle.geo_core.specs.declared.plane.Cell.{Cell}
 use Rattle.geo_core.specs.declared.plane.Labelled.{Labelled}
 use Rattle.geo_core.specs.declared.plane.Rect.{Rect}
-use Rattle.geo_core.specs.Unions.{IsInUnion}
 use Rattle.net_extract.specs.declared.pieces.ContactPiece.{ContactPiece}
 
 -- a rectangle with this label has the cell
@@ -41,3 +40,7 @@ AreContactsOf cut lower upper contacts =
 -- the parts have exactly the cells of the rectangles that the cut's rectangles have, too, and keep the labels
 abbrev pub ArePartsIn : List Rect → List Labelled → List Labelled → Type 0
 ArePartsIn cut rects parts = (i : ℕ) (c : Cell) → HasLabelled parts i c ↔ (IsInUnion cut c × HasLabelled rects i c)
+
+-- the rectangles of the one list have the same cells under each label as those of the other
+abbrev pub HaveSameLabelled : List Labelled → List Labelled → Type 0
+HaveSameLabelled one other = (i : ℕ) (c : Cell) → HasLabelled other i c ↔ HasLabelled one i c

@@ -5,11 +5,9 @@ use Rattle.geo_core.specs.declared.plane.Cell.{Cell}
 use Rattle.geo_core.specs.declared.plane.Half.{Half}
 use Rattle.geo_core.specs.declared.plane.Labelled.{Labelled}
 use Rattle.geo_core.specs.declared.plane.Rect.{Rect}
-use Rattle.geo_core.specs.Unions.{IsInUnion}
-use Rattle.fault_model.specs.Halves.{IsOn}
-use Rattle.fault_model.specs.Walks.{IsSameIsland}
+use Rattle.geo_core.specs.Plane.{IsInUnion, IsCoveredIn}
+use Rattle.fault_model.specs.FaultNames.{IsOn, IsSameIsland}
 use Rattle.map_model.specs.declared.layers.Cut.{Cut}
-use Rattle.geo_core.specs.Unions.{IsCoveredIn}
 use Rattle.net_extract.specs.inside.LabelledCells.{HasLabelled, AreContactsOf}
 use Rattle.net_extract.specs.declared.pieces.ContactPiece.{ContactPiece}
 use Rattle.net_extract.specs.declared.pieces.Piece.{Piece}

@@ -1,5 +1,4 @@
-use Rattle.std.proofs.Common.{◌∙◌, ℕ, ◌++◌, length, List, subst}
-use Rattle.std.specs.Prelude.{Contains, ◌↔◌}
+use Rattle.std.proofs.Common.{◌∙◌, ℕ, ◌++◌, length, List, subst, Contains, ◌↔◌}
 use Rattle.geo_core.specs.declared.plane.Rect.{Rect}
 use Rattle.touch_sweep.specs.Touching.{AreTouchingAcross}
 use Rattle.touch_sweep.proofs.AcrossSteps.{exact_meetings}

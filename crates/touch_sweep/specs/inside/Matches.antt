@@ -1,7 +1,6 @@
 -- which pairs of numbers stand for two entries, and what a list of pairs gains
 use Rattle.std.specs.Prelude.{ℕ, ℤ, List, Contains, ◌<◌, ◌≤ℤ◌, ◌≡◌, ◌⊎◌}
-use Rattle.geo_core.specs.Cells.{Touch}
-use Rattle.geo_core.specs.Intervals.{IsIn}
+use Rattle.geo_core.specs.Plane.{Touch, IsIn}
 use Rattle.touch_sweep.specs.declared.numbered.Numbered.{Numbered}
 
 -- the two numbers, which differ, the lesser one first

@@ -1,12 +1,7 @@
-use Rattle.std.proofs.Common.{◌<◌, ◌≤◌, ◌∙◌, ap, get_or, length, take, take_all, map, refl, subst, arith}
-use Rattle.std.specs.Prelude.{All, pos, Some}
-use Rattle.std.specs.List.{AllZip, enumerate_from}
-use Rattle.std.proofs.lemmas.Option.{slice_get-get_or, slice_get_read}
-use Rattle.std.proofs.lemmas.List.{length-map, take_more}
-use Rattle.std.proofs.lemmas.List.FromFn.{length-enumerate_from}
+use Rattle.std.proofs.Common.{◌<◌, ◌≤◌, ◌∙◌, ap, get_or, length, take, take_all, map, refl, subst, arith, All, pos, Some}
+use Rattle.lists.proofs.Words.{AllZip, enumerate_from, slice_get-get_or, slice_get_read, length-map, take_more, length-enumerate_from, All-nil}
 use Rattle.first_refusal.specs.Checks.{all_hold, one_fails}
-use Rattle.std.proofs.lemmas.List.Elements.{All-nil}
-use Rattle.map_model.specs.MapView.{terminal_of}
+use Rattle.map_model.specs.MapNames.{terminal_of}
 use Rattle.map_model.specs.declared.layers.Terminal.{Terminal}
 use Rattle.net_extract.specs.inside.Anchoring.{IsAnchorOf, IsOnIsland}
 use Rattle.first_refusal.specs.Answers.{gives, refuses}

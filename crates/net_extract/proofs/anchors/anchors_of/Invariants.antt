@@ -1,7 +1,6 @@
-use Rattle.std.proofs.Common.{take, map}
-use Rattle.std.specs.Prelude.{All}
-use Rattle.std.specs.List.{AllZip, enumerate_from}
-use Rattle.map_model.specs.MapView.{terminal_of}
+use Rattle.std.proofs.Common.{take, map, All}
+use Rattle.lists.proofs.Words.{AllZip, enumerate_from}
+use Rattle.map_model.specs.MapNames.{terminal_of}
 use Rattle.net_extract.specs.inside.Anchoring.{IsAnchorOf, IsOnIsland}
 use Rattle.net_extract.proofs.anchors.anchors_of.Given as goal
 

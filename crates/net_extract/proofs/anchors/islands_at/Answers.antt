@@ -1,5 +1,5 @@
 use Rattle.std.proofs.Common.{◌≡◌, ◌∙◌, [], length, get_or, refl, sym, subst, arith}
-use Rattle.std.proofs.lemmas.List.{get_or_read}
+use Rattle.lists.proofs.Words.{get_or_read}
 use Rattle.net_extract.specs.inside.Anchoring.{AreFound, IsMarked}
 use Rattle.net_extract.specs.inside.LabelledCells.{AreMeetings}
 use Rattle.lists.proofs.Reading.{put_back}

@@ -1,5 +1,5 @@
 use Rattle.std.proofs.Common.{arith}
-use Rattle.std.proofs.lemmas.Int.{ints}
+use Rattle.lists.proofs.Words.{ints}
 use Rattle.net_extract.proofs.SpotLaws.{is_cell}
 use Rattle.net_extract.proofs.anchors.rect_at.Goals as goal
 

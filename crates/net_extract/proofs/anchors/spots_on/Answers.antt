@@ -1,8 +1,5 @@
-use Rattle.std.specs.Option.{option_to_list}
-use Rattle.std.proofs.Common.{◌+◌, ◌++◌, get_or, subst}
-use Rattle.std.specs.Prelude.{Option, Some, None, pos}
-use Rattle.std.proofs.lemmas.List.{append-nil}
-use Rattle.std.proofs.lemmas.Option.{slice_get-get_or}
+use Rattle.std.proofs.Common.{option_to_list, ◌+◌, ◌++◌, get_or, subst, Option, Some, None, pos}
+use Rattle.lists.proofs.Words.{append-nil, slice_get-get_or}
 use Rattle.geo_core.specs.declared.plane.Labelled.{Labelled}
 use Rattle.map_model.specs.declared.layers.Terminal.{Terminal}
 use Rattle.net_extract.specs.inside.Anchoring.{IsSpotOf}

@@ -1,5 +1,4 @@
-use Rattle.std.proofs.Common.{◌≡◌, take, map}
-use Rattle.std.specs.Prelude.{filter, ◌==◌, ◌&&◌}
+use Rattle.std.proofs.Common.{◌≡◌, take, map, filter, ◌==◌, ◌&&◌}
 use Rattle.net_extract.proofs.carried.cells_on.Given as goal
 
 abbrev pub invariant-loop-anchor : goal.invariant-loop-anchor

@@ -1,7 +1,5 @@
-use Rattle.std.proofs.Common.{get_or, subst, take, take_all}
-use Rattle.std.specs.Prelude.{pos}
-use Rattle.std.proofs.lemmas.List.{take_more}
-use Rattle.std.proofs.lemmas.List.Filters.{dedup_is}
+use Rattle.std.proofs.Common.{get_or, subst, take, take_all, pos}
+use Rattle.lists.proofs.Words.{take_more, dedup_is}
 use Rattle.net_extract.proofs.CarriedLaws.{HasCarried, none_carried, one_carried, other_metal, sorted_once}
 use Rattle.net_extract.specs.declared.pieces.Anchor.{Anchor}
 use Rattle.net_extract.proofs.carried.islands_carried.Goals as goal

@@ -1,5 +1,4 @@
-use Rattle.std.proofs.Common.{◌≡◌, take, map}
-use Rattle.std.specs.Prelude.{filter, ◌==◌}
+use Rattle.std.proofs.Common.{◌≡◌, take, map, filter, ◌==◌}
 use Rattle.net_extract.proofs.carried.rects_on.Given as goal
 
 abbrev pub invariant-loop-piece : goal.invariant-loop-piece

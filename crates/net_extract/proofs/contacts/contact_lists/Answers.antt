@@ -1,7 +1,6 @@
 use Rattle.std.proofs.Common.{◌+◌, ◌<◌, ◌∙◌, [], length, get_or, refl, sym, subst, arith}
-use Rattle.std.proofs.lemmas.List.{get_or_read}
-use Rattle.std.proofs.lemmas.Option.{slice_get_read}
-use Rattle.map_model.specs.Layers.{JoinsMetals}
+use Rattle.lists.proofs.Words.{get_or_read, slice_get_read}
+use Rattle.map_model.specs.MapNames.{JoinsMetals}
 use Rattle.net_extract.specs.inside.LabelledCells.{AreContactsOf}
 use Rattle.net_extract.proofs.ContactLaws.{no_cuts, all_cuts, one_cut_more}
 use Rattle.net_extract.proofs.contacts.contact_lists.Goals as goal

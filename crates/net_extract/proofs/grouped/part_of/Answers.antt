@@ -1,6 +1,5 @@
-use Rattle.std.proofs.Common.{◌-◌, ◌≡◌, ◌∙◌, drop, leb, length, ltb, ap, take, rules}
-use Rattle.std.specs.Prelude.{filter, ◌==◌}
-use Rattle.std.proofs.lemmas.List.{take_rest}
+use Rattle.std.proofs.Common.{◌-◌, ◌≡◌, ◌∙◌, drop, leb, length, ltb, ap, take, rules, filter, ◌==◌}
+use Rattle.lists.proofs.Words.{take_rest}
 use Rattle.std.proofs.lemmas.List.Sorted.{IsNonDecreasingBy-drop, IsPartitionPoint-from_clause, IsPartitionedBy-leb, IsPartitionedBy-ltb}
 use Rattle.net_extract.specs.declared.pieces.Piece.{Piece}
 use Rattle.net_extract.proofs.GroupLaws.{in_rest, in_front}

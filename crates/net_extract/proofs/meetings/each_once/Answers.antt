@@ -1,4 +1,4 @@
-use Rattle.std.proofs.lemmas.List.Filters.{dedup_is}
+use Rattle.lists.proofs.Words.{dedup_is}
 use Rattle.net_extract.proofs.MeetingLaws.{piece_eq, same_pieces}
 use Rattle.net_extract.proofs.meetings.each_once.Goals as goal
 

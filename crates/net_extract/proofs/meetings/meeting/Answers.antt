@@ -1,5 +1,4 @@
-use Rattle.std.proofs.Common.{◌≡◌, refl, arith}
-use Rattle.std.specs.Prelude.{None}
+use Rattle.std.proofs.Common.{◌≡◌, refl, arith, None}
 use Rattle.net_extract.proofs.MeetingLaws.{none_found, one_found}
 use Rattle.net_extract.proofs.meetings.meeting.Goals as goal
 

@@ -1,8 +1,5 @@
-use Rattle.std.specs.Option.{option_to_list}
-use Rattle.std.proofs.Common.{◌+◌, ◌++◌, ◌∙◌, refl, subst, get_or, length, take, take_all, arith}
-use Rattle.std.specs.Prelude.{Option, Some, None}
-use Rattle.std.proofs.lemmas.List.{append-nil, take_more}
-use Rattle.std.proofs.lemmas.Option.{slice_get_read}
+use Rattle.std.proofs.Common.{option_to_list, ◌+◌, ◌++◌, ◌∙◌, refl, subst, get_or, length, take, take_all, arith, Option, Some, None}
+use Rattle.lists.proofs.Words.{append-nil, take_more, slice_get_read}
 use Rattle.net_extract.specs.declared.pieces.ContactPiece.{ContactPiece}
 use Rattle.net_extract.proofs.MeetingLaws.{IsFound, AreMetBy, exact_of, none_met, met_more, all_met, meetings_once, pair_within}
 use Rattle.net_extract.proofs.meetings.meetings.Goals as goal

@@ -1,6 +1,7 @@
 use Rattle.std.proofs.Common.{◌≤◌, ◌<◌, length, take_all, refl, ap, map, ◌+◌, ◌∙◌, arith}
-use Rattle.std.proofs.lemmas.Option.{slice_get_read}
+use Rattle.lists.proofs.Words.{slice_get_read}
 use Rattle.net_extract.proofs.IslandLaws.{label_small, islands_from}
+use Rattle.net_extract.proofs.SlimLaws.{islands_slim}
 use Rattle.net_extract.proofs.metals.islands_from.Goals as goal
 
 pub overflow_add-first : goal.overflow_add-first
@@ -21,6 +22,6 @@ returns c =
     let one_each = labelling.one_each in
     let k = c.loop-k.k in
     let past : length labels ≤ k = omega arith in
-    rw c.from_vec.ensures
-    (islands_from rects labels c.args.first _ (c.loop-k.invariant.rects ∙ take_all k rects c.loop-k-test.false)
-    (c.loop-k.invariant.labels ∙ ap (map (λ n. c.args.first + n)) (take_all k labels past)) labelling c.in_ok-labels.ensures.islands)
+    let islands = islands_from rects labels c.args.first _ (c.loop-k.invariant.rects ∙ take_all k rects c.loop-k-test.false)
+    (c.loop-k.invariant.labels ∙ ap (map (λ n. c.args.first + n)) (take_all k labels past)) labelling c.in_ok-labels.ensures.islands in
+    rw c.from_vec.ensures (islands_slim rects _ _ _ _ islands c.in_ok-slim.ensures)

@@ -1,5 +1,5 @@
 use Rattle.std.proofs.Common.{◌<◌, ◌≡◌, ◌+◌, length, get_or, [], subst, ◌∙◌, arith}
-use Rattle.std.proofs.lemmas.List.{get_or_read}
+use Rattle.lists.proofs.Words.{get_or_read}
 use Rattle.net_extract.specs.inside.Numbering.{AreIslandsFrom}
 use Rattle.net_extract.proofs.MetalLaws.{no_metals, one_metal_more}
 use Rattle.net_extract.proofs.metals.metal_islands.Goals as goal

@@ -1,8 +1,7 @@
 use Rattle.net_extract.proofs.LinkLaws.{links_are}
-use Rattle.std.specs.List.{flat_map}
-use Rattle.std.proofs.Common.{ap, ◌∙◌, take_all}
+use Rattle.std.proofs.Common.{ap, ◌∙◌, take_all, map}
+use Rattle.lists.proofs.Words.{flat_map}
 use Rattle.net_extract.proofs.LinkLaws.{carried}
-use Rattle.std.proofs.Common.{map}
 use Rattle.net_extract.proofs.numbers.links.Goals as goal
 
 pub returns : goal.returns

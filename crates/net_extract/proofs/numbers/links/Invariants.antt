@@ -1,5 +1,5 @@
 use Rattle.std.proofs.Common.{◌≡◌, take, map}
-use Rattle.std.specs.List.{flat_map}
+use Rattle.lists.proofs.Words.{flat_map}
 use Rattle.net_extract.proofs.numbers.links.Given as goal
 
 abbrev pub invariant-loop-list : goal.invariant-loop-list

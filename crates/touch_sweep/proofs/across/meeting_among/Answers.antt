@@ -1,6 +1,5 @@
 use Rattle.std.proofs.Common.{ℕ, ◌+◌, ◌-◌, ◌≡◌, refl, subst, length, get_or, take, take_all, arith}
-use Rattle.std.proofs.lemmas.List.{take_more}
-use Rattle.std.proofs.lemmas.Option.{slice_get_read}
+use Rattle.lists.proofs.Words.{take_more, slice_get_read}
 use Rattle.touch_sweep.proofs.AcrossSteps.{AreMeetingAmong, none_among, one_meets, one_apart, not_meeting, pair_at, within_second}
 use Rattle.touch_sweep.proofs.across.meeting_among.Goals as goal
 use Rattle.touch_sweep.proofs.across.meeting_among.Goals.{then-overlaps+in_ok-push, else-overlaps}

@@ -1,5 +1,4 @@
-use Rattle.std.proofs.Common.{◌≡◌, take, nat_lt, not}
-use Rattle.std.specs.Prelude.{filter}
+use Rattle.std.proofs.Common.{◌≡◌, take, nat_lt, not, filter}
 use Rattle.touch_sweep.proofs.across.parted.Given as goal
 
 abbrev pub invariant-loop-entry : goal.invariant-loop-entry

@@ -1,5 +1,5 @@
 use Rattle.std.proofs.Common.{refl, arith}
-use Rattle.std.proofs.lemmas.Option.{slice_get_read}
+use Rattle.lists.proofs.Words.{slice_get_read}
 use Rattle.touch_sweep.proofs.EntrySteps.{none_numbered, one_more_numbered, all_numbered}
 use Rattle.touch_sweep.proofs.numbered.with_numbers.Goals as goal
 

@@ -1,4 +1,4 @@
-use Rattle.std.proofs.lemmas.List.Filters.{dedup_is}
+use Rattle.lists.proofs.Words.{dedup_is}
 use Rattle.touch_sweep.proofs.PairSteps.{pair_eq, rising_pairs, same_pairs}
 use Rattle.touch_sweep.proofs.order.in_order.Goals as goal
 

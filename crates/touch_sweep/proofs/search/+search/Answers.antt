@@ -1,6 +1,5 @@
 use Rattle.std.proofs.Common.{◌∙◌, refl, arith}
-use Rattle.std.proofs.lemmas.Bool.Decides.{nat_tests}
-use Rattle.std.proofs.lemmas.Result.{IfOk-weaker}
+use Rattle.lists.proofs.Words.{nat_tests, IfOk-weaker}
 use Rattle.touch_sweep.specs.inside.Strips.{begins_in, meets_partly}
 use Rattle.touch_sweep.proofs.SearchSteps.{IsByRow-filter, nothing_begins, in_two_steps, from_sweep, from_halves}
 use Rattle.touch_sweep.proofs.search.+search.Goals as goal

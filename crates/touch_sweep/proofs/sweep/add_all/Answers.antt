@@ -1,5 +1,5 @@
 use Rattle.std.proofs.Common.{arith}
-use Rattle.std.proofs.lemmas.Int.{ints}
+use Rattle.lists.proofs.Words.{ints}
 use Rattle.touch_sweep.proofs.SweepSteps.{none_yet, one_more, rest_apart, all_others}
 use Rattle.touch_sweep.proofs.sweep.add_all.Goals as goal
 

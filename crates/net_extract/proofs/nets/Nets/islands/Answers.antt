@@ -1,6 +1,5 @@
-use Rattle.std.proofs.Common.{◌<◌, ◌≤◌, ◌≡◌, ◌∙◌, ap, get_or, length, subst, take_all, arith}
-use Rattle.std.specs.Prelude.{filter}
-use Rattle.std.specs.List.{AllZip}
+use Rattle.std.proofs.Common.{◌<◌, ◌≤◌, ◌≡◌, ◌∙◌, ap, get_or, length, subst, take_all, arith, filter}
+use Rattle.lists.proofs.Words.{AllZip}
 use Rattle.net_extract.specs.AnchoredIslands.{rects_of_island, anchors_of_island, IsIslandNumbered, AreDifferentCarried}
 use Rattle.net_extract.proofs.AnchoredLaws.{each_island, is_anchored, one_island, island_more, island_left_out, all_islands}
 use Rattle.net_extract.proofs.GroupLaws.{rects_of_part}

@@ -1,6 +1,5 @@
 use Rattle.std.proofs.Common.{arith}
-use Rattle.std.proofs.lemmas.Int.{ints, clamps}
-use Rattle.std.proofs.lemmas.List.Elements.{All-nil}
+use Rattle.lists.proofs.Words.{ints, clamps, All-nil}
 use Rattle.touch_sweep.proofs.StripSteps.{more_within, all_within}
 use Rattle.touch_sweep.proofs.strip.Strip.around.Goals as goal
 

@@ -1,6 +1,5 @@
-use Rattle.std.proofs.Common.{take}
-use Rattle.std.specs.Prelude.{All}
-use Rattle.geo_core.specs.Intervals.{IsIn}
+use Rattle.std.proofs.Common.{take, All}
+use Rattle.geo_core.specs.Plane.{IsIn}
 use Rattle.touch_sweep.proofs.strip.Strip.around.Given as goal
 
 abbrev pub invariant-loop-entry : goal.invariant-loop-entry

@@ -1,6 +1,5 @@
-use Rattle.std.proofs.Common.{◌≡◌, ap, true, false}
-use Rattle.std.specs.Int.Signed.{le_z, lt_z}
-use Rattle.std.specs.Prelude.{ℤ, not, ◌&&◌}
+use Rattle.std.proofs.Common.{◌≡◌, ap, true, false, ℤ, not, ◌&&◌}
+use Rattle.lists.proofs.Words.{le_z, lt_z}
 use Rattle.touch_sweep.specs.declared.numbered.Numbered.{Numbered}
 use Rattle.touch_sweep.specs.inside.Strips.{crosses, meets_partly}
 use Rattle.touch_sweep.proofs.strip.Strip.met.Goals as goal

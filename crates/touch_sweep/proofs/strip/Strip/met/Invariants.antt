@@ -1,5 +1,4 @@
-use Rattle.std.proofs.Common.{◌≡◌, take}
-use Rattle.std.specs.Prelude.{filter}
+use Rattle.std.proofs.Common.{◌≡◌, take, filter}
 use Rattle.touch_sweep.specs.inside.Strips.{crosses, meets_partly}
 use Rattle.touch_sweep.proofs.strip.Strip.met.Given as goal
 

@@ -1,0 +1,5 @@
+use Rattle.net_extract.proofs.ClusterLaws.{carry_clusters}
+use Rattle.net_extract.proofs.laws.groups_are_clusters.Goals as goal
+
+pub returns : goal.returns
+returns c = carry_clusters

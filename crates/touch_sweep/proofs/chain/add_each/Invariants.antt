@@ -1,0 +1,5 @@
+use Rattle.touch_sweep.proofs.SweepSteps.{GainsFirst}
+use Rattle.touch_sweep.proofs.chain.add_each.Given as goal
+
+abbrev pub invariant-loop-other : goal.invariant-loop-other
+invariant-loop-other l = GainsFirst l.one l.others l.other-index l.initial.pairs.items l.pairs.items

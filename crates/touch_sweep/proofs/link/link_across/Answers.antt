@@ -1,0 +1,18 @@
+use Rattle.std.proofs.Common.{◌∙◌, refl}
+use Rattle.touch_sweep.specs.inside.Strips.{crosses}
+use Rattle.touch_sweep.proofs.SearchSteps.{IsByRow-filter}
+use Rattle.touch_sweep.proofs.LinkSteps.{column_across}
+use Rattle.touch_sweep.proofs.link.link_across.Goals as goal
+
+pub join-requires : goal.join-requires
+join-requires c =
+    let low = c.args.strip.low in let high = c.args.strip.high in
+    let across_is = c.as_slice.ensures.value ∙ c.in_ok-across.ensures.across in
+    record {
+      points = c.requires.points;
+      spans = IsByRow-filter (crosses low high) c.args.spans.now _ across_is c.requires.spans;
+      rows = column_across low high c.args.points.now c.args.spans.now _ c.requires.begin refl _ across_is;
+    }
+
+pub returns-clause-across : goal.returns-clause-across
+returns-clause-across c = rw (c.as_slice.ensures.value, c.in_ok-across.ensures.across) at c.in_ok-join.ensures

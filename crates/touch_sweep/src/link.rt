@@ -1,0 +1,120 @@
+ghost use Rattle.std.specs.Prelude.{filter, All, IfOk, OnOk, ◌≡◌};
+ghost use Rattle.geo_core.specs.Intervals.{IsIn};
+ghost use Rattle.touch_sweep.specs.inside.Entries.{IsByRow};
+ghost use Rattle.touch_sweep.specs.inside.Matches.{IsMatchOf, IsMatchFrom};
+ghost use Rattle.touch_sweep.specs.inside.Chains.{AreInRow, IsMatchAfter, Links};
+ghost use Rattle.touch_sweep.specs.inside.Strips.{crosses, meets_partly};
+
+use super::chain::chain;
+use super::numbered::Numbered;
+use super::strip::{Met, Strip};
+use super::sweep::{sweep, sweep_some};
+use std::alloc::{AllocError, Global};
+
+/// Where no more than this many rectangles begin, all pairs are looked at.
+const FEW: usize = 16;
+
+/// Where there are no more than this many pairs for each point, they are all right: a sweep is quicker than chains.
+const ENOUGH: usize = 4;
+
+/// Adds pairs of numbers by which each point and each span that touch are joined, where the point begins in the strip
+/// and the span begins no later than the point. Both lists are in the order of their lowest rows.
+pub fn link(
+    alloc: Global,
+    points: &[Numbered],
+    spans: &[Numbered],
+    strip: Strip<'_>,
+    pairs: &mut Vec<(usize, usize)>,
+) -> Result<(), AllocError>
+    requires points { IsByRow points.now }
+    requires spans { IsByRow spans.now }
+    ensures { OnOk result (Links
+        (IsMatchFrom strip.entry.low strip.entry.high points.now spans.now) (IsMatchOf points.now spans.now)
+        pairs.old.items pairs.new.items) }
+{
+    let points = strip.beginning(alloc, points)?;
+    let points = points.as_slice();
+    if points.is_empty() {
+        return Ok(());
+    }
+    let spans = link_across(alloc, points, spans, strip, pairs)?;
+    let spans = spans.as_slice();
+    if points.len() <= FEW {
+        return sweep(points, spans, pairs);
+    }
+    if strip.splits.len() <= 1 {
+        return link_column(alloc, points, spans, pairs);
+    }
+    let (left, right) = strip.halves();
+    link(alloc, points, spans, left, pairs)?;
+    link(alloc, points, spans, right, pairs)
+}
+
+/// Adds pairs of numbers by which each point and each span that touch are joined, where the span reaches over all columns
+/// of the strip, and gives the spans that meet some of them only. All points begin in the strip.
+fn link_across(
+    alloc: Global,
+    points: &[Numbered],
+    spans: &[Numbered],
+    strip: Strip<'_>,
+    pairs: &mut Vec<(usize, usize)>,
+) -> Result<Vec<Numbered>, AllocError>
+    requires points { IsByRow points.now }
+    requires spans { IsByRow spans.now }
+    requires begin { All (λ e. IsIn strip.low strip.high e.rect.x0) points.now }
+    ensures across { OnOk result (
+        let found = IsMatchOf points.now (filter (crosses strip.entry.low strip.entry.high) spans.now) in
+        Links found found pairs.old.items pairs.new.items) }
+    ensures partly { IfOk result (λ partly.
+        partly.items ≡ filter (meets_partly strip.entry.low strip.entry.high) spans.now) }
+{
+    let Met { across, partly } = strip.met(alloc, spans)?;
+    join(alloc, points, across.as_slice(), pairs)?;
+    Ok(partly)
+}
+
+/// Adds pairs of numbers by which each point and each span that touch are joined, where their rows alone tell whether
+/// they touch: all pairs as long as these are few, and else chains.
+fn join(
+    alloc: Global,
+    points: &[Numbered],
+    spans: &[Numbered],
+    pairs: &mut Vec<(usize, usize)>,
+) -> Result<(), AllocError>
+    requires points { IsByRow points.now }
+    requires spans { IsByRow spans.now }
+    requires rows { AreInRow points.now spans.now }
+    ensures { OnOk result (let found = IsMatchOf points.now spans.now in
+        Links found found pairs.old.items pairs.new.items) }
+{
+    let most = pairs
+        .len()
+        .saturating_add(ENOUGH.saturating_mul(points.len()));
+    let is_whole = sweep_some(points, spans, most, pairs)?;
+    if is_whole {
+        return Ok(());
+    }
+    chain(alloc, points, spans, pairs)
+}
+
+/// Adds pairs of numbers by which each point and each span that touch are joined, where the span begins no later than
+/// the point. It is meant for points that all begin in one column.
+fn link_column(
+    alloc: Global,
+    points: &[Numbered],
+    spans: &[Numbered],
+    pairs: &mut Vec<(usize, usize)>,
+) -> Result<(), AllocError>
+    requires points { IsByRow points.now }
+    requires spans { IsByRow spans.now }
+    ensures { OnOk result (Links
+        (IsMatchAfter points.now spans.now) (IsMatchOf points.now spans.now)
+        pairs.old.items pairs.new.items) }
+{
+    let column = Strip::around(points, &[]);
+    if !column.is_narrow() {
+        return sweep(points, spans, pairs);
+    }
+    let partly = link_across(alloc, points, spans, column, pairs)?;
+    chain(alloc, points, partly.as_slice(), pairs)
+}
