@@ -1,5 +1,8 @@
 pub mod TallyParts
-pub mod PlaceLaws
-pub mod LabelLaws
-pub mod NearLaws
 pub mod SizeLaws
+pub mod ZoneLaws
+pub mod Touching
+pub mod Counting
+pub mod RunLaws
+pub mod KeptLaws
+pub mod Ordering

@@ -1,11 +1,10 @@
 -- the parts of a window are smaller than the window, which is what the recursion measures
-use Rattle.std.proofs.Common.{ℕ, ◌+◌, ◌<◌, ◌≡◌, arith}
-use Rattle.std.specs.Prelude.{pos, ◌+ℤ◌, ◌-ℤ◌}
-use Rattle.std.proofs.lemmas.Int.{ints}
+use Rattle.std.proofs.Common.{ℕ, ◌+◌, ◌<◌, ◌≡◌, arith, pos, ◌+ℤ◌, ◌-ℤ◌}
+use Rattle.lists.proofs.Words.{ints}
 use Rattle.geo_core.specs.declared.axis.Axis.{Axis}
 use Rattle.geo_core.specs.declared.axis.Axis.TheVariants.{X, Y}
 use Rattle.geo_core.specs.declared.plane.Rect.{Rect}
-use Rattle.fault_model.specs.Areas.{or_zero}
+use Rattle.fault_model.specs.FaultNames.{or_zero}
 use Rattle.fault_model.proofs.RangeLaws.{or_zero_is}
 use Rattle.short_area.specs.inside.Windows.{AreParts}
 

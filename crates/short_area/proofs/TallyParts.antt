@@ -1,18 +1,13 @@
 -- the tallies of a rectangle's parts add up to its own, and none is large
-use Rattle.std.proofs.Common.{ℕ, suc, ◌+◌, ◌*◌, ◌^◌, ◌<◌, ◌≤◌, ◌≡◌, refl, sym, List, [], ◌∷◌, ◌++◌, length, arith}
-use Rattle.std.specs.Prelude.{ℤ, ◌-ℤ◌, ◌≤ℤ◌, map}
-use Rattle.std.specs.List.{flat_map}
-use Rattle.std.proofs.lemmas.Int.{ints}
-use Rattle.std.proofs.lemmas.List.{map-append, length-map}
-use Rattle.std.proofs.lemmas.Grind.{flat_map-append}
-use Rattle.std.proofs.lemmas.Nat.{mul-le}
-use Rattle.geo_core.specs.Intervals.{IsInterval}
+use Rattle.std.proofs.Common.{ℕ, suc, ◌+◌, ◌*◌, ◌^◌, ◌<◌, ◌≤◌, ◌≡◌, refl, sym, List, [], ◌∷◌, ◌++◌, length, arith, ℤ, ◌-ℤ◌, ◌≤ℤ◌, map}
+use Rattle.lists.proofs.Words.{flat_map, ints, map-append, length-map, flat_map-append, mul-le}
+use Rattle.geo_core.specs.Plane.{IsInterval}
 use Rattle.geo_core.specs.declared.axis.Axis.{Axis}
 use Rattle.geo_core.specs.declared.axis.Axis.TheVariants.{X, Y}
 use Rattle.geo_core.specs.declared.bounds.TheConstants.{FARTHEST_GROWN}
 use Rattle.geo_core.specs.declared.plane.Cell.{Cell}
 use Rattle.geo_core.specs.declared.plane.Rect.{Rect}
-use Rattle.fault_model.specs.Areas.{Tally, none, hit, miss, or_zero, range, row, cells_of}
+use Rattle.fault_model.specs.FaultNames.{Tally, none, hit, miss, or_zero, range, row, cells_of}
 use Rattle.fault_model.proofs.RangeLaws.{or_zero_is, range-join, length-range, length-times}
 use Rattle.fault_model.proofs.TallyLaws.{Tally-append, Tally-le-length}
 use Rattle.short_area.specs.inside.Windows.{AreLeftAndRight, AreBelowAndAbove, AreParts}

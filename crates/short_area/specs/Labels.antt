@@ -1,10 +1,10 @@
 -- pieces with labels, and where a defect touches two of different labels
 use Rattle.std.specs.Prelude.{ℕ, List, Contains, ◌+◌, ◌≢◌, ◌≡◌}
-use Rattle.geo_core.specs.Cells.{Has}
+use Rattle.geo_core.specs.Plane.{Has}
 use Rattle.geo_core.specs.declared.plane.Cell.{Cell}
 use Rattle.geo_core.specs.declared.plane.Half.{Half}
 use Rattle.geo_core.specs.declared.plane.Labelled.{Labelled}
-use Rattle.fault_model.specs.Halves.{IsOn, IsInFootprint}
+use Rattle.fault_model.specs.FaultNames.{IsOn, IsInFootprint}
 
 -- a piece with this label has a half square in the footprint of the defect of this radius at the cell
 pub record TouchesLabel (pieces : List Labelled) (radius : ℕ) (c : Cell) (label : ℕ) : Type 0 where

@@ -1,2 +1,4 @@
-pub mod WindowPlaces
 pub mod Windows
+pub mod Zones
+pub mod LabelRuns
+pub mod AreaSteps

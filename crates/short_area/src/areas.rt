@@ -1,22 +1,15 @@
-ghost use Rattle.std.specs.Prelude.{◌<◌, ◌^◌, ◌≡◌, IfOk, length};
+ghost use Rattle.std.specs.Prelude.{◌<◌, ◌^◌, IfOk};
 ghost use Rattle.geo_core.specs.Bounds.{IsRadius};
 ghost use Rattle.fault_model.specs.Areas.{Tally, cells_of};
 ghost use Rattle.short_area.specs.Labels.{TouchesTwoLabels};
+ghost use Rattle.short_area.specs.inside.Zones.{IsCountOf};
 
-use super::labels::has_two_labels_near;
-use super::places::Extent;
-use super::windows::{parts_of, pieces_near};
+use super::halves::{halves, parts_at};
+use super::steps::Step;
+use super::ways::next_step;
+use super::zones::zones_of;
 use geo_core::{Labelled, NoMemory, Rect};
 use std::alloc::Global;
-
-/// How many cells the rectangle has.
-fn count_of(rect: Rect) -> u64
-    ensures { result ≡ length (cells_of rect) }
-{
-    let width = rect.x1.abs_diff(rect.x0);
-    let height = rect.y1.abs_diff(rect.y0);
-    u64::from(height) * u64::from(width)
-}
 
 /// How many cells of the window are the centre of a defect that touches pieces of two labels. The defect is the square
 /// of side `2r` round the cell's centre, in database units. A cell counts once, whether it is near two labels or more,
@@ -30,21 +23,27 @@ pub fn short_area(alloc: Global, pieces: &[Labelled], window: Rect, r: u32) -> R
     // No edge of a window is further than 1,001,000,000 from 0.
     ensures small { IfOk result (λ n. n < 2 ^ 63) }
 {
-    // Near fewer than two labels no cell counts, and where two labels are near each cell, all count. Otherwise the
-    // window is parted where some piece comes near or is no longer near, and each part looks at its own pieces alone.
-    if !has_two_labels_near(pieces, Extent::Part, window, r) {
-        return Ok(0);
-    }
-    let near = pieces_near(alloc, pieces, window, r)?;
-    let near = near.as_slice();
-    if has_two_labels_near(near, Extent::Whole, window, r) {
-        return Ok(count_of(window));
-    }
-    match parts_of(near, window, r) {
-        None => Ok(count_of(window)),
-        Some((first, second)) => {
-            let one = short_area(alloc, near, first, r)?;
-            let other = short_area(alloc, near, second, r)?;
+    let zones = zones_of(alloc, pieces, window, r)?;
+    counted(alloc, zones, window, usize::MAX)
+}
+
+/// How many cells of the window lie in zones of two labels. Of more than an eighth of `hopeless` zones no runs are tried,
+/// since so many had too many of them.
+fn counted(
+    alloc: Global,
+    zones: Vec<Labelled>,
+    window: Rect,
+    hopeless: usize,
+) -> Result<u64, NoMemory>
+    ensures { IfOk result (λ n. IsCountOf zones.items window n) }
+{
+    match next_step(alloc, zones.as_slice(), window, hopeless)? {
+        Step::Count(count) => Ok(count),
+        Step::Halve(axis, place, hopeless) => {
+            let (first, second) = parts_at(window, axis, place);
+            let (before, behind) = halves(alloc, zones, first, second)?;
+            let one = counted(alloc, before, first, hopeless)?;
+            let other = counted(alloc, behind, second, hopeless)?;
             Ok(one + other)
         }
     }

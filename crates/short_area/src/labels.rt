@@ -1,48 +1,103 @@
-ghost use Rattle.std.specs.Prelude.{ℕ, ◌≢◌, ◌↔◌, All, IsTrue, IfNone, IfSome};
+ghost use Rattle.std.specs.Prelude.{ℕ, ◌≡◌, ◌≢◌, All, IfNone, IfOk, IfSome, IsTrue};
+ghost use Rattle.geo_core.specs.Cells.{Has};
+ghost use Rattle.geo_core.specs.declared.plane.Cell.{Cell};
 ghost use Rattle.geo_core.specs.declared.plane.Labelled.{Labelled};
-ghost use Rattle.short_area.specs.inside.Windows.{IsNearWindow, HasLabelNear, HasTwoLabelsNear};
+ghost use Rattle.short_area.specs.inside.Zones.{AreSplit, HaveNoThird, IsInTwoLabels, IsWholeIn};
 
-use super::places::Extent;
-use super::windows::is_near;
-use geo_core::{Labelled, Rect};
+use geo_core::{Labelled, NoMemory, Rect};
+use std::alloc::Global;
 
-/// The label of the first piece that is near the window.
-fn first_label(pieces: &[Labelled], extent: Extent, window: Rect, radius: u32) -> Option<usize>
-    ensures some { IfSome result (HasLabelNear pieces.now extent window radius) }
-    ensures none { IfNone result (All (λ piece. IsNearWindow extent piece.rect window radius → ⊥) pieces.now) }
+/// The label of the first zone that has another one than this.
+fn other_label(zones: &[Labelled], label: usize) -> Option<usize>
+    ensures { IfNone result (All (λ zone. zone.label ≡ label) zones.now) }
 {
-    for piece in pieces {
-        if is_near(extent, piece.rect, window, radius) {
-            return Some(piece.label);
+    for zone in zones {
+        if zone.label != label {
+            return Some(zone.label);
         }
     }
     None
 }
 
-/// Whether a piece of another label is near the window.
-fn has_other_label(
-    pieces: &[Labelled],
-    extent: Extent,
-    window: Rect,
-    radius: u32,
-    label: usize,
-) -> bool
-    ensures { IsTrue result ↔ (other : ℕ) × HasLabelNear pieces.now extent window radius other × (label ≢ other) }
+/// Two of the labels, where there are two.
+pub fn two_labels(zones: &[Labelled]) -> Option<(usize, usize)>
+    ensures { IfNone result ((c : Cell) → IsInTwoLabels zones.now c → ⊥) }
 {
-    for piece in pieces {
-        if piece.label != label && is_near(extent, piece.rect, window, radius) {
+    let label = match zones.first() {
+        None => 0,
+        Some(zone) => zone.label,
+    };
+    match other_label(zones, label) {
+        None => None,
+        Some(other) => Some((label, other)),
+    }
+}
+
+/// Whether each zone has one of these two labels.
+pub fn have_no_third(zones: &[Labelled], one: usize, other: usize) -> bool
+    ensures { IsTrue result → HaveNoThird zones.now one other }
+{
+    for zone in zones {
+        if zone.label != one && zone.label != other {
+            return false;
+        }
+    }
+    true
+}
+
+/// Whether the rectangle has all cells of the window.
+fn is_whole(rect: Rect, window: Rect) -> bool
+    ensures { IsTrue result → (c : Cell) → Has window c → Has rect c }
+{
+    if window.x0 < rect.x0 || rect.x1 < window.x1 {
+        return false;
+    }
+    if window.y0 < rect.y0 || rect.y1 < window.y1 {
+        return false;
+    }
+    true
+}
+
+/// The label of a zone that has all cells of the window.
+pub fn whole_label(zones: &[Labelled], window: Rect) -> Option<usize>
+    ensures { IfSome result (λ label. IsWholeIn window zones.now label) }
+{
+    for zone in zones {
+        if is_whole(zone.rect, window) {
+            return Some(zone.label);
+        }
+    }
+    None
+}
+
+/// Whether a zone of another label has all cells of the window.
+pub fn is_other_whole(zones: &[Labelled], window: Rect, label: usize) -> bool
+    ensures { IsTrue result → (other : ℕ) × (label ≢ other) × IsWholeIn window zones.now other }
+{
+    for zone in zones {
+        if zone.label != label && is_whole(zone.rect, window) {
             return true;
         }
     }
     false
 }
 
-/// Whether pieces of two labels are near the window: each of them near some cell of it, or each near all cells.
-pub fn has_two_labels_near(pieces: &[Labelled], extent: Extent, window: Rect, radius: u32) -> bool
-    ensures { IsTrue result ↔ HasTwoLabelsNear pieces.now extent window radius }
+/// The rectangles of the zones with this label, and those of the others.
+pub fn split(
+    alloc: Global,
+    zones: &[Labelled],
+    label: usize,
+) -> Result<(Vec<Rect>, Vec<Rect>), NoMemory>
+    ensures { IfOk result (λ both. AreSplit zones.now label both.0.items both.1.items) }
 {
-    match first_label(pieces, extent, window, radius) {
-        None => false,
-        Some(label) => has_other_label(pieces, extent, window, radius, label),
+    let mut own = Vec::new(alloc);
+    let mut others = Vec::new(alloc);
+    for zone in zones {
+        if zone.label == label {
+            own.push(zone.rect)?;
+        } else {
+            others.push(zone.rect)?;
+        }
     }
+    Ok((own, others))
 }

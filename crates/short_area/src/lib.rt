@@ -1,14 +1,19 @@
 //! At how many cells of a window a square defect touches pieces of two labels.
 //!
-//! The window is parted again and again at the edges of the pieces that are near it, until all cells of a part are near
-//! pieces of two labels or none is. A defect touches a piece where the piece is near both the column and the row of the
-//! defect's cell, so places along an axis are spoken of once, for columns and for rows.
+//! The cells of the window that are near a piece are a rectangle, the *zone* of the piece, and what is asked for is how
+//! many cells lie in zones of two labels. A window is halved while that parts its zones. What is left is swept: the zones of
+//! each label become rectangles without common cells, so that a cell lies in as many of these as it has labels. Each halving
+//! is right and each sweep is right, so what chooses between them changes the time alone.
 #![tactic(auto)]
 
 mod areas;
-mod changes;
+mod halves;
 mod labels;
 mod places;
-mod windows;
+mod runs;
+mod steps;
+mod sweeps;
+mod ways;
+mod zones;
 
 pub use areas::short_area;

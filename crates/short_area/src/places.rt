@@ -1,37 +1,219 @@
-ghost use Rattle.std.specs.Prelude.{pos, ◌+ℤ◌, ◌-ℤ◌, ◌≡◌, ◌↔◌, IsTrue};
+ghost use Rattle.std.specs.Prelude.{◌≡◌, ◌⊎◌, IfSome};
 ghost use Rattle.geo_core.specs.Axes.{low_along, high_along};
-ghost use Rattle.short_area.specs.inside.WindowPlaces.{IsNearPlaces};
+ghost use Rattle.geo_core.specs.Intervals.{IsIn};
+ghost use Rattle.geo_core.specs.declared.axis.Axis.{Axis};
+ghost use Rattle.short_area.specs.inside.Windows.{IsBetween};
 
-use geo_core::{Axis, Interval, Rect};
+use geo_core::{Axis, Interval, Labelled, Rect};
 
-/// How much of a window a rectangle has to be near.
+/// How zones lie about the middle of a window.
 #[derive(Clone, Copy)]
-pub enum Extent {
-    /// Some of it.
-    Part,
-    /// All of it.
-    Whole,
+pub struct Spread {
+    /// How many zones there are.
+    zones: usize,
+    /// How many have columns on both sides of the middle.
+    across: usize,
+    /// How many have rows on both sides of it.
+    up: usize,
+    /// How many do both and are about as wide as high.
+    broad: usize,
 }
 
-/// The places along the axis that the rectangle is near: from the first number to before the second.
-pub fn near_places(rect: Rect, axis: Axis, radius: u32) -> (i64, i64)
-    ensures from { result.0 ≡ low_along axis rect -ℤ pos radius }
-    ensures before { result.1 ≡ high_along axis rect +ℤ pos radius }
-{
-    let places = rect.along(axis);
-    let by = i64::from(radius);
-    (i64::from(places.low) - by, i64::from(places.high) + by)
-}
+/// Of so few zones each pair may be looked at.
+const FEW: usize = 64;
 
-/// Whether the rectangle is near some of these places along the axis, or near all of them.
-pub fn is_near_places(extent: Extent, rect: Rect, axis: Axis, radius: u32, places: Interval) -> bool
-    ensures { IsTrue result ↔ IsNearPlaces extent rect axis radius places.low places.high }
-{
-    let (from, before) = near_places(rect, axis, radius);
-    let start = i64::from(places.low);
-    let end = i64::from(places.high);
-    match extent {
-        Extent::Part => from < end && start < before,
-        Extent::Whole => from <= start && end <= before,
+/// One of so many zones on both sides of the middle is few.
+const SHARE: usize = 8;
+
+/// So many broad zones over the middle soon have all cells of the parts.
+const BROAD: usize = 8;
+
+/// A broad zone is at most so many times as wide as high, or as high as wide.
+const BREADTH: u64 = 4;
+
+impl Spread {
+    /// Counts one zone more.
+    fn add(self, across: bool, up: bool, broad: bool) -> Spread {
+        Spread {
+            zones: self.zones.saturating_add(1),
+            across: self.across.saturating_add(usize::from(across)),
+            up: self.up.saturating_add(usize::from(up)),
+            broad: self
+                .broad
+                .saturating_add(usize::from(across && up && broad)),
+        }
     }
+
+    /// Whether so many broad zones lie over the middle that parts will soon be covered whole.
+    pub fn is_deep(self) -> bool {
+        BROAD <= self.broad
+    }
+
+    /// Whether each pair of the zones may be looked at.
+    pub fn is_few(self) -> bool {
+        self.zones <= FEW
+    }
+
+    /// Whether few zones lie on both sides of the middle along one of the axes.
+    pub fn is_parted(self) -> bool {
+        self.across.min(self.up) <= self.zones / SHARE
+    }
+}
+
+/// How the zones lie about the middle of the window.
+pub fn spread_of(zones: &[Labelled], window: Rect) -> Spread {
+    let x = middle_of(window.columns());
+    let y = middle_of(window.rows());
+    let mut spread = Spread {
+        zones: 0,
+        across: 0,
+        up: 0,
+        broad: 0,
+    };
+    for zone in zones {
+        let rect = zone.rect;
+        let across = rect.x0 < x && x < rect.x1;
+        let up = rect.y0 < y && y < rect.y1;
+        spread = spread.add(across, up, is_broad(rect));
+    }
+    spread
+}
+
+/// Whether neither side is much longer than the other.
+fn is_broad(rect: Rect) -> bool {
+    let width = u64::from(rect.x1.abs_diff(rect.x0));
+    let height = u64::from(rect.y1.abs_diff(rect.y0));
+    width <= BREADTH * height && height <= BREADTH * width
+}
+
+/// Whether one label has most of the zones: it leads all others together by half of them. The label that is left over
+/// when zones of different labels are taken away in pairs is the only one that can, and so many of its zones are left.
+pub fn has_leader(zones: &[Labelled]) -> bool {
+    let mut leader: usize = 0;
+    let mut lead: usize = 0;
+    for zone in zones {
+        if zone.label == leader {
+            lead = lead.saturating_add(1);
+        } else if lead == 0 {
+            leader = zone.label;
+            lead = 1;
+        } else {
+            lead -= 1;
+        }
+    }
+    zones.len() / 2 <= lead
+}
+
+/// A number of the interval in its middle.
+fn middle_of(places: Interval) -> i32
+    ensures { IsIn places.low places.high result }
+{
+    places.low + (places.high - places.low) / 2
+}
+
+/// The middle of the places, if it has places on both sides.
+fn inner_middle(places: Interval) -> Option<i32>
+    ensures { IfSome result (IsBetween places.low places.high) }
+{
+    let middle = middle_of(places);
+    if places.low < middle {
+        return Some(middle);
+    }
+    None
+}
+
+/// Twice the distance of the place from the middle of the places.
+fn distance_from_middle(places: Interval, place: i32) -> u64 {
+    let middle = i64::from(places.low) + i64::from(places.high);
+    (2 * i64::from(place)).abs_diff(middle)
+}
+
+/// This place, where it lies between the ends of the places and nearer to their middle than the one found before.
+fn more_central(places: Interval, found: Option<i32>, place: i32) -> Option<i32>
+    requires { IfSome found (IsBetween places.low places.high) }
+    ensures { IfSome result (IsBetween places.low places.high) }
+{
+    if place <= places.low || places.high <= place {
+        return found;
+    }
+    let Some(other) = found else {
+        return Some(place);
+    };
+    if distance_from_middle(places, other) <= distance_from_middle(places, place) {
+        return Some(other);
+    }
+    Some(place)
+}
+
+/// Of the edges of zones that lie between the ends of the places, one that is nearest to their middle.
+fn central_edge(zones: &[Labelled], axis: Axis, places: Interval) -> Option<i32>
+    ensures { IfSome result (IsBetween places.low places.high) }
+{
+    let mut nearest = None;
+    for zone in zones {
+        let edges = zone.rect.along(axis);
+        nearest = more_central(places, nearest, edges.low);
+        nearest = more_central(places, nearest, edges.high);
+    }
+    nearest
+}
+
+/// The axis of the longer side, and the other one.
+fn longer_first(window: Rect) -> (Axis, Axis) {
+    if window.x1.abs_diff(window.x0) < window.y1.abs_diff(window.y0) {
+        return (Axis::Y, Axis::X);
+    }
+    (Axis::X, Axis::Y)
+}
+
+/// The axis along which fewer zones lie on both sides of the middle, and the other one.
+fn less_crossed_first(window: Rect, spread: Spread) -> (Axis, Axis) {
+    if spread.across < spread.up {
+        return (Axis::X, Axis::Y);
+    }
+    if spread.up < spread.across {
+        return (Axis::Y, Axis::X);
+    }
+    longer_first(window)
+}
+
+/// The edge of a zone at which to halve the window: nearest to the middle of its longer side, or else of the other.
+fn edge_to_halve_at(zones: &[Labelled], window: Rect) -> Option<(Axis, i32)>
+    ensures { IfSome result (λ cut. IsBetween (low_along cut.0 window) (high_along cut.0 window) cut.1) }
+{
+    let (longer, shorter) = longer_first(window);
+    if let Some(place) = central_edge(zones, longer, window.along(longer)) {
+        return Some((longer, place));
+    }
+    match central_edge(zones, shorter, window.along(shorter)) {
+        None => None,
+        Some(place) => Some((shorter, place)),
+    }
+}
+
+/// The middle at which to halve the window: along the axis with fewer zones on both sides, or else along the other.
+fn middle_to_halve_at(window: Rect, spread: Spread) -> Option<(Axis, i32)>
+    ensures { IfSome result (λ cut. IsBetween (low_along cut.0 window) (high_along cut.0 window) cut.1) }
+{
+    let (first, second) = less_crossed_first(window, spread);
+    if let Some(place) = inner_middle(window.along(first)) {
+        return Some((first, place));
+    }
+    match inner_middle(window.along(second)) {
+        None => None,
+        Some(place) => Some((second, place)),
+    }
+}
+
+/// Where to halve the window, along which axis: in the middle where few zones lie on both sides of it. Else at the edge of
+/// a zone, since zones that reach over all of a part soon decide it. There is no place where there is one cell.
+pub fn place_to_halve(zones: &[Labelled], window: Rect, spread: Spread) -> Option<(Axis, i32)>
+    ensures { IfSome result (λ cut. IsBetween (low_along cut.0 window) (high_along cut.0 window) cut.1) }
+{
+    if !spread.is_parted() {
+        if let Some(cut) = edge_to_halve_at(zones, window) {
+            return Some(cut);
+        }
+    }
+    middle_to_halve_at(window, spread)
 }

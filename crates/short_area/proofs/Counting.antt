@@ -1,0 +1,124 @@
+-- counts of the cells of two labels
+use Rattle.std.proofs.Common.{ℕ, suc, ◌+◌, ◌-◌, ◌^◌, ◌<◌, ◌≤◌, ◌≡◌, ◌≢◌, refl, sym, ap, ◌∙◌, subst, List, [], ◌∷◌, ◌++◌, length, inl, inr, ◌⊎◌, ◌↔◌, arith, Result, Ok, Err, IfOk, Contains}
+use Rattle.geo_core.specs.Plane.{Has, IsInUnion}
+use Rattle.geo_core.specs.declared.plane.Cell.{Cell}
+use Rattle.geo_core.specs.declared.plane.Labelled.{Labelled}
+use Rattle.geo_core.specs.declared.plane.Rect.{Rect}
+use Rattle.geo_core.specs.declared.axis.Axis.{Axis}
+use Rattle.fault_model.specs.FaultNames.{Tally, none, hit, miss, cells_of}
+use Rattle.fault_model.proofs.CellLaws.{Contains-cells_of}
+use Rattle.fault_model.proofs.TallyLaws.{Tally-none, Tally-same, Tally-same_all}
+use Rattle.lists.proofs.Containing.{Contains-head, Contains-tail}
+use Rattle.depth_sweep.specs.Runs.{IsInTwo}
+use Rattle.short_area.specs.Labels.{TouchesTwoLabels}
+use Rattle.short_area.specs.inside.LabelRuns.{AreRunsOf}
+use Rattle.short_area.specs.inside.Windows.{AreParts}
+use Rattle.short_area.specs.inside.Zones.{AreAlikeIn, AreSplit, AreZonesOf, HaveNoThird, HaveSameTwo, IsCountOf, IsInLabel, IsInTwoLabels, IsWholeIn}
+use Rattle.short_area.proofs.TallyParts.{few_cells, few_tallied, parts_tally}
+use Rattle.short_area.proofs.RunLaws.{union_append}
+use Rattle.short_area.proofs.Touching.{two_touched}
+use Rattle.short_area.proofs.ZoneLaws.{beside_whole, both_of_two, two_alike}
+
+-- ---- tallies of two properties
+
+-- the tally of both together with that of either is that of the one and that of the other
+record BothTally (P Q : Cell → Type 0) (cells : List Cell) (m n k : ℕ) : Type 0 where
+  pub both : ℕ
+  pub tally : Tally (λ c. P c × Q c) cells both
+  pub sum : m + n ≡ k + both
+
+module _ (P Q R : Cell → Type 0) (either : (c : Cell) → R c ↔ (P c ⊎ Q c)) where
+  Tally-both : (cells : List Cell) (m n k : ℕ) → Tally P cells m → Tally Q cells n → Tally R cells k → BothTally P Q cells m n k
+  Tally-both [] m n k none none none = record { both = 0; tally = none; sum = omega arith }
+  Tally-both (c ∷ cs) m n k (hit {n = a} p s) (hit {n = b} q t) (hit {n = d} r u) =
+      let rest = Tally-both cs a b d s t u in let e = rest.sum in record { both = suc rest.both; tally = hit (p, q) rest.tally; sum = omega arith }
+  Tally-both (c ∷ cs) m n k (hit {n = a} p s) (miss q t) (hit {n = d} r u) =
+      let rest = Tally-both cs a n d s t u in let e = rest.sum in record { both = rest.both; tally = miss (λ h. q h.1) rest.tally; sum = omega arith }
+  Tally-both (c ∷ cs) m n k (miss p s) (hit {n = b} q t) (hit {n = d} r u) =
+      let rest = Tally-both cs m b d s t u in let e = rest.sum in record { both = rest.both; tally = miss (λ h. p h.0) rest.tally; sum = omega arith }
+  Tally-both (c ∷ cs) m n k (miss p s) (miss q t) (hit r u) = elim ((either c).0 r) [ inl h ↦ absurd (p h) | inr h ↦ absurd (q h) ]
+  Tally-both (c ∷ cs) m n k (hit p s) t (miss r u) = absurd (r ((either c).1 (inl p)))
+  Tally-both (c ∷ cs) m n k (miss p s) (hit q t) (miss r u) = absurd (r ((either c).1 (inr q)))
+  Tally-both (c ∷ cs) m n k (miss p s) (miss q t) (miss r u) =
+      let rest = Tally-both cs m n k s t u in let e = rest.sum in record { both = rest.both; tally = miss (λ h. p h.0) rest.tally; sum = omega arith }
+
+-- ---- counts
+
+pub count_of_none : (zones : List Labelled) (window : Rect) → ((c : Cell) → IsInTwoLabels zones c → ⊥) → IsCountOf zones window 0
+count_of_none zones window never = record { tally = Tally-none (cells_of window) (λ c h. never c); small = omega arith }
+
+-- the tally of a property that holds of each cell of the list
+Tally-each : {P : Cell → Type 0} (cells : List Cell) → ((c : Cell) → Contains cells c → P c) → Tally P cells (length cells)
+Tally-each [] each = none
+Tally-each (c ∷ cs) each = hit (each c (Contains-head c cs)) (Tally-each cs (λ d h. each d (Contains-tail c cs d h)))
+
+pub count_of_all : (zones : List Labelled) (window : Rect) (one other n : ℕ) → IsWholeIn window zones one → IsWholeIn window zones other → one ≢ other → n ≡ length (cells_of window) → IsCountOf zones window n
+count_of_all zones window one other n h k different e =
+    let in_two : (c : Cell) → Contains (cells_of window) c → IsInTwoLabels zones c = λ c at.
+    let has = (Contains-cells_of window c).0 at in record { one = one; other = other; in_one = h c has; in_other = k c has; different = different } in
+    let few = few_cells window in
+    record { tally = subst (Tally (IsInTwoLabels zones) (cells_of window)) (sym e) (Tally-each (cells_of window) in_two); small = omega arith }
+
+-- what is counted where the same cells are
+pub count_by : {E : Type 0} (P : Cell → Type 0) (zones : List Labelled) (window : Rect) (result : Result ℕ E) → ((c : Cell) → Has window c → P c ↔ IsInTwoLabels zones c)
+    → IfOk result (λ (n : ℕ). Tally P (cells_of window) n) → IfOk result (λ (n : ℕ). n < 2 ^ 63) → IfOk result (λ (n : ℕ). IsCountOf zones window n)
+count_by P zones window (Ok n) same tally small = record { tally = Tally-same (cells_of window) n (λ c h. same c ((Contains-cells_of window c).0 h)) tally; small = small }
+count_by P zones window (Err e) same tally small = tt
+
+pub count_beside : {E : Type 0} (zones : List Labelled) (window : Rect) (label : ℕ) (own others : List Rect) (result : Result ℕ E) → IsWholeIn window zones label → AreSplit zones label own others
+    → IfOk result (λ (n : ℕ). Tally (IsInUnion others) (cells_of window) n) → IfOk result (λ (n : ℕ). n < 2 ^ 63) → IfOk result (λ (n : ℕ). IsCountOf zones window n)
+count_beside zones window label own others result whole split = count_by (IsInUnion others) zones window result (λ c at.
+    let beside = beside_whole c zones label (whole c at) in
+    let cells = split.other_cells c in
+    (λ u. beside.0 (cells.0 u), λ t. cells.1 (beside.1 t)))
+
+pub count_by_runs : {E : Type 0} (zones : List Labelled) (window : Rect) (runs : List Rect) (result : Result ℕ E) → AreRunsOf zones runs
+    → IfOk result (λ (n : ℕ). Tally (IsInTwo runs) (cells_of window) n) → IfOk result (λ (n : ℕ). n < 2 ^ 63) → IfOk result (λ (n : ℕ). IsCountOf zones window n)
+count_by_runs zones window runs result h = count_by (IsInTwo runs) zones window result (λ c at. h.twice c)
+
+pub count_by_kept : {E : Type 0} (zones kept : List Labelled) (window : Rect) (result : Result ℕ E) → HaveSameTwo zones kept → IfOk result (λ (n : ℕ). IsCountOf kept window n)
+    → IfOk result (λ (n : ℕ). IsCountOf zones window n)
+count_by_kept zones kept window (Ok n) same count = record { tally = Tally-same_all (cells_of window) n same count.tally; small = count.small }
+count_by_kept zones kept window (Err e) same count = tt
+
+pub count_by_zones : {E : Type 0} (pieces zones : List Labelled) (radius : ℕ) (window : Rect) (result : Result ℕ E) → 1 ≤ radius → AreZonesOf pieces radius window zones → IfOk result (λ (n : ℕ). IsCountOf zones window n)
+    → IfOk result (λ (n : ℕ). Tally (TouchesTwoLabels pieces radius) (cells_of window) n)
+count_by_zones pieces zones radius window (Ok n) positive same count = Tally-same (cells_of window) n (λ c h. two_touched radius positive c pieces zones window same ((Contains-cells_of window c).0 h)) count.tally
+count_by_zones pieces zones radius window (Err e) positive same count = tt
+
+pub count_small : {E : Type 0} (zones : List Labelled) (window : Rect) (result : Result ℕ E) → IfOk result (λ (n : ℕ). IsCountOf zones window n) → IfOk result (λ (n : ℕ). n < 2 ^ 63)
+count_small zones window (Ok n) count = count.small
+count_small zones window (Err e) count = tt
+
+-- the counts of two parts add up
+pub count_of_parts : (zones before behind : List Labelled) (axis : Axis) (window first second : Rect) (m n : ℕ) → AreParts axis window first second → AreAlikeIn first zones before → AreAlikeIn second zones behind
+    → IsCountOf before first m → IsCountOf behind second n → IsCountOf zones window (m + n)
+count_of_parts zones before behind axis window first second m n parts here there one other =
+    let some = Tally-same (cells_of first) m (λ c h. two_alike c before zones (λ label. here c ((Contains-cells_of first c).0 h) label)) one.tally in
+    let rest = Tally-same (cells_of second) n (λ c h. two_alike c behind zones (λ label. there c ((Contains-cells_of second c).0 h) label)) other.tally in
+    let sum = parts_tally (IsInTwoLabels zones) axis window first second m n parts some rest in
+    record { tally = sum; small = few_tallied (IsInTwoLabels zones) window (m + n) sum }
+
+-- of two labels: the cells of the one and those of the other, less those of either
+pub count_apart : (zones : List Labelled) (window : Rect) (one other : ℕ) (own others all : List Rect) (m n k : ℕ) → HaveNoThird zones one other → AreSplit zones one own others
+    → ((c : Cell) → IsInUnion all c ↔ (IsInUnion own c ⊎ IsInUnion others c))
+    → Tally (IsInUnion own) (cells_of window) m → Tally (IsInUnion others) (cells_of window) n → Tally (IsInUnion all) (cells_of window) k → (k ≤ m + n) × IsCountOf zones window (m + n - k)
+count_apart zones window one other own others all m n k alone split either s t u =
+    let both = Tally-both (IsInUnion own) (IsInUnion others) (IsInUnion all) either (cells_of window) m n k s t u in
+    let sum = both.sum in
+    let same : both.both ≡ m + n - k = omega arith in
+    let tally = Tally-same_all {P = λ c. IsInUnion own c × IsInUnion others c} {Q = IsInTwoLabels zones} (cells_of window) both.both (λ c.
+    let two = both_of_two c zones one other alone in
+    (λ h. two.0 ((split.own_cells c).0 h.0, (split.other_cells c).0 h.1), λ h. let p = two.1 h in ((split.own_cells c).1 p.0, (split.other_cells c).1 p.1))) both.tally in
+    let moved = subst (Tally (IsInTwoLabels zones) (cells_of window)) same tally in
+    (omega arith, record { tally = moved; small = few_tallied (IsInTwoLabels zones) window (m + n - k) moved })
+
+-- the same, where the lists are known by other names
+pub count_by_union : (zones : List Labelled) (window : Rect) (one other : ℕ) (own others first second third joined all : List Rect) (m n k : ℕ) → HaveNoThird zones one other → AreSplit zones one own others
+    → first ≡ own → second ≡ others → third ≡ others → joined ≡ own ++ third → all ≡ joined
+    → Tally (IsInUnion first) (cells_of window) m → Tally (IsInUnion second) (cells_of window) n → Tally (IsInUnion all) (cells_of window) k → (k ≤ m + n) × IsCountOf zones window (m + n - k)
+count_by_union zones window one other own others first second third joined all m n k alone split is_own is_others also_others is_joined is_all s t u =
+    let whole : all ≡ own ++ others = is_all ∙ is_joined ∙ ap (λ (xs : List Rect). own ++ xs) also_others in
+    count_apart zones window one other own others all m n k alone split
+    (λ c. subst (λ (xs : List Rect). IsInUnion xs c ↔ (IsInUnion own c ⊎ IsInUnion others c)) (sym whole) (union_append c own others))
+    (subst (λ (xs : List Rect). Tally (IsInUnion xs) (cells_of window) m) is_own s) (subst (λ (xs : List Rect). Tally (IsInUnion xs) (cells_of window) n) is_others t) u

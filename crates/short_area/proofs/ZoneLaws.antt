@@ -1,0 +1,190 @@
+-- labels at a cell, as lists of zones grow
+use Rattle.std.proofs.Common.{ℕ, ◌+◌, ◌<◌, ◌≤◌, ◌≡◌, ◌≢◌, ◌∙◌, sym, subst, List, [], ◌∷◌, ◌++◌, length, take, take_all, get_or, inl, inr, ◌⊎◌, ◌↔◌, refl, ℤ, ◌≤ℤ◌, Option, Some, None, IfSome, IfNone, All, Contains}
+use Rattle.lists.proofs.Words.{All-contains, Contains-append_left, Contains-append_right, Contains-append_cases, Contains-push, Contains-push_cases}
+use Rattle.geo_core.specs.Plane.{Has, IsInUnion}
+use Rattle.geo_core.proofs.IntervalLaws.{in_ends}
+use Rattle.geo_core.specs.declared.plane.Cell.{Cell}
+use Rattle.geo_core.specs.declared.plane.Labelled.{Labelled}
+use Rattle.geo_core.specs.declared.plane.Rect.{Rect}
+use Rattle.lists.proofs.Comparing.{equal_or_not}
+use Rattle.lists.proofs.Containing.{Contains-none}
+use Rattle.lists.proofs.Reading.{taken_more}
+use Rattle.depth_sweep.proofs.UnionSteps.{union_none, union_push}
+use Rattle.short_area.specs.inside.Zones.{AreAlikeIn, AreSplit, GainsZone, HaveNoThird, IsInLabel, IsInOthers, IsInside, IsInTwoLabels, IsWholeIn}
+
+module _ (c : Cell) where
+  pub label_none : (label : ℕ) → IsInLabel [] label c → ⊥
+  label_none label h = Contains-none h.among
+
+  -- one more zone at the end
+  pub label_push : (zones : List Labelled) (zone : Labelled) (label : ℕ) → IsInLabel (zones ++ zone ∷ []) label c ↔ (IsInLabel zones label c ⊎ ((zone.label ≡ label) × Has zone.rect c))
+  label_push zones zone label = (
+    λ h. elim (Contains-push_cases zones zone h.zone h.among) [
+      | inl k ↦ inl (record { zone = h.zone; among = k; labelled = h.labelled; has = h.has })
+      | inr e ↦ inr (subst (λ (z : Labelled). z.label ≡ label) (sym e) h.labelled, subst (λ (z : Labelled). Has z.rect c) (sym e) h.has)
+    ],
+    λ h. elim h [
+      | inl k ↦ record { zone = k.zone; among = Contains-append_left zones (zone ∷ []) k.zone k.among; labelled = k.labelled; has = k.has }
+      | inr k ↦ record { zone = zone; among = Contains-push zones zone; labelled = k.0; has = k.1 }
+    ],
+  )
+
+  pub label_more : (zones : List Labelled) (i : ℕ) (zone : Labelled) (label : ℕ) → i < length zones → zone ≡ get_or zones i zone
+      → IsInLabel (take (i + 1) zones) label c ↔ (IsInLabel (take i zones) label c ⊎ ((zone.label ≡ label) × Has zone.rect c))
+  label_more zones i zone label small is =
+      subst (λ (ys : List Labelled). IsInLabel ys label c ↔ (IsInLabel (take i zones) label c ⊎ ((zone.label ≡ label) × Has zone.rect c))) (sym (taken_more zones i zone small is)) (label_push (take i zones) zone label)
+
+  pub label_append : (xs ys : List Labelled) (label : ℕ) → IsInLabel (xs ++ ys) label c ↔ (IsInLabel xs label c ⊎ IsInLabel ys label c)
+  label_append xs ys label = (
+    λ h. elim (Contains-append_cases xs ys h.zone h.among) [
+      | inl k ↦ inl (record { zone = h.zone; among = k; labelled = h.labelled; has = h.has })
+      | inr k ↦ inr (record { zone = h.zone; among = k; labelled = h.labelled; has = h.has })
+    ],
+    λ h. elim h [
+      | inl k ↦ record { zone = k.zone; among = Contains-append_left xs ys k.zone k.among; labelled = k.labelled; has = k.has }
+      | inr k ↦ record { zone = k.zone; among = Contains-append_right xs ys k.zone k.among; labelled = k.labelled; has = k.has }
+    ],
+  )
+
+  -- where the labels at the cell are the same, so are two of them
+  pub two_alike : (xs ys : List Labelled) → ((label : ℕ) → IsInLabel xs label c ↔ IsInLabel ys label c) → IsInTwoLabels xs c ↔ IsInTwoLabels ys c
+  two_alike xs ys same = (
+    λ t. record { one = t.one; other = t.other; in_one = (same t.one).0 t.in_one; in_other = (same t.other).0 t.in_other; different = t.different },
+    λ t. record { one = t.one; other = t.other; in_one = (same t.one).1 t.in_one; in_other = (same t.other).1 t.in_other; different = t.different },
+  )
+
+  -- ---- the labels but one
+
+  pub others_more : (zones : List Labelled) (i : ℕ) (zone : Labelled) (label : ℕ) → i < length zones → zone ≡ get_or zones i zone
+      → IsInOthers (take (i + 1) zones) label c ↔ (IsInOthers (take i zones) label c ⊎ ((label ≢ zone.label) × Has zone.rect c))
+  others_more zones i zone label small is = (
+    λ h. elim ((label_more zones i zone h.other small is).0 h.in_other) [
+      | inl k ↦ inl (record { other = h.other; in_other = k; different = h.different })
+      | inr k ↦ inr (λ e. h.different (e ∙ k.0), k.1)
+    ],
+    λ h. elim h [
+      | inl k ↦ record { other = k.other; in_other = (label_more zones i zone k.other small is).1 (inl k.in_other); different = k.different }
+      | inr k ↦ record { other = zone.label; in_other = (label_more zones i zone zone.label small is).1 (inr (refl, k.1)); different = k.0 }
+    ],
+  )
+
+  -- where a label has the cell, two labels do where another one does
+  pub beside_whole : (zones : List Labelled) (label : ℕ) → IsInLabel zones label c → IsInOthers zones label c ↔ IsInTwoLabels zones c
+  beside_whole zones label here = (
+    λ o. record { one = label; other = o.other; in_one = here; in_other = o.in_other; different = o.different },
+    λ t. elim (equal_or_not label t.one) [
+      | inl e ↦ record { other = t.other; in_other = t.in_other; different = λ f. t.different (sym e ∙ f) }
+      | inr n ↦ record { other = t.one; in_other = t.in_one; different = n }
+    ],
+  )
+
+  -- where there is no third label, two labels have the cell where both do
+  pub both_of_two : (zones : List Labelled) (one other : ℕ) → HaveNoThird zones one other → (IsInLabel zones one c × IsInOthers zones one c) ↔ IsInTwoLabels zones c
+  both_of_two zones one other alone = (
+    λ h. record { one = one; other = h.1.other; in_one = h.0; in_other = h.1.in_other; different = h.1.different },
+    λ t. elim (equal_or_not one t.one) [
+      | inl e ↦ (subst (λ (l : ℕ). IsInLabel zones l c) (sym e) t.in_one, record { other = t.other; in_other = t.in_other; different = λ f. t.different (sym e ∙ f) })
+      | inr n ↦ elim (equal_or_not one t.other) [
+        | inl e ↦ (subst (λ (l : ℕ). IsInLabel zones l c) (sym e) t.in_other, record { other = t.one; in_other = t.in_one; different = n })
+        | inr m ↦ absurd (t.different (second t.one t.in_one n ∙ sym (second t.other t.in_other m)))
+      ]
+    ],
+  ) where
+    second : (label : ℕ) → IsInLabel zones label c → one ≢ label → label ≡ other
+    second label h n =
+        sym h.labelled ∙ All-contains (λ (zone : Labelled). one ≢ zone.label → zone.label ≡ other) zones h.zone alone h.among (λ e. n (e ∙ h.labelled))
+
+-- ---- lists of zones
+
+-- zones of one label alone
+pub one_label_alone : (zones : List Labelled) (label : ℕ) → All (λ (zone : Labelled). zone.label ≡ label) zones → (c : Cell) → IsInTwoLabels zones c → ⊥
+one_label_alone zones label alike c t =
+    let one = All-contains (λ (zone : Labelled). zone.label ≡ label) zones t.in_one.zone alike t.in_one.among in
+    let other = All-contains (λ (zone : Labelled). zone.label ≡ label) zones t.in_other.zone alike t.in_other.among in
+    t.different (sym t.in_one.labelled ∙ one ∙ sym other ∙ t.in_other.labelled)
+
+-- a list that gains a zone, where there is a rectangle
+pub gains_some : (old new : List Labelled) (rect : Rect) (label : ℕ) (zone : Labelled) → zone.rect ≡ rect → zone.label ≡ label → new ≡ old ++ zone ∷ [] → GainsZone old new (Some rect) label
+gains_some old new rect label zone e f g c which =
+    let push = label_push c old zone which in
+    let same : IsInLabel new which c ↔ (IsInLabel old which c ⊎ ((zone.label ≡ which) × Has zone.rect c)) =
+    subst (λ (ys : List Labelled). IsInLabel ys which c ↔ (IsInLabel old which c ⊎ ((zone.label ≡ which) × Has zone.rect c))) (sym g) push in
+    subst (λ (l : ℕ). IsInLabel new which c ↔ (IsInLabel old which c ⊎ ((l ≡ which) × Has rect c))) f
+    (subst (λ (r : Rect). IsInLabel new which c ↔ (IsInLabel old which c ⊎ ((zone.label ≡ which) × Has r c))) e same)
+
+pub gains_none : (old new : List Labelled) (label : ℕ) → new ≡ old → GainsZone old new None label
+gains_none old new label e c which = subst (λ (ys : List Labelled). IsInLabel ys which c ↔ (IsInLabel old which c ⊎ ((label ≡ which) × ⊥))) (sym e)
+    ((λ h. inl h), λ h. elim h [ inl k ↦ k | inr k ↦ absurd k.1 ])
+
+-- the cells of what two rectangles have in common, if anything
+pub clip_inside : (found : Option Rect) (a b : Rect) → IfSome found (λ (r : Rect). (c : Cell) → Has r c ↔ (Has a c × Has b c)) → IfNone found ((c : Cell) → Has a c → Has b c → ⊥)
+    → (c : Cell) → IsInside found c ↔ (Has a c × Has b c)
+clip_inside None a b some none c = (λ h. absurd h, λ k. none c k.0 k.1)
+clip_inside (Some r) a b some none c = some c
+
+-- no zones, and one zone more, in a part
+pub alike_none : (part : Rect) → AreAlikeIn part [] []
+alike_none part c at label = ((λ h. h), λ h. h)
+
+pub alike_more : (part : Rect) (zones : List Labelled) (i : ℕ) (zone : Labelled) (found : Option Rect) (old new : List Labelled) → i < length zones → zone ≡ get_or zones i zone
+    → ((c : Cell) → IsInside found c ↔ (Has zone.rect c × Has part c)) → GainsZone old new found zone.label → AreAlikeIn part (take i zones) old → AreAlikeIn part (take (i + 1) zones) new
+alike_more part zones i zone found old new small is inside gains so_far c at label =
+    let more = label_more c zones i zone label small is in
+    let gain = gains c label in
+    let before = so_far c at label in (
+      λ h. more.1 (elim (gain.0 h) [ inl k ↦ inl (before.0 k) | inr k ↦ inr (k.0, ((inside c).0 k.1).0) ]),
+      λ h. gain.1 (elim (more.0 h) [ inl k ↦ inl (before.1 k) | inr k ↦ inr (k.0, (inside c).1 (k.1, at)) ]),
+    )
+
+pub alike_all : (part : Rect) (zones : List Labelled) (i : ℕ) (inside : List Labelled) → length zones ≤ i → AreAlikeIn part (take i zones) inside → AreAlikeIn part zones inside
+alike_all part zones i inside past h = subst (λ (ys : List Labelled). AreAlikeIn part ys inside) (take_all i zones past) h
+
+-- ---- zones of one label, and the others
+
+pub split_none : (label : ℕ) → AreSplit [] label [] []
+split_none label = record {
+  own_cells = λ c. (λ u. absurd (union_none c u), λ h. absurd (label_none c label h));
+  other_cells = λ c. (λ u. absurd (union_none c u), λ h. absurd (label_none c h.other h.in_other));
+}
+
+module _ (zones : List Labelled) (i : ℕ) (zone : Labelled) (label : ℕ) (own others : List Rect) (small : i < length zones) (is : zone ≡ get_or zones i zone) (so_far : AreSplit (take i zones) label own others) where
+  pub split_own : (new : List Rect) → new ≡ own ++ zone.rect ∷ [] → zone.label ≡ label → AreSplit (take (i + 1) zones) label new others
+  split_own new e here = subst (λ (xs : List Rect). AreSplit (take (i + 1) zones) label xs others) (sym e) (record {
+    own_cells = λ c.
+        let push = union_push c own zone.rect in
+        let more = label_more c zones i zone label small is in (
+          λ u. more.1 (elim (push.0 u) [ inl k ↦ inl ((so_far.own_cells c).0 k) | inr k ↦ inr (here, k) ]),
+          λ h. push.1 (elim (more.0 h) [ inl k ↦ inl ((so_far.own_cells c).1 k) | inr k ↦ inr k.1 ]),
+        );
+    other_cells = λ c.
+        let more = others_more c zones i zone label small is in (
+          λ u. more.1 (inl ((so_far.other_cells c).0 u)),
+          λ h. elim (more.0 h) [ inl k ↦ (so_far.other_cells c).1 k | inr k ↦ absurd (k.0 (sym here)) ],
+        );
+  })
+
+  pub split_other : (new : List Rect) → new ≡ others ++ zone.rect ∷ [] → (zone.label ≡ label → ⊥) → AreSplit (take (i + 1) zones) label own new
+  split_other new e here = subst (λ (xs : List Rect). AreSplit (take (i + 1) zones) label own xs) (sym e) (record {
+    own_cells = λ c.
+        let more = label_more c zones i zone label small is in (
+          λ u. more.1 (inl ((so_far.own_cells c).0 u)),
+          λ h. elim (more.0 h) [ inl k ↦ (so_far.own_cells c).1 k | inr k ↦ absurd (here k.0) ],
+        );
+    other_cells = λ c.
+        let push = union_push c others zone.rect in
+        let more = others_more c zones i zone label small is in (
+          λ u. more.1 (elim (push.0 u) [ inl k ↦ inl ((so_far.other_cells c).0 k) | inr k ↦ inr (λ f. here (sym f), k) ]),
+          λ h. push.1 (elim (more.0 h) [ inl k ↦ inl ((so_far.other_cells c).1 k) | inr k ↦ inr k.1 ]),
+        );
+  })
+
+pub split_all : (zones : List Labelled) (i label : ℕ) (own others : List Rect) → length zones ≤ i → AreSplit (take i zones) label own others → AreSplit zones label own others
+split_all zones i label own others past h = subst (λ (ys : List Labelled). AreSplit ys label own others) (take_all i zones past) h
+
+-- a zone that has all cells of the window
+pub whole_one : (zones : List Labelled) (k : ℕ) (zone : Labelled) (window : Rect) → k < length zones → zone ≡ get_or zones k zone → ((c : Cell) → Has window c → Has zone.rect c) → IsWholeIn window zones zone.label
+whole_one zones k zone window small is all c at = record { zone = zone; among = (k, small, sym is); labelled = refl; has = all c at }
+
+-- a rectangle round another one, by their sides
+pub sides_round : (rect window : Rect) → rect.x0 ≤ℤ window.x0 → window.x1 ≤ℤ rect.x1 → rect.y0 ≤ℤ window.y0 → window.y1 ≤ℤ rect.y1 → (c : Cell) → Has window c → Has rect c
+sides_round rect window left right bottom top c at = record { across = in_ends window.x0 window.x1 rect.x0 rect.x1 left right c.i at.across; up = in_ends window.y0 window.y1 rect.y0 rect.y1 bottom top c.j at.up }

@@ -1,0 +1,6 @@
+use Rattle.std.proofs.Common.{IfSome}
+use Rattle.short_area.specs.inside.Windows.{IsBetween}
+use Rattle.short_area.proofs.places.central_edge.Given as goal
+
+abbrev pub invariant-loop-zone : goal.invariant-loop-zone
+invariant-loop-zone l = IfSome l.nearest (IsBetween l.places.low l.places.high)

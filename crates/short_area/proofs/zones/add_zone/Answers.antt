@@ -1,0 +1,7 @@
+use Rattle.std.proofs.Common.{refl}
+use Rattle.short_area.proofs.ZoneLaws.{gains_some}
+use Rattle.short_area.proofs.zones.add_zone.Goals as goal
+
+pub returns-in_ok-push : goal.returns-in_ok-push
+returns-in_ok-push c =
+    rw c.in-Some.is (gains_some c.args.zones.now.items c.push.new.self.items c.in-Some.rect c.args.label (record { rect = c.in-Some.rect; label = c.args.label }) refl refl c.in_ok-push.ensures.items)

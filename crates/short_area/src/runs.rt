@@ -1,0 +1,51 @@
+ghost use Rattle.std.specs.Prelude.{◌≤◌, AllPairs, IfOk, OnOk};
+ghost use Rattle.std.specs.List.Sorted.{IsPermutation};
+ghost use Rattle.short_area.specs.inside.LabelRuns.{AreRunsOf, GainsRuns};
+
+use depth_sweep::union_runs;
+use geo_core::{Labelled, NoMemory, Rect};
+use std::alloc::{AllocError, Global};
+
+/// Rectangles without common cells for each label, which together have the cells of its zones: so a cell lies in as many
+/// of them as it has labels.
+pub fn label_runs(alloc: Global, zones: &[Labelled]) -> Result<Vec<Rect>, NoMemory>
+    ensures { IfOk result (λ runs. AreRunsOf zones.now runs.items) }
+{
+    let sorted = by_label(alloc, zones)?;
+    let mut runs = Vec::new(alloc);
+    let mut listed = Vec::new(alloc);
+    let mut label: usize = 0;
+    for zone in sorted.as_slice() {
+        if zone.label != label {
+            add_runs(alloc, &mut runs, listed.as_slice())?;
+            listed.clear();
+            label = zone.label;
+        }
+        listed.push(zone.rect)?;
+    }
+    add_runs(alloc, &mut runs, listed.as_slice())?;
+    Ok(runs)
+}
+
+/// Adds rectangles without common cells that have the cells of these together.
+fn add_runs(alloc: Global, runs: &mut Vec<Rect>, rects: &[Rect]) -> Result<(), NoMemory>
+    ensures { OnOk result (GainsRuns runs.old.items runs.new.items rects.now) }
+{
+    if rects.len() < 2 {
+        runs.extend_from_slice(rects)?;
+        return Ok(());
+    }
+    let gained = union_runs(alloc, rects)?;
+    runs.extend_from_slice(gained.as_slice())?;
+    Ok(())
+}
+
+/// The zones in the order of their labels.
+fn by_label(alloc: Global, zones: &[Labelled]) -> Result<Vec<Labelled>, AllocError>
+    ensures same { IfOk result (λ sorted. IsPermutation zones.now sorted.items) }
+    ensures ordered { IfOk result (λ sorted. AllPairs (λ a b. a.label ≤ b.label) sorted.items) }
+{
+    let mut sorted = Vec::from_slice(alloc, zones)?;
+    sorted.sort_unstable_by_key(|zone| zone.label);
+    Ok(sorted)
+}

@@ -1,0 +1,68 @@
+ghost use Rattle.std.specs.Prelude.{IfOk};
+ghost use Rattle.short_area.specs.inside.AreaSteps.{IsStepOf};
+
+use super::labels::{have_no_third, two_labels};
+use super::places::{Spread, has_leader, place_to_halve, spread_of};
+use super::steps::Step;
+use super::sweeps::{counted_apart, counted_at_once, counted_by_runs, counted_of_few};
+use geo_core::{Labelled, NoMemory, Rect};
+use std::alloc::Global;
+
+/// What comes next of a window with these zones: its count, or a place at which to halve it.
+pub fn next_step(
+    alloc: Global,
+    zones: &[Labelled],
+    window: Rect,
+    hopeless: usize,
+) -> Result<Step, NoMemory>
+    ensures { IfOk result (λ step. IsStepOf zones.now window step) }
+{
+    if let Some(count) = counted_at_once(alloc, zones, window)? {
+        return Ok(Step::Count(count));
+    }
+    let spread = spread_of(zones, window);
+    if spread.is_deep() {
+        return halved(alloc, zones, window, spread, hopeless);
+    }
+    if spread.is_few() {
+        return Ok(Step::Count(counted_of_few(alloc, zones, window)?));
+    }
+    if spread.is_parted() || has_leader(zones) {
+        return halved(alloc, zones, window, spread, hopeless);
+    }
+    swept_or_halved(alloc, zones, window, spread, hopeless)
+}
+
+/// The place at which to halve the window. Where there is none, the count by runs.
+fn halved(
+    alloc: Global,
+    zones: &[Labelled],
+    window: Rect,
+    spread: Spread,
+    hopeless: usize,
+) -> Result<Step, NoMemory>
+    ensures { IfOk result (λ step. IsStepOf zones.now window step) }
+{
+    match place_to_halve(zones, window, spread) {
+        Some((axis, place)) => Ok(Step::Halve(axis, place, hopeless)),
+        None => Ok(Step::Count(counted_by_runs(alloc, zones, window)?)),
+    }
+}
+
+/// The count of many zones that lie across one another, if there are two labels. Else the window is halved.
+fn swept_or_halved(
+    alloc: Global,
+    zones: &[Labelled],
+    window: Rect,
+    spread: Spread,
+    hopeless: usize,
+) -> Result<Step, NoMemory>
+    ensures { IfOk result (λ step. IsStepOf zones.now window step) }
+{
+    if let Some((one, other)) = two_labels(zones) {
+        if have_no_third(zones, one, other) {
+            return Ok(Step::Count(counted_apart(alloc, zones, window, one, other)?));
+        }
+    }
+    halved(alloc, zones, window, spread, hopeless)
+}
