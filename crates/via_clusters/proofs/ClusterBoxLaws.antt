@@ -1,0 +1,123 @@
+-- the least rectangles of groups of contact pieces
+use Rattle.std.proofs.Common.{ℕ, ◌≡◌, sym, subst, List, [], ◌∷◌, ◌++◌, inl, inr, ◌↔◌, map, get_or, filter, All, Contains}
+use Rattle.lists.proofs.Words.{AllZip, All-head, All-tail, All-contains, Contains-get_or, Contains-push_cases, Contains-append_left, Contains-push}
+use Rattle.lists.proofs.Containing.{Contains-head, Contains-none, Contains-slice_get, Contains-tail, Contains-cons_cases, number_of}
+use Rattle.lists.proofs.Filtering.{Contains-filter, Contains-from_filter, Contains-filter_passes}
+use Rattle.lists.proofs.Mapping.{Contains-map, Contains-map_from}
+use Rattle.geo_core.specs.Plane.{Has, IsInUnion, IsJoin}
+use Rattle.geo_core.specs.declared.plane.Cell.{Cell}
+use Rattle.geo_core.specs.declared.plane.Rect.{Rect}
+use Rattle.fault_model.specs.FaultNames.{IsBoundsOf}
+use Rattle.net_extract.specs.ContactGroups.{AreGroupsOf, carries_both, ends_of_group, rects_between}
+use Rattle.net_extract.specs.NetLists.{NetLists, contacts_of}
+use Rattle.net_extract.specs.declared.pieces.ContactGroup.{ContactGroup}
+use Rattle.net_extract.specs.declared.pieces.ContactPiece.{ContactPiece}
+use Rattle.net_extract.proofs.ContactGroupLaws.{carries_tells, told_carries}
+use Rattle.net_extract.proofs.GroupLaws.{unit}
+use Rattle.net_extract.proofs.SpotLaws.{some_cell}
+use Rattle.via_clusters.specs.Clusters.{AreClusterBoxes, IsClusterCell}
+
+-- ---- bounds of a list
+
+in_union : (rects : List Rect) (rect : Rect) (c : Cell) → Contains rects rect → Has rect c → IsInUnion rects c
+in_union rects rect c among has = let number = number_of rects rect among in record { number = number.0; rect = rect; at = number.1; has = has }
+
+-- the same set has the same bounds
+bounds_same : (one other : Cell → Type 0) (box : Rect) → ((c : Cell) → one c ↔ other c) → IsBoundsOf one box → IsBoundsOf other box
+bounds_same one other box same bounds = record {
+  all_in = λ c h. bounds.all_in c ((same c).1 h);
+  least = λ rect all c h. bounds.least rect (λ d k. all d ((same d).0 k)) c h;
+}
+
+pub bounds_of_first : (first : Rect) → IsBoundsOf (IsInUnion (first ∷ [])) first
+bounds_of_first first = record {
+  all_in = λ c h. elim (Contains-cons_cases first [] h.rect (Contains-slice_get (first ∷ []) h.number h.rect h.at)) [
+    | inl e ↦ subst (λ r. Has r c) (sym e) h.has
+    | inr rest ↦ absurd (Contains-none rest)
+  ];
+  least = λ other all c h. all c (in_union (first ∷ []) first c (Contains-head first []) h);
+}
+
+-- one more rectangle
+pub bounds_of_more : (rects : List Rect) (rect box joined : Rect) → IsBoundsOf (IsInUnion rects) box → IsJoin box rect joined → IsBoundsOf (IsInUnion (rects ++ rect ∷ [])) joined
+bounds_of_more rects rect box joined bounds join = record {
+  all_in = λ c h. elim (Contains-push_cases rects rect h.rect (Contains-slice_get (rects ++ rect ∷ []) h.number h.rect h.at)) [
+    | inl old ↦ join.first c (bounds.all_in c (in_union rects h.rect c old h.has))
+    | inr new ↦ join.second c (subst (λ r. Has r c) (sym new) h.has)
+  ];
+  least = λ other all c h. join.least other
+      (bounds.least other (λ d k. all d (in_union (rects ++ rect ∷ []) k.rect d (Contains-append_left rects (rect ∷ []) k.rect (Contains-slice_get rects k.number k.rect k.at)) k.has)))
+      (λ d k. all d (in_union (rects ++ rect ∷ []) rect d (Contains-push rects rect) k)) c h;
+}
+
+-- a list with its first item once more
+pub bounds_of_all : (rects : List Rect) (first box : Rect) → Contains rects first → IsBoundsOf (IsInUnion (first ∷ rects)) box → IsBoundsOf (IsInUnion rects) box
+bounds_of_all rects first box among = bounds_same (IsInUnion (first ∷ rects)) (IsInUnion rects) box (λ c. (
+  λ h. elim (Contains-cons_cases first rects h.rect (Contains-slice_get (first ∷ rects) h.number h.rect h.at)) [
+    | inl e ↦ in_union rects first c among (subst (λ r. Has r c) (sym e) h.has)
+    | inr rest ↦ in_union rects h.rect c rest h.has
+  ],
+  λ h. in_union (first ∷ rects) h.rect c (Contains-tail first rects h.rect (Contains-slice_get rects h.number h.rect h.at)) h.has,
+))
+
+-- ---- groups
+
+abbrev pub IsGroupBox : ContactGroup → Rect → Type 0
+IsGroupBox group box = IsBoundsOf (IsInUnion group.rects) box
+
+module _ (nets : NetLists) (cut : ℕ) where
+  abbrev contacts : List ContactPiece
+  contacts = contacts_of nets cut
+
+  -- the rectangles of a group have the cells of its cluster
+  group_cells : (lower upper : ℕ) (c : Cell) → IsInUnion (rects_between contacts lower upper) c ↔ IsClusterCell nets cut (lower, upper) c
+  group_cells lower upper c =
+      let test = carries_both lower upper in
+      let rect = λ (contact : ContactPiece). contact.rect in (
+        λ h.
+            let from = Contains-map_from rect (filter test contacts) h.rect (Contains-slice_get (rects_between contacts lower upper) h.number h.rect h.at) in
+            record {
+              contact = from.0;
+              among = Contains-from_filter test contacts from.0 from.1;
+              carries = carries_tells lower upper from.0 (Contains-filter_passes test contacts from.0 from.1);
+              has = subst (λ r. Has r c) (sym from.2) h.has;
+            },
+        λ k. in_union (rects_between contacts lower upper) k.contact.rect c
+            (Contains-map rect (filter test contacts) k.contact (Contains-filter test contacts k.contact k.among (told_carries lower upper k.contact k.carries))) k.has,
+      )
+
+  box_of_group : (group : ContactGroup) (box : Rect) → group.rects ≡ rects_between contacts group.lower group.upper → IsGroupBox group box → IsBoundsOf (IsClusterCell nets cut (ends_of_group group)) box
+  box_of_group group box rects is =
+      bounds_same (IsInUnion (rects_between contacts group.lower group.upper)) (IsClusterCell nets cut (ends_of_group group)) box (group_cells group.lower group.upper)
+      (subst (λ rs. IsBoundsOf (IsInUnion rs) box) rects is)
+
+  boxes_of_groups : (groups : List ContactGroup) (boxes : List Rect) → All (λ group. group.rects ≡ rects_between contacts group.lower group.upper) groups → AllZip IsGroupBox groups boxes
+      → AllZip (λ islands box. IsBoundsOf (IsClusterCell nets cut islands) box) (map ends_of_group groups) boxes
+  boxes_of_groups [] [] rects zip = tt
+  boxes_of_groups [] (b ∷ boxes) rects zip = absurd zip
+  boxes_of_groups (g ∷ groups) [] rects zip = absurd zip
+  boxes_of_groups (g ∷ groups) (b ∷ boxes) rects zip =
+      let Told : ContactGroup → Type 0 = λ group. group.rects ≡ rects_between contacts group.lower group.upper in
+      (box_of_group g b (All-head Told g groups rects) zip.0, boxes_of_groups groups boxes (All-tail Told g groups rects) zip.1)
+
+  -- a group has a cell
+  some_group_cell : (group : ContactGroup) → group.rects ≡ rects_between contacts group.lower group.upper → (c : Cell) × IsClusterCell nets cut (ends_of_group group) c
+  some_group_cell group rects =
+      let any : Rect = get_or group.rects 0 unit in
+      let cell = some_cell any in
+      let among = Contains-get_or group.rects 0 unit group.some in
+      (cell.0, (group_cells group.lower group.upper cell.0).0 (subst (λ rs. IsInUnion rs cell.0) rects (in_union group.rects any cell.0 among cell.1)))
+
+  pub are_boxes : (groups : List ContactGroup) (boxes : List Rect) → AreGroupsOf contacts groups → AllZip IsGroupBox groups boxes → AreClusterBoxes nets cut boxes
+  are_boxes groups boxes are zip = record {
+    clusters = map ends_of_group groups;
+    once = are.once;
+    exactly = λ islands. (
+      λ among.
+          let found = Contains-map_from ends_of_group groups islands among in
+          let told = All-contains (λ (group : ContactGroup). group.rects ≡ rects_between contacts group.lower group.upper) groups found.0 are.rects found.1 in
+          subst (λ i. (c : Cell) × IsClusterCell nets cut i c) found.2 (some_group_cell found.0 told),
+      λ some. subst (Contains (map ends_of_group groups)) some.1.carries (are.all some.1.contact some.1.among),
+    );
+    each = boxes_of_groups groups boxes are.rects zip;
+  }

@@ -1,0 +1,4 @@
+pub mod CentreLaws
+pub mod BoundLaws
+pub mod ClusterBoxLaws
+pub mod BlockLaws
