@@ -1,14 +1,12 @@
 -- What the covers of placed shapes say of the checks of the routes to them.
-use Rattle.std.proofs.Common.{List, [], ◌∷◌, ◌++◌, map, append-nil, refl, ap, subst}
-use Rattle.std.specs.Prelude.{All}
-use Rattle.std.specs.List.{AllZip, zip}
-use Rattle.std.proofs.lemmas.List.Elements.{All-nil, All-cons, All-head, All-tail, All-append, All-map}
+use Rattle.std.proofs.Common.{List, [], ◌∷◌, ◌++◌, map, refl, ap, subst, All}
+use Rattle.lists.proofs.Words.{append-nil, AllZip, zip, All-nil, All-cons, All-head, All-tail, All-append, All-map}
 use Rattle.first_refusal.specs.Outcomes.{Outcome, value, refused}
 use Rattle.first_refusal.specs.Checks.{IsRefusalOfFirst, all_hold, one_fails}
 use Rattle.geo_core.specs.declared.plane.Rect.{Rect}
 use Rattle.library_model.specs.declared.element.Shape.{Shape}
 use Rattle.library_model.specs.declared.library.Structure.{Structure}
-use Rattle.map_model.specs.LayerMap.{LayerMap, IsMappedTo}
+use Rattle.map_model.specs.MapNames.{LayerMap, IsMappedTo}
 use Rattle.flatten.specs.Routes.{Route}
 use Rattle.flatten.specs.declared.placed.Placed.{Placed}
 use Rattle.flatten.proofs.ChoiceLaws.{first_said}

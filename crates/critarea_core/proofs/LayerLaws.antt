@@ -1,23 +1,14 @@
 -- The lists of rectangles of layers, and what they cover.
-use Rattle.std.proofs.Common.{ℕ, ◌+◌, ◌<◌, ◌≡◌, refl, sym, ap, ◌∙◌, subst, List, [], ◌∷◌, ◌++◌, Bool, true, false, length, take, get_or, append-nil, length-append, inl, inr, arith}
-use Rattle.std.specs.Prelude.{◌==◌, Some, Contains, All, map, filter, flat_map, if◌then◌else◌, slice_get}
-use Rattle.std.specs.List.{AllZip}
-use Rattle.std.proofs.lemmas.Bool.{cases_lt}
-use Rattle.std.proofs.lemmas.Bool.Decides.{Decides-eqb, eqb_tells}
-use Rattle.std.proofs.lemmas.Grind.{flat_map-append}
-use Rattle.std.proofs.lemmas.List.{length-map, get_or_append_left, get_or_past, get_or_push}
-use Rattle.std.proofs.lemmas.List.Elements.{All-contains, All-from_get_or, filter-append}
-use Rattle.std.proofs.lemmas.Option.{slice_get_within}
-use Rattle.geo_core.specs.Cells.{IsInLayout}
+use Rattle.std.proofs.Common.{ℕ, ◌+◌, ◌<◌, ◌≡◌, refl, sym, ap, ◌∙◌, subst, List, [], ◌∷◌, ◌++◌, Bool, true, false, length, take, get_or, length-append, inl, inr, arith, ◌==◌, Some, Contains, All, map, filter, if◌then◌else◌, slice_get}
+use Rattle.lists.proofs.Words.{append-nil, flat_map, AllZip, cases_lt, Decides-eqb, eqb_tells, flat_map-append, length-map, get_or_append_left, get_or_past, get_or_push, All-contains, All-from_get_or, filter-append, slice_get_within}
+use Rattle.geo_core.specs.Plane.{IsInLayout, IsCoveredIn}
 use Rattle.geo_core.specs.declared.plane.Cell.{Cell}
 use Rattle.geo_core.specs.declared.plane.Rect.{Rect}
-use Rattle.map_model.specs.LayerMap.{IsMappedTo, layers_of}
-use Rattle.map_model.specs.Layers.{metal_layer, mapped_cut, mapped_layers, pairs_of}
+use Rattle.map_model.specs.MapNames.{IsMappedTo, layers_of, metal_layer, mapped_cut, mapped_layers, pairs_of}
 use Rattle.map_model.specs.declared.layers.Metal.{Metal}
 use Rattle.map_model.specs.declared.layers.Cut.{Cut}
 use Rattle.lists.specs.Differing.{AreDifferent}
 use Rattle.map_model.proofs.MappedLaws.{pair_tells_layer}
-use Rattle.geo_core.specs.Unions.{IsCoveredIn}
 use Rattle.critical_areas.proofs.WindowLaws.{in_union, among_union}
 use Rattle.critarea_core.specs.Coverage.{IsCoveredOn}
 use Rattle.critarea_core.specs.Layout.{Subject}

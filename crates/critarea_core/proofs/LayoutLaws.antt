@@ -5,7 +5,7 @@ use Rattle.first_refusal.specs.Outcomes.{Retold}
 use Rattle.first_refusal.proofs.CheckLaws.{checks_agree, checks_cannot_lack}
 use Rattle.first_refusal.proofs.StageLaws.{retold_agree, retold_cannot_lack, stages_agree, stages_cannot_lack}
 use Rattle.library_model.specs.declared.library.Library.{Library}
-use Rattle.map_model.specs.LayerMap.{LayerMap}
+use Rattle.map_model.specs.MapNames.{LayerMap}
 use Rattle.flatten.specs.Placements.{Placing}
 use Rattle.flatten.specs.Routes.{Route}
 use Rattle.flatten.proofs.PlacingLaws.{placings_agree, placings_cannot_lack}

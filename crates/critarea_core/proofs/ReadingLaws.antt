@@ -1,10 +1,6 @@
 -- what readers answer, from what they find
-use Rattle.std.proofs.Common.{ℕ, ◌≡◌, ◌≢◌, ◌<◌, ◌≤◌, List, [], ◌∷◌, length, zero, suc, refl, sym, ap, subst, arith, if◌then◌else◌, Bool, true, false}
-use Rattle.std.specs.Prelude.{Option, Some, None, IfSome, IsErrAnd, Result, Ok, Err, Vec, vec_len, unwrap_or}
-use Rattle.std.specs.Global.{Global}
-use Rattle.std.specs.Str.{bytes_eq}
-use Rattle.std.proofs.lemmas.List.Elements.{All-cons, All-nil}
-use Rattle.std.proofs.lemmas.Slice.Eq.{bytes_eq-Decides}
+use Rattle.std.proofs.Common.{ℕ, ◌≡◌, ◌≢◌, ◌<◌, ◌≤◌, List, [], ◌∷◌, length, zero, suc, refl, sym, ap, subst, arith, if◌then◌else◌, Bool, true, false, Option, Some, None, IfSome, IsErrAnd, Result, Ok, Err, Vec, vec_len, unwrap_or}
+use Rattle.lists.proofs.Words.{Global, bytes_eq, All-cons, All-nil, bytes_eq-Decides}
 use Rattle.first_refusal.specs.Answers.{gives, refuses, no_memory}
 use Rattle.first_refusal.specs.Outcomes.{Outcome, value, refused}
 use Rattle.lists.specs.ByteLists.{AreBytes, IsByte}
@@ -15,8 +11,7 @@ use Rattle.edge_io.specs.declared.whole.ReadError.TheVariants as read
 use Rattle.critarea_core.specs.Contents.{MayContain, MayHave}
 use Rattle.command_line.specs.declared.task.Task.{Task}
 use Rattle.command_line.specs.declared.task.Task.TheVariants.{OneMetal, Mapped}
-use Rattle.map_model.specs.LayerMap.{LayerMap, one_metal_map}
-use Rattle.map_model.specs.MapView.{layer_map_of}
+use Rattle.map_model.specs.MapNames.{LayerMap, one_metal_map, layer_map_of}
 use Rattle.map_model.specs.declared.map.Map.{Map}
 use Rattle.critarea_core.specs.inside.Finding.{IsMapOf, MapMayCome, IsToldAs, as_memory, as_refusal, of_unread, Finds, gives_thing, gives_refusal, FindsInFiles, files_serve, files_fail, IsOneOf}
 use Rattle.critarea_core.specs.Run.{change}

@@ -1,8 +1,6 @@
 -- placed shapes and the routes of which they are the ends
-use Rattle.std.proofs.Common.{ℕ, suc, ◌≡◌, List, [], ◌∷◌, map, Option, Some, refl, sym, ap, subst, ◌∙◌, arith}
-use Rattle.std.specs.Prelude.{All, Contains, slice_get}
-use Rattle.std.specs.List.{AllZip}
-use Rattle.std.proofs.lemmas.List.Elements.{All-nil, All-cons, All-contains, All-map}
+use Rattle.std.proofs.Common.{ℕ, suc, ◌≡◌, List, [], ◌∷◌, map, Option, Some, refl, sym, ap, subst, ◌∙◌, arith, All, Contains, slice_get}
+use Rattle.lists.proofs.Words.{AllZip, All-nil, All-cons, All-contains, All-map}
 use Rattle.first_refusal.specs.Outcomes.{value, goes_on}
 use Rattle.first_refusal.specs.Checks.{all_hold}
 use Rattle.geo_core.specs.declared.plane.Point.{Point}
@@ -10,14 +8,14 @@ use Rattle.library_model.specs.Points.{AreWellPointed, HasItsPoints, IsWellPoint
 use Rattle.library_model.specs.declared.element.Element.TheVariants.{Shape as shape_element}
 use Rattle.library_model.specs.declared.element.Shape.{Shape}
 use Rattle.library_model.specs.declared.library.Structure.{Structure}
-use Rattle.map_model.specs.LayerMap.{LayerMap, IsMappedTo}
+use Rattle.map_model.specs.MapNames.{LayerMap, IsMappedTo}
 use Rattle.flatten.specs.Structures.{is_mapped}
 use Rattle.flatten.specs.Steps.{moved_along}
 use Rattle.flatten.specs.Routes.{Route, routes}
 use Rattle.flatten.specs.OneRoute.{IsRoute}
 use Rattle.flatten.specs.Motions.{MovesAlong}
 use Rattle.flatten.specs.Placements.{PlacesInRange, Placing, placed_routes, TopHolds, is_shallow, is_small, is_in_range}
-use Rattle.geo_core.specs.Bounds.{IsInRange}
+use Rattle.geo_core.specs.Plane.{IsInRange}
 use Rattle.flatten.specs.Placed.{IsEndOf, ArePlaced}
 use Rattle.flatten.specs.declared.limits.TheConstants.{MOST_STEPS}
 use Rattle.flatten.specs.declared.placed.Placed.{Placed}

@@ -1,15 +1,12 @@
 -- what a run found of the words and the files, and what it printed
-use Rattle.std.proofs.Common.{ℕ, ◌≡◌, ◌⊎◌, List, [], ◌∷◌, ◌++◌, refl, sym, ap, subst, ◌∙◌, inl, inr, append-nil, append_assoc}
-use Rattle.std.specs.Prelude.{Option, Some, None, Contains, Result, Ok, Err, Vec, unwrap_or}
-use Rattle.std.specs.Global.{Global}
-use Rattle.std.proofs.lemmas.List.Elements.{Contains-append_left, Contains-append_right}
+use Rattle.std.proofs.Common.{ℕ, ◌≡◌, ◌⊎◌, List, [], ◌∷◌, ◌++◌, refl, sym, ap, subst, ◌∙◌, inl, inr, append_assoc, Option, Some, None, Contains, Result, Ok, Err, Vec, unwrap_or}
+use Rattle.lists.proofs.Words.{append-nil, Global, Contains-append_left, Contains-append_right}
 use Rattle.first_refusal.specs.Answers.{gives, refuses, no_memory}
 use Rattle.first_refusal.specs.Outcomes.{Outcome, value, refused, reads, lacks, goes_on, stops}
 use Rattle.edge_io.specs.Bytes.{Appends}
 use Rattle.command_line.specs.Requests.{Ask}
 use Rattle.command_line.specs.declared.request.Request.{Request}
-use Rattle.map_model.specs.LayerMap.{LayerMap}
-use Rattle.map_model.specs.MapView.{layer_map_of}
+use Rattle.map_model.specs.MapNames.{LayerMap, layer_map_of}
 use Rattle.map_model.specs.declared.map.Map.{Map}
 use Rattle.report.specs.Report.{report_text}
 use Rattle.questions.specs.declared.row.Row.{Row}

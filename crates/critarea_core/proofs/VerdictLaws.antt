@@ -1,8 +1,6 @@
 -- the verdict, stage by stage: each has one outcome at most, and none can lack one
-use Rattle.std.proofs.Common.{ℕ, ◌≡◌, ◌<◌, ◌≤◌, List, [], ◌∷◌, length, refl, sym, ap, subst, ◌∙◌, arith}
-use Rattle.std.specs.Prelude.{Option, All}
-use Rattle.std.proofs.lemmas.Int.{ints}
-use Rattle.std.proofs.lemmas.List.Elements.{All-cons, All-nil}
+use Rattle.std.proofs.Common.{ℕ, ◌≡◌, ◌<◌, ◌≤◌, List, [], ◌∷◌, length, refl, sym, ap, subst, ◌∙◌, arith, Option, All}
+use Rattle.lists.proofs.Words.{ints, All-cons, All-nil}
 use Rattle.first_refusal.specs.Outcomes.{Outcome, value, refused, Reads, reads, lacks, stops, goes_on}
 use Rattle.first_refusal.specs.Checks.{all_hold}
 use Rattle.first_refusal.specs.Laws.{IsUnique, CannotLack}
@@ -14,7 +12,7 @@ use Rattle.command_line.specs.declared.task.Task.{Task}
 use Rattle.command_line.specs.declared.task.Task.TheVariants.{OneMetal, Mapped}
 use Rattle.command_line.proofs.RequestLaws.{requests_agree}
 use Rattle.layer_map.specs.Documents as document
-use Rattle.map_model.specs.LayerMap.{LayerMap, one_metal_map}
+use Rattle.map_model.specs.MapNames.{LayerMap, one_metal_map}
 use Rattle.layer_map.proofs.ExistLaws.{maps_cannot_lack}
 use Rattle.layer_map.proofs.UniqueLaws.{maps_agree}
 use Rattle.critarea_core.specs.Contents.{Contents, bytes_from, layout_source, wanted_top}
@@ -24,7 +22,7 @@ use Rattle.critarea_core.specs.Coverage.{IsCoveredOn}
 use Rattle.critarea_core.specs.inside.Finding.{IsRadiusOf}
 use Rattle.critarea_core.specs.Refusals.{usage, map_limit, map_too_long, of_map_fault, layout_limit, layout_too_long, of_syntax_fault}
 use Rattle.critarea_core.specs.Layout.{Subject, ShortLayoutComesTo}
-use Rattle.critarea_core.specs.Verdict.{IsShortEnough, IsSupported, has_no_cuts, has_no_terminals, support_checks, not_supported, IsReportOn, ReadMapComesTo, ShortMapComesTo, MapTextComesTo, MapComesTo, WordsComeTo, LayoutComesTo, IsVerdict}
+use Rattle.critarea_core.specs.Verdict.{IsShortEnough, IsSupported, has_no_terminals, support_checks, not_supported, IsReportOn, ReadMapComesTo, ShortMapComesTo, MapTextComesTo, MapComesTo, WordsComeTo, LayoutComesTo, IsVerdict}
 use Rattle.critarea_core.specs.declared.refusal.Refusal.{Refusal}
 use Rattle.library_grammar.specs.FirstFault.{BytesComeTo}
 use Rattle.library_grammar.proofs.FaultsAgree.{libraries_agree}
@@ -128,7 +126,7 @@ supported (goes_on short (goes_on {v = read} says (all_hold all e))) = subst (λ
 one_metal_is : (layer datatype radius : ℕ) → All (IsSupported (one_metal_map layer datatype radius)) support_checks
 one_metal_is layer datatype radius =
     let Is = IsSupported (one_metal_map layer datatype radius) in
-    All-cons Is has_no_cuts (has_no_terminals ∷ []) refl (All-cons Is has_no_terminals [] refl (All-nil Is))
+    All-cons Is has_no_terminals [] refl (All-nil Is)
 
 -- a good map is supported
 pub is_supported : (task : Task) (bytes : List ℕ → List ℕ) (layer_map : LayerMap) → MapComesTo task bytes (value layer_map) → All (IsSupported layer_map) support_checks

@@ -4,7 +4,7 @@ use Rattle.first_refusal.specs.Outcomes.{Outcome, Retold, Then}
 use Rattle.first_refusal.specs.Checks.{Checks}
 use Rattle.library_grammar.specs.FirstFault.{BytesComeTo}
 use Rattle.library_model.specs.declared.library.Library.{Library}
-use Rattle.map_model.specs.LayerMap.{LayerMap}
+use Rattle.map_model.specs.MapNames.{LayerMap}
 use Rattle.flatten.specs.Placements.{Placing}
 use Rattle.flatten.specs.Routes.{Route}
 use Rattle.rect_cover.specs.ShapeChecks.{ShapeCheck, ShapeHolds, checks_of, shape_fault}

@@ -1,7 +1,6 @@
 -- refusals: each is its number and its place, and the status that the stage gives it
 use Rattle.std.specs.Prelude.{ℕ, List, [], ◌∷◌, codes}
-use Rattle.std.specs.Fmt.{decimal}
-use Rattle.std.specs.List.{concat}
+use Rattle.lists.specs.Words.{decimal, concat}
 use Rattle.layer_map.specs.MapFaults as map_faults
 use Rattle.layer_map.specs.declared.fault.MapFault.{MapFault}
 use Rattle.flatten.specs.PlaceFaults as place_faults

@@ -5,7 +5,7 @@ use Rattle.edge_io.specs.Bytes.{Appends, AppendsPrefix}
 use Rattle.edge_io.specs.FailureCounts.{Rose}
 use Rattle.command_line.specs.Requests.{Ask}
 use Rattle.command_line.specs.declared.request.Request.{Request}
-use Rattle.map_model.specs.LayerMap.{LayerMap}
+use Rattle.map_model.specs.MapNames.{LayerMap}
 use Rattle.critarea_core.specs.Contents.{Contents, AgreeWith, MayContain, map_names, file_names}
 use Rattle.critarea_core.specs.Refusals.{refusal_text}
 use Rattle.critarea_core.specs.Layout.{Subject}

@@ -7,8 +7,8 @@ use Rattle.command_line.specs.declared.request.Request.{Request}
 use Rattle.command_line.specs.declared.task.Task.{Task}
 use Rattle.command_line.specs.declared.task.Task.TheVariants.{OneMetal, Mapped}
 use Rattle.layer_map.specs.Documents as document
-use Rattle.map_model.specs.LayerMap.{LayerMap, one_metal_map}
-use Rattle.layer_map.specs.DocumentPaths.{cuts_path, terminals_path}
+use Rattle.map_model.specs.MapNames.{LayerMap, one_metal_map}
+use Rattle.layer_map.specs.DocumentPaths.{terminals_path}
 use Rattle.critical_areas.specs.Rows.{AreRows}
 use Rattle.report.specs.Report.{report_text}
 use Rattle.questions.specs.declared.row.Row.{Row}
@@ -23,23 +23,19 @@ pub record IsShortEnough (limit : ℕ) (text same : List ℕ) : Type 0 where
   pub is_text : same ≡ text
   pub short : length text ≤ limit
 
--- what a layer map may not have yet: cuts, and terminals
+-- what a layer map may not have yet: terminals
 pub data SupportCheck : Type 0 where
-  has_no_cuts : SupportCheck
   has_no_terminals : SupportCheck
 
--- both, in their order
 abbrev pub support_checks : List SupportCheck
-support_checks = has_no_cuts ∷ has_no_terminals ∷ []
+support_checks = has_no_terminals ∷ []
 
--- what each demands of a layer map
+-- what this demands of a layer map
 abbrev pub IsSupported : LayerMap → SupportCheck → Type 0
-IsSupported layer_map has_no_cuts = layer_map.cuts ≡ []
 IsSupported layer_map has_no_terminals = layer_map.terminals ≡ []
 
--- the refusal that each gives where it fails
+-- the refusal where it fails
 abbrev pub not_supported : SupportCheck → Refusal
-not_supported has_no_cuts = map_not_supported cuts_path
 not_supported has_no_terminals = map_not_supported terminals_path
 
 -- a layer map that was read: whether it is supported

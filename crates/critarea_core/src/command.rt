@@ -25,7 +25,7 @@ use questions::Row;
 use std::alloc::Global;
 use std::thread::Threads;
 
-/// The rows on the subject whose layers these are. The map has no cuts and no terminals.
+/// The rows on the subject whose layers these are. The map has no terminals.
 fn rows_on(alloc: Global, map: &Map, layers: &Layers) -> Result<Vec<Row>, NoMemory>
     requires supported { All (IsSupported (layer_map_of map.now)) support_checks }
     requires one_each { length layers.now.lists.items ≡ length map.now.metals + length map.now.cuts }
@@ -35,8 +35,7 @@ fn rows_on(alloc: Global, map: &Map, layers: &Layers) -> Result<Vec<Row>, NoMemo
     critical_areas(alloc, map, layers)
 }
 
-/// The rows of the map on the layout with these bytes, of which this top is wanted, or any. The map has no cuts and no
-/// terminals.
+/// The rows of the map on the layout with these bytes, of which this top is wanted, or any. The map has no terminals.
 fn rows_of_bytes(
     rt: &(impl Threads + Sync),
     alloc: Global,
@@ -156,8 +155,8 @@ fn find<F: Files>(
 ///
 /// Nothing goes out before the report is complete, so a refused map or layout leaves `out` as it was. Where what the files
 /// tell of the map is refused, the layout's file is not started. A map's refusal has number 39 at 1048576 where the map
-/// has more bytes than that, one of 40 to 47 at a path of its document, and 60 at 6 or 7 where it has cuts or terminals,
-/// which are not supported yet. A layout's refusal has number 9 at 268435456 where the layout has more bytes than that,
+/// has more bytes than that, one of 40 to 47 at a path of its document, and 60 at 7 where it has terminals, which are not
+/// supported yet. A layout's refusal has number 9 at 268435456 where the layout has more bytes than that,
 /// one of 10 to 23 at an offset where its bytes are no library, one of 24 to 30 where its shapes are not placed, and then
 /// one of 30 to 36 at the offset of the first placed shape, in the order of the routes, that has no cover.
 pub fn run<F: Files, O: Sink, E: Sink>(

@@ -10,19 +10,16 @@ use super::refusal::{MAP_LIMIT, MAP_TOO_LONG, NOT_SUPPORTED, Refusal};
 use super::unreported::Unreported;
 use command_line::{Request, Task};
 use edge_io::{Files, read_whole};
-use layer_map::paths::{CUTS, TERMINALS};
+use layer_map::paths::TERMINALS;
 use layer_map::read_map;
 use map_model::{Map, one_metal};
 use std::alloc::Global;
 
-/// The map that the bytes say, where it has no cuts and no terminals, which are not supported yet.
+/// The map that the bytes say, where it has no terminals, which are not supported yet.
 fn supported_map(alloc: Global, bytes: &[u8]) -> Result<Map, Unreported>
     ensures { Finds (ShortMapComesTo bytes.now) IsMapOf result }
 {
     let map = read_map(alloc, bytes)?;
-    if !map.cuts.as_slice().is_empty() {
-        return Err(Unreported::Refused(Refusal::of_map(NOT_SUPPORTED, u64::from(CUTS))));
-    }
     if !map.terminals.as_slice().is_empty() {
         return Err(Unreported::Refused(Refusal::of_map(NOT_SUPPORTED, u64::from(TERMINALS))));
     }

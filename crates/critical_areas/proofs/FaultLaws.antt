@@ -1,17 +1,16 @@
--- faults of a layer map without cuts and terminals
-use Rattle.std.proofs.Common.{ℕ, ◌≡◌, sym, ap, subst, List, [], length}
-use Rattle.std.specs.Prelude.{◌↔◌, Contains, map}
-use Rattle.std.specs.List.{enumerate_from}
+-- faults of a layer map: opens need terminals, and what is covered alike has the same faults
+use Rattle.std.proofs.Common.{ℕ, ◌+◌, ◌≡◌, refl, ap, subst, List, [], ◌∷◌, ◌↔◌, Contains, map, filter, length}
+use Rattle.lists.proofs.Words.{enumerate_from}
 use Rattle.geo_core.specs.declared.plane.Cell.{Cell}
-use Rattle.fault_model.specs.Faults.{IsShort}
-use Rattle.fault_model.specs.Vias.{IsViasOpen}
-use Rattle.fault_model.proofs.FaultLaws.{short_same}
+use Rattle.fault_model.specs.FaultNames.{IsViasOpen}
+use Rattle.fault_model.proofs.AlikeLaws.{block_alike, open_alike, short_alike}
 use Rattle.fault_model.proofs.TallyLaws.{Tally-same_all}
 use Rattle.fault_model.proofs.TerminalLaws.{no_terminal, no_vias}
-use Rattle.map_model.specs.LayerMap.{LayerMap}
+use Rattle.map_model.specs.MapNames.{LayerMap, layer_map_of, mapped_cut, side_of}
+use Rattle.map_model.specs.declared.layers.Cut.{Cut}
+use Rattle.map_model.specs.declared.map.Map.{Map}
 use Rattle.net_extract.specs.Cuts.{cut_of, cuts_of, terminal_cuts_of}
 use Rattle.critical_areas.specs.FaultKinds.{IsFault}
-use Rattle.map_model.specs.Measures.{side_of}
 use Rattle.questions.specs.declared.question.Question.{Question}
 use Rattle.critical_areas.specs.Rows.{Answers}
 use Rattle.questions.specs.declared.kind.Kind.{Kind}
@@ -19,40 +18,36 @@ use Rattle.questions.specs.declared.kind.Kind.TheVariants.{Short, Open, Via}
 use Rattle.questions.specs.declared.row.Row.{Row}
 use Rattle.lists.proofs.Containing.{Contains-none}
 
-module _ (layer_map : LayerMap) (no_cuts : layer_map.cuts ≡ []) where
-  cuts_none : cuts_of layer_map ≡ []
-  cuts_none = ap (λ cuts. map cut_of (enumerate_from (length layer_map.metals) cuts)) no_cuts
+-- without terminals nothing is parted
+pub no_open : (layer_map : LayerMap) → layer_map.terminals ≡ [] → terminal_cuts_of layer_map ≡ [] → (covers : ℕ → Cell → Type 0) (m s : ℕ) (c : Cell) → IsFault layer_map covers Open m s c → ⊥
+no_open layer_map no_terminals no_cuts covers m s c f =
+    let named : Cell → Type 0 = λ d. Contains layer_map.terminals (m, d) in
+    let open_cells = (no_vias covers named m s c).0 (subst (λ cuts. IsViasOpen covers cuts named m s c) no_cuts f) in
+    no_terminal (covers m) named s c (λ d h. Contains-none (subst (λ ts. Contains ts (m, d)) no_terminals h)) open_cells
 
-  short_alone : (covers : ℕ → Cell → Type 0) (m s : ℕ) (c : Cell) → IsShort covers [] m s c ↔ IsFault layer_map covers Short m s c
-  short_alone covers m s c = (subst (λ cuts. IsShort covers cuts m s c) (sym cuts_none), subst (λ cuts. IsShort covers cuts m s c) cuts_none)
+-- no cut of a map says that its clusters are terminals
+none_numbered : (cuts : List Cut) (first : ℕ) → filter (λ numbered. numbered.1.has_terminals) (enumerate_from first (map mapped_cut cuts)) ≡ []
+none_numbered [] first = refl
+none_numbered (cut ∷ cuts) first = none_numbered cuts (first + 1)
 
-  pub no_block : (covers : ℕ → Cell → Type 0) (m s : ℕ) (c : Cell) → IsFault layer_map covers Via m s c → ⊥
-  no_block covers m s c f = Contains-none (subst (λ cuts. Contains cuts f.0) cuts_none f.1)
+pub no_terminal_cuts : (given : Map) → terminal_cuts_of (layer_map_of given) ≡ []
+no_terminal_cuts given = ap (map cut_of) (none_numbered given.cuts (length (layer_map_of given).metals))
 
-  module _ (no_terminals : layer_map.terminals ≡ []) where
-    terminal_cuts_none : terminal_cuts_of layer_map ≡ []
-    terminal_cuts_none = ap (λ cuts. terminal_cuts_of (record layer_map { cuts = cuts })) no_cuts
+module _ (layer_map : LayerMap) where
+  fault_follows : (one other : ℕ → Cell → Type 0) → ((m : ℕ) (c : Cell) → one m c ↔ other m c) → (kind : Kind) (m s : ℕ) (c : Cell) → IsFault layer_map one kind m s c
+      → IsFault layer_map other kind m s c
+  fault_follows one other same Short m s c f = short_alike one other same (cuts_of layer_map) m s c f
+  fault_follows one other same Open m s c f = open_alike one other same (terminal_cuts_of layer_map) (λ d. Contains layer_map.terminals (m, d)) m s c f
+  fault_follows one other same Via m s c f = (f.0, f.1, f.2, block_alike one other same f.0 s c f.3)
 
-    pub no_open : (covers : ℕ → Cell → Type 0) (m s : ℕ) (c : Cell) → IsFault layer_map covers Open m s c → ⊥
-    no_open covers m s c f =
-        let named : Cell → Type 0 = λ d. Contains layer_map.terminals (m, d) in
-        let open_cells = (no_vias covers named m s c).0 (subst (λ cuts. IsViasOpen covers cuts named m s c) terminal_cuts_none f) in
-        no_terminal (covers m) named s c (λ d h. Contains-none (subst (λ ts. Contains ts (m, d)) no_terminals h)) open_cells
-
-    fault_follows : (one other : ℕ → Cell → Type 0) → ((m : ℕ) (c : Cell) → one m c ↔ other m c) → (kind : Kind) (m s : ℕ) (c : Cell) → IsFault layer_map one kind m s c
-        → IsFault layer_map other kind m s c
-    fault_follows one other same Short m s c f = (short_alone other m s c).0 (short_same one other m s c (same m) ((short_alone one m s c).1 f))
-    fault_follows one other same Open m s c f = absurd (no_open one m s c f)
-    fault_follows one other same Via m s c f = absurd (no_block one m s c f)
-
-    -- what is covered alike has the same rows
-    pub answers_follow : (one other : ℕ → Cell → Type 0) → ((m : ℕ) (c : Cell) → one m c ↔ other m c) → (cells : List Cell) (q : Question) (row : Row) → Answers layer_map one cells q row
-        → Answers layer_map other cells q row
-    answers_follow one other same cells q row a = record {
-      is_for = a.is_for;
-      area = Tally-same_all cells row.area (λ c. (
-        fault_follows one other same q.kind q.number (side_of q.measure) c,
-        fault_follows other one (λ m d. let k = same m d in
-            (k.1, k.0)) q.kind q.number (side_of q.measure) c,
-      )) a.area;
-    }
+  -- what is covered alike has the same rows
+  pub answers_follow : (one other : ℕ → Cell → Type 0) → ((m : ℕ) (c : Cell) → one m c ↔ other m c) → (cells : List Cell) (q : Question) (row : Row) → Answers layer_map one cells q row
+      → Answers layer_map other cells q row
+  answers_follow one other same cells q row a = record {
+    is_for = a.is_for;
+    area = Tally-same_all cells row.area (λ c. (
+      fault_follows one other same q.kind q.number (side_of q.measure) c,
+      fault_follows other one (λ m d. let k = same m d in
+          (k.1, k.0)) q.kind q.number (side_of q.measure) c,
+    )) a.area;
+  }

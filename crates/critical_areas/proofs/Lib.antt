@@ -5,3 +5,4 @@ pub mod PartLaws
 pub mod FaultLaws
 pub mod RowLaws
 pub mod UniqueLaws
+pub mod CutLaws

@@ -1,29 +1,30 @@
 -- the parts that come of nets
-use Rattle.std.proofs.Common.{◌≡◌, ◌<◌, ℕ, List, [], map, length, sym, subst, ap, ◌∙◌}
-use Rattle.std.specs.Prelude.{◌↔◌, Contains, slice_index_or, Ok, Err}
-use Rattle.std.specs.List.{enumerate_from}
+use Rattle.std.proofs.Common.{arith, ◌+◌, ◌/◌, ◌≤◌, Some, slice_get, ◌≡◌, ◌<◌, ℕ, List, [], map, length, sym, subst, ap, ◌∙◌, ◌↔◌, Contains, slice_index_or, Ok, Err}
+use Rattle.lists.proofs.Words.{slice_get_within, length-enumerate_from, enumerate_from, length-map, All-nil}
 use Rattle.std.proofs.Math.ListN.{get_or-map}
-use Rattle.std.proofs.lemmas.List.{length-map}
-use Rattle.std.proofs.lemmas.List.Elements.{All-nil}
 use Rattle.first_refusal.proofs.CheckLaws.{none_fails}
 use Rattle.first_refusal.specs.Answers.{Answers, gives, refuses, no_memory}
 use Rattle.first_refusal.specs.Checks.{IsFirstFailing, all_hold, one_fails}
-use Rattle.geo_core.specs.Cells.{Has}
-use Rattle.geo_core.specs.Unions.{IsCoveredIn}
+use Rattle.geo_core.specs.Plane.{Has, IsCoveredIn}
 use Rattle.geo_core.specs.declared.plane.Cell.{Cell}
 use Rattle.geo_core.specs.declared.plane.Half.{Half}
 use Rattle.geo_core.specs.declared.plane.Labelled.{Labelled}
 use Rattle.geo_core.specs.declared.plane.Rect.{Rect}
-use Rattle.fault_model.specs.Halves.{IsOn}
+use Rattle.fault_model.specs.FaultNames.{IsOn, Cut, IsViaBlock}
 use Rattle.lists.proofs.Mapping.{Contains-map, Contains-map_from}
-use Rattle.map_model.specs.LayerMap.{LayerMap}
-use Rattle.net_extract.specs.Cuts.{cuts_of}
+use Rattle.map_model.specs.MapNames.{LayerMap}
+use Rattle.net_extract.specs.Cuts.{cut_of, cuts_of, numbered_cuts}
 use Rattle.net_extract.specs.Extraction.{AreNetsOf, ComeToNets, IsOnItsMetal}
 use Rattle.net_extract.specs.NetLists.{NetLists, IsPieceCell, IsNetCell, pieces_on}
 use Rattle.net_extract.specs.declared.fault.NetFault.{NetFault}
 use Rattle.net_extract.specs.declared.fault.NetFault.TheVariants.{TerminalOffMetal, Memory}
+use Rattle.net_extract.proofs.ClusterLaws.{carry_clusters}
 use Rattle.questions.specs.Questions.{questions}
-use Rattle.critical_areas.specs.AreaParts.{ArePartsOf, ArePiecesOf, ComeToParts, IsInPieces, by_net}
+use Rattle.via_clusters.specs.Blocks.{CoversSomeBox}
+use Rattle.via_clusters.specs.Clusters.{AreClusterBoxes}
+use Rattle.via_clusters.proofs.BlockLaws.{block_is_box}
+use Rattle.critical_areas.specs.AreaParts.{AreBoxesOf, ArePartsOf, ArePiecesOf, ComeToParts, IsInPieces, by_net}
+use Rattle.critical_areas.specs.inside.CutBoxes.{AreAllBoxes}
 use Rattle.critical_areas.specs.declared.parts.Parts.{Parts}
 
 module _ (layer_map : LayerMap) (lists : List (List Rect)) (made : NetLists) (are : AreNetsOf layer_map lists made) (metal : ℕ) where
@@ -50,14 +51,35 @@ module _ (layer_map : LayerMap) (lists : List (List Rect)) (made : NetLists) (ar
     nets = λ one other p q one_in other_in p_on q_on. are.nets metal metal one.label other.label p q (in_net one p one_in p_on) (in_net other q other_in q_on);
   }
 
+-- the boxes of a cut's clusters tell where it is blocked
+boxes_of_cut : (layer_map : LayerMap) (lists : List (List Rect)) (made : NetLists) → AreNetsOf layer_map lists made → (number : ℕ) (cut : Cut) → slice_get (cuts_of layer_map) number ≡ Some cut
+    → (boxes : List Rect) → AreClusterBoxes made number boxes → AreBoxesOf (IsCoveredIn lists) cut boxes
+boxes_of_cut layer_map lists made are number cut there boxes boxed radius c some =
+    let half : (radius + radius + 1) / 2 ≡ radius = omega arith in
+    let is = block_is_box (IsCoveredIn lists) cut made number (carry_clusters layer_map lists made number cut are there) boxes boxed (radius + radius) c (omega arith) in
+    let same = subst (λ r. IsViaBlock (IsCoveredIn lists) cut (radius + radius) c ↔ CoversSomeBox boxes r c) half is in
+    (same.1, same.0)
+
+-- a cut of the map has its contact pieces in the nets, under its number
+cut_is_among : (layer_map : LayerMap) (number : ℕ) (cut : Cut) → slice_get (cuts_of layer_map) number ≡ Some cut → number < length layer_map.cuts
+cut_is_among layer_map number cut there =
+    let within = slice_get_within (cuts_of layer_map) number cut there in
+    let as_many = length-map (numbered_cuts layer_map) cut_of in
+    let numbered = length-enumerate_from (length layer_map.metals) layer_map.cuts in
+    omega (arith, within, as_many, numbered)
+
 pub parts_are : (layer_map : LayerMap) (lists : List (List Rect)) (made : NetLists) (parts : Parts) → AreNetsOf layer_map lists made → parts.questions ≡ questions layer_map
-    → parts.metals ≡ map (map by_net) made.pieces → ArePartsOf layer_map lists parts
-parts_are layer_map lists made parts are asked metals = record {
+    → parts.metals ≡ map (map by_net) made.pieces → AreAllBoxes made (length made.contacts) parts.cuts → ArePartsOf layer_map lists parts
+parts_are layer_map lists made parts are asked metals boxed = record {
   asked = asked;
   one_each = ap length metals ∙ length-map made.pieces (map by_net) ∙ are.metals;
   pieces = λ metal small.
       let at = ap (λ ms. slice_index_or ms metal []) metals ∙ get_or-map (map by_net) made.pieces metal [] in
       subst (ArePiecesOf (IsCoveredIn lists) (cuts_of layer_map) metal) (sym at) (pieces_by_net layer_map lists made are metal small);
+  one_each_cut = boxed.one_each ∙ are.cuts;
+  boxes = λ number cut there.
+      let among = cut_is_among layer_map number cut there in
+      boxes_of_cut layer_map lists made are number cut there _ (boxed.boxes number (omega (arith, are.cuts, among)));
 }
 
 module _ (layer_map : LayerMap) (lists : List (List Rect)) where

@@ -1,20 +1,14 @@
 -- pieces labelled by nets, and where a defect touches two of them
-use Rattle.std.proofs.Common.{ℕ, ◌+◌, ◌/◌, ◌<◌, ◌≤◌, ◌≡◌, refl, sym, ap, ◌∙◌, subst, List, [], length, arith}
-use Rattle.std.specs.Prelude.{◌↔◌, ◌≤ℤ◌, pos, slice_index_or}
-use Rattle.geo_core.specs.Bounds.{IsRadius}
-use Rattle.geo_core.specs.Unions.{IsCoveredIn}
+use Rattle.std.proofs.Common.{ℕ, ◌+◌, ◌/◌, ◌<◌, ◌≤◌, ◌≡◌, refl, sym, ap, ◌∙◌, subst, List, [], length, arith, ◌↔◌, ◌≤ℤ◌, pos, slice_index_or}
+use Rattle.geo_core.specs.Plane.{IsRadius, IsCoveredIn}
 use Rattle.geo_core.specs.declared.bounds.TheConstants.{GREATEST_REACH}
 use Rattle.geo_core.specs.declared.plane.Cell.{Cell}
 use Rattle.geo_core.specs.declared.plane.Half.{Half}
 use Rattle.geo_core.specs.declared.plane.Labelled.{Labelled}
 use Rattle.geo_core.specs.declared.plane.Rect.{Rect}
-use Rattle.fault_model.specs.Areas.{Tally}
-use Rattle.fault_model.specs.Faults.{IsShort}
-use Rattle.fault_model.specs.Halves.{IsOn, IsInFootprint}
-use Rattle.fault_model.specs.Nets.{Cut}
+use Rattle.fault_model.specs.FaultNames.{Tally, IsShort, IsOn, IsInFootprint, Cut}
 use Rattle.fault_model.proofs.TallyLaws.{Tally-same_all}
-use Rattle.map_model.specs.LayerMap.{LayerMap}
-use Rattle.map_model.specs.Measures.{side_of}
+use Rattle.map_model.specs.MapNames.{LayerMap, side_of}
 use Rattle.map_model.specs.declared.measure.Measure.{Measure}
 use Rattle.map_model.specs.declared.measure.Measure.TheVariants.{Radius}
 use Rattle.net_extract.specs.Cuts.{cuts_of}
@@ -62,7 +56,7 @@ module _ (covers : ℕ → Cell → Type 0) (cuts : List Cut) (m : ℕ) (pieces 
   )
 
 -- the side of a radius is even
-even : (measure : Measure) → side_of measure / 2 + side_of measure / 2 ≡ side_of measure
+pub even : (measure : Measure) → side_of measure / 2 + side_of measure / 2 ≡ side_of measure
 even (Radius radius) = omega arith
 
 pub reach_is_radius : (measure : Measure) → 1 ≤ side_of measure → pos (side_of measure / 2) ≤ℤ GREATEST_REACH → IsRadius (side_of measure / 2)

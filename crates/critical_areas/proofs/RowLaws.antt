@@ -1,11 +1,10 @@
 -- rows by amounts, and what rows of a layer map without cuts and terminals stand on
-use Rattle.std.proofs.Common.{ℕ, ◌≡◌, sym, subst, List, [], ◌∷◌}
-use Rattle.std.specs.Prelude.{map, ◌↔◌}
-use Rattle.std.specs.List.{AllZip}
+use Rattle.std.proofs.Common.{ℕ, ◌≡◌, sym, subst, List, [], ◌∷◌, map, ◌↔◌}
+use Rattle.lists.proofs.Words.{AllZip}
 use Rattle.geo_core.specs.declared.plane.Cell.{Cell}
-use Rattle.fault_model.specs.Areas.{IsCovered, cells_of_window}
+use Rattle.fault_model.specs.FaultNames.{IsCovered, cells_of_window}
 use Rattle.fault_model.proofs.WindowLaws.{IsWindowOf-same}
-use Rattle.map_model.specs.LayerMap.{LayerMap, reach_of}
+use Rattle.map_model.specs.MapNames.{LayerMap, reach_of}
 use Rattle.questions.specs.Questions.{IsRowFor, questions}
 use Rattle.questions.specs.declared.question.Question.{Question}
 use Rattle.critical_areas.specs.Rows.{Answers, AreRows, AreRowsOf, IsAmount}
@@ -23,18 +22,17 @@ rows_answer layer_map covers cells qs amounts rows are counted = each qs rows ar
   each (q ∷ qs) [] h g = absurd h
   each (q ∷ qs) (row ∷ rows) h g = (record { is_for = h.0; area = g.0 }, each qs rows h.1 g.1)
 
-module _ (layer_map : LayerMap) (no_cuts : layer_map.cuts ≡ []) (no_terminals : layer_map.terminals ≡ []) where
-  module _ (one other : ℕ → Cell → Type 0) (same : (number : ℕ) (c : Cell) → one number c ↔ other number c) where
-    all_follow : (cells : List Cell) (qs : List Question) (rows : List Row) → AllZip (Answers layer_map one cells) qs rows → AllZip (Answers layer_map other cells) qs rows
-    all_follow cells [] [] h = tt
-    all_follow cells [] (row ∷ rows) h = absurd h
-    all_follow cells (q ∷ qs) [] h = absurd h
-    all_follow cells (q ∷ qs) (row ∷ rows) h = (answers_follow layer_map no_cuts no_terminals one other same cells q row h.0, all_follow cells qs rows h.1)
+module _ (layer_map : LayerMap) (one other : ℕ → Cell → Type 0) (same : (number : ℕ) (c : Cell) → one number c ↔ other number c) where
+  all_follow : (cells : List Cell) (qs : List Question) (rows : List Row) → AllZip (Answers layer_map one cells) qs rows → AllZip (Answers layer_map other cells) qs rows
+  all_follow cells [] [] h = tt
+  all_follow cells [] (row ∷ rows) h = absurd h
+  all_follow cells (q ∷ qs) [] h = absurd h
+  all_follow cells (q ∷ qs) (row ∷ rows) h = (answers_follow layer_map one other same cells q row h.0, all_follow cells qs rows h.1)
 
-    -- what is covered alike has the same rows
-    pub rows_follow : (rows : List Row) → AreRows layer_map one rows → AreRows layer_map other rows
-    rows_follow rows are = record {
-      window = are.window;
-      is_window = IsWindowOf-same (IsCovered one) (IsCovered other) (λ c. (λ v. (v.0, (same v.0 c).0 v.1), λ v. (v.0, (same v.0 c).1 v.1))) (reach_of layer_map) are.window are.is_window;
-      answers = all_follow (cells_of_window are.window) (questions layer_map) rows are.answers;
-    }
+  -- what is covered alike has the same rows
+  pub rows_follow : (rows : List Row) → AreRows layer_map one rows → AreRows layer_map other rows
+  rows_follow rows are = record {
+    window = are.window;
+    is_window = IsWindowOf-same (IsCovered one) (IsCovered other) (λ c. (λ v. (v.0, (same v.0 c).0 v.1), λ v. (v.0, (same v.0 c).1 v.1))) (reach_of layer_map) are.window are.is_window;
+    answers = all_follow (cells_of_window are.window) (questions layer_map) rows are.answers;
+  }

@@ -1,9 +1,7 @@
 -- the sizes of a map, which are radii with their weights
-use Rattle.std.proofs.Common.{ℕ, suc, ◌+◌, ◌-◌, ◌/◌, ◌≤◌, ◌<◌, ◌≡◌, refl, sym, ap, subst, ◌∙◌, List, [], ◌∷◌, length, get_or, arith}
-use Rattle.std.specs.Prelude.{map, fold, max}
-use Rattle.std.specs.List.Sorted.{IsStrictlyIncreasing}
-use Rattle.map_model.specs.MapView.{sizes_of}
-use Rattle.map_model.specs.Measures.{side_of}
+use Rattle.std.proofs.Common.{ℕ, suc, ◌+◌, ◌-◌, ◌/◌, ◌≤◌, ◌<◌, ◌≡◌, refl, sym, ap, subst, ◌∙◌, List, [], ◌∷◌, length, get_or, arith, map, fold, max}
+use Rattle.lists.proofs.Words.{IsStrictlyIncreasing}
+use Rattle.map_model.specs.MapNames.{sizes_of, side_of}
 
 half_twice : (n : ℕ) → (n + n) / 2 ≡ n
 half_twice n = omega arith

@@ -1,12 +1,12 @@
 -- questions have one list of rows at most
 use Rattle.std.proofs.Common.{ℕ, ◌≡◌, refl, sym, ap, ◌∙◌, subst, List, [], ◌∷◌}
-use Rattle.std.specs.List.{AllZip}
+use Rattle.lists.proofs.Words.{AllZip}
 use Rattle.first_refusal.specs.Laws.{IsUnique}
 use Rattle.geo_core.specs.declared.plane.Cell.{Cell}
-use Rattle.fault_model.specs.Areas.{IsCovered, cells_of_window}
+use Rattle.fault_model.specs.FaultNames.{IsCovered, cells_of_window}
 use Rattle.fault_model.proofs.TallyLaws.{Tally-unique}
 use Rattle.fault_model.proofs.WindowLaws.{agree}
-use Rattle.map_model.specs.LayerMap.{LayerMap, reach_of}
+use Rattle.map_model.specs.MapNames.{LayerMap, reach_of}
 use Rattle.questions.specs.Questions.{questions}
 use Rattle.questions.specs.declared.question.Question.{Question}
 use Rattle.critical_areas.specs.Rows.{Answers, AreRows}

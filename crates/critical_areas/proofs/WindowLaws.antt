@@ -1,18 +1,11 @@
 -- the bounds of rectangles, one after the other, and the window of lists of them
-use Rattle.std.proofs.Common.{ℕ, zero, suc, ◌+◌, ◌<◌, ◌≤◌, ◌≡◌, sym, subst, ◌∙◌, ap, List, [], ◌∷◌, ◌++◌, length, take, take_all, get_or, append-nil, inl, inr}
-use Rattle.std.specs.Prelude.{ℤ, pos, ◌↔◌, Option, Some, Contains}
-use Rattle.std.specs.List.{flat_map}
-use Rattle.std.proofs.lemmas.Grind.{flat_map-append}
-use Rattle.std.proofs.lemmas.List.{take_more}
-use Rattle.std.proofs.lemmas.List.Elements.{Contains-append_left, Contains-append_right, Contains-append_cases, Contains-push_cases}
-use Rattle.std.proofs.lemmas.Option.{get_or_from_slice_get, slice_get-get_or}
-use Rattle.geo_core.specs.Cells.{Has, ComesNear, IsInLayout, IsJoin}
+use Rattle.std.proofs.Common.{ℕ, zero, suc, ◌+◌, ◌<◌, ◌≤◌, ◌≡◌, sym, subst, ◌∙◌, ap, List, [], ◌∷◌, ◌++◌, length, take, take_all, get_or, inl, inr, ℤ, pos, ◌↔◌, Option, Some, Contains}
+use Rattle.lists.proofs.Words.{append-nil, flat_map, flat_map-append, take_more, Contains-append_left, Contains-append_right, Contains-append_cases, Contains-push_cases, get_or_from_slice_get, slice_get-get_or}
+use Rattle.geo_core.specs.Plane.{Has, ComesNear, IsInLayout, IsJoin, IsInUnion, IsCoveredIn}
 use Rattle.geo_core.specs.declared.plane.Cell.{Cell}
 use Rattle.geo_core.specs.declared.plane.Rect.{Rect}
 use Rattle.geo_core.proofs.RectLaws.{join_in_layout}
-use Rattle.fault_model.specs.Areas.{IsCovered, IsBoundsOf, IsWindow}
-use Rattle.geo_core.specs.Unions.{IsInUnion}
-use Rattle.geo_core.specs.Unions.{IsCoveredIn}
+use Rattle.fault_model.specs.FaultNames.{IsCovered, IsBoundsOf, IsWindow}
 use Rattle.critical_areas.specs.inside.LayoutBounds.{AreBounds}
 use Rattle.lists.proofs.Containing.{Contains-head, Contains-none, Contains-one, Contains-slice_get, Contains-tail, number_of}
 use Rattle.lists.proofs.Mapping.{Contains-flat_map, Contains-flat_map_from}

@@ -1,22 +1,22 @@
--- what the areas of a layout are counted from: what is asked, and the pieces of each metal, labelled by their nets
-use Rattle.std.specs.Prelude.{ℕ, List, [], Contains, length, slice_index_or, ◌≡◌, ◌<◌, ◌↔◌}
-use Rattle.std.specs.List.{enumerate_from}
+-- what the areas of a layout are counted from: what is asked, the pieces of each metal, labelled by their nets, and the boxes
+-- of each cut's via clusters
+use Rattle.std.specs.Prelude.{ℕ, List, [], Some, slice_get, Contains, length, slice_index_or, ◌+◌, ◌≡◌, ◌<◌, ◌≤◌, ◌↔◌}
+use Rattle.lists.specs.Words.{enumerate_from}
 use Rattle.first_refusal.specs.Checks.{Checks}
 use Rattle.first_refusal.specs.Outcomes.{Outcome}
-use Rattle.geo_core.specs.Cells.{Has}
-use Rattle.geo_core.specs.Unions.{IsCoveredIn}
+use Rattle.geo_core.specs.Plane.{Has, IsCoveredIn}
 use Rattle.geo_core.specs.declared.plane.Cell.{Cell}
 use Rattle.geo_core.specs.declared.plane.Half.{Half}
 use Rattle.geo_core.specs.declared.plane.Labelled.{Labelled}
 use Rattle.geo_core.specs.declared.plane.Rect.{Rect}
-use Rattle.fault_model.specs.Halves.{IsOn}
-use Rattle.fault_model.specs.Nets.{Cut, IsSameNetOn}
-use Rattle.map_model.specs.LayerMap.{LayerMap}
+use Rattle.fault_model.specs.FaultNames.{IsOn, Cut, IsSameNetOn, IsViaBlock}
+use Rattle.map_model.specs.MapNames.{LayerMap}
 use Rattle.net_extract.specs.Cuts.{cuts_of}
 use Rattle.net_extract.specs.Extraction.{IsOnItsMetal, off_metal}
 use Rattle.net_extract.specs.declared.fault.NetFault.{NetFault}
 use Rattle.net_extract.specs.declared.pieces.Piece.{Piece}
 use Rattle.questions.specs.Questions.{questions}
+use Rattle.via_clusters.specs.Blocks.{CoversSomeBox}
 use Rattle.critical_areas.specs.declared.parts.Parts.{Parts}
 
 -- one of the pieces has the cell
@@ -31,12 +31,19 @@ pub record ArePiecesOf (covers : ℕ → Cell → Type 0) (cuts : List Cut) (m :
   pub nets : (one other : Labelled) (p q : Half) → Contains pieces one → Contains pieces other →
       IsOn (Has one.rect) p → IsOn (Has other.rect) q → (one.label ≡ other.label) ↔ IsSameNetOn covers cuts m p q
 
+-- a defect of any radius covers one of the boxes exactly where it blocks a via of the cut
+abbrev pub AreBoxesOf : (ℕ → Cell → Type 0) → Cut → List Rect → Type 0
+AreBoxesOf covers cut boxes = (radius : ℕ) (c : Cell) → 1 ≤ radius → CoversSomeBox boxes radius c ↔ IsViaBlock covers cut (radius + radius) c
+
 -- the parts are those of this layer map and of what the lists cover
 pub record ArePartsOf (layer_map : LayerMap) (lists : List (List Rect)) (parts : Parts) : Type 0 where
   pub asked : parts.questions ≡ questions layer_map
   pub one_each : length parts.metals ≡ length layer_map.metals
   pub pieces : (metal : ℕ) → metal < length layer_map.metals →
       ArePiecesOf (IsCoveredIn lists) (cuts_of layer_map) metal (slice_index_or parts.metals metal [])
+  pub one_each_cut : length parts.cuts ≡ length layer_map.cuts
+  pub boxes : (number : ℕ) (cut : Cut) → slice_get (cuts_of layer_map) number ≡ Some cut →
+      AreBoxesOf (IsCoveredIn lists) cut (slice_index_or parts.cuts number [])
 
 -- what layers come to: parts where all terminals are on their metals, and else the fault of the first that is not
 abbrev pub ComeToParts : LayerMap → List (List Rect) → Outcome Parts NetFault → Type 0

@@ -1,10 +1,8 @@
 -- what a fault is, by its kind
 use Rattle.std.specs.Prelude.{ℕ, ◌≡◌, Contains}
 use Rattle.geo_core.specs.declared.plane.Cell.{Cell}
-use Rattle.fault_model.specs.Nets.{Cut}
-use Rattle.fault_model.specs.Faults.{IsShort, IsViaBlock}
-use Rattle.fault_model.specs.Vias.{IsViasOpen}
-use Rattle.map_model.specs.LayerMap.{LayerMap}
+use Rattle.fault_model.specs.FaultNames.{Cut, IsShort, IsViaBlock, IsViasOpen}
+use Rattle.map_model.specs.MapNames.{LayerMap}
 use Rattle.net_extract.specs.Cuts.{cuts_of, terminal_cuts_of}
 use Rattle.questions.specs.declared.kind.Kind.{Kind}
 use Rattle.questions.specs.declared.kind.Kind.TheVariants.{Short, Open, Via}

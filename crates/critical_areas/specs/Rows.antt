@@ -1,11 +1,10 @@
 -- the rows that answer the questions of a layer map
 use Rattle.std.specs.Prelude.{ℕ, ◌≡◌, List, Option, map}
-use Rattle.std.specs.List.{AllZip}
+use Rattle.lists.specs.Words.{AllZip}
 use Rattle.geo_core.specs.declared.plane.Cell.{Cell}
 use Rattle.geo_core.specs.declared.plane.Rect.{Rect}
-use Rattle.fault_model.specs.Areas.{Tally, IsCovered, IsWindowOf, cells_of_window}
-use Rattle.map_model.specs.LayerMap.{LayerMap, reach_of}
-use Rattle.map_model.specs.Measures.{side_of}
+use Rattle.fault_model.specs.FaultNames.{Tally, IsCovered, IsWindowOf, cells_of_window}
+use Rattle.map_model.specs.MapNames.{LayerMap, reach_of, side_of}
 use Rattle.questions.specs.Questions.{IsRowFor, questions}
 use Rattle.questions.specs.declared.question.Question.{Question}
 use Rattle.questions.specs.declared.row.Row.{Row}

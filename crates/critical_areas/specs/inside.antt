@@ -1,1 +1,2 @@
 pub mod LayoutBounds
+pub mod CutBoxes

@@ -3,10 +3,12 @@ ghost use Rattle.fault_model.specs.Areas.{cells_of_window};
 ghost use Rattle.geo_core.specs.Unions.{IsCoveredIn};
 ghost use Rattle.geo_core.specs.declared.plane.Rect.{Rect as Rectangle};
 ghost use Rattle.map_model.specs.LayerMap.{LayerMap};
+ghost use Rattle.net_extract.specs.Cuts.{terminal_cuts_of};
 ghost use Rattle.critical_areas.specs.AreaParts.{ArePartsOf};
 ghost use Rattle.critical_areas.specs.Rows.{AreAmounts, IsAmount};
 ghost use Rattle.questions.specs.Questions.{IsAskable};
 
+use super::blocks::blocks;
 use super::parts::Parts;
 use super::shorts::shorts;
 use geo_core::Rect;
@@ -16,11 +18,11 @@ use std::alloc::Global;
 
 /// For each question of the parts, in order, how many cells of the window, where there is one, have its fault.
 ///
-/// Blocks of cuts and opens are not counted yet, so the amounts are right where there are no cuts and no terminals. The
-/// only error is that no memory is left.
+/// Opens are not counted yet, so the amounts are right where there are no terminals. The only error is that no memory is
+/// left.
 pub fn amounts(alloc: Global, parts: &Parts, window: Option<Rect>) -> Result<Vec<u64>, NoMemory>
     ensures tallies { (layer_map : LayerMap) (lists : List (List Rectangle)) → ArePartsOf layer_map lists parts.now →
-        layer_map.cuts ≡ [] → layer_map.terminals ≡ [] →
+        layer_map.terminals ≡ [] → terminal_cuts_of layer_map ≡ [] →
         IfOk result (λ amounts. AreAmounts layer_map (IsCoveredIn lists) (cells_of_window window) amounts.items) }
     ensures one_each { IfOk result (λ amounts. length amounts.items ≡ length parts.now.questions) }
     ensures small { IfOk result (λ amounts. All (λ amount. amount < 2 ^ 63) amounts.items) }
@@ -39,9 +41,9 @@ fn amount(
     question: &Question,
     window: Option<Rect>,
 ) -> Result<u64, NoMemory>
-    requires { IsAskable (length parts.now.metals) question.now }
+    requires { IsAskable (length parts.now.metals) (length parts.now.cuts) question.now }
     ensures tally { (layer_map : LayerMap) (lists : List (List Rectangle)) → ArePartsOf layer_map lists parts.now →
-        layer_map.cuts ≡ [] → layer_map.terminals ≡ [] →
+        layer_map.terminals ≡ [] → terminal_cuts_of layer_map ≡ [] →
         IfOk result (IsAmount layer_map (IsCoveredIn lists) (cells_of_window window) question.now) }
     ensures small { IfOk result (λ n. n < 2 ^ 63) }
 {
@@ -49,7 +51,6 @@ fn amount(
         Kind::Short => shorts(alloc, parts, question.number, question.measure, window),
         // Without terminals nothing is parted.
         Kind::Open => Ok(0),
-        // Without cuts nothing is blocked.
-        Kind::Via => Ok(0),
+        Kind::Via => blocks(alloc, parts, question.number, question.measure, window),
     }
 }

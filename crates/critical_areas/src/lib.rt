@@ -3,6 +3,7 @@
 #![tactic(auto)]
 
 mod answering;
+mod blocks;
 mod counting;
 pub mod laws;
 mod parts;
@@ -29,13 +30,11 @@ use std::alloc::Global;
 use window::{reach, window_of};
 
 /// The rows of the report on what the rectangles cover, of which there is one list for each layer of the map: shorts of
-/// each metal, and then opens of each, for each size in order.
+/// each metal, then opens of each, and then via blocks of each cut, for each size in order.
 ///
-/// An area is a number of cells of the window, which is what all layers cover, grown by the greatest radius. Blocks of
-/// cuts and opens are not counted yet: the map may have no cuts and no terminals, and so all areas of opens are 0. The
-/// only error is that no memory is left.
+/// An area is a number of cells of the window, which is what all layers cover, grown by the greatest radius. Opens are not
+/// counted yet: the map may have no terminals, and so all areas of opens are 0. The only error is that no memory is left.
 pub fn critical_areas(alloc: Global, map: &Map, layers: &Layers) -> Result<Vec<Row>, NoMemory>
-    requires no_cuts { map.now.cuts ≡ [] }
     requires no_terminals { map.now.terminals ≡ [] }
     requires one_each { length layers.now.lists.items ≡ length map.now.metals + length map.now.cuts }
     requires within { All (All IsInLayout) layers.now.lists.items }

@@ -2,7 +2,7 @@ ghost use Rattle.std.specs.Prelude.{◌≤◌, All, length};
 ghost use Rattle.questions.specs.Questions.{IsAskable};
 ghost use Rattle.questions.specs.declared.row.TheConstants.{MOST_ROWS};
 
-use geo_core::Labelled;
+use geo_core::{Labelled, RectList};
 use lists::Items;
 use questions::Question;
 
@@ -16,6 +16,8 @@ pub struct Parts {
     pub questions: Items<Question>,
     /// The pieces of each metal, labelled by their nets.
     pub metals: Items<PieceList>,
-    pub ghost askable: { All (IsAskable (length metals)) questions },
+    /// The boxes of each cut's via clusters.
+    pub cuts: Items<RectList>,
+    pub ghost askable: { All (IsAskable (length metals) (length cuts)) questions },
     pub ghost few: { length questions ≤ MOST_ROWS },
 }

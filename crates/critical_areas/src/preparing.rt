@@ -2,14 +2,16 @@ ghost use Rattle.std.specs.Prelude.{[], ◌≡◌, ◌<◌, ◌+◌, ◌^◌, If
 ghost use Rattle.first_refusal.specs.Answers.{Answers};
 ghost use Rattle.map_model.specs.MapView.{layer_map_of};
 ghost use Rattle.critical_areas.specs.AreaParts.{ArePartsOf, ComeToParts, by_net};
+ghost use Rattle.critical_areas.specs.inside.CutBoxes.{AreAllBoxes};
 
 use super::parts::{Parts, PieceList};
-use geo_core::Labelled;
+use geo_core::{Labelled, RectList};
 use lists::{Items, NoMemory};
 use map_model::{Layers, Map};
 use net_extract::{NetFault, Nets, Piece, extract};
 use questions::questions_of;
 use std::alloc::Global;
+use via_clusters::clusters;
 
 /// Makes what all areas of these layers need, of which there is one list of rectangles for each metal of the map, and
 /// then one for each cut. The error is the first terminal that is not on its metal, or that no memory is left.
@@ -21,9 +23,11 @@ pub fn prepare(alloc: Global, map: &Map, layers: &Layers) -> Result<Parts, NetFa
     let nets = extract(alloc, layers, map)?;
     let questions = questions_of(alloc, map)?;
     let metals = pieces_by_net(alloc, &nets, map.metals.as_slice().len())?;
+    let cuts = boxes_of_clusters(alloc, &nets, map.cuts.as_slice().len())?;
     Ok(Parts {
         questions: Items::from_vec(questions),
         metals,
+        cuts,
     })
 }
 
@@ -53,6 +57,19 @@ fn pieces_by_net(alloc: Global, nets: &Nets, metals: usize) -> Result<Items<Piec
     let mut lists = Vec::new(alloc);
     for metal in 0..metals as u32 {
         lists.push(labelled(alloc, nets.pieces(metal))?)?;
+    }
+    Ok(Items::from_vec(lists))
+}
+
+/// The boxes of the via clusters of each of the cuts.
+fn boxes_of_clusters(alloc: Global, nets: &Nets, cuts: usize) -> Result<Items<RectList>, NoMemory>
+    requires all { cuts ≡ length nets.now.contacts }
+    requires small { cuts < 2 ^ 32 }
+    ensures { IfOk result (λ lists. AreAllBoxes nets.now cuts lists) }
+{
+    let mut lists = Vec::new(alloc);
+    for cut in 0..cuts as u32 {
+        lists.push(RectList::from_vec(clusters(alloc, nets, cut)?))?;
     }
     Ok(Items::from_vec(lists))
 }

@@ -1,20 +1,14 @@
 -- what holds of each question of a map, and how many there are
-use Rattle.std.proofs.Common.{ℕ, ◌+◌, ◌*◌, ◌/◌, ◌<◌, ◌≤◌, List, [], ◌∷◌, ◌++◌, length, map, arith, refl, length-append}
-use Rattle.std.specs.Prelude.{All, pos, ◌≤ℤ◌, ◌≢◌}
-use Rattle.std.specs.List.{enumerate_from}
-use Rattle.std.proofs.lemmas.Int.{ints}
-use Rattle.std.proofs.lemmas.List.{length-map}
-use Rattle.std.proofs.lemmas.List.Elements.{All-append, All-cons, All-head, All-map, All-nil, All-tail, All-weaker}
-use Rattle.std.proofs.lemmas.List.FromFn.{length-enumerate_from}
-use Rattle.geo_core.specs.Bounds.{IsRadius}
+use Rattle.std.proofs.Common.{ℕ, ◌+◌, ◌*◌, ◌/◌, ◌<◌, ◌≤◌, ◌≡◌, List, [], ◌∷◌, ◌++◌, length, map, arith, refl, length-append, All, pos, ◌≤ℤ◌, ◌≢◌}
+use Rattle.lists.proofs.Words.{enumerate_from, ints, length-map, All-append, All-cons, All-head, All-map, All-nil, All-tail, All-weaker, length-enumerate_from}
+use Rattle.geo_core.specs.Plane.{IsRadius}
 use Rattle.geo_core.specs.declared.bounds.TheConstants.{GREATEST_REACH}
-use Rattle.map_model.specs.LayerMap.{DefectSize, LayerMap, MappedCut, MappedLayer, radius_size}
-use Rattle.map_model.specs.MapView.{sizes_of}
-use Rattle.map_model.specs.Measures.{side_of}
+use Rattle.map_model.specs.MapNames.{DefectSize, LayerMap, MappedCut, MappedLayer, radius_size, sizes_of, side_of}
 use Rattle.map_model.specs.declared.limits.TheConstants.{GREATEST_WEIGHT, MOST_CUTS, MOST_METALS, MOST_SIZES}
 use Rattle.questions.specs.Questions.{IsAskable, cut_layers, metal_layers, of_kind, of_sizes, question_of, questions}
 use Rattle.questions.specs.declared.kind.Kind.{Kind}
 use Rattle.questions.specs.declared.kind.Kind.TheVariants.{Short, Open, Via}
+use Rattle.questions.specs.declared.question.Question.{Question}
 use Rattle.questions.specs.declared.row.TheConstants.{MOST_ROWS}
 
 -- the size may stand in a question
@@ -39,32 +33,52 @@ askable_sizes (r ∷ radii) (w ∷ weights) each light =
     All-cons IsAskableSize _ _ (askable_size r w (All-head IsRadius r radii each) (All-head IsLight w weights light))
     (askable_sizes radii weights (All-tail IsRadius r radii each) (All-tail IsLight w weights light))
 
-module _ (metals : ℕ) (sizes : List DefectSize) (each : All IsAskableSize sizes) (kind : Kind) where
-  abbrev IsNumber : ℕ → Type 0
-  IsNumber number = kind ≢ Via → number < metals
+-- three kinds
+short_is_no_block : Short ≡ Via → ⊥
+short_is_no_block e = cc
 
-  askable_each : (number : ℕ) (name : List ℕ) → IsNumber number → All (IsAskable metals) (of_sizes kind number name sizes)
-  askable_each number name is = All-map (IsAskable metals) (question_of kind number name) sizes
-      (All-weaker IsAskableSize (λ size. IsAskable metals (question_of kind number name size)) (λ size s. record { of_metal = is; some = s.some; within = s.within; light = s.light }) sizes each)
+open_is_no_block : Open ≡ Via → ⊥
+open_is_no_block e = cc
+
+module _ (metals cuts : ℕ) (sizes : List DefectSize) (each : All IsAskableSize sizes) (kind : Kind) where
+  record IsNumber (number : ℕ) : Type 0 where
+    of_metal : kind ≢ Via → number < metals
+    behind_metals : kind ≡ Via → metals ≤ number
+    of_cut : kind ≡ Via → number < metals + cuts
+
+  abbrev Askable : Question → Type 0
+  Askable = IsAskable metals cuts
+
+  askable_each : (number : ℕ) (name : List ℕ) → IsNumber number → All Askable (of_sizes kind number name sizes)
+  askable_each number name is = All-map Askable (question_of kind number name) sizes
+      (All-weaker IsAskableSize (λ size. Askable (question_of kind number name size))
+      (λ size s. record { of_metal = is.of_metal; behind_metals = is.behind_metals; of_cut = is.of_cut; some = s.some; within = s.within; light = s.light }) sizes each)
 
   askable_kind : (first : ℕ) (layers : List MappedLayer) → ((number : ℕ) → first ≤ number → number < first + length layers → IsNumber number)
-      → All (IsAskable metals) (of_kind kind (enumerate_from first layers) sizes)
-  askable_kind first [] are = All-nil (IsAskable metals)
+      → All Askable (of_kind kind (enumerate_from first layers) sizes)
+  askable_kind first [] are = All-nil Askable
   askable_kind first (layer ∷ layers) are =
-      All-append (IsAskable metals) (of_sizes kind first layer.name sizes) (of_kind kind (enumerate_from (first + 1) layers) sizes)
+      All-append Askable (of_sizes kind first layer.name sizes) (of_kind kind (enumerate_from (first + 1) layers) sizes)
       (askable_each first layer.name (are first (omega arith) (omega arith)))
       (askable_kind (first + 1) layers (λ number low high. are number (omega arith) (omega arith)))
 
-pub askable : (layer_map : LayerMap) → All IsAskableSize layer_map.sizes → All (IsAskable (length layer_map.metals)) (questions layer_map)
+pub askable : (layer_map : LayerMap) → All IsAskableSize layer_map.sizes → All (IsAskable (length layer_map.metals) (length layer_map.cuts)) (questions layer_map)
 askable layer_map each =
     let metals = length layer_map.metals in
+    let cuts = length layer_map.cuts in
     let sizes = layer_map.sizes in
+    let mapped : List MappedLayer = map (λ (cut : MappedCut). cut.mapped) layer_map.cuts in
     let shorts = of_kind Short (metal_layers layer_map) sizes in
     let opens = of_kind Open (metal_layers layer_map) sizes in
-    All-append (IsAskable metals) _ (of_kind Via (cut_layers layer_map) sizes)
-    (All-append (IsAskable metals) shorts opens (askable_kind metals sizes each Short 0 layer_map.metals (λ number low high of_metal. omega arith))
-    (askable_kind metals sizes each Open 0 layer_map.metals (λ number low high of_metal. omega arith)))
-    (askable_kind metals sizes each Via metals (map (λ (cut : MappedCut). cut.mapped) layer_map.cuts) (λ number low high of_metal. absurd (of_metal refl)))
+    let as_many : length mapped ≡ cuts = length-map layer_map.cuts (λ (cut : MappedCut). cut.mapped) in
+    All-append (IsAskable metals cuts) _ (of_kind Via (cut_layers layer_map) sizes)
+    (All-append (IsAskable metals cuts) shorts opens
+    (askable_kind metals cuts sizes each Short 0 layer_map.metals
+    (λ number low high. record { of_metal = λ no. omega arith; behind_metals = λ e. absurd (short_is_no_block e); of_cut = λ e. absurd (short_is_no_block e) }))
+    (askable_kind metals cuts sizes each Open 0 layer_map.metals
+    (λ number low high. record { of_metal = λ no. omega arith; behind_metals = λ e. absurd (open_is_no_block e); of_cut = λ e. absurd (open_is_no_block e) })))
+    (askable_kind metals cuts sizes each Via metals mapped
+    (λ number low high. record { of_metal = λ no. absurd (no refl); behind_metals = λ e. low; of_cut = λ e. omega arith }))
 
 -- how many questions there are
 count_of_kind : (kind : Kind) (sizes : List DefectSize) (layers : List (ℕ × MappedLayer)) → length sizes ≤ MOST_SIZES → length (of_kind kind layers sizes) ≤ MOST_SIZES * length layers

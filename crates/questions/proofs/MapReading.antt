@@ -1,21 +1,13 @@
 -- the sizes and the layers of a map, one after the other
-use Rattle.std.proofs.Common.{◌≡◌, ℕ, ◌+◌, ◌<◌, ◌≤◌, List, length, map, get_or, sym, ap, ◌∙◌, subst, arith, option_map, zero-add}
-use Rattle.std.specs.Prelude.{Some, slice_get}
-use Rattle.std.specs.List.{enumerate_from, zip}
-use Rattle.std.proofs.lemmas.List.{length-map}
-use Rattle.std.proofs.lemmas.List.FromFn.{length-enumerate_from}
-use Rattle.std.proofs.lemmas.Option.{slice_get-map, slice_get-get_or, slice_get_read}
-use Rattle.std.proofs.lemmas.Slice.Zip.{length-zip}
+use Rattle.std.proofs.Common.{◌≡◌, ℕ, ◌+◌, ◌<◌, ◌≤◌, List, length, map, get_or, sym, ap, ◌∙◌, subst, arith, option_map, zero-add, Some, slice_get}
+use Rattle.lists.proofs.Words.{enumerate_from, zip, length-map, length-enumerate_from, slice_get-map, slice_get-get_or, slice_get_read, length-zip, map-map}
 use Rattle.lists.proofs.Numbering.{slice_get-enumerate}
 use Rattle.lists.proofs.Pairing.{slice_get-zip}
-use Rattle.map_model.specs.LayerMap.{MappedCut, radius_size}
-use Rattle.map_model.specs.Layers.{cut_layer, mapped_cut, metal_layer}
-use Rattle.map_model.specs.MapView.{layer_map_of, sizes_of}
+use Rattle.map_model.specs.MapNames.{MappedCut, radius_size, cut_layer, mapped_cut, metal_layer, layer_map_of, sizes_of}
 use Rattle.map_model.specs.declared.layers.Cut.{Cut}
 use Rattle.map_model.specs.declared.layers.Metal.{Metal}
 use Rattle.map_model.specs.declared.map.Map.{Map}
 use Rattle.questions.specs.Questions.{cut_layers, metal_layers}
-use Rattle.std.proofs.lemmas.Simd.{map-map}
 
 -- the radius and the weight at one place, and that there are no more sizes than radii
 module _ (radii weights : List ℕ) (as_many : length weights ≡ length radii) (k : ℕ) where

@@ -1,9 +1,8 @@
 -- the questions that a layer map asks, and the rows that answer them
-use Rattle.std.specs.Prelude.{ℕ, pos, ◌≡◌, ◌≢◌, ◌<◌, ◌≤◌, ◌≤ℤ◌, ◌/◌, List, ◌++◌, length, map}
-use Rattle.std.specs.List.{flat_map, enumerate_from}
+use Rattle.std.specs.Prelude.{ℕ, pos, ◌≡◌, ◌≢◌, ◌+◌, ◌<◌, ◌≤◌, ◌≤ℤ◌, ◌/◌, List, ◌++◌, length, map, flat_map}
+use Rattle.lists.specs.Words.{enumerate_from}
 use Rattle.geo_core.specs.declared.bounds.TheConstants.{GREATEST_REACH}
-use Rattle.map_model.specs.LayerMap.{DefectSize, MappedLayer, LayerMap}
-use Rattle.map_model.specs.Measures.{side_of}
+use Rattle.map_model.specs.MapNames.{DefectSize, MappedLayer, LayerMap, side_of}
 use Rattle.map_model.specs.declared.limits.TheConstants.{GREATEST_WEIGHT}
 use Rattle.questions.specs.declared.kind.Kind.{Kind}
 use Rattle.questions.specs.declared.kind.Kind.TheVariants.{Short, Open, Via}
@@ -37,10 +36,12 @@ questions layer_map =
     of_kind Short (metal_layers layer_map) layer_map.sizes ++ of_kind Open (metal_layers layer_map) layer_map.sizes
     ++ of_kind Via (cut_layers layer_map) layer_map.sizes
 
--- what holds of each question of a map of so many metals: it is of one of these, unless it is of a cut, and for defects
--- of a side of at least 1 that reach no further than a defect may
-pub record IsAskable (metals : ℕ) (question : Question) : Type 0 where
+-- what holds of each question of a map of so many metals and cuts: it is of one of the metals, or of one of the cuts where
+-- it asks for via blocks, and for defects of a side of at least 1 that reach no further than a defect may
+pub record IsAskable (metals cuts : ℕ) (question : Question) : Type 0 where
   pub of_metal : question.kind ≢ Via → question.number < metals
+  pub behind_metals : question.kind ≡ Via → metals ≤ question.number
+  pub of_cut : question.kind ≡ Via → question.number < metals + cuts
   pub some : 1 ≤ side_of question.measure
   pub within : pos (side_of question.measure / 2) ≤ℤ GREATEST_REACH
   pub light : question.weight ≤ GREATEST_WEIGHT

@@ -48,7 +48,7 @@ impl Question {
 /// and there one for each size. The only error is that no memory is left.
 pub fn questions_of(alloc: Global, map: &Map) -> Result<Vec<Question>, NoMemory>
     ensures questions { IfOk result (λ asked. asked.items ≡ questions (layer_map_of map.now)) }
-    ensures askable { IfOk result (λ asked. All (IsAskable (length map.now.metals)) asked.items) }
+    ensures askable { IfOk result (λ asked. All (IsAskable (length map.now.metals) (length map.now.cuts)) asked.items) }
     ensures few { IfOk result (λ asked. length asked.items ≤ MOST_ROWS) }
 {
     let mut asked = Vec::new(alloc);

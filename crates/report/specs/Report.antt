@@ -1,7 +1,6 @@
 -- the text of a report: a line for each row, and then the totals
-use Rattle.std.specs.Prelude.{ℕ, Bool, true, false, List, [], ◌∷◌, ◌++◌, ◌*◌, codes, filter, sum_by}
-use Rattle.std.specs.List.{concat, flat_map}
-use Rattle.std.specs.Fmt.{decimal}
+use Rattle.std.specs.Prelude.{ℕ, Bool, true, false, List, [], ◌∷◌, ◌++◌, ◌*◌, codes, filter, sum_by, flat_map}
+use Rattle.lists.specs.Words.{concat, decimal}
 use Rattle.map_model.specs.Measures.{listed_of}
 use Rattle.map_model.specs.declared.measure.Measure.{Measure}
 use Rattle.map_model.specs.declared.measure.Measure.TheVariants.{Radius}

@@ -1,8 +1,8 @@
 //! Shapes of every kind: outlines that wind more than once, boxes, and paths with each kind of end.
 
 use super::layouts::{Filled, Plate, Wire, outline_and_plate, wire_and_plate};
-use super::rows::{LEFT, RIGHT};
-use super::runs::{SHORT_32, Want, answers, calm, expect};
+use super::rows::RIGHT;
+use super::runs::{SHORT_32, Want, answers, calm, expect, layout_answers};
 use std::alloc::Global;
 use std::thread::Threads;
 
@@ -10,58 +10,26 @@ use std::thread::Threads;
 const RADIUS_2: &str = "a --layer 1 --datatype 0 --radius 2";
 
 /// A path 4 wide, to the right and then up. Its ends are flush.
-const WIRE: Wire = Wire {
-    pathtype: 0,
-    width: 4,
-    begin: 0,
-    end: 0,
-    points: &[(0, 0), (10, 0), (10, 10)],
-};
+const WIRE: Wire = (0, 4, (0, 0), &[(0, 0), (10, 0), (10, 10)]);
 
 /// The same with ends half a width further.
-const SQUARE_ENDS: Wire = Wire {
-    pathtype: 2,
-    ..WIRE
-};
+const SQUARE_ENDS: Wire = (2, 4, (0, 0), &[(0, 0), (10, 0), (10, 10)]);
 
 /// The same with ends of its own: half a width further at the first point, and 1 less at the last.
-const OWN_ENDS: Wire = Wire {
-    pathtype: 4,
-    begin: 2,
-    end: -1,
-    ..WIRE
-};
+const OWN_ENDS: Wire = (4, 4, (2, -1), &[(0, 0), (10, 0), (10, 10)]);
 
 /// A square to the left of the path's first point: it is 2 from ends half a width further, and 4 from flush ones.
-const BEFORE: Plate = Plate {
-    x0: -8,
-    x1: -4,
-    y0: -2,
-    y1: 2,
-    ..LEFT
-};
+const BEFORE: Plate = (1, 0, (-8, -2, -4, 2));
 
 /// A square above its last point, as far away.
-const BEHIND: Plate = Plate {
-    x0: 8,
-    x1: 12,
-    y0: 14,
-    y1: 18,
-    ..LEFT
-};
+const BEHIND: Plate = (1, 0, (8, 14, 12, 18));
 
 /// A square across the corner from the outer side of the path's turn, 2 to the right and 2 below.
-const ROUND_THE_CORNER: Plate = Plate {
-    x0: 14,
-    x1: 18,
-    y0: -8,
-    y1: -4,
-    ..LEFT
-};
+const ROUND_THE_CORNER: Plate = (1, 0, (14, -8, 18, -4));
 
 /// An area of shorts.
 fn short(area: u64) -> Want {
-    Want::Short { radius: 2, area }
+    Want::Short(2, area)
 }
 
 /// Paths, each with a rectangle beside it, and the area of shorts. A path whose end is 2 from the rectangle has 2 columns,
@@ -76,35 +44,21 @@ const WIRES: &[(Wire, Plate, u64)] = &[
     // both pieces reach half a width past the corner, which fills [10,12)x[-2,0): then [12,14)x[-4,-2) is near both
     (WIRE, ROUND_THE_CORNER, 4),
     // a sign of the width says nothing of the shape
-    (
-        Wire {
-            width: -4,
-            ..SQUARE_ENDS
-        },
-        BEFORE,
-        16,
-    ),
+    ((2, -4, (0, 0), &[(0, 0), (10, 0), (10, 10)]), BEFORE, 16),
     // repeated points and points on the way say nothing either
     (
-        Wire {
-            points: &[(0, 0), (0, 0), (4, 0), (10, 0), (10, 0), (10, 3), (10, 10)],
-            ..SQUARE_ENDS
-        },
+        (
+            2,
+            4,
+            (0, 0),
+            &[(0, 0), (0, 0), (4, 0), (10, 0), (10, 0), (10, 3), (10, 10)],
+        ),
         BEFORE,
         16,
     ),
     // without a width it covers nothing, whatever its points and ends
-    (Wire { width: 0, ..WIRE }, BEFORE, 0),
-    (
-        Wire {
-            pathtype: 1,
-            width: 0,
-            points: &[(0, 0), (3, 4), (0, 0)],
-            ..WIRE
-        },
-        BEFORE,
-        0,
-    ),
+    ((0, 0, (0, 0), &[(0, 0), (10, 0), (10, 10)]), BEFORE, 0),
+    ((1, 0, (0, 0), &[(0, 0), (3, 4), (0, 0)]), BEFORE, 0),
 ];
 
 /// Whether a run answers so to a path with a rectangle beside it.
@@ -115,10 +69,13 @@ fn wire_answers(
     plate: &Plate,
     want: &Want,
 ) -> bool {
-    match wire_and_plate(alloc, wire, plate) {
-        Ok(layout) => answers(rt, alloc, &calm(RADIUS_2, layout.as_slice()), want),
-        Err(_) => false,
-    }
+    layout_answers(
+        rt,
+        alloc,
+        RADIUS_2,
+        wire_and_plate(alloc, wire, plate),
+        want,
+    )
 }
 
 #[test]
@@ -131,119 +88,29 @@ fn paths_cover_their_pieces(rt: HostRuntime) {
 
 /// Paths that have no cover, and what is wrong. Where several things are, the order of the checks decides.
 const REFUSED: &[(Wire, u8)] = &[
-    (
-        Wire {
-            pathtype: 1,
-            ..WIRE
-        },
-        32,
-    ),
-    (
-        Wire {
-            pathtype: 3,
-            ..WIRE
-        },
-        35,
-    ),
-    (Wire { width: 5, ..WIRE }, 33),
-    (
-        Wire {
-            points: &[(0, 0), (0, 0)],
-            ..WIRE
-        },
-        36,
-    ),
-    (
-        Wire {
-            points: &[(0, 0)],
-            ..WIRE
-        },
-        36,
-    ),
-    (
-        Wire {
-            points: &[(0, 0), (3, 4)],
-            ..WIRE
-        },
-        31,
-    ),
-    (
-        Wire {
-            points: &[(0, 0), (10, 0), (4, 0)],
-            ..WIRE
-        },
-        34,
-    ),
+    ((1, 4, (0, 0), &[(0, 0), (10, 0), (10, 10)]), 32),
+    ((3, 4, (0, 0), &[(0, 0), (10, 0), (10, 10)]), 35),
+    ((0, 5, (0, 0), &[(0, 0), (10, 0), (10, 10)]), 33),
+    ((0, 4, (0, 0), &[(0, 0), (0, 0)]), 36),
+    ((0, 4, (0, 0), &[(0, 0)]), 36),
+    ((0, 4, (0, 0), &[(0, 0), (3, 4)]), 31),
+    ((0, 4, (0, 0), &[(0, 0), (10, 0), (4, 0)]), 34),
     // what its extension takes away, and all that there is
-    (
-        Wire {
-            pathtype: 4,
-            begin: -12,
-            points: &[(0, 0), (10, 0)],
-            ..WIRE
-        },
-        35,
-    ),
-    (
-        Wire {
-            pathtype: 4,
-            begin: -10,
-            points: &[(0, 0), (10, 0)],
-            ..WIRE
-        },
-        35,
-    ),
+    ((4, 4, (-12, 0), &[(0, 0), (10, 0)]), 35),
+    ((4, 4, (-10, 0), &[(0, 0), (10, 0)]), 35),
     // half a width past the farthest point
-    (
-        Wire {
-            points: &[(999_999_999, 0), (1_000_000_000, 0)],
-            ..SQUARE_ENDS
-        },
-        30,
-    ),
+    ((2, 4, (0, 0), &[(999_999_999, 0), (1_000_000_000, 0)]), 30),
     // round ends come first, then unknown ends, an odd width, and a way back before a piece that is eaten up
-    (
-        Wire {
-            pathtype: 1,
-            width: 5,
-            ..WIRE
-        },
-        32,
-    ),
-    (
-        Wire {
-            pathtype: 3,
-            width: 5,
-            ..WIRE
-        },
-        35,
-    ),
-    (
-        Wire {
-            width: 5,
-            points: &[(0, 0), (0, 0)],
-            ..WIRE
-        },
-        33,
-    ),
-    (
-        Wire {
-            pathtype: 4,
-            begin: -12,
-            points: &[(0, 0), (10, 0), (4, 0)],
-            ..WIRE
-        },
-        34,
-    ),
+    ((1, 5, (0, 0), &[(0, 0), (10, 0), (10, 10)]), 32),
+    ((3, 5, (0, 0), &[(0, 0), (10, 0), (10, 10)]), 35),
+    ((0, 5, (0, 0), &[(0, 0), (0, 0)]), 33),
+    ((4, 4, (-12, 0), &[(0, 0), (10, 0), (4, 0)]), 34),
 ];
 
 #[test]
 fn paths_without_a_cover_are_refused(rt: HostRuntime) {
     for (case, (wire, number)) in REFUSED.iter().enumerate() {
-        let want = Want::BadLayout {
-            number: *number,
-            place: 94,
-        };
+        let want = Want::BadLayout(*number, 94);
         let holds = wire_answers(&rt, rt.alloc(), wire, &BEFORE, &want);
         expect(&rt, holds, &case);
     }
@@ -281,13 +148,7 @@ const FRAME: &[(i32, i32)] = &[
 ];
 
 /// A square in the middle of the frame, 6 from each side.
-const MIDDLE: Plate = Plate {
-    x0: 8,
-    x1: 12,
-    y0: 8,
-    y1: 12,
-    ..LEFT
-};
+const MIDDLE: Plate = (1, 0, (8, 8, 12, 12));
 
 /// An L whose sides are 4 wide.
 const ANGLE: &[(i32, i32)] = &[(0, 0), (10, 0), (10, 4), (4, 4), (4, 10), (0, 10), (0, 0)];
@@ -307,20 +168,14 @@ const OUTLINES: &[(&[(i32, i32)], Plate, &str, Want)] = &[
         FRAME,
         MIDDLE,
         "a --layer 1 --datatype 0 --radius 4",
-        Want::Short {
-            radius: 4,
-            area: 80,
-        },
+        Want::Short(4, 80),
     ),
     // near both are [11,13)x[-3,7)
     (
         ANGLE,
         RIGHT,
         "a --layer 1 --datatype 0 --radius 3",
-        Want::Short {
-            radius: 3,
-            area: 20,
-        },
+        Want::Short(3, 20),
     ),
 ];
 

@@ -26,15 +26,7 @@ const FAILURES: &[(&str, &[u8], Failing, Want)] = &[
     (MAPPED, TWO_BARS, Failing::Files(&[6]), SHORT_32),
     (RADIUS_3, TWO_BARS, Failing::Files(&[3]), SHORT_32),
     (RADIUS_3, TWO_BARS, Failing::ErrorOut, SHORT_32),
-    (
-        RADIUS_3,
-        &[],
-        Failing::Out,
-        Want::BadLayout {
-            number: 10,
-            place: 0,
-        },
-    ),
+    (RADIUS_3, &[], Failing::Out, Want::BadLayout(10, 0)),
     ("", TWO_BARS, Failing::Out, Want::BadWords),
     ("", TWO_BARS, Failing::Files(&[0]), Want::BadWords),
 ];

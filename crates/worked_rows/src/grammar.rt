@@ -1,7 +1,7 @@
 //! Layouts of the whole grammar: what is read though nothing is asked of it, what is not supported yet, and tops.
 
 use super::layouts::{TWO_BARS, layout_of};
-use super::runs::{NO_SHORT, RADIUS_3, SHORT_32, Want, answers, calm, expect};
+use super::runs::{NO_SHORT, RADIUS_3, SHORT_32, Want, answers, expect, layout_answers};
 use std::alloc::{AllocError, Global};
 use std::thread::Threads;
 
@@ -58,14 +58,7 @@ const PUT_IN: &[(usize, &[u8], Want)] = &[
     (94, PATH, SHORT_32),
     (94, BOX, SHORT_32),
     // a reference of the structure to itself
-    (
-        94,
-        REFERENCE,
-        Want::BadLayout {
-            number: 25,
-            place: 60,
-        },
-    ),
+    (94, REFERENCE, Want::BadLayout(25, 60)),
 ];
 
 /// The file of the two bars with these bytes put in here.
@@ -84,10 +77,7 @@ fn put_in_answers(
     bytes: &[u8],
     want: &Want,
 ) -> bool {
-    match with(alloc, at, bytes) {
-        Ok(layout) => answers(rt, alloc, &calm(RADIUS_3, layout.as_slice()), want),
-        Err(_) => false,
-    }
+    layout_answers(rt, alloc, RADIUS_3, with(alloc, at, bytes), want)
 }
 
 #[test]
@@ -112,22 +102,13 @@ const SECOND: &[u8] = b"\
     \x00\x00\x00\x00\x00\x06\x06\x06U\x00\x00\x04\x07\x00";
 
 /// A library has no top, or two.
-const NO_TOP: Want = Want::BadLayout {
-    number: 27,
-    place: 0,
-};
+const NO_TOP: Want = Want::BadLayout(27, 0);
 
-const TWO_TOPS: Want = Want::BadLayout {
-    number: 28,
-    place: 226,
-};
+const TWO_TOPS: Want = Want::BadLayout(28, 226);
 
 /// Whether a library without a structure has no top.
 fn no_structure_is_refused(rt: &(impl Threads + Sync), alloc: Global) -> bool {
-    match no_structure(alloc) {
-        Ok(layout) => answers(rt, alloc, &calm(RADIUS_3, layout.as_slice()), &NO_TOP),
-        Err(_) => false,
-    }
+    layout_answers(rt, alloc, RADIUS_3, no_structure(alloc), &NO_TOP)
 }
 
 #[test]
@@ -140,10 +121,7 @@ fn one_top_is_wanted(rt: HostRuntime) {
 
 /// Whether a layout of one slanted boundary on a layer that is not asked for has no short.
 fn slanted_alone_has_no_short(rt: &(impl Threads + Sync), alloc: Global) -> bool {
-    match layout_of(alloc, SLANTED) {
-        Ok(layout) => answers(rt, alloc, &calm(RADIUS_3, layout.as_slice()), &NO_SHORT),
-        Err(_) => false,
-    }
+    layout_answers(rt, alloc, RADIUS_3, layout_of(alloc, SLANTED), &NO_SHORT)
 }
 
 #[test]

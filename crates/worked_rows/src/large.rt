@@ -1,5 +1,5 @@
 use super::layouts::{Plate, plates};
-use super::runs::{Answer, Failing, RADIUS_3, Want, answers, calm, expect, run_with};
+use super::runs::{Answer, Failing, RADIUS_3, Want, answers, expect, layout_answers, run_with};
 use edge_io::{Failed, Files};
 use lists::NoMemory;
 use std::alloc::{AllocError, Global};
@@ -10,14 +10,7 @@ fn row_of_squares(alloc: Global, count: u32) -> Result<Vec<Plate>, AllocError> {
     let mut squares = Vec::new(alloc);
     for number in 0..count {
         let x0 = 14 * (number % 100_000) as i32;
-        squares.push(Plate {
-            layer: 1,
-            datatype: 0,
-            x0,
-            x1: x0 + 10,
-            y0: 0,
-            y1: 10,
-        })?;
+        squares.push((1, 0, (x0, 0, x0 + 10, 10)))?;
     }
     Ok(squares)
 }
@@ -30,19 +23,13 @@ fn row_layout(alloc: Global, count: u32) -> Result<Vec<u8>, AllocError> {
 
 /// Whether a run on so many squares in a row answers so.
 fn row_answers(rt: &(impl Threads + Sync), alloc: Global, count: u32, want: &Want) -> bool {
-    match row_layout(alloc, count) {
-        Ok(layout) => answers(rt, alloc, &calm(RADIUS_3, layout.as_slice()), want),
-        Err(_) => false,
-    }
+    layout_answers(rt, alloc, RADIUS_3, row_layout(alloc, count), want)
 }
 
 /// Between two neighbours are the 32 cells of the two bars, and no defect of radius 3 touches a third square.
 #[test]
 fn rows_of_many_squares(rt: HostRuntime) {
-    let want = Want::Short {
-        radius: 3,
-        area: 2_239_968,
-    };
+    let want = Want::Short(3, 2_239_968);
     expect(&rt, row_answers(&rt, rt.alloc(), 70_000, &want), &"row");
 }
 

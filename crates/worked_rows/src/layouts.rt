@@ -26,16 +26,11 @@ pub const TWO_BARS: &[u8; 230] = b"\
     \x00\x04\x07\x00\
     \x00\x04\x04\x00";
 
-/// A rectangle on a layer and datatype: the cells `(i, j)` with `x0 <= i < x1` and `y0 <= j < y1`.
-#[derive(Clone, Copy)]
-pub struct Plate {
-    pub layer: u16,
-    pub datatype: u16,
-    pub x0: i32,
-    pub x1: i32,
-    pub y0: i32,
-    pub y1: i32,
-}
+/// The left, the bottom, the right and the top of a rectangle.
+pub type Sides = (i32, i32, i32, i32);
+
+/// A layer, a datatype, and a rectangle on them.
+pub type Plate = (u16, u16, Sides);
 
 /// The file with these bytes as the elements of its one structure.
 pub fn layout_of(alloc: Global, elements: &[u8]) -> Result<Vec<u8>, AllocError> {
@@ -61,13 +56,24 @@ pub fn push_record(
 }
 
 /// The bytes of these points.
-pub fn points_of(alloc: Global, points: &[(i32, i32)]) -> Result<Vec<u8>, AllocError> {
+fn points_of(alloc: Global, points: &[(i32, i32)]) -> Result<Vec<u8>, AllocError> {
     let mut bytes = Vec::new(alloc);
     for (x, y) in points {
         bytes.extend_from_slice(&x.to_be_bytes())?;
         bytes.extend_from_slice(&y.to_be_bytes())?;
     }
     Ok(bytes)
+}
+
+/// Appends XY with these points, and ENDEL.
+pub fn push_points(
+    alloc: Global,
+    elements: &mut Vec<u8>,
+    points: &[(i32, i32)],
+) -> Result<(), AllocError> {
+    let points = points_of(alloc, points)?;
+    push_record(elements, 0x10, 3, points.as_slice())?;
+    push_record(elements, 0x11, 0, &[])
 }
 
 /// The two kinds of shapes that fill an outline.
@@ -89,36 +95,29 @@ impl Filled {
 
 /// Appends a boundary or a box: BOUNDARY or BOX, LAYER, DATATYPE or BOXTYPE, XY and ENDEL.
 fn push_filled(
+    alloc: Global,
     elements: &mut Vec<u8>,
     filled: Filled,
-    layer: u16,
-    datatype: u16,
-    points: &[u8],
+    (layer, datatype): (u16, u16),
+    points: &[(i32, i32)],
 ) -> Result<(), AllocError> {
     let (opening, own) = filled.kinds();
     push_record(elements, opening, 0, &[])?;
     push_record(elements, 0x0D, 2, &layer.to_be_bytes())?;
     push_record(elements, own, 2, &datatype.to_be_bytes())?;
-    push_record(elements, 0x10, 3, points)?;
-    push_record(elements, 0x11, 0, &[])
+    push_points(alloc, elements, points)
 }
 
 /// Appends a rectangle, its points counterclockwise from its lower left corner.
 pub fn push_plate(alloc: Global, elements: &mut Vec<u8>, plate: &Plate) -> Result<(), AllocError> {
-    let corners = [
-        (plate.x0, plate.y0),
-        (plate.x1, plate.y0),
-        (plate.x1, plate.y1),
-        (plate.x0, plate.y1),
-        (plate.x0, plate.y0),
-    ];
-    let points = points_of(alloc, &corners)?;
+    let (layer, datatype, (x0, y0, x1, y1)) = *plate;
+    let points = [(x0, y0), (x1, y0), (x1, y1), (x0, y1), (x0, y0)];
     push_filled(
+        alloc,
         elements,
         Filled::Boundary,
-        plate.layer,
-        plate.datatype,
-        points.as_slice(),
+        (layer, datatype),
+        &points,
     )
 }
 
@@ -134,9 +133,8 @@ pub fn plates(alloc: Global, shapes: &[Plate]) -> Result<Vec<u8>, AllocError> {
 /// The file of a shape with this outline, in place of the left one of the two bars, and of the right one.
 pub fn outline_and_bar(alloc: Global, outline: &[(i32, i32)]) -> Result<Vec<u8>, AllocError> {
     let bars: &[u8] = TWO_BARS;
-    let points = points_of(alloc, outline)?;
     let mut elements = Vec::new(alloc);
-    push_filled(&mut elements, Filled::Boundary, 1, 0, points.as_slice())?;
+    push_filled(alloc, &mut elements, Filled::Boundary, (1, 0), outline)?;
     elements.extend_from_slice(&bars[158..222])?;
     layout_of(alloc, elements.as_slice())
 }
@@ -148,35 +146,27 @@ pub fn outline_and_plate(
     outline: &[(i32, i32)],
     plate: &Plate,
 ) -> Result<Vec<u8>, AllocError> {
-    let points = points_of(alloc, outline)?;
     let mut elements = Vec::new(alloc);
-    push_filled(&mut elements, filled, 1, 0, points.as_slice())?;
+    push_filled(alloc, &mut elements, filled, (1, 0), outline)?;
     push_plate(alloc, &mut elements, plate)?;
     layout_of(alloc, elements.as_slice())
 }
 
-/// A path on layer 1: what its records PATHTYPE, WIDTH, BGNEXTN and ENDEXTN say, and its points.
-#[derive(Clone, Copy)]
-pub struct Wire {
-    pub pathtype: i16,
-    pub width: i32,
-    pub begin: i32,
-    pub end: i32,
-    pub points: &'static [(i32, i32)],
-}
+/// A path on layer 1: what its records PATHTYPE and WIDTH say, what BGNEXTN and ENDEXTN say, and its points.
+pub type Wire = (i16, i32, (i32, i32), &'static [(i32, i32)]);
+
+/// PATH, LAYER with the layer 1, and DATATYPE with the datatype 0.
+const PATH: &[u8] = b"\x00\x04\x09\x00\x00\x06\x0D\x02\x00\x01\x00\x06\x0E\x02\x00\x00";
 
 /// Appends a path with all of its records.
 pub fn push_wire(alloc: Global, elements: &mut Vec<u8>, wire: &Wire) -> Result<(), AllocError> {
-    let points = points_of(alloc, wire.points)?;
-    push_record(elements, 0x09, 0, &[])?;
-    push_record(elements, 0x0D, 2, &[0, 1])?;
-    push_record(elements, 0x0E, 2, &[0, 0])?;
-    push_record(elements, 0x21, 2, &wire.pathtype.to_be_bytes())?;
-    push_record(elements, 0x0F, 3, &wire.width.to_be_bytes())?;
-    push_record(elements, 0x30, 3, &wire.begin.to_be_bytes())?;
-    push_record(elements, 0x31, 3, &wire.end.to_be_bytes())?;
-    push_record(elements, 0x10, 3, points.as_slice())?;
-    push_record(elements, 0x11, 0, &[])
+    let (pathtype, width, (begin, end), points) = *wire;
+    elements.extend_from_slice(PATH)?;
+    push_record(elements, 0x21, 2, &pathtype.to_be_bytes())?;
+    push_record(elements, 0x0F, 3, &width.to_be_bytes())?;
+    push_record(elements, 0x30, 3, &begin.to_be_bytes())?;
+    push_record(elements, 0x31, 3, &end.to_be_bytes())?;
+    push_points(alloc, elements, points)
 }
 
 /// The file of a path and a rectangle.

@@ -4,6 +4,8 @@
 #[cfg(test)]
 mod covers;
 #[cfg(test)]
+mod cuts;
+#[cfg(test)]
 mod failures;
 #[cfg(test)]
 mod grammar;
@@ -11,6 +13,8 @@ mod grammar;
 mod large;
 #[cfg(test)]
 mod layouts;
+#[cfg(test)]
+mod long_reports;
 #[cfg(test)]
 mod maps;
 #[cfg(test)]

@@ -1,11 +1,11 @@
 use super::layouts::{Plate, TWO_BARS, plates};
-use super::rows::{BETWEEN, LEFT, RIGHT};
+use super::rows::{LEFT, RIGHT};
 use super::runs::{Failing, Given, Want, answers, expect, mapped};
 use std::alloc::Global;
 use std::thread::Threads;
 
 /// Whether a run on the rectangles with this map answers so.
-fn map_answers(
+pub fn map_answers(
     rt: &(impl Threads + Sync),
     alloc: Global,
     shapes: &[Plate],
@@ -19,20 +19,9 @@ fn map_answers(
 }
 
 /// Two squares of the second metal, 3 cells apart.
-const SECOND: Plate = Plate {
-    layer: 3,
-    datatype: 0,
-    x0: 40,
-    x1: 50,
-    y0: 0,
-    y1: 10,
-};
+const SECOND: Plate = (3, 0, (40, 0, 50, 10));
 
-const THIRD: Plate = Plate {
-    x0: 53,
-    x1: 63,
-    ..SECOND
-};
+const THIRD: Plate = (3, 0, (53, 0, 63, 10));
 
 /// Two metals, each of one layer.
 const TWO_METALS: &[u8] = b"\
@@ -67,16 +56,7 @@ const REPORTS: &[(&[Plate], &[u8], Want)] = &[
     // to 12 are at radius 3. What the second metal has between the bars of the first joins them as little as the bars
     // join it.
     (
-        &[
-            THIRD,
-            RIGHT,
-            Plate {
-                layer: 3,
-                ..BETWEEN
-            },
-            LEFT,
-            SECOND,
-        ],
+        &[THIRD, RIGHT, (3, 0, (10, 0, 14, 10)), LEFT, SECOND],
         TWO_METALS,
         Want::Report(
             "short m1 r=2 area=0 weight=10 sum=0\n\
@@ -96,14 +76,7 @@ const REPORTS: &[(&[Plate], &[u8], Want)] = &[
     // All pairs of a metal are one metal: the bar between the two joins them. The names are those of the map, and a weight
     // may be 0.
     (
-        &[
-            LEFT,
-            Plate {
-                datatype: 20,
-                ..BETWEEN
-            },
-            RIGHT,
-        ],
+        &[LEFT, (1, 20, (10, 0, 14, 10)), RIGHT],
         b"version = 1\nradii = [3]\nweights = [0]\nmetal = [{ pairs = [[1, 20], [1, 0]], name = \"Metal_1\" }]\n",
         Want::Report(
             "short Metal_1 r=3 area=0 weight=0 sum=0\n\
@@ -156,13 +129,8 @@ const BAD_MAPS: &[(&[u8], Want)] = &[
     (b"q = 1", Want::BadMap("error 41 at 1\n")),
     (b"version = 3", Want::BadMap("error 42 at 2\n")),
     (b"version = 1", Want::BadMap("error 42 at 3\n")),
-    (ALL_KINDS, Want::BadMap("error 60 at 6\n")),
-    // a cut, a terminal, and both, which are not supported yet
-    (
-        b"version=1\nradii=[3]\nweights=[1]\nmetal=[{name=\"a\",pairs=[[1,0]]},{name=\"b\",pairs=[[2,0]]}]\n\
-          cut=[{name=\"c\",pairs=[[3,0]],lower=\"a\",upper=\"b\"}]\n",
-        Want::BadMap("error 60 at 6\n"),
-    ),
+    (ALL_KINDS, Want::BadMap("error 60 at 7\n")),
+    // terminals, with a cut and without, which are not supported yet
     (
         b"version=1\nradii=[3]\nweights=[1]\nmetal=[{name=\"a\",pairs=[[1,0]]}]\n\
           terminal=[{metal=\"a\",x=0,y=0}]\n",
@@ -172,9 +140,9 @@ const BAD_MAPS: &[(&[u8], Want)] = &[
         b"version=1\nradii=[3]\nweights=[1]\nmetal=[{name=\"a\",pairs=[[1,0]]},{name=\"b\",pairs=[[2,0]]}]\n\
           cut=[{name=\"c\",pairs=[[3,0]],lower=\"a\",upper=\"b\"}]\n\
           terminal=[{metal=\"a\",x=0,y=0}]\n",
-        Want::BadMap("error 60 at 6\n"),
+        Want::BadMap("error 60 at 7\n"),
     ),
-    // a fault of a cut before it is told that cuts are not supported
+    // a fault of a cut before it is told that terminals are not supported
     (
         b"version=1\nradii=[3]\nweights=[1]\nmetal=[{name=\"a\",pairs=[[1,0]]},{name=\"b\",pairs=[[2,0]]}]\n\
           cut=[{name=\"c\",pairs=[[3,0]],lower=\"d\",upper=\"b\"}]\n",
@@ -228,15 +196,7 @@ fn bad_layouts_are_refused_behind_good_maps(rt: HostRuntime) {
     let given = mapped(b"", TWO_METALS);
     expect(
         &rt,
-        answers(
-            &rt,
-            rt.alloc(),
-            &given,
-            &Want::BadLayout {
-                number: 10,
-                place: 0,
-            },
-        ),
+        answers(&rt, rt.alloc(), &given, &Want::BadLayout(10, 0)),
         &"empty",
     );
 }

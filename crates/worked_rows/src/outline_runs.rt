@@ -1,6 +1,7 @@
 use super::layouts::outline_and_bar;
-use super::runs::{NO_SHORT, RADIUS_3, SHORT_32, Want, answers, calm, expect};
+use super::runs::{NO_SHORT, RADIUS_3, SHORT_32, Want, answers, expect, layout_answers};
 use std::alloc::Global;
+use std::process::Abort;
 use std::thread::Threads;
 
 /// The greatest coordinate of a layout, and the next.
@@ -71,55 +72,40 @@ fn outline_answers(
     points: &[(i32, i32)],
     want: &Want,
 ) -> bool {
-    match outline_and_bar(alloc, points) {
-        Ok(layout) => answers(rt, alloc, &calm(RADIUS_3, layout.as_slice()), want),
-        Err(_) => false,
+    layout_answers(rt, alloc, RADIUS_3, outline_and_bar(alloc, points), want)
+}
+
+/// Stops the test where a run does not answer so to one of these outlines.
+fn expect_answers(
+    rt: &(impl Abort + Threads + Sync),
+    alloc: Global,
+    outlines: &[&[(i32, i32)]],
+    want: &Want,
+) {
+    for (number, points) in outlines.iter().enumerate() {
+        expect(rt, outline_answers(rt, alloc, points, want), &number);
     }
 }
 
 #[test]
 fn outlines_go_round_rectangles(rt: HostRuntime) {
-    for (number, points) in RECTANGLES.iter().enumerate() {
-        expect(
-            &rt,
-            outline_answers(&rt, rt.alloc(), points, &SHORT_32),
-            &number,
-        );
-    }
-}
-
-/// Whether each of these outlines is refused with this number at the place of its shape.
-fn are_refused(
-    rt: &(impl Threads + Sync),
-    alloc: Global,
-    outlines: &[&[(i32, i32)]],
-    number: u8,
-) -> bool {
-    let want = Want::BadLayout { number, place: 94 };
-    outlines
-        .iter()
-        .all(|points| outline_answers(rt, alloc, points, &want))
+    expect_answers(&rt, rt.alloc(), RECTANGLES, &SHORT_32);
 }
 
 #[test]
 fn outlines_may_be_empty(rt: HostRuntime) {
-    for (number, points) in EMPTY.iter().enumerate() {
-        expect(
-            &rt,
-            outline_answers(&rt, rt.alloc(), points, &NO_SHORT),
-            &number,
-        );
-    }
+    expect_answers(&rt, rt.alloc(), EMPTY, &NO_SHORT);
+}
+
+/// The refusal with this number at the place of the shape.
+fn refused(number: u8) -> Want {
+    Want::BadLayout(number, 94)
 }
 
 #[test]
 fn other_outlines_are_refused(rt: HostRuntime) {
-    let holds = are_refused(&rt, rt.alloc(), SLANTED, 31);
-    expect(&rt, holds, &"slanted");
-    let holds = are_refused(&rt, rt.alloc(), TOO_FAR, 30);
-    expect(&rt, holds, &"too far");
-    let holds = are_refused(&rt, rt.alloc(), OPEN, 18);
-    expect(&rt, holds, &"not closed");
-    let holds = are_refused(&rt, rt.alloc(), TOO_SHORT, 17);
-    expect(&rt, holds, &"too short");
+    expect_answers(&rt, rt.alloc(), SLANTED, &refused(31));
+    expect_answers(&rt, rt.alloc(), TOO_FAR, &refused(30));
+    expect_answers(&rt, rt.alloc(), OPEN, &refused(18));
+    expect_answers(&rt, rt.alloc(), TOO_SHORT, &refused(17));
 }

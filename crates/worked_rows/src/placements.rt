@@ -2,11 +2,13 @@
 
 use super::layouts::{Plate, Wire};
 use super::rows::{LEFT, RIGHT};
-use super::runs::{NO_SHORT, RADIUS_3, SHORT_32, Want, answers, calm, expect};
+use super::runs::Want::BadLayout;
+use super::runs::{NO_SHORT, RADIUS_3, SHORT_32, Want, answers, expect, layout_answers};
 use super::structures::{
     ANGLE_90, ANGLE_270, ANGLE_MINUS_90, Copies, ONE, Part, Structure, chain_of, library_with,
 };
 use std::alloc::Global;
+use std::process::Abort;
 use std::thread::Threads;
 
 /// The parts of the structure `T`, the other structures, the words, and the answer.
@@ -24,11 +26,7 @@ const RADIUS_4: &str = "a --layer 1 --datatype 0 --radius 4";
 const TOP_S: &str = "a --layer 1 --datatype 0 --radius 3 --top S";
 
 /// The cells `[0,4)x[0,2)`.
-const SMALL: Plate = Plate {
-    x1: 4,
-    y1: 2,
-    ..LEFT
-};
+const SMALL: Plate = (1, 0, (0, 0, 4, 2));
 
 /// A structure with this rectangle.
 const S: Structure<'_> = (b"S", &[Part::Plate(SMALL)]);
@@ -55,27 +53,18 @@ const PLACED: &[Row] = &[
                 points: &[(10, 0)],
                 ..ONE
             }),
-            Part::Plate(Plate {
-                x0: 13,
-                x1: 17,
-                y0: -4,
-                y1: 0,
-                ..LEFT
-            }),
+            Part::Plate((1, 0, (13, -4, 17, 0))),
         ],
         &[S],
         RADIUS_2,
-        Want::Short { radius: 2, area: 8 },
+        Want::Short(2, 8),
     ),
     // only the copies are turned, and not their steps: 4 gaps of 6 rows, at each of which 2 rows of 10 columns are near both
     (
         &[Part::Copies(TURNED_90)],
         &[S],
         RADIUS_4,
-        Want::Short {
-            radius: 4,
-            area: 80,
-        },
+        Want::Short(4, 80),
     ),
     (
         &[Part::Copies(Copies {
@@ -84,10 +73,7 @@ const PLACED: &[Row] = &[
         })],
         &[S],
         RADIUS_4,
-        Want::Short {
-            radius: 4,
-            area: 80,
-        },
+        Want::Short(4, 80),
     ),
     // hooks, mirrored and turned by a quarter: 6 and 6 cells between columns, 12 and 12 between rows, 2 of them twice
     (
@@ -101,40 +87,25 @@ const PLACED: &[Row] = &[
         &[(
             b"S",
             &[
-                Part::Plate(Plate {
-                    x1: 2,
-                    y1: 6,
-                    ..LEFT
-                }),
-                Part::Plate(Plate {
-                    x0: 2,
-                    x1: 5,
-                    y1: 2,
-                    ..LEFT
-                }),
+                Part::Plate((1, 0, (0, 0, 2, 6))),
+                Part::Plate((1, 0, (2, 0, 5, 2))),
             ],
         )],
         RADIUS_2,
-        Want::Short {
-            radius: 2,
-            area: 34,
-        },
+        Want::Short(2, 34),
     ),
     // the structure alone, and the one that refers to it
     (
         &[Part::Copies(TURNED_90)],
         &[S],
         "a --layer 1 --datatype 0 --radius 4 --top S",
-        Want::Short { radius: 4, area: 0 },
+        Want::Short(4, 0),
     ),
     (
         &[Part::Copies(TURNED_90)],
         &[S],
         "a --layer 1 --datatype 0 --radius 4 --top T",
-        Want::Short {
-            radius: 4,
-            area: 80,
-        },
+        Want::Short(4, 80),
     ),
     // the two bars as copies of one, and a copy at the place of another
     (
@@ -166,7 +137,10 @@ const PLACED: &[Row] = &[
     // the other top has a path without a cover, and a layer that is not asked for a shape out of range
     (&[Part::Wire(ODD)], &[BAR], TOP_S, NO_SHORT),
     (
-        &[Part::Plate(Plate { layer: 2, ..FAR }), Part::Plate(LEFT)],
+        &[
+            Part::Plate((2, 0, (0, 0, 1_000_000_001, 10))),
+            Part::Plate(LEFT),
+        ],
         &[],
         RADIUS_3,
         NO_SHORT,
@@ -175,7 +149,7 @@ const PLACED: &[Row] = &[
     (&[Part::Copies(MANY)], &[(b"S", &[])], RADIUS_3, NO_SHORT),
     (
         &[Part::Copies(MANY)],
-        &[(b"S", &[Part::Plate(Plate { layer: 2, ..LEFT })])],
+        &[(b"S", &[Part::Plate((2, 0, (0, 0, 10, 10)))])],
         RADIUS_3,
         NO_SHORT,
     ),
@@ -197,13 +171,7 @@ const NESTED: Row = (
             target: b"V",
             ..ONE
         }),
-        Part::Plate(Plate {
-            x0: 96,
-            x1: 100,
-            y0: 8,
-            y1: 10,
-            ..LEFT
-        }),
+        Part::Plate((1, 0, (96, 8, 100, 10))),
     ],
     &[
         (
@@ -219,10 +187,7 @@ const NESTED: Row = (
         (b"U", &[Part::Plate(SMALL)]),
     ],
     RADIUS_4,
-    Want::Short {
-        radius: 4,
-        area: 60,
-    },
+    Want::Short(4, 60),
 );
 
 /// As many copies as an array can have.
@@ -240,19 +205,10 @@ const MILLION: Copies<'_> = Copies {
 };
 
 /// A path without a cover, since its width is odd. It has 70 bytes.
-const ODD: Wire = Wire {
-    pathtype: 0,
-    width: 5,
-    begin: 0,
-    end: 0,
-    points: &[(0, 0), (10, 0)],
-};
+const ODD: Wire = (0, 5, (0, 0), &[(0, 0), (10, 0)]);
 
 /// One column of it is too far to the right.
-const FAR: Plate = Plate {
-    x1: 1_000_000_001,
-    ..LEFT
-};
+const FAR: Plate = (1, 0, (0, 0, 1_000_000_001, 10));
 
 /// The small rectangle, placed so that one column is too far to the right.
 const TOO_FAR: Copies<'_> = Copies {
@@ -271,62 +227,54 @@ const TO_X: Copies<'_> = Copies {
     ..ONE
 };
 
-/// The parts of the structure `T`, the other structures, the words, and the number and the place of the refusal.
-type RefusedRow = (
-    &'static [Part<'static>],
-    &'static [Structure<'static>],
-    &'static str,
-    (u8, usize),
-);
-
 /// Layouts that are refused. A structure begins with 34 bytes and ends with 4, a rectangle has 64 bytes, a copy 44, and an
 /// array 68.
-const REFUSED: &[RefusedRow] = &[
+const REFUSED: &[Row] = &[
     // 24: no such structure, also where the top does not reach it, and before each other reason
-    (&[Part::Copies(TO_X)], &[], RADIUS_3, (24, 94)),
-    (&[Part::Copies(TO_X)], &[BAR], TOP_S, (24, 94)),
+    (&[Part::Copies(TO_X)], &[], RADIUS_3, BadLayout(24, 94)),
+    (&[Part::Copies(TO_X)], &[BAR], TOP_S, BadLayout(24, 94)),
     (
         &[Part::Copies(TO_T), Part::Copies(TO_X)],
         &[],
         RADIUS_3,
-        (24, 138),
+        BadLayout(24, 138),
     ),
     // 25: the structure itself, two of them, one that the top does not reach, and one that leads to others
-    (&[Part::Copies(TO_T)], &[], RADIUS_3, (25, 60)),
+    (&[Part::Copies(TO_T)], &[], RADIUS_3, BadLayout(25, 60)),
     (
         &[Part::Copies(ONE)],
         &[(b"S", &[Part::Copies(TO_T)])],
         RADIUS_3,
-        (25, 60),
+        BadLayout(25, 60),
     ),
     (
         &[Part::Plate(LEFT)],
         &[(b"S", &[Part::Copies(ONE)])],
         RADIUS_3,
-        (25, 162),
+        BadLayout(25, 162),
     ),
     (
         &[Part::Copies(ONE)],
         &[(b"S", &[Part::Copies(ONE)])],
         RADIUS_3,
-        (25, 60),
+        BadLayout(25, 60),
     ),
     // 27: no structure of this name
-    (&[Part::Plate(LEFT)], &[], TOP_S, (27, 0)),
+    (&[Part::Plate(LEFT)], &[], TOP_S, BadLayout(27, 0)),
     // 28: at the second structure to which none refers
-    (&[Part::Plate(LEFT)], &[BAR], RADIUS_3, (28, 162)),
+    (&[Part::Plate(LEFT)], &[BAR], RADIUS_3, BadLayout(28, 162)),
     (
         &[Part::Plate(LEFT)],
         &[BAR, (b"U", &[])],
         RADIUS_3,
-        (28, 162),
+        BadLayout(28, 162),
     ),
     // 29: one shape more than a million, and many more; at the top, which comes behind another here
     (
         &[Part::Copies(MILLION), Part::Plate(LEFT)],
         &[BAR],
         RADIUS_3,
-        (29, 60),
+        BadLayout(29, 60),
     ),
     (
         &[Part::Plate(LEFT)],
@@ -338,32 +286,32 @@ const REFUSED: &[RefusedRow] = &[
             })],
         )],
         RADIUS_3,
-        (29, 162),
+        BadLayout(29, 162),
     ),
     // 30: at the shape, and of two the one that is placed first
-    (&[Part::Plate(FAR)], &[], RADIUS_3, (30, 94)),
-    (&[Part::Copies(TOO_FAR)], &[S], RADIUS_3, (30, 176)),
+    (&[Part::Plate(FAR)], &[], RADIUS_3, BadLayout(30, 94)),
+    (&[Part::Copies(TOO_FAR)], &[S], RADIUS_3, BadLayout(30, 176)),
     (
         &[Part::Copies(TOO_FAR), Part::Plate(FAR)],
         &[S],
         RADIUS_3,
-        (30, 240),
+        BadLayout(30, 240),
     ),
     // 33: at the shape, and of two the one that is placed first; but behind each reason above
-    (&[Part::Wire(ODD)], &[], RADIUS_3, (33, 94)),
+    (&[Part::Wire(ODD)], &[], RADIUS_3, BadLayout(33, 94)),
     (
         &[Part::Copies(ONE), Part::Wire(ODD)],
         &[(b"S", &[Part::Plate(LEFT), Part::Wire(ODD)])],
         RADIUS_3,
-        (33, 310),
+        BadLayout(33, 310),
     ),
     (
         &[Part::Wire(ODD), Part::Plate(FAR)],
         &[],
         RADIUS_3,
-        (30, 164),
+        BadLayout(30, 164),
     ),
-    (&[Part::Wire(ODD)], &[BAR], RADIUS_3, (28, 168)),
+    (&[Part::Wire(ODD)], &[BAR], RADIUS_3, BadLayout(28, 168)),
 ];
 
 /// Whether a run on the structure `T` with these parts, and on other structures, answers so.
@@ -374,45 +322,34 @@ fn library_answers(
     words: &str,
     want: &Want,
 ) -> bool {
-    match library_with(alloc, parts, others) {
-        Ok(layout) => answers(rt, alloc, &calm(words, layout.as_slice()), want),
-        Err(_) => false,
+    layout_answers(rt, alloc, words, library_with(alloc, parts, others), want)
+}
+
+/// Stops the test where a run does not answer as a row says.
+fn expect_answers(rt: &(impl Abort + Threads + Sync), alloc: Global, rows: &[Row]) {
+    for (number, (parts, others, words, want)) in rows.iter().enumerate() {
+        let holds = library_answers(rt, alloc, (parts, others), words, want);
+        expect(rt, holds, &number);
     }
 }
 
 #[test]
 fn references_are_followed(rt: HostRuntime) {
-    for (number, (parts, others, words, want)) in PLACED.iter().enumerate() {
-        let holds = library_answers(&rt, rt.alloc(), (parts, others), words, want);
-        expect(&rt, holds, &number);
-    }
+    expect_answers(&rt, rt.alloc(), PLACED);
 }
 
 #[test]
 fn bad_references_are_refused(rt: HostRuntime) {
-    for (row, (parts, others, words, (number, place))) in REFUSED.iter().enumerate() {
-        let want = Want::BadLayout {
-            number: *number,
-            place: *place,
-        };
-        let holds = library_answers(&rt, rt.alloc(), (parts, others), words, &want);
-        expect(&rt, holds, &row);
-    }
+    expect_answers(&rt, rt.alloc(), REFUSED);
 }
 
 /// Whether a run on a chain of so many references answers so.
 fn chain_answers(rt: &(impl Threads + Sync), alloc: Global, references: u16, want: &Want) -> bool {
-    match chain_of(alloc, references, LEFT) {
-        Ok(layout) => answers(rt, alloc, &calm(RADIUS_3, layout.as_slice()), want),
-        Err(_) => false,
-    }
+    layout_answers(rt, alloc, RADIUS_3, chain_of(alloc, references, LEFT), want)
 }
 
 /// The chain that begins at the top is too long.
-const TOO_DEEP: Want = Want::BadLayout {
-    number: 26,
-    place: 60,
-};
+const TOO_DEEP: Want = BadLayout(26, 60);
 
 #[test]
 fn chains_have_an_end(rt: HostRuntime) {

@@ -1,136 +1,47 @@
 use super::layouts::TWO_BARS;
-use super::runs::{NO_SHORT, RADIUS_3, SHORT_32, Want, answers, calm, expect};
+use super::runs::{NO_SHORT, RADIUS_3, SHORT_32, Want, expect, layout_answers};
 use std::alloc::{AllocError, Global};
 use std::thread::Threads;
 
-/// A record of the two bars' file: where it begins, its length, and the refusal of the file without it and of the file in which
-/// it has the kind of a path, each as a number and a place. Where a bar becomes a path, this has no width, and nothing is
-/// refused.
-struct Stretch {
-    at: usize,
-    length: usize,
-    left_out: (u8, usize),
-    as_path: Option<(u8, usize)>,
-}
+/// A record of the two bars' file: where it begins, its length, and the refusal of the file without it and of the file in
+/// which it has the kind of a path, each as a number and a place. Where a bar becomes a path, this has no width, and
+/// nothing is refused.
+type Stretch = (usize, usize, (u8, usize), Option<(u8, usize)>);
 
 /// The records of the two bars' file. A record is looked at before its place among the others is.
 const RECORDS: &[Stretch] = &[
-    Stretch {
-        at: 0,
-        length: 6,
-        left_out: (14, 0),
-        as_path: Some((12, 0)),
-    },
-    Stretch {
-        at: 6,
-        length: 28,
-        left_out: (14, 6),
-        as_path: Some((12, 6)),
-    },
-    Stretch {
-        at: 34,
-        length: 6,
-        left_out: (14, 34),
-        as_path: Some((12, 34)),
-    },
-    Stretch {
-        at: 40,
-        length: 20,
-        left_out: (14, 40),
-        as_path: Some((12, 40)),
-    },
-    Stretch {
-        at: 60,
-        length: 28,
-        left_out: (14, 60),
-        as_path: Some((12, 60)),
-    },
-    Stretch {
-        at: 88,
-        length: 6,
-        left_out: (14, 88),
-        as_path: Some((12, 88)),
-    },
-    Stretch {
-        at: 94,
-        length: 4,
-        left_out: (14, 94),
-        as_path: None,
-    },
-    Stretch {
-        at: 98,
-        length: 6,
-        left_out: (15, 94),
-        as_path: Some((12, 98)),
-    },
-    Stretch {
-        at: 104,
-        length: 6,
-        left_out: (15, 94),
-        as_path: Some((12, 104)),
-    },
-    Stretch {
-        at: 110,
-        length: 44,
-        left_out: (15, 94),
-        as_path: Some((12, 110)),
-    },
-    Stretch {
-        at: 154,
-        length: 4,
-        left_out: (14, 154),
-        as_path: Some((14, 154)),
-    },
-    Stretch {
-        at: 158,
-        length: 4,
-        left_out: (14, 158),
-        as_path: None,
-    },
-    Stretch {
-        at: 162,
-        length: 6,
-        left_out: (15, 158),
-        as_path: Some((12, 162)),
-    },
-    Stretch {
-        at: 168,
-        length: 6,
-        left_out: (15, 158),
-        as_path: Some((12, 168)),
-    },
-    Stretch {
-        at: 174,
-        length: 44,
-        left_out: (15, 158),
-        as_path: Some((12, 174)),
-    },
-    Stretch {
-        at: 218,
-        length: 4,
-        left_out: (14, 218),
-        as_path: Some((14, 218)),
-    },
-    Stretch {
-        at: 222,
-        length: 4,
-        left_out: (14, 222),
-        as_path: Some((14, 226)),
-    },
-    Stretch {
-        at: 226,
-        length: 4,
-        left_out: (10, 226),
-        as_path: Some((14, 226)),
-    },
+    (0, 6, (14, 0), Some((12, 0))),
+    (6, 28, (14, 6), Some((12, 6))),
+    (34, 6, (14, 34), Some((12, 34))),
+    (40, 20, (14, 40), Some((12, 40))),
+    (60, 28, (14, 60), Some((12, 60))),
+    (88, 6, (14, 88), Some((12, 88))),
+    (94, 4, (14, 94), None),
+    (98, 6, (15, 94), Some((12, 98))),
+    (104, 6, (15, 94), Some((12, 104))),
+    (110, 44, (15, 94), Some((12, 110))),
+    (154, 4, (14, 154), Some((14, 154))),
+    (158, 4, (14, 158), None),
+    (162, 6, (15, 158), Some((12, 162))),
+    (168, 6, (15, 158), Some((12, 168))),
+    (174, 44, (15, 158), Some((12, 174))),
+    (218, 4, (14, 218), Some((14, 218))),
+    (222, 4, (14, 222), Some((14, 226))),
+    (226, 4, (10, 226), Some((14, 226))),
 ];
 
 /// The refusal with this number and place.
-fn refusal(told: (u8, usize)) -> Want {
-    Want::BadLayout {
-        number: told.0,
-        place: told.1,
+fn refusal((number, place): (u8, usize)) -> Want {
+    Want::BadLayout(number, place)
+}
+
+/// The two bars' file, in which one byte has another value.
+fn changed(alloc: Global, at: usize, value: u8) -> Result<Vec<u8>, AllocError> {
+    let mut bytes = Vec::from_slice(alloc, TWO_BARS)?;
+    if let Some(byte) = bytes.get_mut(at) {
+        *byte = value;
     }
+    Ok(bytes)
 }
 
 /// Whether a run answers so where one byte of the two bars' file has another value.
@@ -141,11 +52,7 @@ fn changed_answers(
     value: u8,
     want: &Want,
 ) -> bool {
-    let mut bytes = *TWO_BARS;
-    if let Some(byte) = bytes.get_mut(at) {
-        *byte = value;
-    }
-    answers(rt, alloc, &calm(RADIUS_3, &bytes), want)
+    layout_answers(rt, alloc, RADIUS_3, changed(alloc, at, value), want)
 }
 
 /// These two pieces, one behind the other.
@@ -155,26 +62,25 @@ fn joined(alloc: Global, front: &[u8], back: &[u8]) -> Result<Vec<u8>, AllocErro
     Ok(whole)
 }
 
-/// Whether a run answers so to these two pieces, one behind the other.
-fn joined_answer(
+/// Whether a run answers so to the two bars' file up to `end`, with the file from `start` on behind it.
+fn parts_answer(
     rt: &(impl Threads + Sync),
     alloc: Global,
-    front: &[u8],
-    back: &[u8],
+    end: usize,
+    start: usize,
     want: &Want,
 ) -> bool {
-    match joined(alloc, front, back) {
-        Ok(whole) => answers(rt, alloc, &calm(RADIUS_3, whole.as_slice()), want),
-        Err(_) => false,
-    }
+    let front = TWO_BARS.get(..end).unwrap_or_default();
+    let back = TWO_BARS.get(start..).unwrap_or_default();
+    layout_answers(rt, alloc, RADIUS_3, joined(alloc, front, back), want)
 }
 
 /// The offset of the record that is cut where the two bars' file ends after so many bytes.
 fn cut_at(length: usize) -> usize {
     let mut cut = 0;
-    for record in RECORDS {
-        if record.at <= length {
-            cut = record.at;
+    for (at, ..) in RECORDS {
+        if *at <= length {
+            cut = *at;
         }
     }
     cut
@@ -184,99 +90,86 @@ fn cut_at(length: usize) -> usize {
 #[test]
 fn cut_layouts_are_refused(rt: HostRuntime) {
     for length in 0..TWO_BARS.len() {
-        let given = calm(RADIUS_3, &TWO_BARS[..length]);
-        let want = refusal((10, cut_at(length)));
-        expect(&rt, answers(&rt, rt.alloc(), &given, &want), &length);
+        let want = Want::BadLayout(10, cut_at(length));
+        let holds = parts_answer(&rt, rt.alloc(), length, TWO_BARS.len(), &want);
+        expect(&rt, holds, &length);
     }
 }
 
 /// What stands behind the end of the library: the padding of a tape, and a byte that is no record.
 const BEHIND: &[&[u8]] = &[&[0; 2048], &[255]];
 
+/// Whether what stands behind the end of the two bars' library changes nothing.
+fn is_ignored(rt: &(impl Threads + Sync), alloc: Global, behind: &[u8]) -> bool {
+    let layout = joined(alloc, TWO_BARS, behind);
+    layout_answers(rt, alloc, RADIUS_3, layout, &SHORT_32)
+}
+
 /// What follows the end of the library is ignored.
 #[test]
 fn bytes_after_the_end_are_ignored(rt: HostRuntime) {
     for (number, behind) in BEHIND.iter().enumerate() {
-        expect(
-            &rt,
-            joined_answer(&rt, rt.alloc(), TWO_BARS, behind, &SHORT_32),
-            &number,
-        );
+        expect(&rt, is_ignored(&rt, rt.alloc(), behind), &number);
     }
 }
 
 /// A layout lacks none of its records.
 #[test]
 fn no_record_is_left_out(rt: HostRuntime) {
-    for record in RECORDS {
-        let front = TWO_BARS.get(..record.at).unwrap_or_default();
-        let end = record.at.saturating_add(record.length);
-        let back = TWO_BARS.get(end..).unwrap_or_default();
-        let want = refusal(record.left_out);
-        expect(
-            &rt,
-            joined_answer(&rt, rt.alloc(), front, back, &want),
-            &record.at,
-        );
+    for (at, length, left_out, _) in RECORDS {
+        let end = at.saturating_add(*length);
+        let holds = parts_answer(&rt, rt.alloc(), *at, end, &refusal(*left_out));
+        expect(&rt, holds, at);
     }
 }
 
-/// What is wanted where the record that ends here stands twice: it is refused where it stands again. What stands twice behind
-/// the end of the library is ignored there.
+/// What is wanted where the record that ends here stands twice: it is refused where it stands again. What stands twice
+/// behind the end of the library is ignored there.
 fn want_twice(end: usize) -> Want {
     if end == 230 {
         SHORT_32
     } else {
-        refusal((14, end))
+        Want::BadLayout(14, end)
     }
 }
 
 /// A layout has each of its records once.
 #[test]
 fn no_record_stands_twice(rt: HostRuntime) {
-    for record in RECORDS {
-        let end = record.at.saturating_add(record.length);
-        let front = TWO_BARS.get(..end).unwrap_or_default();
-        let back = TWO_BARS.get(record.at..).unwrap_or_default();
-        let want = want_twice(end);
-        expect(
-            &rt,
-            joined_answer(&rt, rt.alloc(), front, back, &want),
-            &record.at,
-        );
+    for (at, length, ..) in RECORDS {
+        let end = at.saturating_add(*length);
+        let holds = parts_answer(&rt, rt.alloc(), end, *at, &want_twice(end));
+        expect(&rt, holds, at);
     }
 }
 
-/// What is wanted where this record has the kind of a path.
-fn want_as_path(record: &Stretch) -> Want {
-    match record.as_path {
+/// What is wanted where a record has the kind of a path.
+fn want_as_path(told: Option<(u8, usize)>) -> Want {
+    match told {
         Some(told) => refusal(told),
         None => NO_SHORT,
     }
 }
 
-/// Whether a layout answers as it should where the head of a record has a length below that of a head, the kind of a path, or a
-/// form that no record has.
+/// Whether a layout answers as it should where the head of a record has a length below that of a head, the kind of a
+/// path, or a form that no record has.
 fn head_is_read(rt: &(impl Threads + Sync), alloc: Global, record: &Stretch) -> bool {
-    let at = record.at;
-    changed_answers(rt, alloc, at.saturating_add(1), 3, &refusal((11, at)))
-        && changed_answers(rt, alloc, at.saturating_add(2), 9, &want_as_path(record))
-        && changed_answers(rt, alloc, at.saturating_add(3), 4, &refusal((12, at)))
+    let (at, _, _, as_path) = *record;
+    changed_answers(rt, alloc, at.saturating_add(1), 3, &Want::BadLayout(11, at))
+        && changed_answers(rt, alloc, at.saturating_add(2), 9, &want_as_path(as_path))
+        && changed_answers(rt, alloc, at.saturating_add(3), 4, &Want::BadLayout(12, at))
 }
 
 /// Each record has its own length, kind and form.
 #[test]
 fn heads_of_records_are_read(rt: HostRuntime) {
     for record in RECORDS {
-        expect(&rt, head_is_read(&rt, rt.alloc(), record), &record.at);
+        expect(&rt, head_is_read(&rt, rt.alloc(), record), &record.0);
     }
 }
 
 /// The outline of the left bar is not closed.
-const NOT_CLOSED: Want = Want::BadLayout {
-    number: 18,
-    place: 94,
-};
+const NOT_CLOSED: Want = Want::BadLayout(18, 94);
 
 /// Bytes of the bodies: where each lies, another value, and the answer.
 const BODIES: &[(usize, u8, Want)] = &[

@@ -1,5 +1,5 @@
 use super::layouts::{Plate, TWO_BARS, layout_of, plates};
-use super::runs::{RADIUS_3, Want, answers, calm, expect};
+use super::runs::{RADIUS_3, Want, answers, calm, expect, layout_answers};
 use std::alloc::Global;
 use std::thread::Threads;
 
@@ -50,35 +50,16 @@ fn two_bars_have_their_report(rt: HostRuntime) {
 }
 
 /// The left one of the two bars.
-pub const LEFT: Plate = Plate {
-    layer: 1,
-    datatype: 0,
-    x0: 0,
-    x1: 10,
-    y0: 0,
-    y1: 10,
-};
+pub const LEFT: Plate = (1, 0, (0, 0, 10, 10));
 
 /// The right one.
-pub const RIGHT: Plate = Plate {
-    x0: 14,
-    x1: 24,
-    ..LEFT
-};
+pub const RIGHT: Plate = (1, 0, (14, 0, 24, 10));
 
 /// What lies between the two.
-pub const BETWEEN: Plate = Plate {
-    x0: 10,
-    x1: 14,
-    ..LEFT
-};
+const BETWEEN: Plate = (1, 0, (10, 0, 14, 10));
 
 /// A square with a side of 4.
-const SQUARE: Plate = Plate {
-    x1: 4,
-    y1: 4,
-    ..LEFT
-};
+const SQUARE: Plate = (1, 0, (0, 0, 4, 4));
 
 /// The greatest layer and datatype.
 const LAST: u16 = 65_535;
@@ -98,108 +79,23 @@ const AREAS: &[(&[Plate], &str, u32, u64)] = &[
         4_000_011_999_960,
     ),
     // a common corner leaves two nets: [3,5)x[3,5)
-    (
-        &[
-            SQUARE,
-            Plate {
-                x0: 4,
-                x1: 8,
-                y0: 4,
-                y1: 8,
-                ..SQUARE
-            },
-        ],
-        RADIUS_1,
-        1,
-        4,
-    ),
+    (&[SQUARE, (1, 0, (4, 4, 8, 8))], RADIUS_1, 1, 4),
     // a common side makes one net
-    (
-        &[
-            SQUARE,
-            Plate {
-                x0: 4,
-                x1: 8,
-                ..SQUARE
-            },
-        ],
-        RADIUS_1,
-        1,
-        0,
-    ),
+    (&[SQUARE, (1, 0, (4, 0, 8, 4))], RADIUS_1, 1, 0),
     // shapes on another layer or datatype neither have a net nor join two
-    (&[LEFT, Plate { layer: 2, ..RIGHT }], RADIUS_3, 3, 0),
-    (
-        &[
-            LEFT,
-            Plate {
-                datatype: 1,
-                ..RIGHT
-            },
-        ],
-        RADIUS_3,
-        3,
-        0,
-    ),
-    (
-        &[
-            LEFT,
-            Plate {
-                layer: 0,
-                datatype: 1,
-                ..RIGHT
-            },
-        ],
-        RADIUS_3,
-        3,
-        0,
-    ),
-    (
-        &[
-            LEFT,
-            Plate {
-                layer: 2,
-                ..BETWEEN
-            },
-            RIGHT,
-        ],
-        RADIUS_3,
-        3,
-        32,
-    ),
-    (
-        &[
-            LEFT,
-            Plate {
-                datatype: 1,
-                ..BETWEEN
-            },
-            RIGHT,
-        ],
-        RADIUS_3,
-        3,
-        32,
-    ),
+    (&[LEFT, (2, 0, (14, 0, 24, 10))], RADIUS_3, 3, 0),
+    (&[LEFT, (1, 1, (14, 0, 24, 10))], RADIUS_3, 3, 0),
+    (&[LEFT, (0, 1, (14, 0, 24, 10))], RADIUS_3, 3, 0),
+    (&[LEFT, (2, 0, (10, 0, 14, 10)), RIGHT], RADIUS_3, 3, 32),
+    (&[LEFT, (1, 1, (10, 0, 14, 10)), RIGHT], RADIUS_3, 3, 32),
     // on the layer and datatype that are asked for it joins them
     (&[LEFT, BETWEEN, RIGHT], RADIUS_3, 3, 0),
     // the greatest layer and datatype
     (
         &[
-            Plate {
-                layer: LAST,
-                datatype: LAST,
-                ..LEFT
-            },
-            Plate {
-                layer: LAST,
-                datatype: LAST,
-                ..RIGHT
-            },
-            Plate {
-                layer: LAST,
-                datatype: 65_534,
-                ..BETWEEN
-            },
+            (LAST, LAST, (0, 0, 10, 10)),
+            (LAST, LAST, (14, 0, 24, 10)),
+            (LAST, 65_534, (10, 0, 14, 10)),
         ],
         "a --layer 65535 --datatype 65535 --radius 3",
         3,
@@ -216,11 +112,8 @@ fn have_area(
     radius: u32,
     area: u64,
 ) -> bool {
-    let want = Want::Short { radius, area };
-    match plates(alloc, shapes) {
-        Ok(layout) => answers(rt, alloc, &calm(words, layout.as_slice()), &want),
-        Err(_) => false,
-    }
+    let want = Want::Short(radius, area);
+    layout_answers(rt, alloc, words, plates(alloc, shapes), &want)
 }
 
 #[test]

@@ -10,13 +10,10 @@ use std::thread::Threads;
 pub const RADIUS_3: &str = "a --layer 1 --datatype 0 --radius 3";
 
 /// What they are answered for the two bars.
-pub const SHORT_32: Want = Want::Short {
-    radius: 3,
-    area: 32,
-};
+pub const SHORT_32: Want = Want::Short(3, 32);
 
 /// What they are answered where no two nets are near one another.
-pub const NO_SHORT: Want = Want::Short { radius: 3, area: 0 };
+pub const NO_SHORT: Want = Want::Short(3, 0);
 
 /// What fails in a run.
 #[derive(Clone, Copy)]
@@ -28,7 +25,7 @@ pub enum Failing {
     /// The first call of the output.
     Out,
     /// The output past so many bytes.
-    OutPast(u16),
+    OutPast(usize),
     /// The first call of the error output.
     ErrorOut,
 }
@@ -45,7 +42,7 @@ impl Failing {
     /// How many bytes the output takes.
     fn room(&self) -> usize {
         match self {
-            Failing::OutPast(room) => usize::from(*room),
+            Failing::OutPast(room) => *room,
             _ => 1000,
         }
     }
@@ -120,14 +117,14 @@ fn line_of(alloc: Global, number: u8, place: usize) -> Result<String, AllocError
 pub enum Want {
     /// This report.
     Report(&'static str),
-    /// The report of this area of shorts at this radius of defects.
-    Short { radius: u32, area: u64 },
+    /// The report of shorts: the radius of defects, and the area.
+    Short(u32, u64),
     /// The words are refused.
     BadWords,
     /// The map is refused, and this is the line.
     BadMap(&'static str),
-    /// The layout is refused: what is wrong, and the offset at which it shows.
-    BadLayout { number: u8, place: usize },
+    /// The layout is refused: the number of what is wrong, and the offset at which it shows.
+    BadLayout(u8, usize),
     /// A file or an output failed, and nothing was written.
     Fault,
 }
@@ -137,13 +134,13 @@ impl Want {
     fn is(&self, alloc: Global, answer: &Answer) -> bool {
         match self {
             Want::Report(report) => answer.has(0, report, ""),
-            Want::Short { radius, area } => match report_of(alloc, *radius, *area) {
+            Want::Short(radius, area) => match report_of(alloc, *radius, *area) {
                 Ok(report) => answer.has(0, report.as_str(), ""),
                 Err(_) => false,
             },
             Want::BadWords => answer.has(2, "", "error 2 at 0\n"),
             Want::BadMap(line) => answer.has(3, "", line),
-            Want::BadLayout { number, place } => match line_of(alloc, *number, *place) {
+            Want::BadLayout(number, place) => match line_of(alloc, *number, *place) {
                 Ok(line) => answer.has(4, "", line.as_str()),
                 Err(_) => false,
             },
@@ -224,7 +221,7 @@ pub fn run_with<F: Files>(
 }
 
 /// What a run answers.
-fn run_on(
+pub fn run_on(
     rt: &(impl Threads + Sync),
     alloc: Global,
     given: &Given<'_>,
@@ -237,6 +234,20 @@ fn run_on(
 pub fn answers(rt: &(impl Threads + Sync), alloc: Global, given: &Given<'_>, want: &Want) -> bool {
     match run_on(rt, alloc, given) {
         Ok(answer) => want.is(alloc, &answer),
+        Err(_) => false,
+    }
+}
+
+/// Whether a run of these words on this layout, where nothing fails, answers so. Without a layout it does not.
+pub fn layout_answers(
+    rt: &(impl Threads + Sync),
+    alloc: Global,
+    words: &str,
+    layout: Result<Vec<u8>, AllocError>,
+    want: &Want,
+) -> bool {
+    match layout {
+        Ok(layout) => answers(rt, alloc, &calm(words, layout.as_slice()), want),
         Err(_) => false,
     }
 }

@@ -1,6 +1,6 @@
 //! Layouts of several structures, as their bytes.
 
-use super::layouts::{Plate, TWO_BARS, Wire, points_of, push_plate, push_record, push_wire};
+use super::layouts::{Plate, TWO_BARS, Wire, push_plate, push_points, push_record, push_wire};
 use std::alloc::{AllocError, Global};
 
 /// What a structure has: a rectangle, a path, or a reference.
@@ -61,22 +61,40 @@ fn push_name(bytes: &mut Vec<u8>, kind: u8, name: &[u8]) -> Result<(), AllocErro
     }
 }
 
+/// Appends STRANS and ANGLE.
+fn push_turn(bytes: &mut Vec<u8>, mirrored: bool, angle: [u8; 8]) -> Result<(), AllocError> {
+    push_record(bytes, 0x1A, 1, if mirrored { &[0x80, 0] } else { &[0, 0] })?;
+    push_record(bytes, 0x1C, 5, &angle)
+}
+
+/// Appends COLROW for an array.
+fn push_size(bytes: &mut Vec<u8>, size: Option<(u16, u16)>) -> Result<(), AllocError> {
+    match size {
+        Some((columns, rows)) => {
+            let both = u32::from(columns) * 65_536 + u32::from(rows);
+            push_record(bytes, 0x13, 2, &both.to_be_bytes())
+        }
+        None => Ok(()),
+    }
+}
+
 /// Appends a reference: SREF or AREF, SNAME, STRANS, ANGLE, COLROW for an array, XY and ENDEL.
 fn push_copies(alloc: Global, bytes: &mut Vec<u8>, copies: &Copies<'_>) -> Result<(), AllocError> {
     let opening = if copies.size.is_some() { 0x0B } else { 0x0A };
     push_record(bytes, opening, 0, &[])?;
     push_name(bytes, 0x12, copies.target)?;
-    let flags = if copies.mirrored { [0x80, 0] } else { [0, 0] };
-    push_record(bytes, 0x1A, 1, &flags)?;
-    push_record(bytes, 0x1C, 5, &copies.angle)?;
-    if let Some((columns, rows)) = copies.size {
-        let [a, b] = columns.to_be_bytes();
-        let [c, d] = rows.to_be_bytes();
-        push_record(bytes, 0x13, 2, &[a, b, c, d])?;
+    push_turn(bytes, copies.mirrored, copies.angle)?;
+    push_size(bytes, copies.size)?;
+    push_points(alloc, bytes, copies.points)
+}
+
+/// Appends what a structure has.
+fn push_part(alloc: Global, bytes: &mut Vec<u8>, part: &Part<'_>) -> Result<(), AllocError> {
+    match part {
+        Part::Plate(plate) => push_plate(alloc, bytes, plate),
+        Part::Wire(wire) => push_wire(alloc, bytes, wire),
+        Part::Copies(copies) => push_copies(alloc, bytes, copies),
     }
-    let points = points_of(alloc, copies.points)?;
-    push_record(bytes, 0x10, 3, points.as_slice())?;
-    push_record(bytes, 0x11, 0, &[])
 }
 
 /// Appends a structure: BGNSTR, STRNAME, its parts and ENDSTR.
@@ -90,13 +108,22 @@ fn push_structure(
     bytes.extend_from_slice(&bars[60..88])?;
     push_name(bytes, 0x06, name)?;
     for part in parts {
-        match part {
-            Part::Plate(plate) => push_plate(alloc, bytes, plate)?,
-            Part::Wire(wire) => push_wire(alloc, bytes, wire)?,
-            Part::Copies(copies) => push_copies(alloc, bytes, copies)?,
-        }
+        push_part(alloc, bytes, part)?;
     }
     bytes.extend_from_slice(&bars[222..226])
+}
+
+/// Appends the structures of a library, and its end.
+fn push_structures(
+    alloc: Global,
+    bytes: &mut Vec<u8>,
+    structures: &[Structure<'_>],
+) -> Result<(), AllocError> {
+    let bars: &[u8] = TWO_BARS;
+    for (name, parts) in structures {
+        push_structure(alloc, bytes, name, parts)?;
+    }
+    bytes.extend_from_slice(&bars[226..])
 }
 
 /// The file of a structure `T` with these parts, and of other structures behind it. `T` begins at 60, and its first part
@@ -109,10 +136,7 @@ pub fn library_with(
     let bars: &[u8] = TWO_BARS;
     let mut bytes = Vec::from_slice(alloc, &bars[..60])?;
     push_structure(alloc, &mut bytes, b"T", parts)?;
-    for (name, parts) in others {
-        push_structure(alloc, &mut bytes, name, parts)?;
-    }
-    bytes.extend_from_slice(&bars[226..])?;
+    push_structures(alloc, &mut bytes, others)?;
     Ok(bytes)
 }
 
@@ -123,28 +147,24 @@ fn numbered(number: u16) -> [u8; 2] {
     [b'A'.wrapping_add(high), b'A' + low]
 }
 
+/// Appends the structure with this number, which refers to the next.
+fn push_link(alloc: Global, bytes: &mut Vec<u8>, number: u16) -> Result<(), AllocError> {
+    let next = numbered(number.wrapping_add(1));
+    let copy = Copies {
+        target: &next,
+        ..ONE
+    };
+    push_structure(alloc, bytes, &numbered(number), &[Part::Copies(copy)])
+}
+
 /// The file of structures of which each refers to the next, so many times, and the last has this rectangle.
 pub fn chain_of(alloc: Global, references: u16, last: Plate) -> Result<Vec<u8>, AllocError> {
     let bars: &[u8] = TWO_BARS;
     let mut bytes = Vec::from_slice(alloc, &bars[..60])?;
     for number in 0..references {
-        let next = numbered(number.wrapping_add(1));
-        push_structure(
-            alloc,
-            &mut bytes,
-            &numbered(number),
-            &[Part::Copies(Copies {
-                target: &next,
-                ..ONE
-            })],
-        )?;
+        push_link(alloc, &mut bytes, number)?;
     }
-    push_structure(
-        alloc,
-        &mut bytes,
-        &numbered(references),
-        &[Part::Plate(last)],
-    )?;
-    bytes.extend_from_slice(&bars[226..])?;
+    let name = numbered(references);
+    push_structures(alloc, &mut bytes, &[(&name, &[Part::Plate(last)])])?;
     Ok(bytes)
 }

@@ -1,8 +1,7 @@
 //! The eight turns of a reference, by an L of which no turn looks like another.
 
 use super::layouts::Plate;
-use super::rows::LEFT;
-use super::runs::{Want, answers, calm, expect};
+use super::runs::{Want, expect, layout_answers};
 use super::structures::{ANGLE_0, ANGLE_90, ANGLE_180, ANGLE_270, Copies, ONE, Part, library_with};
 use std::alloc::Global;
 use std::thread::Threads;
@@ -12,28 +11,13 @@ type Sides = (i32, i32, i32, i32);
 
 /// The rectangle with these sides, on layer 1.
 fn plate((x0, x1, y0, y1): Sides) -> Part<'static> {
-    Part::Plate(Plate {
-        x0,
-        x1,
-        y0,
-        y1,
-        ..LEFT
-    })
+    Part::Plate((1, 0, (x0, y0, x1, y1)))
 }
 
 /// The L: its long arm goes right from the origin, and its short arm goes up.
 const L: &[Part<'_>] = &[
-    Part::Plate(Plate {
-        x1: 8,
-        y1: 2,
-        ..LEFT
-    }),
-    Part::Plate(Plate {
-        x1: 2,
-        y0: 2,
-        y1: 5,
-        ..LEFT
-    }),
+    Part::Plate((1, 0, (0, 0, 8, 2))),
+    Part::Plate((1, 0, (0, 2, 2, 5))),
 ];
 
 /// A turn of the L: whether it is mirrored, how many quarters it is turned, its long arm and its short arm then, and two
@@ -104,19 +88,19 @@ fn angle_of(quarters: u8) -> [u8; 8] {
 }
 
 /// Two columns of 6 rows at the end of the one arm, and as many cells at that of the other.
-const SHORT_24: Want = Want::Short {
-    radius: 2,
-    area: 24,
-};
+const SHORT_24: Want = Want::Short(2, 24);
 
 const RADIUS_2: &str = "a --layer 1 --datatype 0 --radius 2";
 
 /// Whether a run on a top of these parts, which may refer to the L, has this short area.
 fn have_area(rt: &(impl Threads + Sync), alloc: Global, top: &[Part<'_>]) -> bool {
-    match library_with(alloc, top, &[(b"S", L)]) {
-        Ok(layout) => answers(rt, alloc, &calm(RADIUS_2, layout.as_slice()), &SHORT_24),
-        Err(_) => false,
-    }
+    layout_answers(
+        rt,
+        alloc,
+        RADIUS_2,
+        library_with(alloc, top, &[(b"S", L)]),
+        &SHORT_24,
+    )
 }
 
 /// Whether the turned L and its two squares have their area, and whether the rectangles that it is then have it, too.

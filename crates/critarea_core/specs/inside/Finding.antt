@@ -1,15 +1,14 @@
 -- inside this crate: what is found before anything is printed, and how the printing ends. No definition above rests on it.
-use Rattle.std.specs.Prelude.{ℕ, List, ◌≡◌, ◌≢◌, ◌≤◌, Option, Contains, IfOk, length, Result, Ok, Err, Vec}
-use Rattle.std.specs.Global.{Global}
+use Rattle.std.specs.Prelude.{IfOk, ℕ, List, ◌≡◌, ◌≢◌, ◌≤◌, Option, Contains, length, Result, Ok, Err, Vec}
+use Rattle.lists.specs.Words.{Global}
 use Rattle.first_refusal.specs.Answers.{Answers}
 use Rattle.first_refusal.specs.Outcomes.{Outcome, value, refused}
 use Rattle.edge_io.specs.declared.whole.ReadError.{ReadError}
 use Rattle.edge_io.specs.declared.whole.ReadError.TheVariants as read
 use Rattle.command_line.specs.declared.task.Task.{Task}
 use Rattle.command_line.specs.declared.task.Task.TheVariants.{OneMetal, Mapped}
-use Rattle.geo_core.specs.Bounds.{IsRadius}
-use Rattle.map_model.specs.LayerMap.{LayerMap}
-use Rattle.map_model.specs.MapView.{layer_map_of}
+use Rattle.geo_core.specs.Plane.{IsRadius}
+use Rattle.map_model.specs.MapNames.{LayerMap, layer_map_of}
 use Rattle.map_model.specs.declared.map.Map.{Map}
 use Rattle.report.specs.Report.{report_text}
 use Rattle.questions.specs.declared.row.Row.{Row}

@@ -1,12 +1,11 @@
 -- inside this crate: what its readers of a layout answer. No definition above rests on it.
 use Rattle.std.specs.Prelude.{ℕ, List, [], flat_map, filter, All, length, slice_index_or, ◌==◌, ◌≡◌, ◌<◌, ◌↔◌}
-use Rattle.geo_core.specs.Cells.{IsInLayout}
+use Rattle.geo_core.specs.Plane.{IsInLayout, IsCoveredIn}
 use Rattle.geo_core.specs.declared.plane.Cell.{Cell}
 use Rattle.geo_core.specs.declared.plane.Rect.{Rect}
 use Rattle.flatten.specs.declared.placed.Placed.{Placed}
-use Rattle.map_model.specs.LayerMap.{LayerMap, layers_of}
+use Rattle.map_model.specs.MapNames.{LayerMap, layers_of}
 use Rattle.map_model.specs.declared.layer_lists.Layers.{Layers}
-use Rattle.geo_core.specs.Unions.{IsCoveredIn}
 use Rattle.critarea_core.specs.Coverage.{IsCoveredOn}
 use Rattle.critarea_core.specs.Layout.{Subject}
 

@@ -1,12 +1,12 @@
-use Rattle.std.proofs.Common.{ap, subst, map, Vec, Global}
-use Rattle.std.proofs.lemmas.Result.{IfOk-weaker}
-use Rattle.fault_model.specs.Areas.{IsWindowOf, cells_of_window}
-use Rattle.geo_core.specs.Unions.{IsCoveredIn}
-use Rattle.map_model.specs.Layers.{mapped_cut}
-use Rattle.map_model.specs.MapView.{layer_map_of, terminal_of}
+use Rattle.std.proofs.Common.{Global, ap, subst, map, Vec}
+use Rattle.lists.proofs.Words.{IfOk-weaker}
+use Rattle.fault_model.specs.FaultNames.{IsWindowOf, cells_of_window}
+use Rattle.geo_core.specs.Plane.{IsCoveredIn}
+use Rattle.map_model.specs.MapNames.{layer_map_of, terminal_of}
 use Rattle.questions.specs.Questions.{questions}
 use Rattle.questions.specs.declared.row.Row.{Row}
 use Rattle.critical_areas.specs.Rows.{AreRows, AreRowsOf}
+use Rattle.critical_areas.proofs.FaultLaws.{no_terminal_cuts}
 use Rattle.critical_areas.proofs.RowLaws.{rows_answer}
 use Rattle.critical_areas.proofs.WindowLaws.{Covered}
 use Rattle.critical_areas.proofs.critical_areas.Goals as goal
@@ -21,7 +21,7 @@ returns-clause-rows c =
     let by_reach = subst (λ ls. IsWindowOf (Covered ls) c.reach.result window) c.as_slice.ensures.value c.window_of-window.ensures in
     let is_window = subst (λ r. IsWindowOf (Covered lists) r window) c.reach.ensures.reach by_reach in
     let asked = c.in_ok-parts.ensures.asked in
-    let counted = c.in_ok-amounts.ensures.tallies layer_map lists c.in_ok-parts.ensures (ap (map mapped_cut) c.requires.no_cuts) (ap (map terminal_of) c.requires.no_terminals) in
+    let counted = c.in_ok-amounts.ensures.tallies layer_map lists c.in_ok-parts.ensures (ap (map terminal_of) c.requires.no_terminals) (no_terminal_cuts given) in
     let Put : Vec Row Global → Type 0 = λ rows. AreRowsOf c.in_ok-parts.parts.questions c.deref.result.now rows.items in
     let Answered : Vec Row Global → Type 0 = λ rows. AreRows layer_map (IsCoveredIn lists) rows.items in
     IfOk-weaker c.rows.result Put Answered (λ (rows : Vec Row Global) put.

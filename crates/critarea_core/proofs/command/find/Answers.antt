@@ -1,5 +1,4 @@
-use Rattle.std.proofs.Common.{refl, ap}
-use Rattle.std.specs.Prelude.{Err}
+use Rattle.std.proofs.Common.{refl, ap, Err}
 use Rattle.first_refusal.specs.Answers.{no_memory, refuses}
 use Rattle.critarea_core.specs.inside.Finding.{files_serve, gives_refusal}
 use Rattle.critarea_core.proofs.RunLaws.{rows_are_few, starts_none, words_refused}

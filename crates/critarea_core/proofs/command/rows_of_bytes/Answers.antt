@@ -1,9 +1,7 @@
-use Rattle.std.proofs.Common.{◌∙◌, ap, length}
-use Rattle.std.specs.Prelude.{option_copied}
+use Rattle.std.proofs.Common.{◌∙◌, ap, length, option_copied}
 use Rattle.first_refusal.specs.Answers.{gives}
 use Rattle.first_refusal.proofs.AnswerLaws.{out_of_memory}
-use Rattle.map_model.specs.LayerMap.{LayerMap, layers_of}
-use Rattle.map_model.specs.MapView.{layer_map_of}
+use Rattle.map_model.specs.MapNames.{LayerMap, layers_of, layer_map_of}
 use Rattle.critarea_core.specs.inside.Finding.{HasRows, gives_thing}
 use Rattle.critarea_core.specs.Layout.{ShortLayoutComesTo}
 use Rattle.critarea_core.specs.inside.LayoutReaders.{AreLayersFor}

@@ -1,6 +1,5 @@
-use Rattle.std.proofs.Common.{arith}
-use Rattle.std.specs.Prelude.{option_copied}
-use Rattle.map_model.specs.MapView.{layer_map_of}
+use Rattle.std.proofs.Common.{arith, option_copied}
+use Rattle.map_model.specs.MapNames.{layer_map_of}
 use Rattle.critarea_core.specs.inside.Finding.{HasRows, LayoutMayCome, files_serve}
 use Rattle.critarea_core.specs.Layout.{ShortLayoutComesTo}
 use Rattle.critarea_core.specs.Refusals.{layout_limit}

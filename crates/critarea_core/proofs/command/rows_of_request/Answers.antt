@@ -1,4 +1,4 @@
-use Rattle.map_model.specs.MapView.{layer_map_of}
+use Rattle.map_model.specs.MapNames.{layer_map_of}
 use Rattle.critarea_core.proofs.RunLaws.{map_found, told_alike, no_map, on_good_map, starts_map, starts_both}
 use Rattle.critarea_core.proofs.VerdictLaws.{is_supported}
 use Rattle.critarea_core.proofs.command.rows_of_request.Goals as goal

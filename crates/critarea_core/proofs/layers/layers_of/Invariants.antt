@@ -1,4 +1,4 @@
-use Rattle.std.specs.List.{zip}
+use Rattle.lists.proofs.Words.{zip}
 use Rattle.critarea_core.specs.inside.LayoutReaders.{AreListsUpTo}
 use Rattle.critarea_core.proofs.layers.layers_of.Given as goal
 

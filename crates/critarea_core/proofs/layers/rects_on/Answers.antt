@@ -1,7 +1,5 @@
 use Rattle.std.proofs.Common.{[], refl, sym, ap, ◌∙◌, length, take_all, get_or, arith}
-use Rattle.std.specs.List.{zip}
-use Rattle.std.proofs.lemmas.Option.{slice_get-get_or, slice_get_read}
-use Rattle.std.proofs.lemmas.Slice.Zip.{length-zip}
+use Rattle.lists.proofs.Words.{zip, slice_get-get_or, slice_get_read, length-zip}
 use Rattle.critical_areas.proofs.WindowLaws.{read_list}
 use Rattle.critarea_core.specs.inside.LayoutReaders.{rects_on}
 use Rattle.critarea_core.proofs.LayerLaws.{next_on, next_off}

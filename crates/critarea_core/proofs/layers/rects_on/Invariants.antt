@@ -1,5 +1,5 @@
 use Rattle.std.proofs.Common.{◌≡◌, take}
-use Rattle.std.specs.List.{zip}
+use Rattle.lists.proofs.Words.{zip}
 use Rattle.critarea_core.specs.inside.LayoutReaders.{rects_on}
 use Rattle.critarea_core.proofs.layers.rects_on.Given as goal
 

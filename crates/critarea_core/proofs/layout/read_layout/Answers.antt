@@ -1,7 +1,5 @@
-use Rattle.std.proofs.Common.{◌∙◌, ap, length, refl, sym, subst}
-use Rattle.std.specs.Prelude.{option_copied}
-use Rattle.std.specs.List.{AllZip, zip}
-use Rattle.std.proofs.lemmas.Slice.Zip.{AllZip-long}
+use Rattle.std.proofs.Common.{◌∙◌, ap, length, refl, sym, subst, option_copied}
+use Rattle.lists.proofs.Words.{AllZip, zip, AllZip-long}
 use Rattle.first_refusal.specs.Answers.{gives}
 use Rattle.first_refusal.specs.Checks.{all_hold, one_fails}
 use Rattle.first_refusal.specs.Outcomes.{value, refused, goes_on, stops, kept, retold}
@@ -9,7 +7,7 @@ use Rattle.first_refusal.proofs.AnswerLaws.{out_of_memory}
 use Rattle.library_grammar.specs.FirstFault.{BytesComeTo}
 use Rattle.library_grammar.specs.declared.fault.SyntaxFault.TheVariants as syntax
 use Rattle.flatten.specs.declared.fault.PlaceFault.TheVariants as place
-use Rattle.map_model.specs.MapView.{layer_map_of}
+use Rattle.map_model.specs.MapNames.{layer_map_of}
 use Rattle.rect_cover.specs.Coverings.{IsFirstCoverFault}
 use Rattle.rect_cover.specs.declared.fault.CoverFault.TheVariants as cover
 use Rattle.rect_cover.proofs.ListedLaws.{first_fault, lists_given}

@@ -6,7 +6,7 @@ use Rattle.critarea_core.specs.inside.Finding.{IsMapOf, gives_thing, gives_refus
 use Rattle.critarea_core.specs.Refusals.{of_map_fault}
 use Rattle.critarea_core.specs.Verdict.{ShortMapComesTo}
 use Rattle.critarea_core.proofs.ReadingLaws.{not_read}
-use Rattle.critarea_core.proofs.MapLaws.{none_from, some_from, with_cuts, with_terminals, with_neither}
+use Rattle.critarea_core.proofs.MapLaws.{none_from, some_from, with_terminals, without_terminals}
 use Rattle.critarea_core.proofs.maps.supported_map.Goals as goal
 
 pub returns-in_err-map : goal.returns-in_err-map
@@ -16,13 +16,8 @@ returns-in_err-map c =
 
 pub returns-then-not-is_empty : goal.returns-then-not-is_empty
 returns-then-not-is_empty c = refuses (gives_refusal (rw (c.of_map.ensures, c.from.ensures)
-    (with_cuts c.args.bytes.now c.in_ok-map.map c.in_ok-map.ensures.read (some_from _ _ _ c.as_slice.ensures c.is_empty.ensures c.if-not-is_empty.true))))
-
-pub returns-then-not-is_empty-2 : goal.returns-then-not-is_empty-2
-returns-then-not-is_empty-2 c = refuses (gives_refusal (rw (c.of_map-then-not-is_empty-2.ensures, c.from-then-not-is_empty-2.ensures)
-    (with_terminals c.args.bytes.now c.in_ok-map.map c.in_ok-map.ensures.read (none_from _ _ _ c.as_slice.ensures c.is_empty.ensures c.if-not-is_empty.false)
-    (some_from _ _ _ c.as_slice-2.ensures c.is_empty-2.ensures c.if-not-is_empty-2.true))))
+    (with_terminals c.args.bytes.now c.in_ok-map.map c.in_ok-map.ensures.read (some_from _ _ _ c.as_slice.ensures c.is_empty.ensures c.if-not-is_empty.true))))
 
 pub returns : goal.returns
-returns c = gives (gives_thing (with_neither c.args.bytes.now c.in_ok-map.map c.in_ok-map.ensures.read
-    (none_from _ _ _ c.as_slice.ensures c.is_empty.ensures c.if-not-is_empty.false) (none_from _ _ _ c.as_slice-2.ensures c.is_empty-2.ensures c.if-not-is_empty-2.false)) refl)
+returns c = gives (gives_thing (without_terminals c.args.bytes.now c.in_ok-map.map c.in_ok-map.ensures.read
+    (none_from _ _ _ c.as_slice.ensures c.is_empty.ensures c.if-not-is_empty.false)) refl)

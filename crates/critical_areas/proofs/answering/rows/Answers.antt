@@ -1,5 +1,5 @@
 use Rattle.std.proofs.Common.{◌≡◌, ◌<◌, ◌+◌, List, take, length, get_or, sym, subst, arith}
-use Rattle.std.specs.List.{AllZip}
+use Rattle.lists.proofs.Words.{AllZip}
 use Rattle.lists.proofs.Pairing.{AllZip-more}
 use Rattle.lists.proofs.Reading.{mapped_next}
 use Rattle.questions.specs.Questions.{IsRowFor}

@@ -1,5 +1,5 @@
 use Rattle.std.proofs.Common.{◌≡◌, take, map}
-use Rattle.std.specs.List.{AllZip}
+use Rattle.lists.proofs.Words.{AllZip}
 use Rattle.questions.specs.Questions.{IsRowFor}
 use Rattle.questions.specs.declared.row.Row.{Row}
 use Rattle.critical_areas.proofs.answering.rows.Given as goal

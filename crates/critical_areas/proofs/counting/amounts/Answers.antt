@@ -1,9 +1,7 @@
-use Rattle.std.proofs.Common.{◌≡◌, ◌<◌, ◌+◌, ◌^◌, ℕ, List, ap, take, length, length-append, get_or, sym, subst, arith}
-use Rattle.std.specs.Prelude.{All}
-use Rattle.std.specs.List.{AllZip}
-use Rattle.std.proofs.lemmas.List.Elements.{All-push}
-use Rattle.fault_model.specs.Areas.{cells_of_window}
-use Rattle.geo_core.specs.Unions.{IsCoveredIn}
+use Rattle.std.proofs.Common.{◌≡◌, ◌<◌, ◌+◌, ◌^◌, ℕ, List, ap, take, length, length-append, get_or, sym, subst, arith, All}
+use Rattle.lists.proofs.Words.{AllZip, All-push}
+use Rattle.fault_model.specs.FaultNames.{cells_of_window}
+use Rattle.geo_core.specs.Plane.{IsCoveredIn}
 use Rattle.lists.proofs.Pairing.{AllZip-more}
 use Rattle.questions.specs.declared.question.Question.{Question}
 use Rattle.critical_areas.specs.Rows.{IsAmount}
@@ -20,11 +18,11 @@ loop-question-preserved c =
     let small = subst (λ (qs : List Question). k < length qs) c.as_slice-question-items.ensures c.loop-question-test.true in
     let is = subst (λ (qs : List Question). question ≡ get_or qs k question) c.as_slice-question-items.ensures c.question-item.is in
     record {
-      tallies = λ layer_map lists are no_cuts no_terminals.
+      tallies = λ layer_map lists are no_terminals no_vias.
           let Counted = IsAmount layer_map (IsCoveredIn lists) (cells_of_window c.args.window) in
           subst (AllZip Counted (take (k + 1) asked)) (sym pushed)
-          (AllZip-more Counted asked old k question amount small is (c.loop-question.invariant.tallies layer_map lists are no_cuts no_terminals)
-          (c.in_ok-amount.ensures.tally layer_map lists are no_cuts no_terminals));
+          (AllZip-more Counted asked old k question amount small is (c.loop-question.invariant.tallies layer_map lists are no_terminals no_vias)
+          (c.in_ok-amount.ensures.tally layer_map lists are no_terminals no_vias));
       one_each = omega (arith, ap length pushed, length-append {A = ℕ}, c.loop-question.invariant.one_each);
       small = subst (All (λ (n : ℕ). n < 2 ^ 63)) (sym pushed) (All-push (λ (n : ℕ). n < 2 ^ 63) old amount c.loop-question.invariant.small c.in_ok-amount.ensures.small);
     }

@@ -1,5 +1,5 @@
 use Rattle.std.proofs.Common.{ap, map}
-use Rattle.map_model.specs.MapView.{layer_map_of, terminal_of}
+use Rattle.map_model.specs.MapNames.{layer_map_of, terminal_of}
 use Rattle.critical_areas.proofs.PartLaws.{not_off_metal, parts_given}
 use Rattle.critical_areas.proofs.preparing.prepare_without_terminals.Goals as goal
 

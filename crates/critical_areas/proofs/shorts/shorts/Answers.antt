@@ -1,12 +1,8 @@
-use Rattle.std.proofs.Common.{◌≡◌, ◌∙◌, ◌<◌, ℕ, [], length, get_or, ap, sym, subst, arith}
-use Rattle.std.specs.Prelude.{Some}
-use Rattle.std.proofs.lemmas.Option.{get_or_from_slice_get, slice_get-get_or}
-use Rattle.std.proofs.lemmas.Result.{IfOk-weaker}
-use Rattle.fault_model.specs.Areas.{Tally, cells_of, cells_of_window, none}
-use Rattle.fault_model.specs.Faults.{IsShort}
-use Rattle.geo_core.specs.Bounds.{IsRadius}
-use Rattle.geo_core.specs.Unions.{IsCoveredIn}
-use Rattle.map_model.specs.Measures.{side_of}
+use Rattle.std.proofs.Common.{◌≡◌, ◌∙◌, ◌<◌, ℕ, [], length, get_or, ap, sym, subst, arith, Some}
+use Rattle.lists.proofs.Words.{get_or_from_slice_get, slice_get-get_or, IfOk-weaker}
+use Rattle.fault_model.specs.FaultNames.{Tally, cells_of, cells_of_window, none, IsShort}
+use Rattle.geo_core.specs.Plane.{IsRadius, IsCoveredIn}
+use Rattle.map_model.specs.MapNames.{side_of}
 use Rattle.net_extract.specs.Cuts.{cuts_of}
 use Rattle.short_area.specs.Labels.{TouchesTwoLabels}
 use Rattle.critical_areas.proofs.PieceLaws.{reach_is_radius, shorts_are}

@@ -1,5 +1,5 @@
 use Rattle.std.proofs.Common.{[], ◌∷◌, sym, subst, take, take_all}
-use Rattle.geo_core.specs.Cells.{IsInLayout}
+use Rattle.geo_core.specs.Plane.{IsInLayout}
 use Rattle.lists.proofs.Reading.{taken_more}
 use Rattle.critical_areas.specs.inside.LayoutBounds.{AreBounds}
 use Rattle.critical_areas.proofs.WindowLaws.{one_bounds}

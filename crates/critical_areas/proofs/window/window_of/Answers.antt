@@ -1,6 +1,6 @@
 use Rattle.std.proofs.Common.{arith, sym, subst}
-use Rattle.std.proofs.lemmas.Int.{ints}
-use Rattle.fault_model.specs.Areas.{IsWindowOf}
+use Rattle.lists.proofs.Words.{ints}
+use Rattle.fault_model.specs.FaultNames.{IsWindowOf}
 use Rattle.critical_areas.proofs.WindowLaws.{Covered, bounds_of_covered, no_window, window_from}
 use Rattle.critical_areas.proofs.window.window_of.Goals as goal
 

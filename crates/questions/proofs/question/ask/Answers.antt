@@ -1,5 +1,5 @@
 use Rattle.std.proofs.Common.{ap, take_all, ◌∙◌, ◌++◌}
-use Rattle.map_model.specs.MapView.{sizes_of}
+use Rattle.map_model.specs.MapNames.{sizes_of}
 use Rattle.lists.proofs.Reading.{gained_more, mapped_at}
 use Rattle.questions.specs.Questions.{of_sizes, question_of}
 use Rattle.questions.proofs.MapReading.{size_at, past_sizes}

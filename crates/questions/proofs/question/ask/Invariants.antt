@@ -1,5 +1,5 @@
 use Rattle.std.proofs.Common.{◌≡◌, ◌++◌, take}
-use Rattle.map_model.specs.MapView.{sizes_of}
+use Rattle.map_model.specs.MapNames.{sizes_of}
 use Rattle.questions.specs.Questions.{of_sizes}
 use Rattle.questions.proofs.question.ask.Given as goal
 

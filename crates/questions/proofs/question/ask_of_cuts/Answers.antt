@@ -1,7 +1,6 @@
 use Rattle.std.proofs.Common.{ℕ, ap, length, take_all, ◌∙◌, ◌++◌}
 use Rattle.lists.proofs.Reading.{gained_more, flat_mapped_at}
-use Rattle.map_model.specs.LayerMap.{MappedLayer}
-use Rattle.map_model.specs.MapView.{layer_map_of}
+use Rattle.map_model.specs.MapNames.{MappedLayer, layer_map_of}
 use Rattle.questions.specs.Questions.{cut_layers, of_kind, of_sizes}
 use Rattle.questions.specs.declared.kind.Kind.TheVariants.{Via}
 use Rattle.questions.proofs.MapReading.{cut_at, past_cuts}

@@ -1,5 +1,5 @@
 use Rattle.std.proofs.Common.{◌≡◌, ◌++◌, take}
-use Rattle.map_model.specs.MapView.{layer_map_of}
+use Rattle.map_model.specs.MapNames.{layer_map_of}
 use Rattle.questions.specs.Questions.{of_kind, cut_layers}
 use Rattle.questions.specs.declared.kind.Kind.TheVariants.{Via}
 use Rattle.questions.proofs.question.ask_of_cuts.Given as goal

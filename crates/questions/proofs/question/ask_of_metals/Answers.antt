@@ -1,7 +1,6 @@
 use Rattle.std.proofs.Common.{ℕ, ap, take_all, ◌∙◌, ◌++◌}
 use Rattle.lists.proofs.Reading.{gained_more, flat_mapped_at}
-use Rattle.map_model.specs.LayerMap.{MappedLayer}
-use Rattle.map_model.specs.MapView.{layer_map_of}
+use Rattle.map_model.specs.MapNames.{MappedLayer, layer_map_of}
 use Rattle.questions.specs.Questions.{metal_layers, of_kind, of_sizes}
 use Rattle.questions.proofs.MapReading.{metal_at, past_metals}
 use Rattle.questions.proofs.question.ask_of_metals.Goals as goal

@@ -1,11 +1,6 @@
-use Rattle.std.proofs.Common.{◌≡◌, ◌++◌, ◌∙◌, List, length, arith, ap, sym, subst}
-use Rattle.std.specs.Prelude.{All}
-use Rattle.std.specs.List.{zip}
-use Rattle.std.proofs.lemmas.List.{length-map}
-use Rattle.std.proofs.lemmas.Slice.Zip.{length-zip}
-use Rattle.map_model.specs.LayerMap.{radius_size}
-use Rattle.map_model.specs.Layers.{metal_layer, mapped_cut}
-use Rattle.map_model.specs.MapView.{layer_map_of}
+use Rattle.std.proofs.Common.{◌≡◌, ◌++◌, ◌∙◌, List, length, arith, ap, sym, subst, All}
+use Rattle.lists.proofs.Words.{zip, length-map, length-zip}
+use Rattle.map_model.specs.MapNames.{radius_size, metal_layer, mapped_cut, layer_map_of}
 use Rattle.questions.specs.Questions.{IsAskable, questions, of_kind, cut_layers, metal_layers}
 use Rattle.questions.specs.declared.kind.Kind.TheVariants.{Short, Open, Via}
 use Rattle.questions.specs.declared.question.Question.{Question}
@@ -28,8 +23,11 @@ pub returns-clause-askable : goal.returns-clause-askable
 returns-clause-askable c =
     let given = c.args.map.now in
     let metals = length-map given.metals metal_layer in
+    let cuts = length-map given.cuts mapped_cut in
     let each = askable (layer_map_of given) (askable_sizes given.radii given.weights given.are_radii.each given.are_weights.each) in
-    subst (λ (qs : List Question). All (IsAskable (length given.metals)) qs) (sym (asked c)) (subst (λ n. All (IsAskable n) (questions (layer_map_of given))) metals each)
+    let by_metals = subst (λ n. All (IsAskable n (length (layer_map_of given).cuts)) (questions (layer_map_of given))) metals each in
+    let by_both = subst (λ n. All (IsAskable (length given.metals) n) (questions (layer_map_of given))) cuts by_metals in
+    subst (λ (qs : List Question). All (IsAskable (length given.metals) (length given.cuts)) qs) (sym (asked c)) by_both
 
 pub returns-clause-few : goal.returns-clause-few
 returns-clause-few c =

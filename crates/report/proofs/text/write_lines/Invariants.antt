@@ -1,5 +1,5 @@
 use Rattle.std.proofs.Common.{◌≡◌, ◌++◌, take, string_bytes}
-use Rattle.std.specs.List.{flat_map}
+use Rattle.lists.proofs.Words.{flat_map}
 use Rattle.report.specs.Report.{line_text}
 use Rattle.report.proofs.text.write_lines.Given as goal
 

@@ -1,5 +1,5 @@
-use Rattle.std.proofs.Common.{ℕ, ◌≡◌, List, ◌++◌, refl, sym, ap, ◌∙◌, append-nil, Result, Ok, Err, OnErr}
-use Rattle.std.specs.List.{flat_map}
+use Rattle.std.proofs.Common.{OnErr, ℕ, ◌≡◌, List, ◌++◌, refl, sym, ap, ◌∙◌, Result, Ok, Err}
+use Rattle.lists.proofs.Words.{append-nil, flat_map}
 use Rattle.lists.specs.declared.memory.NoMemory.{NoMemory}
 use Rattle.report.specs.Gains.{GainsPrefix}
 use Rattle.report.specs.Report.{line_text, totals_text, report_text}

@@ -1,0 +1,88 @@
+-- the boxes of a cut's via clusters, and the blocks of its question
+use Rattle.std.proofs.Common.{ℕ, ◌+◌, ◌/◌, ◌<◌, ◌≤◌, ◌≡◌, refl, sym, ap, ◌∙◌, subst, List, [], ◌∷◌, ◌++◌, inl, inr, length, length-append, get_or, arith, ◌↔◌, Some, slice_get, slice_index_or, option_map, Contains}
+use Rattle.lists.proofs.Words.{cases_lt, get_or_append_left, get_or_push, slice_get-get_or, slice_get-map, get_or-enumerate_from, length-enumerate_from}
+use Rattle.geo_core.specs.Plane.{IsCoveredIn}
+use Rattle.geo_core.specs.declared.plane.Cell.{Cell}
+use Rattle.geo_core.specs.declared.plane.Rect.{Rect}
+use Rattle.fault_model.specs.FaultNames.{Tally, Cut, IsViaBlock}
+use Rattle.fault_model.proofs.TallyLaws.{Tally-same_all}
+use Rattle.lists.proofs.Containing.{Contains-slice_get}
+use Rattle.lists.proofs.Mapping.{Contains-map_from}
+use Rattle.lists.proofs.Numbering.{numbered_alike}
+use Rattle.map_model.specs.MapNames.{LayerMap, MappedCut, side_of}
+use Rattle.map_model.specs.declared.measure.Measure.{Measure}
+use Rattle.net_extract.specs.Cuts.{cut_of, cuts_of, numbered_cuts}
+use Rattle.questions.specs.declared.kind.Kind.TheVariants.{Via}
+use Rattle.net_extract.specs.NetLists.{NetLists}
+use Rattle.via_clusters.specs.Blocks.{CoversSomeBox}
+use Rattle.via_clusters.specs.Clusters.{AreClusterBoxes}
+use Rattle.critical_areas.specs.AreaParts.{ArePartsOf}
+use Rattle.critical_areas.specs.FaultKinds.{IsFault}
+use Rattle.critical_areas.specs.inside.CutBoxes.{AreAllBoxes}
+use Rattle.critical_areas.specs.declared.parts.Parts.{Parts}
+use Rattle.critical_areas.proofs.PieceLaws.{even}
+
+-- an item of a list, by its number
+abbrev item_at : {X : Type 0} (xs : List X) (k : ℕ) → k < length xs → X
+item_at [] k small = absurd (omega arith)
+item_at (x ∷ xs) k small = get_or (x ∷ xs) k x
+
+module _ (layer_map : LayerMap) (k : ℕ) (small : k < length layer_map.cuts) where
+  -- the cut with its number
+  abbrev numbered : ℕ × MappedCut
+  numbered = (length layer_map.metals + k, get_or layer_map.cuts k (item_at layer_map.cuts k small))
+
+  numbered_at : slice_get (numbered_cuts layer_map) k ≡ Some numbered
+  numbered_at =
+      let metals = length layer_map.metals in
+      let d : ℕ × MappedCut = (0, item_at layer_map.cuts k small) in
+      let as_many = length-enumerate_from metals layer_map.cuts in
+      let within : k < length (numbered_cuts layer_map) = omega (arith, as_many) in
+      slice_get-get_or (numbered_cuts layer_map) k d within ∙ ap Some (get_or-enumerate_from metals layer_map.cuts k d small)
+
+  cut_at : slice_get (cuts_of layer_map) k ≡ Some (cut_of numbered)
+  cut_at = slice_get-map cut_of (numbered_cuts layer_map) k ∙ ap (option_map cut_of) numbered_at
+
+  -- no other cut has its number
+  only_cut : (cut : Cut) → Contains (cuts_of layer_map) cut → cut.number ≡ length layer_map.metals + k → cut_of numbered ≡ cut
+  only_cut cut among e =
+      let found = Contains-map_from cut_of (numbered_cuts layer_map) cut among in
+      let number : found.0.0 ≡ length layer_map.metals + k = ap (λ (one : Cut). one.number) found.2 ∙ e in
+      let same = numbered_alike (length layer_map.metals) layer_map.cuts found.0 numbered found.1 (Contains-slice_get (numbered_cuts layer_map) k numbered numbered_at) number in
+      ap cut_of (sym same) ∙ found.2
+
+  -- a defect covers one of the cut's boxes exactly where it makes the fault of the cut's question
+  pub block_is : (lists : List (List Rect)) (parts : Parts) → ArePartsOf layer_map lists parts → (radius : ℕ) → 1 ≤ radius → (c : Cell)
+      → CoversSomeBox (slice_index_or parts.cuts k []) radius c ↔ IsFault layer_map (IsCoveredIn lists) Via (length layer_map.metals + k) (radius + radius) c
+  block_is lists parts are radius some c =
+      let boxed = are.boxes k (cut_of numbered) cut_at radius c some in (
+        λ h. (cut_of numbered, Contains-slice_get (cuts_of layer_map) k (cut_of numbered) cut_at, refl, boxed.0 h),
+        λ f. boxed.1 (subst (λ (cut : Cut). IsViaBlock (IsCoveredIn lists) cut (radius + radius) c) (sym (only_cut f.0 f.1 f.2)) f.3),
+      )
+
+-- the boxes of one cut more
+pub more_boxes : (nets : NetLists) (k : ℕ) (lists : List (List Rect)) (boxes : List Rect) → AreAllBoxes nets k lists → AreClusterBoxes nets k boxes → AreAllBoxes nets (k + 1) (lists ++ boxes ∷ [])
+more_boxes nets k lists boxes are more = record {
+  one_each = omega (arith, length-append lists (boxes ∷ []), are.one_each);
+  boxes = λ number small.
+      elim (cases_lt number k) [
+        | inl before ↦ subst (AreClusterBoxes nets number) (sym (get_or_append_left lists (boxes ∷ []) [] number (omega (arith, are.one_each)))) (are.boxes number before)
+        | inr last ↦
+            let is : number ≡ k = omega arith in
+            subst (AreClusterBoxes nets number) (sym (get_or_push lists boxes [] number (are.one_each ∙ sym is))) (subst (λ n. AreClusterBoxes nets n boxes) (sym is) more)
+      ];
+}
+
+-- what is counted over the boxes of a cut are its blocks
+pub blocks_are : (layer_map : LayerMap) (lists : List (List Rect)) (parts : Parts) (k number radius : ℕ) (measure : Measure) (boxes : List Rect) (cells : List Cell) (n : ℕ)
+    → ArePartsOf layer_map lists parts → k < length parts.cuts → number ≡ length parts.metals + k → boxes ≡ slice_index_or parts.cuts k [] → radius ≡ side_of measure / 2 → 1 ≤ radius
+    → Tally (CoversSomeBox boxes radius) cells n → Tally (IsFault layer_map (IsCoveredIn lists) Via number (side_of measure)) cells n
+blocks_are layer_map lists parts k number radius measure boxes cells n are small is read reach some counted =
+    let covers = IsCoveredIn lists in
+    let among : k < length layer_map.cuts = omega (arith, are.one_each_cut) in
+    let side : radius + radius ≡ side_of measure = ap (λ r. r + r) reach ∙ even measure in
+    let of_map : length layer_map.metals + k ≡ number = sym (is ∙ ap (λ m. m + k) are.one_each) in
+    let of_list = subst (λ bs. Tally (CoversSomeBox bs radius) cells n) read counted in
+    let blocked = Tally-same_all cells n (block_is layer_map k among lists parts are radius some) of_list in
+    let of_side = subst (λ s. Tally (IsFault layer_map covers Via (length layer_map.metals + k) s) cells n) side blocked in
+    subst (λ m. Tally (IsFault layer_map covers Via m (side_of measure)) cells n) of_map of_side
