@@ -1,11 +1,8 @@
 -- what is checked of arguments
-use Rattle.std.proofs.Common.{ℕ, ◌≤◌, ◌<◌, ◌==◌, List, ◌≡◌, ◌∙◌, sym, ap, refl, arith, Bool, true, false, not, nat_le, All, Bor, length, map, filter, count_by, get_or, inl, inr, ◌+◌, cond}
-use Rattle.std.proofs.lemmas.List.{length-map}
-use Rattle.std.proofs.lemmas.Bool.Decides.{eqb_tells, leb_tells}
+use Rattle.std.proofs.Common.{Bor, ℕ, ◌≤◌, ◌<◌, ◌==◌, List, ◌≡◌, ◌∙◌, sym, ap, refl, arith, Bool, true, false, not, nat_le, All, length, map, filter, count_by, get_or, inl, inr, ◌+◌, cond}
+use Rattle.lists.proofs.Words.{length-map, eqb_tells, leb_tells, list_all, bytes_eq}
 use Rattle.std.proofs.lemmas.List.Sums.{length-filter}
 use Rattle.std.specs.Bool.{Decides}
-use Rattle.std.specs.List.{list_all}
-use Rattle.std.specs.Str.{bytes_eq}
 use Rattle.std.proofs.lemmas.Bool.Decides.{Decides-by_and}
 use Rattle.std.proofs.lemmas.List.Folds.{fold-map, list_all-map}
 use Rattle.command_line.specs.declared.option_name.OptionName.{OptionName}

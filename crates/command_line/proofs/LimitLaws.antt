@@ -1,6 +1,6 @@
 -- what words ask for lies within its limits, and a request is told by its contents
 use Rattle.std.proofs.Common.{ℕ, ◌≤◌, ◌≡◌, List, refl, ap, subst}
-use Rattle.std.proofs.Props.{props}
+use Rattle.lists.proofs.Words.{props}
 use Rattle.command_line.specs.OptionNames.{Text}
 use Rattle.command_line.specs.RequestLimits.{IsWithin, IsWithinLimits, IsWithinLimits-prop}
 use Rattle.command_line.specs.Requests.{IsNumberOnce, IsNumberOrDefault, as_given, left_out, IsTask, of_one_metal, of_map}

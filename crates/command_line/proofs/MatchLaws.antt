@@ -1,11 +1,7 @@
 -- what `clap` makes of the one form
 use Rattle.std.proofs.Common.{ℕ, suc, ◌+◌, ◌<◌, ◌≤◌, List, [], ◌∷◌, ◌++◌, ◌≡◌, ◌∙◌, sym, ap, ap₂, refl, arith, Some, None, Bool, true, false, ◌&&◌, ◌||◌, codes, length, take, get_or, map, fold, append_assoc, if◌then◌else◌, filter, option_to_list, is_some, find, subst, length-append, option_and_then, slice_get}
-use Rattle.std.proofs.lemmas.List.{append-nil, map-append}
-use Rattle.std.proofs.lemmas.List.Elements.{filter-append}
-use Rattle.std.specs.List.{list_all}
-use Rattle.std.specs.Str.{bytes_eq}
+use Rattle.lists.proofs.Words.{append-nil, map-append, filter-append, list_all, bytes_eq, bytes_eq-Decides}
 use Rattle.std.proofs.lemmas.List.Sums.{fold_more}
-use Rattle.std.proofs.lemmas.Slice.Eq.{bytes_eq-Decides}
 use Rattle.clap.specs.Walk.{Row, Walk, walk, walked, walk_from, with_values, with_default, default_rows, without, at_row, has_row, more_values, nothing_held, finished, reading_by}
 use Rattle.clap.specs.Simple.{Shape, built, entered, is_simple}
 use Rattle.clap.specs.Takes.{default_passes, entered_passes, is_valid, settle_passes, turn_passes, walk_passes}

@@ -1,11 +1,6 @@
 -- what readers of texts and of words answer
-use Rattle.std.proofs.Common.{List, [], ◌∷◌, ◌++◌, ◌≡◌, ◌≢◌, ◌∙◌, sym, ap, ap₂, refl, arith, Option, Some, None, subst, Bor, All, Bool, true, false, not, codes, append_assoc, length, ◌<◌}
-use Rattle.std.specs.List.{flat_map}
-use Rattle.std.specs.Str.{bytes_eq}
-use Rattle.std.proofs.lemmas.Slice.Eq.{bytes_eq-Decides}
-use Rattle.std.proofs.lemmas.List.{append-nil}
-use Rattle.std.proofs.lemmas.List.Elements.{All-append, All-cons, All-head, All-nil}
-use Rattle.std.proofs.lemmas.Grind.{flat_map-append}
+use Rattle.std.proofs.Common.{Bor, List, [], ◌∷◌, ◌++◌, ◌≡◌, ◌≢◌, ◌∙◌, sym, ap, ap₂, refl, arith, Option, Some, None, subst, All, Bool, true, false, not, codes, append_assoc, length, ◌<◌}
+use Rattle.lists.proofs.Words.{flat_map, bytes_eq, bytes_eq-Decides, append-nil, All-append, All-cons, All-head, All-nil, flat_map-append}
 use Rattle.command_line.specs.declared.argument.ReadArgument.{ReadArgument}
 use Rattle.command_line.specs.declared.argument.ReadArgument.TheVariants.{Setting, Position}
 use Rattle.command_line.specs.declared.option_name.OptionName.{OptionName}

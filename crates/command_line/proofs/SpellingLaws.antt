@@ -1,9 +1,7 @@
 -- how words are read, and that they are read in one way
 use Rattle.std.proofs.Common.{ℕ, ◌==◌, List, [], ◌∷◌, ◌++◌, ◌≡◌, ◌≢◌, ◌∙◌, sym, ap, refl, Option, Some, None, Bool, true, false, All, codes, drop, slice_get, append_assoc, if◌then◌else◌}
-use Rattle.std.specs.List.{flat_map, list_any, before_first, after_first}
-use Rattle.std.specs.Str.{bytes_eq}
-use Rattle.std.proofs.lemmas.List.{append-nil}
-use Rattle.std.proofs.lemmas.List.Elements.{All-head, All-tail}
+use Rattle.lists.proofs.Words.{flat_map, list_any, bytes_eq, append-nil, All-head, All-tail}
+use Rattle.std.specs.List.{before_first, after_first}
 use Rattle.first_refusal.specs.Laws.{IsUnique}
 use Rattle.command_line.specs.declared.option_name.OptionName.{OptionName}
 use Rattle.command_line.specs.declared.option_name.OptionName.TheVariants.{Map, Top, Tile, Workers, Layer, Datatype, Radius}

@@ -1,5 +1,5 @@
 -- tasks and requests of texts
-use Rattle.std.proofs.Common.{ℕ, List, [], ◌∷◌, ◌≡◌, ◌∙◌, sym, ap, refl, Option, Some, None, Bor}
+use Rattle.std.proofs.Common.{Bor, ℕ, List, [], ◌∷◌, ◌≡◌, ◌∙◌, sym, ap, refl, Option, Some, None}
 use Rattle.command_line.specs.declared.option_name.OptionName.{OptionName}
 use Rattle.command_line.specs.declared.option_name.OptionName.TheVariants.{Map, Top, Layer, Datatype, Radius}
 use Rattle.command_line.specs.declared.task.Task.{Task}

@@ -1,7 +1,6 @@
 -- the limits of the numbers of a request
 use Rattle.std.specs.Prelude.{ℕ, ◌≤◌}
-use Rattle.std.specs.Coded.{Unit-prop}
-use Rattle.std.proofs.Props.{props}
+use Rattle.lists.specs.Words.{Unit-prop, props}
 use Rattle.command_line.specs.declared.task.Task.{Task}
 use Rattle.command_line.specs.declared.task.Task.TheVariants.{OneMetal, Mapped}
 

@@ -1,7 +1,6 @@
 -- what the words of a command ask for
 use Rattle.std.specs.Prelude.{ℕ, Bool, false, List, [], ◌∷◌, ◌≡◌, ◌<◌, All, Option, length, map, filter, option_to_list}
-use Rattle.std.specs.List.{list_any}
-use Rattle.std.specs.Str.{bytes_eq}
+use Rattle.lists.specs.Words.{list_any, bytes_eq}
 use Rattle.command_line.specs.declared.option_name.OptionName.{OptionName}
 use Rattle.command_line.specs.declared.option_name.OptionName.TheVariants.{Map, Top, Tile, Workers, Layer, Datatype, Radius}
 use Rattle.command_line.specs.declared.request.Request.{Request}

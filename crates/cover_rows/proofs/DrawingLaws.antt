@@ -8,7 +8,7 @@ use Rattle.library_model.specs.Points.{AreWellPointed, IsWellPointed}
 use Rattle.library_model.specs.declared.element.Element.TheVariants.{Shape as shape_element}
 use Rattle.library_model.specs.declared.element.Shape.{Shape}
 use Rattle.library_model.specs.declared.library.Structure.{Structure}
-use Rattle.geo_core.specs.Bounds.{IsInRange}
+use Rattle.geo_core.specs.Plane.{IsInRange}
 use Rattle.flatten.specs.declared.placed.Placed.{Placed}
 use Rattle.rect_cover.specs.Coverings.{IsWellPlaced, placed_at}
 

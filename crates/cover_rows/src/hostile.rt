@@ -1,7 +1,7 @@
 //! Shapes of as many points as a record has.
 
 use super::drawing::cover_of;
-use super::stream::{Corner, Form};
+use super::stream::{Corner, Form, path};
 use super::wanted::{has, is_refused};
 use gds_syntax::ShapeKind;
 use std::alloc::Global;
@@ -77,17 +77,8 @@ fn a_square_walked_2047_times(rt: HostRuntime) {
 
 #[test]
 fn a_path_back_and_forth(rt: HostRuntime) {
-    let kind = ShapeKind::Path {
-        pathtype: 2,
-        width: 4,
-        begin: 0,
-        end: 0,
-    };
     let right = match back_and_forth(rt.alloc(), 4095) {
-        Some(corners) => {
-            let corners = corners.as_slice();
-            is_refused(rt.alloc(), Form { kind, corners }, 34)
-        }
+        Some(corners) => is_refused(rt.alloc(), path((2, 4, 0, 0), corners.as_slice()), 34),
         None => false,
     };
     assert!(rt; right);

@@ -13,6 +13,20 @@ pub struct Form<'a> {
     pub corners: &'a [Corner],
 }
 
+/// PATHTYPE, WIDTH, BGNEXTN and ENDEXTN of a path.
+pub type Style = (i16, i32, i32, i32);
+
+/// The path of this style through these points.
+pub fn path((pathtype, width, begin, end): Style, corners: &[Corner]) -> Form<'_> {
+    let kind = ShapeKind::Path {
+        pathtype,
+        width,
+        begin,
+        end,
+    };
+    Form { kind, corners }
+}
+
 /// The head of a library, and the beginning of its structure. The first shape begins at 94.
 const FRONT: &[u8] = b"\
     \x00\x06\x00\x02\x02\x58\

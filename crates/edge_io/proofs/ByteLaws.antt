@@ -1,8 +1,7 @@
 -- what is read of a source and written to a sink, piece by piece
-use Rattle.std.proofs.Common.{ℕ, ◌≡◌, ◌≤◌, ◌<◌, ◌+◌, ◌-◌, refl, sym, ap, ◌∙◌, List, [], ◌++◌, append_assoc, append-nil, length, take, drop, length-append, arith}
+use Rattle.std.proofs.Common.{ℕ, ◌≡◌, ◌≤◌, ◌<◌, ◌+◌, ◌-◌, refl, sym, ap, ◌∙◌, List, [], ◌++◌, append_assoc, length, take, drop, length-append, arith, Option, Some, None, IfSome, IsSomeAnd, option_map}
+use Rattle.lists.proofs.Words.{append-nil, take_rest}
 use Rattle.std.proofs.Math.Seq.{take-add, drop-append_seam}
-use Rattle.std.proofs.lemmas.List.{take_rest}
-use Rattle.std.specs.Prelude.{Option, Some, None, IfSome, IsSomeAnd, option_map}
 use Rattle.edge_io.specs.Bytes.{Appends, Drops, DropsUpTo, Gives}
 
 -- of what a source tells these bytes were read, and the others are left

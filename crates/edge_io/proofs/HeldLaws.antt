@@ -1,10 +1,9 @@
 -- files by number and by name
-use Rattle.std.proofs.Common.{ℕ, suc, ◌+◌, ◌<◌, ◌≡◌, refl, sym, ap, ◌∙◌, List, [], ◌∷◌, length, Bool, true, false, inl, inr, arith}
-use Rattle.std.proofs.lemmas.Bool.{ltb-true, ltb-false}
-use Rattle.std.proofs.lemmas.Option.{cond_some, slice_get_cases, slice_get_past}
-use Rattle.std.specs.List.{position_or_len, prefix_len, find, position, slice_get}
-use Rattle.std.specs.Prelude.{Some, None, IsSome, IsNone, not, cond, nat_lt}
-use Rattle.std.specs.Str.{bytes_eq}
+use Rattle.std.proofs.Common.{ℕ, suc, ◌+◌, ◌<◌, ◌≡◌, refl, sym, ap, ◌∙◌, List, [], ◌∷◌, length, Bool, true, false, inl, inr, arith, find, slice_get, Some, None, IsSome, not, cond, nat_lt}
+use Rattle.lists.proofs.Words.{ltb-true, slice_get_past, position_or_len, prefix_len, position, bytes_eq}
+use Rattle.std.proofs.lemmas.Bool.{ltb-false}
+use Rattle.std.proofs.lemmas.Option.{cond_some, slice_get_cases}
+use Rattle.std.specs.Prelude.{IsNone}
 use Rattle.edge_io.specs.Held.{HeldFile, contents_of, rest_at, IsPlaced}
 
 -- what stands at the first place is the first found

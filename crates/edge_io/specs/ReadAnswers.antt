@@ -1,6 +1,7 @@
 -- what the calls that read files come to
-use Rattle.std.specs.Prelude.{ℕ, ◌+◌, ◌≡◌, ◌≤◌, ◌<◌, List, length, Option, None, IfSome, Result, Ok, Err, Vec, vec_len}
-use Rattle.std.specs.Global.{Global}
+use Rattle.std.specs.Io.KnownBytes.{Consumes, IsAtEnd}
+use Rattle.std.specs.Prelude.{vec_len, ℕ, ◌+◌, ◌≡◌, ◌≤◌, ◌<◌, List, [], length, Option, None, Some, IfSome, Result, Ok, Err, Vec}
+use Rattle.lists.specs.Words.{Global}
 use Rattle.lists.specs.ByteLists.{AreBytes}
 use Rattle.edge_io.specs.Bytes.{Drops, DropsUpTo}
 use Rattle.edge_io.specs.FailureCounts.{Rose}
@@ -12,6 +13,13 @@ pub record HasFailed (old new : ℕ) (started : Type 0) (rest : Option (List ℕ
   pub rose : Rose old new
   pub none_started : started → ⊥
   pub rest_untold : rest ≡ None
+
+-- an open file gave these bytes, where it tells what is unread of it: they were unread at its front, and none are given only
+-- where none is left
+abbrev pub ReadsFrom : {File : Type 0} → (File → Option (List ℕ)) → Option File → Option File → List ℕ → Type 0
+ReadsFrom unread (Some old) (Some new) given = Consumes (unread old) (unread new) given × (given ≡ [] → IsAtEnd (unread new))
+ReadsFrom unread (Some old) None given = ⊥
+ReadsFrom unread None new given = ⊥
 
 -- What a file that is read whole comes to, where these are its contents, if they are told: the answer, the count of
 -- failures before and after, whether the file is still started, and what is unread of it.

@@ -1,6 +1,7 @@
-ghost use Rattle.std.specs.Prelude.{◌≡◌, ◌≤◌, ◌<◌, None, IsSome, OnSome, IfSome, OnOk, OnErr, IsUtf8, length, take};
+ghost use Rattle.std.specs.Prelude.{◌≡◌, ◌≤◌, ◌<◌, ℕ, List, None, IsSome, OnSome, IfSome, IfOk, OnOk, OnErr, IsUtf8, length, take};
 ghost use Rattle.std.specs.Io.KnownBytes.{Consumes, IsAtEnd};
-ghost use Rattle.edge_io.specs.ReadAnswers.{HasFailed};
+ghost use Rattle.edge_io.specs.Bytes.{Gives};
+ghost use Rattle.edge_io.specs.ReadAnswers.{HasFailed, ReadsFrom};
 
 use super::counts::failure;
 use super::files::{Failed, Files};
@@ -12,7 +13,8 @@ use std::{fs, rt};
 #[derive(Drop)]
 pub struct OsFiles<'a, R: rt::Files> {
     rt: &'a R,
-    started: Option<R::File>,
+    /// The file that is started, where one is.
+    pub started: Option<R::File>,
     faults: u64,
 }
 
@@ -82,7 +84,22 @@ impl<'a, R: rt::Files> Files for OsFiles<'a, R> {
         Ok(())
     }
 
-    fn read(&mut self, buf: &mut [u8]) -> Result<usize, Failed> {
+    fn read(&mut self, buf: &mut [u8]) -> Result<usize, Failed>
+        requires started { ⟦<Self as Files>⟧.started self.old }
+        requires room { 0 < length buf.old }
+        ensures started { OnOk result (⟦<Self as Files>⟧.started self.new) }
+        ensures within { IfOk result (λ count. count ≤ length buf.new) }
+        ensures gives { IfOk result (λ count.
+            Gives (⟦<Self as Files>⟧.rest self.old) (⟦<Self as Files>⟧.rest self.new) (take count buf.new)) }
+        // Where the file tells what is unread of it, these are its next bytes, and none only at its end.
+        ensures unread { IfOk result (λ count.
+            ReadsFrom ⟦<R::File as Read>⟧.remaining self.old.started self.new.started (take count buf.new)) }
+        ensures calm { OnOk result
+            (⟦<Self as Files>⟧.faults self.new ≡ ⟦<Self as Files>⟧.faults self.old) }
+        ensures failed { OnErr result
+            (HasFailed (⟦<Self as Files>⟧.faults self.old) (⟦<Self as Files>⟧.faults self.new)
+            (⟦<Self as Files>⟧.started self.new) (⟦<Self as Files>⟧.rest self.new)) }
+    {
         let Some(file) = &mut self.started else {
             unreachable!()
         };

@@ -1,12 +1,8 @@
 -- the steps of an array, by their columns and rows
-use Rattle.std.proofs.Common.{ℕ, suc, ◌+◌, ◌*◌, ◌<◌, ◌≡◌, List, [], ◌∷◌, length, length-append, get_or, take, Some, sym, ap, ◌∙◌, arith}
-use Rattle.std.specs.Prelude.{flat_map, slice_get}
-use Rattle.std.specs.List.{range_with_len}
+use Rattle.std.proofs.Common.{ℕ, suc, ◌+◌, ◌*◌, ◌<◌, ◌≡◌, List, [], ◌∷◌, length, length-append, get_or, take, Some, sym, ap, ◌∙◌, arith, slice_get}
+use Rattle.lists.proofs.Words.{flat_map, range_with_len, length-take-le, length-range_with_len, length-map-range_with_len, get_or-range_with_len, get_or-map-range_with_len, slice_get-get_or}
 use Rattle.std.proofs.Math.Nat.{mul-le-mul_right}
-use Rattle.std.proofs.lemmas.List.{length-take-le}
-use Rattle.std.proofs.lemmas.List.FromFn.{length-range_with_len, length-map-range_with_len, get_or-range_with_len, get_or-map-range_with_len}
 use Rattle.std.proofs.lemmas.List.Concat.{get_or-flat_map}
-use Rattle.std.proofs.lemmas.Option.{slice_get-get_or}
 use Rattle.library_model.specs.declared.element.Reference.{Reference}
 use Rattle.flatten.specs.Steps.{Step, steps_of, steps_in_row, rows_of, columns_of}
 

@@ -1,21 +1,17 @@
 -- a refusal tells its cause
-use Rattle.std.proofs.Common.{ℕ, suc, ◌<◌, ◌≤◌, ◌≡◌, ◌⊎◌, inl, inr, List, [], ◌∷◌, length, map, Option, Some, None, refl, sym, subst, arith}
-use Rattle.std.specs.Prelude.{Contains, IsSome}
-use Rattle.std.specs.List.{range_with_len}
-use Rattle.std.proofs.lemmas.Bool.{cases_lt}
-use Rattle.std.proofs.lemmas.List.Elements.{Contains-append_cases, Contains-append_right}
+use Rattle.std.proofs.Common.{ℕ, suc, ◌<◌, ◌≤◌, ◌≡◌, ◌⊎◌, inl, inr, List, [], ◌∷◌, length, map, Option, Some, None, refl, sym, subst, arith, Contains, IsSome}
+use Rattle.lists.proofs.Words.{range_with_len, cases_lt, Contains-append_cases, Contains-append_right}
 use Rattle.first_refusal.specs.Outcomes.{refused, value, stops, goes_on}
 use Rattle.first_refusal.specs.Checks.{IsRefusalOfFirst, all_hold, one_fails}
 use Rattle.library_model.specs.Names.{names_of, place_of}
 use Rattle.library_model.specs.declared.library.Structure.{Structure}
-use Rattle.map_model.specs.LayerMap.{LayerMap}
+use Rattle.map_model.specs.MapNames.{LayerMap}
 use Rattle.flatten.specs.Structures.{all_references, all_targets, numbers_of, target_of}
 use Rattle.flatten.specs.ReferenceChains.{StartsChain, IsEndless}
 use Rattle.flatten.specs.Tops.{HasTop, IsNoOtherTop, IsTop, IsUnnamed}
 use Rattle.flatten.specs.Routes.{Route, point_count}
 use Rattle.flatten.specs.Placements.{LibraryCheck, has_its_target, leads_to_no_cycle, has_top, is_no_other_top, LibraryHolds, library_checks, library_fault, TopCheck, is_shallow, is_small, is_in_range, IsSmall, TopHolds, top_checks, top_fault, Choosing, PlacingFrom, Placing, placed_routes}
 use Rattle.flatten.specs.Causes.{IsSecondTop, Tells}
-use Rattle.flatten.specs.declared.limits.TheConstants.{MOST_STEPS, MOST_SHAPES, MOST_POINTS}
 use Rattle.flatten.specs.declared.fault.PlaceFault.{PlaceFault}
 use Rattle.flatten.specs.declared.fault.PlaceFault.TheVariants.{NoTop}
 use Rattle.flatten.proofs.NumberLaws.{number_below, number_there, one_or_none}
@@ -135,17 +131,17 @@ module _ (structures : List Structure) (layer_map : LayerMap) (wanted : Option (
       ]
     ]
 
-    too_many : (IsSmall placed → ⊥) → (MOST_SHAPES < length placed) ⊎ (MOST_POINTS < point_count placed)
-    too_many fails = elim (cases_lt MOST_SHAPES (length placed)) [
+    too_many : (IsSmall placed → ⊥) → (1000000 < length placed) ⊎ (8000000 < point_count placed)
+    too_many fails = elim (cases_lt 1000000 (length placed)) [
       | inl shapes ↦ inl shapes
-      | inr few_shapes ↦ elim (cases_lt MOST_POINTS (point_count placed)) [
+      | inr few_shapes ↦ elim (cases_lt 8000000 (point_count placed)) [
         | inl points ↦ inr points
         | inr few_points ↦ absurd (fails (record { few_shapes = few_shapes; few_points = few_points }))
       ]
     ]
 
     top_tells : (check : TopCheck) → IsOfTop check → (TopHolds structures top placed check → ⊥) → Tells structures layer_map wanted (top_fault structures top check)
-    top_tells is_shallow of fails = (top, is_top, refl, record { references = suc MOST_STEPS; more = omega arith; chain = longer structures MOST_STEPS top fails })
+    top_tells is_shallow of fails = (top, is_top, refl, record { references = 257; more = omega arith; chain = longer structures 256 top fails })
     top_tells is_small of fails = (top, is_top, refl, too_many fails)
     top_tells (is_in_range route) of fails = (top, is_top, route, of, refl, fails)
 

@@ -1,8 +1,6 @@
 -- the choice of the top: what it comes to where these checks hold
-use Rattle.std.proofs.Common.{ℕ, ◌<◌, ◌≡◌, List, [], ◌∷◌, length, get_or, map, Option, refl, ap, ◌∙◌}
-use Rattle.std.specs.Prelude.{All}
-use Rattle.std.proofs.lemmas.List.{map-append}
-use Rattle.std.proofs.lemmas.List.Elements.{All-nil, All-cons, All-append, All-map}
+use Rattle.std.proofs.Common.{ℕ, ◌<◌, ◌≡◌, List, [], ◌∷◌, length, get_or, map, Option, refl, ap, ◌∙◌, All}
+use Rattle.lists.proofs.Words.{map-append, All-nil, All-cons, All-append, All-map}
 use Rattle.first_refusal.specs.Outcomes.{refused, value}
 use Rattle.first_refusal.specs.Checks.{all_hold, one_fails, IsRefusalOfFirst}
 use Rattle.first_refusal.proofs.CheckLaws.{fails_at_once}

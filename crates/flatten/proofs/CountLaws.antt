@@ -1,15 +1,11 @@
 -- the routes from a structure by its parts, and what they weigh
-use Rattle.std.proofs.Common.{ℕ, zero, suc, ◌+◌, ◌*◌, ◌≤◌, ◌≡◌, List, [], Vec, refl, sym, ap, ◌∙◌, arith}
-use Rattle.std.specs.Prelude.{Contains, flat_map}
-use Rattle.std.specs.Borrow.{Bor}
-use Rattle.std.specs.Global.{Global}
-use Rattle.std.specs.List.{enumerate_from}
-use Rattle.std.specs.Option.{option_map_or}
+use Rattle.std.proofs.Common.{ℕ, zero, suc, ◌+◌, ◌*◌, ◌≤◌, ◌≡◌, List, [], Vec, refl, sym, ap, ◌∙◌, arith, Contains}
+use Rattle.lists.proofs.Words.{flat_map, Bor, Global, enumerate_from, option_map_or}
 use Rattle.library_model.specs.Names.{names_of}
 use Rattle.library_model.specs.declared.element.Shape.{Shape}
 use Rattle.library_model.specs.declared.element.Reference.{Reference}
 use Rattle.library_model.specs.declared.library.Structure.{Structure}
-use Rattle.map_model.specs.LayerMap.{LayerMap}
+use Rattle.map_model.specs.MapNames.{LayerMap}
 use Rattle.flatten.specs.Structures.{elements_of, target_of}
 use Rattle.flatten.specs.Routes.{routes, mapped_routes}
 use Rattle.flatten.specs.inside.Parts.{AreNodes, LeadsTo, parts_at}

@@ -1,18 +1,13 @@
 -- the routes that an expansion follows, part by part, row by row and column by column
-use Rattle.std.proofs.Common.{ℕ, suc, ◌≤◌, ◌<◌, ◌+◌, ◌≡◌, inl, inr, List, [], ◌∷◌, ◌++◌, length, get_or, map, Vec, refl, sym, ap, subst, ◌∙◌, arith}
-use Rattle.std.specs.Prelude.{Contains, flat_map}
-use Rattle.std.specs.Borrow.{Bor}
-use Rattle.std.specs.Global.{Global}
-use Rattle.std.specs.List.{enumerate_from, range_with_len}
-use Rattle.std.proofs.lemmas.List.FromFn.{length-range_with_len, get_or-range_with_len}
-use Rattle.std.proofs.lemmas.Grind.{flat_map-append}
+use Rattle.std.proofs.Common.{ℕ, suc, ◌≤◌, ◌<◌, ◌+◌, ◌≡◌, inl, inr, List, [], ◌∷◌, ◌++◌, length, get_or, map, Vec, refl, sym, ap, subst, ◌∙◌, arith, Contains}
+use Rattle.lists.proofs.Words.{flat_map, Bor, Global, enumerate_from, range_with_len, length-range_with_len, get_or-range_with_len, flat_map-append}
 use Rattle.std.proofs.lemmas.List.Folds.{flat_map-map}
 use Rattle.library_model.specs.Names.{names_of}
 use Rattle.library_model.specs.declared.library.Structure.{Structure}
 use Rattle.library_model.specs.declared.element.Element.{Element}
 use Rattle.library_model.specs.declared.element.Reference.{Reference}
 use Rattle.library_model.specs.declared.element.Shape.{Shape}
-use Rattle.map_model.specs.LayerMap.{LayerMap, IsMappedTo}
+use Rattle.map_model.specs.MapNames.{LayerMap, IsMappedTo}
 use Rattle.flatten.specs.Structures.{elements_of}
 use Rattle.flatten.specs.inside.Parts.{AreNodes, AreParts, no_more, parts_at, passed_over, ends_there, goes_on}
 use Rattle.flatten.specs.Steps.{steps_of, steps_in_row, rows_of, columns_of}

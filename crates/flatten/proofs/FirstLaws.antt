@@ -1,11 +1,6 @@
 -- the first check that fails, where checks are those of one item after another
-use Rattle.std.proofs.Common.{ℕ, suc, ◌+◌, ◌<◌, ◌≡◌, List, [], ◌∷◌, ◌++◌, length, get_or, map, take, drop, append_assoc, refl, sym, ap, subst, ◌∙◌}
-use Rattle.std.specs.Prelude.{All, flat_map}
-use Rattle.std.specs.List.{range_with_len}
-use Rattle.std.proofs.Math.Seq.{drop-cons}
-use Rattle.std.proofs.lemmas.Grind.{flat_map-append}
-use Rattle.std.proofs.lemmas.List.Elements.{All-append}
-use Rattle.std.proofs.lemmas.List.{take_more, take-append-drop, append-nil}
+use Rattle.std.proofs.Common.{ℕ, suc, ◌+◌, ◌<◌, ◌≡◌, List, [], ◌∷◌, ◌++◌, length, get_or, map, take, drop, append_assoc, refl, sym, ap, subst, ◌∙◌, All}
+use Rattle.lists.proofs.Words.{flat_map, range_with_len, drop-cons, flat_map-append, All-append, take_more, take-append-drop, append-nil}
 use Rattle.first_refusal.specs.Checks.{IsRefusalOfFirst}
 use Rattle.flatten.proofs.NumberLaws.{all_numbers, numbers_parted}
 

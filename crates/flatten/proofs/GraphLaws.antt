@@ -1,18 +1,12 @@
 -- parts lead where the references of the structures lead, and weights are as high as chains are long
-use Rattle.std.proofs.Common.{ℕ, zero, suc, ◌+◌, ◌<◌, ◌≤◌, ◌≡◌, ◌⊎◌, inl, inr, List, [], ◌∷◌, ◌++◌, length, Vec, Option, Some, None, refl, sym, ap, subst, ◌∙◌, arith}
-use Rattle.std.specs.Prelude.{Contains, flat_map, option_to_list}
-use Rattle.std.specs.Borrow.{Bor}
-use Rattle.std.specs.Global.{Global}
-use Rattle.std.specs.List.{enumerate_from}
-use Rattle.std.proofs.lemmas.Bool.{cases_lt}
-use Rattle.std.proofs.lemmas.List.{length-map}
-use Rattle.std.proofs.lemmas.Option.{slice_get_within}
+use Rattle.std.proofs.Common.{ℕ, zero, suc, ◌+◌, ◌<◌, ◌≤◌, ◌≡◌, ◌⊎◌, inl, inr, List, [], ◌∷◌, ◌++◌, length, Vec, Option, Some, None, refl, sym, ap, subst, ◌∙◌, arith, Contains, option_to_list}
+use Rattle.lists.proofs.Words.{flat_map, Bor, Global, enumerate_from, cases_lt, length-map, slice_get_within}
 use Rattle.library_model.specs.Names.{names_of, place_of}
 use Rattle.library_model.specs.declared.element.Element.{Element}
 use Rattle.library_model.specs.declared.element.Reference.{Reference}
 use Rattle.library_model.specs.declared.library.Structure.{Structure}
 use Rattle.library_model.proofs.NameLaws.{stands_where_found}
-use Rattle.map_model.specs.LayerMap.{LayerMap}
+use Rattle.map_model.specs.MapNames.{LayerMap}
 use Rattle.flatten.specs.Structures.{elements_of, references_among, references_in, target_of, targets_of}
 use Rattle.flatten.specs.ReferenceChains.{StartsChain, IsEndless}
 use Rattle.flatten.specs.inside.Parts.{AreParts, AreNodes, no_more, passed_over, ends_there, goes_on, LeadsTo, parts_at, Leads}

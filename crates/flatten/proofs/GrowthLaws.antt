@@ -1,14 +1,8 @@
 -- lists of placed shapes that grow
-use Rattle.std.proofs.Common.{ℕ, suc, ◌+◌, ◌≤◌, ◌<◌, ◌≡◌, List, [], ◌∷◌, ◌++◌, length, get_or, map, take, take_all, drop, append_assoc, Vec, refl, sym, ap, subst, ◌∙◌}
-use Rattle.std.specs.Prelude.{◌≢◌, Contains, flat_map}
-use Rattle.std.specs.Borrow.{Bor}
-use Rattle.std.specs.Global.{Global}
-use Rattle.std.proofs.Math.Seq.{drop-cons}
-use Rattle.std.proofs.lemmas.Grind.{flat_map-append}
-use Rattle.std.proofs.lemmas.List.{append-nil, map-append, take_more, take-append-drop}
-use Rattle.std.proofs.lemmas.List.Elements.{All-nil, All-append}
+use Rattle.std.proofs.Common.{ℕ, suc, ◌+◌, ◌≤◌, ◌<◌, ◌≡◌, List, [], ◌∷◌, ◌++◌, length, get_or, map, take, take_all, drop, append_assoc, Vec, refl, sym, ap, subst, ◌∙◌, ◌≢◌, Contains}
+use Rattle.lists.proofs.Words.{flat_map, Bor, Global, drop-cons, flat_map-append, append-nil, map-append, take_more, take-append-drop, All-nil, All-append}
 use Rattle.library_model.specs.declared.element.Shape.{Shape}
-use Rattle.map_model.specs.LayerMap.{LayerMap, IsMappedTo}
+use Rattle.map_model.specs.MapNames.{LayerMap, IsMappedTo}
 use Rattle.flatten.specs.Steps.{Step}
 use Rattle.flatten.specs.Routes.{Route, behind_step}
 use Rattle.flatten.specs.Motions.{MovesAlong}

@@ -1,8 +1,7 @@
 -- sums that stand still at a number
 use Rattle.std.proofs.Common.{ℕ, zero, suc, ◌+◌, ◌*◌, ◌≤◌, ◌≡◌, inl, inr, min, ap, ◌∙◌, arith}
-use Rattle.std.proofs.lemmas.Bool.{cases_lt}
+use Rattle.lists.proofs.Words.{cases_lt}
 use Rattle.flatten.specs.inside.Weights.{StandsFor, kept_of}
-use Rattle.flatten.specs.declared.limits.TheConstants.{MOST_POINTS}
 
 both_full : (a b most : ℕ) → most ≤ a → most ≤ b → min a most ≡ min b most
 both_full a b most h k = omega arith
@@ -28,7 +27,7 @@ kept_more a b c most = sum_kept a (c * min b most) (c * b) most (kept_times c b 
 -- what is kept of a sum is the same whatever its parts stand for
 pub kept_total : (sum part a b : ℕ) → StandsFor sum a → StandsFor part b → (copies : ℕ) → kept_of (kept_of sum + copies * kept_of part) ≡ kept_of (a + copies * b)
 kept_total sum part a b for_a for_b copies =
-    ap (λ x. kept_of (x + copies * kept_of part)) for_a ∙ ap (λ x. kept_of (kept_of a + copies * x)) for_b ∙ kept_more a b copies (MOST_POINTS + 1)
+    ap (λ x. kept_of (x + copies * kept_of part)) for_a ∙ ap (λ x. kept_of (kept_of a + copies * x)) for_b ∙ kept_more a b copies 8000001
 
 -- what is kept of a count stands for it
 pub stands_for : (number count : ℕ) → number ≡ kept_of count → StandsFor number count

@@ -1,12 +1,9 @@
 -- shapes of mapped layers
-use Rattle.std.proofs.Common.{ℕ, ◌≡◌, ◌↔◌, Bool, true, false, ◌&&◌, length, refl, sym, ap, subst, ◌∙◌}
-use Rattle.std.specs.Prelude.{Contains, IsTrue, ◌==◌}
-use Rattle.std.specs.List.{list_any}
-use Rattle.std.proofs.lemmas.Bool.{eqb-true, eq-eqb}
-use Rattle.std.proofs.lemmas.List.Folds.{Any-from_list_any, list_any-from_Any}
-use Rattle.std.proofs.lemmas.Option.{slice_get_read, slice_get_within, get_or_from_slice_get}
+use Rattle.std.proofs.Common.{ℕ, ◌≡◌, ◌↔◌, Bool, true, false, ◌&&◌, length, refl, sym, ap, subst, ◌∙◌, Contains, IsTrue, ◌==◌}
+use Rattle.lists.proofs.Words.{list_any, eqb-true, eq-eqb, Any-from_list_any, slice_get_read, slice_get_within, get_or_from_slice_get}
+use Rattle.std.proofs.lemmas.List.Folds.{list_any-from_Any}
 use Rattle.library_model.specs.declared.element.Shape.{Shape}
-use Rattle.map_model.specs.LayerMap.{LayerMap, MappedLayer, IsMappedTo, layers_of}
+use Rattle.map_model.specs.MapNames.{LayerMap, MappedLayer, IsMappedTo, layers_of}
 use Rattle.flatten.specs.Structures.{is_mapped}
 
 both : (a b : Bool) → (a && b) ≡ true → (a ≡ true) × (b ≡ true)

@@ -1,18 +1,12 @@
 -- the limits of a top, by what is kept of its weight
-use Rattle.std.proofs.Common.{ℕ, suc, ◌+◌, ◌≤◌, ◌<◌, ◌≡◌, ◌⊎◌, inl, inr, List, [], ◌∷◌, length, get_or, Vec, refl, sym, ap, ◌∙◌, arith}
-use Rattle.std.specs.Prelude.{All}
-use Rattle.std.specs.Global.{Global}
-use Rattle.std.specs.Option.{option_map_or}
+use Rattle.std.proofs.Common.{ℕ, suc, ◌+◌, ◌≤◌, ◌<◌, ◌≡◌, ◌⊎◌, inl, inr, List, [], ◌∷◌, length, get_or, Vec, refl, sym, ap, ◌∙◌, arith, All}
+use Rattle.lists.proofs.Words.{Global, option_map_or, cases_lt, slice_get-get_or, sum_by-cons, All-nil, All-cons}
 use Rattle.std.proofs.Math.ListN.{get_or-eq_default}
-use Rattle.std.proofs.lemmas.Bool.{cases_lt}
-use Rattle.std.proofs.lemmas.Option.{slice_get-get_or}
-use Rattle.std.proofs.lemmas.List.Sums.{sum_by-cons}
-use Rattle.std.proofs.lemmas.List.Elements.{All-nil, All-cons}
 use Rattle.first_refusal.specs.Outcomes.{refused}
 use Rattle.first_refusal.specs.Checks.{one_fails}
 use Rattle.library_model.specs.Names.{names_of}
 use Rattle.library_model.specs.declared.library.Structure.{Structure}
-use Rattle.map_model.specs.LayerMap.{LayerMap}
+use Rattle.map_model.specs.MapNames.{LayerMap}
 use Rattle.flatten.specs.Structures.{offset_of}
 use Rattle.flatten.specs.Routes.{Route}
 use Rattle.flatten.specs.inside.Parts.{AreNodes}

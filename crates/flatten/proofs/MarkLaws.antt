@@ -1,16 +1,7 @@
 -- marks and the parts that lead to what is marked
-use Rattle.std.proofs.Common.{ℕ, ◌+◌, ◌<◌, ◌≡◌, ◌⊎◌, inl, inr, Bool, true, false, List, [], ◌∷◌, ◌++◌, length, get_or, set, take, Vec, sym, ap, subst, ◌∙◌}
-use Rattle.std.specs.Prelude.{Contains}
-use Rattle.std.specs.Borrow.{Bor}
-use Rattle.std.proofs.lemmas.List.{take_more, get_or-set_same, get_or-set_other}
-use Rattle.std.proofs.lemmas.List.Elements.{Contains-append_left, Contains-append_right, Contains-append_cases}
-use Rattle.std.specs.Global.{Global}
-use Rattle.std.specs.Option.{option_map_or}
-use Rattle.std.proofs.lemmas.Bool.{cases_lt}
-use Rattle.std.proofs.lemmas.Option.{slice_get_past}
+use Rattle.std.proofs.Common.{ℕ, ◌+◌, ◌<◌, ◌≡◌, ◌⊎◌, inl, inr, Bool, true, false, List, [], ◌∷◌, ◌++◌, length, get_or, set, take, Vec, sym, ap, subst, ◌∙◌, Contains, get_or-set_same, get_or-set_other, MatchOption, Option, Some, None, is_some}
+use Rattle.lists.proofs.Words.{Bor, take_more, Contains-append_left, Contains-append_right, Contains-append_cases, Global, option_map_or, cases_lt, slice_get_past}
 use Rattle.flatten.specs.inside.Parts.{LeadsTo, parts_at}
-use Rattle.std.specs.Prelude.{MatchOption, Option, Some, None}
-use Rattle.std.specs.Option.{is_some}
 use Rattle.library_model.specs.declared.library.Structure.{Structure}
 use Rattle.flatten.specs.declared.fault.PlaceFault.TheVariants.{ManyTops}
 use Rattle.flatten.specs.Structures.{offset_of}

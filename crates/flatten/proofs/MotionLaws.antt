@@ -1,9 +1,8 @@
 -- turns of shifted points, and how far they shift
-use Rattle.std.proofs.Common.{ℕ, zero, suc, ◌+◌, ◌*◌, ◌≤◌, ◌^◌, ◌≡◌, Bool, true, false, refl, sym, ap, subst, ◌∙◌, arith}
-use Rattle.std.specs.Prelude.{ℤ, pos, negsuc, neg_ℤ, ◌+ℤ◌, nat_abs, if◌then◌else◌}
+use Rattle.std.proofs.Common.{ℕ, zero, suc, ◌+◌, ◌*◌, ◌≤◌, ◌^◌, ◌≡◌, Bool, true, false, refl, sym, ap, subst, ◌∙◌, arith, ℤ, pos, negsuc, neg_ℤ, ◌+ℤ◌, nat_abs, if◌then◌else◌}
+use Rattle.lists.proofs.Words.{ints}
 use Rattle.std.proofs.Math.IntN.{+ℤ_assoc}
-use Rattle.std.proofs.lemmas.Int.{ints}
-use Rattle.geo_core.specs.Turns.{mirror_image, quarter_turn, quarter_turns, image_under}
+use Rattle.geo_core.specs.Plane.{mirror_image, quarter_turn, quarter_turns, image_under}
 use Rattle.geo_core.specs.declared.plane.Point.{Point}
 use Rattle.geo_core.specs.declared.plane.Turn.{Turn}
 use Rattle.flatten.specs.Steps.{shifted}

@@ -1,8 +1,7 @@
 -- steps one after the other are one motion, and what a motion moves tells the motion
-use Rattle.std.proofs.Common.{ℕ, zero, suc, ◌+◌, ◌-◌, ◌%◌, ◌<◌, ◌≡◌, Bool, true, false, not, List, [], ◌∷◌, refl, sym, ap, ◌∙◌, arith}
-use Rattle.std.specs.Prelude.{ℤ, pos, negsuc, ◌+ℤ◌, if◌then◌else◌}
-use Rattle.std.proofs.lemmas.Int.{ints}
-use Rattle.geo_core.specs.Turns.{mirror_image, quarter_turn, quarter_turns, image_under}
+use Rattle.std.proofs.Common.{ℕ, zero, suc, ◌+◌, ◌-◌, ◌%◌, ◌<◌, ◌≡◌, Bool, true, false, not, List, [], ◌∷◌, refl, sym, ap, ◌∙◌, arith, ℤ, pos, negsuc, ◌+ℤ◌, if◌then◌else◌}
+use Rattle.lists.proofs.Words.{ints}
+use Rattle.geo_core.specs.Plane.{mirror_image, quarter_turn, quarter_turns, image_under}
 use Rattle.geo_core.specs.declared.plane.Point.{Point}
 use Rattle.geo_core.specs.declared.plane.Turn.{Turn}
 use Rattle.geo_core.proofs.TurnLaws.{after_mirror, after_plain}

@@ -1,22 +1,17 @@
 -- the parts of structures
-use Rattle.std.proofs.Common.{ℕ, ◌+◌, ◌<◌, ◌≡◌, List, [], ◌∷◌, ◌++◌, length, get_or, take, refl, sym, ap, subst, ◌∙◌, arith}
-use Rattle.std.specs.Prelude.{IsSome, false, Option, Some, None, option_to_list}
-use Rattle.std.specs.Borrow.{Bor}
-use Rattle.std.specs.List.{enumerate_from}
-use Rattle.std.proofs.lemmas.List.{take_more}
+use Rattle.std.proofs.Common.{ℕ, ◌+◌, ◌<◌, ◌≡◌, List, [], ◌∷◌, ◌++◌, length, get_or, take, refl, sym, ap, subst, ◌∙◌, arith, IsSome, false, Option, Some, None, option_to_list}
+use Rattle.lists.proofs.Words.{Bor, enumerate_from, take_more, length-enumerate_from, get_or-enumerate_from}
 use Rattle.first_refusal.specs.Checks.{IsRefusalOfFirst}
 use Rattle.first_refusal.proofs.CheckLaws.{fails_at_once}
 use Rattle.library_model.specs.Names.{place_of}
 use Rattle.library_model.specs.declared.element.Element.TheVariants.{Shape as shape_element, Reference as reference_element}
 use Rattle.library_model.specs.declared.element.Shape.{Shape}
 use Rattle.library_model.specs.declared.element.Reference.{Reference}
-use Rattle.map_model.specs.LayerMap.{IsMappedTo}
+use Rattle.map_model.specs.MapNames.{IsMappedTo, LayerMap}
 use Rattle.flatten.specs.Structures.{is_mapped, references_in}
 use Rattle.flatten.specs.declared.fault.PlaceFault.TheVariants.{UnknownStructure}
 use Rattle.flatten.specs.declared.part.Part.TheVariants.{End, Copies}
-use Rattle.std.proofs.lemmas.List.FromFn.{length-enumerate_from, get_or-enumerate_from}
 use Rattle.library_model.specs.declared.element.Element.{Element}
-use Rattle.map_model.specs.LayerMap.{LayerMap}
 use Rattle.flatten.specs.declared.part.Part.{Part}
 use Rattle.flatten.specs.inside.Parts.{AreParts, IsKnown, no_more, passed_over, ends_there, goes_on}
 

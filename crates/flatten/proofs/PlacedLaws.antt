@@ -1,31 +1,53 @@
 -- the placement of a library, from what its plan and its expansion say
-use Rattle.std.proofs.Common.{ℕ, ◌≡◌, ◌≢◌, List, [], ◌∷◌, ◌++◌, map, Option, refl, sym, ap, subst}
-use Rattle.std.specs.Prelude.{All}
-use Rattle.std.specs.List.{AllZip}
-use Rattle.std.proofs.lemmas.List.{append-nil}
-use Rattle.std.proofs.lemmas.List.Elements.{All-append, All-map}
+use Rattle.std.proofs.Common.{ℕ, ◌<◌, length, arith, ◌∙◌, ◌≡◌, ◌≢◌, List, [], ◌∷◌, ◌++◌, map, Option, refl, sym, ap, subst, All}
+use Rattle.lists.proofs.Words.{AllZip, append-nil, All-append, All-map}
 use Rattle.first_refusal.specs.Outcomes.{refused, goes_on}
 use Rattle.first_refusal.specs.Checks.{IsRefusalOfFirst, all_hold, one_fails}
 use Rattle.library_model.specs.declared.library.Structure.{Structure}
-use Rattle.map_model.specs.LayerMap.{LayerMap}
+use Rattle.map_model.specs.MapNames.{LayerMap}
 use Rattle.flatten.specs.Routes.{Route, routes}
 use Rattle.flatten.specs.Placements.{Placing, PlacingFrom, TopCheck, TopHolds, top_checks, top_fault, is_shallow, is_small, is_in_range, PlacesInRange, placed_routes}
 use Rattle.flatten.specs.Placed.{ArePlaced, IsEndOf}
 use Rattle.flatten.specs.inside.Ends.{node_routes}
 use Rattle.flatten.specs.inside.Plans.{IsPlan}
-use Rattle.flatten.specs.inside.Expansions.{AddsEnds, IsFirstBeyond, behind_steps}
+use Rattle.flatten.specs.inside.Expansions.{AddsEnds, HasLibrary, IsFirstBeyond, IsFollowed, behind_steps}
+use Rattle.flatten.specs.inside.Parts.{Nodes}
+use Rattle.flatten.specs.inside.Prunings.{AreNodesDone, IsPruned}
 use Rattle.flatten.specs.declared.fault.PlaceFault.{PlaceFault}
 use Rattle.flatten.specs.declared.fault.PlaceFault.TheVariants.{OutOfRange, Memory}
 use Rattle.flatten.specs.declared.placed.Placed.{Placed}
 use Rattle.flatten.specs.declared.plan.Plan.{Plan}
 use Rattle.flatten.proofs.CountLaws.{routes_alike}
 use Rattle.flatten.proofs.FirstLaws.{refused_within}
+use Rattle.flatten.proofs.ExpansionLaws.{have_layers}
+use Rattle.flatten.proofs.PlanLaws.{nodes_long}
+use Rattle.flatten.proofs.PruningLaws.{pruned_below, pruned_layers, pruned_routes}
 use Rattle.flatten.proofs.ChoiceLaws.{first_said}
 
 -- routes behind no steps
-pub behind_none : (routes : List Route) → map (behind_steps []) routes ≡ routes
+behind_none : (routes : List Route) → map (behind_steps []) routes ≡ routes
 behind_none [] = refl
 behind_none (route ∷ routes) = ap (λ rs. route ∷ rs) (behind_none routes)
+
+-- a plan whose graph is pruned
+module _ (plan : Plan) (has : HasLibrary plan) where
+  pub all_done : AreNodesDone plan.states.items plan.nodes.items
+  all_done one reference target there =
+      has.2.planned.done target (let h = has.2.planned.surveyed.below one reference target there in omega (arith, nodes_long has.0 has.1 plan.nodes.items has.2.planned.surveyed.nodes_are))
+
+  module _ (pruned : Nodes) (is : IsPruned plan.nodes.items pruned) where
+    pub still_followed : IsFollowed pruned
+    still_followed = record {
+      below = pruned_below plan.nodes.items pruned is has.2.planned.surveyed.below;
+      layer_map = has.1;
+      layers = pruned_layers plan.nodes.items pruned is has.1 (have_layers has.0 has.1 plan.nodes.items has.2.planned.surveyed.nodes_are);
+    }
+
+    pub still_there : plan.top < length pruned
+    still_there = let within = has.2.planned.chosen.0 in omega (arith, nodes_long has.0 has.1 plan.nodes.items has.2.planned.surveyed.nodes_are, is.long)
+
+    pub routes_behind_none : (k : ℕ) → map (behind_steps []) (node_routes pruned k plan.top) ≡ node_routes plan.nodes.items k plan.top
+    routes_behind_none k = behind_none (node_routes pruned k plan.top) ∙ pruned_routes plan.nodes.items pruned is k plan.top
 
 module _ (structures : List Structure) (layer_map : LayerMap) (wanted : Option (List ℕ)) (plan : Plan) (is : IsPlan structures layer_map wanted plan) where
   abbrev all : List Route

@@ -1,18 +1,16 @@
 -- the placed shapes of a library are one list, and there is one where it is not refused
 use Rattle.std.proofs.Common.{ℕ, ◌≡◌, Bool, true, false, cond, List, [], ◌∷◌, Option, refl, sym, ap, ◌∙◌, subst}
-use Rattle.std.specs.List.{AllZip}
+use Rattle.lists.proofs.Words.{AllZip}
 use Rattle.first_refusal.specs.Laws.{IsUnique}
 use Rattle.first_refusal.specs.Outcomes.{value, goes_on}
 use Rattle.first_refusal.specs.Checks.{all_hold}
 use Rattle.library_model.specs.declared.library.Structure.{Structure}
-use Rattle.map_model.specs.LayerMap.{LayerMap, layers_of}
-use Rattle.map_model.specs.Layers.{pairs_of}
+use Rattle.map_model.specs.MapNames.{LayerMap, layers_of, pairs_of}
 use Rattle.lists.specs.Differing.{AreDifferent}
 use Rattle.map_model.proofs.MappedLaws.{pair_tells_layer}
 use Rattle.flatten.specs.Structures.{is_mapped}
 use Rattle.flatten.specs.Routes.{Route, mapped_routes, routes as all_routes}
 use Rattle.flatten.specs.Placements.{Placing, PlacingFrom, placed_routes}
-use Rattle.flatten.specs.declared.limits.TheConstants.{MOST_STEPS}
 use Rattle.flatten.specs.Placed.{IsEndOf, ArePlaced}
 use Rattle.flatten.specs.declared.motion.Motion.{Motion}
 use Rattle.flatten.specs.declared.placed.Placed.{Placed}
@@ -82,7 +80,7 @@ module _ (layer_map : LayerMap) where
 
   module _ (structures : List Structure) where
     ends_from : (top : ℕ) (routes : List Route) → PlacingFrom structures top (placed_routes structures layer_map top) (value routes) → HaveEnds routes
-    ends_from top _ (all_hold {v = routes} all is) = subst HaveEnds (sym is) (have_ends (all_routes structures MOST_STEPS top))
+    ends_from top _ (all_hold {v = routes} all is) = subst HaveEnds (sym is) (have_ends (all_routes structures 256 top))
 
     pub placed_shapes_exist : (wanted : Option (List ℕ)) (routes : List Route) → Placing structures layer_map wanted (value routes) → (placed : List Placed)
         × ArePlaced structures layer_map wanted placed

@@ -1,14 +1,12 @@
 -- what a placement comes to
-use Rattle.std.proofs.Common.{ℕ, ◌<◌, ◌≡◌, inl, inr, List, ◌∷◌, length, map, Option, Some, None, refl, sym, ◌∙◌, arith}
-use Rattle.std.specs.Prelude.{All, Contains, IsSome}
-use Rattle.std.proofs.lemmas.List.Elements.{Contains-append_left, Contains-append_right, All-contains}
-use Rattle.std.proofs.lemmas.Bool.{cases_lt}
+use Rattle.std.proofs.Common.{ℕ, ◌<◌, ◌≡◌, inl, inr, List, ◌∷◌, length, map, Option, Some, None, refl, sym, ◌∙◌, arith, All, Contains, IsSome}
+use Rattle.lists.proofs.Words.{Contains-append_left, Contains-append_right, All-contains, cases_lt}
 use Rattle.first_refusal.specs.Laws.{IsUnique, CannotLack}
 use Rattle.first_refusal.proofs.CheckLaws.{checks_agree, checks_cannot_lack}
 use Rattle.first_refusal.proofs.StageLaws.{stages_agree, stages_cannot_lack}
 use Rattle.library_model.specs.Names.{names_of, place_of}
 use Rattle.library_model.specs.declared.library.Structure.{Structure}
-use Rattle.map_model.specs.LayerMap.{LayerMap}
+use Rattle.map_model.specs.MapNames.{LayerMap}
 use Rattle.flatten.specs.Structures.{all_references, numbers_of}
 use Rattle.flatten.specs.ReferenceChains.{IsEndless}
 use Rattle.flatten.specs.Tops.{IsTop, HasTop, IsNoOtherTop, IsUnnamed, IsOnlyUnnamed}

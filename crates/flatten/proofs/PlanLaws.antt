@@ -1,12 +1,10 @@
 -- what each stage of a plan comes to, by the names that the index has
-use Rattle.std.proofs.Common.{ℕ, ◌<◌, ◌≡◌, List, length, Vec, Option, sym, subst, arith}
-use Rattle.std.specs.Prelude.{All}
-use Rattle.std.specs.Global.{Global}
-use Rattle.std.proofs.lemmas.Slice.Zip.{AllZip-long}
+use Rattle.std.proofs.Common.{ℕ, ◌<◌, ◌≡◌, List, length, Vec, Option, sym, subst, arith, All}
+use Rattle.lists.proofs.Words.{Global, AllZip-long}
 use Rattle.first_refusal.specs.Outcomes.{refused}
 use Rattle.library_model.specs.Names.{names_of}
 use Rattle.library_model.specs.declared.library.Structure.{Structure}
-use Rattle.map_model.specs.LayerMap.{LayerMap}
+use Rattle.map_model.specs.MapNames.{LayerMap}
 use Rattle.flatten.specs.Structures.{all_references}
 use Rattle.flatten.specs.inside.Parts.{AreNodes, IsKnown, AreNodesBelow}
 use Rattle.flatten.specs.inside.Surveys.{AreSettled, IsFirstEndless, state_of}

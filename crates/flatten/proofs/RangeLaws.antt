@@ -1,9 +1,8 @@
 -- ranges of placed points
-use Rattle.std.proofs.Common.{◌≡◌, ◌↔◌, Bool, false, sym, subst}
-use Rattle.std.specs.Prelude.{ℤ, neg_ℤ, ◌≤ℤ◌, IsTrue}
+use Rattle.std.proofs.Common.{◌≡◌, ◌↔◌, Bool, false, sym, subst, ℤ, neg_ℤ, ◌≤ℤ◌, IsTrue}
 use Rattle.geo_core.specs.declared.bounds.TheConstants.{FARTHEST}
 use Rattle.geo_core.specs.declared.plane.Point.{Point}
-use Rattle.geo_core.specs.Bounds.{IsInRange}
+use Rattle.geo_core.specs.Plane.{IsInRange}
 
 -- the coordinate is near enough to 0
 abbrev pub IsNear : ℤ → Type 0

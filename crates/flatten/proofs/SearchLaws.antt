@@ -1,16 +1,7 @@
 -- searches
-use Rattle.std.proofs.Common.{ℕ, zero, suc, ◌+◌, ◌≤◌, ◌<◌, ◌≡◌, ◌≢◌, inl, inr, List, [], ◌∷◌, ◌++◌, length, get_or, set, refl, sym, ap, subst, ◌∙◌, Vec, arith, length-append}
-use Rattle.std.specs.Prelude.{All, Contains, sum_by}
-use Rattle.std.specs.Borrow.{Bor}
-use Rattle.std.specs.Global.{Global}
-use Rattle.std.proofs.Math.ListN.{length-set, get_or-append}
-use Rattle.std.proofs.Math.Seq.{get_or-append_seam}
-use Rattle.std.specs.Option.{option_map_or}
-use Rattle.std.proofs.lemmas.Bool.{cases_lt}
-use Rattle.std.proofs.lemmas.Option.{slice_get_read}
-use Rattle.std.proofs.lemmas.List.{get_or-set_same, get_or-set_other, get_or_default}
-use Rattle.std.proofs.lemmas.List.Sums.{sum_by-set}
-use Rattle.std.proofs.lemmas.List.Elements.{All-append, All-cons, All-nil, Contains-append_left, Contains-append_right, Contains-append_cases}
+use Rattle.std.proofs.Common.{ℕ, zero, suc, ◌+◌, ◌≤◌, ◌<◌, ◌≡◌, ◌≢◌, inl, inr, List, [], ◌∷◌, ◌++◌, length, get_or, set, refl, sym, ap, subst, ◌∙◌, Vec, arith, length-append, All, Contains, sum_by, length-set, get_or-set_same, get_or-set_other}
+use Rattle.lists.proofs.Words.{Bor, Global, get_or-append_seam, option_map_or, cases_lt, slice_get_read, get_or_default, sum_by-set, All-append, All-cons, All-nil, Contains-append_left, Contains-append_right, Contains-append_cases}
+use Rattle.std.proofs.Math.ListN.{get_or-append}
 use Rattle.library_model.specs.declared.element.Reference.{Reference}
 use Rattle.flatten.specs.declared.part.Part.{Part}
 use Rattle.flatten.specs.declared.part.Part.TheVariants.{Copies}

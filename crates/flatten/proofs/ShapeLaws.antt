@@ -1,14 +1,13 @@
 -- one placed shape
-use Rattle.std.proofs.Common.{ℕ, ◌≡◌, ◌↔◌, Bool, true, false, List, [], ◌∷◌, refl, sym, subst}
-use Rattle.std.specs.Prelude.{All, IsTrue}
-use Rattle.std.proofs.lemmas.List.Elements.{All-weaker}
+use Rattle.std.proofs.Common.{ℕ, ◌≡◌, ◌↔◌, Bool, true, false, List, [], ◌∷◌, refl, sym, subst, All, IsTrue}
+use Rattle.lists.proofs.Words.{All-weaker}
 use Rattle.library_model.specs.declared.element.Shape.{Shape}
 use Rattle.first_refusal.proofs.CheckLaws.{fails_at_once}
 use Rattle.flatten.specs.Steps.{Step, moved_along}
 use Rattle.flatten.specs.Routes.{Route}
 use Rattle.flatten.specs.Motions.{MovesAlong, image_by}
 use Rattle.flatten.specs.Placements.{PlacesInRange}
-use Rattle.geo_core.specs.Bounds.{IsInRange}
+use Rattle.geo_core.specs.Plane.{IsInRange}
 use Rattle.flatten.specs.inside.Expansions.{IsFirstBeyond}
 use Rattle.flatten.specs.declared.fault.PlaceFault.TheVariants.{OutOfRange}
 use Rattle.flatten.specs.declared.motion.Motion.{Motion}

@@ -1,9 +1,8 @@
 -- where the steps of a reference move points
-use Rattle.std.proofs.Common.{ℕ, ◌≡◌, true, refl, ap, ◌∙◌, Option, Some, None, arith}
-use Rattle.std.specs.Prelude.{ℤ, pos, neg_ℤ, ◌+ℤ◌, ◌*ℤ◌, if◌then◌else◌}
+use Rattle.std.proofs.Common.{ℕ, ◌≡◌, true, refl, ap, ◌∙◌, Option, Some, None, arith, ℤ, pos, neg_ℤ, ◌+ℤ◌, ◌*ℤ◌, if◌then◌else◌}
+use Rattle.lists.proofs.Words.{ints}
 use Rattle.std.proofs.Math.IntN.{zero-*ℤ}
-use Rattle.std.proofs.lemmas.Int.{ints}
-use Rattle.geo_core.specs.Turns.{mirror_image, quarter_turns, image_under}
+use Rattle.geo_core.specs.Plane.{mirror_image, quarter_turns, image_under}
 use Rattle.geo_core.specs.declared.plane.Point.{Point}
 use Rattle.geo_core.proofs.TurnLaws.{neg-neg}
 use Rattle.library_model.specs.declared.element.Lattice.{Lattice}

@@ -1,12 +1,10 @@
 -- the top: the structure of the wanted name, or the one that is not marked, where those are marked to which parts lead
-use Rattle.std.proofs.Common.{ℕ, ◌<◌, ◌≡◌, inl, inr, Bool, List, length, Vec, Some, None, refl, sym, subst, ◌∙◌, arith}
-use Rattle.std.specs.Prelude.{All, IsSome}
-use Rattle.std.specs.Global.{Global}
-use Rattle.std.proofs.lemmas.Slice.Zip.{AllZip-long}
+use Rattle.std.proofs.Common.{ℕ, ◌<◌, ◌≡◌, inl, inr, Bool, List, length, Vec, Some, None, refl, sym, subst, ◌∙◌, arith, All, IsSome}
+use Rattle.lists.proofs.Words.{Global, AllZip-long}
 use Rattle.first_refusal.specs.Outcomes.{refused}
 use Rattle.library_model.specs.Names.{names_of, place_of}
 use Rattle.library_model.specs.declared.library.Structure.{Structure}
-use Rattle.map_model.specs.LayerMap.{LayerMap}
+use Rattle.map_model.specs.MapNames.{LayerMap}
 use Rattle.flatten.specs.Structures.{all_references, numbers_of, targets_of}
 use Rattle.flatten.specs.ReferenceChains.{IsEndless}
 use Rattle.flatten.specs.Tops.{IsUnnamed, IsOnlyUnnamed, IsNoOtherTop, HasTop}

@@ -1,9 +1,6 @@
 -- weights of parts
-use Rattle.std.proofs.Common.{ℕ, suc, ◌+◌, ◌≤◌, ◌<◌, ◌≡◌, inl, inr, max, List, [], ◌∷◌, length, get_or, drop, add-one, sym, ap, subst, ◌∙◌, arith}
-use Rattle.std.specs.Prelude.{Contains}
-use Rattle.std.specs.Borrow.{Bor}
-use Rattle.std.proofs.Math.Seq.{drop-cons}
-use Rattle.std.proofs.lemmas.List.{drop_all}
+use Rattle.std.proofs.Common.{ℕ, suc, ◌+◌, ◌≤◌, ◌<◌, ◌≡◌, inl, inr, max, List, [], ◌∷◌, length, get_or, drop, add-one, sym, ap, subst, ◌∙◌, arith, Contains}
+use Rattle.lists.proofs.Words.{Bor, drop-cons, drop_all}
 use Rattle.library_model.specs.declared.element.Reference.{Reference}
 use Rattle.flatten.specs.declared.part.Part.{Part}
 use Rattle.flatten.specs.declared.part.Part.TheVariants.{Copies}

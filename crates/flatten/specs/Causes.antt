@@ -3,13 +3,12 @@ use Rattle.std.specs.Prelude.{ℕ, List, [], ◌≡◌, ◌<◌, ◌⊎◌, leng
 use Rattle.library_model.specs.Names.{names_of, place_of}
 use Rattle.library_model.specs.declared.element.Reference.{Reference}
 use Rattle.library_model.specs.declared.library.Structure.{Structure}
-use Rattle.map_model.specs.LayerMap.{LayerMap}
+use Rattle.map_model.specs.MapNames.{LayerMap}
 use Rattle.flatten.specs.Structures.{all_references, offset_of, target_of}
 use Rattle.flatten.specs.ReferenceChains.{StartsChain, IsEndless}
 use Rattle.flatten.specs.Tops.{IsTop, IsUnnamed}
 use Rattle.flatten.specs.Routes.{Route, point_count}
 use Rattle.flatten.specs.Placements.{PlacesInRange, placed_routes}
-use Rattle.flatten.specs.declared.limits.TheConstants.{MOST_STEPS, MOST_SHAPES, MOST_POINTS}
 use Rattle.flatten.specs.declared.fault.PlaceFault.{PlaceFault}
 use Rattle.flatten.specs.declared.fault.PlaceFault.TheVariants.{UnknownStructure, Cycle, NoTop, ManyTops, TooDeep, TooManyShapes, OutOfRange, Memory}
 
@@ -20,10 +19,10 @@ pub record IsSecondTop (structures : List Structure) (earlier one : ℕ) : Type 
   pub earlier_unnamed : IsUnnamed structures earlier
   pub before : earlier < one
 
--- a chain from the structure has more references than a route may have
+-- a chain from the structure has more than 256 references
 pub record IsDeep (structures : List Structure) (top : ℕ) : Type 0 where
   pub references : ℕ
-  pub more : MOST_STEPS < references
+  pub more : 256 < references
   pub chain : StartsChain structures references top
 
 -- what the fault tells, which shows at the offset of a reference, a structure or a shape
@@ -39,8 +38,8 @@ Tells structures layer_map wanted (TooDeep at) = (top : ℕ) × IsTop structures
     × IsDeep structures top
 Tells structures layer_map wanted (TooManyShapes at) =
     (top : ℕ) × IsTop structures wanted top × (offset_of structures top ≡ at)
-    × ((MOST_SHAPES < length (placed_routes structures layer_map top))
-    ⊎ (MOST_POINTS < point_count (placed_routes structures layer_map top)))
+    × ((1000000 < length (placed_routes structures layer_map top))
+    ⊎ (8000000 < point_count (placed_routes structures layer_map top)))
 Tells structures layer_map wanted (OutOfRange at) =
     (top : ℕ) × IsTop structures wanted top
     × (route : Route) × Contains (placed_routes structures layer_map top) route × (route.shape.at ≡ at) × (PlacesInRange route → ⊥)

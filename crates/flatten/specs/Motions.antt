@@ -1,6 +1,6 @@
 -- motions: a turn and then a shift, for as many steps as there are
 use Rattle.std.specs.Prelude.{ℕ, List, ◌≡◌, ◌≤◌, ◌*◌, ◌^◌, nat_abs}
-use Rattle.geo_core.specs.Turns.{image_under}
+use Rattle.geo_core.specs.Plane.{image_under}
 use Rattle.geo_core.specs.declared.plane.Point.{Point}
 use Rattle.flatten.specs.Steps.{Step, shifted, moved_along}
 use Rattle.flatten.specs.declared.motion.Motion.{Motion}

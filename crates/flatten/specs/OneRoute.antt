@@ -1,6 +1,6 @@
 -- what one route is, apart from any list of routes
 use Rattle.std.specs.Prelude.{ℕ, List, [], ◌∷◌, ◌≡◌, ◌<◌, Contains, Some}
-use Rattle.std.specs.List.{enumerate_from}
+use Rattle.lists.specs.Words.{enumerate_from}
 use Rattle.library_model.specs.declared.element.Element.TheVariants.{Shape as shape_element}
 use Rattle.library_model.specs.declared.library.Structure.{Structure}
 use Rattle.flatten.specs.Structures.{elements_of, references_among, target_of}

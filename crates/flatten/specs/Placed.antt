@@ -1,9 +1,9 @@
 -- placed shapes as the ends of routes
 use Rattle.std.specs.Prelude.{ℕ, List, Option, ◌≡◌}
-use Rattle.std.specs.List.{AllZip}
+use Rattle.lists.specs.Words.{AllZip}
 use Rattle.first_refusal.specs.Outcomes.{value}
 use Rattle.library_model.specs.declared.library.Structure.{Structure}
-use Rattle.map_model.specs.LayerMap.{LayerMap, IsMappedTo}
+use Rattle.map_model.specs.MapNames.{LayerMap, IsMappedTo}
 use Rattle.flatten.specs.Routes.{Route}
 use Rattle.flatten.specs.Motions.{MovesAlong}
 use Rattle.flatten.specs.Placements.{Placing}

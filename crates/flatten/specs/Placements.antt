@@ -1,10 +1,10 @@
 -- The placement of a library's shapes: what is checked, one check after the other, the fault of each, and the routes to
 -- the shapes that are placed.
 use Rattle.std.specs.Prelude.{ℕ, List, ◌∷◌, ◌++◌, map, length, All, Option, IsSome, ◌≡◌, ◌≤◌}
-use Rattle.geo_core.specs.Bounds.{IsInRange}
+use Rattle.geo_core.specs.Plane.{IsInRange}
 use Rattle.library_model.specs.declared.element.Reference.{Reference}
 use Rattle.library_model.specs.declared.library.Structure.{Structure}
-use Rattle.map_model.specs.LayerMap.{LayerMap}
+use Rattle.map_model.specs.MapNames.{LayerMap}
 use Rattle.first_refusal.specs.Outcomes.{Outcome, Then}
 use Rattle.first_refusal.specs.Checks.{Checks}
 use Rattle.flatten.specs.Structures.{all_references, numbers_of, offset_of, target_of}
@@ -12,7 +12,6 @@ use Rattle.flatten.specs.Steps.{moved_along}
 use Rattle.flatten.specs.Routes.{Route, routes, mapped_routes, point_count}
 use Rattle.flatten.specs.ReferenceChains.{StartsChain, IsEndless}
 use Rattle.flatten.specs.Tops.{IsTop, HasTop, IsNoOtherTop}
-use Rattle.flatten.specs.declared.limits.TheConstants.{MOST_STEPS, MOST_SHAPES, MOST_POINTS}
 use Rattle.flatten.specs.declared.fault.PlaceFault.{PlaceFault}
 use Rattle.flatten.specs.declared.fault.PlaceFault.TheVariants.{UnknownStructure, Cycle, NoTop, ManyTops, TooDeep, TooManyShapes, OutOfRange}
 
@@ -49,14 +48,14 @@ pub data TopCheck : Type 0 where
   is_small : TopCheck
   is_in_range : Route → TopCheck
 
--- no chain of more references than a route may have starts at the structure
+-- no chain of more than 256 references starts at the structure
 abbrev pub IsShallow : List Structure → ℕ → Type 0
-IsShallow structures top = (n : ℕ) → StartsChain structures n top → n ≤ MOST_STEPS
+IsShallow structures top = (n : ℕ) → StartsChain structures n top → n ≤ 256
 
--- not too many shapes are placed, nor too many points
+-- at most a million shapes are placed, and eight million points in them
 pub record IsSmall (placed : List Route) : Type 0 where
-  pub few_shapes : length placed ≤ MOST_SHAPES
-  pub few_points : point_count placed ≤ MOST_POINTS
+  pub few_shapes : length placed ≤ 1000000
+  pub few_points : point_count placed ≤ 8000000
 
 -- each point of the route's shape is in range where the route places it
 abbrev pub PlacesInRange : Route → Type 0
@@ -64,7 +63,7 @@ PlacesInRange route = All (λ point. IsInRange (moved_along route.steps point)) 
 
 -- the routes from the top to shapes of mapped layers, in their order
 abbrev pub placed_routes : List Structure → LayerMap → ℕ → List Route
-placed_routes structures layer_map top = mapped_routes layer_map (routes structures MOST_STEPS top)
+placed_routes structures layer_map top = mapped_routes layer_map (routes structures 256 top)
 
 -- what each demands, where the routes to what the top places are these
 abbrev pub TopHolds : List Structure → ℕ → List Route → TopCheck → Type 0

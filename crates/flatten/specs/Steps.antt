@@ -1,7 +1,7 @@
 -- the steps of a placement, and where they move a point
 use Rattle.std.specs.Prelude.{ℕ, pos, ◌+ℤ◌, ◌*ℤ◌, List, [], ◌∷◌, map, flat_map, Option, Some, None}
-use Rattle.std.specs.List.{range_with_len}
-use Rattle.geo_core.specs.Turns.{image_under}
+use Rattle.lists.specs.Words.{range_with_len}
+use Rattle.geo_core.specs.Plane.{image_under}
 use Rattle.geo_core.specs.declared.plane.Point.{Point}
 use Rattle.library_model.specs.declared.element.Lattice.{Lattice}
 use Rattle.library_model.specs.declared.element.Reference.{Reference}

@@ -1,14 +1,13 @@
 -- Structures by their numbers: the place of each in the library, from 0. What a reference names becomes a number here, once.
 use Rattle.std.specs.Prelude.{ℕ, Bool, ◌==◌, ◌&&◌, List, [], ◌∷◌, flat_map, length, slice_get, Option, option_to_list}
-use Rattle.std.specs.List.{list_any, range_with_len}
-use Rattle.std.specs.Option.{option_map_or}
+use Rattle.lists.specs.Words.{list_any, range_with_len, option_map_or}
 use Rattle.library_model.specs.Names.{names_of, place_of}
 use Rattle.library_model.specs.declared.element.Element.{Element}
 use Rattle.library_model.specs.declared.element.Element.TheVariants.{Shape as shape_element, Reference as reference_element}
 use Rattle.library_model.specs.declared.element.Shape.{Shape}
 use Rattle.library_model.specs.declared.element.Reference.{Reference}
 use Rattle.library_model.specs.declared.library.Structure.{Structure}
-use Rattle.map_model.specs.LayerMap.{LayerMap, layers_of}
+use Rattle.map_model.specs.MapNames.{LayerMap, layers_of}
 
 -- the numbers of the structures
 abbrev pub numbers_of : List Structure → List ℕ

@@ -3,6 +3,7 @@ pub mod Expansions
 pub mod Marks
 pub mod Parts
 pub mod Plans
+pub mod Prunings
 pub mod Searches
 pub mod Surveys
 pub mod Weights

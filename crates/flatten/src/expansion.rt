@@ -6,14 +6,12 @@ ghost use Rattle.flatten.specs.Steps.{Step, columns_of, rows_of, steps_in_row, s
 ghost use Rattle.flatten.specs.Motions.{MovesAlong};
 ghost use Rattle.flatten.specs.inside.Parts.{parts_at};
 ghost use Rattle.flatten.specs.inside.Ends.{node_routes, part_routes, routes_below};
-ghost use Rattle.flatten.specs.inside.Expansions.{Adds, AddsEnds, HasLibrary, IsFirstBeyond, Refuses, copy_routes, route_to};
+ghost use Rattle.flatten.specs.inside.Expansions.{Adds, AddsEnds, IsFirstBeyond, IsFollowed, Refuses, copy_routes, route_to};
 ghost use Rattle.flatten.specs.declared.fault.PlaceFault.TheVariants.{Memory};
 
 use super::fault::PlaceFault;
 use super::part::Part;
 use super::placed::Placed;
-use super::plan::Plan;
-use super::pruning::is_barren;
 use super::ranges::are_in_range;
 use super::way::Way;
 use library_model::{Reference, Shape};
@@ -73,24 +71,24 @@ fn rows(reference: &Reference) -> u16
 /// Places what the copies in one row of a reference place.
 #[cycle(expansion)]
 fn expand_row(
-    plan: &Plan<'_>,
+    nodes: &[Vec<Part<'_>>],
     placed: &mut Vec<Placed>,
     way: Way,
     reference: &Reference,
     target: u32,
     row: u16,
 ) -> Result<(), PlaceFault>
-    requires planned { HasLibrary plan.now }
-    requires there { target < length plan.now.nodes.items }
+    requires followed { IsFollowed nodes.now }
+    requires there { target < length nodes.now }
     requires more { 1 ≤ way.left }
     requires few { row < 2 ^ 15 }
     ensures placed { IfOk result (λ _.
-        Adds plan.now.nodes.items way.motion (copy_routes plan.now.nodes.items (way.left - 1) target (steps_in_row reference.now row)) placed.old.items placed.new.items) }
+        Adds nodes.now way.motion (copy_routes nodes.now (way.left - 1) target (steps_in_row reference.now row)) placed.old.items placed.new.items) }
     ensures refused { IfErr result (λ fault.
-        Refuses way.motion (copy_routes plan.now.nodes.items (way.left - 1) target (steps_in_row reference.now row)) fault) }
+        Refuses way.motion (copy_routes nodes.now (way.left - 1) target (steps_in_row reference.now row)) fault) }
 {
     for column in 0..columns(reference) {
-        expand(plan, placed, way.on(reference, column, row), target)?;
+        expand(nodes, placed, way.on(reference, column, row), target)?;
     }
     Ok(())
 }
@@ -98,41 +96,40 @@ fn expand_row(
 /// Places what the copies of a reference place, row by row.
 #[cycle(expansion)]
 fn expand_copies(
-    plan: &Plan<'_>,
+    nodes: &[Vec<Part<'_>>],
     placed: &mut Vec<Placed>,
     way: Way,
     reference: &Reference,
     target: u32,
 ) -> Result<(), PlaceFault>
-    requires planned { HasLibrary plan.now }
-    requires there { target < length plan.now.nodes.items }
+    requires followed { IsFollowed nodes.now }
+    requires there { target < length nodes.now }
     requires more { 1 ≤ way.left }
     ensures placed { IfOk result (λ _.
-        Adds plan.now.nodes.items way.motion (copy_routes plan.now.nodes.items (way.left - 1) target (steps_of reference.now)) placed.old.items placed.new.items) }
+        Adds nodes.now way.motion (copy_routes nodes.now (way.left - 1) target (steps_of reference.now)) placed.old.items placed.new.items) }
     ensures refused { IfErr result (λ fault.
-        Refuses way.motion (copy_routes plan.now.nodes.items (way.left - 1) target (steps_of reference.now)) fault) }
+        Refuses way.motion (copy_routes nodes.now (way.left - 1) target (steps_of reference.now)) fault) }
 {
     for row in 0..rows(reference) {
-        expand_row(plan, placed, way, reference, target, row)?;
+        expand_row(nodes, placed, way, reference, target, row)?;
     }
     Ok(())
 }
 
-/// Places what a part of the structure with this number places. A reference to a structure that places nothing is passed
-/// over, however many copies it makes.
+/// Places what a part of the structure with this number places.
 #[cycle(expansion)]
 fn expand_part(
-    plan: &Plan<'_>,
+    nodes: &[Vec<Part<'_>>],
     placed: &mut Vec<Placed>,
     way: Way,
     one: u32,
     part: &Part<'_>,
 ) -> Result<(), PlaceFault>
-    requires planned { HasLibrary plan.now }
-    requires there { Contains (parts_at plan.now.nodes.items one) part.now }
+    requires followed { IsFollowed nodes.now }
+    requires there { Contains (parts_at nodes.now one) part.now }
     ensures placed { IfOk result (λ _.
-        Adds plan.now.nodes.items way.motion (part_routes (routes_below plan.now.nodes.items way.left) one part.now) placed.old.items placed.new.items) }
-    ensures refused { IfErr result (λ fault. Refuses way.motion (part_routes (routes_below plan.now.nodes.items way.left) one part.now) fault) }
+        Adds nodes.now way.motion (part_routes (routes_below nodes.now way.left) one part.now) placed.old.items placed.new.items) }
+    ensures refused { IfErr result (λ fault. Refuses way.motion (part_routes (routes_below nodes.now way.left) one part.now) fault) }
 {
     match part {
         Part::End {
@@ -143,10 +140,10 @@ fn expand_part(
         Part::Copies { reference, target } => {
             // Where chains are too long nothing is placed, so that a step is left whenever a reference comes. The test is what
             // ends the recursion.
-            if way.left == 0 || is_barren(plan, *target) {
+            if way.left == 0 {
                 return Ok(());
             }
-            expand_copies(plan, placed, way, reference, *target)
+            expand_copies(nodes, placed, way, reference, *target)
         }
     }
 }
@@ -154,19 +151,18 @@ fn expand_part(
 /// Places what the structure with this number places, part by part.
 #[cycle(expansion)]
 pub fn expand(
-    plan: &Plan<'_>,
+    nodes: &[Vec<Part<'_>>],
     placed: &mut Vec<Placed>,
     way: Way,
     one: u32,
 ) -> Result<(), PlaceFault>
-    requires planned { HasLibrary plan.now }
-    requires there { one < length plan.now.nodes.items }
-    ensures placed { IfOk result (λ _. Adds plan.now.nodes.items way.motion (node_routes plan.now.nodes.items way.left one) placed.old.items placed.new.items) }
-    ensures refused { IfErr result (λ fault. Refuses way.motion (node_routes plan.now.nodes.items way.left one) fault) }
+    requires followed { IsFollowed nodes.now }
+    requires there { one < length nodes.now }
+    ensures placed { IfOk result (λ _. Adds nodes.now way.motion (node_routes nodes.now way.left one) placed.old.items placed.new.items) }
+    ensures refused { IfErr result (λ fault. Refuses way.motion (node_routes nodes.now way.left one) fault) }
 {
-    let nodes = plan.nodes.as_slice();
     for part in nodes[one as usize].as_slice() {
-        expand_part(plan, placed, way, one, part)?;
+        expand_part(nodes, placed, way, one, part)?;
     }
     Ok(())
 }

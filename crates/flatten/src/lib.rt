@@ -4,8 +4,9 @@
 //!
 //! `place` works in three steps. A plan is made of the library: for each structure its shapes on mapped layers and its
 //! references, how long its longest chain of references is, and how many shapes and points it places (`plan`, `survey`).
-//! By these numbers the top is refused or not (`size`). Then the plan is followed from the top down, each reference as often
-//! as it makes copies, with one motion for all steps so far (`expansion`, `way`, `motion`).
+//! By these numbers the top is refused or not (`size`). Then what places nothing leaves the plan (`pruning`), and what is
+//! left is followed from the top down, each reference as often as it makes copies, with one motion for all steps so far
+//! (`expansion`, `way`, `motion`). So each copy that is walked places a shape.
 #![tactic(auto)]
 
 mod expansion;

@@ -8,3 +8,10 @@ pub const MOST_SHAPES: u64 = 1_000_000;
 
 /// More points than this in the placed shapes on mapped layers are refused.
 pub const MOST_POINTS: u64 = 8_000_000;
+
+// Definitions have the numbers themselves, so that a changed limit is refused here and where it is tested.
+const _: () = prove!(MOST_STEPS == 256);
+
+const _: () = prove!(MOST_SHAPES == 1_000_000);
+
+const _: () = prove!(MOST_POINTS == 8_000_000);

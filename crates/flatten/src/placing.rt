@@ -14,6 +14,7 @@ use super::expansion::expand;
 use super::fault::PlaceFault;
 use super::placed::Placed;
 use super::plan::{Plan, plan_of};
+use super::pruning::prune;
 use super::size::check_size;
 use super::summary::State;
 use super::way::Way;
@@ -32,15 +33,16 @@ fn shape_count(plan: &Plan<'_>) -> usize
     }
 }
 
-/// All that the top places.
-fn expanded(alloc: Global, plan: &Plan<'_>) -> Result<Vec<Placed>, PlaceFault>
-    requires { HasLibrary plan.now }
-    ensures placed { IfOk result (λ placed. (layer_map : LayerMap) → HaveLayers layer_map plan.now.nodes.items →
-        AddsEnds layer_map (node_routes plan.now.nodes.items 256 plan.now.top) [] placed.items) }
-    ensures refused { IfErr result (λ fault. fault ≢ Memory → IsFirstBeyond (node_routes plan.now.nodes.items 256 plan.now.top) fault) }
+/// All that the top places. What places nothing leaves the plan.
+fn expanded(alloc: Global, plan: &mut Plan<'_>) -> Result<Vec<Placed>, PlaceFault>
+    requires { HasLibrary plan.old }
+    ensures placed { IfOk result (λ placed. (layer_map : LayerMap) → HaveLayers layer_map plan.old.nodes.items →
+        AddsEnds layer_map (node_routes plan.old.nodes.items 256 plan.old.top) [] placed.items) }
+    ensures refused { IfErr result (λ fault. fault ≢ Memory → IsFirstBeyond (node_routes plan.old.nodes.items 256 plan.old.top) fault) }
 {
     let mut placed = Vec::with_capacity(alloc, shape_count(plan))?;
-    expand(plan, &mut placed, Way::at_top(), plan.top)?;
+    prune(plan.nodes.as_mut_slice(), plan.states.as_slice());
+    expand(plan.nodes.as_slice(), &mut placed, Way::at_top(), plan.top)?;
     Ok(placed)
 }
 
@@ -66,7 +68,7 @@ pub fn place(
     ensures refused { IfErr result (λ fault. fault ≢ Memory →
         Placing library.now.structures (layer_map_of map.now) (option_copied top.entry) (refused fault)) }
 {
-    let plan = plan_of(alloc, library, map, top)?;
+    let mut plan = plan_of(alloc, library, map, top)?;
     check_size(library.structures.as_slice(), &plan)?;
-    expanded(alloc, &plan)
+    expanded(alloc, &mut plan)
 }

@@ -1,5 +1,5 @@
 /// What is kept of a structure once it is surveyed. The height stands still at 257, and the counts at 8,000,001.
-#[derive(Clone, Copy, Debug, PartialEq, Eq)]
+#[derive(Clone, Copy)]
 pub struct Summary {
     /// How many references the longest chain from it has; 257 stands for more, too.
     pub height: u32,
@@ -10,7 +10,7 @@ pub struct Summary {
 }
 
 /// How far the survey of a structure has come.
-#[derive(Clone, Copy, Debug, PartialEq, Eq)]
+#[derive(Clone, Copy)]
 pub enum State {
     New,
     /// It is on the way from the structure at which the search began. The part at this place is next.

@@ -1,7 +1,6 @@
 -- The head of a record: what is spelled is read, and what is read is spelled so.
 use Rattle.std.proofs.Common.{◌≡◌, ℕ, ◌+◌, ◌-◌, ◌/◌, ◌%◌, ◌<◌, ◌≤◌, List, [], ◌∷◌, ◌++◌, length, get_or, take, drop, refl, sym, ap, subst, ◌∙◌, arith}
-use Rattle.std.proofs.lemmas.List.{take_at, drop_at, take-append-drop, length-take-le, length-drop, drop-drop}
-use Rattle.std.proofs.lemmas.List.Elements.{All-take, All-drop, All-from_get_or}
+use Rattle.lists.proofs.Words.{take_at, drop_at, take-append-drop, length-take-le, length-drop, drop-drop, All-take, All-drop, All-from_get_or}
 use Rattle.byteorder.specs.Numbers.{big_number-reads_back}
 use Rattle.gds_records.specs.Spelling.{Entry, HasSpelling, spelling}
 use Rattle.lists.specs.ByteLists.{IsByte, AreBytes}

@@ -1,6 +1,6 @@
 -- What is left in a reader where it meets a fault, and where it gives a record.
 use Rattle.std.proofs.Common.{◌≡◌, ◌↔◌, ℕ, ◌+◌, Bool, false, eqb, List, [], ◌∷◌, ◌++◌, length, drop, refl, sym, ap, subst, ◌∙◌}
-use Rattle.std.proofs.lemmas.List.{drop-drop, drop_at}
+use Rattle.lists.proofs.Words.{drop-drop, drop_at}
 use Rattle.gds_records.specs.declared.fault.RecordFault.{RecordFault}
 use Rattle.gds_records.specs.Spelling.{Entry, spelling}
 use Rattle.gds_records.specs.Profile.{IsInProfile}

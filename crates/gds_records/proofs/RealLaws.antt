@@ -1,10 +1,9 @@
 -- The size of a real, and its one whole value.
-use Rattle.std.proofs.Common.{◌≡◌, ◌≢◌, ℕ, zero, suc, ◌+◌, ◌-◌, ◌*◌, ◌/◌, ◌%◌, ◌^◌, ◌<◌, ◌≤◌, zero-add, refl, sym, ap, subst, ◌∙◌, arith}
-use Rattle.std.specs.Prelude.{List, ℤ, pos, ◌-ℤ◌, unsigned_abs, Option, Some, None, SomeIff, IfSome, IfNone, FitsSigned}
-use Rattle.std.specs.Int.{w64}
-use Rattle.std.proofs.lemmas.Nat.{pow-add, div-add-mod'}
+use Rattle.std.proofs.Common.{◌≡◌, ◌≢◌, ℕ, zero, suc, ◌+◌, ◌-◌, ◌*◌, ◌/◌, ◌%◌, ◌^◌, ◌<◌, ◌≤◌, zero-add, refl, sym, ap, subst, ◌∙◌, arith, List, ℤ, pos, ◌-ℤ◌, unsigned_abs, Option, Some, None, IfSome, IfNone, FitsSigned, w64}
+use Rattle.lists.proofs.Words.{pow-add, ints}
+use Rattle.std.specs.Prelude.{SomeIff}
+use Rattle.std.proofs.lemmas.Nat.{div-add-mod'}
 use Rattle.std.proofs.Math.Nat.{mul-div_cancel, mul_assoc, mul-mod_left, one-le-pow}
-use Rattle.std.proofs.lemmas.Int.{ints}
 use Rattle.byteorder.specs.Endian.{big_number}
 use Rattle.gds_records.specs.Reals.{sign_of, exponent_of, fraction_of, IsSize, signed, HasValue}
 

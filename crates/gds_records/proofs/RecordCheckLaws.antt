@@ -1,7 +1,6 @@
 -- Bytes have one fault at most. They begin with a record, and then have none, or they have a fault.
-use Rattle.std.proofs.Common.{◌≡◌, ℕ, ◌%◌, ◌<◌, ◌≤◌, ◌⊎◌, inl, inr, ◌-◌, List, ◌++◌, length, drop, All, refl, subst, arith}
-use Rattle.std.proofs.lemmas.Bool.{cases_lt}
-use Rattle.std.proofs.lemmas.List.{length-append}
+use Rattle.std.proofs.Common.{◌≡◌, ℕ, ◌%◌, ◌<◌, ◌≤◌, ◌⊎◌, inl, inr, ◌-◌, List, ◌++◌, length, drop, All, refl, subst, arith, length-append}
+use Rattle.lists.proofs.Words.{cases_lt}
 use Rattle.first_refusal.proofs.CheckLaws.{fails_at_once, fails_later, all_hold_or_one_fails, first_refusals_agree}
 use Rattle.gds_records.specs.declared.fault.RecordFault.{RecordFault}
 use Rattle.gds_records.specs.declared.fault.RecordFault.TheVariants.{Truncated, BadLength, BadRecord, BadSize}

@@ -1,15 +1,9 @@
 -- What the table has of a kind, and that the constants are the table, at the kinds' numbers.
-use Rattle.std.proofs.Common.{◌≡◌, ℕ, ◌%◌, ◌<◌, ◌≤◌, ◌⊎◌, inl, inr, true, List, get_or, refl, ap, subst, ◌∙◌, arith}
-use Rattle.std.specs.Prelude.{Option, Some, None, map, nat_eq, nat_lt, Contains}
-use Rattle.std.specs.List.{range_with_len, IsDistinct, list_all}
-use Rattle.std.specs.Map.{keys_of}
-use Rattle.std.proofs.lemmas.Bool.{eqb-true, ltb-true, cases_eq}
-use Rattle.std.proofs.lemmas.Cmp.{nat_eq_equiv}
-use Rattle.std.proofs.lemmas.List.FromFn.{get_or-map-range_with_len}
-use Rattle.std.proofs.lemmas.List.Elements.{All-contains}
-use Rattle.std.proofs.lemmas.List.Sums.{AllPass-from_list_all}
+use Rattle.std.proofs.Common.{◌≡◌, ℕ, ◌%◌, ◌<◌, ◌≤◌, ◌⊎◌, inl, inr, true, List, get_or, refl, ap, subst, ◌∙◌, arith, Option, Some, None, map, nat_eq, nat_lt, Contains}
+use Rattle.lists.proofs.Words.{range_with_len, list_all, keys_of, eqb-true, ltb-true, nat_eq_equiv, get_or-map-range_with_len, All-contains, AllPass-from_list_all, IsDistinct-from_count}
+use Rattle.std.specs.List.{IsDistinct}
+use Rattle.std.proofs.lemmas.Bool.{cases_eq}
 use Rattle.std.proofs.lemmas.Map.Views.{Contains-from_lookup, lookup-from_Contains}
-use Rattle.std.proofs.lemmas.Map.Made.{IsDistinct-from_count}
 use Rattle.gds_records.specs.declared.table.Rule.{Rule}
 use Rattle.gds_records.specs.declared.table.Sizes.{Sizes}
 use Rattle.gds_records.specs.declared.table.Sizes.TheVariants.{Any, Exactly, MultipleOfEight}

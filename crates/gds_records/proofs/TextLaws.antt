@@ -1,7 +1,7 @@
 -- A body has one text.
-use Rattle.std.proofs.Common.{◌≡◌, ◌≢◌, ℕ, suc, ◌+◌, ◌-◌, ◌<◌, ◌≤◌, inl, inr, List, [], ◌∷◌, ◌++◌, length, get_or, take, drop, All, refl, sym, ap, ◌∙◌, arith}
-use Rattle.std.proofs.lemmas.Bool.{cases_lt}
-use Rattle.std.proofs.lemmas.List.{take_at, take_all, take_more, length-append, length-take-le, take-append-drop, get_or-append_right, get_or_append_left, get_or-take, get_or_push}
+use Rattle.std.proofs.Common.{◌≡◌, ◌≢◌, ℕ, suc, ◌+◌, ◌-◌, ◌<◌, ◌≤◌, inl, inr, List, [], ◌∷◌, ◌++◌, length, get_or, take, drop, All, refl, sym, ap, ◌∙◌, arith, take_all, length-append}
+use Rattle.lists.proofs.Words.{cases_lt, take_at, take_more, length-take-le, take-append-drop, get_or_append_left, get_or-take, get_or_push}
+use Rattle.std.proofs.lemmas.List.{get_or-append_right}
 use Rattle.gds_records.specs.Fields.{IsText}
 
 -- what ends with an item is what stands before it, and the item

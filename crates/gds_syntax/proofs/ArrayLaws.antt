@@ -1,12 +1,9 @@
 -- what the checks of an array come to
-use Rattle.std.proofs.Common.{◌≡◌, refl, subst, ℕ, ℤ, pos, ◌≤ℤ◌, List, [], ◌∷◌}
-use Rattle.std.specs.Prelude.{All}
-use Rattle.std.proofs.lemmas.List.Elements.{All-nil, All-cons}
+use Rattle.std.proofs.Common.{◌≡◌, refl, subst, ℕ, ℤ, pos, ◌≤ℤ◌, List, [], ◌∷◌, All}
+use Rattle.lists.proofs.Words.{All-nil, All-cons}
 use Rattle.first_refusal.proofs.CheckLaws.{fails_at_once, fails_later}
 use Rattle.geo_core.specs.declared.plane.Point.{Point}
-use Rattle.gds_records.specs.Spelling.{Entry}
-use Rattle.library_grammar.specs.ElementChecks.{ElementCheck, ElementHolds, IsFaultOfFirst, array_checks, has_columns_and_rows, has_whole_steps}
-use Rattle.library_grammar.specs.OwnRecords.{columns_of, rows_of, Leads, HasSteps}
+use Rattle.library_grammar.specs.GrammarNames.{Entry, ElementCheck, ElementHolds, IsFaultOfFirst, array_checks, has_columns_and_rows, has_whole_steps, columns_of, rows_of, Leads, HasSteps}
 use Rattle.library_grammar.specs.declared.fault.SyntaxFault.TheVariants.{EmptyArray, UnevenArray}
 
 -- steps between the same points

@@ -1,13 +1,7 @@
 -- The checks of an element: that they hold, and the fault of the first that fails, put together from parts of their list.
-use Rattle.std.proofs.Common.{◌≡◌, refl, ap, sym, ◌∙◌, subst, ℕ, ◌+◌, ◌<◌, ◌≤◌, List, ◌∷◌, ◌++◌, map, length, get_or, take, drop, append_assoc}
-use Rattle.std.specs.Prelude.{All, Contains}
-use Rattle.std.proofs.lemmas.List.{map-append, take-append-drop, drop_more, take_all}
-use Rattle.std.proofs.lemmas.List.Elements.{All-append, All-map, All-more}
-use Rattle.first_refusal.specs.Checks.{IsRefusalOfFirst}
-use Rattle.gds_records.specs.Spelling.{Entry}
-use Rattle.library_grammar.specs.ElementForms.{ElementForm}
-use Rattle.library_grammar.specs.ElementChecks.{has, ElementHolds, element_fault}
-use Rattle.library_grammar.specs.Grammar.{kinds_of}
+use Rattle.std.proofs.Common.{◌≡◌, refl, ap, sym, ◌∙◌, subst, ℕ, ◌+◌, ◌<◌, ◌≤◌, List, ◌∷◌, ◌++◌, map, length, get_or, take, drop, append_assoc, All, Contains, take_all}
+use Rattle.lists.proofs.Words.{map-append, take-append-drop, drop_more, All-append, All-map, All-more}
+use Rattle.library_grammar.specs.GrammarNames.{IsRefusalOfFirst, Entry, ElementForm, has, ElementHolds, element_fault, kinds_of}
 use Rattle.library_grammar.specs.declared.fault.SyntaxFault.TheVariants.{Missing}
 
 -- ---- parts of a list of checks

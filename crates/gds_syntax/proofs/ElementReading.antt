@@ -1,43 +1,16 @@
 -- How a reader goes on by the record that ends the own records of an element, once the checks of the element are made.
-use Rattle.std.proofs.Common.{◌≡◌, ◌≢◌, inl, inr, ℕ, List, [], ◌∷◌, ◌++◌, refl, sym, ap, subst, ◌∙◌, Some, Option, arith}
-use Rattle.std.specs.Prelude.{All}
-use Rattle.std.specs.List.{flat_map}
-use Rattle.std.proofs.lemmas.List.{append_assoc}
-use Rattle.std.proofs.lemmas.List.Elements.{All-nil, All-cons}
-use Rattle.first_refusal.proofs.CheckLaws.{none_fails}
+use Rattle.std.proofs.Common.{◌≡◌, ◌≢◌, inl, inr, ℕ, List, [], ◌∷◌, ◌++◌, refl, sym, ap, subst, ◌∙◌, Some, Option, arith, All, append_assoc}
+use Rattle.lists.proofs.Words.{flat_map, All-nil, All-cons}
 use Rattle.gds_records.specs.declared.kinds.TheConstants as kind
-use Rattle.gds_records.specs.Reading.{Reading, entry_of}
-use Rattle.gds_records.specs.Spelling.{Entry}
+use Rattle.library_grammar.specs.GrammarNames.{Reading, entry_of, Entry, ElementHolds, element_checks, IsElementFault, ElementForm, Opens, is_faulty, EndsOwnRecords, at_record, behind, IsKept, Place, among_own, behind_attribute, between_elements, next_place, kinds_of, IsOfKind, Property, property_records, IsProperty, ElementParts, IsElement, MayStand}
 use Rattle.gds_records.specs.declared.record.Record.{Record}
-use Rattle.library_grammar.specs.ElementChecks.{ElementHolds, element_checks, IsElementFault}
-use Rattle.library_grammar.specs.ElementForms.{ElementForm, Opens}
-use Rattle.library_grammar.specs.FirstFault.{Shows, may_not_stand, repeats, is_faulty, EndsOwnRecords, at_record}
-use Rattle.library_grammar.specs.Libraries.{behind}
-use Rattle.library_grammar.specs.Elements.{IsKept}
-use Rattle.library_grammar.specs.Places.{Place, before_header, among_own, behind_attribute, between_elements, next_place, place_behind}
 use Rattle.gds_syntax.specs.LibraryReaders.{standing, IsAt, Advances, IsFirstBehind, ReadsOwn, ReadsOwnSoFar, ReadsProperties, ReadsElement}
-use Rattle.library_grammar.specs.Grammar.{kinds_of, IsOfKind, Property, property_records, IsProperty, ElementParts, IsElement, MayStand}
 use Rattle.library_model.specs.declared.element.Element.{Element}
 use Rattle.library_grammar.specs.declared.fault.SyntaxFault.{SyntaxFault}
-use Rattle.library_grammar.proofs.OwnPlaces.{own_agree}
+use Rattle.library_grammar.proofs.StandLaws.{closing_is_quiet}
 use Rattle.library_grammar.proofs.PlaceLaws.{may_stand}
 use Rattle.library_grammar.proofs.PlaceRuns.{begins_property, ends_element}
 use Rattle.gds_syntax.proofs.ReaderLaws.{Advances-append, IsAt-snoc, Takes-append}
-
--- where the checks of an element hold it has no fault
-sound_has_no_fault : (at : ℕ) (form : ElementForm) (own : List Entry) (fault : SyntaxFault) → All (ElementHolds own) (element_checks form) → IsElementFault at form own fault → ⊥
-sound_has_no_fault at form own fault all fails = none_fails (ElementHolds own) (element_checks form) all fails.check fails.is_first
-
--- the record that ends the own records of a sound element shows no fault
-closing_is_quiet : (before own : List Entry) (form : ElementForm) (e : Entry) (to : Place) (fault : SyntaxFault)
-    → place_behind before_header (kinds_of (before ++ own)) ≡ Some (among_own form (kinds_of own))
-    → next_place (among_own form (kinds_of own)) e.kind ≡ Some to → e.kind ≢ kind.STRNAME → All (ElementHolds own) (element_checks form) → Shows (before ++ own) e fault → ⊥
-closing_is_quiet before own form e to fault here next other sound (may_not_stand may_not) = may_not (may_stand (before ++ own) e (among_own form (kinds_of own)) to here next)
-closing_is_quiet before own form e to fault here next other sound (repeats may names is_text in_before) = other names
-closing_is_quiet before own form e to fault here next other sound (is_faulty {at = at} {form = other_form} {own = other_own} may ends fails) =
-    let (forms, owns) = own_agree before own ends.earlier other_own ends.opening form other_form here ends.parts ends.opens ends.are_own in
-    sound_has_no_fault at form own fault sound (subst (λ (f : ElementForm). IsElementFault at f own fault) (sym forms)
-    (subst (λ (o : List Entry). IsElementFault at other_form o fault) (sym owns) fails))
 
 -- a reader goes on by that record
 pub closing_further : {old new : Reading} {form : ElementForm} {own : List Entry} {closing : Record} (to : Place) → ReadsOwnSoFar old new form own closing

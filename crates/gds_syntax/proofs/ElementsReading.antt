@@ -1,30 +1,16 @@
 -- How a reader goes through the elements of a structure.
-use Rattle.std.proofs.Common.{◌≡◌, ◌≢◌, ℕ, ◌<◌, ◌≤◌, List, [], ◌∷◌, ◌++◌, length, refl, sym, ap, subst, ◌∙◌, Some, None, Option, arith}
-use Rattle.std.specs.Prelude.{Contains, option_to_list}
-use Rattle.std.proofs.Math.Nat.{add-zero}
-use Rattle.std.proofs.lemmas.Bool.{ne_eqb}
-use Rattle.std.proofs.lemmas.List.{append_assoc, append-nil, length-append}
-use Rattle.std.proofs.lemmas.List.Elements.{All-nil, All-append, All-cons}
-use Rattle.std.specs.List.{flat_map}
-use Rattle.std.proofs.lemmas.Grind.{flat_map-append}
+use Rattle.std.proofs.Common.{◌≡◌, ◌≢◌, ℕ, ◌<◌, ◌≤◌, List, [], ◌∷◌, ◌++◌, length, refl, sym, ap, subst, ◌∙◌, Some, None, Option, arith, option_to_list, append_assoc, length-append}
+use Rattle.lists.proofs.Words.{add-zero, ne_eqb, append-nil, All-nil, All-append, All-cons, flat_map, flat_map-append}
 use Rattle.gds_records.specs.declared.kinds.TheConstants as kind
-use Rattle.library_grammar.specs.Elements.{IsKept}
-use Rattle.gds_records.specs.Reading.{Reading, entry_of}
-use Rattle.gds_records.specs.Spelling.{Entry}
+use Rattle.library_grammar.specs.GrammarNames.{IsKept, Reading, entry_of, Entry, ElementForm, Opens, element_forms, IsFirstFault, ElementParts, element_records, IsElement, behind, SayElements, among_own, behind_strname, between_elements, between_structures, form_of, into_element, next_place, IsPlain}
 use Rattle.gds_records.specs.declared.record.Record.{Record}
-use Rattle.library_grammar.specs.ElementForms.{ElementForm, Opens, element_forms}
-use Rattle.library_grammar.specs.FirstFault.{IsFirstFault}
-use Rattle.library_grammar.specs.Grammar.{ElementParts, element_records, IsElement}
-use Rattle.library_grammar.specs.Libraries.{behind, SayElements, no_more, one_more}
-use Rattle.library_grammar.specs.Places.{among_own, behind_strname, between_elements, between_structures, form_of, into_element, next_place}
+use Rattle.library_grammar.specs.Libraries.{no_more, one_more}
 use Rattle.gds_syntax.specs.LibraryReaders.{IsElementAt, AreElements, TakesRecord, standing, IsAt, IsFirstBehind, Advances, Stops, ReadsElement, ReadsElements, ReadsElementsSoFar}
-use Rattle.library_grammar.specs.Places.{IsPlain}
 use Rattle.library_model.specs.declared.element.Element.{Element}
 use Rattle.library_grammar.specs.declared.fault.SyntaxFault.{SyntaxFault}
 use Rattle.library_grammar.specs.declared.fault.SyntaxFault.TheVariants.{Unexpected}
 use Rattle.library_grammar.proofs.PlaceEndings.{found_form}
-use Rattle.library_grammar.proofs.PlaceRuns.{each_form}
-use Rattle.library_grammar.proofs.PlainKinds.{plain}
+use Rattle.library_grammar.proofs.PlainKinds.{plain, opening_is_plain}
 use Rattle.gds_syntax.proofs.ReaderLaws.{Advances-none, Advances-append, advances_plain, advances_kind, stops_later, stops_unexpected}
 use Rattle.library_grammar.proofs.NextRecords.{behind-append}
 
@@ -66,9 +52,6 @@ elements_begin_behind_class {mid = mid} {class = class} takes is more =
     }
 
 -- a record that opens an element
-opening_is_plain : (form : ElementForm) → Contains element_forms form → IsPlain form.opening
-opening_is_plain = each_form (λ form. IsPlain form.opening) (plain _ refl) (plain _ refl) (plain _ refl) (plain _ refl) (plain _ refl) (plain _ refl) (plain _ refl)
-
 pub opens : (k : ℕ) (form : ElementForm) → form_of k ≡ Some form → Opens k form
 opens k form found =
     let (listed, opening) = found_form element_forms k form found in

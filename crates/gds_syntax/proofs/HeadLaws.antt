@@ -1,17 +1,10 @@
 -- How a reader goes through the head of a library.
-use Rattle.std.proofs.Common.{◌≡◌, ◌≢◌, ℕ, List, [], ◌∷◌, ◌++◌, refl, sym, subst, ◌∙◌, length, Some, None, arith}
-use Rattle.std.specs.Prelude.{Contains}
-use Rattle.std.proofs.lemmas.Bool.{ne_eqb, eq-eqb}
-use Rattle.std.proofs.lemmas.List.Elements.{All-nil, All-append, All-take, All-cons}
-use Rattle.std.proofs.lemmas.List.{append_assoc, take_at}
-use Rattle.gds_records.specs.Fields.{IsText}
+use Rattle.std.proofs.Common.{◌≡◌, ◌≢◌, ℕ, List, [], ◌∷◌, ◌++◌, refl, sym, subst, ◌∙◌, length, Some, None, arith, Contains, append_assoc}
+use Rattle.lists.proofs.Words.{ne_eqb, eq-eqb, All-nil, All-append, All-take, All-cons, take_at}
+use Rattle.library_grammar.specs.GrammarNames.{IsText, Reading, entry_of, AreBytes, IsByte, Place, before_header, before_bgnlib, before_name, before_units, between_structures, has_kind, next_place, head_kinds}
 use Rattle.gds_records.specs.declared.kinds.TheConstants as kind
-use Rattle.gds_records.specs.Reading.{Reading, entry_of}
-use Rattle.lists.specs.ByteLists.{AreBytes, IsByte}
 use Rattle.gds_records.specs.declared.record.Record.{Record}
-use Rattle.library_grammar.specs.Places.{Place, before_header, before_bgnlib, before_name, before_units, between_structures, has_kind, next_place}
 use Rattle.gds_syntax.specs.LibraryReaders.{TakesRecord, Standing, standing, Advances, Stops, IsHeadPlace, ReadsHeadSoFar, ReadsHeadRecords, ReadsHead}
-use Rattle.library_grammar.specs.Grammar.{head_kinds}
 use Rattle.library_grammar.specs.declared.fault.SyntaxFault.TheVariants.{Unexpected}
 use Rattle.library_grammar.proofs.PlaceEndings.{contains_kind}
 use Rattle.library_grammar.proofs.PlaceRuns.{has_contained}

@@ -1,17 +1,9 @@
 -- answers to checks, put together from answers to parts of them
-use Rattle.std.proofs.Common.{◌≡◌, ◌≢◌, refl, sym, subst, ℕ, List, [], ◌∷◌, map, length, Option, Some, None, Result, Ok, Err}
-use Rattle.std.specs.Prelude.{All, IsErrAnd}
-use Rattle.std.proofs.lemmas.List.Elements.{All-nil, All-cons, All-append}
-use Rattle.first_refusal.specs.Answers.{gives, refuses, no_memory}
-use Rattle.first_refusal.specs.Checks.{Checks, all_hold, one_fails, IsRefusalOfFirst}
+use Rattle.std.proofs.Common.{◌≡◌, ◌≢◌, refl, sym, subst, ℕ, List, [], ◌∷◌, map, length, Option, Some, None, Result, Ok, Err, All, IsErrAnd}
+use Rattle.lists.proofs.Words.{All-nil, All-cons, All-append}
+use Rattle.library_grammar.specs.GrammarNames.{gives, refuses, no_memory, Checks, all_hold, one_fails, IsRefusalOfFirst, Entry, ElementForm, IsCount, outline, array, ElementCheck, has, has_right_count, is_closed, ElementHolds, element_checks, element_fault, checks_of_sort, reference_checks, array_checks, IsElementFault, IsFaultOfFirst, Judges, IsKept, points_of, IsClosed}
 use Rattle.first_refusal.proofs.AnswerLaws.{handed_on}
 use Rattle.first_refusal.proofs.CheckLaws.{fails_at_once}
-use Rattle.gds_records.specs.Spelling.{Entry}
-use Rattle.library_grammar.specs.ElementForms.{ElementForm, IsCount, outline, array}
-use Rattle.library_grammar.specs.ElementChecks.{ElementCheck, has, has_right_count, is_closed, ElementHolds, element_checks, element_fault, checks_of_sort, reference_checks, array_checks, IsElementFault, IsFaultOfFirst, Judges}
-use Rattle.library_grammar.specs.Elements.{IsKept}
-use Rattle.library_grammar.specs.OwnRecords.{points_of}
-use Rattle.geo_core.specs.Circuits.{IsClosed}
 use Rattle.gds_syntax.specs.inside.ElementKinds.{form_for}
 use Rattle.library_model.specs.declared.element.Element.{Element}
 use Rattle.gds_syntax.specs.declared.element_kind.ElementKind.{ElementKind}

@@ -1,35 +1,18 @@
 -- What bytes come to, from what a reader found in them.
-use Rattle.std.proofs.Common.{◌≡◌, ℕ, List, [], ◌∷◌, ◌++◌, length, refl, ap, subst, ◌∙◌, true, arith}
-use Rattle.std.proofs.lemmas.List.{append-nil}
-use Rattle.first_refusal.specs.Outcomes.{value, refused}
-use Rattle.gds_records.specs.Reading.{Reading, start_of, IsLeft}
-use Rattle.gds_records.specs.Spelling.{Entry}
-use Rattle.lists.specs.ByteLists.{AreBytes}
-use Rattle.gds_records.specs.Split.{End, whole, Splits}
+use Rattle.std.proofs.Common.{◌≡◌, ℕ, List, [], ◌∷◌, ◌++◌, refl, ap, subst, ◌∙◌, true}
+use Rattle.lists.proofs.Words.{append-nil}
+use Rattle.library_grammar.specs.GrammarNames.{value, refused, Reading, start_of, IsLeft, Entry, AreBytes, End, whole, Splits, BytesComeTo, are_library, have_fault, NoneShows, LibraryParts, library_head, IsInGrammar, behind, SayStructures, IsLibrary, before_header, between_structures}
 use Rattle.gds_records.proofs.SplitLaws.{all_bytes_split}
-use Rattle.library_grammar.specs.FirstFault.{BytesComeTo, are_library, have_fault, NoneShows}
-use Rattle.library_grammar.specs.Grammar.{LibraryParts, library_head, IsInGrammar}
-use Rattle.library_grammar.specs.Libraries.{behind, SayStructures, IsLibrary}
-use Rattle.library_grammar.specs.Places.{before_header, between_structures}
 use Rattle.gds_syntax.specs.LibraryReaders.{standing, IsAt, Stops, ReadsHead, ReadsStructures}
 use Rattle.library_grammar.specs.declared.fault.SyntaxFault.{SyntaxFault}
 use Rattle.library_model.specs.declared.library.Library.{Library}
 use Rattle.library_model.specs.declared.library.Structure.{Structure}
 use Rattle.gds_syntax.proofs.ReaderLaws.{stops_later}
+use Rattle.library_grammar.proofs.StandLaws.{starts as nothing_behind}
 
--- no records are in front of the stream
-no_records : {A : Type 0} (before after : List A) (e : A) → [] ≡ before ++ e ∷ after → ⊥
-no_records [] after e same = omega (arith, ap length same)
-no_records (b ∷ before) after e same = omega (arith, ap length same)
-
+-- the reader begins where no records are behind it
 pub starts : (bytes : List ℕ) → IsAt (start_of bytes) [] (standing before_header [])
-starts bytes =
-    record {
-      place = refl;
-      none_shows = λ before after e fault same shown. no_records before after e same;
-      offset = refl;
-      names = λ name. (λ has. absurd (omega (arith, has.1)), λ found. absurd (no_records found.earlier found.later found.record_of_name found.parts));
-    }
+starts bytes = record { place = refl; none_shows = nothing_behind.none_shows; offset = refl; names = nothing_behind.are_names }
 
 -- the fault that a reader stops at is that of the bytes
 pub bytes_have_fault : (bytes : List ℕ) (fault : SyntaxFault) → AreBytes bytes → Stops (start_of bytes) (standing before_header []) fault → BytesComeTo bytes (refused fault)

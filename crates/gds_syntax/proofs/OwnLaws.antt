@@ -1,13 +1,9 @@
 -- what the own records of an element have, by their kinds
-use Rattle.std.proofs.Common.{◌≡◌, ◌⊎◌, inl, inr, refl, ap, sym, ◌∙◌, ℕ, suc, zero, Bool, true, false, cond, List, [], ◌∷◌, ◌++◌, arith, IsTrue}
-use Rattle.std.specs.Prelude.{Contains, ◌↔◌, ◌==◌, find, Option, Some, None, option_map, is_some}
+use Rattle.std.proofs.Common.{◌≡◌, ◌⊎◌, inl, inr, refl, ap, sym, ◌∙◌, ℕ, suc, zero, Bool, true, false, cond, List, [], ◌∷◌, ◌++◌, arith, IsTrue, Contains, ◌↔◌, ◌==◌, find, Option, Some, None, option_map, is_some}
+use Rattle.lists.proofs.Words.{eqb-true, eq-eqb, Decides-eqb, Contains-append_right, Contains-append_cases}
 use Rattle.std.specs.List.{IsAnyAnswer}
-use Rattle.std.proofs.lemmas.Bool.{eqb-true, eq-eqb}
-use Rattle.std.proofs.lemmas.Bool.Decides.{Decides-eqb}
-use Rattle.std.proofs.lemmas.List.Elements.{Contains-append_right, Contains-append_cases, contains_decides, Decides-contains}
-use Rattle.gds_records.specs.Spelling.{Entry}
-use Rattle.library_grammar.specs.OwnRecords.{field}
-use Rattle.library_grammar.specs.Grammar.{kinds_of}
+use Rattle.std.proofs.lemmas.List.Elements.{contains_decides, Decides-contains}
+use Rattle.library_grammar.specs.GrammarNames.{Entry, field, kinds_of}
 
 -- what a slice answers where it is asked for a number
 pub contains_as_asked : (kinds : List ℕ) (k : ℕ) (b : Bool) → IsAnyAnswer (λ y t. (y == k) ≡ t) kinds b → IsTrue b ↔ Contains kinds k

@@ -1,27 +1,20 @@
 -- How a reader goes through the own records of an element.
-use Rattle.std.proofs.Common.{◌≡◌, ◌≢◌, ℕ, List, [], ◌∷◌, ◌++◌, refl, sym, subst, ◌∙◌, false, Some, None, arith}
-use Rattle.std.specs.Prelude.{Contains, not, ◌&&◌}
-use Rattle.std.proofs.lemmas.Bool.{ne_eqb}
-use Rattle.std.proofs.lemmas.List.{map-append}
-use Rattle.std.proofs.lemmas.List.Elements.{All-nil, All-append, All-cons}
-use Rattle.lists.specs.Differing.{AreDifferent}
+use Rattle.std.proofs.Common.{◌≡◌, ◌≢◌, ℕ, List, [], ◌∷◌, ◌++◌, refl, sym, subst, ◌∙◌, false, Some, None, arith, Contains, not, ◌&&◌}
+use Rattle.lists.proofs.Words.{ne_eqb, map-append, All-nil, All-append, All-cons}
+use Rattle.library_grammar.specs.GrammarNames.{AreDifferent, Reading, entry_of, Entry, ElementForm, element_forms, own_kinds, among_own, has_kind, next_place, out_of_element, kinds_of}
 use Rattle.lists.proofs.Differing.{different_more}
 use Rattle.gds_records.specs.declared.kinds.TheConstants as kind
-use Rattle.gds_records.specs.Reading.{Reading, entry_of}
-use Rattle.gds_records.specs.Spelling.{Entry}
 use Rattle.gds_records.specs.declared.record.Record.{Record}
-use Rattle.library_grammar.specs.ElementForms.{ElementForm, element_forms, own_kinds}
 use Rattle.gds_syntax.specs.inside.ElementKinds.{form_for}
-use Rattle.library_grammar.specs.Places.{among_own, has_kind, next_place, out_of_element}
-use Rattle.gds_syntax.specs.LibraryReaders.{TakesRecord, standing, Advances, Stops, ReadsOwnSoFar}
-use Rattle.library_grammar.specs.Grammar.{kinds_of}
+use Rattle.gds_syntax.specs.LibraryReaders.{TakesRecord, standing, Advances, Stops, ReadsOwnSoFar, IsReady}
 use Rattle.gds_syntax.specs.declared.element_kind.ElementKind.{ElementKind}
 use Rattle.gds_syntax.specs.declared.element_kind.ElementKind.TheVariants.{Boundary, Path, Sref, Aref, Text, Node, BoxElement}
 use Rattle.library_grammar.specs.declared.fault.SyntaxFault.TheVariants.{Unexpected}
+use Rattle.library_grammar.proofs.PartsAgree.{own_ends_no_library}
 use Rattle.library_grammar.proofs.PlaceEndings.{contains_kind}
 use Rattle.library_grammar.proofs.PlaceRuns.{has_contained}
 use Rattle.library_grammar.proofs.PlainKinds.{own_is_plain}
-use Rattle.gds_syntax.proofs.ReaderLaws.{is_false, Advances-append, advances_plain, stops_later, stops_unexpected}
+use Rattle.gds_syntax.proofs.ReaderLaws.{is_false, Advances-none, Advances-append, advances_plain, stops_later, stops_unexpected}
 
 -- the kinds of one record more
 kinds_and_one : (own : List Entry) (e : Entry) → kinds_of (own ++ e ∷ []) ≡ kinds_of own ++ e.kind ∷ []
@@ -36,6 +29,22 @@ form_listed Aref = (3, omega arith, refl)
 form_listed Text = (4, omega arith, refl)
 form_listed Node = (5, omega arith, refl)
 form_listed BoxElement = (6, omega arith, refl)
+
+-- no own record yet
+pub own_begins : {old new : Reading} (form : ElementForm) {found : Record} → TakesRecord old new found → ReadsOwnSoFar old new form [] found
+own_begins {old = old} form takes =
+    record {
+      between = old;
+      are_own = All-nil (λ e. Contains (own_kinds form) e.kind);
+      once = λ i j d before within. absurd (omega arith);
+      advances = λ names. Advances-none old (standing (among_own form []) names);
+      takes = takes;
+    }
+
+-- behind an own record the stream goes on
+pub own_is_ready : {old new : Reading} (element : ElementKind) {own : List Entry} {found : Record} → Contains (own_kinds (form_for element)) found.kind
+    → ReadsOwnSoFar old new (form_for element) own found → IsReady new
+own_is_ready element {found = found} owned so_far = so_far.takes.ready (own_ends_no_library (form_for element) (form_listed element) found.kind owned)
 
 -- the reader goes on by an own record that the element has not yet
 pub own_further : {old mid : Reading} (element : ElementKind) {own : List Entry} {found : Record} → Contains (own_kinds (form_for element)) found.kind

@@ -1,18 +1,9 @@
 -- How a reader goes through the properties of an element.
-use Rattle.std.proofs.Common.{◌≡◌, ◌≢◌, ℕ, List, [], ◌∷◌, ◌++◌, refl, sym, ap, subst, Some, None, arith}
-use Rattle.std.proofs.lemmas.Bool.{ne_eqb}
-use Rattle.std.specs.List.{flat_map}
-use Rattle.std.proofs.lemmas.Grind.{flat_map-append}
-use Rattle.std.proofs.lemmas.List.{append_assoc}
-use Rattle.std.proofs.lemmas.List.Elements.{All-nil, All-append, All-cons}
+use Rattle.std.proofs.Common.{◌≡◌, ◌≢◌, ℕ, List, [], ◌∷◌, ◌++◌, refl, sym, ap, subst, Some, None, arith, append_assoc}
+use Rattle.lists.proofs.Words.{ne_eqb, flat_map, flat_map-append, All-nil, All-append, All-cons}
 use Rattle.gds_records.specs.declared.kinds.TheConstants as kind
-use Rattle.gds_records.specs.Reading.{Reading, entry_of}
-use Rattle.gds_records.specs.Spelling.{Entry}
+use Rattle.library_grammar.specs.GrammarNames.{Reading, entry_of, Entry, ElementForm, Shows, may_not_stand, repeats, is_faulty, EndsOwnRecords, kinds_of, Property, property_records, IsProperty, Place, before_header, among_own, behind_attribute, behind_property, between_elements, next_place, place_behind}
 use Rattle.gds_records.specs.declared.record.Record.{Record}
-use Rattle.library_grammar.specs.ElementForms.{ElementForm}
-use Rattle.library_grammar.specs.FirstFault.{Shows, may_not_stand, repeats, is_faulty, EndsOwnRecords}
-use Rattle.library_grammar.specs.Grammar.{kinds_of, Property, property_records, IsProperty}
-use Rattle.library_grammar.specs.Places.{Place, before_header, among_own, behind_attribute, behind_property, between_elements, next_place, place_behind}
 use Rattle.gds_syntax.specs.LibraryReaders.{TakesRecord, standing, Advances, Stops, ReadsPropertiesSoFar, ReadsProperties}
 use Rattle.library_grammar.specs.declared.fault.SyntaxFault.{SyntaxFault}
 use Rattle.library_grammar.specs.declared.fault.SyntaxFault.TheVariants.{Unexpected}

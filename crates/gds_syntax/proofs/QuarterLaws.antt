@@ -1,6 +1,6 @@
 -- angles of whole quarters of a circle
 use Rattle.std.proofs.Common.{◌≡◌, inl, inr, refl, sym, subst, ℕ, ℤ, pos, negsuc, ◌+ℤ◌, ◌*ℤ◌, ◌≤ℤ◌, ◌<◌, arith}
-use Rattle.std.proofs.lemmas.Int.{ints}
+use Rattle.lists.proofs.Words.{ints}
 use Rattle.gds_syntax.specs.inside.Quarters.{ComesTo}
 use Rattle.lists.proofs.Comparing.{same_or_not}
 

@@ -1,22 +1,14 @@
 -- How a reader goes on record by record, and where it stops.
-use Rattle.std.proofs.Common.{◌≡◌, ◌≢◌, ℕ, ◌+◌, ◌-◌, ◌<◌, ◌≤◌, List, [], ◌∷◌, ◌++◌, length, refl, sym, ap, subst, ◌∙◌, arith, Bool, true, false, Some, None, Ok, Err, IsTrue}
-use Rattle.std.proofs.lemmas.List.{append_assoc, append-nil}
-use Rattle.std.proofs.lemmas.Bool.{ne_eqb}
+use Rattle.std.proofs.Common.{◌≡◌, ◌≢◌, ℕ, ◌+◌, ◌-◌, ◌<◌, ◌≤◌, List, [], ◌∷◌, ◌++◌, length, refl, sym, ap, subst, ◌∙◌, arith, Bool, true, false, Some, None, Ok, Err, IsTrue, append_assoc, if◌then◌else◌, ◌==◌}
+use Rattle.lists.proofs.Words.{append-nil, ne_eqb, add-zero}
 use Rattle.gds_records.specs.declared.kinds.TheConstants as kind
-use Rattle.gds_records.specs.Reading.{Reading, IsLeft, IsGivenOrLeft, MovesPast, entry_of}
-use Rattle.gds_records.specs.Spelling.{Entry, spelling, spellings}
-use Rattle.gds_records.specs.Split.{End}
+use Rattle.library_grammar.specs.GrammarNames.{Reading, IsLeft, IsGivenOrLeft, MovesPast, entry_of, Entry, spelling, spellings, End, IsFirstFault, at_record, at_end, Shows, behind, Place, next_place, IsPlain}
 use Rattle.gds_records.specs.declared.fault.RecordFault.{RecordFault}
 use Rattle.gds_records.specs.declared.record.Record.{Record}
-use Rattle.library_grammar.specs.FirstFault.{IsFirstFault, at_record, at_end, Shows, may_not_stand as shows_unexpected}
-use Rattle.library_grammar.specs.Libraries.{behind}
-use Rattle.library_grammar.specs.Places.{Place, next_place}
+use Rattle.library_grammar.specs.FirstFault.{may_not_stand as shows_unexpected}
 use Rattle.gds_syntax.specs.LibraryReaders.{Takes, TakesRecord, Standing, standing, IsAt, Advances, Stops, IsReady, most_bytes}
-use Rattle.library_grammar.specs.Places.{IsPlain}
 use Rattle.library_grammar.specs.declared.fault.SyntaxFault.{SyntaxFault}
 use Rattle.library_grammar.specs.declared.fault.SyntaxFault.TheVariants.{Record as record_fault, Unexpected}
-use Rattle.std.specs.Prelude.{if◌then◌else◌, ◌==◌}
-use Rattle.std.proofs.Math.Nat.{add-zero}
 use Rattle.library_grammar.proofs.PlaceLaws.{may_not_stand}
 use Rattle.library_grammar.proofs.NextRecords.{behind-append, NoneShows-snoc, AreNamesIn-snoc, place_after, plain_shows_nothing}
 
@@ -123,10 +115,13 @@ advances_plain {r = r} from to taken next plain =
     advances_by from to taken next plain.names_nothing (λ before here fault shown. plain_shows_nothing before (entry_of r) from.place to fault here.place next plain shown)
 
 -- nothing was taken yet
+nothing_taken : (reading : Reading) → Takes reading reading []
+nothing_taken reading = record { left = λ entries end left. (entries, refl, left); offset = sym (add-zero reading.at); bytes = refl }
+
 pub Advances-none : (reading : Reading) (from : Standing) → Advances reading reading from from []
 Advances-none reading from =
     record {
-      takes = record { left = λ entries end left. (entries, refl, left); offset = sym (add-zero reading.at); bytes = refl };
+      takes = nothing_taken reading;
       stands = λ before here. rw (append-nil before) here;
     }
 
@@ -140,12 +135,15 @@ advances_kind k p q names taken same next plain =
 pub only_one : (k : ℕ) (q : Place) (other : ℕ) → other ≢ k → (if other == k then Some q else None) ≡ None
 only_one k q other differs = rw (ne_eqb other k differs) refl
 
--- a reader that is further on has less to read
-pub has_less_left : {old mid : Reading} (new : Reading) {taken : List Entry} → Takes old mid taken → mid.at < new.at → new.bytes ≡ mid.bytes → new.at ≤ length new.bytes
+-- a reader that takes one record more has less to read
+pub has_less_left : {old mid : Reading} (new : Reading) {taken : List Entry} {r : Record} → Takes old mid taken → TakesRecord mid new r
     → length new.bytes - new.at < length old.bytes - old.at
-has_less_left {old = old} {mid = mid} new {taken = taken} first further same within =
-    let count : length new.bytes ≡ length old.bytes = ap length (same ∙ first.bytes) in
-    less_left old.at mid.at new.at (length (spellings taken)) (length old.bytes) (length new.bytes) first.offset further count within
+has_less_left {old = old} {mid = mid} new {taken = taken} first takes =
+    less_left old.at mid.at new.at (length (spellings taken)) (length old.bytes) (length new.bytes) first.offset takes.further (ap length (takes.bytes ∙ first.bytes)) takes.within
   where
     less_left : (a b c n m k : ℕ) → b ≡ a + n → b < c → k ≡ m → c ≤ k → k - c < m - a
     less_left a b c n m k on further count within = omega arith
+
+-- also where it took none before
+pub one_less_left : {old new : Reading} {r : Record} → TakesRecord old new r → length new.bytes - new.at < length old.bytes - old.at
+one_less_left {old = old} {new = new} takes = has_less_left new (nothing_taken old) takes

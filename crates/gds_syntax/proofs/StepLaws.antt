@@ -1,11 +1,11 @@
 -- the steps of an array: whole parts of the ways that they make up
 use Rattle.std.proofs.Common.{◌≡◌, ◌∙◌, refl, sym, ap, ℕ, zero, suc, ℤ, pos, negsuc, ◌+ℤ◌, ◌-ℤ◌, ◌*ℤ◌, ◌≤ℤ◌, neg_ℤ, nat_abs, ◌/◌, ◌%◌, ◌≤◌, Option, Some, None, IfSome, IfNone, SFits, w64, to_z, of_z, arith}
+use Rattle.lists.proofs.Words.{ints, unsigned_abs-mul, to_z-of_z, IfSome_then}
 use Rattle.std.specs.Prelude.{int_div, int_rem}
 use Rattle.std.specs.Option.{option_zip}
 use Rattle.std.proofs.Math.IntN.{*ℤ_comm}
 use Rattle.std.proofs.Math.Nat.{div-le_self, mul-mod_right}
-use Rattle.std.proofs.lemmas.Int.{ints, quot-rem, unsigned_abs-mul, quot_is, quot_fits, rem_is, to_z-of_z}
-use Rattle.std.proofs.lemmas.Option.{IfSome_then}
+use Rattle.std.proofs.lemmas.Int.{quot-rem, quot_is, quot_fits, rem_is}
 
 IfNone_then : {P Q : Type 0} (r : Option ℤ) → IfNone r P → (P → Q) → IfNone r Q
 IfNone_then None p f = f p

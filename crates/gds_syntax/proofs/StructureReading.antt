@@ -1,80 +1,16 @@
 -- How a reader goes through a structure and its name.
-use Rattle.std.proofs.Common.{◌≡◌, inl, inr, ℕ, ◌≤◌, List, [], ◌∷◌, ◌++◌, length, refl, sym, ap, subst, ◌∙◌, Some, arith}
-use Rattle.std.specs.Prelude.{Contains, option_to_list}
-use Rattle.std.proofs.lemmas.List.{append_assoc}
-use Rattle.std.proofs.lemmas.List.Elements.{All-nil, All-cons, All-contains, Contains-append_left, Contains-append_right, Contains-append_cases}
-use Rattle.gds_records.specs.Fields.{IsText}
+use Rattle.std.proofs.Common.{◌≡◌, ℕ, ◌≤◌, List, [], ◌∷◌, ◌++◌, length, sym, ap, subst, ◌∙◌, arith, Contains, option_to_list, append_assoc}
+use Rattle.library_grammar.specs.GrammarNames.{IsText, Reading, entry_of, Entry, Shows, repeats, at_record, behind, SayElements, before_strname, behind_strname, next_place, IsOfKind}
 use Rattle.gds_records.specs.declared.kinds.TheConstants as kind
-use Rattle.gds_records.specs.Reading.{Reading, entry_of}
-use Rattle.gds_records.specs.Spelling.{Entry}
 use Rattle.gds_records.specs.declared.record.Record.{Record}
-use Rattle.gds_records.proofs.TextLaws.{texts_agree}
-use Rattle.library_grammar.specs.FirstFault.{Shows, may_not_stand, repeats, is_faulty, at_record, IsNameIn}
-use Rattle.library_grammar.specs.Libraries.{behind, SayElements}
-use Rattle.library_grammar.specs.Places.{before_header, before_strname, behind_strname, next_place, place_behind}
 use Rattle.gds_syntax.specs.LibraryReaders.{TakesRecord, standing, Advances, Stops, ReadsElements, ReadsStructure}
-use Rattle.library_grammar.specs.FirstFault.{AreNamesIn}
-use Rattle.library_grammar.specs.Grammar.{kinds_of, IsOfKind}
 use Rattle.library_model.specs.declared.element.Element.{Element}
-use Rattle.library_grammar.specs.declared.fault.SyntaxFault.{SyntaxFault}
 use Rattle.library_grammar.specs.declared.fault.SyntaxFault.TheVariants.{RepeatedStructure}
 use Rattle.library_model.specs.declared.library.Structure.{Structure}
 use Rattle.gds_syntax.proofs.ElementsReading.{forward}
 use Rattle.library_grammar.proofs.PlaceLaws.{may_stand}
 use Rattle.gds_syntax.proofs.ReaderLaws.{Advances-append}
-use Rattle.library_grammar.proofs.NextRecords.{behind-append, place_after, NoneShows-snoc}
-use Rattle.lists.proofs.Reading.{last_or_before}
-
--- a name among names of one more
-the_only : (name text : List ℕ) → Contains (text ∷ []) name → name ≡ text
-the_only name text has =
-    let Same : List ℕ → Type 0 = λ n. n ≡ text in
-    All-contains Same (text ∷ []) name (All-cons Same text [] refl (All-nil Same)) has
-
--- the names of the structures, where a record names one more
-AreNamesIn-named : (before : List Entry) (e : Entry) (names : List (List ℕ)) (text : List ℕ) → e.kind ≡ kind.STRNAME → IsText e.body text → AreNamesIn before names
-    → AreNamesIn (before ++ e ∷ []) (names ++ text ∷ [])
-AreNamesIn-named before e names text is is_text are name = (
-  λ has.
-      elim (Contains-append_cases names (text ∷ []) name has) [
-        | inl among ↦
-            let found = (are name).0 among in
-            record {
-              earlier = found.earlier;
-              record_of_name = found.record_of_name;
-              later = found.later ++ e ∷ [];
-              parts = ap (λ (x : List Entry). x ++ e ∷ []) found.parts ∙ append_assoc found.earlier (found.record_of_name ∷ found.later) (e ∷ []);
-              names = found.names;
-              is_text = found.is_text;
-            }
-        | inr last ↦
-            record { earlier = before; record_of_name = e; later = []; parts = refl; names = is; is_text = subst (λ (n : List ℕ). IsText e.body n) (sym (the_only name text last)) is_text }
-      ],
-  λ found.
-      elim (last_or_before before e found.earlier found.record_of_name found.later found.parts) [
-        | inl (_, same, _) ↦
-            let same_text : name ≡ text = texts_agree e.body name text (subst (λ (x : Entry). IsText x.body name) (sym same) found.is_text) is_text in
-            Contains-append_right names (text ∷ []) name (0, omega arith, sym same_text)
-        | inr (more, fronts, _) ↦
-            Contains-append_left names (text ∷ []) name ((are name).1 (record {
-              earlier = found.earlier;
-              record_of_name = found.record_of_name;
-              later = more;
-              parts = fronts;
-              names = found.names;
-              is_text = found.is_text;
-            }))
-      ],
-)
-
--- a new name shows no fault
-new_name_is_quiet : (before : List Entry) (e : Entry) (names : List (List ℕ)) (text : List ℕ) (fault : SyntaxFault) → place_behind before_header (kinds_of before) ≡ Some before_strname
-    → e.kind ≡ kind.STRNAME → IsText e.body text → (Contains names text → ⊥) → AreNamesIn before names → Shows before e fault → ⊥
-new_name_is_quiet before e names text fault here is is_text fresh are (may_not_stand may_not) = may_not (may_stand before e before_strname behind_strname here (ap (next_place before_strname) is))
-new_name_is_quiet before e names text fault here is is_text fresh are (repeats {name = name} may _ other_text in_before) =
-    fresh ((are text).1 (subst (λ (n : List ℕ). IsNameIn before n) (texts_agree e.body name text other_text is_text) in_before))
-new_name_is_quiet before e names text fault here is is_text fresh are (is_faulty may ends fails) =
-    elim ends.ends [ inl attribute ↦ omega (arith, is, attribute) | inr end ↦ omega (arith, is, end) ]
+use Rattle.library_grammar.proofs.NextRecords.{behind-append, place_after, NoneShows-snoc, AreNamesIn-named, new_name_is_quiet}
 
 -- a reader goes on by the name of a structure
 pub name_further : {old mid : Reading} {found : Record} (names : List (List ℕ)) (text : List ℕ) → TakesRecord old mid found → found.kind ≡ kind.STRNAME → IsText found.body.now text

@@ -1,18 +1,10 @@
 -- How a reader goes through the structures of a library.
-use Rattle.std.proofs.Common.{◌≡◌, ◌≢◌, ℕ, ◌<◌, ◌≤◌, List, [], ◌∷◌, ◌++◌, length, refl, sym, ap, subst, ◌∙◌, None, arith}
-use Rattle.std.proofs.Math.Nat.{add-zero}
-use Rattle.std.proofs.lemmas.Bool.{ne_eqb}
-use Rattle.std.proofs.lemmas.List.{append_assoc, append-nil, length-append, map-append}
-use Rattle.std.proofs.lemmas.List.Elements.{All-nil, All-append, All-cons}
-use Rattle.std.specs.List.{flat_map}
-use Rattle.std.proofs.lemmas.Grind.{flat_map-append}
+use Rattle.std.proofs.Common.{◌≡◌, ◌≢◌, ℕ, ◌<◌, ◌≤◌, List, [], ◌∷◌, ◌++◌, length, refl, sym, ap, subst, ◌∙◌, None, arith, append_assoc, length-append}
+use Rattle.lists.proofs.Words.{add-zero, ne_eqb, append-nil, length-map, map-append, All-nil, All-append, All-cons, flat_map, flat_map-append}
 use Rattle.gds_records.specs.declared.kinds.TheConstants as kind
-use Rattle.gds_records.specs.Reading.{Reading, entry_of}
-use Rattle.gds_records.specs.Spelling.{Entry}
+use Rattle.library_grammar.specs.GrammarNames.{Reading, entry_of, Entry, StructureParts, structure_records, IsStructure, behind, SaysStructure, SayStructures, between_structures, before_strname, behind_endlib, next_place}
 use Rattle.gds_records.specs.declared.record.Record.{Record}
-use Rattle.library_grammar.specs.Grammar.{StructureParts, structure_records, IsStructure}
-use Rattle.library_grammar.specs.Libraries.{behind, SaysStructure, SayStructures, no_more, one_more}
-use Rattle.library_grammar.specs.Places.{between_structures, before_strname, behind_endlib, next_place}
+use Rattle.library_grammar.specs.Libraries.{no_more, one_more}
 use Rattle.gds_syntax.specs.LibraryReaders.{IsStructureAt, AreStructures, TakesRecord, standing, Advances, Stops, IsReady, most_bytes, ReadsStructure, ReadsStructures, ReadsStructuresSoFar}
 use Rattle.library_grammar.specs.declared.fault.SyntaxFault.TheVariants.{Unexpected}
 use Rattle.library_model.specs.declared.library.Structure.{Structure}
@@ -71,6 +63,10 @@ AreStructures-snoc at entries more structures structure are is =
 -- structures are fewer than bytes
 count_more : (structures : List Structure) (structure : Structure) (a b c : ℕ) → length structures ≤ a → a < b → b ≤ c → length (structures ++ structure ∷ []) ≤ c
 count_more structures structure a b c few further on = omega (arith, length-append structures (structure ∷ []))
+
+-- and so are their names
+pub few_names : {old new : Reading} {structures : List Structure} {names : List (List ℕ)} {found : Record} → ReadsStructuresSoFar old new structures names found → length names ≤ new.at
+few_names {structures = structures} so_far = omega (arith, ap length so_far.are_names, length-map structures (λ (s : Structure). s.name), so_far.few_structures, so_far.takes.further)
 
 -- the elements of one structure are
 pub few_elements : (reading : Reading) (structure : Structure) → length structure.elements ≤ reading.at → IsReady reading → length structure.elements ≤ most_bytes

@@ -1,21 +1,12 @@
 -- the turn of a reference: its size, its angle, and what its checks come to
-use Rattle.std.proofs.Common.{◌≡◌, ◌↔◌, ◌∙◌, refl, sym, subst, ℕ, ℤ, pos, negsuc, int_eq, ◌+ℤ◌, ◌*ℤ◌, ◌≤ℤ◌, ◌*◌, ◌/◌, ◌%◌, Bool, List, [], ◌∷◌, Option, Some, None, IsTrue, IfSome, IfNone, arith, bit_and}
-use Rattle.std.specs.Prelude.{MatchOption, FitsSigned}
-use Rattle.std.specs.Int.{w64}
+use Rattle.std.proofs.Common.{int_eq, bit_and, ◌≡◌, ◌↔◌, ◌∙◌, refl, sym, subst, ℕ, ℤ, pos, negsuc, ◌+ℤ◌, ◌*ℤ◌, ◌≤ℤ◌, ◌*◌, ◌/◌, ◌%◌, Bool, List, [], ◌∷◌, Option, Some, None, IsTrue, IfSome, IfNone, arith, MatchOption, FitsSigned, w64, All}
+use Rattle.lists.proofs.Words.{ints, Decides-int_eq, MatchOption-at_some, All-nil, All-cons}
 use Rattle.std.specs.Option.{option_eq}
-use Rattle.std.specs.Prelude.{All}
-use Rattle.std.proofs.lemmas.Int.{ints}
-use Rattle.std.proofs.lemmas.Bool.Decides.{Decides-int_eq}
-use Rattle.std.proofs.lemmas.Option.{MatchOption-at_some}
-use Rattle.std.proofs.lemmas.List.Elements.{All-nil, All-cons}
 use Rattle.std.proofs.lemmas.Nat.Bits.{and_pow}
 use Rattle.first_refusal.proofs.CheckLaws.{fails_at_once, fails_later}
 use Rattle.gds_records.specs.declared.kinds.TheConstants as kind
-use Rattle.gds_records.specs.Reals.{HasValue}
-use Rattle.gds_records.specs.Spelling.{Entry}
+use Rattle.library_grammar.specs.GrammarNames.{HasValue, Entry, IsFaultOfFirst, ElementCheck, ElementHolds, reference_checks, is_not_magnified, angle_is_not_absolute, turns_by_quarters, field, unsigned_of, HasQuarters, HasAbsoluteAngle}
 use Rattle.gds_records.proofs.RealLaws.{values_agree}
-use Rattle.library_grammar.specs.ElementChecks.{IsFaultOfFirst, ElementCheck, ElementHolds, reference_checks, is_not_magnified, angle_is_not_absolute, turns_by_quarters}
-use Rattle.library_grammar.specs.OwnRecords.{field, unsigned_of, HasQuarters, HasAbsoluteAngle}
 use Rattle.gds_syntax.specs.inside.Quarters.{AreQuarters, ComesTo, IsAngle}
 use Rattle.library_grammar.specs.declared.fault.SyntaxFault.TheVariants.{Magnified, AbsoluteAngle, BadAngle}
 

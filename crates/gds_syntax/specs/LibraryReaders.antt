@@ -1,22 +1,9 @@
 -- What the readers of a library and of its parts do: which records they took from the stream, where they stand, and which fault
 -- they found.
-use Rattle.std.specs.Prelude.{ℕ, List, [], ◌∷◌, ◌++◌, length, All, Contains, Option, Some, None, IfSome, option_to_list, true, false, IsTrue, if◌then◌else◌, ◌==◌, ◌^◌, ◌<◌, ◌≤◌, ◌≡◌, ◌≢◌, ◌↔◌, ◌⊎◌}
-use Rattle.std.specs.List.{flat_map}
+use Rattle.std.specs.Prelude.{ℕ, List, [], ◌∷◌, ◌++◌, length, All, Contains, Option, Some, None, IfSome, option_to_list, true, false, IsTrue, if◌then◌else◌, ◌==◌, ◌^◌, ◌<◌, ◌≤◌, ◌≡◌, ◌≢◌, ◌↔◌, ◌⊎◌, flat_map}
 use Rattle.gds_records.specs.declared.kinds.TheConstants as kind
-use Rattle.gds_records.specs.Profile.{IsInProfile}
-use Rattle.gds_records.specs.Reading.{Reading, IsLeft, entry_of}
-use Rattle.gds_records.specs.Spelling.{Entry, IsEndlib}
-use Rattle.gds_records.specs.Split.{End}
+use Rattle.library_grammar.specs.GrammarNames.{IsInProfile, Reading, IsLeft, entry_of, Entry, IsEndlib, End, ElementForm, own_kinds, AreNamesIn, IsFirstFault, NoneShows, IsText, IsKept, kinds_of, head_kinds, IsOfKind, Property, property_records, IsProperty, ElementParts, element_records, IsElement, StructureParts, structure_records, IsStructure, behind, SayElements, SaysStructure, SayStructures, AreDifferent, names_of, IsPlain, Place, before_header, between_structures, before_strname, behind_strname, between_elements, among_own, behind_attribute, behind_property, behind_endlib, into_element, has_kind, next_place, place_behind}
 use Rattle.gds_records.specs.declared.record.Record.{Record}
-use Rattle.library_grammar.specs.ElementForms.{ElementForm, own_kinds}
-use Rattle.library_grammar.specs.FirstFault.{AreNamesIn, IsFirstFault, NoneShows}
-use Rattle.gds_records.specs.Fields.{IsText}
-use Rattle.library_grammar.specs.Elements.{IsKept}
-use Rattle.library_grammar.specs.Grammar.{kinds_of, head_kinds, IsOfKind, Property, property_records, IsProperty, ElementParts, element_records, IsElement, StructureParts, structure_records, IsStructure}
-use Rattle.library_grammar.specs.Libraries.{behind, SayElements, SaysStructure, SayStructures}
-use Rattle.lists.specs.Differing.{AreDifferent}
-use Rattle.library_model.specs.Names.{names_of}
-use Rattle.library_grammar.specs.Places.{IsPlain, Place, before_header, between_structures, before_strname, behind_strname, between_elements, among_own, behind_attribute, behind_property, behind_endlib, into_element, has_kind, next_place, place_behind}
 use Rattle.library_model.specs.declared.element.Element.{Element}
 use Rattle.library_grammar.specs.declared.fault.SyntaxFault.{SyntaxFault}
 use Rattle.library_model.specs.declared.library.Structure.{Structure}

@@ -96,11 +96,15 @@ fn behind_class<'a>(records: &mut Records<'a>) -> Result<Record<'a>, SyntaxFault
     Ok(found)
 }
 
-/// Puts what is kept of an element behind the others.
+/// Puts what is kept of an element behind the others. The first gets room for itself alone, since most structures of a deep
+/// hierarchy have one element.
 fn keep(elements: &mut Vec<Element>, kept: Option<Element>) -> Result<(), NoMemory>
     ensures { IfOk result (λ _. elements.new.items ≡ elements.old.items ++ option_to_list kept) }
 {
     if let Some(element) = kept {
+        if elements.is_empty() {
+            elements.reserve_exact(1)?;
+        }
         elements.push(element)?;
     }
     Ok(())

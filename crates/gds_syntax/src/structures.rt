@@ -46,6 +46,32 @@ fn read_structure<'a>(
     })
 }
 
+/// Reads the structures of a library behind its head, and its end, into an empty list. The index of names has none yet.
+fn collect_structures<'a>(
+    alloc: Global,
+    records: &mut Records<'a>,
+    structures: &mut Vec<Structure>,
+    names: &mut NameIndex<'a>,
+    own: &mut OwnRecords<'a>,
+) -> Result<(), SyntaxFault>
+    requires ready { IsReady records.old }
+    requires none { structures.old.items ≡ [] }
+    requires no_names { names.old ≡ [] }
+    ensures structures { IfOk result (λ _. ReadsStructures records.old records.new structures.new.items) }
+    ensures faulty { IfErr result (λ fault. fault ≢ Memory → Stops records.old (standing between_structures []) fault) }
+{
+    let mut found = next_record(records)?;
+    while found.kind == kinds::BGNSTR {
+        let structure = read_structure(alloc, records, &found, names, own)?;
+        structures.push(structure)?;
+        found = next_record(records)?;
+    }
+    if found.kind != kinds::ENDLIB {
+        return Err(unexpected(&found));
+    }
+    Ok(())
+}
+
 /// Reads the structures of a library behind its head, and its end.
 pub fn read_structures(
     alloc: Global,
@@ -58,14 +84,6 @@ pub fn read_structures(
     let mut structures = Vec::new(alloc);
     let mut names = NameIndex::new(alloc);
     let mut own = OwnRecords::new(alloc);
-    let mut found = next_record(records)?;
-    while found.kind == kinds::BGNSTR {
-        let structure = read_structure(alloc, records, &found, &mut names, &mut own)?;
-        structures.push(structure)?;
-        found = next_record(records)?;
-    }
-    if found.kind != kinds::ENDLIB {
-        return Err(unexpected(&found));
-    }
+    collect_structures(alloc, records, &mut structures, &mut names, &mut own)?;
     Ok(structures)
 }

@@ -1,15 +1,9 @@
 -- What a written element is, by the grammar: its form, its own records, and what is kept of it.
-use Rattle.std.proofs.Common.{◌≡◌, ◌≢◌, ℕ, Bool, not, ◌||◌, ◌==◌, List, [], ◌∷◌, ◌++◌, All, Contains, Option, Some, None, refl, sym, subst, arith, append_assoc}
-use Rattle.std.specs.Prelude.{AllPairs}
-use Rattle.lists.specs.Differing.{AreDifferent}
+use Rattle.std.proofs.Common.{◌≡◌, ◌≢◌, ℕ, Bool, not, ◌||◌, ◌==◌, List, [], ◌∷◌, ◌++◌, All, Contains, Option, Some, None, refl, sym, subst, arith, append_assoc, AllPairs}
+use Rattle.library_grammar.specs.GrammarNames.{AreDifferent, Entry, ElementHolds, element_checks, ElementForm, boundary_form, path_form, sref_form, aref_form, box_form, element_forms, own_kinds, Opens, IsKept, kinds_of}
 use Rattle.geo_core.specs.declared.plane.Point.{Point}
 use Rattle.geo_core.specs.declared.plane.Turn.{Turn}
 use Rattle.gds_records.specs.declared.kinds.TheConstants as kind
-use Rattle.gds_records.specs.Spelling.{Entry}
-use Rattle.library_grammar.specs.ElementChecks.{ElementHolds, element_checks}
-use Rattle.library_grammar.specs.ElementForms.{ElementForm, boundary_form, path_form, sref_form, aref_form, box_form, element_forms, own_kinds, Opens}
-use Rattle.library_grammar.specs.Elements.{IsKept}
-use Rattle.library_grammar.specs.Grammar.{kinds_of}
 use Rattle.library_model.specs.declared.element.Element.{Element}
 use Rattle.library_model.specs.declared.element.Element.TheVariants.{Shape as shape_element, Reference as reference_element}
 use Rattle.library_model.specs.declared.element.Lattice.{Lattice}

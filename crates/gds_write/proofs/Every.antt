@@ -1,8 +1,7 @@
 -- What holds of each item of a list that is put together of parts.
 use Rattle.std.proofs.Common.{Bool, true, false, List, [], ◌∷◌, ◌++◌, All, arith}
-use Rattle.std.specs.List.{flat_map}
-use Rattle.std.proofs.lemmas.List.Elements.{All-cons, All-head, All-tail}
-use Rattle.gds_records.specs.Spelling.{Entry}
+use Rattle.lists.proofs.Words.{flat_map, All-cons, All-head, All-tail}
+use Rattle.library_grammar.specs.GrammarNames.{Entry}
 use Rattle.gds_write.specs.Bodies.{entry_if}
 
 -- the same as `All`, part by part

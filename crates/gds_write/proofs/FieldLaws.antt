@@ -1,21 +1,9 @@
 -- What a list of own records has of a kind, where some of them are written only if they say something.
-use Rattle.std.proofs.Common.{◌≡◌, ◌≢◌, ℕ, suc, ℤ, pos, Bool, true, false, not, ◌==◌, List, [], ◌∷◌, ◌++◌, length, All, AllPairs, Contains, None, refl, sym, arith, true≢false}
-use Rattle.std.specs.Prelude.{AllPairs, nat_eq, option_map, unwrap_or}
-use Rattle.std.specs.Bool.{then_some}
-use Rattle.std.specs.List.{list_all, list_any}
+use Rattle.std.proofs.Common.{◌≡◌, ◌≢◌, ℕ, suc, ℤ, pos, Bool, true, false, not, ◌==◌, List, [], ◌∷◌, ◌++◌, length, All, AllPairs, Contains, None, refl, sym, arith, true≢false, nat_eq, option_map, unwrap_or}
+use Rattle.lists.proofs.Words.{then_some, list_all, list_any, int_eq, eqb-true, Decides-eqb, Decides-int_eq, nat_eq_equiv, All-cons, All-head, All-tail, AllPairs-cons, AllPass-from_list_all, IsDistinct-from_count, Contains-from_any}
 use Rattle.std.specs.Set.{distinct_count}
-use Rattle.std.specs.Ordering.{int_eq}
-use Rattle.std.proofs.lemmas.Bool.{eqb-true}
-use Rattle.std.proofs.lemmas.Bool.Decides.{Decides-eqb, Decides-int_eq}
-use Rattle.std.proofs.lemmas.Cmp.{nat_eq_equiv}
-use Rattle.std.proofs.lemmas.List.Elements.{All-cons, All-head, All-tail}
-use Rattle.std.proofs.lemmas.List.Kept.{AllPairs-cons}
-use Rattle.std.proofs.lemmas.List.Sums.{AllPass-from_list_all}
-use Rattle.std.proofs.lemmas.Map.Made.{AllPairs-from_IsDistinct, IsDistinct-from_count}
-use Rattle.std.proofs.lemmas.Map.Views.{Contains-from_any}
-use Rattle.gds_records.specs.Spelling.{Entry}
-use Rattle.library_grammar.specs.OwnRecords.{field}
-use Rattle.library_grammar.specs.Grammar.{kinds_of}
+use Rattle.std.proofs.lemmas.Map.Made.{AllPairs-from_IsDistinct}
+use Rattle.library_grammar.specs.GrammarNames.{Entry, field, kinds_of}
 use Rattle.gds_write.specs.Bodies.{entry_if, is_not_zero}
 
 -- ---- fields

@@ -1,9 +1,8 @@
 -- A coordinate that is moved by equal steps, as the code computes it.
 use Rattle.std.proofs.Common.{◌≡◌, ℕ, zero, suc, ◌*◌, ◌^◌, ◌<◌, ◌≤◌, ℤ, pos, negsuc, neg_ℤ, ◌+ℤ◌, ◌*ℤ◌, nat_abs, refl, ◌∙◌, arith, w32, w64, SFits}
-use Rattle.std.specs.Int.{cast_signed, cast_unsigned}
+use Rattle.lists.proofs.Words.{cast_signed, cast_unsigned, to_z-of_z}
 use Rattle.std.proofs.Math.Facts.{sfits_widen}
 use Rattle.std.proofs.Math.Nat.{mul-le-mul}
-use Rattle.std.proofs.lemmas.Int.{to_z-of_z}
 
 negated_fits : (n : ℕ) → n ≤ 2 ^ 15 * 2 ^ 32 → SFits w64 (neg_ℤ (pos n))
 negated_fits zero few = record { sfits = omega arith }

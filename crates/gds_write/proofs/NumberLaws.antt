@@ -1,20 +1,14 @@
 -- What the bytes of a body read back as.
-use Rattle.std.proofs.Common.{◌≡◌, ℕ, zero, suc, ◌+◌, ◌*◌, ◌/◌, ◌^◌, ◌<◌, ℤ, pos, List, [], ◌∷◌, ◌++◌, length, map, get_or, drop, ap, ◌∙◌, arith, w16, w32}
-use Rattle.std.specs.Prelude.{FitsSigned}
-use Rattle.std.specs.Int.{cast_signed, cast_unsigned}
-use Rattle.std.specs.List.{flat_map, range_with_len}
+use Rattle.std.proofs.Common.{◌≡◌, ℕ, zero, suc, ◌+◌, ◌*◌, ◌/◌, ◌^◌, ◌<◌, ℤ, pos, List, [], ◌∷◌, ◌++◌, length, map, get_or, drop, ap, ◌∙◌, arith, w16, w32, FitsSigned}
+use Rattle.lists.proofs.Words.{cast_signed, cast_unsigned, flat_map, range_with_len, to_z-of_z, All-head, All-tail, get_or-map-range_with_len, length-map-range_with_len}
 use Rattle.std.proofs.Math.Facts.{Fits-lt-pow, Fits-of_z}
 use Rattle.std.proofs.Math.Seq.{drop-append-add}
-use Rattle.std.proofs.lemmas.Int.{to_z-of_z, to_z_pos}
+use Rattle.std.proofs.lemmas.Int.{to_z_pos}
 use Rattle.std.proofs.lemmas.List.{ext_get_or}
-use Rattle.std.proofs.lemmas.List.Elements.{All-head, All-tail}
-use Rattle.std.proofs.lemmas.List.FromFn.{get_or-map-range_with_len, length-map-range_with_len}
 use Rattle.byteorder.specs.Endian.{big_bytes, big_number}
 use Rattle.byteorder.specs.Numbers.{big_number-reads_back}
 use Rattle.geo_core.specs.declared.plane.Point.{Point}
-use Rattle.gds_records.specs.Fields.{item}
-use Rattle.library_grammar.specs.OwnRecords.{point_in, points_in}
-use Rattle.library_model.specs.Ranges.{IsPoint, ArePoints}
+use Rattle.library_grammar.specs.GrammarNames.{item, point_in, points_in, IsPoint, ArePoints}
 use Rattle.gds_write.specs.Bodies.{long_bytes, point_bytes}
 use Rattle.gds_write.proofs.ProfileLaws.{length-points}
 

@@ -1,18 +1,14 @@
 -- Each record that is written has a spelling and stands in the table.
 use Rattle.std.proofs.Common.{◌≡◌, ℕ, zero, suc, ◌*◌, ◌%◌, ◌<◌, ◌≤◌, ℤ, Bool, true, false, ◌==◌, if◌then◌else◌, List, [], ◌∷◌, ◌++◌, length, refl, sym, arith, Option, Some, None, length-append, w16, w32, ◌||◌, not}
-use Rattle.std.specs.Int.{cast_unsigned, byte_at}
-use Rattle.std.specs.List.{flat_map}
-use Rattle.std.proofs.lemmas.Bool.{eqb-true, eqb-false}
-use Rattle.std.proofs.lemmas.List.{append-nil}
-use Rattle.std.proofs.lemmas.List.Elements.{All-append, All-cons, All-replicate}
+use Rattle.lists.proofs.Words.{cast_unsigned, flat_map, eqb-true, eqb-false, append-nil, All-append, All-cons}
+use Rattle.std.specs.Int.{byte_at}
+use Rattle.std.proofs.lemmas.List.Elements.{All-replicate}
 use Rattle.byteorder.specs.Endian.{big_bytes}
 use Rattle.geo_core.specs.declared.plane.Point.{Point}
-use Rattle.gds_records.specs.Fields.{IsText}
+use Rattle.library_grammar.specs.GrammarNames.{IsText, IsInProfile, IsByte, AreBytes, IsPermitted}
 use Rattle.gds_records.specs.declared.forms.TheConstants as form
 use Rattle.gds_records.specs.declared.kinds.TheConstants as kind
-use Rattle.gds_records.specs.Profile.{IsInProfile}
-use Rattle.lists.specs.ByteLists.{IsByte, AreBytes}
-use Rattle.gds_records.specs.Table.{table, IsPermitted}
+use Rattle.gds_records.specs.Table.{table}
 use Rattle.gds_records.proofs.TableLaws.{permits_any, permits_exactly, permits_multiple_of_eight}
 use Rattle.geo_core.specs.declared.plane.Turn.{Turn}
 use Rattle.library_model.specs.declared.element.Element.{Element}

@@ -1,14 +1,11 @@
 -- The parts that a library is written as: they are in the grammar, and say the same library, at their offsets.
 use Rattle.std.proofs.Common.{◌≡◌, ℕ, List, [], ◌∷◌, ◌++◌, map, All, Contains, Some, None, refl, sym, ap, ◌∙◌, arith, append_assoc}
-use Rattle.std.specs.List.{flat_map, AllZip}
-use Rattle.std.proofs.lemmas.List.Elements.{All-nil, All-cons, All-head, All-tail, All-map}
+use Rattle.lists.proofs.Words.{flat_map, AllZip, All-nil, All-cons, All-head, All-tail, All-map}
 use Rattle.lists.proofs.Mapping.{flat_map-map, flat_map-same}
 use Rattle.gds_records.specs.declared.forms.TheConstants as form
 use Rattle.gds_records.specs.declared.kinds.TheConstants as kind
-use Rattle.gds_records.specs.Spelling.{Entry}
-use Rattle.library_grammar.specs.ElementForms.{own_kinds}
-use Rattle.library_grammar.specs.Grammar.{kinds_of, head_kinds, IsProperty, ElementParts, element_records, IsElement, StructureParts, structure_head, structure_records, IsStructure, LibraryParts, library_records, IsInShape}
-use Rattle.library_grammar.specs.Libraries.{behind, SayElements, no_more as no_elements, one_more as one_element, SayStructures, no_more as no_structures, one_more as one_structure, IsLibrary}
+use Rattle.library_grammar.specs.GrammarNames.{Entry, own_kinds, kinds_of, head_kinds, IsProperty, ElementParts, element_records, IsElement, StructureParts, structure_head, structure_records, IsStructure, LibraryParts, library_records, IsInShape, behind, SayElements, SayStructures, IsLibrary}
+use Rattle.library_grammar.specs.Libraries.{no_more as no_elements, one_more as one_element, no_more as no_structures, one_more as one_structure}
 use Rattle.library_model.specs.declared.element.Element.{Element}
 use Rattle.library_model.specs.declared.element.Element.TheVariants.{Shape as shape_element, Reference as reference_element}
 use Rattle.library_model.specs.declared.library.Library.{Library}
@@ -65,7 +62,7 @@ library_is_written library =
     ∙ sym (append_assoc (written_head library) (flat_map written_structure library.structures) (bare kind.ENDLIB ∷ []))
 
 -- they are in the grammar
-element_in_grammar : (element : Element) → IsWritableElement element → IsElement (element_parts element)
+pub element_in_grammar : (element : Element) → IsWritableElement element → IsElement (element_parts element)
 element_in_grammar element writable =
     let reads = element_reads element writable in
     record {

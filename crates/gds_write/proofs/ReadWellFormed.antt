@@ -1,23 +1,10 @@
 -- A library that was read is well formed, so that it can be written.
-use Rattle.std.proofs.Common.{◌≡◌, ℕ, ℤ, pos, ◌+ℤ◌, ◌*ℤ◌, ◌+◌, ◌≤◌, ◌==◌, Bool, true, false, cond, List, [], ◌∷◌, ◌++◌, length, All, Option, Some, None, option_map, IfSome, refl, sym, ap, subst, ◌∙◌, arith}
-use Rattle.std.specs.Prelude.{FitsSigned, IfOk, Result, Ok, Err, find, option_to_list, unwrap_or}
-use Rattle.std.specs.Int.{w32, cast_signed}
-use Rattle.std.proofs.lemmas.Int.{ints}
-use Rattle.std.proofs.lemmas.List.{length-append}
-use Rattle.std.proofs.lemmas.List.Elements.{All-weaker, All-nil, All-cons, All-head, All-tail, All-same}
-use Rattle.first_refusal.specs.Outcomes.{value}
+use Rattle.std.proofs.Common.{◌≡◌, ℕ, ℤ, pos, ◌+ℤ◌, ◌*ℤ◌, ◌+◌, ◌≤◌, List, [], ◌∷◌, ◌++◌, length, All, Option, Some, None, IfSome, sym, ap, subst, ◌∙◌, arith, FitsSigned, IfOk, Result, Ok, Err, option_to_list, w32, length-append}
+use Rattle.lists.proofs.Words.{All-weaker, All-nil, All-cons, All-head, All-tail, All-same, flat_map}
+use Rattle.library_grammar.specs.GrammarNames.{value, IsText, IsInProfile, Entry, IsKept, boundary, path, sref, aref, text, node, box, IsReference, IsLattice, BytesComeTo, are_library, property_records, ElementParts, element_records, StructureParts, structure_head, structure_records, library_head, library_records, SayElements, SaysStructure, SayStructures, body_of, point_in, points_of, Leads, HasItsPoints, IsWellPointed, AreWellPointed, IsPoint, ArePoints}
 use Rattle.geo_core.specs.declared.plane.Point.{Point}
-use Rattle.gds_records.specs.Fields.{IsText}
 use Rattle.gds_records.specs.declared.kinds.TheConstants as kind
-use Rattle.gds_records.specs.Profile.{IsInProfile}
-use Rattle.gds_records.specs.Spelling.{Entry}
-use Rattle.library_grammar.specs.Elements.{IsKept, boundary, path, sref, aref, text, node, box, IsReference, IsLattice}
-use Rattle.library_grammar.specs.FirstFault.{BytesComeTo, are_library}
-use Rattle.library_grammar.specs.Grammar.{property_records, ElementParts, element_records, StructureParts, structure_head, structure_records, library_head, library_records}
-use Rattle.library_grammar.specs.Libraries.{SayElements, no_more as no_elements, one_more as one_element, SaysStructure, SayStructures, no_more as no_structures, one_more as one_structure}
-use Rattle.library_grammar.specs.OwnRecords.{field, body_of, point_in, points_of, Leads}
-use Rattle.library_model.specs.Points.{HasItsPoints, IsWellPointed, AreWellPointed}
-use Rattle.library_model.specs.Ranges.{IsPoint, ArePoints}
+use Rattle.library_grammar.specs.Libraries.{no_more as no_elements, one_more as one_element, no_more as no_structures, one_more as one_structure}
 use Rattle.library_model.specs.declared.element.Element.{Element}
 use Rattle.library_model.specs.declared.element.Lattice.{Lattice}
 use Rattle.library_model.specs.declared.element.Reference.{Reference}
@@ -25,7 +12,6 @@ use Rattle.library_model.specs.declared.element.Shape.{Shape}
 use Rattle.library_grammar.specs.declared.fault.SyntaxFault.{SyntaxFault}
 use Rattle.library_model.specs.declared.library.Library.{Library}
 use Rattle.library_model.specs.declared.library.Structure.{Structure}
-use Rattle.std.specs.List.{flat_map}
 use Rattle.lists.proofs.Containing.{All-front, All-back}
 use Rattle.library_grammar.proofs.FieldRanges.{body_has}
 use Rattle.library_grammar.proofs.LibraryFacts.{library_names_differ, library_is_pointed}

@@ -1,29 +1,19 @@
 -- What a reference's own records say of it, as they are written.
-use Rattle.std.proofs.Common.{◌≡◌, ◌↔◌, ℕ, zero, suc, ◌/◌, ◌%◌, ◌^◌, ◌<◌, ℤ, pos, negsuc, ◌+ℤ◌, ◌*ℤ◌, ◌≤ℤ◌, Bool, true, false, not, ◌||◌, ◌==◌, List, [], ◌∷◌, ◌++◌, length, get_or, All, Contains, Option, Some, None, refl, sym, ap, subst, ◌∙◌, arith, append_assoc, true≢false}
-use Rattle.std.specs.Prelude.{unwrap_or, MatchOption, IfSome, IsTrue}
-use Rattle.std.specs.Bool.{then_some}
-use Rattle.std.specs.List.{flat_map}
-use Rattle.std.proofs.lemmas.Int.{ints}
-use Rattle.std.proofs.lemmas.List.Elements.{All-from_recursion}
+use Rattle.std.proofs.Common.{◌≡◌, ◌↔◌, ℕ, zero, suc, ◌/◌, ◌%◌, ◌^◌, ◌<◌, ℤ, pos, negsuc, ◌+ℤ◌, ◌*ℤ◌, ◌≤ℤ◌, Bool, true, false, not, ◌||◌, ◌==◌, List, [], ◌∷◌, ◌++◌, length, get_or, All, Contains, Option, Some, None, refl, sym, ap, subst, ◌∙◌, arith, append_assoc, true≢false, unwrap_or, MatchOption, IfSome, IsTrue}
+use Rattle.lists.proofs.Words.{then_some, flat_map, ints, All-from_recursion}
 use Rattle.byteorder.specs.Endian.{big_bytes}
 use Rattle.geo_core.specs.declared.plane.Point.{Point}
 use Rattle.geo_core.specs.declared.plane.Turn.{Turn}
-use Rattle.gds_records.specs.Fields.{item}
+use Rattle.library_grammar.specs.GrammarNames.{item, HasValue, Entry, ElementHolds, element_checks, sref_form, aref_form, IsTurn, IsReference, IsKept, field, body_of, point_in, points_of, unsigned_of, HasQuarters, columns_of, rows_of, Leads, HasSteps, IsPoint, ArePoints, kinds_of}
 use Rattle.gds_records.specs.declared.kinds.TheConstants as kind
-use Rattle.gds_records.specs.Reals.{HasValue}
-use Rattle.gds_records.specs.Spelling.{Entry}
-use Rattle.library_grammar.specs.ElementChecks.{ElementHolds, element_checks}
-use Rattle.library_grammar.specs.ElementForms.{sref_form, aref_form}
-use Rattle.library_grammar.specs.Elements.{IsTurn, IsReference, IsKept, sref as keeps_sref, aref as keeps_aref}
-use Rattle.library_grammar.specs.OwnRecords.{field, body_of, point_in, points_of, unsigned_of, HasQuarters, columns_of, rows_of, Leads, HasSteps}
-use Rattle.library_model.specs.Ranges.{IsPoint, ArePoints}
-use Rattle.library_grammar.specs.Grammar.{kinds_of}
+use Rattle.library_grammar.specs.Elements.{sref as keeps_sref, aref as keeps_aref}
 use Rattle.library_model.specs.declared.element.Element.TheVariants.{Reference as reference_element}
 use Rattle.library_model.specs.declared.element.Lattice.{Lattice}
 use Rattle.library_model.specs.declared.element.Reference.{Reference}
 use Rattle.gds_write.specs.Bodies.{text_entry, point_bytes, entry_if}
 use Rattle.gds_write.specs.WellFormed.{IsWritableReference}
 use Rattle.gds_write.specs.Written.{strans_entry, angle_entry, turn_records, moved_by, array_points, placing_records}
+use Rattle.gds_write.proofs.Every.{more, one, all_of}
 use Rattle.gds_write.proofs.FieldLaws.{past, found_where}
 use Rattle.gds_write.proofs.NumberLaws.{columns_read, rows_read, point_reads, points_read}
 use Rattle.gds_write.proofs.ProfileLaws.{padded_fills}
@@ -189,23 +179,10 @@ module _ (at : ℕ) (reference : Reference) (writable : IsWritableReference refe
 
   pub sref_holds : All (ElementHolds (reference_own reference.target reference.turn reference.origin None)) (element_checks sref_form)
   sref_holds =
-      let own : List Entry = reference_own reference.target reference.turn reference.origin None in
-      All-from_recursion (ElementHolds own) (element_checks sref_form) (
-        has_points_xy at reference None writable is,
-        (
-          (0, omega arith, refl),
-          (
-            ap length (points_are at reference None writable is),
-            (
-              not_magnified reference.target reference.turn reference.origin None,
-              (
-                not_absolute reference.target reference.turn reference.origin None,
-                (by_quarters reference.target reference.turn reference.origin None, tt),
-              ),
-            ),
-          ),
-        ),
-      )
+      all_of {P = ElementHolds (reference_own reference.target reference.turn reference.origin None)}
+      (more (has_points_xy at reference None writable is) (more (0, omega arith, refl) (more (ap length (points_are at reference None writable is))
+      (more (not_magnified reference.target reference.turn reference.origin None) (more (not_absolute reference.target reference.turn reference.origin None)
+      (one (by_quarters reference.target reference.turn reference.origin None)))))))
 
 -- an array
 module _ (at : ℕ) (reference : Reference) (lattice : Lattice) (writable : IsWritableReference reference) (is : reference.lattice ≡ Some lattice) where
@@ -244,28 +221,7 @@ module _ (at : ℕ) (reference : Reference) (lattice : Lattice) (writable : IsWr
   aref_holds =
       let some_columns = lattice.some_columns in
       let some_rows = lattice.some_rows in
-      All-from_recursion (ElementHolds array_own) (element_checks aref_form) (
-        has_points_xy at reference (Some lattice) writable is,
-        (
-          (0, omega arith, refl),
-          (
-            has_found kind.COLROW array_own _ has_colrow,
-            (
-              ap length (points_are at reference (Some lattice) writable is),
-              (
-                not_magnified reference.target reference.turn reference.origin (Some lattice),
-                (
-                  not_absolute reference.target reference.turn reference.origin (Some lattice),
-                  (
-                    by_quarters reference.target reference.turn reference.origin (Some lattice),
-                    (
-                      (rw columns_are (omega (arith, ints)), rw rows_are (omega (arith, ints))),
-                      ((lattice.column_step, lattice.row_step, has_steps), tt),
-                    ),
-                  ),
-                ),
-              ),
-            ),
-          ),
-        ),
-      )
+      all_of {P = ElementHolds array_own} (more (has_points_xy at reference (Some lattice) writable is) (more (0, omega arith, refl) (more (has_found kind.COLROW array_own _ has_colrow)
+      (more (ap length (points_are at reference (Some lattice) writable is)) (more (not_magnified reference.target reference.turn reference.origin (Some lattice))
+      (more (not_absolute reference.target reference.turn reference.origin (Some lattice)) (more (by_quarters reference.target reference.turn reference.origin (Some lattice))
+      (more (rw columns_are (omega (arith, ints)), rw rows_are (omega (arith, ints))) (one (lattice.column_step, lattice.row_step, has_steps))))))))))

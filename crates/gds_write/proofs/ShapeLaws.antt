@@ -1,29 +1,17 @@
 -- What a shape's own records say of it, as they are written.
-use Rattle.std.proofs.Common.{◌≡◌, ℕ, suc, ◌≤◌, ℤ, pos, Bool, true, false, ◌==◌, List, [], ◌∷◌, ◌++◌, length, All, Contains, Option, Some, refl, sym, ap, subst, ◌∙◌, arith, append_assoc, w16, w32}
-use Rattle.std.specs.Prelude.{option_map, unwrap_or}
-use Rattle.std.specs.Bool.{then_some}
-use Rattle.std.specs.Int.{cast_signed}
-use Rattle.std.specs.List.{flat_map}
-use Rattle.std.proofs.lemmas.Bool.{eqb-true}
-use Rattle.std.proofs.lemmas.List.Elements.{All-from_recursion}
+use Rattle.std.proofs.Common.{◌≡◌, ℕ, suc, ◌≤◌, ℤ, pos, Bool, true, false, ◌==◌, List, [], ◌∷◌, ◌++◌, length, All, Contains, Option, Some, refl, sym, ap, subst, ◌∙◌, arith, append_assoc, w16, w32, option_map, unwrap_or}
+use Rattle.lists.proofs.Words.{then_some, cast_signed, flat_map, eqb-true}
 use Rattle.geo_core.specs.declared.plane.Point.{Point}
-use Rattle.gds_records.specs.Fields.{item}
+use Rattle.library_grammar.specs.GrammarNames.{unsigned_of, item, Entry, ElementHolds, element_checks, ElementForm, boundary_form, path_form, box_form, path_kind, IsKept, field, points_in, points_of, short_of, long_of, IsClosed, HasItsPoints, ArePoints, IsKind, kinds_of}
 use Rattle.gds_records.specs.declared.kinds.TheConstants as kind
-use Rattle.gds_records.specs.Spelling.{Entry}
-use Rattle.library_grammar.specs.ElementChecks.{ElementHolds, element_checks}
-use Rattle.library_grammar.specs.ElementForms.{ElementForm, boundary_form, path_form, box_form}
-use Rattle.library_grammar.specs.Elements.{path_kind, IsKept, boundary as keeps_boundary, path as keeps_path, box as keeps_box}
-use Rattle.library_grammar.specs.OwnRecords.{field, points_in, points_of, short_of, long_of}
-use Rattle.geo_core.specs.Circuits.{IsClosed}
-use Rattle.library_model.specs.Points.{HasItsPoints}
-use Rattle.library_model.specs.Ranges.{ArePoints, IsKind}
-use Rattle.library_grammar.specs.Grammar.{kinds_of}
+use Rattle.library_grammar.specs.Elements.{boundary as keeps_boundary, path as keeps_path, box as keeps_box}
 use Rattle.library_model.specs.declared.element.Element.TheVariants.{Shape as shape_element}
 use Rattle.library_model.specs.declared.element.Shape.{Shape}
 use Rattle.library_model.specs.declared.element.ShapeKind.{ShapeKind}
 use Rattle.library_model.specs.declared.element.ShapeKind.TheVariants.{Boundary, BoxElement, Path}
 use Rattle.gds_write.specs.Bodies.{unsigned_entry, short_entry, long_entry, long_bytes, point_bytes, points_entry, entry_if, is_not_zero}
 use Rattle.gds_write.specs.Written.{opening_of_shape, datatype_kind, path_records}
+use Rattle.gds_write.proofs.Every.{more, one, all_of}
 use Rattle.gds_write.proofs.FieldLaws.{past, found_where, number_reads_by}
 use Rattle.gds_write.proofs.NumberLaws.{two_bytes_read, short_reads, long_reads, points_read}
 
@@ -143,44 +131,18 @@ module _ (layer datatype : ℕ) (points : List Point) where
   pub shape_holds : (shape_kind : ShapeKind) → ArePoints points → HasItsPoints shape_kind points
       → All (ElementHolds (shape_own layer datatype points shape_kind)) (element_checks (form_of_shape shape_kind))
   shape_holds Boundary fit outline =
-      let own : List Entry = shape_own layer datatype points Boundary in
       let same = sym (points_are Boundary fit) in
-      All-from_recursion (ElementHolds own) (element_checks boundary_form) (
-        (0, omega arith, refl),
-        (
-          (1, omega arith, refl),
-          (
-            (2, omega arith, refl),
-            (subst (λ (ps : List Point). 4 ≤ length ps) same outline.count, (subst IsClosed same outline.closed, tt)),
-          ),
-        ),
-      )
+      all_of {P = ElementHolds (shape_own layer datatype points Boundary)} (more (0, omega arith, refl) (more (1, omega arith, refl) (more (2, omega arith, refl)
+      (more (subst (λ (ps : List Point). 4 ≤ length ps) same outline.count) (one (subst IsClosed same outline.closed))))))
   shape_holds BoxElement fit outline =
-      let own : List Entry = shape_own layer datatype points BoxElement in
       let same = sym (points_are BoxElement fit) in
-      All-from_recursion (ElementHolds own) (element_checks box_form) (
-        (0, omega arith, refl),
-        (
-          (2, omega arith, refl),
-          (
-            (1, omega arith, refl),
-            (subst (λ (ps : List Point). 4 ≤ length ps) same outline.count, (subst IsClosed same outline.closed, tt)),
-          ),
-        ),
-      )
+      all_of {P = ElementHolds (shape_own layer datatype points BoxElement)} (more (0, omega arith, refl) (more (2, omega arith, refl) (more (1, omega arith, refl)
+      (more (subst (λ (ps : List Point). 4 ≤ length ps) same outline.count) (one (subst IsClosed same outline.closed))))))
   shape_holds (Path pathtype width begin end) fit some =
       let own : List Entry = shape_own layer datatype points (Path pathtype width begin end) in
       let same = sym (points_are (Path pathtype width begin end) fit) in
-      All-from_recursion (ElementHolds own) (element_checks path_form) (
-        has_found kind.LAYER own _ refl,
-        (
-          has_found kind.DATATYPE own _ refl,
-          (
-            has_found kind.XY own _ (path_xy pathtype width begin end),
-            (subst (λ (ps : List Point). 1 ≤ length ps) same some, tt),
-          ),
-        ),
-      )
+      all_of {P = ElementHolds own} (more (has_found kind.LAYER own _ refl) (more (has_found kind.DATATYPE own _ refl) (more (has_found kind.XY own _ (path_xy pathtype width begin end))
+      (one (subst (λ (ps : List Point). 1 ≤ length ps) same some)))))
 
 -- a shape that begins at another offset
 abbrev pub shape_at : ℕ → Shape → Shape
@@ -189,30 +151,17 @@ shape_at at shape = record shape { at = at }
 -- what is kept of it is the shape
 pub shape_kept : (at : ℕ) (shape : Shape) (shape_kind : ShapeKind) → shape.kind ≡ shape_kind
     → IsKept at (shape_own shape.layer shape.datatype shape.points shape_kind) (opening_of_shape shape_kind) (Some (shape_element (shape_at at shape)))
-shape_kept at shape Boundary is =
-    keeps_boundary
-    (record {
-      place = refl;
-      is_kind = is;
-      on_layer = sym (two_bytes_read shape.layer [] shape.layer_fits);
-      of_datatype = sym (two_bytes_read shape.datatype [] shape.datatype_fits);
-      has_points = sym (points_are shape.layer shape.datatype shape.points Boundary shape.points_fit);
-    })
-shape_kept at shape BoxElement is =
-    keeps_box
-    (record {
-      place = refl;
-      is_kind = is;
-      on_layer = sym (two_bytes_read shape.layer [] shape.layer_fits);
-      of_datatype = sym (two_bytes_read shape.datatype [] shape.datatype_fits);
-      has_points = sym (points_are shape.layer shape.datatype shape.points BoxElement shape.points_fit);
-    })
-shape_kept at shape (Path pathtype width begin end) is =
-    keeps_path
-    (record {
-      place = refl;
-      is_kind = is ∙ path_reads shape.layer shape.datatype shape.points pathtype width begin end (subst IsKind is shape.kind_fits);
-      on_layer = sym (two_bytes_read shape.layer [] shape.layer_fits);
-      of_datatype = sym (two_bytes_read shape.datatype [] shape.datatype_fits);
-      has_points = sym (points_are shape.layer shape.datatype shape.points (Path pathtype width begin end) shape.points_fit);
-    })
+shape_kept at shape shape_kind is =
+    let layer = sym (two_bytes_read shape.layer [] shape.layer_fits) in
+    let datatype = sym (two_bytes_read shape.datatype [] shape.datatype_fits) in
+    let points = sym (points_are shape.layer shape.datatype shape.points shape_kind shape.points_fit) in
+    by shape_kind is layer datatype points
+  where
+    by : (k : ShapeKind) → shape.kind ≡ k → shape.layer ≡ unsigned_of kind.LAYER (shape_own shape.layer shape.datatype shape.points k)
+        → shape.datatype ≡ item 2 0 (unsigned_entry kind.DATATYPE shape.datatype).body → shape.points ≡ points_of (shape_own shape.layer shape.datatype shape.points k)
+        → IsKept at (shape_own shape.layer shape.datatype shape.points k) (opening_of_shape k) (Some (shape_element (shape_at at shape)))
+    by Boundary is layer datatype points = keeps_boundary (record { place = refl; is_kind = is; on_layer = layer; of_datatype = datatype; has_points = points })
+    by BoxElement is layer datatype points = keeps_box (record { place = refl; is_kind = is; on_layer = layer; of_datatype = datatype; has_points = points })
+    by (Path pathtype width begin end) is layer datatype points =
+        let read = path_reads shape.layer shape.datatype shape.points pathtype width begin end (subst IsKind is shape.kind_fits) in
+        keeps_path (record { place = refl; is_kind = is ∙ read; on_layer = layer; of_datatype = datatype; has_points = points })

@@ -1,13 +1,11 @@
 -- What each step of the writer puts behind what is there.
-use Rattle.std.proofs.Common.{◌≡◌, ℕ, ◌+◌, ◌*◌, ◌<◌, ◌≤◌, List, [], ◌∷◌, ◌++◌, length, get_or, take, All, sym, ap, subst, ◌∙◌, append_assoc}
-use Rattle.std.specs.List.{flat_map}
-use Rattle.std.proofs.lemmas.List.{append-nil, take_all, take_more}
-use Rattle.std.proofs.lemmas.Grind.{flat_map-append}
+use Rattle.std.proofs.Common.{◌≡◌, ℕ, ◌+◌, ◌*◌, ◌<◌, ◌≤◌, List, [], ◌∷◌, ◌++◌, length, get_or, take, All, sym, ap, subst, ◌∙◌, append_assoc, take_all}
+use Rattle.lists.proofs.Words.{flat_map, append-nil, take_more, flat_map-append}
 use Rattle.byteorder.specs.Endian.{big_bytes}
 use Rattle.geo_core.specs.declared.plane.Point.{Point}
 use Rattle.gds_records.specs.declared.forms.TheConstants as form
 use Rattle.gds_records.specs.declared.kinds.TheConstants as kind
-use Rattle.gds_records.specs.Spelling.{Entry, spelling, spellings}
+use Rattle.library_grammar.specs.GrammarNames.{Entry, spelling, spellings}
 use Rattle.gds_write.specs.Bodies.{point_bytes, points_entry}
 use Rattle.gds_write.proofs.ProfileLaws.{length-points}
 
@@ -53,12 +51,6 @@ one_is_list now new e a = a ∙ ap (λ (v : List ℕ). now ++ v) (sym (append-ni
 -- two records
 pub two_written : (old one new : List ℕ) (first second : Entry) → one ≡ old ++ spelling first → new ≡ one ++ spelling second → new ≡ old ++ spellings (first ∷ second ∷ [])
 two_written old one new first second a b = appended old one new (first ∷ []) (second ∷ []) (one_is_list old one first a) (one_is_list one new second b)
-
--- a record, others and one more
-pub enclosed_written : (old one two new : List ℕ) (first last : Entry) (between : List Entry) → one ≡ old ++ spelling first → two ≡ one ++ spellings between
-    → new ≡ two ++ spelling last → new ≡ old ++ spellings (first ∷ between ++ last ∷ [])
-enclosed_written old one two new first last between a b c =
-    appended old two new (first ∷ between) (last ∷ []) (appended old one two (first ∷ []) between (one_is_list old one first a) b) (one_is_list two new last c)
 
 -- two records, others and one more
 pub enclosed_by_two : (old one two three new : List ℕ) (first second last : Entry) (between : List Entry) → one ≡ old ++ spelling first → two ≡ one ++ spelling second

@@ -1,28 +1,28 @@
 -- What is written reads back.
-use Rattle.std.proofs.Common.{◌≢◌, [], ◌++◌, refl, sym, arith}
-use Rattle.std.specs.List.{flat_map}
-use Rattle.std.proofs.lemmas.List.{append-nil}
-use Rattle.first_refusal.specs.Outcomes.{value}
+use Rattle.std.proofs.Common.{[], ◌++◌, refl, sym, arith}
+use Rattle.lists.proofs.Words.{flat_map, append-nil}
+use Rattle.library_grammar.specs.GrammarNames.{value, IsNoEndlib, spellings, whole, Splits, BytesComeTo, are_library}
 use Rattle.gds_records.specs.declared.kinds.TheConstants as kind
-use Rattle.gds_records.specs.Spelling.{IsNoEndlib, spellings}
-use Rattle.gds_records.specs.Split.{whole, Splits}
-use Rattle.library_grammar.specs.FirstFault.{BytesComeTo, are_library}
 use Rattle.library_model.specs.declared.element.Element.{Element}
 use Rattle.library_model.specs.declared.library.Library.{Library}
 use Rattle.library_model.specs.declared.library.Structure.{Structure}
 use Rattle.gds_write.specs.Bodies.{bare}
 use Rattle.gds_write.specs.SameLibrary.{IsSameButOffsets}
 use Rattle.gds_write.specs.WellFormed.{IsWritableElement, IsWritableStructure, IsWellFormed}
-use Rattle.gds_write.specs.Written.{written_element, written_structure, written_head, written}
-use Rattle.gds_write.proofs.ElementLaws.{element_reads}
-use Rattle.gds_write.proofs.Every.{Every, more, one, both, all_of, each_part}
+use Rattle.gds_write.specs.Written.{own_of, written_element, written_structure, written_head, written}
+use Rattle.gds_write.proofs.ElementLaws.{form_of_element}
+use Rattle.library_grammar.proofs.PartsAgree.{own_ends_no_library, opening_ends_no_library}
+use Rattle.gds_write.proofs.Every.{Every, more, one, both, all_of, every_of, each_part}
 use Rattle.gds_write.proofs.ProfileLaws.{library_taken}
-use Rattle.gds_write.proofs.QuietLaws.{each_front, opening_ends_no_library, own_ends_no_library, none_shows}
-use Rattle.gds_write.proofs.ReadLaws.{library_read, same_library, library_is_read}
+use Rattle.gds_write.proofs.QuietLaws.{none_shows}
+use Rattle.gds_write.proofs.ReadLaws.{element_in_grammar, library_read, same_library, library_is_read}
 
+-- no record of an element ends the library
 element_goes_on : (element : Element) → IsWritableElement element → Every IsNoEndlib (written_element element)
 element_goes_on element writable =
-    both (each_front element (element_reads element writable) (λ k. k ≢ kind.ENDLIB) opening_ends_no_library own_ends_no_library) (one (λ same. absurd (omega arith)))
+    let is = element_in_grammar element writable in
+    more (opening_ends_no_library _ (form_of_element element) is.opens)
+    (both (every_of IsNoEndlib (own_of element) (λ i d l. own_ends_no_library (form_of_element element) is.opens.listed _ (is.are_own i d l))) (one (λ same. absurd (omega arith))))
 
 structure_goes_on : (structure : Structure) → IsWritableStructure structure → Every IsNoEndlib (written_structure structure)
 structure_goes_on structure writable =

@@ -1,13 +1,13 @@
 -- Records by what they hold.
-use Rattle.std.specs.Prelude.{ℕ, ℤ, pos, Bool, not, if◌then◌else◌, List, [], ◌∷◌, ◌++◌, length, replicate, ◌%◌, ◌==◌}
-use Rattle.std.specs.Int.{w16, w32, cast_unsigned}
-use Rattle.std.specs.List.{flat_map}
+use Rattle.std.specs.Prelude.{ℕ, ℤ, pos, Bool, not, if◌then◌else◌, List, [], ◌∷◌, ◌++◌, length, replicate, ◌%◌, ◌==◌, flat_map}
+use Rattle.lists.specs.Words.{w16, w32}
+use Rattle.std.specs.Int.{cast_unsigned}
 use Rattle.std.specs.Ordering.{int_eq}
 use Rattle.byteorder.specs.Endian.{big_bytes}
 use Rattle.geo_core.specs.declared.plane.Point.{Point}
 use Rattle.gds_records.specs.declared.forms.TheConstants as form
 use Rattle.gds_records.specs.declared.kinds.TheConstants as kind
-use Rattle.gds_records.specs.Spelling.{Entry}
+use Rattle.library_grammar.specs.GrammarNames.{Entry}
 
 -- the record of this kind, whose data has this form
 abbrev pub entry : ℕ → ℕ → List ℕ → Entry

@@ -1,6 +1,6 @@
 -- Libraries that are the same, but for the offsets at which their parts begin.
 use Rattle.std.specs.Prelude.{◌≡◌}
-use Rattle.std.specs.List.{AllZip}
+use Rattle.lists.specs.Words.{AllZip}
 use Rattle.library_model.specs.declared.element.Element.{Element}
 use Rattle.library_model.specs.declared.element.Element.TheVariants.{Shape as shape_element, Reference as reference_element}
 use Rattle.library_model.specs.declared.element.Reference.{Reference}

@@ -1,9 +1,6 @@
 -- Which libraries can be written so that their bytes read back.
 use Rattle.std.specs.Prelude.{◌≢◌, ℕ, ◌≤◌, List, [], ◌∷◌, ◌++◌, length, All, IfSome}
-use Rattle.lists.specs.Differing.{AreDifferent}
-use Rattle.library_model.specs.Names.{names_of}
-use Rattle.library_model.specs.Points.{HasItsPoints}
-use Rattle.library_model.specs.Ranges.{ArePoints}
+use Rattle.library_grammar.specs.GrammarNames.{AreDifferent, names_of, HasItsPoints, ArePoints}
 use Rattle.library_model.specs.declared.element.Element.{Element}
 use Rattle.library_model.specs.declared.element.Element.TheVariants.{Shape as shape_element, Reference as reference_element}
 use Rattle.library_model.specs.declared.element.Reference.{Reference}

@@ -1,8 +1,6 @@
 -- columns and rows, as a document writes them
 use Rattle.std.proofs.Common.{◌≡◌, ℤ, pos, negsuc, true, false, Option, Some, None, sym, ap, ◌∙◌, subst, arith, w32, w64, to_z, of_z, SFits}
-use Rattle.std.specs.Int.Signed.{lt_z, le_z}
-use Rattle.std.proofs.lemmas.Int.{ints, to_z-of_z}
-use Rattle.std.proofs.lemmas.Option.{same_Some}
+use Rattle.lists.proofs.Words.{lt_z, le_z, ints, to_z-of_z, same_Some}
 use Rattle.toml.specs.Data.{Data, integer, as_integer}
 use Rattle.layer_map.specs.inside.ReadValues.{Finds, finds, lacks}
 use Rattle.layer_map.specs.inside.ReadTerminals.{IsCellNumberIn, IsCellNumberThere}

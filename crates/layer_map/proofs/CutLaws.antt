@@ -1,19 +1,12 @@
 -- the cuts of a document, item by item
-use Rattle.std.proofs.Common.{◌≡◌, ℕ, ◌+◌, ◌<◌, ◌≤◌, List, [], ◌∷◌, ◌++◌, length, take, map, Option, Some, Result, Ok, Err, refl, sym, ap, ◌∙◌, subst, arith, take_all, append-nil, append_assoc}
-use Rattle.std.specs.Prelude.{All, slice_get, IsSome, IsSomeAnd}
-use Rattle.std.specs.List.{AllZip}
-use Rattle.std.proofs.lemmas.Grind.{flat_map-append}
-use Rattle.std.proofs.lemmas.List.{length-map, map-append}
-use Rattle.std.proofs.lemmas.List.Elements.{All-from_recursion, All-nil, All-push}
-use Rattle.std.proofs.lemmas.Option.{slice_get_within}
-use Rattle.std.proofs.lemmas.Slice.Zip.{AllZip-long, all_zipped_more}
+use Rattle.std.proofs.Common.{◌≡◌, ℕ, ◌+◌, ◌<◌, ◌≤◌, List, [], ◌∷◌, ◌++◌, length, take, map, Option, Some, Result, Ok, Err, refl, sym, ap, ◌∙◌, subst, arith, take_all, append_assoc, All, slice_get, IsSome, IsSomeAnd}
+use Rattle.lists.proofs.Words.{append-nil, AllZip, flat_map-append, length-map, map-append, All-from_recursion, All-nil, All-push, slice_get_within, AllZip-long, all_zipped_more}
 use Rattle.toml.specs.Data.{Data, Members, as_table, string}
 use Rattle.layer_map.specs.CutChecks.{CutCheck, CutHolds, as_layer, cut_checks, cut_fault, cut_keys, end_checks}
 use Rattle.layer_map.specs.Documents.{GivesCut, GivesLayer, NamesMetal}
 use Rattle.layer_map.specs.ItemChecks.{is_table}
 use Rattle.layer_map.specs.LayerChecks.{LayerHolds, as_table as layer_as_table, layer_checks, layer_fault}
-use Rattle.map_model.specs.LayerMap.{MappedCut, MappedLayer}
-use Rattle.map_model.specs.Layers.{JoinsMetals, cut_layer, mapped_cut, mapped_layers, metal_layer, names_of, pairs_of}
+use Rattle.map_model.specs.MapNames.{MappedCut, MappedLayer, JoinsMetals, cut_layer, mapped_cut, mapped_layers, metal_layer, names_of, pairs_of}
 use Rattle.lists.specs.Differing.{AreDifferent}
 use Rattle.layer_map.specs.MapChecks.{MapCheck, Holds, IsArrayOrNone, checks_of_cuts, checks_of_each, cuts_are_array, cuts_are_few, fault_of, of_cut}
 use Rattle.layer_map.specs.DocumentPaths.{cut_path}

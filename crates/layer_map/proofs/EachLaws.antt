@@ -1,9 +1,6 @@
 -- checks that are made one after the other, and those that are left
-use Rattle.std.proofs.Common.{◌≡◌, ℕ, suc, ◌+◌, ◌<◌, ◌≤◌, List, [], ◌++◌, length, drop, get_or, map, Some, sym, ap, ◌∙◌, arith, option_map}
-use Rattle.std.specs.Prelude.{flat_map, slice_get}
-use Rattle.std.specs.List.{range_with_len}
-use Rattle.std.proofs.lemmas.List.{length-drop}
-use Rattle.std.proofs.lemmas.Option.{slice_get-get_or, slice_get-map}
+use Rattle.std.proofs.Common.{◌≡◌, ℕ, suc, ◌+◌, ◌<◌, ◌≤◌, List, [], ◌++◌, length, drop, get_or, map, Some, sym, ap, ◌∙◌, arith, option_map, slice_get}
+use Rattle.lists.proofs.Words.{flat_map, range_with_len, length-drop, slice_get-get_or, slice_get-map}
 
 -- the checks of the items from one number on
 abbrev pub left : {N V : Type 0} → (ℕ → List N) → List V → ℕ → List N

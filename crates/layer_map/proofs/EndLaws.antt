@@ -1,16 +1,11 @@
 -- the two metals that a cut names
-use Rattle.std.proofs.Common.{◌≡◌, ◌≢◌, ℕ, zero, suc, List, [], ◌∷◌, ◌++◌, get_or, map, Option, Some, Result, Ok, Err, refl, sym, ap, ◌∙◌, subst, arith, inl, inr, codes}
-use Rattle.std.specs.Prelude.{All, slice_get}
-use Rattle.std.proofs.lemmas.Bool.{cases_lt}
-use Rattle.std.proofs.lemmas.List.{length-map}
-use Rattle.std.proofs.lemmas.List.Elements.{All-from_recursion}
-use Rattle.std.proofs.lemmas.Option.{slice_get_within, same_Some}
+use Rattle.std.proofs.Common.{◌≡◌, ◌≢◌, ℕ, zero, suc, List, [], ◌∷◌, ◌++◌, get_or, map, Option, Some, Result, Ok, Err, refl, sym, ap, ◌∙◌, subst, arith, inl, inr, codes, All, slice_get}
+use Rattle.lists.proofs.Words.{cases_lt, length-map, All-from_recursion, slice_get_within, same_Some}
 use Rattle.toml.specs.Data.{Data, string, table, Members, get_member}
 use Rattle.layer_map.specs.CutChecks.{CutHolds, cut_fault, end_checks, ends_differ, of_lower, of_upper}
 use Rattle.layer_map.specs.Documents.{NamesMetal}
 use Rattle.layer_map.specs.ItemChecks.{ReferenceHolds, reference_checks, reference_fault}
-use Rattle.map_model.specs.LayerMap.{MappedLayer}
-use Rattle.map_model.specs.Layers.{metal_layer, names_of}
+use Rattle.map_model.specs.MapNames.{MappedLayer, metal_layer, names_of}
 use Rattle.lists.specs.Differing.{AreDifferent}
 use Rattle.layer_map.specs.DocumentPaths.{lower_at, upper_at}
 use Rattle.layer_map.specs.inside.ReadCuts.{TakesEnds}

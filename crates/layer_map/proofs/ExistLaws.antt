@@ -1,9 +1,6 @@
 -- where all checks of a document hold it gives a layer map, and so bytes come to something
-use Rattle.std.proofs.Common.{◌≡◌, ℕ, zero, suc, ◌+◌, ◌<◌, List, [], ◌∷◌, ◌++◌, length, get_or, take, map, codes, Option, Some, false, refl, sym, ap, ◌∙◌, subst, arith, add-zero, zero-add}
-use Rattle.std.specs.Prelude.{All, Contains, flat_map, slice_get}
-use Rattle.std.specs.List.{AllZip, range_with_len}
-use Rattle.std.proofs.lemmas.List.{get_or-map, length-map, get_or-take, length-take-le}
-use Rattle.std.proofs.lemmas.Option.{slice_get-get_or, slice_get_within}
+use Rattle.std.proofs.Common.{add-zero, ◌≡◌, ℕ, zero, suc, ◌+◌, ◌<◌, List, [], ◌∷◌, ◌++◌, length, get_or, take, map, codes, Option, Some, false, refl, sym, ap, ◌∙◌, subst, arith, zero-add, All, Contains, slice_get}
+use Rattle.lists.proofs.Words.{flat_map, AllZip, range_with_len, get_or-map, length-map, get_or-take, length-take-le, slice_get-get_or, slice_get_within}
 use Rattle.geo_core.specs.declared.plane.Cell.{Cell}
 use Rattle.first_refusal.specs.Laws.{CannotLack}
 use Rattle.first_refusal.proofs.CheckLaws.{checks_cannot_lack}
@@ -12,11 +9,9 @@ use Rattle.toml.specs.Data.{Data, Members}
 use Rattle.layer_map.specs.CutChecks.{cut_checks}
 use Rattle.layer_map.specs.Documents.{DocumentComesTo, GivesCut, GivesLayer, GivesMap, GivesTerminal, IsDocument, MapComesTo, NamesMetal}
 use Rattle.layer_map.specs.LayerChecks.{layer_checks}
-use Rattle.map_model.specs.LayerMap.{LayerMap, MappedCut, MappedLayer}
-use Rattle.map_model.specs.Layers.{names_of}
+use Rattle.map_model.specs.MapNames.{LayerMap, MappedCut, MappedLayer, names_of, sizes_of}
 use Rattle.lists.specs.Differing.{AreDifferent}
 use Rattle.layer_map.specs.MapChecks.{Holds, checks_of, checks_of_cuts, checks_of_each, checks_of_metals, checks_of_terminals, fault_of, first_checks, of_cut, of_metal, of_terminal, has_known_keys, has_metals, metals_are_few, cuts_are_array, cuts_are_few, terminals_are_array, terminals_are_few}
-use Rattle.map_model.specs.MapView.{sizes_of}
 use Rattle.layer_map.specs.inside.ReadLayers.{written_name}
 use Rattle.layer_map.specs.TerminalChecks.{terminal_checks}
 use Rattle.layer_map.specs.Values.{cuts_in, metals_in, name_of_item, terminals_in}

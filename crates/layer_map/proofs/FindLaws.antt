@@ -1,5 +1,5 @@
 -- what was found
-use Rattle.std.specs.Prelude.{Some, None}
+use Rattle.std.proofs.Common.{Some, None}
 use Rattle.layer_map.specs.inside.ReadValues.{Finds, finds, lacks}
 
 pub found : {A : Type 0} {Is : A → Type 0} {thing : A} → Finds Is (Some thing) → Is thing

@@ -1,11 +1,6 @@
 -- the keys of a table
-use Rattle.std.proofs.Common.{◌≡◌, ℕ, List, [], ◌∷◌, map, Some, String, Global, Bor, BTreeMap, string_bytes, option_map, refl, sym, ap, ◌∙◌, subst}
-use Rattle.std.specs.Prelude.{All, slice_get}
-use Rattle.std.specs.BTreeMap.{keys}
-use Rattle.std.specs.Map.Iter.{deref}
-use Rattle.std.specs.Map.{keys_of}
-use Rattle.std.proofs.lemmas.List.Elements.{All-contains, All-map}
-use Rattle.std.proofs.lemmas.Option.{slice_get_within, get_or_from_slice_get, slice_get-map}
+use Rattle.std.proofs.Common.{Global, Bor, BTreeMap, ◌≡◌, ℕ, List, [], ◌∷◌, map, Some, String, string_bytes, option_map, refl, sym, ap, ◌∙◌, subst, All, slice_get}
+use Rattle.lists.proofs.Words.{keys, deref, keys_of, All-contains, All-map, slice_get_within, get_or_from_slice_get, slice_get-map}
 use Rattle.toml.specs.View.{members_view, table_view}
 use Rattle.toml.specs.declared.value.Value.{Value}
 use Rattle.layer_map.specs.Values.{keys_in}

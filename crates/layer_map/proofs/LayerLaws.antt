@@ -1,9 +1,6 @@
 -- an item of metals or cuts, stage by stage
-use Rattle.std.proofs.Common.{◌≡◌, ◌≢◌, ℕ, List, [], ◌∷◌, ◌++◌, map, Result, Err, refl, sym, ap, ◌∙◌, subst}
-use Rattle.std.specs.Prelude.{All, Contains}
-use Rattle.std.proofs.lemmas.List.{map-append}
-use Rattle.std.proofs.lemmas.List.Elements.{Contains-get_or}
-use Rattle.std.proofs.lemmas.List.Quantifiers.{all_pairs_push}
+use Rattle.std.proofs.Common.{◌≡◌, ◌≢◌, ℕ, List, [], ◌∷◌, ◌++◌, map, Result, Err, refl, sym, ap, ◌∙◌, subst, All, Contains}
+use Rattle.lists.proofs.Words.{map-append, Contains-get_or, all_pairs_push}
 use Rattle.toml.specs.Data.{Data}
 use Rattle.layer_map.specs.ItemChecks.{TableHolds, table_checks, table_fault}
 use Rattle.layer_map.specs.LayerChecks.{LayerHolds, as_table, has_name, has_new_name, has_pairs, has_new_pairs, layer_checks, layer_fault}

@@ -1,16 +1,14 @@
 -- the checks of a document, part by part, and the map that it gives
-use Rattle.std.proofs.Common.{◌≡◌, ℕ, List, [], ◌∷◌, ◌++◌, length, map, Result, Ok, Err, refl, sym, ap, ◌∙◌, subst, codes, ◌≢◌}
-use Rattle.std.specs.Prelude.{IfOk, IfErr, IsErrAnd}
-use Rattle.std.proofs.lemmas.List.{length-map}
+use Rattle.std.proofs.Common.{◌≡◌, ℕ, List, [], ◌∷◌, ◌++◌, length, map, Result, Ok, Err, refl, sym, ap, ◌∙◌, subst, codes, ◌≢◌, IfOk, IsErrAnd}
+use Rattle.lists.proofs.Words.{length-map}
+use Rattle.std.specs.Prelude.{IfErr}
 use Rattle.toml.specs.Data.{Members}
 use Rattle.layer_map.specs.Documents.{DocumentComesTo, GivesMap, IsDocument, MapComesTo}
-use Rattle.map_model.specs.LayerMap.{LayerMap}
+use Rattle.map_model.specs.MapNames.{LayerMap, mapped_cut, metal_layer, layer_map_of, sizes_of, terminal_of}
 use Rattle.first_refusal.specs.Outcomes.{Outcome, value, refused, reads, lacks, stops as ends, goes_on as goes_further}
 use Rattle.first_refusal.specs.Checks.{all_hold, one_fails}
-use Rattle.map_model.specs.Layers.{mapped_cut, metal_layer}
 use Rattle.lists.specs.Differing.{AreDifferent}
 use Rattle.layer_map.specs.MapChecks.{MapCheck, Holds, checks_of, checks_of_cuts, checks_of_metals, checks_of_terminals, fault_of, has_known_keys, has_radii, has_version, has_weights, radii_are_array, radii_are_few}
-use Rattle.map_model.specs.MapView.{layer_map_of, sizes_of, terminal_of}
 use Rattle.first_refusal.specs.Answers.{gives, refuses, no_memory}
 use Rattle.layer_map.specs.inside.ReadSizes.{AreRadiiThere, AreWeightsThere}
 use Rattle.layer_map.specs.inside.ReadMetals.{TakesMetals}

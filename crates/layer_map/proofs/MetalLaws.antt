@@ -1,17 +1,10 @@
 -- the metals of a document, item by item
-use Rattle.std.proofs.Common.{◌≡◌, ℕ, ◌+◌, ◌<◌, ◌≤◌, List, [], ◌∷◌, ◌++◌, length, take, map, Option, Some, Ok, Err, refl, sym, ap, ◌∙◌, subst, arith, take_all, append-nil}
-use Rattle.std.specs.Prelude.{slice_get, IsSomeAnd}
-use Rattle.std.specs.List.{AllZip}
-use Rattle.std.proofs.lemmas.Grind.{flat_map-append}
-use Rattle.std.proofs.lemmas.List.{length-map, map-append}
-use Rattle.std.proofs.lemmas.List.Elements.{All-from_recursion}
-use Rattle.std.proofs.lemmas.Option.{slice_get_within}
-use Rattle.std.proofs.lemmas.Slice.Zip.{AllZip-long, all_zipped_more}
+use Rattle.std.proofs.Common.{◌≡◌, ℕ, ◌+◌, ◌<◌, ◌≤◌, List, [], ◌∷◌, ◌++◌, length, take, map, Option, Some, Ok, Err, refl, sym, ap, ◌∙◌, subst, arith, take_all, slice_get, IsSomeAnd}
+use Rattle.lists.proofs.Words.{append-nil, AllZip, flat_map-append, length-map, map-append, All-from_recursion, slice_get_within, AllZip-long, all_zipped_more}
 use Rattle.toml.specs.Data.{Data, Members}
 use Rattle.layer_map.specs.Documents.{GivesLayer}
 use Rattle.layer_map.specs.LayerChecks.{LayerCheck, LayerHolds, layer_checks, layer_fault, metal_keys}
-use Rattle.map_model.specs.LayerMap.{MappedLayer}
-use Rattle.map_model.specs.Layers.{metal_layer, names_of, pairs_of}
+use Rattle.map_model.specs.MapNames.{MappedLayer, metal_layer, names_of, pairs_of}
 use Rattle.layer_map.specs.MapChecks.{MapCheck, Holds, checks_of_each, checks_of_metals, fault_of, has_metals, metals_are_few, of_metal}
 use Rattle.layer_map.specs.DocumentPaths.{metal_path}
 use Rattle.layer_map.specs.inside.ReadLayers.{AreSeen, TakesLayer}

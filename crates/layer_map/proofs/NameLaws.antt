@@ -1,12 +1,11 @@
 -- the name that stands at a key
-use Rattle.std.proofs.Common.{◌≡◌, ℕ, true, List, refl, sym, ap, ◌∙◌, Option, Some, None, subst, false, option_and_then, ◌↔◌}
-use Rattle.std.specs.Prelude.{IfSome, IsSome}
-use Rattle.std.proofs.lemmas.Option.{same_Some}
+use Rattle.std.proofs.Common.{◌≡◌, ℕ, true, List, refl, sym, ap, ◌∙◌, Option, Some, None, subst, false, option_and_then, ◌↔◌, IfSome, IsSome}
+use Rattle.lists.proofs.Words.{same_Some}
 use Rattle.toml.specs.Data.{Data, string, as_str}
 use Rattle.layer_map.specs.inside.ReadValues.{Finds, finds, lacks}
 use Rattle.layer_map.specs.inside.ReadLayers.{IsNameThere}
 use Rattle.layer_map.proofs.ReferenceLaws.{text_is}
-use Rattle.map_model.specs.LayerNames.{IsLayerName}
+use Rattle.map_model.specs.MapNames.{IsLayerName}
 
 -- the name that stands there, if one does
 pub no_name_there : (there : Option Data) → None ≡ option_and_then as_str there → Finds (IsNameThere there) None

@@ -1,14 +1,10 @@
 -- pairs of a layer and a datatype, as a document writes them
-use Rattle.std.proofs.Common.{◌≡◌, ℕ, ◌+◌, ◌<◌, ◌≤◌, List, [], ◌∷◌, ◌++◌, length, get_or, take, drop, map, Option, Some, None, refl, sym, ap, ◌∙◌, subst, arith, zero, suc, ◌≢◌, append_assoc, option_and_then}
-use Rattle.std.specs.Prelude.{All, Contains}
-use Rattle.std.proofs.lemmas.List.{length-map, map-append, take-append-drop, take_more, take_all, length-drop}
-use Rattle.std.proofs.lemmas.List.Elements.{All-get_or, All-nil, All-push, Contains-get_or}
-use Rattle.std.proofs.lemmas.List.Quantifiers.{all_pairs_push}
-use Rattle.std.proofs.lemmas.Option.{same_Some}
+use Rattle.std.proofs.Common.{◌≡◌, ℕ, ◌+◌, ◌<◌, ◌≤◌, List, [], ◌∷◌, ◌++◌, length, get_or, take, drop, map, Option, Some, None, refl, sym, ap, ◌∙◌, subst, arith, zero, suc, ◌≢◌, append_assoc, option_and_then, All, Contains, take_all}
+use Rattle.lists.proofs.Words.{length-map, map-append, take-append-drop, take_more, length-drop, All-get_or, All-nil, All-push, Contains-get_or, all_pairs_push, same_Some}
 use Rattle.toml.specs.Data.{Data, array, as_array}
 use Rattle.toml.specs.View.{items_of, items_view, view}
 use Rattle.toml.specs.declared.value.Value.{Value}
-use Rattle.map_model.specs.Limits.{IsPair}
+use Rattle.map_model.specs.MapNames.{IsPair}
 use Rattle.lists.specs.Differing.{AreDifferent}
 use Rattle.layer_map.specs.Values.{whole_number, pair_value, pairs_value, values_in}
 use Rattle.layer_map.specs.inside.ReadValues.{IsWholeIn, Finds, finds, lacks}

@@ -1,15 +1,9 @@
 -- places of terminals, and a set of them
-use Rattle.std.proofs.Common.{◌≡◌, ℕ, ℤ, Bool, true, false, not, ◌==◌, ◌&&◌, if◌then◌else◌, List, [], ◌∷◌, ◌++◌, refl, sym, ap, ◌∙◌, subst, inl, inr, zero, suc, arith, w32, to_z, of_z, SFits}
-use Rattle.std.proofs.Math.Bool.{or-true}
-use Rattle.std.specs.Prelude.{Contains}
-use Rattle.std.specs.List.{list_any}
-use Rattle.std.specs.Ordering.{int_eq}
-use Rattle.std.proofs.lemmas.Bool.{and_parts, cases_Bool}
-use Rattle.std.proofs.lemmas.Bool.Decides.{Decides-eqb, Decides-int_eq}
+use Rattle.std.proofs.Common.{◌≡◌, ℕ, ℤ, Bool, true, false, not, ◌==◌, ◌&&◌, if◌then◌else◌, List, [], ◌∷◌, ◌++◌, refl, sym, ap, ◌∙◌, subst, inl, inr, zero, suc, arith, w32, to_z, of_z, SFits, Contains}
+use Rattle.lists.proofs.Words.{or-true, list_any, int_eq, and_parts, cases_Bool, Decides-eqb, Decides-int_eq, to_z-of_z}
 use Rattle.indexmap.proofs.CallerLemmas.{Contains-list_any}
 use Rattle.layer_map.specs.inside.ReadTerminals.{AddsPlace, place_of_terminal}
 use Rattle.map_model.specs.declared.layers.Terminal.{Terminal}
-use Rattle.std.proofs.lemmas.Int.{to_z-of_z}
 
 abbrev Place : Type 0
 Place = ℕ × ℤ × ℤ

@@ -1,10 +1,9 @@
 -- what stands at a key, and the metal that it names
-use Rattle.std.proofs.Common.{◌≡◌, ℕ, zero, suc, List, [], ◌∷◌, map, Option, Some, None, refl, sym, ap, ◌∙◌, subst, option_and_then}
-use Rattle.std.specs.Prelude.{Contains, slice_get}
-use Rattle.std.proofs.lemmas.Option.{slice_get-get_or, slice_get_within, get_or_from_slice_get, same_Some}
+use Rattle.std.proofs.Common.{◌≡◌, ℕ, zero, suc, List, [], ◌∷◌, map, Option, Some, None, refl, sym, ap, ◌∙◌, subst, option_and_then, Contains, slice_get}
+use Rattle.lists.proofs.Words.{slice_get-get_or, slice_get_within, get_or_from_slice_get, same_Some}
 use Rattle.toml.specs.Data.{Data, string, integer, float, boolean, datetime, array, table, as_str}
 use Rattle.layer_map.specs.Documents.{NamesMetal}
-use Rattle.map_model.specs.Layers.{metal_layer}
+use Rattle.map_model.specs.MapNames.{metal_layer}
 use Rattle.layer_map.specs.Values.{name_of_item}
 use Rattle.layer_map.specs.ItemChecks.{ReferenceHolds, is_text, is_metal}
 use Rattle.layer_map.specs.inside.ReadMetals.{HaveNamesOf}

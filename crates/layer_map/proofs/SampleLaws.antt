@@ -1,28 +1,21 @@
 -- the sample: its document, each of its checks, and its map
-use Rattle.std.proofs.Common.{◌≡◌, ◌≢◌, ℕ, zero, suc, ◌+◌, ◌*◌, ◌<◌, ◌≤◌, pos, List, [], ◌∷◌, ◌++◌, ◌&&◌, ◌==◌, ◌∙◌, codes, map, Option, Some, refl, arith, Bool, true, false, not, ap, sym, subst, get_or, nat_lt, unwrap_or, option_and_then}
-use Rattle.std.specs.List.{list_all}
-use Rattle.std.proofs.lemmas.Bool.{and_parts, eq-eqb, ltb-true, not-true}
-use Rattle.std.specs.Prelude.{All, Contains}
-use Rattle.std.specs.List.Sorted.{IsStrictlyIncreasing}
-use Rattle.std.proofs.lemmas.Int.{ints}
-use Rattle.std.proofs.lemmas.List.Elements.{All-append, All-cons, All-contains, All-from_recursion, All-nil, All-weaker}
-use Rattle.std.proofs.lemmas.List.Kept.{AllPairs-cons}
-use Rattle.std.proofs.lemmas.Str.{IsUtf8-from_ascii}
+use Rattle.std.proofs.Common.{◌≡◌, ◌≢◌, ℕ, zero, suc, ◌+◌, ◌*◌, ◌<◌, ◌≤◌, pos, List, [], ◌∷◌, ◌++◌, ◌&&◌, ◌==◌, ◌∙◌, codes, map, Option, Some, refl, arith, Bool, true, false, not, ap, sym, subst, get_or, nat_lt, unwrap_or, option_and_then, All, Contains}
+use Rattle.lists.proofs.Words.{list_all, and_parts, eq-eqb, ltb-true, IsStrictlyIncreasing, ints, All-append, All-cons, All-contains, All-from_recursion, All-nil, All-weaker, AllPairs-cons, IsUtf8-from_ascii}
+use Rattle.std.proofs.lemmas.Bool.{not-true}
 use Rattle.std.proofs.lemmas.Str.Ascii.{IsAscii-from_all}
 use Rattle.first_refusal.specs.Outcomes.{value}
 use Rattle.first_refusal.specs.Checks.{all_hold}
-use Rattle.geo_core.specs.Bounds.{IsRadius}
+use Rattle.geo_core.specs.Plane.{IsRadius}
 use Rattle.toml.specs.Data.{Data, Members, no_members, member, string, table, as_str}
 use Rattle.toml.specs.Parse.{parse_document}
 use Rattle.toml.proofs.OnLiterals.{toml_on_literals}
 use Rattle.layer_map.specs.Documents.{GivesMap, IsDocument, MapComesTo}
-use Rattle.map_model.specs.Limits.{AreRadii, AreWeights, IsPair, ArePairs}
+use Rattle.map_model.specs.MapNames.{AreRadii, AreWeights, IsPair, ArePairs, IsLayerName, is_name_byte}
 use Rattle.lists.specs.Differing.{AreDifferent}
 use Rattle.layer_map.specs.MapChecks.{MapCheck, Holds, checks_of, checks_of_cuts, checks_of_metals, checks_of_terminals, cuts_are_array, cuts_are_few, first_checks, has_metals, map_keys, metals_are_few, of_cut, of_metal, of_terminal, terminals_are_array, terminals_are_few}
 use Rattle.layer_map.specs.LayerChecks.{layer_checks, metal_keys}
 use Rattle.layer_map.specs.CutChecks.{as_layer, cut_checks, cut_keys, end_checks}
 use Rattle.layer_map.specs.TerminalChecks.{IsCellNumber, terminal_checks, terminal_keys}
-use Rattle.map_model.specs.LayerNames.{IsLayerName, is_name_byte}
 use Rattle.layer_map.specs.inside.ReadLayers.{written_name}
 use Rattle.layer_map.specs.Sample.{sample_map, sample_text}
 use Rattle.layer_map.specs.Values.{StandsAs, array_of, pair_value, pairs_value, whole_number, whole_numbers}

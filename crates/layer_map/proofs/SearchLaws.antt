@@ -1,8 +1,6 @@
 -- a search for the first item that shows as what is looked for
-use Rattle.std.proofs.Common.{◌≡◌, ℕ, ◌+◌, ◌<◌, ◌≤◌, List, length, get_or, map, sym, ap, ◌∙◌, arith, below_more, Some, option_map}
-use Rattle.std.specs.Prelude.{Contains, slice_get}
-use Rattle.std.proofs.lemmas.Option.{get_or_from_slice_get, slice_get-get_or, slice_get-map, slice_get_within}
-use Rattle.std.proofs.lemmas.List.{length-map, get_or-map}
+use Rattle.std.proofs.Common.{◌≡◌, ℕ, ◌+◌, ◌<◌, ◌≤◌, List, length, get_or, map, sym, ap, ◌∙◌, arith, below_more, Some, option_map, Contains, slice_get}
+use Rattle.lists.proofs.Words.{get_or_from_slice_get, slice_get-get_or, slice_get-map, slice_get_within, length-map, get_or-map}
 
 module _ {A B : Type 0} (show : A → B) (items : List A) (wanted : B) where
   -- none of the first items shows so

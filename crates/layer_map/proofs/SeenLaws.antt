@@ -1,9 +1,6 @@
 -- names and pairs that were seen, and those of the next item
-use Rattle.std.proofs.Common.{◌≡◌, ℕ, ◌<◌, List, [], ◌∷◌, ◌++◌, length, map, Option, Some, Ok, Err, sym, ap, ◌∙◌, subst, arith, append-nil}
-use Rattle.std.specs.Prelude.{Contains, flat_map}
-use Rattle.std.proofs.lemmas.Grind.{flat_map-append}
-use Rattle.std.proofs.lemmas.List.{length-map, map-append, get_or-map}
-use Rattle.std.proofs.lemmas.List.Elements.{All-from_recursion}
+use Rattle.std.proofs.Common.{◌≡◌, ℕ, ◌<◌, List, [], ◌∷◌, ◌++◌, length, map, Option, Some, Ok, Err, sym, ap, ◌∙◌, subst, arith, Contains}
+use Rattle.lists.proofs.Words.{append-nil, flat_map, flat_map-append, length-map, map-append, get_or-map, All-from_recursion}
 use Rattle.toml.specs.Data.{Data}
 use Rattle.lists.specs.Differing.{AreDifferent}
 use Rattle.layer_map.specs.LayerChecks.{LayerHolds, has_name, has_new_name, has_pairs, has_new_pairs, layer_fault}

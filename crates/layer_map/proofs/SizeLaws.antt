@@ -1,14 +1,10 @@
 -- radii and weights, as a document writes them
 use Rattle.std.proofs.Common.{◌≡◌, ℕ, ◌<◌, ◌≤◌, List, [], ◌∷◌, length, map, Option, Some, None, Ok, Err, refl, sym, ap, ◌∙◌, subst, arith, option_and_then}
-use Rattle.std.proofs.lemmas.Int.{ints}
-use Rattle.std.specs.List.Sorted.{IsStrictlyIncreasing}
-use Rattle.std.proofs.lemmas.List.{length-map}
-use Rattle.std.proofs.lemmas.List.Elements.{All-from_recursion}
-use Rattle.std.proofs.lemmas.Option.{same_Some}
+use Rattle.lists.proofs.Words.{ints, IsStrictlyIncreasing, length-map, All-from_recursion, same_Some}
 use Rattle.toml.specs.Data.{Data, Members, array, as_array}
 use Rattle.toml.specs.View.{items_of, items_view, view}
 use Rattle.toml.specs.declared.value.Value.{Value}
-use Rattle.map_model.specs.Limits.{AreWeights}
+use Rattle.map_model.specs.MapNames.{AreWeights}
 use Rattle.layer_map.specs.MapChecks.{Holds, fault_of, has_radii, has_weights, radii_are_array, radii_are_few}
 use Rattle.layer_map.specs.inside.ReadValues.{AreWholesIn, Finds, finds, lacks}
 use Rattle.layer_map.specs.inside.ReadSizes.{AreRadiiIn, AreRadiiThere, AreWeightsIn, AreWeightsThere}

@@ -1,7 +1,6 @@
 -- lists of values, each written as something
 use Rattle.std.proofs.Common.{◌≡◌, ℕ, ◌+◌, ◌<◌, ◌≤◌, List, [], ◌∷◌, ◌++◌, length, get_or, take, map, None, refl, sym, ap, ◌∙◌, arith}
-use Rattle.std.proofs.lemmas.List.{length-map, map-append, take_more, get_or-map}
-use Rattle.std.proofs.lemmas.List.Elements.{All-push, All-get_or, All-nil}
+use Rattle.lists.proofs.Words.{length-map, map-append, take_more, get_or-map, All-push, All-get_or, All-nil}
 use Rattle.toml.specs.Data.{Data}
 use Rattle.layer_map.specs.Values.{whole_number}
 use Rattle.layer_map.specs.inside.ReadValues.{IsWholeIn, AreWholesIn, Finds, lacks}

@@ -1,8 +1,6 @@
 -- items that are tables, with known keys or others
-use Rattle.std.proofs.Common.{◌≡◌, ℕ, List, [], ◌∷◌, Option, Some, None, refl, sym, ap, subst, Ok, Err}
-use Rattle.std.specs.Prelude.{All, Contains, IsSome}
-use Rattle.std.proofs.lemmas.List.Elements.{All-from_recursion}
-use Rattle.std.proofs.lemmas.Option.{same_Some}
+use Rattle.std.proofs.Common.{◌≡◌, ℕ, List, [], ◌∷◌, Option, Some, None, refl, sym, ap, subst, Ok, Err, All, Contains, IsSome}
+use Rattle.lists.proofs.Words.{All-from_recursion, same_Some}
 use Rattle.toml.specs.Data.{Data, string, integer, float, boolean, datetime, array, table, Members, as_table}
 use Rattle.layer_map.specs.Values.{keys_in, keys_of}
 use Rattle.layer_map.specs.ItemChecks.{TableHolds, is_table, has_known_keys, table_checks, table_fault}

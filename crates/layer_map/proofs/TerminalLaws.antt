@@ -1,20 +1,12 @@
 -- the terminals of a document, item by item
-use Rattle.std.proofs.Common.{◌≡◌, ◌≢◌, ℕ, ℤ, zero, suc, ◌+◌, ◌<◌, ◌≤◌, List, [], ◌∷◌, ◌++◌, length, take, map, codes, Option, Some, Result, Ok, Err, refl, sym, ap, ◌∙◌, subst, arith, take_all}
-use Rattle.std.specs.Prelude.{All, Contains, slice_get, IsSomeAnd}
-use Rattle.std.specs.List.{AllZip}
-use Rattle.std.proofs.lemmas.List.{get_or-map, length-map, map-append}
-use Rattle.std.proofs.lemmas.List.Elements.{All-append, All-from_recursion, All-nil, All-push, Contains-get_or}
-use Rattle.std.proofs.lemmas.List.Quantifiers.{all_pairs_push}
-use Rattle.std.proofs.lemmas.Option.{same_Some, slice_get_within}
-use Rattle.std.proofs.lemmas.Slice.Zip.{AllZip-long, all_zipped_more}
+use Rattle.std.proofs.Common.{◌≡◌, ◌≢◌, ℕ, ℤ, zero, suc, ◌+◌, ◌<◌, ◌≤◌, List, [], ◌∷◌, ◌++◌, length, take, map, codes, Option, Some, Result, Ok, Err, refl, sym, ap, ◌∙◌, subst, arith, take_all, All, Contains, slice_get, IsSomeAnd}
+use Rattle.lists.proofs.Words.{AllZip, get_or-map, length-map, map-append, All-append, All-from_recursion, All-nil, All-push, Contains-get_or, all_pairs_push, same_Some, slice_get_within, AllZip-long, all_zipped_more}
 use Rattle.toml.specs.Data.{Data, Members, string, integer, table, get_member}
 use Rattle.layer_map.specs.Documents.{GivesTerminal, NamesMetal}
 use Rattle.layer_map.specs.ItemChecks.{TableHolds, table_checks, table_fault, ReferenceCheck, ReferenceHolds, reference_checks, reference_fault}
-use Rattle.map_model.specs.LayerMap.{MappedLayer}
-use Rattle.map_model.specs.Layers.{metal_layer, names_of}
+use Rattle.map_model.specs.MapNames.{MappedLayer, metal_layer, names_of, terminal_of}
 use Rattle.lists.specs.Differing.{AreDifferent}
 use Rattle.layer_map.specs.MapChecks.{MapCheck, Holds, IsArrayOrNone, checks_of_each, checks_of_terminals, fault_of, of_terminal, terminals_are_array, terminals_are_few}
-use Rattle.map_model.specs.MapView.{terminal_of}
 use Rattle.layer_map.specs.DocumentPaths.{metal_of_terminal_at, terminal_path, x_at, y_at}
 use Rattle.layer_map.specs.inside.ReadTerminals.{IsCellNumberThere, TakesTerminal, TakesTerminals, place_of_terminal}
 use Rattle.layer_map.specs.TerminalChecks.{TerminalCheck, TerminalHolds, as_table, has_x, has_y, is_new, metal_named, place_checks, place_in, terminal_checks, terminal_fault, terminal_keys}

@@ -1,18 +1,15 @@
 -- a document gives one layer map at most, and bytes come to one thing at most
 use Rattle.std.proofs.Common.{◌≡◌, ℕ, ℤ, List, [], ◌∷◌, map, Bool, Option, Some, refl, sym, ap, ◌∙◌, subst}
-use Rattle.std.specs.List.{AllZip}
-use Rattle.std.proofs.lemmas.Option.{same_Some}
+use Rattle.lists.proofs.Words.{AllZip, same_Some}
 use Rattle.geo_core.specs.declared.plane.Cell.{Cell}
 use Rattle.first_refusal.specs.Laws.{IsUnique}
 use Rattle.first_refusal.proofs.CheckLaws.{checks_agree}
 use Rattle.first_refusal.proofs.StageLaws.{readings_agree, stages_agree}
 use Rattle.toml.specs.Data.{Data, Members, string, integer}
 use Rattle.layer_map.specs.Documents.{DocumentComesTo, GivesCut, GivesLayer, GivesMap, GivesTerminal, IsDocument, MapComesTo}
-use Rattle.map_model.specs.LayerMap.{DefectSize, MappedCut, MappedLayer}
-use Rattle.map_model.specs.Layers.{names_of}
+use Rattle.map_model.specs.MapNames.{DefectSize, MappedCut, MappedLayer, names_of, sizes_of}
 use Rattle.lists.specs.Differing.{AreDifferent}
 use Rattle.layer_map.specs.MapChecks.{Holds, checks_of, fault_of}
-use Rattle.map_model.specs.MapView.{sizes_of}
 use Rattle.layer_map.specs.Values.{array_of, pair_value, cuts_in, terminals_in, values_in, whole_number}
 use Rattle.layer_map.specs.declared.fault.MapFault.TheVariants.{Syntax}
 use Rattle.layer_map.proofs.EndLaws.{one_metal_named}

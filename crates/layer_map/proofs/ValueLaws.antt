@@ -1,7 +1,6 @@
 -- values of a document, and what they are read as
 use Rattle.std.proofs.Common.{◌≡◌, ℕ, ◌<◌, ◌≤◌, List, [], ◌∷◌, map, Option, Some, None, refl, sym, ap, ◌∙◌, arith, ℤ, pos, negsuc, nat_abs, subst, ◌^◌, w64, to_z, of_z, SFits}
-use Rattle.std.proofs.lemmas.Int.{to_z-of_z}
-use Rattle.std.proofs.lemmas.Option.{same_Some}
+use Rattle.lists.proofs.Words.{to_z-of_z, same_Some}
 use Rattle.std.specs.Int.{FitsUnsignedBits}
 use Rattle.toml.specs.Data.{Data, string, integer, float, boolean, datetime, array, table, as_integer}
 use Rattle.toml.specs.View.{items_of, items_view, view}

@@ -1,15 +1,13 @@
 -- what bytes say as a layer map: the map of their document, or the first refusal
-use Rattle.std.specs.Prelude.{ℕ, false, ◌≡◌, List, codes, slice_get, Option, Some, IsUtf8}
-use Rattle.std.specs.List.{AllZip}
+use Rattle.std.specs.Prelude.{IsUtf8, ℕ, false, ◌≡◌, List, codes, slice_get, Option, Some}
+use Rattle.lists.specs.Words.{AllZip}
 use Rattle.geo_core.specs.declared.plane.Cell.{Cell}
 use Rattle.first_refusal.specs.Outcomes.{Outcome, Reads, Then}
 use Rattle.first_refusal.specs.Checks.{Checks}
 use Rattle.toml.specs.Data.{Data, string, integer, Members}
 use Rattle.toml.specs.Parse.{parse_document}
 use Rattle.lists.specs.Differing.{AreDifferent}
-use Rattle.map_model.specs.LayerMap.{LayerMap, MappedLayer, MappedCut}
-use Rattle.map_model.specs.Layers.{names_of}
-use Rattle.map_model.specs.MapView.{sizes_of}
+use Rattle.map_model.specs.MapNames.{LayerMap, MappedLayer, MappedCut, names_of, sizes_of}
 use Rattle.layer_map.specs.Values.{whole_numbers, pairs_value, radii_in, weights_in, metals_in, cuts_in, terminals_in, name_of_item, pairs_of_item, lower_of_item, upper_of_item, metal_of_item, x_of_item, y_of_item}
 use Rattle.layer_map.specs.MapChecks.{Holds, checks_of, fault_of}
 use Rattle.layer_map.specs.declared.fault.MapFault.{MapFault}

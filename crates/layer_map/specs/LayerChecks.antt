@@ -2,8 +2,7 @@
 use Rattle.std.specs.Prelude.{ℕ, List, [], ◌∷◌, ◌++◌, codes, map, flat_map, Contains}
 use Rattle.toml.specs.Data.{Data, string}
 use Rattle.lists.specs.Differing.{AreDifferent}
-use Rattle.map_model.specs.LayerNames.{IsLayerName}
-use Rattle.map_model.specs.Limits.{ArePairs}
+use Rattle.map_model.specs.MapNames.{IsLayerName, ArePairs}
 use Rattle.layer_map.specs.Values.{StandsAs, pairs_value, values_in, name_of_item, pairs_of_item}
 use Rattle.layer_map.specs.DocumentPaths.{name_at, pairs_at}
 use Rattle.layer_map.specs.ItemChecks.{TableCheck, table_checks, TableHolds, table_fault}

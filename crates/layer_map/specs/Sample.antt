@@ -1,6 +1,6 @@
 -- a sample: a text, and the layer map that it is to give
 use Rattle.std.specs.Prelude.{ℕ, pos, false, List, [], ◌∷◌, codes}
-use Rattle.map_model.specs.LayerMap.{LayerMap, radius_size}
+use Rattle.map_model.specs.MapNames.{LayerMap, radius_size}
 
 -- two metals, one cut between them, two radii, and one terminal
 abbrev pub sample_text : List ℕ

@@ -13,3 +13,5 @@ mod order;
 mod samples;
 #[cfg(test)]
 mod single;
+#[cfg(test)]
+mod texts;

@@ -27,49 +27,46 @@ const MOST: Counts = Counts {
     terminals: 10_000,
 };
 
-fn add_radii(alloc: Global, text: &mut String, count: u32) -> Result<(), AllocError> {
+fn add_radii(text: &mut String, count: u32) -> Result<(), AllocError> {
     text.push_str("version = 1\nradii = [")?;
     for k in 0..count {
         let radius = k.saturating_add(1);
-        text.push_str(format!(in alloc; "{radius}, ")?.as_str())?;
+        write!(text, "{radius}, ")?;
     }
     text.push_str("]\nweights = [")?;
     for k in 0..count {
-        text.push_str(format!(in alloc; "{k}, ")?.as_str())?;
+        write!(text, "{k}, ")?;
     }
-    text.push_str("]\n")?;
-    Ok(())
+    text.push_str("]\n")
 }
 
 /// The pairs of the layer with this number: no two layers have the same first number.
-fn add_pairs(alloc: Global, text: &mut String, layer: u32, count: u32) -> Result<(), AllocError> {
+fn add_pairs(text: &mut String, layer: u32, count: u32) -> Result<(), AllocError> {
     text.push_str("pairs = [")?;
     for k in 0..count {
-        text.push_str(format!(in alloc; "[{layer}, {k}], ")?.as_str())?;
+        write!(text, "[{layer}, {k}], ")?;
     }
-    text.push_str("]\n")?;
-    Ok(())
+    text.push_str("]\n")
 }
 
-fn add_layers(alloc: Global, text: &mut String, counts: Counts) -> Result<(), AllocError> {
+fn add_layers(text: &mut String, counts: Counts) -> Result<(), AllocError> {
     for k in 0..counts.metals {
-        text.push_str(format!(in alloc; "[[metal]]\nname = \"m{k}\"\n")?.as_str())?;
-        add_pairs(alloc, text, k, counts.pairs)?;
+        write!(text, "[[metal]]\nname = \"m{k}\"\n")?;
+        add_pairs(text, k, counts.pairs)?;
     }
     for k in 0..counts.cuts {
-        text.push_str(format!(in alloc;
+        write!(
+            text,
             "[[cut]]\nname = \"v{k}\"\nlower = \"m0\"\nupper = \"m1\"\n"
-        )?.as_str())?;
-        add_pairs(alloc, text, k.saturating_add(1000), counts.pairs)?;
+        )?;
+        add_pairs(text, k.saturating_add(1000), counts.pairs)?;
     }
     Ok(())
 }
 
-fn add_terminals(alloc: Global, text: &mut String, count: u32) -> Result<(), AllocError> {
+fn add_terminals(text: &mut String, count: u32) -> Result<(), AllocError> {
     for k in 0..count {
-        text.push_str(format!(in alloc;
-            "[[terminal]]\nmetal = \"m1\"\nx = {k}\ny = -{k}\n"
-        )?.as_str())?;
+        write!(text, "[[terminal]]\nmetal = \"m1\"\nx = {k}\ny = -{k}\n")?;
     }
     Ok(())
 }
@@ -77,9 +74,9 @@ fn add_terminals(alloc: Global, text: &mut String, count: u32) -> Result<(), All
 /// The text of a map with so many of each.
 fn text_of(alloc: Global, counts: Counts) -> Result<String, AllocError> {
     let mut text = String::new(alloc);
-    add_radii(alloc, &mut text, counts.radii)?;
-    add_layers(alloc, &mut text, counts)?;
-    add_terminals(alloc, &mut text, counts.terminals)?;
+    add_radii(&mut text, counts.radii)?;
+    add_layers(&mut text, counts)?;
+    add_terminals(&mut text, counts.terminals)?;
     Ok(text)
 }
 

@@ -24,124 +24,53 @@ fn file_a(alloc: Global, bytes: &[u8], fails: &[u64]) -> Result<MemFiles, AllocE
     Ok(MemFiles::new(files, Vec::from_slice(alloc, fails)?))
 }
 
-/// What is answered where the file `a` is read up to a limit.
-struct Case {
-    /// Its bytes.
-    bytes: &'static [u8],
-    /// The numbers of the calls that fail.
-    fails: &'static [u64],
-    /// The name that is read.
-    name: &'static [u8],
-    limit: u16,
-    want: Result<&'static [u8], ReadError>,
-}
+/// The bytes of the file `a`, the numbers of the calls that fail, the name that is read, the limit, and the answer.
+type Row = (
+    &'static [u8],
+    &'static [u64],
+    &'static [u8],
+    u16,
+    Result<&'static [u8], ReadError>,
+);
 
 /// Whether the file is answered so, and a failure is counted.
-fn is_answered(alloc: Global, case: &Case) -> bool {
-    let Ok(mut files) = file_a(alloc, case.bytes, case.fails) else {
+fn is_answered(alloc: Global, row: &Row) -> bool {
+    let (bytes, fails, name, limit, want) = *row;
+    let Ok(mut files) = file_a(alloc, bytes, fails) else {
         return false;
     };
-    let counted = u64::from(case.want == Err(ReadError::Fault));
-    reads(alloc, &mut files, case.name, case.limit, case.want) && files.faults == counted
+    let counted = u64::from(want == Err(ReadError::Fault));
+    reads(alloc, &mut files, name, limit, want) && files.faults == counted
 }
-
-/// The three bytes are read, and no call fails.
-const READ: Case = Case {
-    bytes: b"abc",
-    fails: &[],
-    name: b"a",
-    limit: 3,
-    want: Ok(b"abc"),
-};
-
-/// The same, and it is answered that the file has more bytes than the limit.
-const TOO_LONG: Case = Case {
-    want: Err(ReadError::TooLong),
-    ..READ
-};
-
-/// The same, and it is answered that a call failed.
-const FAULT: Case = Case {
-    want: Err(ReadError::Fault),
-    ..READ
-};
 
 /// A file is started, read, and read again to see its end, unless more than the limit was read. A read gives 4,096
 /// bytes at most.
-const CASES: &[Case] = &[
-    READ,
-    Case {
-        limit: 9999,
-        ..READ
-    },
-    Case {
-        limit: 2,
-        ..TOO_LONG
-    },
-    Case {
-        limit: 0,
-        ..TOO_LONG
-    },
-    Case {
-        bytes: b"",
-        limit: 0,
-        want: Ok(b""),
-        ..READ
-    },
-    Case {
-        bytes: &[7; 5000],
-        limit: 5000,
-        want: Ok(&[7; 5000]),
-        ..READ
-    },
-    Case {
-        bytes: &[7; 5000],
-        limit: 4999,
-        ..TOO_LONG
-    },
+const ROWS: &[Row] = &[
+    (b"abc", &[], b"a", 3, Ok(b"abc")),
+    (b"abc", &[], b"a", 9999, Ok(b"abc")),
+    (b"abc", &[], b"a", 2, Err(ReadError::TooLong)),
+    (b"abc", &[], b"a", 0, Err(ReadError::TooLong)),
+    (b"", &[], b"a", 0, Ok(b"")),
+    (&[7; 5000], &[], b"a", 5000, Ok(&[7; 5000])),
+    (&[7; 5000], &[], b"a", 4999, Err(ReadError::TooLong)),
     // names that are not there
-    Case {
-        name: b"b",
-        ..FAULT
-    },
-    Case {
-        name: b"A",
-        ..FAULT
-    },
-    Case {
-        name: b"a ",
-        ..FAULT
-    },
-    Case { name: b"", ..FAULT },
+    (b"abc", &[], b"b", 3, Err(ReadError::Fault)),
+    (b"abc", &[], b"A", 3, Err(ReadError::Fault)),
+    (b"abc", &[], b"a ", 3, Err(ReadError::Fault)),
+    (b"abc", &[], b"", 3, Err(ReadError::Fault)),
     // the start fails, the read, and the read that finds the end
-    Case {
-        fails: &[0],
-        ..FAULT
-    },
-    Case {
-        fails: &[1],
-        ..FAULT
-    },
-    Case {
-        fails: &[2],
-        ..FAULT
-    },
+    (b"abc", &[0], b"a", 3, Err(ReadError::Fault)),
+    (b"abc", &[1], b"a", 3, Err(ReadError::Fault)),
+    (b"abc", &[2], b"a", 3, Err(ReadError::Fault)),
     // a call that is not made does not fail
-    Case {
-        fails: &[3],
-        ..READ
-    },
-    Case {
-        fails: &[2],
-        limit: 2,
-        ..TOO_LONG
-    },
+    (b"abc", &[3], b"a", 3, Ok(b"abc")),
+    (b"abc", &[2], b"a", 2, Err(ReadError::TooLong)),
 ];
 
 #[test]
 fn files_are_read_whole_up_to_the_limit(rt: HostRuntime) {
-    for (number, case) in CASES.iter().enumerate() {
-        assert!(rt; is_answered(rt.alloc(), case), "case {number}");
+    for (number, row) in ROWS.iter().enumerate() {
+        assert!(rt; is_answered(rt.alloc(), row), "row {number}");
     }
 }
 

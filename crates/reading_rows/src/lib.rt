@@ -2,6 +2,14 @@
 //! bodies. Each row's answer was worked out by hand. The crate has tests alone.
 #![tactic(auto)]
 
+/// A table of rows, one a line: bytes or a fault, and what is wanted of them.
+#[cfg(test)]
+macro_rules! rows {
+    ($($given:expr => $($wanted:expr),+;)*) => {
+        &[$(($given, $($wanted),+)),*]
+    };
+}
+
 #[cfg(test)]
 mod fields;
 #[cfg(test)]

@@ -1,12 +1,11 @@
-ghost use Rattle.std.specs.Prelude.{◌^◌, ◌<◌, length};
-
-use gds_records::RecordFault::{self, BadLength, Truncated};
+use gds_records::RecordFault::{self, BadLength, BadRecord, BadSize, Truncated};
 use gds_records::forms::{EIGHT_BYTE_REALS, FOUR_BYTE_NUMBERS, NO_DATA, TEXT, TWO_BYTE_NUMBERS};
 use gds_records::kinds::{
     BGNLIB, BGNSTR, BOUNDARY, DATATYPE, ENDEL, ENDLIB, ENDSTR, HEADER, LAYER, LIBNAME, STRNAME,
     UNITS, XY,
 };
 use gds_records::{Record, Records};
+use std::alloc::Global;
 
 /// A stream with the library `L` and in it the structure `T`, which has two squares with sides of 10 on layer 1.
 pub const TWO_SQUARES: &[u8; 230] = b"\
@@ -80,41 +79,22 @@ fn ends(
     records.next() == answer && records.next() == answer
 }
 
-/// Whether so many records come, and then this fault, which has this number, at this offset.
-fn stops(bytes: &[u8], count: usize, fault: RecordFault, number: u8, at: u32) -> bool
-    requires { length bytes.now < 2 ^ 32 }
-{
-    fault.number() == number
-        && fault.place() == u64::from(at)
-        && ends(Records::new(bytes), count, Err(fault))
-}
-
-/// Whether so many records come, and then the stream is truncated within the one at this offset.
-fn is_truncated(bytes: &[u8], count: usize, at: u16) -> bool
-    requires { length bytes.now < 2 ^ 32 }
-{
-    let at = u32::from(at);
-    stops(bytes, count, RecordFault::Truncated { at }, 10, at)
+/// Whether so many records come, and then this fault.
+fn stops(bytes: &[u8], count: usize, fault: RecordFault) -> bool {
+    bytes.len() < 1000 && ends(Records::new(bytes), count, Err(fault))
 }
 
 /// Whether the two squares, cut anywhere within their record at this offset, are so many records and then truncated.
 fn is_truncated_within(count: usize, at: u16, size: u8) -> bool {
     let start = usize::from(at);
+    let fault = Truncated { at: u32::from(at) };
     for end in start..start + 4 + usize::from(size) {
         let front = TWO_SQUARES.get(..end).unwrap_or(TWO_SQUARES);
-        if !is_truncated(front, count, at) {
+        if !stops(front, count, fault) {
             return false;
         }
     }
     true
-}
-
-/// Whether so many records come, and then this bad length at this offset.
-fn has_bad_length(bytes: &[u8], count: usize, at: u16, len: u16) -> bool
-    requires { length bytes.now < 2 ^ 32 }
-{
-    let at = u32::from(at);
-    stops(bytes, count, RecordFault::BadLength { at, len }, 11, at)
 }
 
 #[test]
@@ -142,109 +122,74 @@ fn bytes_behind_endlib_are_ignored(rt: HostRuntime) {
     }
 }
 
-/// Streams that are truncated: how many records they have, and where the truncated one begins.
-const SHORT: &[(&[u8], usize, u16)] = &[
+/// Streams with a fault: how many records they have before it, and the fault.
+const FAULTS: &[(&[u8], usize, RecordFault)] = rows! {
     // less than a head, whatever length it has
-    (b"", 0, 0),
-    (b"\x00", 0, 0),
-    (b"\x00\x03\x00", 0, 0),
-    (b"\x00\x06\x00", 0, 0),
+    b"" => 0, Truncated { at: 0 };
+    b"\x00" => 0, Truncated { at: 0 };
+    b"\x00\x03\x00" => 0, Truncated { at: 0 };
+    b"\x00\x06\x00" => 0, Truncated { at: 0 };
     // less than the length counts, which has no sign
-    (b"\x00\x06\x00\x02\x02", 0, 0),
-    (b"\x80\x00\x00\x02\x02\x58", 0, 0),
+    b"\x00\x06\x00\x02\x02" => 0, Truncated { at: 0 };
+    b"\x80\x00\x00\x02\x02\x58" => 0, Truncated { at: 0 };
     // behind a record
-    (b"\x00\x04\x08\x00", 1, 4),
-    (b"\x00\x04\x08\x00\x00\x06\x00\x02\x02", 1, 4),
-];
+    b"\x00\x04\x08\x00" => 1, Truncated { at: 4 };
+    b"\x00\x04\x08\x00\x00\x06\x00\x02\x02" => 1, Truncated { at: 4 };
+    // lengths below 4 and odd ones, also before the bytes are counted and behind a record
+    b"\x00\x00\x04\x00" => 0, BadLength { at: 0, len: 0 };
+    b"\x00\x02\x04\x00" => 0, BadLength { at: 0, len: 2 };
+    b"\x00\x03\x00\x02" => 0, BadLength { at: 0, len: 3 };
+    b"\x00\x05\x00\x02\x00" => 0, BadLength { at: 0, len: 5 };
+    b"\x00\x07\x00\x02" => 0, BadLength { at: 0, len: 7 };
+    b"\xFF\xFF\x00\x02" => 0, BadLength { at: 0, len: 65_535 };
+    b"\x00\x04\x08\x00\x00\x07\x00\x02" => 1, BadLength { at: 4, len: 7 };
+    // kinds past the table, and in its gaps
+    b"\x00\x04\x77\x00" => 0, BadRecord { at: 0, kind: 0x77, form: 0 };
+    b"\x00\x04\x3C\x00" => 0, BadRecord { at: 0, kind: 0x3C, form: 0 };
+    b"\x00\x04\x14\x00" => 0, BadRecord { at: 0, kind: 0x14, form: 0 };
+    b"\x00\x04\x35\x02" => 0, BadRecord { at: 0, kind: 0x35, form: 2 };
+    // a layer as a number of four bytes, whatever its size, and a boundary with data behind a record
+    b"\x00\x06\x0D\x03\x00\x01" => 0, BadRecord { at: 0, kind: 0x0D, form: 3 };
+    b"\x00\x08\x0D\x03\x00\x00\x00\x01" => 0, BadRecord { at: 0, kind: 0x0D, form: 3 };
+    b"\x00\x04\x08\x00\x00\x04\x08\x01" => 1, BadRecord { at: 4, kind: 0x08, form: 1 };
+    // ENDLIB with a body, a layer without one, half a point, one real for two units, and ENDEL with a body behind a record
+    b"\x00\x06\x04\x00\x00\x00" => 0, BadSize { at: 0 };
+    b"\x00\x04\x0D\x02" => 0, BadSize { at: 0 };
+    b"\x00\x08\x10\x03\x00\x00\x00\x00" => 0, BadSize { at: 0 };
+    b"\x00\x0C\x03\x05\x41\x10\x00\x00\x00\x00\x00\x00" => 0, BadSize { at: 0 };
+    b"\x00\x04\x08\x00\x00\x06\x11\x00\x00\x00" => 1, BadSize { at: 4 };
+};
 
 #[test]
-fn short_streams_are_truncated(rt: HostRuntime) {
-    for (bytes, count, at) in SHORT {
-        assert!(rt; is_truncated(bytes, *count, *at), "{bytes:?}");
+fn streams_stop_at_their_first_fault(rt: HostRuntime) {
+    for (bytes, count, fault) in FAULTS {
+        assert!(rt; stops(bytes, *count, *fault), "{bytes:?}");
     }
 }
 
-/// Streams with a bad length: how many records they have, where it stands, and the length.
-const BAD_LENGTHS: &[(&[u8], usize, u16, u16)] = &[
-    (b"\x00\x00\x04\x00", 0, 0, 0),
-    (b"\x00\x02\x04\x00", 0, 0, 2),
-    (b"\x00\x03\x00\x02", 0, 0, 3),
-    (b"\x00\x05\x00\x02\x00", 0, 0, 5),
-    // before the bytes are counted
-    (b"\x00\x07\x00\x02", 0, 0, 7),
-    (b"\xFF\xFF\x00\x02", 0, 0, 65_535),
-    // behind a record
-    (b"\x00\x04\x08\x00\x00\x07\x00\x02", 1, 4, 7),
-];
+/// Faults: the number, the place and the text of each.
+const TOLD: &[(RecordFault, u8, u64, &str)] = rows! {
+    Truncated { at: 7 } => 10, 7, "the record at byte 7: the stream ends within it";
+    BadLength { at: 8, len: 3 } => 11, 8, "the record at byte 8: its length is odd or below 4";
+    BadRecord { at: 9, kind: 0x77, form: 0 } => 12, 9, "the record at byte 9: its kind is not known, or not with its form";
+    BadSize { at: 10 } => 13, 10, "the record at byte 10: its body has a size that its kind does not have";
+};
 
-#[test]
-fn lengths_below_4_and_odd_ones_are_bad(rt: HostRuntime) {
-    for (bytes, count, at, len) in BAD_LENGTHS {
-        assert!(rt; has_bad_length(bytes, *count, *at, *len), "{bytes:?}");
+/// Whether the fault is told so.
+fn is_told(alloc: Global, fault: RecordFault, number: u8, place: u64, wanted: &str) -> bool {
+    match format!(in alloc; "{fault}") {
+        Ok(text) => fault.number() == number && fault.place() == place && text.as_str() == wanted,
+        Err(_) => false,
     }
 }
 
-/// Whether so many records come, and then this kind with this form is not known, at this offset.
-fn has_bad_record(bytes: &[u8], count: usize, at: u16, kind: u8, form: u8) -> bool
-    requires { length bytes.now < 2 ^ 32 }
-{
-    let at = u32::from(at);
-    stops(
-        bytes,
-        count,
-        RecordFault::BadRecord { at, kind, form },
-        12,
-        at,
-    )
-}
-
-/// Streams with a kind or a form that is not known: how many records they have, where it stands, the kind and the form.
-const BAD_RECORDS: &[(&[u8], usize, u16, u8, u8)] = &[
-    // past the table, and in its gaps
-    (b"\x00\x04\x77\x00", 0, 0, 0x77, 0),
-    (b"\x00\x04\x3C\x00", 0, 0, 0x3C, 0),
-    (b"\x00\x04\x14\x00", 0, 0, 0x14, 0),
-    (b"\x00\x04\x35\x02", 0, 0, 0x35, 2),
-    // a layer as a number of four bytes, whatever its size
-    (b"\x00\x06\x0D\x03\x00\x01", 0, 0, 0x0D, 3),
-    (b"\x00\x08\x0D\x03\x00\x00\x00\x01", 0, 0, 0x0D, 3),
-    // behind a record
-    (b"\x00\x04\x08\x00\x00\x04\x08\x01", 1, 4, 0x08, 1),
-];
-
 #[test]
-fn kinds_and_forms_stand_in_the_table(rt: HostRuntime) {
-    for (bytes, count, at, kind, form) in BAD_RECORDS {
+fn faults_are_told(rt: HostRuntime) {
+    for (fault, number, place, text) in TOLD {
         assert!(rt;
-            has_bad_record(bytes, *count, *at, *kind, *form),
-            "{bytes:?}"
+            is_told(rt.alloc(), *fault, *number, *place, text),
+            "{fault:?}"
         );
-    }
-}
-
-/// Whether so many records come, and then one has a bad size, at this offset.
-fn has_bad_size(bytes: &[u8], count: usize, at: u16) -> bool
-    requires { length bytes.now < 2 ^ 32 }
-{
-    let at = u32::from(at);
-    stops(bytes, count, RecordFault::BadSize { at }, 13, at)
-}
-
-/// Streams with a body of a size that its kind does not have: how many records they have, and where it stands.
-const BAD_SIZES: &[(&[u8], usize, u16)] = &[
-    // ENDLIB with a body, a layer without one, half a point, and one real for two units
-    (b"\x00\x06\x04\x00\x00\x00", 0, 0),
-    (b"\x00\x04\x0D\x02", 0, 0),
-    (b"\x00\x08\x10\x03\x00\x00\x00\x00", 0, 0),
-    (b"\x00\x0C\x03\x05\x41\x10\x00\x00\x00\x00\x00\x00", 0, 0),
-    // behind a record
-    (b"\x00\x04\x08\x00\x00\x06\x11\x00\x00\x00", 1, 4),
-];
-
-#[test]
-fn sizes_are_those_of_the_table(rt: HostRuntime) {
-    for (bytes, count, at) in BAD_SIZES {
-        assert!(rt; has_bad_size(bytes, *count, *at), "{bytes:?}");
     }
 }
 

@@ -1,6 +1,5 @@
 -- what the cover of a placed shape comes to, in one way at most
-use Rattle.std.proofs.Common.{ℕ, ◌≡◌, subst, List}
-use Rattle.std.specs.Prelude.{◌↔◌}
+use Rattle.std.proofs.Common.{ℕ, ◌≡◌, subst, List, ◌↔◌}
 use Rattle.first_refusal.specs.Outcomes.{Outcome, value, refused}
 use Rattle.first_refusal.specs.Checks.{all_hold, one_fails}
 use Rattle.first_refusal.proofs.CheckLaws.{none_fails, first_refusals_agree}

@@ -1,9 +1,7 @@
 -- the rectangles of pieces
-use Rattle.std.proofs.Common.{◌≡◌, ℤ, neg_ℤ, ◌≤ℤ◌, w32, w64, ◌+ℤ◌, ◌-ℤ◌, to_z, of_z, List, [], ◌∷◌, ◌++◌, map, append_assoc, sym, ap, subst, ◌∙◌, arith}
+use Rattle.std.proofs.Common.{◌≡◌, ℤ, neg_ℤ, ◌≤ℤ◌, w32, w64, ◌+ℤ◌, ◌-ℤ◌, to_z, of_z, List, [], ◌∷◌, ◌++◌, map, append_assoc, sym, ap, subst, ◌∙◌, arith, All, Contains}
+use Rattle.lists.proofs.Words.{append-nil, map-append, ints, All-contains}
 use mir.Val.{SFits}
-use Rattle.std.specs.Prelude.{All, Contains}
-use Rattle.std.proofs.lemmas.List.{append-nil, map-append}
-use Rattle.std.proofs.lemmas.Int.{ints}
 use Rattle.geo_core.specs.declared.bounds.TheConstants.{FARTHEST}
 use Rattle.rect_cover.specs.PathPieces.{Box, Piece, box_of, box_towards, direction_of}
 use Rattle.rect_cover.specs.inside.PieceBoxes.{box_value}
@@ -11,7 +9,6 @@ use Rattle.rect_cover.specs.declared.direction.Direction.{Direction}
 use Rattle.rect_cover.specs.declared.piece.PieceBox.{PieceBox}
 use Rattle.lists.proofs.Containing.{all_of_each}
 use Rattle.lists.proofs.Mapping.{Contains-map}
-use Rattle.std.proofs.lemmas.List.Elements.{All-contains}
 
 pub same_box : (a b : Box) → a.x0 ≡ b.x0 → a.y0 ≡ b.y0 → a.x1 ≡ b.x1 → a.y1 ≡ b.y1 → a ≡ b
 same_box a b left bottom right top =

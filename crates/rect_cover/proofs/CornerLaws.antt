@@ -1,6 +1,6 @@
 -- the corners of a path, point by point
 use Rattle.std.proofs.Common.{suc, ◌-◌, ◌≤◌, ◌≡◌, Bool, true, false, not, ◌||◌, if◌then◌else◌, ℤ, int_lt, List, [], ◌∷◌, ◌++◌, length, get_or, drop, map, filter, Option, Some, None, refl, sym, ap, ◌∙◌, arith}
-use Rattle.std.proofs.lemmas.Int.{ints}
+use Rattle.lists.proofs.Words.{ints}
 use Rattle.geo_core.specs.declared.plane.Point.{Point}
 use Rattle.geo_core.proofs.TurnLaws.{same_at}
 use Rattle.outlines.specs.Outlines.{Edge, edges_of}

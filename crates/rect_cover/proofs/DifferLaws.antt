@@ -1,7 +1,6 @@
 -- points that are all equal
-use Rattle.std.proofs.Common.{ℕ, ◌<◌, ◌≡◌, pos, List, length, get_or, sym, ◌∙◌}
-use Rattle.std.specs.Prelude.{Contains}
-use Rattle.std.proofs.lemmas.List.{get_or_default}
+use Rattle.std.proofs.Common.{ℕ, ◌<◌, ◌≡◌, pos, List, length, get_or, sym, ◌∙◌, Contains}
+use Rattle.lists.proofs.Words.{get_or_default}
 use Rattle.geo_core.specs.declared.plane.Point.{Point}
 use Rattle.rect_cover.specs.ShapeChecks.{HasDifferentPoints}
 

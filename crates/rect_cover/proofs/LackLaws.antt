@@ -1,13 +1,9 @@
 -- a well placed shape has a cover or a fault
-use Rattle.std.proofs.Common.{◌≡◌, ◌≢◌, ◌⊎◌, inl, inr, refl, ap, ◌∙◌, List, [], ◌∷◌, map, arith, subst}
-use Rattle.std.specs.Prelude.{ℤ, pos, neg_ℤ, ◌≤ℤ◌, ◌<ℤ◌, All}
-use Rattle.std.proofs.lemmas.Int.{ints}
-use Rattle.std.proofs.lemmas.List.Elements.{All-head, All-tail}
+use Rattle.std.proofs.Common.{◌≡◌, ◌≢◌, ◌⊎◌, inl, inr, refl, ap, ◌∙◌, List, [], ◌∷◌, map, arith, subst, ℤ, pos, neg_ℤ, ◌≤ℤ◌, ◌<ℤ◌, All}
+use Rattle.lists.proofs.Words.{ints, All-head, All-tail}
 use Rattle.first_refusal.specs.Laws.{CannotLack}
 use Rattle.first_refusal.proofs.CheckLaws.{checks_cannot_lack}
-use Rattle.geo_core.specs.Bounds.{IsInRange}
-use Rattle.geo_core.specs.Circuits.{IsClosed}
-use Rattle.geo_core.specs.Intervals.{IsInterval}
+use Rattle.geo_core.specs.Plane.{IsInRange, IsClosed, IsInterval}
 use Rattle.geo_core.specs.declared.bounds.TheConstants.{FARTHEST, FARTHEST_GROWN}
 use Rattle.geo_core.specs.declared.plane.Point.{Point}
 use Rattle.geo_core.specs.declared.plane.Rect.{Rect}

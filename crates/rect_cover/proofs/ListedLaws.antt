@@ -1,8 +1,6 @@
 -- the covers of many shapes, taken in their order
-use Rattle.std.proofs.Common.{◌≡◌, ◌≢◌, refl, sym, ap, subst, ◌∙◌, List, [], ◌∷◌, ◌++◌, Vec, Global, Result, Ok, Err, append_assoc, append-nil, length, arith}
-use Rattle.std.specs.Prelude.{All}
-use Rattle.std.specs.List.{AllZip}
-use Rattle.std.proofs.lemmas.List.Elements.{All-nil, All-cons}
+use Rattle.std.proofs.Common.{Global, ◌≡◌, ◌≢◌, refl, sym, ap, subst, ◌∙◌, List, [], ◌∷◌, ◌++◌, Vec, Result, Ok, Err, append_assoc, length, arith, All}
+use Rattle.lists.proofs.Words.{append-nil, AllZip, All-nil, All-cons}
 use Rattle.first_refusal.specs.Answers.{Answers, gives, refuses, no_memory}
 use Rattle.first_refusal.specs.Outcomes.{value}
 use Rattle.geo_core.specs.declared.plane.Rect.{Rect}

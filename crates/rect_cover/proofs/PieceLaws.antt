@@ -1,8 +1,6 @@
 -- the pieces of a path, one after the other
-use Rattle.std.proofs.Common.{ℕ, suc, ◌+◌, ◌-◌, ◌<◌, ◌≤◌, ◌≡◌, Bool, true, false, if◌then◌else◌, ℤ, List, [], ◌∷◌, ◌++◌, ◌≢◌, length, get_or, drop, replicate, length-drop, refl, sym, ap, ◌∙◌, arith}
-use Rattle.std.proofs.lemmas.List.{drop_all}
-use Rattle.std.specs.Prelude.{zip}
-use Rattle.std.proofs.Math.Seq.{drop-cons}
+use Rattle.std.proofs.Common.{ℕ, suc, ◌+◌, ◌-◌, ◌<◌, ◌≤◌, ◌≡◌, Bool, true, false, if◌then◌else◌, ℤ, List, [], ◌∷◌, ◌++◌, ◌≢◌, length, get_or, drop, replicate, refl, sym, ap, ◌∙◌, arith}
+use Rattle.lists.proofs.Words.{length-drop, drop_all, zip, drop-cons}
 use Rattle.geo_core.specs.declared.plane.Point.{Point}
 use Rattle.rect_cover.specs.declared.style.PathStyle.{PathStyle}
 use Rattle.rect_cover.specs.PathPieces.{Knot, Piece, half_width_of, reach_before, reach_behind, pieces_between}

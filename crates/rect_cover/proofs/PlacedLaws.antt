@@ -1,15 +1,9 @@
 -- placed shapes, and where their points come to lie
-use Rattle.std.proofs.Common.{ℕ, ℤ, ◌≡◌, ◌+ℤ◌, ◌⊎◌, inl, inr, List, [], ◌∷◌, map, ◌<◌, length, get_or, sym, ◌∙◌, ap, subst, Some, Vec, Global, Result, Ok, Err, to_z, of_z, w16, w32, arith}
-use Rattle.std.specs.Prelude.{All, FitsSigned, slice_get}
-use Rattle.std.proofs.lemmas.Int.{to_z-of_z}
-use Rattle.std.proofs.lemmas.Option.{get_or_from_slice_get, slice_get_within}
-use Rattle.std.proofs.lemmas.List.{length-map, map-append}
-use Rattle.std.proofs.lemmas.List.Elements.{All-nil, All-cons, All-head, All-tail}
+use Rattle.std.proofs.Common.{Global, ℕ, ℤ, ◌≡◌, ◌+ℤ◌, ◌⊎◌, inl, inr, List, [], ◌∷◌, map, ◌<◌, length, get_or, sym, ◌∙◌, ap, subst, Some, Vec, Result, Ok, Err, to_z, of_z, w16, w32, arith, All, FitsSigned, slice_get}
+use Rattle.lists.proofs.Words.{to_z-of_z, get_or_from_slice_get, slice_get_within, length-map, map-append, All-nil, All-cons, All-head, All-tail}
 use Rattle.first_refusal.specs.Answers.{Answers, gives, refuses, no_memory}
 use Rattle.first_refusal.specs.Outcomes.{value, refused}
-use Rattle.geo_core.specs.Bounds.{IsInRange}
-use Rattle.geo_core.specs.Circuits.{IsOutline}
-use Rattle.geo_core.specs.Turns.{image_under}
+use Rattle.geo_core.specs.Plane.{IsInRange, IsOutline, image_under}
 use Rattle.geo_core.specs.declared.plane.Point.{Point}
 use Rattle.geo_core.specs.declared.plane.Rect.{Rect}
 use Rattle.geo_core.proofs.TurnLaws.{same_at}

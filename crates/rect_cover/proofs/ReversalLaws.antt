@@ -1,8 +1,6 @@
 -- ways back of a path, from one piece to the next
-use Rattle.std.proofs.Common.{ℕ, suc, ◌<◌, ◌≤◌, ◌≡◌, List, [], ◌∷◌, length, get_or, drop, sym, ap, subst, ◌∙◌, arith}
-use Rattle.std.specs.Prelude.{All}
-use Rattle.std.proofs.Math.Seq.{drop-cons}
-use Rattle.std.proofs.lemmas.List.Elements.{All-nil, All-cons, All-head, All-tail}
+use Rattle.std.proofs.Common.{ℕ, suc, ◌<◌, ◌≤◌, ◌≡◌, List, [], ◌∷◌, length, get_or, drop, sym, ap, subst, ◌∙◌, arith, All}
+use Rattle.lists.proofs.Words.{drop-cons, All-nil, All-cons, All-head, All-tail}
 use Rattle.geo_core.specs.declared.plane.Point.{Point}
 use Rattle.rect_cover.specs.ShapeChecks.{GoesOn}
 use Rattle.outlines.specs.Outlines.{Edge, edges_of}

@@ -1,9 +1,8 @@
 -- a shape that is shifted covers the shifted cells
-use Rattle.std.proofs.Common.{ℕ, ◌-◌, ◌≡◌, refl, sym, ap, subst, ◌∙◌, List, [], ◌∷◌, ◌++◌, take, drop, map, length, Bool, true, false, not, arith}
-use Rattle.std.specs.Prelude.{ℤ, pos, ◌+ℤ◌, ◌-ℤ◌, ◌↔◌, int_le, int_lt, Contains, filter, replicate, zip}
-use Rattle.std.proofs.lemmas.Int.{ints}
-use Rattle.std.proofs.lemmas.List.{drop-map, take-map, map-append, length-map}
-use Rattle.geo_core.specs.Intervals.{IsIn}
+use Rattle.std.proofs.Common.{ℕ, ◌-◌, ◌≡◌, refl, sym, ap, subst, ◌∙◌, List, [], ◌∷◌, ◌++◌, take, drop, map, length, Bool, true, false, not, arith, ℤ, pos, ◌+ℤ◌, ◌-ℤ◌, ◌↔◌, int_le, int_lt, Contains, filter, replicate}
+use Rattle.lists.proofs.Words.{zip, ints, map-append, length-map}
+use Rattle.std.proofs.lemmas.List.{drop-map, take-map}
+use Rattle.geo_core.specs.Plane.{IsIn}
 use Rattle.geo_core.specs.declared.plane.Point.{Point}
 use Rattle.geo_core.specs.declared.plane.Cell.{Cell}
 use Rattle.library_model.specs.declared.element.ShapeKind.{ShapeKind}

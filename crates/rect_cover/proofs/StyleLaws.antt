@@ -1,6 +1,6 @@
 -- the ends and the widths of paths
 use Rattle.std.proofs.Common.{ℕ, zero, suc, ◌*◌, ◌/◌, ◌%◌, ◌≡◌, ℤ, pos, negsuc, neg_ℤ, nat_abs, ap, ◌∙◌, arith}
-use Rattle.std.proofs.lemmas.Int.{unsigned_abs-mul}
+use Rattle.lists.proofs.Words.{unsigned_abs-mul}
 use Rattle.rect_cover.specs.ShapeChecks.{IsEven}
 
 -- twice a number, from an even amount

@@ -1,6 +1,5 @@
 -- a path of two points is one piece
-use Rattle.std.proofs.Common.{◌≡◌, ◌≢◌, ◌⊎◌, inl, inr, refl, sym, subst, [], ◌∷◌, Bool, true, false}
-use Rattle.std.specs.Prelude.{ℤ, pos, ◌↔◌, Contains}
+use Rattle.std.proofs.Common.{◌≡◌, ◌≢◌, ◌⊎◌, inl, inr, refl, sym, subst, [], ◌∷◌, Bool, true, false, ℤ, pos, ◌↔◌, Contains}
 use Rattle.geo_core.specs.declared.plane.Point.{Point}
 use Rattle.geo_core.specs.declared.plane.Cell.{Cell}
 use Rattle.rect_cover.specs.declared.style.PathStyle.{PathStyle}

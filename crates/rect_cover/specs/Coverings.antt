@@ -1,10 +1,9 @@
 -- what the cover of a placed shape comes to: rectangles, or the fault of the first check that fails
 use Rattle.std.specs.Prelude.{ℕ, ◌≡◌, List, map, All, Vec, slice_get, Some}
-use Rattle.std.specs.Global.{Global}
-use Rattle.std.specs.List.{AllZip}
+use Rattle.lists.specs.Words.{Global, AllZip}
 use Rattle.first_refusal.specs.Outcomes.{Outcome, value, refused}
 use Rattle.first_refusal.specs.Checks.{Checks, IsFirstFailing}
-use Rattle.geo_core.specs.Bounds.{IsInRange}
+use Rattle.geo_core.specs.Plane.{IsInRange}
 use Rattle.geo_core.specs.declared.plane.Point.{Point}
 use Rattle.geo_core.specs.declared.plane.Rect.{Rect}
 use Rattle.library_model.specs.Points.{HasItsPoints}

@@ -1,6 +1,6 @@
 -- which cells a shape covers
 use Rattle.std.specs.Prelude.{pos, ◌≢◌, List, Contains}
-use Rattle.geo_core.specs.Intervals.{IsIn}
+use Rattle.geo_core.specs.Plane.{IsIn}
 use Rattle.geo_core.specs.declared.plane.Point.{Point}
 use Rattle.geo_core.specs.declared.plane.Cell.{Cell}
 use Rattle.library_model.specs.declared.element.ShapeKind.{ShapeKind}

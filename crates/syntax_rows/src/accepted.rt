@@ -1,8 +1,6 @@
 use super::records::*;
 use super::streams::{TWO_BARS, joined, read, stream_of};
-use super::wanted::{
-    RIGHT_SQUARE_POINTS, SQUARE_POINTS, Wanted, WantedLattice, has_elements, has_structures,
-};
+use super::wanted::{RIGHT_SQUARE_POINTS, SQUARE_POINTS, Wanted, has_elements, has_structures};
 use gds_syntax::ShapeKind;
 use geo_core::Point;
 use std::alloc::Global;
@@ -27,20 +25,8 @@ fn are_kept(alloc: Global, records: &[&[u8]], wanted: &[Wanted]) -> bool {
 
 /// The two bars behind the front.
 const BARS: &[Wanted] = &[
-    Wanted::Shape {
-        at: 94,
-        kind: ShapeKind::Boundary,
-        layer: 1,
-        datatype: 0,
-        points: SQUARE_POINTS,
-    },
-    Wanted::Shape {
-        at: 158,
-        kind: ShapeKind::Boundary,
-        layer: 1,
-        datatype: 0,
-        points: RIGHT_SQUARE_POINTS,
-    },
+    Wanted::Shape(94, ShapeKind::Boundary, 1, 0, SQUARE_POINTS),
+    Wanted::Shape(158, ShapeKind::Boundary, 1, 0, RIGHT_SQUARE_POINTS),
 ];
 
 /// Numbers without sign, a class whose form is no form, and a name with a zero byte within.
@@ -76,162 +62,34 @@ const ONE_POINT: &[u8] = b"\x00\x0C\x10\x03\x00\x00\x00\x07\xFF\xFF\xFF\xF7";
 const PATHTYPE_NEGATIVE: &[u8] = b"\x00\x06\x21\x02\xFF\xFF";
 
 /// Shapes behind the front, the first at 94, and what is kept.
-const SHAPES: &[(&str, &[&[u8]], &[Wanted])] = &[
-    ("empty_layout", &[], &[]),
-    ("two bars", TWO_BARS, BARS),
-    (
-        "records in another order, and all that a boundary may have",
-        &[
-            BOUNDARY,
-            SQUARE,
-            PLEX,
-            DATATYPE_32768,
-            ELFLAGS,
-            LAYER_65535,
-            PROPATTR,
-            PROPVALUE,
-            PROPATTR,
-            PROPVALUE,
-            ENDEL,
-        ],
-        &[Wanted::Shape {
-            at: 94,
-            kind: ShapeKind::Boundary,
-            layer: 65_535,
-            datatype: 32_768,
-            points: SQUARE_POINTS,
-        }],
-    ),
-    (
-        "boundary of four points to the ends of the range",
-        &[BOUNDARY_ON_1, FAR, ENDEL],
-        &[Wanted::Shape {
-            at: 94,
-            kind: ShapeKind::Boundary,
-            layer: 1,
-            datatype: 0,
-            points: FAR_POINTS,
-        }],
-    ),
-    (
-        "box, with its type",
-        &[BOX_ON_1, SQUARE_END],
-        &[Wanted::Shape {
-            at: 94,
-            kind: ShapeKind::BoxElement,
-            layer: 1,
-            datatype: 40_000,
-            points: SQUARE_POINTS,
-        }],
-    ),
-    (
-        "path without width",
-        &[PATH_ON_1, ONE_POINT, ENDEL],
-        &[Wanted::Shape {
-            at: 94,
-            kind: ShapeKind::Path {
-                pathtype: 0,
-                width: 0,
-                begin: 0,
-                end: 0,
-            },
-            layer: 1,
-            datatype: 0,
-            points: &[Point { x: 7, y: -9 }],
-        }],
-    ),
-    (
-        "path with extensions",
-        &[
-            PATH_ON_1,
-            PATHTYPE_4,
-            WIDTH_4,
-            BGNEXTN_2,
-            ENDEXTN_1_BACK,
-            SQUARE_END,
-        ],
-        &[Wanted::Shape {
-            at: 94,
-            kind: ShapeKind::Path {
-                pathtype: 4,
-                width: 4,
-                begin: 2,
-                end: -1,
-            },
-            layer: 1,
-            datatype: 0,
-            points: SQUARE_POINTS,
-        }],
-    ),
-    (
-        "path of an absolute width and a type that no path has",
-        &[PATH_ON_1, PATHTYPE_NEGATIVE, WIDTH_ABSOLUTE, ORIGIN_END],
-        &[Wanted::Shape {
-            at: 94,
-            kind: ShapeKind::Path {
-                pathtype: -1,
-                width: -3,
-                begin: 0,
-                end: 0,
-            },
-            layer: 1,
-            datatype: 0,
-            points: &[Point { x: 0, y: 0 }],
-        }],
-    ),
-    ("class of a structure", &[STRCLASS], &[]),
-    ("class of a strange form", &[STRCLASS_OF_STRANGE_FORM], &[]),
-    (
-        "strclass_and_property",
-        &[
-            STRCLASS,
-            BOUNDARY_ON_1,
-            SQUARE,
-            PROPATTR,
-            PROPVALUE,
-            ENDEL,
-            BOUNDARY_ON_1,
-            SQUARE_TO_THE_RIGHT,
-            ENDEL,
-        ],
-        &[
-            Wanted::Shape {
-                at: 100,
-                kind: ShapeKind::Boundary,
-                layer: 1,
-                datatype: 0,
-                points: SQUARE_POINTS,
-            },
-            Wanted::Shape {
-                at: 176,
-                kind: ShapeKind::Boundary,
-                layer: 1,
-                datatype: 0,
-                points: RIGHT_SQUARE_POINTS,
-            },
-        ],
-    ),
+const SHAPES: &[(&str, &[&[u8]], &[Wanted])] = rows! {
+    "empty_layout": &[] => &[];
+    "two bars": TWO_BARS => BARS;
+    "records in another order, and all that a boundary may have":
+        records! { BOUNDARY SQUARE PLEX DATATYPE_32768 ELFLAGS LAYER_65535 PROPATTR PROPVALUE PROPATTR PROPVALUE ENDEL }
+        => &[Wanted::Shape(94, ShapeKind::Boundary, 65_535, 32_768, SQUARE_POINTS)];
+    "boundary of four points to the ends of the range": &[BOUNDARY_ON_1, FAR, ENDEL]
+        => &[Wanted::Shape(94, ShapeKind::Boundary, 1, 0, FAR_POINTS)];
+    "box, with its type": &[BOX_ON_1, SQUARE_END] => &[Wanted::Shape(94, ShapeKind::BoxElement, 1, 40_000, SQUARE_POINTS)];
+    "path without width": &[PATH_ON_1, ONE_POINT, ENDEL]
+        => &[Wanted::Shape(94, path!(0, 0, 0, 0), 1, 0, &[Point { x: 7, y: -9 }])];
+    "path with extensions": &[PATH_ON_1, PATHTYPE_4, WIDTH_4, BGNEXTN_2, ENDEXTN_1_BACK, SQUARE_END]
+        => &[Wanted::Shape(94, path!(4, 4, 2, -1), 1, 0, SQUARE_POINTS)];
+    "path of an absolute width and a type that no path has": &[PATH_ON_1, PATHTYPE_NEGATIVE, WIDTH_ABSOLUTE, ORIGIN_END]
+        => &[Wanted::Shape(94, path!(-1, -3, 0, 0), 1, 0, &[Point { x: 0, y: 0 }])];
+    "class of a structure": &[STRCLASS] => &[];
+    "class of a strange form": &[STRCLASS_OF_STRANGE_FORM] => &[];
+    "strclass_and_property":
+        &[STRCLASS, BOUNDARY_ON_1, SQUARE, PROPATTR, PROPVALUE, ENDEL, BOUNDARY_ON_1, SQUARE_TO_THE_RIGHT, ENDEL]
+        => &[
+            Wanted::Shape(100, ShapeKind::Boundary, 1, 0, SQUARE_POINTS),
+            Wanted::Shape(176, ShapeKind::Boundary, 1, 0, RIGHT_SQUARE_POINTS),
+        ];
     // these are read and let go, whatever a text's magnification and angle
-    (
-        "text and node",
-        &[
-            TEXT,
-            LAYER_1,
-            TEXTTYPE_0,
-            MAG_TENTH,
-            ANGLE_45,
-            STRANS_ABSOLUTE,
-            ORIGIN,
-            STRING,
-            ENDEL,
-            NODE,
-            LAYER_1,
-            NODETYPE_0,
-            ORIGIN_END,
-        ],
-        &[],
-    ),
-];
+    "text and node": records! {
+        TEXT LAYER_1 TEXTTYPE_0 MAG_TENTH ANGLE_45 STRANS_ABSOLUTE ORIGIN STRING ENDEL NODE LAYER_1 NODETYPE_0 ORIGIN_END
+    } => &[];
+};
 
 #[test]
 fn shapes_are_kept(rt: HostRuntime) {
@@ -249,61 +107,27 @@ const ANGLE_0: &[u8] = b"\x00\x0C\x1C\x05\x00\x00\x00\x00\x00\x00\x00\x00";
 const ANGLE_MINUS_360: &[u8] = b"\x00\x0C\x1C\x05\xC3\x16\x80\x00\x00\x00\x00\x00";
 
 /// What a placement of `S` at the origin says of its turn: whether it mirrors, and by how many quarters it turns.
-const TURNS: &[(&str, &[&[u8]], bool, u8)] = &[
-    ("plain", &[SREF_S, ORIGIN_END], false, 0),
-    ("magnified by 1", &[SREF_S, MAG_1, ORIGIN_END], false, 0),
-    (
-        "magnified by 1, spelled longer",
-        &[SREF_S, MAG_1_SPELLED_LONGER, ORIGIN_END],
-        false,
-        0,
-    ),
-    ("angle 0", &[SREF_S, ANGLE_0, ORIGIN_END], false, 0),
-    ("angle 90", &[SREF_S, ANGLE_90, ORIGIN_END], false, 1),
-    ("angle 180", &[SREF_S, ANGLE_180, ORIGIN_END], false, 2),
-    ("angle 270", &[SREF_S, ANGLE_270, ORIGIN_END], false, 3),
-    ("angle 360", &[SREF_S, ANGLE_360, ORIGIN_END], false, 0),
-    ("angle -90", &[SREF_S, ANGLE_MINUS_90, ORIGIN_END], false, 3),
-    (
-        "angle -360",
-        &[SREF_S, ANGLE_MINUS_360, ORIGIN_END],
-        false,
-        0,
-    ),
-    ("mirrored", &[SREF_S, STRANS_MIRROR, ORIGIN_END], true, 0),
-    (
-        "mirrored and turned",
-        &[
-            SREF,
-            ANGLE_270,
-            MAG_1,
-            STRANS_MIRROR,
-            ORIGIN,
-            SNAME_S,
-            ENDEL,
-        ],
-        true,
-        3,
-    ),
-    (
-        "ignored bits of STRANS",
-        &[SREF_S, STRANS_IGNORED, ORIGIN_END],
-        false,
-        0,
-    ),
-];
+const TURNS: &[(&str, &[&[u8]], bool, u8)] = rows! {
+    "plain": &[SREF_S, ORIGIN_END] => false, 0;
+    "magnified by 1": &[SREF_S, MAG_1, ORIGIN_END] => false, 0;
+    "magnified by 1, spelled longer": &[SREF_S, MAG_1_SPELLED_LONGER, ORIGIN_END] => false, 0;
+    "angle 0": &[SREF_S, ANGLE_0, ORIGIN_END] => false, 0;
+    "angle 90": &[SREF_S, ANGLE_90, ORIGIN_END] => false, 1;
+    "angle 180": &[SREF_S, ANGLE_180, ORIGIN_END] => false, 2;
+    "angle 270": &[SREF_S, ANGLE_270, ORIGIN_END] => false, 3;
+    "angle 360": &[SREF_S, ANGLE_360, ORIGIN_END] => false, 0;
+    "angle -90": &[SREF_S, ANGLE_MINUS_90, ORIGIN_END] => false, 3;
+    "angle -360": &[SREF_S, ANGLE_MINUS_360, ORIGIN_END] => false, 0;
+    "mirrored": &[SREF_S, STRANS_MIRROR, ORIGIN_END] => true, 0;
+    "mirrored and turned": &[SREF, ANGLE_270, MAG_1, STRANS_MIRROR, ORIGIN, SNAME_S, ENDEL] => true, 3;
+    "ignored bits of STRANS": &[SREF_S, STRANS_IGNORED, ORIGIN_END] => false, 0;
+};
 
 #[test]
 fn placements_are_kept(rt: HostRuntime) {
     for (name, records, reflect, quarters) in TURNS {
-        let wanted = Wanted::Reference {
-            at: 94,
-            target: b"S",
-            reflect: *reflect,
-            quarters: *quarters,
-            origin: Point { x: 0, y: 0 },
-            lattice: None,
-        };
+        let origin = Point { x: 0, y: 0 };
+        let wanted = Wanted::Reference(94, b"S", *reflect, *quarters, origin, None);
         assert!(rt; are_kept(rt.alloc(), records, &[wanted]), "{name}");
     }
 }
@@ -316,87 +140,24 @@ const SAME_PLACE: &[u8] = b"\
     \x00\x1C\x10\x03\x00\x00\x00\x01\x00\x00\x00\x02\x00\x00\x00\x01\x00\x00\x00\x02\x00\x00\x00\x01\
     \x00\x00\x00\x02";
 
+/// The least point.
+const LEAST: Point = Point {
+    x: -2_147_483_648,
+    y: -2_147_483_648,
+};
+
 /// Arrays behind the front, and what is kept.
-const ARRAYS: &[(&str, &[&[u8]], Wanted)] = &[
+const ARRAYS: &[(&str, &[&[u8]], Wanted)] = rows! {
     // the steps are as given, and are not turned again
-    (
-        "array_turned_90",
-        &[AREF_S, ANGLE_90, COLUMNS_3_ROWS_2, TURNED_LATTICE, ENDEL],
-        Wanted::Reference {
-            at: 94,
-            target: b"S",
-            reflect: false,
-            quarters: 1,
-            origin: Point { x: 0, y: 0 },
-            lattice: Some(WantedLattice {
-                columns: 3,
-                rows: 2,
-                column_step: (0, 10),
-                row_step: (-10, 0),
-            }),
-        },
-    ),
-    (
-        "array_turned_minus_90",
-        &[
-            AREF_S,
-            ANGLE_MINUS_90,
-            COLUMNS_3_ROWS_2,
-            TURNED_LATTICE,
-            ENDEL,
-        ],
-        Wanted::Reference {
-            at: 94,
-            target: b"S",
-            reflect: false,
-            quarters: 3,
-            origin: Point { x: 0, y: 0 },
-            lattice: Some(WantedLattice {
-                columns: 3,
-                rows: 2,
-                column_step: (0, 10),
-                row_step: (-10, 0),
-            }),
-        },
-    ),
-    (
-        "steps past the coordinates",
-        &[AREF, SNAME_LONG, COLUMNS_1_ROWS_1, FAR_LATTICE, ENDEL],
-        Wanted::Reference {
-            at: 94,
-            target: b"a\0b",
-            reflect: false,
-            quarters: 0,
-            origin: Point {
-                x: -2_147_483_648,
-                y: -2_147_483_648,
-            },
-            lattice: Some(WantedLattice {
-                columns: 1,
-                rows: 1,
-                column_step: (4_294_967_295, 0),
-                row_step: (0, 4_294_967_295),
-            }),
-        },
-    ),
-    (
-        "most columns and rows, all in one place",
-        &[AREF_S, COLUMNS_MOST, SAME_PLACE, ENDEL],
-        Wanted::Reference {
-            at: 94,
-            target: b"S",
-            reflect: false,
-            quarters: 0,
-            origin: Point { x: 1, y: 2 },
-            lattice: Some(WantedLattice {
-                columns: 32_767,
-                rows: 32_767,
-                column_step: (0, 0),
-                row_step: (0, 0),
-            }),
-        },
-    ),
-];
+    "array_turned_90": &[AREF_S, ANGLE_90, COLUMNS_3_ROWS_2, TURNED_LATTICE, ENDEL]
+        => Wanted::Reference(94, b"S", false, 1, Point { x: 0, y: 0 }, Some((3, 2, (0, 10), (-10, 0))));
+    "array_turned_minus_90": &[AREF_S, ANGLE_MINUS_90, COLUMNS_3_ROWS_2, TURNED_LATTICE, ENDEL]
+        => Wanted::Reference(94, b"S", false, 3, Point { x: 0, y: 0 }, Some((3, 2, (0, 10), (-10, 0))));
+    "steps past the coordinates": &[AREF, SNAME_LONG, COLUMNS_1_ROWS_1, FAR_LATTICE, ENDEL]
+        => Wanted::Reference(94, b"a\0b", false, 0, LEAST, Some((1, 1, (4_294_967_295, 0), (0, 4_294_967_295))));
+    "most columns and rows, all in one place": &[AREF_S, COLUMNS_MOST, SAME_PLACE, ENDEL]
+        => Wanted::Reference(94, b"S", false, 0, Point { x: 1, y: 2 }, Some((32_767, 32_767, (0, 0), (0, 0))));
+};
 
 #[test]
 fn arrays_are_kept(rt: HostRuntime) {
@@ -447,45 +208,17 @@ fn is_library(
 }
 
 /// Whole streams: the name of the library, and its structures.
-const LIBRARIES: &[(&str, &[&[u8]], &[u8], &[(u32, &[u8], usize)])] = &[
-    ("no structure", &[HEAD, ENDLIB], b"L", &[]),
-    (
-        "an empty structure without a name",
-        &[HEAD, BGNSTR, STRNAME_EMPTY, ENDSTR, ENDLIB],
-        b"L",
-        &[(60, b"", 0)],
-    ),
-    (
-        "a reference, and behind it what it names",
-        &[
-            HEAD,
-            BGNSTR,
-            STRNAME_T,
-            SREF_S,
-            ORIGIN_END,
-            SREF_S,
-            ORIGIN_END,
-            ENDSTR,
-            BGNSTR,
-            STRNAME_S,
-            BOUNDARY_ON_1,
-            SQUARE_END,
-            ENDSTR,
-            ENDLIB,
-        ],
-        b"L",
-        &[(60, b"T", 2), (150, b"S", 1)],
-    ),
-    (
-        "a head with all that it may have",
-        &[
-            HEADER, BGNLIB, MASK, ENDMASKS, LIBDIRSIZE, LIBDIRSIZE, SRFNAME, LIBSECUR, LIBNAME,
-            FORMAT, MASK, MASK, ENDMASKS, SRFNAME, UNITS, BGNSTR, STRNAME_T, ENDSTR, ENDLIB,
-        ],
-        b"a\x00b",
-        &[(100, b"T", 0)],
-    ),
-];
+const LIBRARIES: &[(&str, &[&[u8]], &[u8], &[(u32, &[u8], usize)])] = rows! {
+    "no structure": &[HEAD, ENDLIB] => b"L", &[];
+    "an empty structure without a name": &[HEAD, BGNSTR, STRNAME_EMPTY, ENDSTR, ENDLIB] => b"L", &[(60, b"", 0)];
+    "a reference, and behind it what it names": records! {
+        HEAD BGNSTR STRNAME_T SREF_S ORIGIN_END SREF_S ORIGIN_END ENDSTR BGNSTR STRNAME_S BOUNDARY_ON_1 SQUARE_END ENDSTR ENDLIB
+    } => b"L", &[(60, b"T", 2), (150, b"S", 1)];
+    "a head with all that it may have": records! {
+        HEADER BGNLIB MASK ENDMASKS LIBDIRSIZE LIBDIRSIZE SRFNAME LIBSECUR LIBNAME FORMAT MASK MASK ENDMASKS SRFNAME UNITS
+        BGNSTR STRNAME_T ENDSTR ENDLIB
+    } => b"a\x00b", &[(100, b"T", 0)];
+};
 
 #[test]
 fn libraries_are_kept(rt: HostRuntime) {

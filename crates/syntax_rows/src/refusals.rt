@@ -1,7 +1,7 @@
 use super::records::*;
 use super::streams::{is_refused, read, stream_of};
-use gds_records::kinds;
-use gds_syntax::SyntaxFault::{self, Missing, Unexpected};
+use gds_records::{RecordFault, kinds};
+use gds_syntax::SyntaxFault;
 use std::alloc::Global;
 
 /// Bytes that are no stream: the number and the place of the refusal.
@@ -93,178 +93,48 @@ const COLUMNS_3_ROWS_1: &[u8] = b"\x00\x08\x13\x02\x00\x03\x00\x01";
 const COLUMNS_1_ROWS_3: &[u8] = b"\x00\x08\x13\x02\x00\x01\x00\x03";
 
 /// Elements behind the front, the first at 94: the number and the place of the refusal.
-const ELEMENTS: &[(&str, &[&[u8]], u8, u64)] = &[
-    (
-        "boundary_without_layer",
-        &[BOUNDARY, DATATYPE_0, SQUARE_END],
-        15,
-        94,
-    ),
-    (
-        "boundary_of_three_points",
-        &[BOUNDARY_ON_1, CORNERS_3, ENDEL],
-        17,
-        94,
-    ),
-    (
-        "boundary_not_closed",
-        &[BOUNDARY_ON_1, ENDS_BESIDE, ENDEL],
-        18,
-        94,
-    ),
-    ("magnified_reference", &[SREF_S, MAG_2, ORIGIN_END], 19, 94),
-    ("angle_45", &[SREF_S, ANGLE_45, ORIGIN_END], 20, 94),
-    (
-        "absolute_angle",
-        &[SREF_S, STRANS_ABSOLUTE, ORIGIN_END],
-        21,
-        94,
-    ),
-    (
-        "array_of_no_columns",
-        &[AREF_S, COLUMNS_0_ROWS_1, ACROSS_AND_UP, ENDEL],
-        22,
-        94,
-    ),
-    (
-        "uneven_array",
-        &[AREF_S, COLUMNS_3_ROWS_1, ACROSS_AND_UP, ENDEL],
-        23,
-        94,
-    ),
+const ELEMENTS: &[(&str, &[&[u8]], u8, u64)] = rows! {
+    "boundary_without_layer": &[BOUNDARY, DATATYPE_0, SQUARE_END] => 15, 94;
+    "boundary_of_three_points": &[BOUNDARY_ON_1, CORNERS_3, ENDEL] => 17, 94;
+    "boundary_not_closed": &[BOUNDARY_ON_1, ENDS_BESIDE, ENDEL] => 18, 94;
+    "magnified_reference": &[SREF_S, MAG_2, ORIGIN_END] => 19, 94;
+    "angle_45": &[SREF_S, ANGLE_45, ORIGIN_END] => 20, 94;
+    "absolute_angle": &[SREF_S, STRANS_ABSOLUTE, ORIGIN_END] => 21, 94;
+    "array_of_no_columns": &[AREF_S, COLUMNS_0_ROWS_1, ACROSS_AND_UP, ENDEL] => 22, 94;
+    "uneven_array": &[AREF_S, COLUMNS_3_ROWS_1, ACROSS_AND_UP, ENDEL] => 23, 94;
     // what each kind of element needs
-    (
-        "boundary without datatype",
-        &[BOUNDARY, LAYER_1, SQUARE_END],
-        15,
-        94,
-    ),
-    ("path without points", &[PATH_ON_1, ENDEL], 15, 94),
-    (
-        "array without columns",
-        &[AREF_S, ACROSS_AND_UP, ENDEL],
-        15,
-        94,
-    ),
-    (
-        "text without string",
-        &[TEXT, LAYER_1, TEXTTYPE_0, ORIGIN_END],
-        15,
-        94,
-    ),
-    ("node without type", &[NODE, LAYER_1, ORIGIN_END], 15, 94),
-    ("box without type", &[BOX, LAYER_1, SQUARE_END], 15, 94),
-    ("path of no point", &[PATH_ON_1, NO_POINT, ENDEL], 17, 94),
-    (
-        "node of no point",
-        &[NODE, LAYER_1, NODETYPE_0, NO_POINT, ENDEL],
-        17,
-        94,
-    ),
-    (
-        "reference of two points",
-        &[SREF_S, POINTS_2, ENDEL],
-        17,
-        94,
-    ),
-    (
-        "array of two points",
-        &[AREF_S, COLUMNS_1_ROWS_3, POINTS_2, ENDEL],
-        17,
-        94,
-    ),
-    ("box of three points", &[BOX_ON_1, CORNERS_3, ENDEL], 17, 94),
-    (
-        "four corners not closed",
-        &[BOUNDARY_ON_1, CORNERS_4, ENDEL],
-        18,
-        94,
-    ),
-    ("box not closed", &[BOX_ON_1, ENDS_ABOVE, ENDEL], 18, 94),
-    (
-        "magnified by a half",
-        &[SREF_S, MAG_HALF, ORIGIN_END],
-        19,
-        94,
-    ),
-    ("magnified by 0", &[SREF_S, MAG_0, ORIGIN_END], 19, 94),
-    ("angle 720", &[SREF_S, ANGLE_720, ORIGIN_END], 20, 94),
-    ("angle 450", &[SREF_S, ANGLE_450, ORIGIN_END], 20, 94),
-    ("angle -450", &[SREF_S, ANGLE_MINUS_450, ORIGIN_END], 20, 94),
-    (
-        "angle over 90",
-        &[SREF_S, ANGLE_OVER_90, ORIGIN_END],
-        20,
-        94,
-    ),
-    (
-        "array of no rows",
-        &[AREF_S, COLUMNS_1_ROWS_0, ACROSS_AND_UP, ENDEL],
-        22,
-        94,
-    ),
-    (
-        "negative columns",
-        &[AREF_S, COLUMNS_NEGATIVE, ACROSS_AND_UP, ENDEL],
-        22,
-        94,
-    ),
-    (
-        "uneven rows",
-        &[AREF_S, COLUMNS_1_ROWS_3, ACROSS_AND_UP, ENDEL],
-        23,
-        94,
-    ),
-    (
-        "columns uneven upwards",
-        &[AREF_S, COLUMNS_3_ROWS_1, UP_AND_ACROSS, ENDEL],
-        23,
-        94,
-    ),
-    (
-        "rows uneven across",
-        &[AREF_S, COLUMNS_1_ROWS_3, UP_AND_ACROSS, ENDEL],
-        23,
-        94,
-    ),
+    "boundary without datatype": &[BOUNDARY, LAYER_1, SQUARE_END] => 15, 94;
+    "path without points": &[PATH_ON_1, ENDEL] => 15, 94;
+    "array without columns": &[AREF_S, ACROSS_AND_UP, ENDEL] => 15, 94;
+    "text without string": &[TEXT, LAYER_1, TEXTTYPE_0, ORIGIN_END] => 15, 94;
+    "node without type": &[NODE, LAYER_1, ORIGIN_END] => 15, 94;
+    "box without type": &[BOX, LAYER_1, SQUARE_END] => 15, 94;
+    "path of no point": &[PATH_ON_1, NO_POINT, ENDEL] => 17, 94;
+    "node of no point": &[NODE, LAYER_1, NODETYPE_0, NO_POINT, ENDEL] => 17, 94;
+    "reference of two points": &[SREF_S, POINTS_2, ENDEL] => 17, 94;
+    "array of two points": &[AREF_S, COLUMNS_1_ROWS_3, POINTS_2, ENDEL] => 17, 94;
+    "box of three points": &[BOX_ON_1, CORNERS_3, ENDEL] => 17, 94;
+    "four corners not closed": &[BOUNDARY_ON_1, CORNERS_4, ENDEL] => 18, 94;
+    "box not closed": &[BOX_ON_1, ENDS_ABOVE, ENDEL] => 18, 94;
+    "magnified by a half": &[SREF_S, MAG_HALF, ORIGIN_END] => 19, 94;
+    "magnified by 0": &[SREF_S, MAG_0, ORIGIN_END] => 19, 94;
+    "angle 720": &[SREF_S, ANGLE_720, ORIGIN_END] => 20, 94;
+    "angle 450": &[SREF_S, ANGLE_450, ORIGIN_END] => 20, 94;
+    "angle -450": &[SREF_S, ANGLE_MINUS_450, ORIGIN_END] => 20, 94;
+    "angle over 90": &[SREF_S, ANGLE_OVER_90, ORIGIN_END] => 20, 94;
+    "array of no rows": &[AREF_S, COLUMNS_1_ROWS_0, ACROSS_AND_UP, ENDEL] => 22, 94;
+    "negative columns": &[AREF_S, COLUMNS_NEGATIVE, ACROSS_AND_UP, ENDEL] => 22, 94;
+    "uneven rows": &[AREF_S, COLUMNS_1_ROWS_3, ACROSS_AND_UP, ENDEL] => 23, 94;
+    "columns uneven upwards": &[AREF_S, COLUMNS_3_ROWS_1, UP_AND_ACROSS, ENDEL] => 23, 94;
+    "rows uneven across": &[AREF_S, COLUMNS_1_ROWS_3, UP_AND_ACROSS, ENDEL] => 23, 94;
     // the first of two that apply
-    (
-        "missing, then too few points",
-        &[BOUNDARY, DATATYPE_0, CORNERS_3, ENDEL],
-        15,
-        94,
-    ),
-    (
-        "too few points, then not closed",
-        &[BOX_ON_1, CORNERS_3, ENDEL],
-        17,
-        94,
-    ),
-    (
-        "magnified, then absolute",
-        &[SREF_S, STRANS_ABSOLUTE, MAG_2, ORIGIN_END],
-        19,
-        94,
-    ),
-    (
-        "absolute, then angle",
-        &[SREF_S, ANGLE_45, STRANS_ABSOLUTE, ORIGIN_END],
-        21,
-        94,
-    ),
-    (
-        "angle, then no columns",
-        &[AREF_S, ANGLE_45, COLUMNS_0_ROWS_1, ACROSS_AND_UP, ENDEL],
-        20,
-        94,
-    ),
-    (
-        "no columns, then uneven",
-        &[AREF_S, COLUMNS_0_ROWS_3, ACROSS_AND_UP, ENDEL],
-        22,
-        94,
-    ),
-];
+    "missing, then too few points": &[BOUNDARY, DATATYPE_0, CORNERS_3, ENDEL] => 15, 94;
+    "too few points, then not closed": &[BOX_ON_1, CORNERS_3, ENDEL] => 17, 94;
+    "magnified, then absolute": &[SREF_S, STRANS_ABSOLUTE, MAG_2, ORIGIN_END] => 19, 94;
+    "absolute, then angle": &[SREF_S, ANGLE_45, STRANS_ABSOLUTE, ORIGIN_END] => 21, 94;
+    "angle, then no columns": &[AREF_S, ANGLE_45, COLUMNS_0_ROWS_1, ACROSS_AND_UP, ENDEL] => 20, 94;
+    "no columns, then uneven": &[AREF_S, COLUMNS_0_ROWS_3, ACROSS_AND_UP, ENDEL] => 22, 94;
+};
 
 #[test]
 fn elements_are_refused(rt: HostRuntime) {
@@ -291,126 +161,46 @@ const HALF_A_POINT: &[u8] = b"\x00\x08\x10\x03\x00\x00\x00\x00";
 const TOO_LONG: &[u8] = b"\x7F\xFE\x0D\x02\x00\x01";
 
 /// Records behind the front, the first at 94: the number and the place of the refusal.
-const RECORDS: &[(&str, &[&[u8]], u8, u64)] = &[
-    (
-        "layer_twice",
-        &[BOUNDARY, LAYER_1, LAYER_1, DATATYPE_0, SQUARE_END],
-        14,
-        104,
-    ),
+const RECORDS: &[(&str, &[&[u8]], u8, u64)] = rows! {
+    "layer_twice": &[BOUNDARY, LAYER_1, LAYER_1, DATATYPE_0, SQUARE_END] => 14, 104;
     // records that may not stand where they do
-    ("own record in no element", &[LAYER_1], 14, 94),
-    ("property in no element", &[PROPATTR, PROPVALUE], 14, 94),
-    ("end of no element", &[ENDEL], 14, 94),
-    ("element in an element", &[BOUNDARY, BOUNDARY], 14, 98),
-    ("structure in a structure", &[BGNSTR_SHORT], 14, 94),
-    (
-        "structure without name",
-        &[ENDSTR, BGNSTR_SHORT, ENDSTR],
-        14,
-        102,
-    ),
-    ("library ends in a structure", &[ENDLIB], 14, 94),
-    ("structure ends twice", &[ENDSTR, ENDSTR], 14, 98),
-    (
-        "structure ends in an element",
-        &[BOUNDARY, LAYER_1, ENDSTR],
-        14,
-        104,
-    ),
-    ("header within", &[HEADER], 14, 94),
-    ("class twice", &[STRCLASS, STRCLASS], 14, 100),
-    (
-        "class behind an element",
-        &[BOUNDARY_ON_1, SQUARE_END, STRCLASS],
-        14,
-        158,
-    ),
-    ("width of a boundary", &[BOUNDARY, WIDTH_4], 14, 98),
-    ("name of a path", &[PATH, SNAME_S], 14, 98),
-    ("plex twice", &[BOUNDARY, PLEX, ELFLAGS, PLEX], 14, 112),
-    (
-        "half a property",
-        &[BOUNDARY_ON_1, SQUARE, PROPATTR, ENDEL],
-        14,
-        160,
-    ),
-    (
-        "two halves",
-        &[BOUNDARY_ON_1, SQUARE, PROPATTR, PROPATTR],
-        14,
-        160,
-    ),
-    ("value alone", &[BOUNDARY_ON_1, SQUARE, PROPVALUE], 14, 154),
-    (
-        "flags behind a property",
-        &[BOUNDARY_ON_1, SQUARE, PROPATTR, PROPVALUE, ELFLAGS],
-        14,
-        166,
-    ),
+    "own record in no element": &[LAYER_1] => 14, 94;
+    "property in no element": &[PROPATTR, PROPVALUE] => 14, 94;
+    "end of no element": &[ENDEL] => 14, 94;
+    "element in an element": &[BOUNDARY, BOUNDARY] => 14, 98;
+    "structure in a structure": &[BGNSTR_SHORT] => 14, 94;
+    "structure without name": &[ENDSTR, BGNSTR_SHORT, ENDSTR] => 14, 102;
+    "library ends in a structure": &[ENDLIB] => 14, 94;
+    "structure ends twice": &[ENDSTR, ENDSTR] => 14, 98;
+    "structure ends in an element": &[BOUNDARY, LAYER_1, ENDSTR] => 14, 104;
+    "header within": &[HEADER] => 14, 94;
+    "class twice": &[STRCLASS, STRCLASS] => 14, 100;
+    "class behind an element": &[BOUNDARY_ON_1, SQUARE_END, STRCLASS] => 14, 158;
+    "width of a boundary": &[BOUNDARY, WIDTH_4] => 14, 98;
+    "name of a path": &[PATH, SNAME_S] => 14, 98;
+    "plex twice": &[BOUNDARY, PLEX, ELFLAGS, PLEX] => 14, 112;
+    "half a property": &[BOUNDARY_ON_1, SQUARE, PROPATTR, ENDEL] => 14, 160;
+    "two halves": &[BOUNDARY_ON_1, SQUARE, PROPATTR, PROPATTR] => 14, 160;
+    "value alone": &[BOUNDARY_ON_1, SQUARE, PROPVALUE] => 14, 154;
+    "flags behind a property": &[BOUNDARY_ON_1, SQUARE, PROPATTR, PROPVALUE, ELFLAGS] => 14, 166;
     // a name that an earlier structure has, with its filling or without
-    ("name twice", &[ENDSTR, BGNSTR_SHORT, STRNAME_T], 16, 102),
-    (
-        "name twice, filled further",
-        &[ENDSTR, BGNSTR_SHORT, STRNAME_T_OF_FOUR],
-        16,
-        102,
-    ),
+    "name twice": &[ENDSTR, BGNSTR_SHORT, STRNAME_T] => 16, 102;
+    "name twice, filled further": &[ENDSTR, BGNSTR_SHORT, STRNAME_T_OF_FOUR] => 16, 102;
     // records that are none
-    ("layer as four bytes", &[BOUNDARY, LAYER_OF_FORM_3], 12, 98),
-    ("layer without its number", &[BOUNDARY, LAYER_EMPTY], 13, 98),
-    ("half a point", &[BOUNDARY, HALF_A_POINT], 13, 98),
-    ("past the end", &[BOUNDARY, TOO_LONG], 10, 98),
+    "layer as four bytes": &[BOUNDARY, LAYER_OF_FORM_3] => 12, 98;
+    "layer without its number": &[BOUNDARY, LAYER_EMPTY] => 13, 98;
+    "half a point": &[BOUNDARY, HALF_A_POINT] => 13, 98;
+    "past the end": &[BOUNDARY, TOO_LONG] => 10, 98;
     // the first record that shows a fault decides
-    (
-        "bad size behind a bad place",
-        &[LAYER_1, LAYER_EMPTY],
-        14,
-        94,
-    ),
-    (
-        "bad size in an element that lacks a layer",
-        &[BOUNDARY, DATATYPE_0, SQUARE, LAYER_EMPTY, ENDEL],
-        13,
-        148,
-    ),
-    (
-        "bad place in an element that lacks a layer",
-        &[BOUNDARY, DATATYPE_0, SQUARE, DATATYPE_0, ENDEL],
-        14,
-        148,
-    ),
-    (
-        "no layer, then half a property",
-        &[BOUNDARY, DATATYPE_0, SQUARE, PROPATTR, ENDEL],
-        15,
-        94,
-    ),
-    (
-        "no layer, then a layer too late",
-        &[BOUNDARY, DATATYPE_0, SQUARE, PROPATTR, PROPVALUE, LAYER_1],
-        15,
-        94,
-    ),
-    (
-        "bad size at a property",
-        &[BOUNDARY, DATATYPE_0, SQUARE, LAYER_OF_FORM_3, PROPATTR],
-        12,
-        148,
-    ),
-    (
-        "name twice behind a bad element",
-        &[BOUNDARY, ENDEL, ENDSTR, BGNSTR_SHORT, STRNAME_T],
-        15,
-        94,
-    ),
-    (
-        "name twice, then a bad element",
-        &[ENDSTR, BGNSTR_SHORT, STRNAME_T, BOUNDARY, ENDEL],
-        16,
-        102,
-    ),
-];
+    "bad size behind a bad place": &[LAYER_1, LAYER_EMPTY] => 14, 94;
+    "bad size in an element that lacks a layer": &[BOUNDARY, DATATYPE_0, SQUARE, LAYER_EMPTY, ENDEL] => 13, 148;
+    "bad place in an element that lacks a layer": &[BOUNDARY, DATATYPE_0, SQUARE, DATATYPE_0, ENDEL] => 14, 148;
+    "no layer, then half a property": &[BOUNDARY, DATATYPE_0, SQUARE, PROPATTR, ENDEL] => 15, 94;
+    "no layer, then a layer too late": &[BOUNDARY, DATATYPE_0, SQUARE, PROPATTR, PROPVALUE, LAYER_1] => 15, 94;
+    "bad size at a property": &[BOUNDARY, DATATYPE_0, SQUARE, LAYER_OF_FORM_3, PROPATTR] => 12, 148;
+    "name twice behind a bad element": &[BOUNDARY, ENDEL, ENDSTR, BGNSTR_SHORT, STRNAME_T] => 15, 94;
+    "name twice, then a bad element": &[ENDSTR, BGNSTR_SHORT, STRNAME_T, BOUNDARY, ENDEL] => 16, 102;
+};
 
 #[test]
 fn records_are_refused(rt: HostRuntime) {
@@ -430,126 +220,82 @@ fn have_fault(alloc: Global, records: &[&[u8]], fault: SyntaxFault) -> bool {
     }
 }
 
-/// Records behind the front, and the fault with the kind that is missing or unexpected.
-const KINDS: &[(&[&[u8]], SyntaxFault)] = &[
-    // the least kind that is missing
-    (
-        &[BOUNDARY, ENDEL],
-        Missing {
-            at: 94,
-            kind: kinds::LAYER,
-        },
-    ),
-    (
-        &[BOUNDARY, LAYER_1, ENDEL],
-        Missing {
-            at: 94,
-            kind: kinds::DATATYPE,
-        },
-    ),
-    (
-        &[BOUNDARY_ON_1, ENDEL],
-        Missing {
-            at: 94,
-            kind: kinds::XY,
-        },
-    ),
-    (
-        &[PATH, DATATYPE_0, ENDEL],
-        Missing {
-            at: 94,
-            kind: kinds::LAYER,
-        },
-    ),
-    (
-        &[SREF, ENDEL],
-        Missing {
-            at: 94,
-            kind: kinds::XY,
-        },
-    ),
-    (
-        &[SREF, ORIGIN_END],
-        Missing {
-            at: 94,
-            kind: kinds::SNAME,
-        },
-    ),
-    (
-        &[AREF, ORIGIN_END],
-        Missing {
-            at: 94,
-            kind: kinds::SNAME,
-        },
-    ),
-    (
-        &[AREF, ORIGIN, SNAME_S, ENDEL],
-        Missing {
-            at: 94,
-            kind: kinds::COLROW,
-        },
-    ),
-    (
-        &[TEXT, LAYER_1, ENDEL],
-        Missing {
-            at: 94,
-            kind: kinds::XY,
-        },
-    ),
-    (
-        &[TEXT, LAYER_1, ORIGIN_END],
-        Missing {
-            at: 94,
-            kind: kinds::TEXTTYPE,
-        },
-    ),
-    (
-        &[TEXT, LAYER_1, ORIGIN, TEXTTYPE_0, ENDEL],
-        Missing {
-            at: 94,
-            kind: kinds::STRING,
-        },
-    ),
-    (
-        &[NODE, LAYER_1, ENDEL],
-        Missing {
-            at: 94,
-            kind: kinds::XY,
-        },
-    ),
-    (
-        &[NODE, LAYER_1, ORIGIN_END],
-        Missing {
-            at: 94,
-            kind: kinds::NODETYPE,
-        },
-    ),
-    (
-        &[BOX, LAYER_1, ORIGIN_END],
-        Missing {
-            at: 94,
-            kind: kinds::BOXTYPE,
-        },
-    ),
-    (
-        &[ENDLIB],
-        Unexpected {
-            at: 94,
-            kind: kinds::ENDLIB,
-        },
-    ),
-    (
-        &[BOUNDARY, WIDTH_4],
-        Unexpected {
-            at: 98,
-            kind: kinds::WIDTH,
-        },
-    ),
-];
+/// Elements behind the front, the first at 94, and the kind of the record that is missing: the least, where several are.
+const MISSING: &[(&str, &[&[u8]], u8)] = rows! {
+    "boundary of nothing": &[BOUNDARY, ENDEL] => kinds::LAYER;
+    "boundary on a layer": &[BOUNDARY, LAYER_1, ENDEL] => kinds::DATATYPE;
+    "boundary of no points": &[BOUNDARY_ON_1, ENDEL] => kinds::XY;
+    "path of a datatype": &[PATH, DATATYPE_0, ENDEL] => kinds::LAYER;
+    "reference of nothing": &[SREF, ENDEL] => kinds::XY;
+    "reference to nothing": &[SREF, ORIGIN_END] => kinds::SNAME;
+    "array of nothing": &[AREF, ORIGIN_END] => kinds::SNAME;
+    "array of no columns": &[AREF, ORIGIN, SNAME_S, ENDEL] => kinds::COLROW;
+    "text on a layer": &[TEXT, LAYER_1, ENDEL] => kinds::XY;
+    "text of no type": &[TEXT, LAYER_1, ORIGIN_END] => kinds::TEXTTYPE;
+    "text of no words": &[TEXT, LAYER_1, ORIGIN, TEXTTYPE_0, ENDEL] => kinds::STRING;
+    "node on a layer": &[NODE, LAYER_1, ENDEL] => kinds::XY;
+    "node of no type": &[NODE, LAYER_1, ORIGIN_END] => kinds::NODETYPE;
+    "box of no type": &[BOX, LAYER_1, ORIGIN_END] => kinds::BOXTYPE;
+};
 
 #[test]
-fn faults_have_their_kinds(rt: HostRuntime) {
-    for (records, fault) in KINDS {
-        assert!(rt; have_fault(rt.alloc(), records, *fault), "{fault:?}");
+fn missing_records_are_told(rt: HostRuntime) {
+    for (about, records, kind) in MISSING {
+        let fault = SyntaxFault::Missing {
+            at: 94,
+            kind: *kind,
+        };
+        assert!(rt; have_fault(rt.alloc(), records, fault), "{about}");
+    }
+}
+
+/// Records behind the front, and the offset and the kind of the one that may not stand there.
+const UNEXPECTED: &[(&str, &[&[u8]], u32, u8)] = rows! {
+    "end of the library": &[ENDLIB] => 94, kinds::ENDLIB;
+    "width of a boundary": &[BOUNDARY, WIDTH_4] => 98, kinds::WIDTH;
+};
+
+#[test]
+fn unexpected_records_are_told(rt: HostRuntime) {
+    for (about, records, at, kind) in UNEXPECTED {
+        let fault = SyntaxFault::Unexpected {
+            at: *at,
+            kind: *kind,
+        };
+        assert!(rt; have_fault(rt.alloc(), records, fault), "{about}");
+    }
+}
+
+/// What is told of each fault, the fault, its number and its place.
+const TOLD: &[(&str, SyntaxFault, u8, u64)] = rows! {
+    "bytes are no record": SyntaxFault::Record(RecordFault::BadLength { at: 7, len: 3 }) => 11, 7;
+    "a record may not stand there": SyntaxFault::Unexpected { at: 8, kind: 2 } => 14, 8;
+    "an element lacks a record that it needs": SyntaxFault::Missing { at: 9, kind: 13 } => 15, 9;
+    "an earlier structure has the same name": SyntaxFault::RepeatedStructure { at: 10 } => 16, 10;
+    "an element has too few or too many points": SyntaxFault::PointCount { at: 11 } => 17, 11;
+    "an outline does not end where it begins": SyntaxFault::NotClosed { at: 12 } => 18, 12;
+    "a reference is magnified": SyntaxFault::Magnified { at: 13 } => 19, 13;
+    "a reference is turned by no whole quarters of a circle": SyntaxFault::BadAngle { at: 14 } => 20, 14;
+    "a reference has an absolute angle": SyntaxFault::AbsoluteAngle { at: 15 } => 21, 15;
+    "an array has no columns or no rows": SyntaxFault::EmptyArray { at: 16 } => 22, 16;
+    "the steps of an array are no whole numbers": SyntaxFault::UnevenArray { at: 17 } => 23, 17;
+    "no memory is left": SyntaxFault::Memory => 0, 0;
+};
+
+/// Whether the fault is told so.
+fn is_told(alloc: Global, fault: SyntaxFault, number: u8, place: u64, wanted: &str) -> bool {
+    match format!(in alloc; "{fault}") {
+        Ok(text) => fault.number() == number && fault.place() == place && text.as_str() == wanted,
+        Err(_) => false,
+    }
+}
+
+#[test]
+fn faults_are_told(rt: HostRuntime) {
+    for (text, fault, number, place) in TOLD {
+        assert!(rt;
+            is_told(rt.alloc(), *fault, *number, *place, text),
+            "{fault:?}"
+        );
     }
 }

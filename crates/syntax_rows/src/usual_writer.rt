@@ -1,10 +1,6 @@
 //! What a usual writer of layouts puts into a stream besides shapes.
 
-use super::records::{
-    ANGLE_45, BOUNDARY, DATATYPE_0, ELFLAGS, ENDEL, ENDLIB, ENDSTR, LAYER_1, MAG_TENTH, NODE,
-    NODETYPE_0, PATH, PATHTYPE_1, PLEX, PROPATTR, SQUARE, SQUARE_TO_THE_RIGHT, STRNAME_T, TEXT,
-    TEXTTYPE_0,
-};
+use super::records::*;
 use super::streams::{joined, read};
 use super::wanted::{RIGHT_SQUARE_POINTS, SQUARE_POINTS, Wanted, has_elements, has_structures};
 use gds_syntax::{Library, ShapeKind};
@@ -63,113 +59,40 @@ const LINE: &[u8] =
     b"\x00\x14\x10\x03\x00\x00\x00\x00\x00\x00\x00\x00\x00\x00\x00\x1E\x00\x00\x00\x28";
 
 /// The stream.
-const STREAM: &[&[u8]] = &[
-    HEADER,
-    BGNLIB,
-    REFLIBS,
-    LIBNAME,
-    FONTS,
-    ATTRTABLE,
-    GENERATIONS,
-    UNITS,
+const STREAM: &[&[u8]] = records! {
+    HEADER BGNLIB REFLIBS LIBNAME FONTS ATTRTABLE GENERATIONS UNITS
     // the structure
-    BGNSTR,
-    STRNAME_T,
+    BGNSTR STRNAME_T
     // a bar with flags and properties
-    BOUNDARY,
-    ELFLAGS,
-    PLEX,
-    LAYER_1,
-    DATATYPE_0,
-    SQUARE,
-    PROPATTR,
-    NET_A,
-    PROPATTR,
-    NET_A,
-    ENDEL,
+    BOUNDARY ELFLAGS PLEX LAYER_1 DATATYPE_0 SQUARE PROPATTR NET_A PROPATTR NET_A ENDEL
     // a label
-    TEXT,
-    ELFLAGS,
-    LAYER_1,
-    TEXTTYPE_0,
-    PRESENTATION,
-    PATHTYPE_1,
-    WIDTH_5,
-    STRANS,
-    MAG_TENTH,
-    ANGLE_45,
-    AT_3_3,
-    STRING,
-    ENDEL,
+    TEXT ELFLAGS LAYER_1 TEXTTYPE_0 PRESENTATION PATHTYPE_1 WIDTH_5 STRANS MAG_TENTH ANGLE_45 AT_3_3 STRING ENDEL
     // a slanted outline and a round line on another layer
-    BOUNDARY,
-    LAYER_60,
-    DATATYPE_0,
-    SLANTED,
-    ENDEL,
-    PATH,
-    LAYER_60,
-    DATATYPE_0,
-    PATHTYPE_1,
-    WIDTH_5,
-    LINE,
-    ENDEL,
+    BOUNDARY LAYER_60 DATATYPE_0 SLANTED ENDEL
+    PATH LAYER_60 DATATYPE_0 PATHTYPE_1 WIDTH_5 LINE ENDEL
     // a node
-    NODE,
-    LAYER_1,
-    NODETYPE_0,
-    AT_3_3,
-    ENDEL,
+    NODE LAYER_1 NODETYPE_0 AT_3_3 ENDEL
     // the other bar
-    BOUNDARY,
-    LAYER_1,
-    DATATYPE_0,
-    SQUARE_TO_THE_RIGHT,
-    ENDEL,
-    ENDSTR,
-    ENDLIB,
+    BOUNDARY LAYER_1 DATATYPE_0 SQUARE_TO_THE_RIGHT ENDEL
+    ENDSTR ENDLIB
+};
+
+/// The points of the slanted outline, and those of the line.
+const SLANTED_POINTS: &[Point] = &[
+    Point { x: 0, y: 0 },
+    Point { x: 7, y: 3 },
+    Point { x: 2, y: 9 },
+    Point { x: 0, y: 0 },
 ];
+
+const LINE_POINTS: &[Point] = &[Point { x: 0, y: 0 }, Point { x: 30, y: 40 }];
 
 /// What is kept: texts and nodes are not.
 const KEPT: &[Wanted] = &[
-    Wanted::Shape {
-        at: 134,
-        kind: ShapeKind::Boundary,
-        layer: 1,
-        datatype: 0,
-        points: SQUARE_POINTS,
-    },
-    Wanted::Shape {
-        at: 342,
-        kind: ShapeKind::Boundary,
-        layer: 60,
-        datatype: 0,
-        points: &[
-            Point { x: 0, y: 0 },
-            Point { x: 7, y: 3 },
-            Point { x: 2, y: 9 },
-            Point { x: 0, y: 0 },
-        ],
-    },
-    Wanted::Shape {
-        at: 398,
-        kind: ShapeKind::Path {
-            pathtype: 1,
-            width: 5,
-            begin: 0,
-            end: 0,
-        },
-        layer: 60,
-        datatype: 0,
-        points: &[Point { x: 0, y: 0 }, Point { x: 30, y: 40 }],
-    },
-    Wanted::Shape {
-        at: 484,
-        kind: ShapeKind::Boundary,
-        layer: 1,
-        datatype: 0,
-        points: RIGHT_SQUARE_POINTS,
-    },
+    Wanted::Shape(134, ShapeKind::Boundary, 1, 0, SQUARE_POINTS),
+    Wanted::Shape(342, ShapeKind::Boundary, 60, 0, SLANTED_POINTS),
+    Wanted::Shape(398, path!(1, 5, 0, 0), 60, 0, LINE_POINTS),
+    Wanted::Shape(484, ShapeKind::Boundary, 1, 0, RIGHT_SQUARE_POINTS),
 ];
 
 /// Whether this is the library of the stream.

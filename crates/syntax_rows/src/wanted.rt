@@ -3,34 +3,18 @@
 use gds_syntax::{Element, Lattice, Library, Reference, Shape, ShapeKind, Structure};
 use geo_core::Point;
 
-/// An element that is kept, with the offset of its opening record.
+/// An element that is kept.
 #[derive(Clone, Copy)]
 pub enum Wanted {
-    Shape {
-        at: u32,
-        kind: ShapeKind,
-        layer: u16,
-        datatype: u16,
-        points: &'static [Point],
-    },
-    Reference {
-        at: u32,
-        target: &'static [u8],
-        reflect: bool,
-        quarters: u8,
-        origin: Point,
-        lattice: Option<WantedLattice>,
-    },
+    /// A shape: the offset of its opening record, its kind, its layer, its datatype and its points.
+    Shape(u32, ShapeKind, u16, u16, &'static [Point]),
+    /// A reference: the offset of its opening record, what it names, whether it is mirrored, by how many quarters it is turned,
+    /// its origin, and how it is repeated.
+    Reference(u32, &'static [u8], bool, u8, Point, Option<WantedLattice>),
 }
 
 /// Columns and rows, and how far each is from the one before.
-#[derive(Clone, Copy)]
-pub struct WantedLattice {
-    pub columns: u16,
-    pub rows: u16,
-    pub column_step: (i64, i64),
-    pub row_step: (i64, i64),
-}
+pub type WantedLattice = (u16, u16, (i64, i64), (i64, i64));
 
 /// The corners of `[0,10)x[0,10)` and of `[14,24)x[0,10)`.
 pub const SQUARE_POINTS: &[Point] = &[
@@ -57,52 +41,46 @@ fn is_shape(shape: &Shape, kind: ShapeKind, layer: u16, datatype: u16, points: &
         && shape.points.as_slice() == points
 }
 
-/// Whether this is the lattice.
-fn is_lattice(lattice: &Lattice, wanted: &WantedLattice) -> bool {
-    lattice.columns == wanted.columns
-        && lattice.rows == wanted.rows
-        && lattice.column_step == wanted.column_step
-        && lattice.row_step == wanted.row_step
-}
-
 /// Whether these are repeated in the same way, or not at all.
 fn has_lattice(lattice: &Option<Lattice>, wanted: &Option<WantedLattice>) -> bool {
     match (lattice, wanted) {
         (None, None) => true,
-        (Some(lattice), Some(wanted)) => is_lattice(lattice, wanted),
+        (Some(lattice), Some((columns, rows, column_step, row_step))) => {
+            lattice.columns == *columns
+                && lattice.rows == *rows
+                && lattice.column_step == *column_step
+                && lattice.row_step == *row_step
+        }
         _ => false,
     }
+}
+
+/// Whether this is the reference, but for its offset and how it is repeated.
+fn is_reference(
+    reference: &Reference,
+    target: &[u8],
+    reflect: bool,
+    quarters: u8,
+    origin: Point,
+) -> bool {
+    reference.target.as_slice() == target
+        && reference.turn.reflect == reflect
+        && reference.turn.quarters == quarters
+        && reference.origin == origin
 }
 
 /// Whether this is the element.
 fn is_element(element: &Element, wanted: &Wanted) -> bool {
     match (element, wanted) {
-        (
-            Element::Shape(shape),
-            Wanted::Shape {
-                at,
-                kind,
-                layer,
-                datatype,
-                points,
-            },
-        ) => shape.at == *at && is_shape(shape, *kind, *layer, *datatype, points),
+        (Element::Shape(shape), Wanted::Shape(at, kind, layer, datatype, points)) => {
+            shape.at == *at && is_shape(shape, *kind, *layer, *datatype, points)
+        }
         (
             Element::Reference(reference),
-            Wanted::Reference {
-                at,
-                target,
-                reflect,
-                quarters,
-                origin,
-                lattice,
-            },
+            Wanted::Reference(at, target, reflect, quarters, origin, lattice),
         ) => {
             reference.at == *at
-                && reference.target.as_slice() == *target
-                && reference.turn.reflect == *reflect
-                && reference.turn.quarters == *quarters
-                && reference.origin == *origin
+                && is_reference(reference, target, *reflect, *quarters, *origin)
                 && has_lattice(&reference.lattice, lattice)
         }
         _ => false,

@@ -47,135 +47,41 @@ const ANGLE_180_SPELLED_LONGER: &[u8] = b"\x00\x0C\x1C\x05\x43\x0B\x40\x00\x00\x
 const ANGLE_MINUS_270: &[u8] = b"\x00\x0C\x1C\x05\xC3\x10\xE0\x00\x00\x00\x00\x00";
 
 /// Elements in the order of the writer, which are written as they were read.
-const IN_ORDER: &[&[u8]] = &[
-    BOX_ON_1,
-    SQUARE_END,
-    PATH_ON_1,
-    PATHTYPE_4,
-    WIDTH_ABSOLUTE,
-    BGNEXTN_2,
-    ENDEXTN_1_BACK,
-    SQUARE_END,
-    PATH_ON_1,
-    ORIGIN_END,
-    SREF_S,
-    ORIGIN_END,
-    SREF,
-    SNAME_ABC,
-    STRANS_MIRROR,
-    ORIGIN_END,
-    SREF_S,
-    STRANS_PLAIN,
-    ANGLE_180,
-    ORIGIN_END,
-    AREF_S,
-    STRANS_PLAIN,
-    ANGLE_90,
-    COLUMNS_3_ROWS_2,
-    TURNED_LATTICE,
-    ENDEL,
-    AREF_S,
-    STRANS_MIRROR,
-    ANGLE_270,
-    COLUMNS_3_ROWS_2,
-    TURNED_LATTICE,
-    ENDEL,
-    AREF_S,
-    COLUMNS_1_ROWS_1,
-    FAR_LATTICE,
-    ENDEL,
-];
+const IN_ORDER: &[&[u8]] = records! {
+    BOX_ON_1 SQUARE_END
+    PATH_ON_1 PATHTYPE_4 WIDTH_ABSOLUTE BGNEXTN_2 ENDEXTN_1_BACK SQUARE_END
+    PATH_ON_1 ORIGIN_END
+    SREF_S ORIGIN_END
+    SREF SNAME_ABC STRANS_MIRROR ORIGIN_END
+    SREF_S STRANS_PLAIN ANGLE_180 ORIGIN_END
+    AREF_S STRANS_PLAIN ANGLE_90 COLUMNS_3_ROWS_2 TURNED_LATTICE ENDEL
+    AREF_S STRANS_MIRROR ANGLE_270 COLUMNS_3_ROWS_2 TURNED_LATTICE ENDEL
+    AREF_S COLUMNS_1_ROWS_1 FAR_LATTICE ENDEL
+};
 
 /// Elements, and what they are written as.
-const ELEMENTS: &[(&str, &[&[u8]], &[&[u8]])] = &[
-    ("no element", &[], &[]),
-    ("two bars", TWO_BARS, TWO_BARS),
-    ("the order of the writer", IN_ORDER, IN_ORDER),
-    (
-        "another order",
-        &[BOUNDARY, SQUARE, DATATYPE_0, LAYER_1, ENDEL],
-        &[BOUNDARY_ON_1, SQUARE_END],
-    ),
-    (
-        "what is not kept",
-        &[
-            STRCLASS, TEXT, LAYER_1, TEXTTYPE_0, ORIGIN, STRING, ENDEL, BOUNDARY, ELFLAGS, PLEX,
-            LAYER_1, DATATYPE_0, SQUARE, PROPATTR, PROPVALUE, ENDEL, NODE, LAYER_1, NODETYPE_0,
-            ORIGIN_END,
-        ],
-        &[BOUNDARY_ON_1, SQUARE_END],
-    ),
-    (
-        "zeros of a path",
-        &[
-            PATH_ON_1,
-            PATHTYPE_0,
-            WIDTH_0,
-            BGNEXTN_0,
-            ENDEXTN_1_BACK,
-            SQUARE_END,
-        ],
-        &[PATH_ON_1, ENDEXTN_1_BACK, SQUARE_END],
-    ),
-    (
-        "a name filled further",
-        &[SREF, SNAME_ABC_OF_SIX, ORIGIN_END],
-        &[SREF, SNAME_ABC, ORIGIN_END],
-    ),
-    (
-        "a turn that changes nothing",
-        &[SREF_S, STRANS_IGNORED, MAG_1, ANGLE_360, ORIGIN_END],
-        &[SREF_S, ORIGIN_END],
-    ),
-    (
-        "angle without STRANS",
-        &[SREF_S, ANGLE_180_SPELLED_LONGER, ORIGIN_END],
-        &[SREF_S, STRANS_PLAIN, ANGLE_180, ORIGIN_END],
-    ),
-    (
-        "mirrored, angle 360",
-        &[SREF_S, ANGLE_360, STRANS_MIRROR, ORIGIN_END],
-        &[SREF_S, STRANS_MIRROR, ORIGIN_END],
-    ),
-    (
-        "array of angle -90",
-        &[
-            AREF,
-            TURNED_LATTICE,
-            ANGLE_MINUS_90,
-            COLUMNS_3_ROWS_2,
-            SNAME_S,
-            ENDEL,
-        ],
-        &[
-            AREF_S,
-            STRANS_PLAIN,
-            ANGLE_270,
-            COLUMNS_3_ROWS_2,
-            TURNED_LATTICE,
-            ENDEL,
-        ],
-    ),
-    (
-        "mirrored array of angle -270",
-        &[
-            AREF_S,
-            STRANS_MIRROR,
-            ANGLE_MINUS_270,
-            COLUMNS_3_ROWS_2,
-            TURNED_LATTICE,
-            ENDEL,
-        ],
-        &[
-            AREF_S,
-            STRANS_MIRROR,
-            ANGLE_90,
-            COLUMNS_3_ROWS_2,
-            TURNED_LATTICE,
-            ENDEL,
-        ],
-    ),
-];
+const ELEMENTS: &[(&str, &[&[u8]], &[&[u8]])] = rows! {
+    "no element": &[] => &[];
+    "two bars": TWO_BARS => TWO_BARS;
+    "the order of the writer": IN_ORDER => IN_ORDER;
+    "another order": &[BOUNDARY, SQUARE, DATATYPE_0, LAYER_1, ENDEL] => &[BOUNDARY_ON_1, SQUARE_END];
+    "what is not kept": records! {
+        STRCLASS TEXT LAYER_1 TEXTTYPE_0 ORIGIN STRING ENDEL
+        BOUNDARY ELFLAGS PLEX LAYER_1 DATATYPE_0 SQUARE PROPATTR PROPVALUE ENDEL
+        NODE LAYER_1 NODETYPE_0 ORIGIN_END
+    } => &[BOUNDARY_ON_1, SQUARE_END];
+    "zeros of a path": &[PATH_ON_1, PATHTYPE_0, WIDTH_0, BGNEXTN_0, ENDEXTN_1_BACK, SQUARE_END]
+        => &[PATH_ON_1, ENDEXTN_1_BACK, SQUARE_END];
+    "a name filled further": &[SREF, SNAME_ABC_OF_SIX, ORIGIN_END] => &[SREF, SNAME_ABC, ORIGIN_END];
+    "a turn that changes nothing": &[SREF_S, STRANS_IGNORED, MAG_1, ANGLE_360, ORIGIN_END] => &[SREF_S, ORIGIN_END];
+    "angle without STRANS": &[SREF_S, ANGLE_180_SPELLED_LONGER, ORIGIN_END]
+        => &[SREF_S, STRANS_PLAIN, ANGLE_180, ORIGIN_END];
+    "mirrored, angle 360": &[SREF_S, ANGLE_360, STRANS_MIRROR, ORIGIN_END] => &[SREF_S, STRANS_MIRROR, ORIGIN_END];
+    "array of angle -90": &[AREF, TURNED_LATTICE, ANGLE_MINUS_90, COLUMNS_3_ROWS_2, SNAME_S, ENDEL]
+        => &[AREF_S, STRANS_PLAIN, ANGLE_270, COLUMNS_3_ROWS_2, TURNED_LATTICE, ENDEL];
+    "mirrored array of angle -270": &[AREF_S, STRANS_MIRROR, ANGLE_MINUS_270, COLUMNS_3_ROWS_2, TURNED_LATTICE, ENDEL]
+        => &[AREF_S, STRANS_MIRROR, ANGLE_90, COLUMNS_3_ROWS_2, TURNED_LATTICE, ENDEL];
+};
 
 #[test]
 fn elements_are_rewritten(rt: HostRuntime) {

@@ -1,6 +1,5 @@
 -- inside this crate: what its readers of arguments answer. No definition above rests on it.
-use Rattle.std.specs.Prelude.{List, [], ◌∷◌, ◌++◌, ◌≡◌, ◌≢◌, ◌≤◌, Option, Some, None, length, map, codes, All}
-use Rattle.std.specs.List.{flat_map}
+use Rattle.std.specs.Prelude.{List, [], ◌∷◌, ◌++◌, ◌≡◌, ◌≢◌, ◌≤◌, Option, Some, None, length, map, codes, All, flat_map}
 use Rattle.command_line.specs.declared.argument.ReadArgument.{ReadArgument}
 use Rattle.command_line.specs.declared.argument.ReadArgument.TheVariants.{Setting, Position}
 use Rattle.command_line.specs.declared.arguments.Arguments.{Arguments}

@@ -1,6 +1,6 @@
 -- the routes that begin at parts
 use Rattle.std.specs.Prelude.{ℕ, zero, suc, List, [], ◌∷◌, map, flat_map, Vec}
-use Rattle.std.specs.Global.{Global}
+use Rattle.lists.specs.Words.{Global}
 use Rattle.flatten.specs.Steps.{steps_of}
 use Rattle.flatten.specs.Routes.{Route, behind_step}
 use Rattle.flatten.specs.inside.Parts.{parts_at}

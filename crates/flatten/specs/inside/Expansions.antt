@@ -1,15 +1,13 @@
 -- what the expansion of structures adds to a list of placed shapes
-use Rattle.std.specs.Prelude.{ℕ, List, ◌++◌, ◌≡◌, ◌≢◌, map, flat_map, All, Contains, Vec}
-use Rattle.std.specs.Borrow.{Bor}
-use Rattle.std.specs.Global.{Global}
-use Rattle.std.specs.List.{AllZip}
+use Rattle.std.specs.Prelude.{ℕ, length, List, ◌++◌, ◌≡◌, ◌≢◌, map, flat_map, All, Contains}
+use Rattle.lists.specs.Words.{Bor, AllZip}
 use Rattle.library_model.specs.declared.element.Shape.{Shape}
 use Rattle.library_model.specs.declared.library.Structure.{Structure}
-use Rattle.map_model.specs.LayerMap.{LayerMap, IsMappedTo}
+use Rattle.map_model.specs.MapNames.{LayerMap, IsMappedTo}
 use Rattle.first_refusal.specs.Checks.{IsRefusalOfFirst}
 use Rattle.flatten.specs.Steps.{Step}
 use Rattle.flatten.specs.Routes.{Route, behind_step}
-use Rattle.flatten.specs.inside.Parts.{parts_at}
+use Rattle.flatten.specs.inside.Parts.{AreNodesBelow, Nodes, parts_at}
 use Rattle.flatten.specs.inside.Ends.{node_routes}
 use Rattle.flatten.specs.Motions.{MovesAlong}
 use Rattle.flatten.specs.Placed.{IsEndOf}
@@ -36,13 +34,19 @@ abbrev pub behind_steps : List Step → Route → Route
 behind_steps steps route = record route { steps = steps ++ route.steps }
 
 -- the routes that begin with one of these copies of a structure, and then have at most so many steps more
-abbrev pub copy_routes : List (Vec Part Global) → ℕ → ℕ → List Step → List Route
+abbrev pub copy_routes : Nodes → ℕ → ℕ → List Step → List Route
 copy_routes nodes left target copies = flat_map (λ step. map (behind_step step) (node_routes nodes left target)) copies
 
 -- each shape among the parts has its layer
-abbrev pub HaveLayers : LayerMap → List (Vec Part Global) → Type 0
+abbrev pub HaveLayers : LayerMap → Nodes → Type 0
 HaveLayers layer_map nodes = (one element layer : ℕ) (shape : Bor Shape) → Contains (parts_at nodes one) (End element layer shape)
     → IsMappedTo layer_map (shape.now.layer, shape.now.datatype) layer
+
+-- what can be followed: references lead to structures that are there, and the layers of shapes are those of a map
+pub record IsFollowed (nodes : Nodes) : Type 0 where
+  pub below : AreNodesBelow (length nodes) nodes
+  pub layer_map : LayerMap
+  pub layers : HaveLayers layer_map nodes
 
 -- the list grows by one placed shape for each of the routes, in their order, and each is placed in range
 pub record AddsEnds (layer_map : LayerMap) (routes : List Route) (before after : List Placed) : Type 0 where
@@ -56,7 +60,7 @@ abbrev pub IsFirstBeyond : List Route → PlaceFault → Type 0
 IsFirstBeyond routes = IsRefusalOfFirst PlacesInRange routes (λ route. OutOfRange route.shape.at)
 
 -- whatever steps the motion moves along, the list grows by the ends of the routes behind those steps
-pub record Adds (nodes : List (Vec Part Global)) (motion : Motion) (routes : List Route) (before after : List Placed) : Type 0 where
+pub record Adds (nodes : Nodes) (motion : Motion) (routes : List Route) (before after : List Placed) : Type 0 where
   pub adds : (layer_map : LayerMap) (steps : List Step) → HaveLayers layer_map nodes → MovesAlong motion steps
       → AddsEnds layer_map (map (behind_steps steps) routes) before after
 

@@ -1,17 +1,14 @@
 -- What is followed of structures: their shapes on mapped layers, and their references with the numbers of their targets.
 -- Structures go by their numbers.
 use Rattle.std.specs.Prelude.{ℕ, zero, suc, List, [], ◌∷◌, ◌≡◌, ◌<◌, Contains, slice_get, false, IsSome, Some, Vec}
-use Rattle.std.specs.Borrow.{Bor}
-use Rattle.std.specs.Option.{option_map_or}
-use Rattle.std.specs.List.{enumerate_from, AllZip}
-use Rattle.std.specs.Global.{Global}
+use Rattle.lists.specs.Words.{Bor, option_map_or, enumerate_from, AllZip, Global}
 use Rattle.library_model.specs.Names.{place_of}
 use Rattle.library_model.specs.declared.element.Element.{Element}
 use Rattle.library_model.specs.declared.element.Element.TheVariants.{Shape as shape_element, Reference as reference_element}
 use Rattle.library_model.specs.declared.element.Shape.{Shape}
 use Rattle.library_model.specs.declared.element.Reference.{Reference}
 use Rattle.library_model.specs.declared.library.Structure.{Structure}
-use Rattle.map_model.specs.LayerMap.{LayerMap, IsMappedTo}
+use Rattle.map_model.specs.MapNames.{LayerMap, IsMappedTo}
 use Rattle.flatten.specs.Structures.{is_mapped}
 use Rattle.flatten.specs.declared.part.Part.{Part}
 use Rattle.flatten.specs.declared.part.Part.TheVariants.{End, Copies}
@@ -33,6 +30,10 @@ pub data AreParts (names : List (List ℕ)) (layer_map : LayerMap) : List (ℕ �
       → place_of names reference.now.target ≡ Some target
       → AreParts names layer_map elements parts → AreParts names layer_map ((number, reference_element reference.now) ∷ elements)
       (Copies reference target ∷ parts)
+
+-- the parts of each structure
+abbrev pub Nodes : Type 0
+Nodes = List (Vec Part Global)
 
 -- these are the parts of each of the structures
 abbrev pub AreNodes : List (List ℕ) → LayerMap → List Structure → List (Vec Part Global) → Type 0

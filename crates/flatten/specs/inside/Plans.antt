@@ -1,10 +1,10 @@
 -- what is known of a library before its shapes are placed
 use Rattle.std.specs.Prelude.{ℕ, List, ◌≡◌, ◌<◌, ◌^◌, All, length, Option, Vec}
-use Rattle.std.specs.Global.{Global}
+use Rattle.lists.specs.Words.{Global}
 use Rattle.first_refusal.specs.Outcomes.{value}
 use Rattle.library_model.specs.Names.{names_of}
 use Rattle.library_model.specs.declared.library.Structure.{Structure}
-use Rattle.map_model.specs.LayerMap.{LayerMap}
+use Rattle.map_model.specs.MapNames.{LayerMap}
 use Rattle.flatten.specs.Structures.{all_references}
 use Rattle.flatten.specs.inside.Parts.{AreNodes, IsKnown, AreNodesBelow}
 use Rattle.flatten.specs.inside.Weights.{Weight, Weighs}

@@ -1,7 +1,6 @@
 -- what a search is that surveys one structure and all to which it leads
 use Rattle.std.specs.Prelude.{ℕ, List, ◌≡◌, ◌≢◌, ◌+◌, ◌<◌, length, All, Contains, sum_by, slice_get, slice_index_or, Some, Vec}
-use Rattle.std.specs.Borrow.{Bor}
-use Rattle.std.specs.Global.{Global}
+use Rattle.lists.specs.Words.{Bor, Global}
 use Rattle.library_model.specs.declared.element.Reference.{Reference}
 use Rattle.flatten.specs.inside.Parts.{LeadsTo, parts_at}
 use Rattle.flatten.specs.inside.Surveys.{AreTrue, state_of}

@@ -1,8 +1,7 @@
 -- What a survey finds out about each structure, those to which it refers first: whether its references lead to an end, and
 -- then what it weighs.
 use Rattle.std.specs.Prelude.{ℕ, List, ◌≡◌, ◌≢◌, ◌<◌, Contains, length, slice_index_or, Vec}
-use Rattle.std.specs.Borrow.{Bor}
-use Rattle.std.specs.Global.{Global}
+use Rattle.lists.specs.Words.{Bor, Global}
 use Rattle.library_model.specs.declared.element.Reference.{Reference}
 use Rattle.library_model.specs.declared.library.Structure.{Structure}
 use Rattle.flatten.specs.Structures.{offset_of}

@@ -1,10 +1,9 @@
 -- what a structure weighs: how long its longest chain of references is, and how many shapes and points it places
 use Rattle.std.specs.Prelude.{ℕ, suc, List, [], ◌∷◌, ◌≡◌, ◌+◌, ◌*◌, min, max, length, Vec}
-use Rattle.std.specs.Global.{Global}
+use Rattle.lists.specs.Words.{Global}
 use Rattle.library_model.specs.declared.element.Reference.{Reference}
 use Rattle.flatten.specs.Steps.{columns_of, rows_of}
 use Rattle.flatten.specs.inside.Parts.{LeadsTo, parts_at}
-use Rattle.flatten.specs.declared.limits.TheConstants.{MOST_STEPS, MOST_POINTS}
 use Rattle.flatten.specs.declared.part.Part.{Part}
 use Rattle.flatten.specs.declared.part.Part.TheVariants.{End, Copies}
 use Rattle.flatten.specs.declared.summary.Summary.{Summary}
@@ -52,7 +51,7 @@ pub data Weighs (nodes : List (Vec Part Global)) : ℕ → Weight → Type 0 whe
 
 -- what is kept of a count: it stands still one above the most points
 abbrev pub kept_of : ℕ → ℕ
-kept_of count = min count (MOST_POINTS + 1)
+kept_of count = min count 8000001
 
 -- the number stands for the count, which may be greater: as much is kept of both
 abbrev pub StandsFor : ℕ → ℕ → Type 0
@@ -60,6 +59,6 @@ StandsFor number count = kept_of number ≡ kept_of count
 
 -- what is kept of a weight: the height stands still one above the longest chain that may be, and the counts as above
 pub record IsKept (weight : Weight) (summary : Summary) : Type 0 where
-  pub height : summary.height ≡ min weight.height (MOST_STEPS + 1)
+  pub height : summary.height ≡ min weight.height 257
   pub shapes : summary.shapes ≡ kept_of weight.shapes
   pub points : summary.points ≡ kept_of weight.points

@@ -1,5 +1,5 @@
 -- elements by the records that open them
-use Rattle.library_grammar.specs.ElementForms.{ElementForm, boundary_form, path_form, sref_form, aref_form, text_form, node_form, box_form}
+use Rattle.library_grammar.specs.GrammarNames.{ElementForm, boundary_form, path_form, sref_form, aref_form, text_form, node_form, box_form}
 use Rattle.gds_syntax.specs.declared.element_kind.ElementKind.{ElementKind}
 use Rattle.gds_syntax.specs.declared.element_kind.ElementKind.TheVariants.{Boundary, Path, Sref, Aref, Text, Node, BoxElement}
 

@@ -1,9 +1,7 @@
 -- angles of whole quarters of a circle
 use Rattle.std.specs.Prelude.{ℕ, ℤ, pos, negsuc, List, MatchOption, ◌+ℤ◌, ◌*ℤ◌, ◌≤ℤ◌, ◌<◌, ◌≡◌}
 use Rattle.gds_records.specs.declared.kinds.TheConstants as kind
-use Rattle.gds_records.specs.Reals.{HasValue}
-use Rattle.gds_records.specs.Spelling.{Entry}
-use Rattle.library_grammar.specs.OwnRecords.{field}
+use Rattle.library_grammar.specs.GrammarNames.{HasValue, Entry, field}
 
 -- the angle of a reference in degrees, counterclockwise: that of its ANGLE, or none
 abbrev pub IsAngle : List Entry → ℤ → Type 0

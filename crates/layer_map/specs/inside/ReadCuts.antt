@@ -1,9 +1,9 @@
 -- what is read of cuts
 use Rattle.std.specs.Prelude.{ℕ, ◌≡◌, ◌≤◌, List, [], ◌∷◌, ◌++◌, length, map, All}
-use Rattle.std.specs.List.{AllZip}
+use Rattle.lists.specs.Words.{AllZip}
 use Rattle.toml.specs.Data.{Data, Members}
 use Rattle.layer_map.specs.Documents.{GivesCut, NamesMetal}
-use Rattle.map_model.specs.Layers.{JoinsMetals, mapped_cut, mapped_layers, metal_layer, names_of, pairs_of}
+use Rattle.map_model.specs.MapNames.{JoinsMetals, mapped_cut, mapped_layers, metal_layer, names_of, pairs_of}
 use Rattle.lists.specs.Differing.{AreDifferent}
 use Rattle.layer_map.specs.Values.{lower_of_item, upper_of_item, cuts_in}
 use Rattle.map_model.specs.declared.limits.TheConstants.{MOST_CUTS}

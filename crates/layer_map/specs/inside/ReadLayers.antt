@@ -2,9 +2,8 @@
 use Rattle.std.specs.Prelude.{ℕ, ◌≡◌, List, [], ◌∷◌, ◌++◌, map, flat_map, Option, Some, Contains}
 use Rattle.toml.specs.Data.{Data, string}
 use Rattle.layer_map.specs.Documents.{GivesLayer}
-use Rattle.map_model.specs.Limits.{IsPair, ArePairs}
+use Rattle.map_model.specs.MapNames.{IsPair, ArePairs, IsLayerName}
 use Rattle.lists.specs.Differing.{AreDifferent}
-use Rattle.map_model.specs.LayerNames.{IsLayerName}
 use Rattle.layer_map.specs.Values.{pair_value, pairs_value, values_in, name_of_item, pairs_of_item}
 use Rattle.layer_map.specs.declared.seen.Layer.{Layer}
 use Rattle.layer_map.specs.declared.seen.Seen.{Seen}

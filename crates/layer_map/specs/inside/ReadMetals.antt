@@ -1,9 +1,9 @@
 -- what is read of metals
 use Rattle.std.specs.Prelude.{◌≡◌, ◌≤◌, List, length, map, Some}
-use Rattle.std.specs.List.{AllZip}
+use Rattle.lists.specs.Words.{AllZip}
 use Rattle.toml.specs.Data.{Data, Members, string}
 use Rattle.layer_map.specs.Documents.{GivesLayer}
-use Rattle.map_model.specs.Layers.{metal_layer, names_of, pairs_of}
+use Rattle.map_model.specs.MapNames.{metal_layer, names_of, pairs_of}
 use Rattle.layer_map.specs.Values.{name_of_item, metals_in}
 use Rattle.map_model.specs.declared.limits.TheConstants.{MOST_METALS}
 use Rattle.layer_map.specs.declared.seen.Seen.{Seen}

@@ -1,7 +1,7 @@
 -- what is read of radii and weights
 use Rattle.std.specs.Prelude.{ℕ, ◌≡◌, List, map, Option, Some}
 use Rattle.toml.specs.Data.{Data}
-use Rattle.map_model.specs.Limits.{AreRadii, AreWeights}
+use Rattle.map_model.specs.MapNames.{AreRadii, AreWeights}
 use Rattle.layer_map.specs.Values.{whole_number, whole_numbers}
 
 -- these radii stand there

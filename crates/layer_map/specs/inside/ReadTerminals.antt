@@ -1,11 +1,10 @@
 -- what is read of terminals
 use Rattle.std.specs.Prelude.{ℕ, ℤ, Bool, MatchBool, ◌≡◌, ◌≤◌, ◌<◌, List, [], ◌∷◌, ◌++◌, length, map, Option, Some, All, Contains}
-use Rattle.std.specs.List.{AllZip}
+use Rattle.lists.specs.Words.{AllZip}
 use Rattle.toml.specs.Data.{Data, Members, integer}
 use Rattle.layer_map.specs.Documents.{GivesTerminal}
-use Rattle.map_model.specs.Layers.{metal_layer}
+use Rattle.map_model.specs.MapNames.{metal_layer, terminal_of}
 use Rattle.lists.specs.Differing.{AreDifferent}
-use Rattle.map_model.specs.MapView.{terminal_of}
 use Rattle.layer_map.specs.TerminalChecks.{IsCellNumber}
 use Rattle.layer_map.specs.Values.{terminals_in}
 use Rattle.map_model.specs.declared.limits.TheConstants.{MOST_TERMINALS}

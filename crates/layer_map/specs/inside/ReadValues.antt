@@ -1,6 +1,6 @@
 -- what readers find where one value or several may stand
 use Rattle.std.specs.Prelude.{ℕ, ◌≡◌, ◌≤◌, List, map, Option, Some, None, All}
-use Rattle.std.specs.Borrow.{Bor}
+use Rattle.lists.specs.Words.{Bor}
 use Rattle.toml.specs.Data.{Data}
 use Rattle.layer_map.specs.Values.{whole_number}
 

@@ -1,5 +1,5 @@
 use Rattle.std.proofs.Common.{◌≡◌, ◌∙◌, ap, rules}
-use Rattle.std.proofs.lemmas.Result.{IfOk-weaker}
+use Rattle.lists.proofs.Words.{IfOk-weaker}
 use Rattle.clap.specs.declared.builder.arg.Arg.{Arg}
 use Rattle.clap.specs.Words.{app_of, rule_of, with_rule}
 use Rattle.command_line.specs.inside.Command.{rule_of_option}

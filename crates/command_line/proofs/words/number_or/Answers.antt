@@ -1,4 +1,4 @@
-use Rattle.std.proofs.lemmas.Option.{IfSome_then}
+use Rattle.lists.proofs.Words.{IfSome_then}
 use Rattle.command_line.specs.Requests.{as_given, left_out}
 use Rattle.command_line.proofs.TaskLaws.{no_text, once}
 use Rattle.command_line.proofs.words.number_or.Goals as goal

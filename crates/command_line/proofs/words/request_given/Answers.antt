@@ -1,5 +1,5 @@
 use Rattle.std.proofs.Common.{◌≡◌, ◌∙◌, sym, ap, map, string_bytes}
-use Rattle.std.proofs.lemmas.Result.{IfOk-weaker}
+use Rattle.lists.proofs.Words.{IfOk-weaker}
 use Rattle.command_line.specs.declared.fault.WordsFault.TheVariants.{Usage, Memory}
 use Rattle.command_line.specs.inside.Arguments.{given_by}
 use Rattle.command_line.specs.inside.Command.{positions_found, values_found}

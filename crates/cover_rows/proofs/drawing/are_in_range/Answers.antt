@@ -2,7 +2,7 @@ use Rattle.std.proofs.Common.{subst, refl, arith}
 use Rattle.std.specs.Prelude.{All}
 use Rattle.std.proofs.lemmas.List.{take_all}
 use Rattle.std.proofs.lemmas.List.Elements.{All-more}
-use Rattle.geo_core.specs.Bounds.{IsInRange}
+use Rattle.geo_core.specs.Plane.{IsInRange}
 use Rattle.rect_cover.specs.Coverings.{placed_at}
 use Rattle.cover_rows.proofs.drawing.are_in_range.Goals as goal
 

@@ -1,6 +1,6 @@
 use Rattle.std.proofs.Common.{take}
 use Rattle.std.specs.Prelude.{All}
-use Rattle.geo_core.specs.Bounds.{IsInRange}
+use Rattle.geo_core.specs.Plane.{IsInRange}
 use Rattle.rect_cover.specs.Coverings.{placed_at}
 use Rattle.cover_rows.proofs.drawing.are_in_range.Given as goal
 

@@ -1,6 +1,5 @@
-use Rattle.std.proofs.Common.{arith, ◌≡◌, ◌≤◌, ◌+◌, ◌++◌, ◌∙◌, List, ℕ, ap, length, take, drop, append-nil, length-append, vec_len}
-use Rattle.std.proofs.lemmas.List.{length-drop, length-take, take-append-le}
-use Rattle.std.proofs.lemmas.Result.{err_from_is_err_and}
+use Rattle.std.proofs.Common.{arith, ◌≡◌, ◌≤◌, ◌+◌, ◌++◌, ◌∙◌, List, ℕ, ap, length, take, drop, length-append, vec_len}
+use Rattle.lists.proofs.Words.{append-nil, length-drop, length-take, take-append-le, err_from_is_err_and}
 use Rattle.edge_io.proofs.ByteLaws.{HasRead-more, HasRead-all, HasRead-long, HasRead-Drops, HasRead-DropsUpTo}
 use Rattle.edge_io.specs.ReadAnswers.{is_whole, is_too_long, has_no_memory, has_failed}
 use Rattle.edge_io.proofs.whole.read_whole.Goals as goal

@@ -1,5 +1,5 @@
 use Rattle.std.proofs.Common.{arith}
-use Rattle.std.proofs.lemmas.List.Elements.{All-from_get_or}
+use Rattle.lists.proofs.Words.{All-from_get_or}
 use Rattle.lists.specs.ByteLists.{IsByte}
 use Rattle.edge_io.proofs.whole.tell_bytes.Goals as goal
 

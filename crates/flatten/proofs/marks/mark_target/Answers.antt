@@ -1,7 +1,6 @@
-use Rattle.std.proofs.Common.{[], inl, inr}
+use Rattle.std.proofs.Common.{[], inl, inr, ◌≡◌, set, true, sym, subst}
 use Rattle.flatten.proofs.MarkLaws.{marked_now, only_more, leads_alone, leads_to_it}
 use Rattle.flatten.specs.inside.Marks.{IsMarked}
-use Rattle.std.proofs.Common.{◌≡◌, set, true, sym, subst}
 use Rattle.flatten.proofs.marks.mark_target.Goals as goal
 use Rattle.lists.proofs.Containing.{Contains-head}
 

@@ -1,5 +1,5 @@
 use Rattle.std.proofs.Common.{◌≡◌, ◌<◌, inl, inr, length, sym, ap, subst, ◌∙◌, arith}
-use Rattle.std.proofs.lemmas.Bool.{cases_lt}
+use Rattle.lists.proofs.Words.{cases_lt}
 use Rattle.flatten.specs.inside.Parts.{AreBelow, LeadsTo, parts_at}
 use Rattle.flatten.proofs.SearchLaws.{parts_read}
 use Rattle.flatten.proofs.MarkLaws.{leads_within}

@@ -1,5 +1,5 @@
 use Rattle.std.proofs.Common.{◌≡◌, ◌^◌, to_z, of_z, w64, arith}
-use Rattle.std.proofs.lemmas.Int.{ints}
+use Rattle.lists.proofs.Words.{ints}
 use Rattle.flatten.proofs.MotionLaws.{near_across, near_up}
 use Rattle.flatten.proofs.motion.turned.Goals as goal
 

@@ -1,6 +1,5 @@
-use Rattle.std.proofs.Common.{take_all, subst}
-use Rattle.std.specs.Prelude.{All, flat_map}
-use Rattle.std.proofs.lemmas.Result.{err_from_is_err_and}
+use Rattle.std.proofs.Common.{take_all, subst, All}
+use Rattle.lists.proofs.Words.{flat_map, err_from_is_err_and}
 use Rattle.flatten.specs.Structures.{references_among}
 use Rattle.flatten.specs.inside.Parts.{IsKnown}
 use Rattle.flatten.specs.declared.fault.PlaceFault.TheVariants.{UnknownStructure}

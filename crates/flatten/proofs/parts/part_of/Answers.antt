@@ -1,5 +1,5 @@
 use Rattle.std.proofs.Common.{◌≡◌, Some, sym}
-use Rattle.map_model.specs.MapView.{layer_map_of}
+use Rattle.map_model.specs.MapNames.{layer_map_of}
 use Rattle.flatten.proofs.LayerLaws.{is_mapped-none}
 use Rattle.flatten.proofs.PartLaws.{no_part, end_part, copies_part, unknown_in_reference}
 use Rattle.flatten.proofs.parts.part_of.Goals as goal

@@ -1,11 +1,6 @@
-use Rattle.std.proofs.Common.{◌≡◌, ◌++◌, take_all, sym, ap, subst, ◌∙◌}
-use Rattle.std.specs.Prelude.{option_to_list, All, flat_map}
-use Rattle.std.specs.List.{enumerate_from}
-use Rattle.std.proofs.lemmas.List.Elements.{All-nil}
-use Rattle.std.proofs.lemmas.List.{append-nil}
-use Rattle.std.proofs.lemmas.Result.{err_from_is_err_and}
-use Rattle.std.proofs.lemmas.List.FromFn.{length-enumerate_from}
-use Rattle.map_model.specs.MapView.{layer_map_of}
+use Rattle.std.proofs.Common.{◌≡◌, ◌++◌, take_all, sym, ap, subst, ◌∙◌, option_to_list, All}
+use Rattle.lists.proofs.Words.{flat_map, enumerate_from, All-nil, append-nil, err_from_is_err_and, length-enumerate_from}
+use Rattle.map_model.specs.MapNames.{layer_map_of}
 use Rattle.flatten.specs.Structures.{references_in}
 use Rattle.flatten.specs.inside.Parts.{IsKnown, AreParts, no_more}
 use Rattle.flatten.specs.declared.fault.PlaceFault.TheVariants.{UnknownStructure}

@@ -1,7 +1,6 @@
-use Rattle.std.proofs.Common.{take}
-use Rattle.std.specs.Prelude.{All, flat_map}
-use Rattle.std.specs.List.{enumerate_from}
-use Rattle.map_model.specs.MapView.{layer_map_of}
+use Rattle.std.proofs.Common.{take, All}
+use Rattle.lists.proofs.Words.{flat_map, enumerate_from}
+use Rattle.map_model.specs.MapNames.{layer_map_of}
 use Rattle.flatten.specs.Structures.{references_in}
 use Rattle.flatten.specs.inside.Parts.{AreParts, IsKnown}
 use Rattle.flatten.proofs.parts.parts_of.Given as goal

@@ -1,8 +1,7 @@
-use Rattle.std.specs.Prelude.{option_copied, Vec}
-use Rattle.std.specs.Global.{Global}
-use Rattle.std.proofs.lemmas.Result.{err_from_is_err_and, IfOk-weaker, IfErr-weaker}
+use Rattle.std.proofs.Common.{option_copied, Vec}
+use Rattle.lists.proofs.Words.{Global, err_from_is_err_and, IfOk-weaker, IfErr-weaker}
 use Rattle.first_refusal.specs.Outcomes.{stops}
-use Rattle.map_model.specs.MapView.{layer_map_of}
+use Rattle.map_model.specs.MapNames.{layer_map_of}
 use Rattle.flatten.specs.declared.fault.PlaceFault.{PlaceFault}
 use Rattle.flatten.specs.declared.placed.Placed.{Placed}
 use Rattle.flatten.specs.inside.Plans.{IsPlanOf}

@@ -1,7 +1,6 @@
-use Rattle.std.proofs.Common.{arith}
-use Rattle.std.specs.Prelude.{option_copied}
-use Rattle.std.proofs.lemmas.Result.{err_from_is_err_and}
-use Rattle.map_model.specs.MapView.{layer_map_of}
+use Rattle.std.proofs.Common.{arith, option_copied}
+use Rattle.lists.proofs.Words.{err_from_is_err_and}
+use Rattle.map_model.specs.MapNames.{layer_map_of}
 use Rattle.flatten.proofs.ChoiceLaws.{unknown_refused}
 use Rattle.flatten.proofs.PlanLaws.{nodes_long, nodes_below, cycle_of, surveyed_of}
 use Rattle.flatten.proofs.plan.plan_with.Goals as goal

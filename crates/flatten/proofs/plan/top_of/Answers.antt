@@ -1,6 +1,5 @@
 use Rattle.std.proofs.Common.{ℕ, length, sym, ap, ◌∙◌}
-use Rattle.std.proofs.lemmas.Result.{IfOk-weaker, IfErr-weaker}
-use Rattle.std.proofs.lemmas.Slice.Zip.{AllZip-long}
+use Rattle.lists.proofs.Words.{IfOk-weaker, IfErr-weaker, AllZip-long}
 use Rattle.flatten.specs.declared.fault.PlaceFault.{PlaceFault}
 use Rattle.flatten.specs.inside.Marks.{IsOnlyUnmarked, IsTopFault}
 use Rattle.flatten.proofs.TopLaws.{name_chosen, name_refused, unmarked_chosen, marks_refused}

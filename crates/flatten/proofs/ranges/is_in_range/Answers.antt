@@ -1,6 +1,6 @@
 use Rattle.std.proofs.Common.{◌≡◌, ◌+ℤ◌, to_z, of_z, w64, refl, ap, ◌∙◌, arith}
-use Rattle.std.proofs.lemmas.Int.{ints}
-use Rattle.geo_core.specs.Turns.{image_under}
+use Rattle.lists.proofs.Words.{ints}
+use Rattle.geo_core.specs.Plane.{image_under}
 use Rattle.flatten.specs.Motions.{image_by}
 use Rattle.flatten.proofs.MotionLaws.{turned_across, turned_up}
 use Rattle.flatten.proofs.RangeLaws.{beyond_across, in_range_both}

@@ -1,5 +1,5 @@
 use Rattle.std.proofs.Common.{arith}
-use Rattle.std.proofs.lemmas.Int.{ints}
+use Rattle.lists.proofs.Words.{ints}
 use Rattle.flatten.proofs.ranges.is_near.Goals as goal
 
 pub returns-then-from-placed : goal.returns-then-from-placed

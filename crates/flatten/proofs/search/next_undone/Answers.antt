@@ -1,7 +1,5 @@
-use Rattle.std.proofs.Common.{◌≡◌, get_or, inl, inr, sym, ap, subst, ◌∙◌, arith}
-use Rattle.std.specs.Prelude.{Contains}
-use Rattle.std.proofs.lemmas.Bool.{cases_lt}
-use Rattle.std.proofs.lemmas.Option.{get_or_from_slice_get}
+use Rattle.std.proofs.Common.{◌≡◌, get_or, inl, inr, sym, ap, subst, ◌∙◌, arith, Contains}
+use Rattle.lists.proofs.Words.{cases_lt, get_or_from_slice_get}
 use Rattle.flatten.specs.inside.Surveys.{state_of}
 use Rattle.flatten.specs.declared.part.Part.TheVariants.{Copies}
 use Rattle.flatten.specs.declared.summary.State.TheVariants.{Done}

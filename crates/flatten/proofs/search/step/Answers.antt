@@ -1,5 +1,4 @@
-use Rattle.std.proofs.Common.{◌≡◌, ◌≤◌, ◌<◌, ◌∷◌, [], ◌++◌, length, set, sym, ap, subst, ◌∙◌, arith}
-use Rattle.std.proofs.Math.ListN.{length-set}
+use Rattle.std.proofs.Common.{◌≡◌, ◌≤◌, ◌<◌, ◌∷◌, [], ◌++◌, length, set, sym, ap, subst, ◌∙◌, arith, length-set}
 use Rattle.flatten.specs.inside.Parts.{AreBelow, LeadsTo, parts_at}
 use Rattle.flatten.specs.inside.Weights.{weight_over}
 use Rattle.flatten.specs.inside.Surveys.{state_of}

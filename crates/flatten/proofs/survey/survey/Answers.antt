@@ -1,5 +1,5 @@
 use Rattle.std.proofs.Common.{◌≡◌, length, sym, ap, ◌∙◌, inl, inr, arith}
-use Rattle.std.proofs.lemmas.Bool.{cases_lt}
+use Rattle.lists.proofs.Words.{cases_lt}
 use Rattle.flatten.specs.inside.Surveys.{state_of}
 use Rattle.flatten.specs.declared.fault.PlaceFault.TheVariants.{Cycle}
 use Rattle.flatten.proofs.LimitLaws.{at_offset}

@@ -1,5 +1,4 @@
-use Rattle.std.proofs.Common.{ℕ, ◌<◌}
-use Rattle.std.specs.Prelude.{MatchOption}
+use Rattle.std.proofs.Common.{ℕ, ◌<◌, MatchOption}
 use Rattle.flatten.specs.inside.Marks.{IsMarked, IsOnlyUnmarked}
 use Rattle.flatten.proofs.tops.only_unmarked.Given as goal
 

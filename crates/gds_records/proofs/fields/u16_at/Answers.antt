@@ -1,5 +1,5 @@
 use Rattle.std.proofs.Common.{◌*◌}
-use Rattle.std.proofs.lemmas.List.{take_rest}
+use Rattle.lists.proofs.Words.{take_rest}
 use Rattle.gds_records.proofs.fields.u16_at.Goals as goal
 
 pub returns : goal.returns

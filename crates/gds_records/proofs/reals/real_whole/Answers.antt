@@ -1,5 +1,5 @@
 use Rattle.std.proofs.Common.{◌+◌, ◌*◌, ◌/◌, ◌^◌, drop, pos, ◌-ℤ◌}
-use Rattle.std.proofs.lemmas.List.{take_rest}
+use Rattle.lists.proofs.Words.{take_rest}
 use Rattle.gds_records.proofs.RealLaws.{no_size_no_value, found_is_value, no_value_that_fits, sum_is_signed, difference_is_signed}
 use Rattle.gds_records.proofs.reals.real_whole.Goals as goal
 

@@ -1,5 +1,5 @@
 use Rattle.std.proofs.Common.{◌≡◌, ◌-◌, ◌%◌, drop, refl, arith}
-use Rattle.std.proofs.lemmas.Bool.{iff_false}
+use Rattle.lists.proofs.Words.{iff_false}
 use Rattle.gds_records.specs.RecordChecks.{kind_field, form_field}
 use Rattle.gds_records.proofs.TableLaws.{not_permitted}
 use Rattle.gds_records.proofs.Heads.{bytes_are_bytes, IsInProfile-entry_at, spelling-entry_at}

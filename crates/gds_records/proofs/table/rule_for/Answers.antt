@@ -1,5 +1,5 @@
 use Rattle.std.proofs.Common.{sym}
-use Rattle.std.proofs.lemmas.Bool.{iff_false}
+use Rattle.lists.proofs.Words.{iff_false}
 use Rattle.gds_records.proofs.TableLaws.{rule_is_for, none_without_rule, none_of_other_form}
 use Rattle.gds_records.proofs.table.rule_for.Goals as goal
 

@@ -1,5 +1,5 @@
 use Rattle.std.proofs.Common.{arith}
-use Rattle.gds_records.specs.Reading.{entry_of}
+use Rattle.library_grammar.specs.GrammarNames.{entry_of}
 use Rattle.library_grammar.proofs.SizeLaws.{colrow_has_four}
 use Rattle.gds_syntax.proofs.arrays.columns_and_rows.Goals as goal
 

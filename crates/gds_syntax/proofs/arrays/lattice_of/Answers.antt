@@ -1,5 +1,5 @@
 use Rattle.std.proofs.Common.{arith}
-use Rattle.std.proofs.lemmas.Int.{ints}
+use Rattle.lists.proofs.Words.{ints}
 use Rattle.gds_syntax.proofs.ArrayLaws.{array_checks_hold, fault_where_empty, fault_where_uneven}
 use Rattle.gds_syntax.proofs.arrays.lattice_of.Goals as goal
 

@@ -1,6 +1,5 @@
 use Rattle.std.proofs.Common.{arith}
-use Rattle.std.proofs.lemmas.Int.{ints}
-use Rattle.std.proofs.lemmas.Option.{IfSome_then}
+use Rattle.lists.proofs.Words.{ints, IfSome_then}
 use Rattle.gds_syntax.proofs.StepLaws.{step_leads, no_step_leads}
 use Rattle.gds_syntax.proofs.arrays.step_along.Goals as goal
 

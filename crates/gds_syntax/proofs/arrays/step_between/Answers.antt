@@ -1,7 +1,6 @@
 use Rattle.std.proofs.Common.{◌≡◌, ℤ, SFits, sym, to_z, of_z, w16, w32, rules}
-use Rattle.std.proofs.lemmas.Int.{to_z-of_z}
-use Rattle.library_grammar.specs.OwnRecords.{Leads}
-use Rattle.library_model.specs.Ranges.{IsStep}
+use Rattle.lists.proofs.Words.{to_z-of_z}
+use Rattle.library_grammar.specs.GrammarNames.{Leads, IsStep}
 use Rattle.gds_syntax.proofs.StepLaws.{along_alike, both_there, one_lacks}
 use Rattle.gds_syntax.proofs.arrays.step_between.Goals as goal
 

@@ -1,7 +1,6 @@
 use Rattle.std.proofs.Common.{◌≡◌, ◌∙◌, ℤ, sym, to_z, of_z, w16}
-use Rattle.std.proofs.lemmas.Int.{to_z-of_z}
-use Rattle.library_grammar.specs.OwnRecords.{columns_of, rows_of, HasSteps}
-use Rattle.library_model.specs.Ranges.{IsStep}
+use Rattle.lists.proofs.Words.{to_z-of_z}
+use Rattle.library_grammar.specs.GrammarNames.{columns_of, rows_of, HasSteps, IsStep}
 use Rattle.gds_syntax.proofs.ArrayLaws.{leads_alike}
 use Rattle.gds_syntax.proofs.StepLaws.{both_there, one_lacks}
 use Rattle.gds_syntax.proofs.arrays.steps_of.Goals as goal

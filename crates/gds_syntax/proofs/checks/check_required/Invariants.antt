@@ -1,6 +1,5 @@
-use Rattle.std.proofs.Common.{take}
-use Rattle.std.specs.Prelude.{All, Contains}
-use Rattle.library_grammar.specs.Grammar.{kinds_of}
+use Rattle.std.proofs.Common.{take, All, Contains}
+use Rattle.library_grammar.specs.GrammarNames.{kinds_of}
 use Rattle.gds_syntax.proofs.checks.check_required.Given as goal
 
 abbrev pub invariant-loop-needed : goal.invariant-loop-needed

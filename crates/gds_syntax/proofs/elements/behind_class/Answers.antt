@@ -1,4 +1,4 @@
-use Rattle.library_grammar.specs.Places.{behind_strname, between_elements}
+use Rattle.library_grammar.specs.GrammarNames.{behind_strname, between_elements}
 use Rattle.gds_syntax.specs.LibraryReaders.{standing}
 use Rattle.gds_syntax.proofs.ElementsReading.{elements_begin, elements_begin_behind_class, class_further}
 use Rattle.first_refusal.proofs.AnswerLaws.{error_handed_on}

@@ -1,7 +1,6 @@
 use Rattle.std.proofs.Common.{[], ◌∷◌, ◌++◌}
-use Rattle.gds_records.specs.Reading.{entry_of}
+use Rattle.library_grammar.specs.GrammarNames.{entry_of, element_checks}
 use Rattle.gds_syntax.specs.inside.ElementKinds.{form_for}
-use Rattle.library_grammar.specs.ElementChecks.{element_checks}
 use Rattle.gds_syntax.proofs.JudgedLaws.{faulty_where_judged, sound_where_judged}
 use Rattle.gds_syntax.proofs.ElementReading.{element_stops, plain_element, element_with_properties, opens_properties}
 use Rattle.first_refusal.proofs.AnswerLaws.{error_handed_on}

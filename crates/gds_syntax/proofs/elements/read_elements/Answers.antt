@@ -1,10 +1,11 @@
 use Rattle.std.proofs.Common.{[], sym}
 use Rattle.gds_syntax.specs.inside.ElementKinds.{form_for}
-use Rattle.library_grammar.specs.Places.{between_elements}
+use Rattle.library_grammar.specs.GrammarNames.{between_elements}
 use Rattle.gds_syntax.specs.LibraryReaders.{standing}
 use Rattle.gds_syntax.proofs.ElementsReading.{elements_go_on, elements_stop, elements_end, element_further, element_fault_stops, opens}
 use Rattle.first_refusal.proofs.AnswerLaws.{error_handed_on}
 use Rattle.gds_syntax.proofs.ReaderLaws.{has_less_left, stops_later}
+use Rattle.library_grammar.proofs.PartsAgree.{opening_ends_no_library}
 use Rattle.gds_syntax.proofs.elements.read_elements.Goals as goal
 
 pub returns-in_default-clause-faulty : goal.returns-in_default-clause-faulty
@@ -13,6 +14,10 @@ returns-in_default-clause-faulty c = λ _ names. rw c.unexpected.ensures
 
 pub read_element-requires-clause-opens : goal.read_element-requires-clause-opens
 read_element-requires-clause-opens c = opens c.loop-found.found.kind (form_for c.in-Some.kind) (sym c.in-Some.ensures)
+
+pub read_element-requires-clause-ready : goal.read_element-requires-clause-ready
+read_element-requires-clause-ready c =
+    c.loop-found.invariant.takes.ready (opening_ends_no_library c.loop-found.found.kind (form_for c.in-Some.kind) (opens c.loop-found.found.kind (form_for c.in-Some.kind) (sym c.in-Some.ensures)))
 
 pub returns-in_err-kept-clause-faulty : goal.returns-in_err-kept-clause-faulty
 returns-in_err-kept-clause-faulty c =
@@ -26,9 +31,7 @@ returns-in_err-found-2-clause-faulty c =
     (c.in_err-found-2.ensures.faulty (standing between_elements names)))
 
 pub loop-found-smaller : goal.loop-found-smaller
-loop-found-smaller c =
-    let takes = c.in_ok-found-2.ensures.found in
-    has_less_left c.next_record.new.records ((c.in_ok-kept.ensures.element.advances []).takes) takes.further takes.bytes takes.within
+loop-found-smaller c = has_less_left _ (c.in_ok-kept.ensures.element.advances []).takes c.in_ok-found-2.ensures.found
 
 pub loop-found-preserved : goal.loop-found-preserved
 loop-found-preserved c =

@@ -1,11 +1,11 @@
 use Rattle.std.proofs.Common.{[]}
-use Rattle.std.proofs.lemmas.Bool.{iff_false}
+use Rattle.lists.proofs.Words.{iff_false}
 use Rattle.gds_syntax.specs.inside.ElementKinds.{form_for}
-use Rattle.library_grammar.specs.Places.{among_own}
+use Rattle.library_grammar.specs.GrammarNames.{among_own}
 use Rattle.gds_syntax.specs.LibraryReaders.{standing}
-use Rattle.gds_syntax.proofs.OwnReading.{own_further, own_goes_on, foreign_stops, repeated_stops}
+use Rattle.gds_syntax.proofs.OwnReading.{own_begins, own_is_ready, own_further, own_goes_on, foreign_stops, repeated_stops}
 use Rattle.first_refusal.proofs.AnswerLaws.{error_handed_on}
-use Rattle.gds_syntax.proofs.ReaderLaws.{stops_later}
+use Rattle.gds_syntax.proofs.ReaderLaws.{stops_later, one_less_left}
 use Rattle.gds_syntax.proofs.elements.read_own.Goals as goal
 use Rattle.gds_syntax.proofs.elements.read_own.Goals.{then-loop-own-test+else-not-has, else-loop-own-test}
 
@@ -18,6 +18,18 @@ returns-in_err-found-2-clause-faulty c =
     error_handed_on c.from_residual-in_err-found-2.result c.in_err-found-2.field-0.0 _ c.from_residual-in_err-found-2.ensures.1 (λ _ names. stops_later
     (own_further c.args.kind (c.owns.ensures.0 c.loop-own-test.true) (iff_false c.has.ensures c.if-not-has.true) c.loop-own.invariant names)
     (c.in_err-found-2.ensures.faulty _))
+
+pub loop-own-init : goal.loop-own-init
+loop-own-init c = rw c.requires.none (own_begins (form_for c.args.kind) c.in_ok-found.ensures.found)
+
+pub push-requires : goal.push-requires
+push-requires c = c.loop-own.invariant.takes.in_profile
+
+pub next_record-requires-in-loop-own : goal.next_record-requires-in-loop-own
+next_record-requires-in-loop-own c = own_is_ready c.args.kind (c.owns.ensures.0 c.loop-own-test.true) c.loop-own.invariant
+
+pub loop-own-smaller : goal.loop-own-smaller
+loop-own-smaller c = one_less_left c.in_ok-found-2.ensures.found
 
 pub loop-own-preserved : goal.loop-own-preserved
 loop-own-preserved c =

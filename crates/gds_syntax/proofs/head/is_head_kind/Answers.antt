@@ -1,4 +1,4 @@
-use Rattle.library_grammar.specs.Grammar.{head_kinds}
+use Rattle.library_grammar.specs.GrammarNames.{head_kinds}
 use Rattle.gds_syntax.proofs.OwnLaws.{contains_as_asked}
 use Rattle.gds_syntax.proofs.head.is_head_kind.Goals as goal
 

@@ -1,7 +1,5 @@
-use Rattle.library_grammar.specs.Elements.{aref}
+use Rattle.library_grammar.specs.GrammarNames.{aref, gives, refuses, all_hold, one_fails}
 use Rattle.gds_syntax.proofs.JudgedLaws.{fault_of_reference, fault_of_array, array_holds}
-use Rattle.first_refusal.specs.Answers.{gives, refuses}
-use Rattle.first_refusal.specs.Checks.{all_hold, one_fails}
 use Rattle.first_refusal.proofs.AnswerLaws.{handed_on, out_of_memory}
 use Rattle.library_grammar.specs.declared.fault.SyntaxFault.TheVariants.{Memory}
 use Rattle.gds_syntax.proofs.kept.array_of.Goals as goal

@@ -1,6 +1,6 @@
 use Rattle.std.proofs.Common.{Some, refl, inl, inr}
 use Rattle.gds_records.specs.declared.kinds.TheConstants as kind
-use Rattle.library_grammar.specs.Elements.{IsShape, IsKept, path_kind, boundary, path, text, node, box}
+use Rattle.library_grammar.specs.GrammarNames.{IsShape, IsKept, path_kind, boundary, path, text, node, box}
 use Rattle.library_model.specs.declared.element.Shape.{Shape}
 use Rattle.library_model.specs.declared.element.Element.TheVariants.{Reference as reference_element}
 use Rattle.library_model.specs.declared.element.ShapeKind.TheVariants as shape_kind

@@ -1,9 +1,6 @@
 use Rattle.std.proofs.Common.{subst, sym}
-use Rattle.first_refusal.specs.Answers.{refuses}
-use Rattle.first_refusal.specs.Checks.{one_fails}
+use Rattle.library_grammar.specs.GrammarNames.{refuses, one_fails, IsCount, IsKept}
 use Rattle.first_refusal.proofs.AnswerLaws.{handed_on}
-use Rattle.library_grammar.specs.ElementForms.{IsCount}
-use Rattle.library_grammar.specs.Elements.{IsKept}
 use Rattle.library_grammar.specs.declared.fault.SyntaxFault.TheVariants.{Memory}
 use Rattle.gds_syntax.specs.inside.ElementKinds.{form_for}
 use Rattle.gds_syntax.proofs.JudgedLaws.{fault_of_count, fault_of_required, judged_whole}

@@ -1,9 +1,6 @@
 use Rattle.std.proofs.Common.{◌≡◌, ◌∙◌, sym, subst}
-use Rattle.library_grammar.specs.OwnRecords.{points_of}
-use Rattle.geo_core.specs.Circuits.{IsClosed}
+use Rattle.library_grammar.specs.GrammarNames.{points_of, IsClosed, gives, refuses, all_hold, one_fails}
 use Rattle.gds_syntax.proofs.JudgedLaws.{outline_is_open, outline_is_closed}
-use Rattle.first_refusal.specs.Answers.{gives, refuses}
-use Rattle.first_refusal.specs.Checks.{all_hold, one_fails}
 use Rattle.first_refusal.proofs.AnswerLaws.{out_of_memory}
 use Rattle.library_grammar.specs.declared.fault.SyntaxFault.TheVariants.{Memory}
 use Rattle.gds_syntax.proofs.kept.outline_of.Goals as goal

@@ -1,6 +1,4 @@
-use Rattle.library_grammar.specs.Elements.{sref}
-use Rattle.first_refusal.specs.Answers.{gives, refuses}
-use Rattle.first_refusal.specs.Checks.{all_hold, one_fails}
+use Rattle.library_grammar.specs.GrammarNames.{sref, gives, refuses, all_hold, one_fails}
 use Rattle.first_refusal.proofs.AnswerLaws.{handed_on, out_of_memory}
 use Rattle.library_grammar.specs.declared.fault.SyntaxFault.TheVariants.{Memory}
 use Rattle.gds_syntax.proofs.kept.single_of.Goals as goal

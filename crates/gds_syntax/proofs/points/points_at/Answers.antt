@@ -1,6 +1,6 @@
 use Rattle.std.proofs.Common.{arith, refl}
 use Rattle.std.proofs.lemmas.List.FromFn.{map-range_with_len_more}
-use Rattle.library_grammar.specs.OwnRecords.{point_in}
+use Rattle.library_grammar.specs.GrammarNames.{point_in}
 use Rattle.gds_syntax.proofs.points.points_at.Goals as goal
 
 pub loop-k-preserved : goal.loop-k-preserved

@@ -1,7 +1,6 @@
-use Rattle.std.proofs.Common.{◌≡◌}
-use Rattle.std.specs.Prelude.{map}
-use Rattle.std.specs.List.{range_with_len}
-use Rattle.library_grammar.specs.OwnRecords.{point_in}
+use Rattle.std.proofs.Common.{◌≡◌, map}
+use Rattle.lists.proofs.Words.{range_with_len}
+use Rattle.library_grammar.specs.GrammarNames.{point_in}
 use Rattle.gds_syntax.proofs.points.points_at.Given as goal
 
 abbrev pub invariant-loop-k : goal.invariant-loop-k

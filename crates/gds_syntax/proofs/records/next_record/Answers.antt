@@ -1,4 +1,4 @@
-use Rattle.gds_records.specs.Reading.{MovesPast}
+use Rattle.library_grammar.specs.GrammarNames.{MovesPast}
 use Rattle.gds_syntax.proofs.ReaderLaws.{takes_one, further, goes_on, stops_at_end}
 use Rattle.gds_syntax.proofs.records.next_record.Goals as goal
 

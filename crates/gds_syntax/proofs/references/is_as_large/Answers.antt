@@ -1,5 +1,5 @@
 use Rattle.std.proofs.Common.{arith}
-use Rattle.gds_records.specs.Reading.{entry_of}
+use Rattle.library_grammar.specs.GrammarNames.{entry_of}
 use Rattle.library_grammar.proofs.SizeLaws.{mag_has_eight}
 use Rattle.gds_syntax.proofs.TurnLaws.{as_large_where_one}
 use Rattle.gds_syntax.proofs.references.is_as_large.Goals as goal

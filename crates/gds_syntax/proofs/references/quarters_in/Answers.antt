@@ -1,5 +1,5 @@
 use Rattle.std.proofs.Common.{arith}
-use Rattle.std.proofs.lemmas.Int.{ints}
+use Rattle.lists.proofs.Words.{ints}
 use Rattle.gds_syntax.proofs.QuarterLaws.{comes_to_none, comes_to_one, comes_to_two, comes_to_three}
 use Rattle.gds_syntax.proofs.references.quarters_in.Goals as goal
 

@@ -1,6 +1,6 @@
 use Rattle.std.proofs.Common.{arith, pos, SFits, w64, rules}
-use Rattle.std.proofs.lemmas.Int.{to_z-of_z}
-use Rattle.gds_records.specs.Reading.{entry_of}
+use Rattle.lists.proofs.Words.{to_z-of_z}
+use Rattle.library_grammar.specs.GrammarNames.{entry_of}
 use Rattle.gds_syntax.proofs.QuarterLaws.{no_turn}
 use Rattle.library_grammar.proofs.SizeLaws.{angle_has_eight}
 use Rattle.gds_syntax.proofs.TurnLaws.{no_quarters_of_body, none_is_no_angle}

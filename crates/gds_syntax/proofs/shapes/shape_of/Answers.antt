@@ -1,5 +1,5 @@
 use Rattle.std.proofs.Common.{sym, subst}
-use Rattle.library_model.specs.Ranges.{ArePoints}
+use Rattle.library_grammar.specs.GrammarNames.{ArePoints}
 use Rattle.library_grammar.proofs.PointLaws.{are_points}
 use Rattle.library_grammar.proofs.SizeLaws.{layer_has_two}
 use Rattle.gds_syntax.proofs.shapes.shape_of.Goals as goal

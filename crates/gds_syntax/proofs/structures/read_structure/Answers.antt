@@ -1,6 +1,6 @@
-use Rattle.std.proofs.Common.{[], ◌∷◌, ◌++◌, refl, ◌∙◌}
+use Rattle.std.proofs.Common.{[], ◌∷◌, ◌++◌, refl, ◌∙◌, arith}
 use Rattle.gds_records.specs.declared.kinds.TheConstants as kind
-use Rattle.library_grammar.specs.Places.{before_strname, behind_strname}
+use Rattle.library_grammar.specs.GrammarNames.{before_strname, behind_strname}
 use Rattle.gds_syntax.specs.LibraryReaders.{standing}
 use Rattle.gds_syntax.proofs.StructureReading.{name_further, name_stops, structure_read}
 use Rattle.first_refusal.proofs.AnswerLaws.{error_handed_on}
@@ -11,6 +11,12 @@ pub returns-in_err-found-clause-faulty : goal.returns-in_err-found-clause-faulty
 returns-in_err-found-clause-faulty c =
     error_handed_on c.from_residual.result c.in_err-found.field-0.0 _ c.from_residual.ensures.1
     (λ _. c.in_err-found.ensures.faulty (standing before_strname c.args.names.now) (only_one kind.STRNAME behind_strname))
+
+pub add-requires : goal.add-requires
+add-requires c = omega (arith, c.requires.few, c.requires.ready.within, c.requires.ready.short)
+
+pub read_elements-requires : goal.read_elements-requires
+read_elements-requires c = c.in_ok-found.ensures.found.ready (λ same. omega (arith, c.in_ok-found.ensures.of_kind, same))
 
 pub returns-then-not-branch-clause-faulty : goal.returns-then-not-branch-clause-faulty
 returns-then-not-branch-clause-faulty c = λ _.

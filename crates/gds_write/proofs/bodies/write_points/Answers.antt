@@ -1,5 +1,5 @@
 use Rattle.std.proofs.Common.{pos, refl, sym}
-use Rattle.std.proofs.lemmas.List.{append-nil}
+use Rattle.lists.proofs.Words.{append-nil}
 use Rattle.gds_write.proofs.WriteLaws.{point_written, points_written}
 use Rattle.gds_write.proofs.bodies.write_points.Goals as goal
 

@@ -1,5 +1,5 @@
 use Rattle.std.proofs.Common.{◌≡◌, ◌++◌, take}
-use Rattle.std.specs.List.{flat_map}
+use Rattle.lists.proofs.Words.{flat_map}
 use Rattle.gds_write.specs.Bodies.{point_bytes}
 use Rattle.gds_write.proofs.bodies.write_points.Given as goal
 

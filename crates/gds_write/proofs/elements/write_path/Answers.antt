@@ -1,6 +1,6 @@
 use Rattle.std.proofs.Common.{w16, w32, subst}
-use Rattle.std.proofs.lemmas.Int.{to_z-of_z}
-use Rattle.library_model.specs.Ranges.{IsKind}
+use Rattle.lists.proofs.Words.{to_z-of_z}
+use Rattle.library_grammar.specs.GrammarNames.{IsKind}
 use Rattle.gds_write.proofs.WriteLaws.{appended}
 use Rattle.gds_write.proofs.elements.write_path.Goals as goal
 

@@ -1,7 +1,7 @@
 use Rattle.std.proofs.Common.{◌≡◌, ◌++◌, ◌∷◌, [], List, ap, ◌∙◌}
-use Rattle.std.proofs.lemmas.Result.{IfOk-weaker}
+use Rattle.lists.proofs.Words.{IfOk-weaker}
 use Rattle.geo_core.specs.declared.plane.Point.{Point}
-use Rattle.gds_records.specs.Spelling.{spelling}
+use Rattle.library_grammar.specs.GrammarNames.{spelling}
 use Rattle.gds_write.specs.Bodies.{counts_entry, points_entry}
 use Rattle.gds_write.specs.Written.{array_points}
 use Rattle.gds_write.proofs.WriteLaws.{two_written}

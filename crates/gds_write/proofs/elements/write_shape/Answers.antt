@@ -1,4 +1,4 @@
-use Rattle.std.proofs.lemmas.Result.{IfOk-weaker}
+use Rattle.lists.proofs.Words.{IfOk-weaker}
 use Rattle.gds_write.specs.Bodies.{unsigned_entry, points_entry}
 use Rattle.gds_write.specs.Written.{path_records}
 use Rattle.gds_records.specs.declared.kinds.TheConstants as kind

@@ -1,6 +1,5 @@
 use Rattle.std.proofs.Common.{[], sym}
-use Rattle.std.specs.List.{flat_map}
-use Rattle.std.proofs.lemmas.List.{append-nil}
+use Rattle.lists.proofs.Words.{flat_map, append-nil}
 use Rattle.gds_records.specs.declared.kinds.TheConstants as kind
 use Rattle.gds_write.specs.Bodies.{bare}
 use Rattle.gds_write.specs.WellFormed.{IsWritableStructure}

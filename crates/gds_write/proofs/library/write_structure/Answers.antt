@@ -1,7 +1,5 @@
 use Rattle.std.proofs.Common.{sym}
-use Rattle.std.proofs.lemmas.List.{append-nil}
-use Rattle.std.proofs.lemmas.Result.{IfOk-weaker}
-use Rattle.std.specs.List.{flat_map}
+use Rattle.lists.proofs.Words.{append-nil, IfOk-weaker, flat_map}
 use Rattle.gds_records.specs.declared.kinds.TheConstants as kind
 use Rattle.gds_write.specs.Bodies.{bare, date_entry, text_entry}
 use Rattle.gds_write.specs.WellFormed.{IsWritableElement}

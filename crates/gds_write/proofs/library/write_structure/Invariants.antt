@@ -1,6 +1,6 @@
 use Rattle.std.proofs.Common.{◌≡◌, ◌++◌, take}
-use Rattle.std.specs.List.{flat_map}
-use Rattle.gds_records.specs.Spelling.{spellings}
+use Rattle.lists.proofs.Words.{flat_map}
+use Rattle.library_grammar.specs.GrammarNames.{spellings}
 use Rattle.gds_write.specs.Written.{written_element}
 use Rattle.gds_write.proofs.library.write_structure.Given as goal
 

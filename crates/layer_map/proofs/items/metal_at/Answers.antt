@@ -1,5 +1,5 @@
 use Rattle.std.proofs.Common.{◌∙◌, [], ◌∷◌, Some, ap}
-use Rattle.std.proofs.lemmas.List.Elements.{All-from_recursion}
+use Rattle.lists.proofs.Words.{All-from_recursion}
 use Rattle.toml.specs.Data.{get_member}
 use Rattle.toml.specs.View.{table_view}
 use Rattle.layer_map.specs.ItemChecks.{ReferenceHolds, is_metal, is_text, reference_checks, reference_fault}

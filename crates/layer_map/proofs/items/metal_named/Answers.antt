@@ -1,6 +1,5 @@
 use Rattle.std.proofs.Common.{◌∙◌, ap, sym}
-use Rattle.std.proofs.lemmas.Bool.Decides.{Decides-eqb}
-use Rattle.std.proofs.lemmas.Slice.Eq.{slice_eq-Decides}
+use Rattle.lists.proofs.Words.{Decides-eqb, slice_eq-Decides}
 use Rattle.layer_map.specs.inside.ReadValues.{finds, lacks}
 use Rattle.map_model.specs.declared.layers.Metal.{Metal}
 use Rattle.layer_map.proofs.SearchLaws.{none_before_more, none_there, there}

@@ -1,6 +1,5 @@
-use Rattle.std.proofs.Common.{List, ℕ, get_or, sym, subst}
-use Rattle.std.specs.Prelude.{Contains}
-use Rattle.std.proofs.lemmas.List.{append-nil}
+use Rattle.std.proofs.Common.{List, ℕ, get_or, sym, subst, Contains}
+use Rattle.lists.proofs.Words.{append-nil}
 use Rattle.layer_map.proofs.PairLaws.{adds_more, all_added, stands_earlier}
 use Rattle.layer_map.proofs.layer_items.add_different.Goals as goal
 

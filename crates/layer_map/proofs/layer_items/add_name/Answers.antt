@@ -1,5 +1,4 @@
-use Rattle.std.proofs.Common.{List, ℕ, sym, subst}
-use Rattle.std.specs.Prelude.{Contains}
+use Rattle.std.proofs.Common.{List, ℕ, sym, subst, Contains}
 use Rattle.toml.specs.Data.{table}
 use Rattle.toml.specs.View.{table_view}
 use Rattle.layer_map.proofs.FindLaws.{found, none_found}

@@ -1,8 +1,6 @@
-use Rattle.std.proofs.Common.{◌∙◌, List, ℕ, sym, subst}
-use Rattle.std.specs.Prelude.{Contains}
+use Rattle.std.proofs.Common.{◌∙◌, List, ℕ, sym, subst, Contains}
+use Rattle.lists.proofs.Words.{Decides-eqb, slice_eq-Decides}
 use Rattle.std.proofs.lemmas.List.{map-id}
-use Rattle.std.proofs.lemmas.Bool.Decides.{Decides-eqb}
-use Rattle.std.proofs.lemmas.Slice.Eq.{slice_eq-Decides}
 use Rattle.layer_map.proofs.SearchLaws.{none_before_more, not_contained}
 use Rattle.layer_map.proofs.layer_items.has_name.Goals as goal
 

@@ -1,5 +1,5 @@
-use Rattle.std.proofs.Common.{◌∙◌, ap, sym, Vec, Global, ℕ, Option, option_and_then, option_map, rules}
-use Rattle.std.proofs.lemmas.Result.{IfOk-weaker}
+use Rattle.std.proofs.Common.{Global, ◌∙◌, ap, sym, Vec, ℕ, Option, option_and_then, option_map, rules}
+use Rattle.lists.proofs.Words.{IfOk-weaker}
 use Rattle.toml.specs.Data.{as_array}
 use Rattle.layer_map.proofs.PairLaws.{no_array_there, pairs_there}
 use Rattle.layer_map.proofs.layer_items.pairs_at.Goals as goal

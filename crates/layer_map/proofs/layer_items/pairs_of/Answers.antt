@@ -1,5 +1,5 @@
 use Rattle.std.proofs.Common.{arith, take_all}
-use Rattle.std.proofs.lemmas.Bool.Decides.{nat_tests}
+use Rattle.lists.proofs.Words.{nat_tests}
 use Rattle.layer_map.proofs.FindLaws.{found, none_found}
 use Rattle.layer_map.proofs.PairLaws.{all_pairs, not_all_pairs, one_pair_more, wrong_count}
 use Rattle.layer_map.proofs.layer_items.pairs_of.Goals as goal

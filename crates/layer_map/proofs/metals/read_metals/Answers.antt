@@ -1,5 +1,5 @@
 use Rattle.std.proofs.Common.{length, take, refl, ap, arith}
-use Rattle.std.proofs.lemmas.Bool.Decides.{nat_tests}
+use Rattle.lists.proofs.Words.{nat_tests}
 use Rattle.toml.specs.View.{table_view, view}
 use Rattle.layer_map.specs.Values.{metals_in, metal_in}
 use Rattle.first_refusal.proofs.AnswerLaws.{handed_on}

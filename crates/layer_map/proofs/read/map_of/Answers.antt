@@ -4,7 +4,7 @@ use Rattle.layer_map.specs.MapChecks.{Holds, checks_of, checks_of_cuts, checks_o
 use Rattle.layer_map.specs.inside.ReadSizes.{AreWeightsThere}
 use Rattle.layer_map.specs.inside.ReadCuts.{TakesCuts}
 use Rattle.layer_map.specs.inside.ReadTerminals.{TakesTerminals}
-use Rattle.map_model.specs.Limits.{AreWeights}
+use Rattle.map_model.specs.MapNames.{AreWeights}
 use Rattle.layer_map.specs.Values.{weights_in}
 use Rattle.map_model.specs.declared.layers.Metal.{Metal}
 use Rattle.first_refusal.proofs.AnswerLaws.{handed_on}

@@ -1,5 +1,5 @@
 use Rattle.std.proofs.Common.{[], ◌∷◌}
-use Rattle.std.proofs.lemmas.List.Elements.{All-from_recursion}
+use Rattle.lists.proofs.Words.{All-from_recursion}
 use Rattle.toml.specs.View.{table_view}
 use Rattle.layer_map.specs.MapChecks.{Holds, fault_of, has_known_keys, has_version}
 use Rattle.first_refusal.proofs.JudgeLaws.{fails_first, goes_on, passes}

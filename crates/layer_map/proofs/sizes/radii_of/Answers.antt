@@ -1,6 +1,5 @@
 use Rattle.std.proofs.Common.{arith, sym, subst}
-use Rattle.std.specs.List.Sorted.{IsStrictlyIncreasing}
-use Rattle.std.proofs.lemmas.Bool.Decides.{nat_tests}
+use Rattle.lists.proofs.Words.{IsStrictlyIncreasing, nat_tests}
 use Rattle.layer_map.proofs.FindLaws.{found, none_found}
 use Rattle.layer_map.proofs.SizeLaws.{are_radii, no_radius, not_radii, not_rising}
 use Rattle.layer_map.proofs.sizes.radii_of.Goals as goal

@@ -1,5 +1,5 @@
 use Rattle.std.proofs.Common.{take_all}
-use Rattle.std.proofs.lemmas.List.{take_more}
+use Rattle.lists.proofs.Words.{take_more}
 use Rattle.layer_map.proofs.sizes.widened.Goals as goal
 
 pub loop-number-preserved : goal.loop-number-preserved

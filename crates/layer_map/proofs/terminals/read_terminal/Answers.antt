@@ -1,6 +1,6 @@
 use Rattle.toml.specs.View.{table_view, view}
 use Rattle.std.proofs.Common.{SFits, codes, rules, subst, sym, w32}
-use Rattle.std.proofs.lemmas.Int.{to_z-of_z}
+use Rattle.lists.proofs.Words.{to_z-of_z}
 use Rattle.layer_map.specs.inside.ReadTerminals.{IsCellNumberThere}
 use Rattle.toml.specs.Data.{get_member}
 use Rattle.first_refusal.proofs.AnswerLaws.{handed_on}

@@ -1,8 +1,5 @@
-use Rattle.std.proofs.Common.{List, ℕ, Bor, String, Global, string_bytes, refl, sym, subst, ◌∙◌}
-use Rattle.std.specs.BTreeMap.{keys}
-use Rattle.std.specs.Map.Iter.{deref}
-use Rattle.std.specs.Prelude.{Contains}
-use Rattle.std.proofs.lemmas.List.Elements.{All-push}
+use Rattle.std.proofs.Common.{Bor, Global, List, ℕ, String, string_bytes, refl, sym, subst, ◌∙◌, Contains}
+use Rattle.lists.proofs.Words.{keys, deref, All-push}
 use Rattle.std.proofs.lemmas.Map.Iter.{iter_end, iter_turn}
 use Rattle.layer_map.specs.inside.ReadValues.{texts_of}
 use Rattle.layer_map.proofs.KeyLaws.{all_keys, not_all_keys}

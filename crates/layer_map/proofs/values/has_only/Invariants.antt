@@ -1,5 +1,4 @@
-use Rattle.std.proofs.Common.{string_bytes}
-use Rattle.std.specs.Prelude.{All, Contains}
+use Rattle.std.proofs.Common.{string_bytes, All, Contains}
 use Rattle.layer_map.specs.inside.ReadValues.{texts_of}
 use Rattle.layer_map.proofs.values.has_only.Given as goal
 

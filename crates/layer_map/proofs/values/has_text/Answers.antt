@@ -1,6 +1,5 @@
 use Rattle.std.proofs.Common.{refl}
-use Rattle.std.proofs.lemmas.Slice.Eq.{slice_eq-Decides}
-use Rattle.std.proofs.lemmas.Bool.Decides.{Decides-eqb}
+use Rattle.lists.proofs.Words.{slice_eq-Decides, Decides-eqb}
 use Rattle.layer_map.proofs.SearchLaws.{contained, none_before_more, not_contained}
 use Rattle.layer_map.proofs.values.has_text.Goals as goal
 

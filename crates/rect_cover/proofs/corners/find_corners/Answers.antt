@@ -1,6 +1,5 @@
 use Rattle.std.proofs.Common.{◌+◌, ◌≡◌, ◌++◌, ◌∷◌, [], drop, get_or, None, pos, sym, ap, ◌∙◌, add-one}
-use Rattle.std.proofs.Math.Seq.{drop-cons}
-use Rattle.std.proofs.lemmas.List.{drop_all}
+use Rattle.lists.proofs.Words.{drop-cons, drop_all}
 use Rattle.geo_core.specs.declared.plane.Point.{Point}
 use Rattle.rect_cover.specs.inside.Corners.{corners_ahead}
 use Rattle.rect_cover.proofs.CornerLaws.{corners_begin}

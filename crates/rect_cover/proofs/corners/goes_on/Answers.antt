@@ -1,5 +1,5 @@
-use Rattle.std.proofs.Common.{ℕ, ◌+◌, ◌-◌, ◌≤◌, ◌≡◌, length, drop, pos, refl, sym, ap, subst, ◌∙◌, arith, rules, length-drop, true, false}
-use Rattle.std.specs.Prelude.{All}
+use Rattle.std.proofs.Common.{ℕ, ◌+◌, ◌-◌, ◌≤◌, ◌≡◌, length, drop, pos, refl, sym, ap, subst, ◌∙◌, arith, rules, true, false, All}
+use Rattle.lists.proofs.Words.{length-drop}
 use Rattle.geo_core.specs.declared.plane.Point.{Point}
 use Rattle.rect_cover.specs.ShapeChecks.{GoesOn}
 use Rattle.rect_cover.specs.PathPieces.{opposite}

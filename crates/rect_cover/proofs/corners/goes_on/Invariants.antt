@@ -1,5 +1,4 @@
-use Rattle.std.proofs.Common.{◌-◌, drop}
-use Rattle.std.specs.Prelude.{All}
+use Rattle.std.proofs.Common.{◌-◌, drop, All}
 use Rattle.rect_cover.specs.ShapeChecks.{GoesOn}
 use Rattle.outlines.specs.Outlines.{edges_of}
 use Rattle.rect_cover.specs.PathPieces.{neighbours}

@@ -1,7 +1,6 @@
-use Rattle.std.proofs.Common.{ap, subst, sym, ◌∙◌, map}
-use Rattle.std.specs.Prelude.{All}
+use Rattle.std.proofs.Common.{ap, subst, sym, ◌∙◌, map, All}
 use Rattle.first_refusal.proofs.AnswerLaws.{out_of_memory}
-use Rattle.geo_core.specs.Bounds.{IsInRange}
+use Rattle.geo_core.specs.Plane.{IsInRange}
 use Rattle.library_model.specs.Points.{HasItsPoints}
 use Rattle.rect_cover.specs.Coverings.{placed_at}
 use Rattle.rect_cover.specs.declared.fault.CoverFault.TheVariants.{Memory}

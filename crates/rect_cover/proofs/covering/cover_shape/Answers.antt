@@ -1,5 +1,4 @@
-use Rattle.std.proofs.Common.{subst, w16, w32, rules}
-use Rattle.std.specs.Prelude.{FitsSigned}
+use Rattle.std.proofs.Common.{subst, w16, w32, rules, FitsSigned}
 use Rattle.first_refusal.specs.Answers.{Answers}
 use Rattle.rect_cover.specs.declared.fault.CoverFault.TheVariants.{Memory}
 use Rattle.rect_cover.specs.Coverings.{CoverComesTo, with_items}

@@ -1,7 +1,6 @@
-use Rattle.std.proofs.Common.{◌≡◌, to_z, of_z, w32, w64, ◌∙◌, rules, arith, subst, sym}
-use Rattle.std.specs.Prelude.{FitsSigned, neg_ℤ, ◌≤ℤ◌}
+use Rattle.std.proofs.Common.{◌≡◌, to_z, of_z, w32, w64, ◌∙◌, rules, arith, subst, sym, FitsSigned, neg_ℤ, ◌≤ℤ◌}
+use Rattle.lists.proofs.Words.{ints, to_z-of_z}
 use Rattle.geo_core.specs.declared.bounds.TheConstants.{FARTHEST}
-use Rattle.std.proofs.lemmas.Int.{ints, to_z-of_z}
 use Rattle.rect_cover.proofs.PlacedLaws.{lies_across, lies_up, lies_there}
 use Rattle.rect_cover.proofs.covering.place_point.Goals as goal
 

@@ -1,5 +1,5 @@
 use Rattle.std.proofs.Common.{[], ◌∷◌, ◌++◌, map, take, arith, sym, ap, ◌∙◌}
-use Rattle.std.proofs.lemmas.List.{map_more}
+use Rattle.lists.proofs.Words.{map_more}
 use Rattle.rect_cover.specs.Coverings.{placed_at}
 use Rattle.rect_cover.proofs.covering.place_points.Goals as goal
 

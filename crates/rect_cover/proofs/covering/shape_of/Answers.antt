@@ -1,5 +1,5 @@
 use Rattle.std.proofs.Common.{ap, ◌∙◌, get_or}
-use Rattle.std.proofs.lemmas.Option.{slice_get_within}
+use Rattle.lists.proofs.Words.{slice_get_within}
 use Rattle.rect_cover.proofs.PlacedLaws.{element_read, element_within, shape_read}
 use Rattle.rect_cover.proofs.covering.shape_of.Goals as goal
 

@@ -1,6 +1,5 @@
 use Rattle.std.proofs.Common.{◌≡◌, ◌∙◌, ap, length, sym, subst, rules, arith}
-use Rattle.std.specs.List.{AllZip}
-use Rattle.std.specs.Vec.Iter.{into_iter_items}
+use Rattle.lists.proofs.Words.{AllZip, into_iter_items}
 use Rattle.rayon.proofs.ToStd.{slice-AllZip}
 use Rattle.first_refusal.specs.Answers.{gives}
 use Rattle.first_refusal.proofs.AnswerLaws.{handed_on, out_of_memory}

@@ -1,5 +1,6 @@
 use Rattle.std.proofs.Common.{◌≡◌, length}
-use Rattle.std.specs.Vec.Iter.{into_iter_items, into_iter_len}
+use Rattle.lists.proofs.Words.{into_iter_items}
+use Rattle.std.specs.Vec.Iter.{into_iter_len}
 use Rattle.rect_cover.proofs.ListedLaws.{AreListedBut}
 use Rattle.rect_cover.proofs.covering_all.cover_all.Given as goal
 

@@ -1,6 +1,5 @@
-use Rattle.std.proofs.Common.{[]}
-use Rattle.std.specs.Prelude.{All}
-use Rattle.std.proofs.lemmas.List.Elements.{All-cons, All-nil}
+use Rattle.std.proofs.Common.{[], All}
+use Rattle.lists.proofs.Words.{All-cons, All-nil}
 use Rattle.first_refusal.specs.Answers.{gives, refuses}
 use Rattle.first_refusal.specs.Checks.{all_hold, one_fails}
 use Rattle.first_refusal.proofs.AnswerLaws.{out_of_memory}

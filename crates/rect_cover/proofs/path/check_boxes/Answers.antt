@@ -1,6 +1,5 @@
-use Rattle.std.proofs.Common.{[], ◌∷◌, subst}
-use Rattle.std.specs.Prelude.{All}
-use Rattle.std.proofs.lemmas.List.Elements.{All-map}
+use Rattle.std.proofs.Common.{[], ◌∷◌, subst, All}
+use Rattle.lists.proofs.Words.{All-map}
 use Rattle.rect_cover.specs.ShapeChecks.{ShapeHolds, HasCells, IsBoxInLayout, boxes_of, shape_fault, has_long_pieces, is_within}
 use Rattle.rect_cover.specs.inside.PieceBoxes.{box_value}
 use Rattle.rect_cover.proofs.BoxLaws.{each_box}

@@ -1,5 +1,4 @@
-use Rattle.std.proofs.Common.{[], ◌∷◌}
-use Rattle.std.specs.Prelude.{All}
+use Rattle.std.proofs.Common.{[], ◌∷◌, All}
 use Rattle.rect_cover.specs.ShapeChecks.{ShapeHolds, shape_fault, has_different_points, is_rectilinear, HasDifferentPoints}
 use Rattle.outlines.specs.Outlines.{IsAlongAxis, edges_of}
 use Rattle.rect_cover.proofs.PathLaws.{first_fails, later_fails}

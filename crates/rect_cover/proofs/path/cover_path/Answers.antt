@@ -1,6 +1,5 @@
-use Rattle.std.proofs.Common.{◌≡◌, ◌≢◌, [], ◌∷◌, ◌++◌, map, pos, refl, sym, ap, subst, ◌∙◌, rules}
-use Rattle.std.specs.Prelude.{All}
-use Rattle.std.proofs.lemmas.List.Elements.{All-nil, All-append, All-map}
+use Rattle.std.proofs.Common.{◌≡◌, ◌≢◌, [], ◌∷◌, ◌++◌, map, pos, refl, sym, ap, subst, ◌∙◌, rules, All}
+use Rattle.lists.proofs.Words.{All-nil, All-append, All-map}
 use Rattle.first_refusal.specs.Answers.{gives, refuses}
 use Rattle.first_refusal.proofs.AnswerLaws.{handed_on, out_of_memory}
 use Rattle.outlines.specs.Outlines.{edges_of}

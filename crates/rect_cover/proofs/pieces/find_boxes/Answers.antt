@@ -1,6 +1,5 @@
 use Rattle.std.proofs.Common.{ℕ, w32, to_z, of_z, suc, ◌+◌, ◌<◌, ◌≡◌, ◌==◌, ◌++◌, ◌∷◌, length, drop, map, pos, sym, ap, ◌∙◌, arith, rules, add-one, subst}
-use Rattle.std.proofs.lemmas.Bool.Decides.{nat_tests}
-use Rattle.std.proofs.lemmas.Int.{to_z-of_z}
+use Rattle.lists.proofs.Words.{nat_tests, to_z-of_z}
 use Rattle.geo_core.specs.declared.plane.Point.{Point}
 use Rattle.rect_cover.specs.PathPieces.{Knot, box_of, half_width_of, reach_behind, pieces_between}
 use Rattle.rect_cover.specs.inside.PieceBoxes.{box_value, knot_of}

@@ -1,5 +1,5 @@
 use Rattle.std.proofs.Common.{◌∙◌, sym, arith}
-use Rattle.std.proofs.lemmas.List.{length-map}
+use Rattle.lists.proofs.Words.{length-map}
 use Rattle.command_line.proofs.CheckLaws.{options_single}
 use Rattle.command_line.proofs.arguments.Arguments.are_single.Goals as goal
 

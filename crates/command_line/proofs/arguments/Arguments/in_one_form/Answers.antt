@@ -1,5 +1,5 @@
-use Rattle.std.proofs.Common.{◌≡◌, ℕ, ◌+◌, ◌<◌, List, [], ◌∷◌, ◌++◌, Bor, length, map, take, get_or, refl, ap, ◌∙◌, append_assoc}
-use Rattle.std.proofs.lemmas.List.{map-append, take_more}
+use Rattle.std.proofs.Common.{Bor, ◌≡◌, ℕ, ◌+◌, ◌<◌, List, [], ◌∷◌, ◌++◌, length, map, take, get_or, refl, ap, ◌∙◌, append_assoc}
+use Rattle.lists.proofs.Words.{map-append, take_more}
 use Rattle.command_line.specs.OptionNames.{Text}
 use Rattle.command_line.proofs.arguments.Arguments.in_one_form.Goals as goal
 

@@ -1,5 +1,5 @@
-use Rattle.std.proofs.Common.{◌≡◌, ℕ, ◌+◌, ◌<◌, List, [], ◌∷◌, ◌++◌, Bor, String, Global, string_bytes, length, map, take, get_or, ap, sym, ◌∙◌}
-use Rattle.std.proofs.lemmas.List.{map-append, take_more}
+use Rattle.std.proofs.Common.{Bor, Global, ◌≡◌, ℕ, ◌+◌, ◌<◌, List, [], ◌∷◌, ◌++◌, String, string_bytes, length, map, take, get_or, ap, sym, ◌∙◌}
+use Rattle.lists.proofs.Words.{map-append, take_more}
 use Rattle.command_line.specs.inside.Arguments.{words_of_options}
 use Rattle.command_line.specs.OptionNames.{Text}
 use Rattle.command_line.specs.Spelling.{whole_word}

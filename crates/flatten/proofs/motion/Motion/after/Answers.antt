@@ -1,6 +1,6 @@
 use Rattle.std.proofs.Common.{suc, ◌≤◌, ◌^◌, ◌*◌, ◌≡◌, nat_abs, ◌+ℤ◌, to_z, of_z, w64, arith}
-use Rattle.std.proofs.lemmas.Int.{ints}
-use Rattle.geo_core.specs.Turns.{image_under}
+use Rattle.lists.proofs.Words.{ints}
+use Rattle.geo_core.specs.Plane.{image_under}
 use Rattle.flatten.proofs.MotionLaws.{at, moves_behind, turned_across, turned_up}
 use Rattle.flatten.proofs.motion.Motion.after.Goals as goal
 

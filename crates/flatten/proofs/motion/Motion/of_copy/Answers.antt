@@ -1,6 +1,6 @@
 use Rattle.std.proofs.Common.{◌≡◌, ◌+ℤ◌, to_z, of_z, w64, arith}
-use Rattle.std.proofs.lemmas.Int.{ints}
-use Rattle.geo_core.specs.Turns.{image_under}
+use Rattle.lists.proofs.Words.{ints}
+use Rattle.geo_core.specs.Plane.{image_under}
 use Rattle.flatten.specs.Steps.{Step, lattice_shift, shift_of}
 use Rattle.flatten.proofs.MotionLaws.{shifted_alike}
 use Rattle.flatten.proofs.motion.Motion.of_copy.Goals as goal

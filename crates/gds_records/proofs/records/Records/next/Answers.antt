@@ -1,6 +1,5 @@
-use Rattle.std.proofs.Common.{◌+◌, length, eqb, refl, ap, arith}
-use Rattle.std.specs.Prelude.{Err}
-use Rattle.std.proofs.lemmas.List.{take_rest}
+use Rattle.std.proofs.Common.{◌+◌, length, eqb, refl, ap, arith, Err}
+use Rattle.lists.proofs.Words.{take_rest}
 use Rattle.gds_records.specs.Reading.{Reading, entry_of}
 use Rattle.gds_records.proofs.ReadingLaws.{left_at_fault, only_fault, left_at_record}
 use Rattle.gds_records.proofs.records.Records.next.Goals as goal

@@ -1,6 +1,5 @@
-use Rattle.std.proofs.Common.{◌≡◌, drop}
-use Rattle.std.specs.Prelude.{find, map, ◌==◌}
-use Rattle.gds_records.specs.Reading.{entry_of}
+use Rattle.std.proofs.Common.{◌≡◌, drop, find, map, ◌==◌}
+use Rattle.library_grammar.specs.GrammarNames.{entry_of}
 use Rattle.gds_syntax.proofs.own_records.OwnRecords.find.Given as goal
 
 abbrev pub invariant-loop-record : goal.invariant-loop-record

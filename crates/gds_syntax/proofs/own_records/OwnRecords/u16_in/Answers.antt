@@ -1,5 +1,5 @@
 use Rattle.std.proofs.Common.{arith}
-use Rattle.gds_records.specs.Reading.{entry_of}
+use Rattle.library_grammar.specs.GrammarNames.{entry_of}
 use Rattle.gds_syntax.proofs.own_records.OwnRecords.u16_in.Goals as goal
 
 pub u16_at-requires : goal.u16_at-requires

@@ -1,5 +1,5 @@
 use Rattle.std.proofs.Common.{w64, rules}
-use Rattle.std.proofs.lemmas.Int.{to_z-of_z}
+use Rattle.lists.proofs.Words.{to_z-of_z}
 use mir.Val.{SFits}
 use Rattle.rect_cover.proofs.piece.PieceBox.is_in_layout.Goals as goal
 

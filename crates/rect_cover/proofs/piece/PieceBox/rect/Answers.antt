@@ -1,5 +1,5 @@
 use Rattle.std.proofs.Common.{arith}
-use Rattle.std.proofs.lemmas.Int.{ints}
+use Rattle.lists.proofs.Words.{ints}
 use Rattle.rect_cover.specs.inside.PieceBoxes.{box_value, rect_value}
 use Rattle.rect_cover.proofs.BoxLaws.{same_box, narrowed}
 use Rattle.rect_cover.proofs.piece.PieceBox.rect.Goals as goal

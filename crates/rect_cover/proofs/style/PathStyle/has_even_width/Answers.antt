@@ -1,5 +1,5 @@
 use Rattle.std.proofs.Common.{◌%◌, ap, sym, ◌∙◌, w32, rules}
-use Rattle.std.proofs.lemmas.Int.{to_z-of_z}
+use Rattle.lists.proofs.Words.{to_z-of_z}
 use mir.Val.{SFits}
 use Rattle.rect_cover.proofs.StyleLaws.{even_by_amount, amount_of_even}
 use Rattle.rect_cover.proofs.style.PathStyle.has_even_width.Goals as goal
