@@ -33,43 +33,65 @@ def region_of(layout, pairs):
     return region
 
 
-def pieces_of(region):
-    """The connected pieces of a metal, each as a region."""
-    return [db.Region(polygon) for polygon in region.each()]
+class Pieces:
+    """The connected pieces of a metal, to be found by their place."""
+
+    def __init__(self, region):
+        self.polygons = list(region.each())
+        self.boxes = db.Shapes()
+        self.numbers = {}
+        for number, polygon in enumerate(self.polygons):
+            for part in polygon.decompose_trapezoids():
+                box = part.bbox()
+                self.boxes.insert(box)
+                self.numbers[box.left, box.bottom, box.right, box.top] = number
+
+    def number_at(self, area):
+        """The number of the piece that has this box."""
+        box = next(self.boxes.each_overlapping(area)).box
+        return self.numbers[box.left, box.bottom, box.right, box.top]
 
 
 class Design:
     """Pieces of each metal with the numbers of their nets, and the clusters of each cut as boxes."""
 
     def __init__(self, layout, layer_map):
-        self.metals = {m["name"]: pieces_of(region_of(layout, m["pairs"])) for m in layer_map["metal"]}
-        self.net = {(name, k): (name, k) for name, pieces in self.metals.items() for k in range(len(pieces))}
+        regions = {m["name"]: region_of(layout, m["pairs"]) for m in layer_map["metal"]}
+        self.metals = {name: Pieces(region) for name, region in regions.items()}
+        self.joined = {}
         self.boxes = {}
         for cut in layer_map.get("cut", []):
-            self.boxes[cut["name"]] = list(self.clusters(region_of(layout, cut["pairs"]), cut["lower"], cut["upper"]))
+            lower, upper = cut["lower"], cut["upper"]
+            contacts = region_of(layout, cut["pairs"]) & regions[lower] & regions[upper]
+            self.boxes[cut["name"]] = self.clusters(contacts, lower, upper)
 
-    def clusters(self, shapes, lower, upper):
+    def clusters(self, contacts, lower, upper):
         """The bounds of each cluster. What it joins becomes one net."""
-        for i, below in enumerate(self.metals[lower]):
-            under = shapes & below
-            if under.is_empty():
-                continue
-            for k, above in enumerate(self.metals[upper]):
-                contacts = under & above
-                if not contacts.is_empty():
-                    self.join(self.net[lower, i], self.net[upper, k])
-                    yield contacts.bbox()
+        bounds = {}
+        contacts.min_coherence = True
+        for contact in contacts.merged(True, 1).each():
+            inside = next(iter(contact.decompose_trapezoids())).bbox()
+            ends = self.metals[lower].number_at(inside), self.metals[upper].number_at(inside)
+            bounds[ends] = bounds.get(ends, db.Box()) + contact.bbox()
+        for below, above in bounds:
+            self.joined[self.net(lower, below)] = self.net(upper, above)
+        return bounds.values()
 
-    def join(self, one, other):
-        for piece, net in self.net.items():
-            if net == other:
-                self.net[piece] = one
+    def net(self, metal, number):
+        """The piece that stands for all pieces which are joined with this one."""
+        piece, way = (metal, number), []
+        while self.joined.get(piece, piece) != piece:
+            way.append(piece)
+            piece = self.joined[piece]
+        for passed in way:
+            self.joined[passed] = piece
+        return piece
 
     def shorts(self, metal, radius):
         """The number of cells near two nets of the metal."""
         nets = {}
-        for k, piece in enumerate(self.metals[metal]):
-            nets.setdefault(self.net[metal, k], db.Region()).insert(piece)
+        for number, polygon in enumerate(self.metals[metal].polygons):
+            nets.setdefault(self.net(metal, number), db.Region()).insert(polygon)
         near = db.Region()
         for net in nets.values():
             near += net.sized(radius).merged()
