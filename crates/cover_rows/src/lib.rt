@@ -15,6 +15,8 @@ mod rows;
 #[cfg(test)]
 mod stream;
 #[cfg(test)]
+mod texts;
+#[cfg(test)]
 mod wanted;
 #[cfg(test)]
 mod wholes;

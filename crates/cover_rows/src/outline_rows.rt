@@ -143,6 +143,26 @@ fn is_filled(alloc: Global, kind: ShapeKind, corners: &[Corner]) -> bool {
     }
 }
 
+/// Outlines, and how many rectangles each has: a tooth of the comb is one, however many bands it reaches through.
+const COUNTS: &[(&[Corner], usize)] = &[(SQUARE, 1), (COMB, 4), (LINE, 0)];
+
+/// Whether the cover of the outline has so many rectangles.
+fn has_as_many(alloc: Global, corners: &[Corner], count: usize) -> bool {
+    let kind = ShapeKind::Boundary;
+    match cover_of(alloc, Form { kind, corners }) {
+        Some(Ok(rects)) => rects.len() == count,
+        _ => false,
+    }
+}
+
+#[test]
+fn rectangles_grow_through_bands(rt: HostRuntime) {
+    for (corners, count) in COUNTS {
+        let as_many = has_as_many(rt.alloc(), corners, *count);
+        assert!(rt; as_many);
+    }
+}
+
 #[test]
 fn outlines_cover_what_they_wind_round(rt: HostRuntime) {
     for corners in OUTLINES {

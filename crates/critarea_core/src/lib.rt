@@ -8,7 +8,9 @@ mod layout;
 mod maps;
 mod printing;
 mod refusal;
+mod told;
 mod unreported;
 
 pub use command::run;
 pub use command_line::{Request, Task, Word, WordsFault, read_words};
+pub use told::system_words;

@@ -1,7 +1,6 @@
 -- the cells of a rectangle
-use Rattle.std.specs.Prelude.{ℤ, ◌≡◌, ◌⊎◌}
+use Rattle.std.specs.Prelude.{ℤ, pos, ◌≡◌, ◌⊎◌}
 use Rattle.geo_core.specs.Intervals.{IsIn, IsInterval, IsWithin, Adjoins}
-use Rattle.geo_core.specs.declared.bounds.TheConstants.{FARTHEST}
 use Rattle.geo_core.specs.declared.plane.Cell.{Cell}
 use Rattle.geo_core.specs.declared.plane.Rect.{Rect}
 
@@ -10,10 +9,10 @@ pub record Has (rect : Rect) (c : Cell) : Type 0 where
   pub across : IsIn rect.x0 rect.x1 c.i
   pub up : IsIn rect.y0 rect.y1 c.j
 
--- each edge of the rectangle lies at a coordinate that a layout may have
+-- each edge of the rectangle lies at a coordinate that a layout may have: at most 1,000,000,000 from 0
 pub record IsInLayout (rect : Rect) : Type 0 where
-  pub across : IsInterval FARTHEST rect.x0 rect.x1
-  pub up : IsInterval FARTHEST rect.y0 rect.y1
+  pub across : IsInterval (pos 1000000000) rect.x0 rect.x1
+  pub up : IsInterval (pos 1000000000) rect.y0 rect.y1
 
 -- the cells are at most `by` apart in both directions
 abbrev pub IsNear : Cell → Cell → ℤ → Type 0

@@ -95,6 +95,18 @@ const BESIDE: &[Sides] = &[(3, 0, 8, 4)];
 
 const OVER_THE_SEAM: &[Sides] = &[(2, 1, 5, 2)];
 
+/// A plate, four bars of which each crosses two, and a cut on one of the crossings.
+const PLATE: &[Sides] = &[(0, 0, 20, 20)];
+
+const CROSSING: &[Sides] = &[
+    (0, 4, 20, 6),
+    (0, 14, 20, 16),
+    (4, 0, 6, 20),
+    (14, 0, 16, 20),
+];
+
+const ON_A_CROSSING: &[Sides] = &[(4, 4, 6, 6)];
+
 const NETS: &[Row] = &[
     (
         [STRIPES, BAR, CUTS],
@@ -125,6 +137,23 @@ const NETS: &[Row] = &[
         &[(0, 0)],
         &[(1, 0)],
         &[((3, 1, 4, 2), 0, 1)],
+    ),
+    // a contact where two bars of the upper metal cross is one piece, and so is one of two equal rectangles each
+    (
+        [PLATE, CROSSING, ON_A_CROSSING],
+        &[(0, 0)],
+        &[(1, 0), (1, 0), (1, 0), (1, 0)],
+        &[((4, 4, 6, 6), 0, 1)],
+    ),
+    (
+        [
+            &[(0, 0, 4, 4), (0, 0, 4, 4)],
+            &[(0, 0, 4, 4), (0, 0, 4, 4)],
+            &[(0, 0, 4, 4), (0, 0, 4, 4)],
+        ],
+        &[(0, 0)],
+        &[(2, 0)],
+        &[((0, 0, 4, 4), 0, 2)],
     ),
     // a corner does not join, and an edge does
     (
@@ -273,6 +302,21 @@ fn outcome(alloc: Global, terminals: &str, shapes: Shapes) -> (u8, u64) {
         Ok(_) => (0, 0),
         Err(fault) => (fault.number(), fault.place()),
     }
+}
+
+/// What the fault says.
+fn says(alloc: Global, fault: NetFault, text: &str) -> bool {
+    match format!(in alloc; "{fault}") {
+        Ok(said) => said.as_str() == text,
+        Err(_) => false,
+    }
+}
+
+#[test]
+fn faults_say_what_is_wrong(rt: HostRuntime) {
+    let off = NetFault::TerminalOffMetal { index: 7 };
+    assert!(rt; says(rt.alloc(), off, "terminal 7 is not on its metal"));
+    assert!(rt; says(rt.alloc(), NetFault::Memory, "no memory is left"));
 }
 
 /// A square that no terminal stands on, and one round the cell of a terminal.

@@ -8,7 +8,6 @@ use Rattle.layer_map.specs.DocumentPaths.{document_path, version_path, radii_pat
 use Rattle.layer_map.specs.LayerChecks.{LayerCheck, layer_checks, LayerHolds, layer_fault, metal_keys}
 use Rattle.layer_map.specs.CutChecks.{CutCheck, cut_checks, CutHolds, cut_fault}
 use Rattle.layer_map.specs.TerminalChecks.{TerminalCheck, terminal_checks, TerminalHolds, terminal_fault}
-use Rattle.map_model.specs.declared.limits.TheConstants.{MOST_METALS, MOST_CUTS, MOST_SIZES, MOST_TERMINALS}
 use Rattle.layer_map.specs.declared.fault.MapFault.{MapFault}
 use Rattle.layer_map.specs.declared.fault.MapFault.TheVariants.{BadKey, BadValue, LimitPassed}
 
@@ -47,20 +46,20 @@ abbrev pub Holds : Members → MapCheck → Type 0
 Holds document has_known_keys = All (Contains map_keys) (keys_in document)
 Holds document has_version = version_in document ≡ Some (whole_number 1)
 Holds document radii_are_array = IsArray (radii_in document)
-Holds document radii_are_few = length (values_in (radii_in document)) ≤ MOST_SIZES
+Holds document radii_are_few = length (values_in (radii_in document)) ≤ 32
 Holds document has_radii = StandsAs whole_numbers AreRadii (radii_in document)
 Holds document has_weights = StandsAs whole_numbers (AreWeights (length (values_in (radii_in document)))) (weights_in document)
 Holds document has_metals = 1 ≤ length (metals_in document)
-Holds document metals_are_few = length (metals_in document) ≤ MOST_METALS
+Holds document metals_are_few = length (metals_in document) ≤ 16
 Holds document (of_metal number check) =
     IsSomeAnd (slice_get (metals_in document) number) (λ item. LayerHolds metal_keys (take number (metals_in document)) item check)
 Holds document cuts_are_array = IsArrayOrNone (cut_in document)
-Holds document cuts_are_few = length (cuts_in document) ≤ MOST_CUTS
+Holds document cuts_are_few = length (cuts_in document) ≤ 16
 Holds document (of_cut number check) =
     IsSomeAnd (slice_get (cuts_in document) number) (λ item. CutHolds (metals_in document)
     (metals_in document ++ take number (cuts_in document)) item check)
 Holds document terminals_are_array = IsArrayOrNone (terminal_in document)
-Holds document terminals_are_few = length (terminals_in document) ≤ MOST_TERMINALS
+Holds document terminals_are_few = length (terminals_in document) ≤ 10000
 Holds document (of_terminal number check) =
     IsSomeAnd (slice_get (terminals_in document) number) (λ item. TerminalHolds (metals_in document) (take number (terminals_in document))
     item check)

@@ -1,6 +1,5 @@
 -- What is checked of one item of a document's terminals, one check after the other, and the fault of each.
-use Rattle.std.specs.Prelude.{ℕ, ℤ, neg_ℤ, ◌≤ℤ◌, ◌<ℤ◌, List, [], ◌∷◌, ◌++◌, codes, map, Option, Contains}
-use Rattle.geo_core.specs.declared.bounds.TheConstants.{FARTHEST}
+use Rattle.std.specs.Prelude.{ℕ, ℤ, pos, neg_ℤ, ◌≤ℤ◌, ◌<ℤ◌, List, [], ◌∷◌, ◌++◌, codes, map, Option, Contains}
 use Rattle.toml.specs.Data.{Data, integer}
 use Rattle.layer_map.specs.Values.{StandsAs, metal_of_item, x_of_item, y_of_item}
 use Rattle.layer_map.specs.DocumentPaths.{metal_of_terminal_at, x_at, y_at}
@@ -30,8 +29,8 @@ terminal_keys = codes "metal" ∷ codes "x" ∷ codes "y" ∷ []
 
 -- the number is a column or a row of a cell that a layout can cover: from -1,000,000,000 to 999,999,999
 pub record IsCellNumber (number : ℤ) : Type 0 where
-  pub least : neg_ℤ FARTHEST ≤ℤ number
-  pub most : number <ℤ FARTHEST
+  pub least : neg_ℤ (pos 1000000000) ≤ℤ number
+  pub most : number <ℤ pos 1000000000
 
 -- what an item says of a terminal: its metal, and the column and the row of its cell
 abbrev pub place_in : Data → Option Data × Option Data × Option Data

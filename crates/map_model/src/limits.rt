@@ -23,3 +23,20 @@ pub const GREATEST_WEIGHT: u64 = 1_000_000_000;
 
 /// The most terminals.
 pub const MOST_TERMINALS: usize = 10_000;
+
+// Definitions have the numbers themselves, so that a changed limit is refused here and where it is tested.
+const _: () = prove!(LONGEST_NAME == 32);
+
+const _: () = prove!(GREATEST_PAIR_NUMBER == 65_535);
+
+const _: () = prove!(MOST_PAIRS == 16);
+
+const _: () = prove!(MOST_METALS == 16);
+
+const _: () = prove!(MOST_CUTS == 16);
+
+const _: () = prove!(MOST_SIZES == 32);
+
+const _: () = prove!(GREATEST_WEIGHT == 1_000_000_000);
+
+const _: () = prove!(MOST_TERMINALS == 10_000);

@@ -1,9 +1,7 @@
 -- the questions that a layer map asks, and the rows that answer them
 use Rattle.std.specs.Prelude.{ℕ, pos, ◌≡◌, ◌≢◌, ◌+◌, ◌<◌, ◌≤◌, ◌≤ℤ◌, ◌/◌, List, ◌++◌, length, map, flat_map}
 use Rattle.lists.specs.Words.{enumerate_from}
-use Rattle.geo_core.specs.declared.bounds.TheConstants.{GREATEST_REACH}
 use Rattle.map_model.specs.MapNames.{DefectSize, MappedLayer, LayerMap, side_of}
-use Rattle.map_model.specs.declared.limits.TheConstants.{GREATEST_WEIGHT}
 use Rattle.questions.specs.declared.kind.Kind.{Kind}
 use Rattle.questions.specs.declared.kind.Kind.TheVariants.{Short, Open, Via}
 use Rattle.questions.specs.declared.question.Question.{Question}
@@ -37,14 +35,14 @@ questions layer_map =
     ++ of_kind Via (cut_layers layer_map) layer_map.sizes
 
 -- what holds of each question of a map of so many metals and cuts: it is of one of the metals, or of one of the cuts where
--- it asks for via blocks, and for defects of a side of at least 1 that reach no further than a defect may
+-- it asks for via blocks, and for defects of a side of at least 1 that reach at most 1,000,000, with a weight of at most 1,000,000,000
 pub record IsAskable (metals cuts : ℕ) (question : Question) : Type 0 where
   pub of_metal : question.kind ≢ Via → question.number < metals
   pub behind_metals : question.kind ≡ Via → metals ≤ question.number
   pub of_cut : question.kind ≡ Via → question.number < metals + cuts
   pub some : 1 ≤ side_of question.measure
-  pub within : pos (side_of question.measure / 2) ≤ℤ GREATEST_REACH
-  pub light : question.weight ≤ GREATEST_WEIGHT
+  pub within : pos (side_of question.measure / 2) ≤ℤ pos 1000000
+  pub light : question.weight ≤ 1000000000
 
 -- the row is of the fault, the layer, the size and the weight that the question names
 pub record IsRowFor (question : Question) (row : Row) : Type 0 where

@@ -74,6 +74,28 @@ fn files_are_read_whole_up_to_the_limit(rt: HostRuntime) {
     }
 }
 
+/// The errors, and what they say.
+const TEXTS: &[(ReadError, &str)] = &[
+    (ReadError::Fault, "the file could not be read"),
+    (ReadError::TooLong, "the file is too long"),
+    (ReadError::Memory, "no memory is left"),
+];
+
+/// Whether the error says this.
+fn says(alloc: Global, error: ReadError, text: &str) -> bool {
+    match format!(in alloc; "{error}") {
+        Ok(said) => said.as_str() == text,
+        Err(_) => false,
+    }
+}
+
+#[test]
+fn errors_say_what_is_wrong(rt: HostRuntime) {
+    for (error, text) in TEXTS {
+        assert!(rt; says(rt.alloc(), *error, text), "{text}");
+    }
+}
+
 /// Names of files, and the answer where each is read up to 5,000 bytes.
 const SYSTEM_FILES: &[(&[u8], Result<&[u8], ReadError>)] = &[
     (b"/dev/null", Ok(b"")),
@@ -83,6 +105,8 @@ const SYSTEM_FILES: &[(&[u8], Result<&[u8], ReadError>)] = &[
     (b"/dev/no such file", Err(ReadError::Fault)),
     (b"", Err(ReadError::Fault)),
     (b"/", Err(ReadError::Fault)),
+    // no file of this name is in the folder of the tests, and the standard input is none
+    (b"-", Err(ReadError::Fault)),
     (b"\xff", Err(ReadError::Fault)),
 ];
 

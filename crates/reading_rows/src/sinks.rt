@@ -155,16 +155,16 @@ fn a_sink_takes_what_its_room_holds(rt: HostRuntime) {
     }
 }
 
-/// Whether three bytes are written to the file.
-fn is_written(rt: &HostRuntime, path: &str) -> Result<bool, Fail> {
+/// Whether these bytes are written to the file.
+fn is_written(rt: &HostRuntime, path: &str, bytes: &[u8]) -> Result<bool, Fail> {
     let mut sink = OsSink::new(fs::create(rt, path)?);
-    Ok(write_all(&mut sink, b"abc").is_ok())
+    Ok(write_all(&mut sink, bytes).is_ok())
 }
 
-/// Whether the same three bytes are read from it.
-fn is_read(rt: &HostRuntime, path: &str) -> bool {
-    match read_whole(rt.alloc(), &mut OsFiles::new(rt), path.as_bytes(), 3) {
-        Ok(bytes) => bytes.as_slice() == b"abc".as_slice(),
+/// Whether the same bytes are read from it, 10,000 at most.
+fn is_read(rt: &HostRuntime, path: &str, wanted: &[u8]) -> bool {
+    match read_whole(rt.alloc(), &mut OsFiles::new(rt), path.as_bytes(), 10_000) {
+        Ok(bytes) => bytes.as_slice() == wanted,
         Err(_) => false,
     }
 }
@@ -176,16 +176,30 @@ fn path_of_a_file(rt: &HostRuntime) -> Result<PathBuf, Fail> {
 }
 
 /// Whether what is written to this file is read from it again. Then the file is removed.
-fn is_read_again(rt: &HostRuntime, path: &str) -> Result<bool, Fail> {
-    let same = is_written(rt, path)? && is_read(rt, path);
+fn is_read_again(rt: &HostRuntime, path: &str, bytes: &[u8]) -> Result<bool, Fail> {
+    let same = is_written(rt, path, bytes)? && is_read(rt, path, bytes);
     fs::remove_file(rt, path)?;
     Ok(same)
 }
 
+/// Contents of files: none, a few bytes, a newline at the end of a read of 4,096 bytes and of the file, and 10,000 bytes.
+const CONTENTS: &[&[u8]] = &[
+    b"",
+    b"abc",
+    b"abc\n",
+    b"\n\n",
+    &[b'\n'; 4096],
+    &[b'\n'; 10_000],
+    &[7; 8192],
+    &[7; 10_000],
+];
+
 #[test]
 fn written_files_are_read_again(rt: HostRuntime) -> Result<(), Fail> {
     let path = path_of_a_file(&rt)?;
-    let same = is_read_again(&rt, path.as_str())?;
-    assert!(rt; same);
+    for bytes in CONTENTS {
+        let same = is_read_again(&rt, path.as_str(), bytes)?;
+        assert!(rt; same, "{} bytes", bytes.len());
+    }
     Ok(())
 }

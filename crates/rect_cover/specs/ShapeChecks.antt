@@ -1,6 +1,5 @@
 -- what is checked of a shape, and the fault where a check fails
 use Rattle.std.specs.Prelude.{ℕ, ℤ, pos, neg_ℤ, ◌*ℤ◌, ◌≡◌, ◌≢◌, ◌≤ℤ◌, ◌<ℤ◌, ◌==◌, nat_abs, if◌then◌else◌, List, [], ◌∷◌, ◌++◌, map, All, Contains}
-use Rattle.geo_core.specs.declared.bounds.TheConstants.{FARTHEST}
 use Rattle.geo_core.specs.declared.plane.Point.{Point}
 use Rattle.library_model.specs.declared.element.ShapeKind.{ShapeKind}
 use Rattle.library_model.specs.declared.element.ShapeKind.TheVariants.{Boundary, BoxElement, Path}
@@ -62,12 +61,12 @@ pub record HasCells (box : Box) : Type 0 where
   pub across : box.x0 <ℤ box.x1
   pub up : box.y0 <ℤ box.y1
 
--- no side of the rectangle lies too far from 0
+-- no side of the rectangle lies more than 1,000,000,000 from 0
 pub record IsBoxInLayout (box : Box) : Type 0 where
-  pub left : neg_ℤ FARTHEST ≤ℤ box.x0
-  pub right : box.x1 ≤ℤ FARTHEST
-  pub bottom : neg_ℤ FARTHEST ≤ℤ box.y0
-  pub top : box.y1 ≤ℤ FARTHEST
+  pub left : neg_ℤ (pos 1000000000) ≤ℤ box.x0
+  pub right : box.x1 ≤ℤ pos 1000000000
+  pub bottom : neg_ℤ (pos 1000000000) ≤ℤ box.y0
+  pub top : box.y1 ≤ℤ pos 1000000000
 
 -- the rectangles of a path's pieces
 abbrev pub boxes_of : PathStyle → List Point → List Box

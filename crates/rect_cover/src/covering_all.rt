@@ -12,8 +12,10 @@ use rayon::prelude::*;
 use std::alloc::Global;
 use std::thread::Threads;
 
-/// What `cover` gives for each of the placed shapes, in their order, from as many threads as there are processors. The
-/// fault is that of the first shape that has one.
+/// What `cover` gives for each of the placed shapes, in their order. The fault is that of the first shape that has one.
+///
+/// The shapes go into pieces of one shape or more, about two for each processor, and each piece has a thread of its own.
+/// So a few shapes of many points are covered side by side, too. No clause says so.
 pub fn cover_all(
     rt: &(impl Threads + Sync),
     alloc: Global,
@@ -25,6 +27,7 @@ pub fn cover_all(
 {
     let answers: Vec<Result<Vec<Rect>, CoverFault>> = placed
         .par_iter()
+        .with_min_len(1)
         .map(
             |one: &Placed| -> Result<Vec<Rect>, CoverFault>
                 requires { IsWellPlaced library.now.structures one.now }

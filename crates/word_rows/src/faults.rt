@@ -1,16 +1,25 @@
 use command_line::WordsFault;
+use std::alloc::Global;
 
-/// Whether the fault has this number, and no place.
-fn has_number(fault: WordsFault, number: u8) -> bool {
-    fault.number() == number && fault.place() == 0
+/// Whether the fault has this number and no place, and says this.
+fn says(alloc: Global, fault: WordsFault, number: u8, text: &str) -> bool {
+    match format!(in alloc; "{fault}") {
+        Ok(said) => { (fault.number(), fault.place()) == (number, 0) && said.as_str() == text }
+        Err(_) => false,
+    }
 }
 
-/// Whether both faults have their numbers.
-fn have_numbers() -> bool {
-    has_number(WordsFault::Usage, 2) && has_number(WordsFault::Memory, 0)
+/// Whether both faults are told so.
+fn are_told(alloc: Global) -> bool {
+    says(
+        alloc,
+        WordsFault::Usage,
+        2,
+        "the arguments fit no form of the command",
+    ) && says(alloc, WordsFault::Memory, 0, "out of memory")
 }
 
 #[test]
-fn faults_have_numbers(rt: HostRuntime) {
-    assert!(rt; have_numbers());
+fn faults_are_told(rt: HostRuntime) {
+    assert!(rt; are_told(rt.alloc()));
 }

@@ -1,4 +1,4 @@
-//! Layouts of the whole grammar: what is read though nothing is asked of it, what is not supported yet, and tops.
+//! Layouts of the whole grammar: what is read though nothing is asked of it, what is counted, and tops.
 
 use super::layouts::{TWO_BARS, layout_of};
 use super::runs::{NO_SHORT, RADIUS_3, SHORT_32, Want, answers, expect, layout_answers};

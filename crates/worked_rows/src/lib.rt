@@ -30,6 +30,8 @@ mod runs;
 #[cfg(test)]
 mod structures;
 #[cfg(test)]
+mod told_words;
+#[cfg(test)]
 mod turns;
 #[cfg(test)]
 mod words;

@@ -10,13 +10,13 @@ use Rattle.rect_cover.proofs.covering_all.cover_all.Goals as goal
 
 pub collect-requires-clause-ready : goal.collect-requires-clause-ready
 collect-requires-clause-ready g c κs within =
-    rw (c.map.ensures.base, c.map.ensures.f, c.par_iter.ensures)
+    rw (c.map.ensures.base, c.map.ensures.f, c.with_min_len.ensures.base, c.par_iter.ensures)
     (λ k d below one is. (subst (IsWellPlaced c.args.library.now.structures) (sym is) (c.requires.placed k d below), λ answer h. tt))
 
 pub loop-answer-init : goal.loop-answer-init
 loop-answer-init g c =
     let structures = c.args.library.now.structures in
-    let h = rw (c.map.ensures.base, c.map.ensures.f) at c.in_ok-answers.ensures in
+    let h = rw (c.map.ensures.base, c.map.ensures.f, c.with_min_len.ensures.base) at c.in_ok-answers.ensures in
     let answered : AllZip (IsAnswerFor structures) c.args.placed.now c.in_ok-answers.answers.items =
     rw h.2 (slice-AllZip h.1.0 c.args.placed.now (h.1.1 ∙ c.par_iter.ensures) (IsAnswerFor structures) h.0 h.1.2) in
     record {

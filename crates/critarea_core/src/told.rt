@@ -1,0 +1,34 @@
+ghost use Rattle.std.specs.Prelude.{◌≡◌, ◌⊎◌, IfErr};
+
+use command_line::Word;
+use std::env;
+use std::io::{self, ErrorKind};
+use std::rt::Env;
+
+/// The status where the words find no memory.
+const NO_MEMORY: u8 = 6;
+
+/// The status where the system does not tell the words. `run` never answers it.
+const WORDS_UNTOLD: u8 = 7;
+
+/// The words after the program's name, as the system tells them: empty ones, too. Where there are none the error is the
+/// status with which the program ends: 7 where the system does not tell them as texts, as where one is no UTF-8, and 6 where
+/// no memory is left.
+pub fn system_words<R: Env + AllocGlobal>(rt: &R) -> Result<Vec<Word>, u8>
+    ensures { IfErr result (λ status. (status ≡ 6) ⊎ (status ≡ 7)) }
+{
+    match words(rt) {
+        Ok(words) => Ok(words),
+        Err(error) if error.kind() == ErrorKind::OutOfMemory => Err(NO_MEMORY),
+        Err(_) => Err(WORDS_UNTOLD),
+    }
+}
+
+/// The same, with the error as the system has it.
+fn words<R: Env + AllocGlobal>(rt: &R) -> io::Result<Vec<Word>> {
+    let mut words = Vec::new(rt.alloc());
+    for text in env::args(rt)?.skip(1) {
+        words.push(Word::from_string(text))?;
+    }
+    Ok(words)
+}
