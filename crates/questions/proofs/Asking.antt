@@ -1,5 +1,5 @@
 -- what holds of each question of a map, and how many there are
-use Rattle.std.proofs.Common.{ℕ, ◌+◌, ◌*◌, ◌/◌, ◌<◌, ◌≤◌, ◌≡◌, List, [], ◌∷◌, ◌++◌, length, map, arith, refl, length-append, All, pos, ◌≤ℤ◌, ◌≢◌}
+use Rattle.std.proofs.Common.{ℕ, ◌+◌, ◌*◌, ◌/◌, ◌<◌, ◌≤◌, ◌≡◌, ◌∙◌, List, [], ◌∷◌, ◌++◌, length, map, ap, arith, refl, length-append, All, pos, ◌≤ℤ◌, ◌≢◌}
 use Rattle.lists.proofs.Words.{enumerate_from, ints, length-map, All-append, All-cons, All-head, All-map, All-nil, All-tail, All-weaker, length-enumerate_from}
 use Rattle.geo_core.specs.Plane.{IsRadius}
 use Rattle.geo_core.specs.declared.bounds.TheConstants.{GREATEST_REACH}
@@ -79,6 +79,15 @@ askable layer_map each =
     (λ number low high. record { of_metal = λ no. omega arith; behind_metals = λ e. absurd (open_is_no_block e); of_cut = λ e. absurd (open_is_no_block e) })))
     (askable_kind metals cuts sizes each Via metals mapped
     (λ number low high. record { of_metal = λ no. absurd (no refl); behind_metals = λ e. low; of_cut = λ e. omega arith }))
+
+-- the questions, where those of each kind were added in order
+pub asked_in_order : (layer_map : LayerMap) (none shorts opens all : List Question) → none ≡ [] → shorts ≡ none ++ of_kind Short (metal_layers layer_map) layer_map.sizes
+    → opens ≡ shorts ++ of_kind Open (metal_layers layer_map) layer_map.sizes → all ≡ opens ++ of_kind Via (cut_layers layer_map) layer_map.sizes → all ≡ questions layer_map
+asked_in_order layer_map none shorts opens all first second third fourth =
+    let more_shorts = λ (qs : List Question). qs ++ of_kind Short (metal_layers layer_map) layer_map.sizes in
+    let more_opens = λ (qs : List Question). qs ++ of_kind Open (metal_layers layer_map) layer_map.sizes in
+    let more_vias = λ (qs : List Question). qs ++ of_kind Via (cut_layers layer_map) layer_map.sizes in
+    fourth ∙ ap more_vias (third ∙ ap more_opens (second ∙ ap more_shorts first))
 
 -- how many questions there are
 count_of_kind : (kind : Kind) (sizes : List DefectSize) (layers : List (ℕ × MappedLayer)) → length sizes ≤ MOST_SIZES → length (of_kind kind layers sizes) ≤ MOST_SIZES * length layers

@@ -1,11 +1,11 @@
-//! Two metals with a cut between them: nets through the cut, and where defects block its vias. Each area was worked out by
+//! Metals with cuts between them: nets through the cuts, and where defects block their vias. Each area was worked out by
 //! hand: a defect of radius r covers a box of w by h cells from 2r - w by 2r - h cells, where both are positive.
 
 use super::layouts::Plate;
 use super::maps::map_answers;
 use super::runs::{Want, expect};
 
-/// Rectangles, a map of the metals 1 and 3 and of the cut 2 between them, and the report.
+/// Rectangles, a map of metals and of cuts between them, and the report. Odd layers are metals, and even ones cuts.
 const CUTS: &[(&[Plate], &[u8], Want)] = &[
     // Two bars under a strap. A contact joins the lower one to the strap, and nothing the upper one: so a defect between the
     // bars makes a short, in 6 rows of 20 columns. The contact is 2 by 2 cells.
@@ -155,6 +155,58 @@ const CUTS: &[(&[Plate], &[u8], Want)] = &[
              total open 0\n\
              total via 0\n\
              total 0\n",
+        ),
+    ),
+    // A cut over both bars with no upper metal joins nothing: the bars are still two nets, and no via is there.
+    (
+        &[
+            (1, 0, (0, 0, 10, 4)),
+            (1, 0, (0, 8, 10, 12)),
+            (2, 0, (0, 0, 2, 12)),
+        ],
+        b"version=1\nradii=[5]\nweights=[1]\nmetal=[{name=\"m1\",pairs=[[1,0]]},{name=\"m2\",pairs=[[3,0]]}]\n\
+          cut=[{name=\"v1\",pairs=[[2,0]],lower=\"m1\",upper=\"m2\"}]\n",
+        Want::Report(
+            "short m1 r=5 area=120 weight=1 sum=120\n\
+             short m2 r=5 area=0 weight=1 sum=0\n\
+             open m1 r=5 area=0 weight=1 sum=0\n\
+             open m2 r=5 area=0 weight=1 sum=0\n\
+             via v1 r=5 area=0 weight=1 sum=0\n\
+             total short 120\n\
+             total open 0\n\
+             total via 0\n\
+             total 120\n",
+        ),
+    ),
+    // Three metals and three cuts, which have their rows in the order of the map. The contact of v3 is 4 by 2 cells,
+    // covered from 2 by 4, that of v1 is 2 by 2 cells, covered from 4 by 4, and v2 has none.
+    (
+        &[
+            (1, 0, (0, 0, 6, 6)),
+            (3, 0, (0, 0, 6, 6)),
+            (5, 0, (0, 0, 6, 6)),
+            (2, 0, (0, 0, 2, 2)),
+            (4, 0, (0, 0, 4, 2)),
+        ],
+        b"version=1\nradii=[3]\nweights=[1]\n\
+          metal=[{name=\"m1\",pairs=[[1,0]]},{name=\"m2\",pairs=[[3,0]]},{name=\"m3\",pairs=[[5,0]]}]\n\
+          cut=[{name=\"v3\",pairs=[[4,0]],lower=\"m2\",upper=\"m3\"},\
+          {name=\"v1\",pairs=[[2,0]],lower=\"m1\",upper=\"m2\"},\
+          {name=\"v2\",pairs=[[6,0]],lower=\"m1\",upper=\"m3\"}]\n",
+        Want::Report(
+            "short m1 r=3 area=0 weight=1 sum=0\n\
+             short m2 r=3 area=0 weight=1 sum=0\n\
+             short m3 r=3 area=0 weight=1 sum=0\n\
+             open m1 r=3 area=0 weight=1 sum=0\n\
+             open m2 r=3 area=0 weight=1 sum=0\n\
+             open m3 r=3 area=0 weight=1 sum=0\n\
+             via v3 r=3 area=8 weight=1 sum=8\n\
+             via v1 r=3 area=16 weight=1 sum=16\n\
+             via v2 r=3 area=0 weight=1 sum=0\n\
+             total short 0\n\
+             total open 0\n\
+             total via 24\n\
+             total 24\n",
         ),
     ),
 ];
