@@ -40,14 +40,13 @@ module _ (height : ℕ) (places : List ℤ) (change : Change) (low high : ℕ) w
       kept = kept;
     }
 
-    -- nor does one that has the whole part change what is below its highest node
-    pub lower_unchanged : (nodes : List Node) → IsKept height places nodes part → ((level column : ℕ) → level < part.level → IsUnder part column → times level column ≡ 0)
-        → IsLowerChanged part nodes nodes
-    lower_unchanged nodes kept never = record {
+    -- a single column has nothing below it
+    pub lower_single : (nodes : List Node) → part.level ≡ 0 → IsLowerChanged part nodes nodes
+    lower_single nodes single = record {
       length = refl;
       elsewhere = λ level column a b away. refl;
-      counts = λ level column less under. changed_none change (times level column) (row_node height nodes level column).count (never level column less under);
-      kept = λ level column less under. kept level column (omega arith) under;
+      counts = λ level column less under. absurd (omega arith);
+      kept = λ level column less under. absurd (omega arith);
     }
 
     -- the highest node is written last

@@ -197,13 +197,3 @@ room_of height part p small =
     let n = number_fits height part p in let e = end_fits height part p in
     let top = pow_grows height 62 small in let d = double height in
     (omega arith, omega arith)
-
--- a part that the range meets in part has more than one column
-pub some_level : (height : ℕ) (part : Part) → IsPart height part → (low high : ℕ) → part.from < high → low < part.from + part.size → (part.from < low) ⊎ (high < part.from + part.size) → 0 < part.level
-some_level height part p low high meets meets_end partly = elim (cases_lt 0 part.level) [
-  | inl some ↦ some
-  | inr single ↦
-      let e : part.level ≡ 0 = omega arith in
-      let one : part.size ≡ 1 = p.size ∙ ap (λ n. 2 ^ n) e in
-      elim partly [ inl before ↦ absurd (omega arith) | inr behind ↦ absurd (omega arith) ]
-]

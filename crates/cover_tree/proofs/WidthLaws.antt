@@ -127,13 +127,6 @@ module _ (height : ℕ) (places : List ℤ) (nodes : List Node) (part : Part) (p
   pub node_read : (node : Node) → slice_get nodes part.number ≡ Some node → (column : ℕ) → IsUnder part column → row_node height nodes part.level column ≡ node
   node_read node e column under = ap (numbered_node nodes) (number_here height part p column under) ∙ get_or_from_slice_get nodes part.number node _ e
 
-  -- the widths that are read of a part's number are the part's
-  pub widths_read : KeepsWidths height places nodes part.level part.from → (widths : Widths) → widths.once ≡ (numbered_node nodes part.number).once
-      → widths.twice ≡ (numbered_node nodes part.number).twice → AreWidths height places nodes part widths
-  widths_read keeps widths once twice =
-      let e = ap (numbered_node nodes) (number_here height part p part.from (first_under height part p)) in
-      widths_kept height places nodes part p keeps widths (once ∙ ap (λ (n : Node). n.once) (sym e)) (twice ∙ ap (λ (n : Node). n.twice) (sym e))
-
 -- ---- what is written
 
 -- a row in which a part's highest node alone is written has the part's widths by the counts below it as before

@@ -1,7 +1,7 @@
-ghost use Rattle.std.specs.Prelude.{◌≡◌, ◌+◌, ◌*◌, ◌^◌, ◌<◌, ◌≤◌, ◌+ℤ◌, pos, length, slice_set, FitsSigned};
+ghost use Rattle.std.specs.Prelude.{◌≡◌, ◌+◌, ◌*◌, ◌^◌, ◌<◌, ◌≤◌, ◌+ℤ◌, ◌⊎◌, ◌↔◌, pos, length, slice_set, if◌then◌else◌, FitsSigned, IsTrue};
 ghost use Rattle.std.specs.Int.{w64};
 ghost use Rattle.cover_tree.specs.Columns.{total, width_of};
-ghost use Rattle.cover_tree.specs.TreeParts.{IsPart, IsKept, IsLowerKept, MayChange, IsChangedBy, MayChangeIn, IsHighest, IsPartChanged, AreWidths, AreLowerWidths, once_by, twice_by, numbered_node};
+ghost use Rattle.cover_tree.specs.TreeParts.{IsPart, IsKept, MayChange, IsChangedBy, MayChangeIn, IsHighest, IsPartChanged, AreWidths, AreLowerWidths, once_by, twice_by};
 
 use super::columns::Columns;
 use super::parts::{Change, Part, Widths};
@@ -16,11 +16,44 @@ pub struct Edit {
     pub change: Change,
 }
 
-/// A count after a change.
-fn changed(count: usize, change: Change) -> usize
-    requires { MayChange change 1 count }
-    ensures { IsChangedBy change 1 count result }
+impl Edit {
+    /// Whether the range has none of the columns from this one to before the end.
+    fn misses(self, from: usize, end: usize) -> bool
+        ensures { IsTrue result ↔ ((self.high ≤ from) ⊎ (end ≤ self.low)) }
+    {
+        self.high <= from || end <= self.low
+    }
+
+    /// Whether the range has all of the columns from this one to before the end.
+    fn covers(self, from: usize, end: usize) -> bool
+        ensures { IsTrue result ↔ ((self.low ≤ from) × (end ≤ self.high)) }
+    {
+        self.low <= from && end <= self.high
+    }
+
+    /// What is left of it for the halves of a part: nothing where the range has all of the part's columns.
+    fn rest(self, whole: bool) -> Edit
+        ensures { result ≡ (if whole then record { low = self.low; high = self.low; change = self.change } else self) }
+    {
+        if !whole {
+            return self;
+        }
+        Edit {
+            low: self.low,
+            high: self.low,
+            change: self.change,
+        }
+    }
+}
+
+/// A node's count after a change: it changes where the range has all of the node's columns.
+fn changed(count: usize, change: Change, whole: bool) -> usize
+    requires { MayChange change (if whole then 1 else 0) count }
+    ensures { IsChangedBy change (if whole then 1 else 0) count result }
 {
+    if !whole {
+        return count;
+    }
     match change {
         Change::Put => count + 1,
         Change::Take => count - 1,
@@ -36,17 +69,6 @@ fn widths_in(node: Node) -> Widths
         once: node.once,
         twice: node.twice,
     }
-}
-
-/// The widths that the row has of a part. It is one step.
-fn widths_at<L: Ledger>(row: &CountRow, number: usize, steps: &mut Steps<L>) -> Widths
-    requires { number < length row.now }
-    ensures once { result.once ≡ (numbered_node row.now number).once }
-    ensures twice { result.twice ≡ (numbered_node row.now number).twice }
-    ensures step { steps.new ≡ steps.old + 1 }
-{
-    let node = row.get(number, steps);
-    widths_in(node)
 }
 
 /// The widths of a node from its count, the width of all its columns, and what its halves have together.
@@ -109,30 +131,6 @@ fn settle<L: Ledger>(
     widths
 }
 
-/// What the halves of a part have together: nothing where it is a single column.
-fn halves_of<L: Ledger>(
-    row: &CountRow,
-    columns: &Columns,
-    part: Part,
-    steps: &mut Steps<L>,
-) -> Widths
-    requires row { length row.now ≡ 2 * 2 ^ columns.now.height }
-    requires part { IsPart columns.now.height part }
-    requires kept { IsLowerKept columns.now.height columns.now.places.items row.now part }
-    requires small { total (width_of columns.now.places.items) part.from part.size < 2 ^ 33 }
-    ensures halves { AreLowerWidths columns.now.height columns.now.places.items row.now part result }
-    ensures steps { (steps.old ≤ steps.new) × (steps.new ≤ steps.old + 2) }
-{
-    if part.level == 0 {
-        return Widths { once: 0, twice: 0 };
-    }
-    let left = part.left();
-    let right = part.right();
-    let left_widths = widths_at(row, left.number, steps);
-    let right_widths = widths_at(row, right.number, steps);
-    both(left_widths, right_widths)
-}
-
 /// Changes the nodes of a range's cut that belong to the part, and gives the part's widths as they are then.
 pub fn below<L: Ledger>(
     row: &mut CountRow,
@@ -149,7 +147,7 @@ pub fn below<L: Ledger>(
     ensures changed { IsPartChanged columns.now.height columns.now.places.items edit.change edit.low edit.high part row.old row.new }
     ensures widths { AreWidths columns.now.height columns.now.places.items row.new part result }
 
-    // One look at a part that is not met, four steps at one that lies in the range, and two at any other. Where the
+    // One look at a part that is not met, four steps at most at one that lies in the range, and two at any other. Where the
     // range begins before the part or ends behind it, at each level one part at most is none of the first two.
     ensures some { steps.old < steps.new }
     ensures apart { edit.high ≤ part.from → steps.new ≤ steps.old + 1 }
@@ -161,19 +159,21 @@ pub fn below<L: Ledger>(
 {
     let node = row.get(part.number, steps);
     let end = part.from + part.size;
-    if edit.high <= part.from || end <= edit.low {
+    if edit.misses(part.from, end) {
         return widths_in(node);
     }
     let width = columns.width(part.from, part.size);
-    if edit.low <= part.from && end <= edit.high {
-        let count = changed(node.count, edit.change);
-        let halves = halves_of(row, columns, part, steps);
-        return settle(row, columns, part, count, width, halves, steps);
+    let whole = edit.covers(part.from, end);
+    let count = changed(node.count, edit.change, whole);
+    if part.level == 0 {
+        let nothing = Widths { once: 0, twice: 0 };
+        return settle(row, columns, part, count, width, nothing, steps);
     }
+    let rest = edit.rest(whole);
     let left = part.left();
     let right = part.right();
-    let left_widths = below(row, columns, left, edit, steps);
-    let right_widths = below(row, columns, right, edit, steps);
+    let left_widths = below(row, columns, left, rest, steps);
+    let right_widths = below(row, columns, right, rest, steps);
     let halves = both(left_widths, right_widths);
-    settle(row, columns, part, node.count, width, halves, steps)
+    settle(row, columns, part, count, width, halves, steps)
 }

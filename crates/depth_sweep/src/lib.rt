@@ -12,4 +12,4 @@ mod skyline;
 
 pub use areas::{area_once, area_twice};
 pub use geo_core::{NoMemory, Rect};
-pub use runs::{merge_rects, twice_runs, union_runs};
+pub use runs::{merge_rects, runs_within, twice_runs, union_runs};

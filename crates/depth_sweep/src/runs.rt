@@ -1,4 +1,4 @@
-ghost use Rattle.std.specs.Prelude.{◌≤◌, IfOk, IfSome, length};
+ghost use Rattle.std.specs.Prelude.{◌≤◌, ◌+◌, ◌≡◌, IfNone, IfOk, IfSome, length};
 ghost use Rattle.std.specs.List.Sorted.{IsPermutation};
 ghost use Rattle.depth_sweep.specs.Runs.{AreApart, AreByRow, HaveCellsOfTwo, HaveSameCells};
 
@@ -18,6 +18,34 @@ pub fn union_runs(alloc: Global, rects: &[Rect]) -> Result<Vec<Rect>, NoMemory>
         skyline.add(*rect)?;
     }
     skyline.finish()
+}
+
+/// Rectangles without common cells that have the cells of the list together, where they are found with no more looks at
+/// rectangles than are left. Each rectangle of the list takes one look at least.
+///
+/// Each look is taken off those left. None is the answer where they do not suffice, and then none is left: so many lists
+/// share one number of looks. The only error is that no memory is left.
+pub fn runs_within(
+    alloc: Global,
+    rects: &[Rect],
+    left: &mut usize,
+) -> Result<Option<Vec<Rect>>, NoMemory>
+    ensures same { IfOk result (λ found. IfSome found (λ runs. HaveSameCells rects.now runs.items)) }
+    ensures apart { IfOk result (λ found. IfSome found (λ runs. AreApart runs.items)) }
+    ensures taken { IfOk result (λ found. IfSome found (λ runs. left.new + length rects.now ≤ left.old)) }
+    ensures none { IfOk result (λ found. IfNone found (left.new ≡ 0)) }
+{
+    let sorted = by_row(alloc, rects)?;
+    let mut skyline = Skyline::new(alloc);
+    for rect in sorted.as_slice() {
+        let looks = skyline.add(*rect)?;
+        if looks > *left {
+            *left = 0;
+            return Ok(None);
+        }
+        *left -= looks;
+    }
+    Ok(Some(skyline.finish()?))
 }
 
 /// Rectangles without common cells that together have the cells that lie in two rectangles of the list or more. Equal
@@ -62,28 +90,11 @@ pub fn merge_rects(alloc: Global, rects: &[Rect]) -> Result<Vec<Rect>, NoMemory>
     ensures same { IfOk result (λ merged. HaveSameCells rects.now merged.items) }
     ensures few { IfOk result (λ merged. length merged.items ≤ length rects.now) }
 {
-    let most = rects.len().saturating_mul(LOOKS_EACH);
-    if let Some(runs) = runs_within(alloc, rects, most)? {
+    let mut left = rects.len().saturating_mul(LOOKS_EACH);
+    if let Some(runs) = runs_within(alloc, rects, &mut left)? {
         if runs.len() <= rects.len() {
             return Ok(runs);
         }
     }
     Ok(Vec::from_slice(alloc, rects)?)
-}
-
-/// Rectangles without common cells that together have the cells of these, if no more looks are taken.
-fn runs_within(alloc: Global, rects: &[Rect], most: usize) -> Result<Option<Vec<Rect>>, NoMemory>
-    ensures { IfOk result (λ found. IfSome found (λ runs. HaveSameCells rects.now runs.items)) }
-{
-    let sorted = by_row(alloc, rects)?;
-    let mut skyline = Skyline::new(alloc);
-    let mut left = most;
-    for rect in sorted.as_slice() {
-        let looks = skyline.add(*rect)?;
-        if looks > left {
-            return Ok(None);
-        }
-        left -= looks;
-    }
-    Ok(Some(skyline.finish()?))
 }

@@ -1,4 +1,4 @@
-ghost use Rattle.std.specs.Prelude.{ℤ, All, Contains, IfOk, IfSome, IfNone, OnOk, ◌≤ℤ◌, ◌<ℤ◌, ◌≡◌, ◌↔◌, ◌⊎◌};
+ghost use Rattle.std.specs.Prelude.{ℤ, All, Contains, IfOk, IfSome, IfNone, OnOk, ◌<◌, ◌≤ℤ◌, ◌<ℤ◌, ◌≡◌, ◌↔◌, ◌⊎◌};
 ghost use Rattle.depth_sweep.specs.inside.Skylines.{GainsCommon};
 
 use geo_core::{NoMemory, Rect, clip};
@@ -45,34 +45,35 @@ impl Skyline {
         ensures sound { OnOk result (IsSkyline self.new) }
         ensures below { OnOk result (IsBelow rect.y0 self.new) }
         ensures cells { OnOk result ((c : Cell) → IsUnder self.new c ↔ (IsUnder self.old c ⊎ Has rect c)) }
+        ensures looks { IfOk result (λ looks. 0 < looks) }
     {
-        let (end, looks) = self.add_over(rect)?;
+        let (end, met) = self.add_over(rect)?;
         self.start(rect.x0, end, rect)?;
-        Ok(looks)
+        Ok(met.saturating_add(1))
     }
 
     /// Adds what the rectangle has over active ones, from the right to the left, so that what is still to be added has no
-    /// active one over its columns. Gives the column up to which it lies, and the looks.
+    /// active one over its columns. Gives the column up to which it lies, and how many active ones it met.
     fn add_over(&mut self, rect: Rect) -> Result<(i32, usize), NoMemory>
         requires sound { IsSkyline self.old }
         requires below { IsBelow rect.y0 self.old }
         ensures { IfOk result (λ found. IsAddedTo self.old self.new rect rect.x0 rect.x1 found.0) }
     {
-        let mut looks: usize = 1;
+        let mut met: usize = 0;
         let mut column = rect.x1;
         let mut end = rect.x1;
         while rect.x0 < column {
             let Some(active) = self.last_before(column) else {
-                return Ok((end, looks));
+                return Ok((end, met));
             };
             if active.x1 <= rect.x0 {
-                return Ok((end, looks));
+                return Ok((end, met));
             }
             end = self.meet(active, rect, end)?;
             column = active.x0;
-            looks = looks.saturating_add(1);
+            met = met.saturating_add(1);
         }
-        Ok((end, looks))
+        Ok((end, met))
     }
 
     /// Adds the cells of some rectangles that begin in the lowest row of this one.

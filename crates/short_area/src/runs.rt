@@ -1,8 +1,8 @@
-ghost use Rattle.std.specs.Prelude.{◌≤◌, AllPairs, IfOk, OnOk};
+ghost use Rattle.std.specs.Prelude.{◌≤◌, AllPairs, IfOk, IfSome, IsTrue, OnOk};
 ghost use Rattle.std.specs.List.Sorted.{IsPermutation};
 ghost use Rattle.short_area.specs.inside.LabelRuns.{AreRunsOf, GainsRuns};
 
-use depth_sweep::union_runs;
+use depth_sweep::{runs_within, union_runs};
 use geo_core::{Labelled, NoMemory, Rect};
 use std::alloc::{AllocError, Global};
 
@@ -38,6 +38,56 @@ fn add_runs(alloc: Global, runs: &mut Vec<Rect>, rects: &[Rect]) -> Result<(), N
     let gained = union_runs(alloc, rects)?;
     runs.extend_from_slice(gained.as_slice())?;
     Ok(())
+}
+
+/// The same, where they are found with no more looks than these, all labels together.
+pub fn label_runs_within(
+    alloc: Global,
+    zones: &[Labelled],
+    most: usize,
+) -> Result<Option<Vec<Rect>>, NoMemory>
+    ensures { IfOk result (λ found. IfSome found (λ runs. AreRunsOf zones.now runs.items)) }
+{
+    let sorted = by_label(alloc, zones)?;
+    let mut left = most;
+    let mut runs = Vec::new(alloc);
+    let mut listed = Vec::new(alloc);
+    let mut label: usize = 0;
+    for zone in sorted.as_slice() {
+        if zone.label != label {
+            if !add_runs_within(alloc, &mut runs, listed.as_slice(), &mut left)? {
+                return Ok(None);
+            }
+            listed.clear();
+            label = zone.label;
+        }
+        listed.push(zone.rect)?;
+    }
+    if !add_runs_within(alloc, &mut runs, listed.as_slice(), &mut left)? {
+        return Ok(None);
+    }
+    Ok(Some(runs))
+}
+
+/// Adds rectangles without common cells that have the cells of these together, where they are found with no more looks
+/// than are left, and tells whether they were.
+fn add_runs_within(
+    alloc: Global,
+    runs: &mut Vec<Rect>,
+    rects: &[Rect],
+    left: &mut usize,
+) -> Result<bool, NoMemory>
+    ensures { IfOk result (λ found. IsTrue found → GainsRuns runs.old.items runs.new.items rects.now) }
+{
+    if rects.len() < 2 {
+        runs.extend_from_slice(rects)?;
+        return Ok(true);
+    }
+    let Some(gained) = runs_within(alloc, rects, left)? else {
+        return Ok(false);
+    };
+    runs.extend_from_slice(gained.as_slice())?;
+    Ok(true)
 }
 
 /// The zones in the order of their labels.

@@ -4,13 +4,16 @@ ghost use Rattle.depth_sweep.specs.Runs.{IsInTwo};
 ghost use Rattle.short_area.specs.inside.Zones.{HaveNoThird, HaveSameTwo, IsCountOf, IsWholeIn, MeetsOther};
 
 use super::labels::{is_other_whole, split, two_labels, whole_label};
-use super::runs::label_runs;
+use super::runs::{label_runs, label_runs_within};
 use depth_sweep::area_twice;
 use geo_core::{Labelled, NoMemory, Rect, Steps, overlaps};
 use std::alloc::Global;
 use std::marker::Brand;
 use std::sync::ledger::{Blank, Ledger};
 use union_area::union_area;
+
+/// So many looks for each zone are few.
+const LOOKS_EACH: usize = 4;
 
 /// How many cells the rectangle has.
 fn count_of(rect: Rect) -> u64
@@ -82,6 +85,22 @@ pub fn counted_by_runs(alloc: Global, zones: &[Labelled], window: Rect) -> Resul
 {
     let runs = label_runs(alloc, zones)?;
     area_of_two::<Brand>(alloc, runs.as_slice(), window, Blank::new(1))
+}
+
+/// The count by runs of each label, where these are found with few looks.
+pub fn counted_by_few_looks(
+    alloc: Global,
+    zones: &[Labelled],
+    window: Rect,
+) -> Result<Option<u64>, NoMemory>
+    ensures { IfOk result (λ found. IfSome found (λ n. IsCountOf zones.now window n)) }
+{
+    let most = zones.len().saturating_mul(LOOKS_EACH);
+    let Some(runs) = label_runs_within(alloc, zones, most)? else {
+        return Ok(None);
+    };
+    let count = area_of_two::<Brand>(alloc, runs.as_slice(), window, Blank::new(1))?;
+    Ok(Some(count))
 }
 
 /// The count of few zones. Those that meet no other label are left out: each pair of zones is looked at for it.

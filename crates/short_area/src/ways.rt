@@ -4,9 +4,14 @@ ghost use Rattle.short_area.specs.inside.AreaSteps.{IsStepOf};
 use super::labels::{have_no_third, two_labels};
 use super::places::{Spread, has_leader, place_to_halve, spread_of};
 use super::steps::Step;
-use super::sweeps::{counted_apart, counted_at_once, counted_by_runs, counted_of_few};
+use super::sweeps::{
+    counted_apart, counted_at_once, counted_by_few_looks, counted_by_runs, counted_of_few,
+};
 use geo_core::{Labelled, NoMemory, Rect};
 use std::alloc::Global;
+
+/// Runs are tried again of so many times fewer zones.
+const LESS: usize = 8;
 
 /// What comes next of a window with these zones: its count, or a place at which to halve it.
 pub fn next_step(
@@ -49,8 +54,28 @@ fn halved(
     }
 }
 
-/// The count of many zones that lie across one another, if there are two labels. Else the window is halved.
+/// The count of many zones that lie across one another, by runs where these are found with few looks. Runs are tried of
+/// no more than an eighth of the zones of which they took too many.
 fn swept_or_halved(
+    alloc: Global,
+    zones: &[Labelled],
+    window: Rect,
+    spread: Spread,
+    hopeless: usize,
+) -> Result<Step, NoMemory>
+    ensures { IfOk result (λ step. IsStepOf zones.now window step) }
+{
+    if hopeless / LESS < zones.len() {
+        return counted_or_halved(alloc, zones, window, spread, hopeless);
+    }
+    match counted_by_few_looks(alloc, zones, window)? {
+        Some(count) => Ok(Step::Count(count)),
+        None => counted_or_halved(alloc, zones, window, spread, zones.len()),
+    }
+}
+
+/// The count without runs, if there are two labels. Else the window is halved.
+fn counted_or_halved(
     alloc: Global,
     zones: &[Labelled],
     window: Rect,

@@ -1,5 +1,6 @@
-use Rattle.std.proofs.Common.{List, subst, sym}
+use Rattle.std.proofs.Common.{List, subst, sym, arith}
 use Rattle.lists.proofs.Words.{IsPermutation}
+use Rattle.std.proofs.lemmas.List.Sorted.{length_permutation}
 use Rattle.geo_core.specs.declared.plane.Rect.{Rect}
 use Rattle.depth_sweep.specs.Runs.{AreByRow}
 use Rattle.depth_sweep.proofs.Covering.{union_begun, union_next}
@@ -7,15 +8,28 @@ use Rattle.depth_sweep.proofs.TwiceCovering.{same_cells}
 use Rattle.depth_sweep.proofs.runs.runs_within.Goals as goal
 
 pub loop-rect-init : goal.loop-rect-init
-loop-rect-init c = union_begun c.new-skyline.result c.as_slice-rect-items.result.now c.new-skyline.ensures.sound c.new-skyline.ensures.below c.new-skyline.ensures.none
+loop-rect-init c = record {
+  cells = union_begun c.new-skyline.result c.as_slice-rect-items.result.now c.new-skyline.ensures.sound c.new-skyline.ensures.below c.new-skyline.ensures.none;
+  looks = omega arith;
+}
 
 pub loop-rect-preserved : goal.loop-rect-preserved
-loop-rect-preserved c = union_next c.loop-rect.skyline c.add.new.self c.as_slice-rect-items.result.now c.loop-rect.rect-index c.rect-item.result
-    (subst AreByRow (sym c.as_slice-rect-items.ensures.value) c.in_ok-sorted.ensures.ordered) c.loop-rect-test.true c.rect-item.is
-    c.loop-rect.invariant c.in_ok-looks.ensures.sound c.in_ok-looks.ensures.below c.in_ok-looks.ensures.cells
+loop-rect-preserved c = record {
+  cells = union_next c.loop-rect.skyline c.add.new.self c.as_slice-rect-items.result.now c.loop-rect.rect-index c.rect-item.result
+      (subst AreByRow (sym c.as_slice-rect-items.ensures.value) c.in_ok-sorted.ensures.ordered) c.loop-rect-test.true c.rect-item.is
+      c.loop-rect.invariant.cells c.in_ok-looks.ensures.sound c.in_ok-looks.ensures.below c.in_ok-looks.ensures.cells;
+  looks = let so_far = c.loop-rect.invariant.looks in let some = c.in_ok-looks.ensures.looks in omega arith;
+}
 
-pub returns : goal.returns
-returns c =
+pub returns-clause-same : goal.returns-clause-same
+returns-clause-same c =
     let moved = subst (λ (xs : List Rect). IsPermutation c.args.rects.now xs) (sym c.as_slice-rect-items.ensures.value) c.in_ok-sorted.ensures.same in
     same_cells c.loop-rect.skyline c.args.rects.now c.as_slice-rect-items.result.now c.in_ok-finish.field-0.items c.loop-rect.rect-index c.loop-rect-test.false moved
-    c.loop-rect.invariant c.in_ok-finish.ensures.cells
+    c.loop-rect.invariant.cells c.in_ok-finish.ensures.cells
+
+pub returns-clause-taken : goal.returns-clause-taken
+returns-clause-taken c =
+    let so_far = c.loop-rect.invariant.looks in
+    let moved = subst (λ (xs : List Rect). IsPermutation c.args.rects.now xs) (sym c.as_slice-rect-items.ensures.value) c.in_ok-sorted.ensures.same in
+    let long = length_permutation c.args.rects.now c.as_slice-rect-items.result.now moved in
+    let past = c.loop-rect-test.false in omega arith
