@@ -1,7 +1,8 @@
 -- searches
 use Rattle.std.proofs.Common.{ℕ, zero, suc, ◌+◌, ◌≤◌, ◌<◌, ◌≡◌, ◌≢◌, inl, inr, List, [], ◌∷◌, ◌++◌, length, get_or, set, refl, sym, ap, subst, ◌∙◌, Vec, arith, length-append, All, Contains, sum_by, length-set, get_or-set_same, get_or-set_other}
-use Rattle.lists.proofs.Words.{Bor, Global, get_or-append_seam, option_map_or, cases_lt, slice_get_read, get_or_default, sum_by-set, All-append, All-cons, All-nil, Contains-append_left, Contains-append_right, Contains-append_cases}
-use Rattle.std.proofs.Math.ListN.{get_or-append}
+use Rattle.lists.proofs.Words.{Bor, Global, get_or_past, length-replicate, get_or-append_seam, option_map_or, cases_lt, slice_get_read, get_or_default, sum_by-set, All-append, All-cons, All-nil, Contains-append_left, Contains-append_right, Contains-append_cases}
+use Rattle.std.proofs.Math.ListN.{get_or-append, replicate}
+use Rattle.std.proofs.lemmas.List.{get_or-replicate}
 use Rattle.library_model.specs.declared.element.Reference.{Reference}
 use Rattle.flatten.specs.declared.part.Part.{Part}
 use Rattle.flatten.specs.declared.part.Part.TheVariants.{Copies}
@@ -25,6 +26,20 @@ pub is_new : (state : State) → ((next : ℕ) → state ≡ Open next → ⊥) 
 is_new New not_open not_done = refl
 is_new (Open next) not_open not_done = absurd (not_open next refl)
 is_new (Done summary) not_open not_done = absurd (not_done summary refl)
+
+-- a list of one value, read anywhere
+pub as_made : {A : Type 0} → (count one : ℕ) (value : A) → get_or (replicate count value) one value ≡ value
+as_made count one value = elim (cases_lt one count) [
+  | inl h ↦ get_or-replicate count one value value h
+  | inr past ↦ get_or_past (replicate count value) one value (rw length-replicate past)
+]
+
+-- where every state is new, nothing is said of any structure
+pub nothing_surveyed : (nodes : List (Vec Part Global)) (count : ℕ) → AreSettled nodes (replicate count New)
+nothing_surveyed nodes count = record {
+  are_true = λ one summary done. let new = as_made count one New in cc done;
+  none_open = λ one next is_open. let new = as_made count one New in cc is_open;
+}
 
 -- the weights of the structures that are done
 module _ (nodes : List (Vec Part Global)) (states : List State) (are_true : AreTrue nodes states) where
@@ -89,7 +104,7 @@ module _ (nodes : List (Vec Part Global)) (root : ℕ) (states : List State) (be
   first_are : (i d : ℕ) → i < length before → get_or stack i d ≡ get_or before i d
   first_are i d h = get_or-append before (one ∷ []) d i h
 
-  one_in_nodes : one < length nodes
+  pub one_in_nodes : one < length nodes
   one_in_nodes = subst (λ x. x < length nodes) (last_is one) (search.in_nodes (length before) one (omega (arith, stack-long)))
 
   -- the parts that are read of it
@@ -147,11 +162,11 @@ module _ (nodes : List (Vec Part Global)) (root : ℕ) (states : List State) (be
     pub chains_from_root : (n : ℕ) → Leads nodes n root
     chains_from_root n = chains n root (0, omega (arith, stack-long), search.begins root (omega (arith, stack-long)))
 
-  one_within : one < length states
-  one_within = omega (arith, search.long, one_in_nodes)
+  pub one_within : one < length states
+  one_within = rw search.long one_in_nodes
 
   -- the last structure is done
-  module _ (summary : Summary) (was_open : (s : Summary) → state_of states one ≡ Done s → ⊥) (now_true : (weight : Weight) × Weighs nodes one weight × IsKept weight summary) where
+  module _ (summary : Summary) (was_open : (s : Summary) → state_of states one ≡ Done s → ⊥) where
     abbrev by_change : (P : ℕ → State → Type 0) → P one (Done summary) → ((other : ℕ) → other ≢ one → P other (state_of states other)) → (other : ℕ)
         → P other (state_of (set states one (Done summary)) other)
     by_change = by_set states one (Done summary) one_within
@@ -159,19 +174,26 @@ module _ (nodes : List (Vec Part Global)) (root : ℕ) (states : List State) (be
     pub keeps_done : KeepsDone states (set states one (Done summary))
     keeps_done = by_change (λ x state. (s : Summary) → state_of states x ≡ Done s → state ≡ Done s) (λ s d. absurd (was_open s d)) (λ x apart s d. d)
 
-    pub done_now : IsSearch nodes root (set states one (Done summary)) before
-    done_now = record {
-      long = length-set states one (Done summary) ∙ search.long;
-      are_true = by_change (λ x state. (s : Summary) → state ≡ Done s → (weight : Weight) × Weighs nodes x weight × IsKept weight s)
-          (λ s d. let same : summary ≡ s = cc d in (now_true.0, now_true.1, subst (IsKept now_true.0) same now_true.2)) (λ x apart. search.are_true x);
-      done_before = by_change (λ x state. (next : ℕ) → state ≡ Open next → IsDoneBefore (set states one (Done summary)) (parts_at nodes x) next) (λ next e. cc e)
-          (λ x apart next is_open k reference target h is. let was = search.done_before x next is_open k reference target h is in (was.0, keeps_done target was.0 was.1));
-      open_on_stack = by_change (λ x state. (next : ℕ) → state ≡ Open next → Contains before x) (λ next e. cc e) (λ x apart next is_open. on_before x (search.open_on_stack x next is_open) apart);
-      way = way_before;
-      in_nodes = in_nodes_before;
-      begins = begins_before;
-      reached = by_change (λ x state. x ≡ root → state ≢ New) (λ e new. cc new) (λ x apart e new. search.reached (subst (λ y. state_of states y ≡ New) e new)) root refl;
-    }
+    pub no_more_left : steps_left (set states one (Done summary)) before ≤ steps_left states before
+    no_more_left =
+        let changed : sum_by steps_of_state (set states one (Done summary)) + steps_of_state (state_of states one) ≡ sum_by steps_of_state states + 0 =
+        sum_by-set steps_of_state states one (Done summary) New one_within in
+        omega arith
+
+    module _ (now_true : (weight : Weight) × Weighs nodes one weight × IsKept weight summary) where
+      pub done_now : IsSearch nodes root (set states one (Done summary)) before
+      done_now = record {
+        long = length-set states one (Done summary) ∙ search.long;
+        are_true = by_change (λ x state. (s : Summary) → state ≡ Done s → (weight : Weight) × Weighs nodes x weight × IsKept weight s)
+            (λ s d. let same : summary ≡ s = cc d in (now_true.0, now_true.1, subst (IsKept now_true.0) same now_true.2)) (λ x apart. search.are_true x);
+        done_before = by_change (λ x state. (next : ℕ) → state ≡ Open next → IsDoneBefore (set states one (Done summary)) (parts_at nodes x) next) (λ next e. cc e)
+            (λ x apart next is_open k reference target h is. let was = search.done_before x next is_open k reference target h is in (was.0, keeps_done target was.0 was.1));
+        open_on_stack = by_change (λ x state. (next : ℕ) → state ≡ Open next → Contains before x) (λ next e. cc e) (λ x apart next is_open. on_before x (search.open_on_stack x next is_open) apart);
+        way = way_before;
+        in_nodes = in_nodes_before;
+        begins = begins_before;
+        reached = by_change (λ x state. x ≡ root → state ≢ New) (λ e new. cc new) (λ x apart e new. search.reached (subst (λ y. state_of states y ≡ New) e new)) root refl;
+      }
 
   -- the last structure refers to a new one, on which the search goes on
   module _ (other place : ℕ) (was_open : (s : Summary) → state_of states one ≡ Done s → ⊥) (new : state_of states other ≡ New) (within : other < length nodes)

@@ -58,10 +58,10 @@ fn step(
             if let State::Open(_) = states[other as usize] {
                 return Ok(false);
             }
-            states[one as usize] = State::Open(place);
-            states[other as usize] = State::Open(0);
             stack.push(one)?;
             stack.push(other)?;
+            states[one as usize] = State::Open(place);
+            states[other as usize] = State::Open(0);
         }
     }
     Ok(true)

@@ -1,4 +1,4 @@
-use Rattle.std.proofs.Common.{rules, ℕ, suc, ◌≡◌, ◌<◌, ◌-◌, length, refl, sym, subst, arith, map}
+use Rattle.std.proofs.Common.{rules, ℕ, suc, ◌≡◌, ◌<◌, ◌-◌, length, Contains, refl, sym, subst, arith, map}
 use Rattle.lists.proofs.Words.{range_with_len, err_from_is_err_and, IfOk-weaker, IfErr-weaker}
 use Rattle.flatten.specs.Steps.{Step, steps_in_row}
 use Rattle.flatten.specs.Routes.{behind_step}
@@ -161,3 +161,16 @@ expand_row-returns-clause-placed t c =
     (sym (by_columns nodes left c.args.target c.args.reference.now count c.args.row c.columns-column-end.ensures.value))
     (front_ends nodes c.args.way.motion (λ column. map (behind_step (step column)) (node_routes nodes left c.args.target)) (range_with_len 0 count)
     c.loop-column.column c.args.placed.now.items c.loop-column.placed.items c.loop-column.invariant (numbers_end count c.loop-column.column c.loop-column-test.false))
+
+pub expand-expand_part-requires : goal.expand-expand_part-requires
+expand-expand_part-requires t c =
+    let parts = c.as_slice-part-items.result.now in
+    let read : parts ≡ parts_at c.args.nodes.now c.args.one = parts_read c.args.nodes.now c.args.one c.index-nodes-one.result parts c.as_slice-part-items.ensures.value c.requires.there
+    c.index-nodes-one.is in
+    (omega arith, (c.requires.followed, subst (λ l. Contains l c.part-item.result) read (c.loop-part.part-index, c.loop-part-test.true, sym c.part-item.is)))
+
+pub expand_copies-expand_row-requires : goal.expand_copies-expand_row-requires
+expand_copies-expand_row-requires t c = (omega arith, (c.requires.followed, (c.requires.there, (c.requires.more, omega (arith, c.rows-row-end.ensures.few)))))
+
+pub expand_row-expand-requires : goal.expand_row-expand-requires
+expand_row-expand-requires t c = (omega (arith, c.on.ensures.left), (c.requires.followed, c.requires.there))

@@ -1,7 +1,7 @@
-use Rattle.std.proofs.Common.{◌≡◌, ◌<◌, inl, inr, length, sym, ap, subst, ◌∙◌, arith}
-use Rattle.lists.proofs.Words.{cases_lt}
+use Rattle.std.proofs.Common.{◌≡◌, ◌<◌, inl, inr, false, length, sym, ap, subst, ◌∙◌, arith}
+use Rattle.lists.proofs.Words.{cases_lt, length-replicate}
 use Rattle.flatten.specs.inside.Parts.{AreBelow, LeadsTo, parts_at}
-use Rattle.flatten.proofs.SearchLaws.{parts_read}
+use Rattle.flatten.proofs.SearchLaws.{as_made, parts_read}
 use Rattle.flatten.proofs.MarkLaws.{leads_within}
 use Rattle.flatten.proofs.marks.marks_of.Goals as goal
 use Rattle.lists.proofs.Reading.{put_back}
@@ -36,3 +36,13 @@ pub returns-clause-marked : goal.returns-clause-marked
 returns-clause-marked c other one leads =
     let within : other < length c.args.nodes.now = leads_within c.args.nodes.now other one leads in
     c.loop-node.invariant.marked other one (omega (arith, c.loop-node-test.false)) leads
+
+pub loop-node-init : goal.loop-node-init
+loop-node-init c = rw (c.in_ok-marks.ensures.items_if_clones_equal (λ y e. e)) (record {
+  long = length-replicate (length c.args.nodes.now) false;
+  marked = λ other one h. absurd (omega arith);
+  only = λ one marked. let none = as_made (length c.args.nodes.now) one false in cc marked;
+})
+
+pub returns-clause-only : goal.returns-clause-only
+returns-clause-only c = c.loop-node.invariant.only

@@ -1,7 +1,8 @@
 use Rattle.std.proofs.Common.{take_all, subst, All}
-use Rattle.lists.proofs.Words.{flat_map, err_from_is_err_and}
+use Rattle.map_model.specs.MapNames.{layer_map_of}
+use Rattle.lists.proofs.Words.{flat_map, All-nil, err_from_is_err_and}
 use Rattle.flatten.specs.Structures.{references_among}
-use Rattle.flatten.specs.inside.Parts.{IsKnown}
+use Rattle.flatten.specs.inside.Parts.{IsKnown, AreNodes}
 use Rattle.flatten.specs.declared.fault.PlaceFault.TheVariants.{UnknownStructure}
 use Rattle.flatten.proofs.FirstLaws.{refused_at, hold_at}
 use Rattle.flatten.proofs.parts.nodes_of.Goals as goal
@@ -28,3 +29,13 @@ pub returns-clause-known : goal.returns-clause-known
 returns-clause-known c =
     subst (λ es. All (IsKnown c.args.index.now) (flat_map (λ structure. references_among structure.elements) es))
     (take_all c.loop-structure.structure-index c.args.structures.now c.loop-structure-test.false) c.loop-structure.invariant.known
+
+pub loop-structure-init : goal.loop-structure-init
+loop-structure-init c = record {
+  nodes = rw c.new-nodes.ensures.items tt;
+  known = All-nil (IsKnown c.args.index.now);
+}
+
+pub returns-clause-nodes : goal.returns-clause-nodes
+returns-clause-nodes c = subst (λ es. AreNodes c.args.index.now (layer_map_of c.args.map.now) es c.loop-structure.nodes.items)
+    (take_all c.loop-structure.structure-index c.args.structures.now c.loop-structure-test.false) c.loop-structure.invariant.nodes

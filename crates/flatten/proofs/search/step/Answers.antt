@@ -5,7 +5,7 @@ use Rattle.flatten.specs.inside.Surveys.{state_of}
 use Rattle.flatten.specs.inside.Searches.{IsDoneBefore, IsSearch, steps_left}
 use Rattle.flatten.specs.declared.summary.Summary.{Summary}
 use Rattle.flatten.specs.declared.summary.State.TheVariants.{New, Open, Done}
-use Rattle.flatten.proofs.SearchLaws.{is_new, weight_at, are_weighed, weigh_all, parts_last, passed_over, chains_from_root, done_now, goes_on, keeps_done_pushed, fewer_left}
+use Rattle.flatten.proofs.SearchLaws.{is_new, weight_at, are_weighed, weigh_all, parts_last, passed_over, chains_from_root, one_in_nodes, one_within, keeps_done, no_more_left, done_now, goes_on, keeps_done_pushed, fewer_left}
 use Rattle.flatten.proofs.search.step.Goals as goal
 
 pub returns-in_default : goal.returns-in_default
@@ -45,26 +45,49 @@ bounds-states-other c =
     let h : c.in-Some.other < length c.args.nodes.now = subst (AreBelow (length c.args.nodes.now)) (sym parts) (c.requires.below c.args.one) leads.0 c.in-Some.other leads.1 in
     omega (arith, c.requires.search.long, length-set c.args.states.now c.args.one (Open c.in-Some.place))
 
-pub returns-in-Open-states-clause-cycle : goal.returns-in-Open-states-clause-cycle
-returns-in-Open-states-clause-cycle c =
-    let parts = parts_last c.args.nodes.now c.args.root _ c.args.stack.now.items c.args.one c.requires.search _ _ c.as_slice-parts.ensures.value c.index-nodes-one.is in
-    chains_from_root c.args.nodes.now c.args.root c.args.states.now c.args.stack.now.items c.args.one c.requires.search c.in-Some.other c.in-Open-states.field-0
-    (subst (λ p. LeadsTo p c.in-Some.other) parts c.in-Some.ensures.leads) c.in-Open-states.is
+pub bounds-nodes-one : goal.bounds-nodes-one
+bounds-nodes-one c = one_in_nodes c.args.nodes.now c.args.root c.args.states.now c.args.stack.now.items c.args.one c.requires.search
 
-pub returns-in-None-clause-search : goal.returns-in-None-clause-search
-returns-in-None-clause-search c =
+pub bounds-states-one : goal.bounds-states-one
+bounds-states-one c = one_within c.args.nodes.now c.args.root c.args.states.now c.args.stack.now.items c.args.one c.requires.search
+
+pub bounds-states-one-in-None : goal.bounds-states-one-in-None
+bounds-states-one-in-None c = one_within c.args.nodes.now c.args.root c.args.states.now c.args.stack.now.items c.args.one c.requires.search
+
+pub bounds-states-one-in-Some : goal.bounds-states-one-in-Some
+bounds-states-one-in-Some c = one_within c.args.nodes.now c.args.root c.args.states.now c.args.stack.now.items c.args.one c.requires.search
+
+pub returns-in-Open-states : goal.returns-in-Open-states
+returns-in-Open-states c =
+    let parts = parts_last c.args.nodes.now c.args.root _ c.args.stack.now.items c.args.one c.requires.search _ _ c.as_slice-parts.ensures.value c.index-nodes-one.is in
+    record {
+      search = tt;
+      cycle = chains_from_root c.args.nodes.now c.args.root c.args.states.now c.args.stack.now.items c.args.one c.requires.search c.in-Some.other c.in-Open-states.field-0
+          (subst (λ p. LeadsTo p c.in-Some.other) parts c.in-Some.ensures.leads) c.in-Open-states.is;
+      kept = λ one summary e. e;
+      less = omega arith;
+    }
+
+pub returns-in-None : goal.returns-in-None
+returns-in-None c =
     let parts = parts_last c.args.nodes.now c.args.root _ c.args.stack.now.items c.args.one c.requires.search _ _ c.as_slice-parts.ensures.value c.index-nodes-one.is in
     let nodes = c.args.nodes.now in
     let states = c.args.states.now in
+    let stack = c.args.stack.now.items in
     let these = c.as_slice-parts.result.now in
     let true_so_far = c.requires.search.are_true in
-    done_now nodes c.args.root states c.args.stack.now.items c.args.one c.requires.search c.summary_of.result
-    (λ s done. let was = c.in-Open.is in cc done) (
-      weight_over (weight_at nodes states true_so_far) these,
-      weigh_all nodes states true_so_far these c.in-None.ensures.none c.args.one parts,
-      c.summary_of.ensures (weight_at nodes states true_so_far)
-          (are_weighed nodes states true_so_far these c.in-None.ensures.none),
-    )
+    let not_done = λ (s : Summary) (e : state_of states c.args.one ≡ Done s). let was = c.in-Open.is in let no : ⊥ = cc e in no in
+    record {
+      search = done_now nodes c.args.root states stack c.args.one c.requires.search c.summary_of.result not_done (
+        weight_over (weight_at nodes states true_so_far) these,
+        weigh_all nodes states true_so_far these c.in-None.ensures.none c.args.one parts,
+        c.summary_of.ensures (weight_at nodes states true_so_far)
+            (are_weighed nodes states true_so_far these c.in-None.ensures.none),
+      );
+      cycle = tt;
+      kept = keeps_done nodes c.args.root states stack c.args.one c.requires.search c.summary_of.result not_done;
+      less = no_more_left nodes c.args.root states stack c.args.one c.requires.search c.summary_of.result not_done;
+    }
 
 pub returns-in_ok-push-in-Some-2 : goal.returns-in_ok-push-in-Some-2
 returns-in_ok-push-in-Some-2 c =

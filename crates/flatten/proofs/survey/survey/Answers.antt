@@ -1,7 +1,9 @@
 use Rattle.std.proofs.Common.{◌≡◌, length, sym, ap, ◌∙◌, inl, inr, arith}
-use Rattle.lists.proofs.Words.{cases_lt}
+use Rattle.lists.proofs.Words.{cases_lt, length-replicate}
 use Rattle.flatten.specs.inside.Surveys.{state_of}
 use Rattle.flatten.specs.declared.fault.PlaceFault.TheVariants.{Cycle}
+use Rattle.flatten.specs.declared.summary.State.TheVariants.{New}
+use Rattle.flatten.proofs.SearchLaws.{nothing_surveyed}
 use Rattle.flatten.proofs.LimitLaws.{at_offset}
 use Rattle.flatten.proofs.survey.survey.Goals as goal
 use Rattle.lists.proofs.Reading.{put_back}
@@ -30,3 +32,31 @@ loop-root-preserved c =
         | inr last ↦ let is : one ≡ c.loop-root.root = omega arith in (here.0, ap (state_of new) is ∙ here.1)
       ];
     })
+
+pub loop-root-init : goal.loop-root-init
+loop-root-init c = rw (c.in_ok-states.ensures.items_if_clones_equal (λ y e. e)) (record {
+  long = length-replicate (length c.args.nodes.now) New;
+  settled = nothing_surveyed c.args.nodes.now (length c.args.nodes.now);
+  done = λ one h. absurd (omega arith);
+})
+
+pub survey_from-requires-clause-below : goal.survey_from-requires-clause-below
+survey_from-requires-clause-below c = c.requires.below
+
+pub survey_from-requires-clause-long : goal.survey_from-requires-clause-long
+survey_from-requires-clause-long c = ap length c.deref_mut.ensures.value ∙ c.loop-root.invariant.long
+
+pub survey_from-requires-clause-root : goal.survey_from-requires-clause-root
+survey_from-requires-clause-root c = rw c.requires.long c.loop-root-test.true
+
+pub survey_from-requires-clause-settled : goal.survey_from-requires-clause-settled
+survey_from-requires-clause-settled c = rw c.deref_mut.ensures.value c.loop-root.invariant.settled
+
+pub bounds-structures-root : goal.bounds-structures-root
+bounds-structures-root c = c.loop-root-test.true
+
+pub returns-clause-done : goal.returns-clause-done
+returns-clause-done c one h = c.loop-root.invariant.done one (omega arith)
+
+pub returns-clause-settled : goal.returns-clause-settled
+returns-clause-settled c = c.loop-root.invariant.settled
