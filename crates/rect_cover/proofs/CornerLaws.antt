@@ -1,5 +1,5 @@
 -- the corners of a path, point by point
-use Rattle.std.proofs.Common.{suc, ◌-◌, ◌≤◌, ◌≡◌, Bool, true, false, not, ◌||◌, if◌then◌else◌, ℤ, int_lt, List, [], ◌∷◌, ◌++◌, length, get_or, drop, map, filter, Option, Some, None, refl, sym, ap, ◌∙◌, arith}
+use Rattle.std.proofs.Common.{suc, ◌-◌, ◌≤◌, ◌≡◌, Bool, true, false, not, ◌||◌, ◌&&◌, if◌then◌else◌, ℤ, int_eq, int_lt, List, [], ◌∷◌, ◌++◌, length, get_or, drop, map, filter, Option, Some, None, refl, sym, ap, ◌∙◌, arith}
 use Rattle.lists.proofs.Words.{ints}
 use Rattle.geo_core.specs.declared.plane.Point.{Point}
 use Rattle.geo_core.proofs.TurnLaws.{same_at}
@@ -91,6 +91,24 @@ ahead_of_longs at heading (to ∷ rest) =
 
 corners_are : (p : Point) (ps : List Point) → corners_of (p ∷ ps) ≡ p ∷ corners_ahead p None ps
 corners_are p ps = ap (λ xs. corners_among (p ∷ xs)) (longs_are p ps) ∙ corners_among_are p (longs p ps) ∙ ap (λ xs. p ∷ xs) (ahead_of_longs p None ps)
+
+-- one point further, which is the same point or another
+short_edge : (p q : Point) → true ≡ (int_eq q.x p.x && int_eq q.y p.y) → is_long (p, q) ≡ false
+short_edge p q same = grind (arith, ints)
+
+long_edge : (p q : Point) → false ≡ (int_eq q.x p.x && int_eq q.y p.y) → is_long (p, q) ≡ true
+long_edge p q differ = grind (arith, ints)
+
+module _ (at to : Point) (heading : Option Direction) (rest : List Point) where
+  pub ahead_again : true ≡ (int_eq to.x at.x && int_eq to.y at.y) → corners_ahead at heading (to ∷ rest) ≡ corners_ahead at heading rest
+  ahead_again same = rw (short_edge at to same) refl
+
+  module _ (d : Direction) (differ : false ≡ (int_eq to.x at.x && int_eq to.y at.y)) (is : d ≡ direction_of (at, to)) where
+    pub ahead_turned : turns heading d ≡ true → corners_ahead at heading (to ∷ rest) ≡ at ∷ corners_ahead to (Some d) rest
+    ahead_turned turn = rw (long_edge at to differ, sym is, turn) refl
+
+    pub ahead_straight : turns heading d ≡ false → corners_ahead at heading (to ∷ rest) ≡ corners_ahead to (Some d) rest
+    ahead_straight straight = rw (long_edge at to differ, sym is, straight) refl
 
 again : (p : Point) (ps : List Point) → corners_ahead p None (p ∷ ps) ≡ corners_ahead p None ps
 again p ps = rw not_long_alone

@@ -1,5 +1,5 @@
 -- placed shapes, and where their points come to lie
-use Rattle.std.proofs.Common.{Global, ℕ, ℤ, ◌≡◌, ◌+ℤ◌, ◌⊎◌, inl, inr, List, [], ◌∷◌, map, ◌<◌, length, get_or, sym, ◌∙◌, ap, subst, Some, Vec, Result, Ok, Err, to_z, of_z, w16, w32, arith, All, FitsSigned, slice_get}
+use Rattle.std.proofs.Common.{Global, ℕ, ℤ, ◌≡◌, ◌+ℤ◌, ◌⊎◌, inl, inr, List, [], ◌∷◌, map, ◌<◌, length, get_or, sym, ◌∙◌, ap, subst, Some, Vec, Result, Ok, Err, to_z, of_z, w16, w32, w64, arith, All, FitsSigned, slice_get}
 use Rattle.lists.proofs.Words.{to_z-of_z, get_or_from_slice_get, slice_get_within, length-map, map-append, All-nil, All-cons, All-head, All-tail}
 use Rattle.first_refusal.specs.Answers.{Answers, gives, refuses, no_memory}
 use Rattle.first_refusal.specs.Outcomes.{value, refused}
@@ -78,6 +78,10 @@ points_kept f points (Path pathtype width begin end) some = omega (arith, length
 pub style_kept : (kind : ShapeKind) (pathtype width begin end : ℤ) → FitsSigned w16 pathtype → FitsSigned w32 width → FitsSigned w32 begin → FitsSigned w32 end → kind ≡ Path pathtype width begin end
     → Path (to_z w16 (of_z w16 pathtype)) (to_z w32 (of_z w32 width)) (to_z w32 (of_z w32 begin)) (to_z w32 (of_z w32 end)) ≡ kind
 style_kept kind pathtype width begin end p w b e is = cc (to_z-of_z w16 pathtype p, to_z-of_z w32 width w, to_z-of_z w32 begin b, to_z-of_z w32 end e)
+
+-- a coordinate that was widened
+pub widened : (wide z : ℤ) → FitsSigned w64 wide → FitsSigned w32 z → wide ≡ to_z w32 (of_z w32 z) → to_z w64 (of_z w64 wide) ≡ z
+widened wide z fits small is = to_z-of_z w64 wide fits ∙ is ∙ to_z-of_z w32 z small
 
 -- where a point lies that was turned and then shifted, coordinate by coordinate
 module _ (placed : Placed) (point : Point) (x y : ℤ) (same_x : x ≡ point.x) (same_y : y ≡ point.y) where

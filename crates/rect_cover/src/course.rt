@@ -2,7 +2,7 @@ use super::direction::Direction;
 use geo_core::Point;
 
 /// How far a path has been followed.
-#[derive(Clone, Copy, Debug, PartialEq, Eq)]
+#[derive(Clone, Copy)]
 pub struct Course {
     /// The last point that differs from the one before it.
     pub at: Point,

@@ -1,7 +1,7 @@
 use geo_core::Point;
 
 /// Where an edge along an axis leads.
-#[derive(Clone, Copy, Debug, PartialEq, Eq)]
+#[derive(Clone, Copy, PartialEq, Eq)]
 pub enum Direction {
     Right,
     Up,

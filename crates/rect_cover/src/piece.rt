@@ -5,7 +5,7 @@ use super::direction::Direction;
 use geo_core::{FARTHEST, Point, Rect};
 
 /// A corner of a path, or one of its two ends.
-#[derive(Clone, Copy, Debug, PartialEq, Eq)]
+#[derive(Clone, Copy)]
 pub struct PathCorner {
     pub point: Point,
     /// How far pieces reach past it, in database units.
@@ -14,7 +14,7 @@ pub struct PathCorner {
 
 /// The box of a piece of a path, from `x0` to `x1` and from `y0` to `y1`, in database units. It may have no cell, where
 /// the reaches take away as much as the piece is long, and it may lie too far from 0 for a layout.
-#[derive(Clone, Copy, Debug, PartialEq, Eq)]
+#[derive(Clone, Copy)]
 pub struct PieceBox {
     pub x0: i64,
     pub y0: i64,

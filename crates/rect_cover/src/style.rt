@@ -1,6 +1,6 @@
 /// What a path says of its ends and its width, as GDSII's PATHTYPE, WIDTH, BGNEXTN and ENDEXTN. Lengths are in database
 /// units, and what is absent is 0.
-#[derive(Clone, Copy, Debug, PartialEq, Eq)]
+#[derive(Clone, Copy)]
 pub struct PathStyle {
     /// 0 for flush ends, 1 for round ones, 2 for half a width further, 4 for extensions of their own.
     pub pathtype: i16,
