@@ -1,5 +1,5 @@
 -- a rectangle that is added from the right to the left
-use Rattle.std.proofs.Common.{subst, inl, inr, arith, ◌≡◌, ◌⊎◌, ℤ, ◌≤ℤ◌, ◌<ℤ◌, ◌↔◌}
+use Rattle.std.proofs.Common.{subst, sym, inl, inr, arith, ◌≡◌, ◌⊎◌, ℤ, ◌≤ℤ◌, ◌<ℤ◌, ◌↔◌}
 use Rattle.lists.proofs.Words.{ints, clamps, by_lt_z, int_max}
 use Rattle.geo_core.specs.Plane.{Has, IsIn}
 use Rattle.geo_core.specs.declared.plane.Cell.{Cell}
@@ -140,6 +140,19 @@ pub added_at : (old now : Skyline) (rect : Rect) (column column' start end end' 
     → IsAddedTo old now rect column' start end'
 added_at old now rect column column' start end end' a e f = subst (λ (z : ℤ). IsAddedTo old now rect column' start z) f (subst (λ (z : ℤ). IsAddedTo old now rect z start end) e a)
 
+-- at first nothing of the rectangle is added
+pub added_none : (s : Skyline) (rect : Rect) (column end : ℤ) → IsSkyline s → IsBelow rect.y0 s → rect.x0 <ℤ rect.x1 → column ≡ rect.x1 → end ≡ rect.x1
+    → IsAddedTo s s rect column rect.x1 end
+added_none s rect column end sound below some e f = added_at s s rect rect.x1 column rect.x1 rect.x1 end (record {
+  sound = sound;
+  below = below;
+  cells = λ c. (λ u. u, λ u. u);
+  free = λ x from i o. let b = i.before in omega (arith, ints);
+  from = omega (arith, ints);
+  up_to = omega (arith, ints);
+  looked = omega (arith, ints);
+}) (sym e) (sym f)
+
 -- nothing is active before the column, either
 pub added_free : (old now : Skyline) (rect : Rect) (column start end : ℤ) → IsAddedTo old now rect column start end
     → ((x : ℤ) → IsIn rect.x0 column x → IsActiveOver now x → ⊥) → IsAddedTo old now rect rect.x0 start end
@@ -152,6 +165,11 @@ added_free old now rect column start end a none = record {
   up_to = a.up_to;
   looked = a.from;
 }
+
+-- the columns are looked at to the left end of the rectangle
+pub added_whole : (old now : Skyline) (rect : Rect) (column start end : ℤ) → IsAddedTo old now rect column start end → column ≤ℤ rect.x0
+    → IsAddedTo old now rect rect.x0 start end
+added_whole old now rect column start end a past = added_free old now rect column start end a (λ x i o. let b = i.from in let d = i.before in omega (arith, ints))
 
 -- the rest is made active
 pub all_added : (old now new : Skyline) (rect : Rect) (end : ℤ) → IsAddedTo old now rect rect.x0 rect.x1 end → Activates now new rect.x0 end rect

@@ -1,11 +1,13 @@
 -- active rectangles that are joined with their neighbours, and parts of rectangles
-use Rattle.std.proofs.Common.{refl, sym, subst, inl, inr, arith, ◌∙◌, ◌≡◌, ◌⊎◌, ℤ, Contains, ◌≤ℤ◌, ◌<ℤ◌, ◌↔◌}
+use Rattle.std.proofs.Common.{refl, sym, subst, inl, inr, arith, ◌∙◌, ◌≡◌, ◌⊎◌, ℤ, Contains, Some, ◌≤ℤ◌, ◌<ℤ◌, ◌↔◌}
+use Rattle.std.specs.BTreeMap.{get}
+use Rattle.std.specs.Ordering.{int_cmp}
 use Rattle.lists.proofs.Words.{ints, by_lt_z}
 use Rattle.geo_core.proofs.IntervalLaws.{IsIn-at}
 use Rattle.geo_core.specs.Plane.{Has, IsIn}
 use Rattle.geo_core.specs.declared.plane.Cell.{Cell}
 use Rattle.geo_core.specs.declared.plane.Rect.{Rect}
-use Rattle.depth_sweep.specs.inside.Skylines.{Activates, HasRoom, IsActiveOver, IsDoneIn, IsInPart, IsSkyline, Joins, TakesOut}
+use Rattle.depth_sweep.specs.inside.Skylines.{Activates, HasRoom, IsActiveIn, IsActiveOver, IsDoneIn, IsInPart, IsSkyline, Joins, TakesOut}
 use Rattle.depth_sweep.specs.declared.skyline.Skyline.{Skyline}
 use Rattle.depth_sweep.proofs.Primitives.{from_part, in_part}
 
@@ -18,6 +20,22 @@ cut_at low middle high x some also = (
     | inr i ↦ let a = i.from in let b = i.before in record { from = omega (arith, ints); before = b }
   ],
 )
+
+-- what is found at a column begins there
+pub active_at : (s : Skyline) (x : ℤ) (rect : Rect) → IsSkyline s → get int_cmp s.active x ≡ Some rect → IsActiveIn s rect
+active_at s x rect sound at = subst (λ (z : ℤ). get int_cmp s.active z ≡ Some rect) (sym (sound.by_column x rect at)) at
+
+-- a rectangle that is joined with none
+pub joins_none : (s : Skyline) (rect : Rect) → IsSkyline s → HasRoom s rect.x0 rect.x1 rect → Joins s s rect rect
+joins_none s rect sound room = record {
+  sound = sound;
+  room = room;
+  cells = λ c. (λ u. u, λ u. u);
+  columns = λ x. (λ o. o, λ o. o);
+  runs = refl;
+  rows = refl;
+  below = λ row h. h;
+}
 
 -- the rectangle has the columns of the two others, all three in the same rows
 pub record IsBoth (one other both : Rect) : Type 0 where

@@ -1,5 +1,5 @@
-use Rattle.std.proofs.Common.{List, subst, sym, arith}
-use Rattle.lists.proofs.Words.{IsPermutation}
+use Rattle.std.proofs.Common.{List, arith, refl, subst, sym}
+use Rattle.lists.proofs.Words.{IsPermutation, slice_get_read}
 use Rattle.std.proofs.lemmas.List.Sorted.{length_permutation}
 use Rattle.geo_core.specs.declared.plane.Rect.{Rect}
 use Rattle.depth_sweep.specs.Runs.{AreByRow}
@@ -12,6 +12,10 @@ loop-rect-init c = record {
   cells = union_begun c.new-skyline.result c.as_slice-rect-items.result.now c.new-skyline.ensures.sound c.new-skyline.ensures.below c.new-skyline.ensures.none;
   looks = omega arith;
 }
+
+pub add-requires-clause-below : goal.add-requires-clause-below
+add-requires-clause-below c = c.loop-rect.invariant.cells.below c.loop-rect.rect-index c.rect-item.result (omega arith)
+    (slice_get_read _ _ _ _ refl c.loop-rect-test.true c.rect-item.is)
 
 pub loop-rect-preserved : goal.loop-rect-preserved
 loop-rect-preserved c = record {

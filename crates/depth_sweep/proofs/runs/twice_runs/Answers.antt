@@ -1,5 +1,5 @@
-use Rattle.std.proofs.Common.{Global, Vec, subst, sym, List, ◌↔◌}
-use Rattle.lists.proofs.Words.{IfOk-weaker, IsPermutation}
+use Rattle.std.proofs.Common.{Global, Vec, arith, refl, subst, sym, List, ◌↔◌}
+use Rattle.lists.proofs.Words.{IfOk-weaker, IsPermutation, slice_get_read}
 use Rattle.geo_core.specs.Plane.{Has, IsInUnion}
 use Rattle.geo_core.specs.declared.plane.Cell.{Cell}
 use Rattle.geo_core.specs.declared.plane.Rect.{Rect}
@@ -13,6 +13,33 @@ pub loop-rect-init : goal.loop-rect-init
 loop-rect-init c = twice_begun c.new-once.result c.new-twice.result c.as_slice-rect-items.result.now
     (union_begun c.new-once.result c.as_slice-rect-items.result.now c.new-once.ensures.sound c.new-once.ensures.below c.new-once.ensures.none)
     c.new-twice.ensures.sound c.new-twice.ensures.below c.new-twice.ensures.none
+
+pub common-requires-clause-sound : goal.common-requires-clause-sound
+common-requires-clause-sound c = c.loop-rect.invariant.union.sound
+
+pub common-requires-clause-below : goal.common-requires-clause-below
+common-requires-clause-below c = c.loop-rect.invariant.union.below c.loop-rect.rect-index c.rect-item.result (omega arith)
+    (slice_get_read _ _ _ _ refl c.loop-rect-test.true c.rect-item.is)
+
+pub add_all-requires-clause-sound : goal.add_all-requires-clause-sound
+add_all-requires-clause-sound c = c.loop-rect.invariant.sound
+
+pub add_all-requires-clause-below : goal.add_all-requires-clause-below
+add_all-requires-clause-below c = c.loop-rect.invariant.below c.loop-rect.rect-index c.rect-item.result (omega arith)
+    (slice_get_read _ _ _ _ refl c.loop-rect-test.true c.rect-item.is)
+
+pub add_all-requires-clause-level : goal.add_all-requires-clause-level
+add_all-requires-clause-level c = rw c.as_slice.ensures.value c.in_ok-parts.ensures.level
+
+pub add-requires-clause-sound : goal.add-requires-clause-sound
+add-requires-clause-sound c = c.loop-rect.invariant.union.sound
+
+pub add-requires-clause-below : goal.add-requires-clause-below
+add-requires-clause-below c = c.loop-rect.invariant.union.below c.loop-rect.rect-index c.rect-item.result (omega arith)
+    (slice_get_read _ _ _ _ refl c.loop-rect-test.true c.rect-item.is)
+
+pub finish-requires : goal.finish-requires
+finish-requires c = c.loop-rect.invariant.sound
 
 pub loop-rect-preserved : goal.loop-rect-preserved
 loop-rect-preserved c =

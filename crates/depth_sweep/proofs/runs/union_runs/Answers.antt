@@ -1,5 +1,5 @@
-use Rattle.std.proofs.Common.{Global, Vec, subst, sym, List, ◌↔◌}
-use Rattle.lists.proofs.Words.{IfOk-weaker, IsPermutation}
+use Rattle.std.proofs.Common.{Global, Vec, arith, refl, subst, sym, List, ◌↔◌}
+use Rattle.lists.proofs.Words.{IfOk-weaker, IsPermutation, slice_get_read}
 use Rattle.geo_core.specs.Plane.{IsInUnion}
 use Rattle.geo_core.specs.declared.plane.Cell.{Cell}
 use Rattle.geo_core.specs.declared.plane.Rect.{Rect}
@@ -11,6 +11,10 @@ use Rattle.depth_sweep.proofs.runs.union_runs.Goals as goal
 
 pub loop-rect-init : goal.loop-rect-init
 loop-rect-init c = union_begun c.new-skyline.result c.as_slice-rect-items.result.now c.new-skyline.ensures.sound c.new-skyline.ensures.below c.new-skyline.ensures.none
+
+pub add-requires-clause-below : goal.add-requires-clause-below
+add-requires-clause-below c = c.loop-rect.invariant.below c.loop-rect.rect-index c.rect-item.result (omega arith)
+    (slice_get_read _ _ _ _ refl c.loop-rect-test.true c.rect-item.is)
 
 pub loop-rect-preserved : goal.loop-rect-preserved
 loop-rect-preserved c = union_next c.loop-rect.skyline c.add.new.self c.as_slice-rect-items.result.now c.loop-rect.rect-index c.rect-item.result

@@ -13,3 +13,9 @@ start-requires-clause-room c =
 pub returns-clause-cells : goal.returns-clause-cells
 returns-clause-cells c = (all_added c.args.self.now c.add_over.new.self c.start.new.self c.args.rect c.in_ok-end.end c.in_ok-end.ensures
     (activates_at _ _ _ _ c.add_over.new.self c.start.new.self c.args.rect c.in_ok-start.ensures (omega (arith, ints)) (omega (arith, ints)))).2
+
+pub start-requires-clause-up_to : goal.start-requires-clause-up_to
+start-requires-clause-up_to c = let a = c.in_ok-end.ensures.up_to in omega (arith, ints)
+
+pub returns-clause-below : goal.returns-clause-below
+returns-clause-below c = c.in_ok-start.ensures.below c.args.rect.y0 c.in_ok-end.ensures.below (omega (arith, ints))

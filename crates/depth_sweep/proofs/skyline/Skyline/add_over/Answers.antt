@@ -1,6 +1,6 @@
 use Rattle.std.proofs.Common.{arith}
 use Rattle.lists.proofs.Words.{ints}
-use Rattle.depth_sweep.proofs.Adding.{added_at, added_free, added_more, free_from_behind, free_from_none, next_active}
+use Rattle.depth_sweep.proofs.Adding.{added_at, added_free, added_more, added_none, added_whole, free_from_behind, free_from_none, next_active}
 use Rattle.depth_sweep.proofs.skyline.Skyline.add_over.Goals as goal
 
 pub returns-in_default : goal.returns-in_default
@@ -19,3 +19,15 @@ pub loop-column-preserved : goal.loop-column-preserved
 loop-column-preserved c = added_at c.args.self.now c.meet.new.self c.args.rect _ _ c.args.rect.x1 _ _
     (added_more c.args.self.now c.loop-column.self c.meet.new.self c.args.rect _ _ c.args.rect.x1 _ _ c.loop-column.invariant c.in_ok-end.ensures)
     (omega (arith, ints)) (omega (arith, ints))
+
+pub loop-column-init : goal.loop-column-init
+loop-column-init c = added_none c.args.self.now c.args.rect _ _ c.requires.sound c.requires.below c.args.rect.across.some (omega (arith, ints)) (omega (arith, ints))
+
+pub meet-requires-clause-below : goal.meet-requires-clause-below
+meet-requires-clause-below c = c.loop-column.invariant.below
+
+pub meet-requires-clause-from : goal.meet-requires-clause-from
+meet-requires-clause-from c = let a = c.loop-column.invariant.looked in let b = c.in-Some.ensures.before in omega (arith, ints)
+
+pub returns : goal.returns
+returns c = added_whole c.args.self.now c.loop-column.self c.args.rect _ c.args.rect.x1 _ c.loop-column.invariant (omega (arith, ints, c.loop-column-test.false))
