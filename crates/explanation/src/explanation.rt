@@ -1,0 +1,133 @@
+//! The explanation of a run, from its words down.
+
+use crate::inputs::{Input, LONGEST_LAYOUT, read_again};
+use crate::layouts::{Layout, tell_layout};
+use crate::maps::{tell_map_fault, tell_terminals};
+use crate::path_kinds::Paths;
+use crate::telling::Telling;
+use crate::text::Text;
+use crate::usage::tell_misfit;
+use crate::words::find_misfit;
+use command_line::{Request, Task, Word, WordsFault, read_words};
+use edge_io::Files;
+use layer_map::read_map;
+use lists::{Name, NoMemory};
+use map_model::{Map, one_metal};
+use std::alloc::Global;
+
+/// What is said of a run.
+#[derive(Drop)]
+pub struct Explanation {
+    /// The status with which the run ends, and 8 where a file cannot be read a second time.
+    pub status: u8,
+    /// The line that the run prints, where it refuses its input, and then the words.
+    pub text: String,
+}
+
+/// Tells why the words fit no form.
+fn tell_words(alloc: Global, told: &mut Telling, words: &[Word]) -> Result<(), NoMemory> {
+    told.refuse(2, 2, 0);
+    tell_misfit(&mut told.text, find_misfit(alloc, words)?);
+    told.text.say(
+        "\n  critarea LAYOUT --map MAP\n  critarea LAYOUT --layer L --datatype D --radius R\n",
+    );
+    Ok(())
+}
+
+/// The map that is asked for, where it is good. Else it is told why not.
+fn map_for<F: Files, P: Paths>(
+    alloc: Global,
+    told: &mut Telling,
+    request: &Request,
+    files: &mut F,
+    paths: &P,
+) -> Result<Option<Map>, NoMemory> {
+    match &request.task {
+        Task::OneMetal {
+            layer,
+            datatype,
+            radius,
+            ..
+        } => Ok(Some(one_metal(alloc, *layer, *datatype, *radius)?)),
+        Task::Mapped { map, .. } => {
+            let name = map.as_slice();
+            match read_again(alloc, told, files, paths, Input::Map, name)? {
+                Some(bytes) => map_of(alloc, told, name, bytes.as_slice()),
+                None => Ok(None),
+            }
+        }
+    }
+}
+
+/// The map that the bytes say, where it is good. Else it is told why not.
+fn map_of(
+    alloc: Global,
+    told: &mut Telling,
+    name: &[u8],
+    bytes: &[u8],
+) -> Result<Option<Map>, NoMemory> {
+    match read_map(alloc, bytes) {
+        Ok(map) if map.terminals.as_slice().is_empty() => return Ok(Some(map)),
+        Ok(_) => tell_terminals(told, name),
+        Err(fault) => tell_map_fault(alloc, told, name, bytes, fault)?,
+    }
+    Ok(None)
+}
+
+/// The names of the layout's file and of the structure that is wanted, where one is.
+fn layout_of(task: &Task) -> (&[u8], Option<&[u8]>) {
+    match task {
+        Task::OneMetal { layout, top, .. } | Task::Mapped { layout, top, .. } => {
+            (layout.as_slice(), top.as_ref().map(Name::as_slice))
+        }
+    }
+}
+
+/// Tells of the files that are asked for.
+fn tell_files<F: Files, P: Paths>(
+    alloc: Global,
+    told: &mut Telling,
+    request: &Request,
+    files: &mut F,
+    paths: &P,
+) -> Result<(), NoMemory> {
+    let Some(_map) = map_for(alloc, told, request, files, paths)? else {
+        return Ok(());
+    };
+    let (name, top) = layout_of(&request.task);
+    let Some(bytes) = read_again(alloc, told, files, paths, Input::Layout, name)? else {
+        return Ok(());
+    };
+    if bytes.len() > LONGEST_LAYOUT {
+        return Ok(());
+    }
+    let layout = Layout {
+        name,
+        bytes: bytes.as_slice(),
+        top,
+    };
+    tell_layout(alloc, told, &layout)
+}
+
+/// What is to be said of the run of these words on these files.
+pub fn explain<F: Files, P: Paths>(
+    alloc: Global,
+    words: &[Word],
+    files: &mut F,
+    paths: &P,
+) -> Result<Explanation, NoMemory> {
+    let mut told = Telling {
+        status: 0,
+        text: Text::new(alloc),
+    };
+    match read_words(alloc, words) {
+        Ok(request) => tell_files(alloc, &mut told, &request, files, paths)?,
+        Err(WordsFault::Usage) => tell_words(alloc, &mut told, words)?,
+        Err(WordsFault::Memory) => return Err(NoMemory),
+    }
+    let Telling { status, text } = told;
+    Ok(Explanation {
+        status,
+        text: text.whole()?,
+    })
+}

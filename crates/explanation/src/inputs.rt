@@ -1,0 +1,125 @@
+//! The files of a run, read once more.
+
+ghost use Rattle.std.specs.Prelude.{◌≤◌, ◌^◌};
+
+use crate::path_kinds::{PathKind, Paths};
+use crate::telling::Telling;
+use edge_io::{Files, ReadError, read_whole};
+use lists::NoMemory;
+use std::alloc::Global;
+
+/// The status of a run whose file could not be read.
+const FAILED: u8 = 5;
+
+/// The status that stands for a file that cannot be read a second time. No run ends with it.
+const READ_ONCE: u8 = 8;
+
+/// The most bytes that a layout may have.
+pub const LONGEST_LAYOUT: usize = 268_435_456;
+
+/// The most bytes that a map may have.
+const LONGEST_MAP: usize = 1_048_576;
+
+/// What a file is to a run.
+#[derive(Clone, Copy, Debug, PartialEq, Eq)]
+pub enum Input {
+    Map,
+    Layout,
+}
+
+impl Input {
+    /// How it is called.
+    pub fn word(self) -> &'static str {
+        match self {
+            Input::Map => "map",
+            Input::Layout => "layout",
+        }
+    }
+
+    /// The most bytes that it may have.
+    fn limit(self) -> usize
+        ensures { result ≤ 2 ^ 30 }
+    {
+        match self {
+            Input::Map => LONGEST_MAP,
+            Input::Layout => LONGEST_LAYOUT,
+        }
+    }
+
+    /// The status of a run that refuses it, and the number of one that is too long.
+    fn too_long(self) -> (u8, u8) {
+        match self {
+            Input::Map => (3, 39),
+            Input::Layout => (4, 9),
+        }
+    }
+}
+
+/// Why a file that could not be read could not, in words.
+fn words_of(kind: PathKind) -> &'static str {
+    match kind {
+        PathKind::Missing => "there is no such file",
+        PathKind::Forbidden =>
+            "the system does not let it be looked at; see who may enter its folder",
+        PathKind::Folder => "this is a folder, and a file is wanted",
+        PathKind::Pipe =>
+            "this is a pipe, which cannot be read a second time; save it as a file to be told more",
+        PathKind::Device =>
+            "this is a device, which cannot be read a second time; save it as a file to be told more",
+        PathKind::File => "the file is there and cannot be read; see who may read it",
+        PathKind::Untold => "the system cannot reach it",
+    }
+}
+
+/// Tells why a file could not be read.
+fn tell_unread(told: &mut Telling, input: Input, name: &[u8], kind: PathKind) {
+    let what = input.word();
+    let why = words_of(kind);
+    told.text.say(what);
+    told.text.say(" ");
+    told.text.name(name);
+    told.text.say(": ");
+    told.text.say(why);
+    told.text.say("\n");
+}
+
+/// Tells that a file is too long.
+fn tell_too_long(told: &mut Telling, input: Input, name: &[u8]) {
+    let limit = input.limit();
+    let (status, number) = input.too_long();
+    told.refuse(status, number, limit as u64);
+    let what = input.word();
+    told.text.say(what);
+    told.text.say(" ");
+    told.text.name(name);
+    told.text.say(": it has more than ");
+    told.text.number(limit as u64);
+    told.text.say(" bytes\n");
+}
+
+/// What the file contains, where it can be read a second time and is not too long. Else it is told why not.
+pub fn read_again<F: Files, P: Paths>(
+    alloc: Global,
+    told: &mut Telling,
+    files: &mut F,
+    paths: &P,
+    input: Input,
+    name: &[u8],
+) -> Result<Option<Vec<u8>>, NoMemory> {
+    let kind = paths.kind(name);
+    if kind == PathKind::Pipe || kind == PathKind::Device {
+        told.status = READ_ONCE;
+        tell_unread(told, input, name, kind);
+        return Ok(None);
+    }
+    match read_whole(alloc, files, name, input.limit()) {
+        Ok(bytes) => return Ok(Some(bytes)),
+        Err(ReadError::Memory) => return Err(NoMemory),
+        Err(ReadError::TooLong) => tell_too_long(told, input, name),
+        Err(ReadError::Fault) => {
+            told.status = FAILED;
+            tell_unread(told, input, name, kind);
+        }
+    }
+    Ok(None)
+}

@@ -1,0 +1,143 @@
+//! What is wrong with a layout, or that nothing is.
+
+ghost use Rattle.std.specs.Prelude.{◌≤◌, length};
+
+use crate::beginnings::{begins_as_text, format_of, is_gdsii};
+use crate::kind_names::record_name;
+use crate::places::{tell_before, tell_place};
+use crate::refused::meaning;
+use crate::spot::{spot_at, spot_before};
+use crate::telling::Telling;
+use gds_records::RecordFault;
+use gds_syntax::{SyntaxFault, read_library};
+use lists::NoMemory;
+use std::alloc::Global;
+
+/// The status of a run that refuses a layout.
+const REFUSED: u8 = 4;
+
+/// A layout as it is told of.
+#[derive(Clone, Copy)]
+pub struct Layout<'a> {
+    /// The name of its file.
+    pub name: &'a [u8],
+    /// What the file contains.
+    pub bytes: &'a [u8],
+    /// The name of the structure that is wanted as the top, where one is.
+    pub top: Option<&'a [u8]>,
+}
+
+/// Tells what a number means of a place of the layout, in a line.
+pub fn tell_number(told: &mut Telling, layout: &Layout<'_>, number: u8, place: u64) {
+    told.refuse(REFUSED, number, place);
+    let (what, remedy) = meaning(number);
+    told.text.say("layout ");
+    told.text.name(layout.name);
+    told.text.say(", byte ");
+    told.text.number(place);
+    told.text.say(": ");
+    told.text.say(what);
+    told.text.say("; ");
+    told.text.say(remedy);
+    told.text.say("\n");
+}
+
+/// Tells of a file that is no GDSII layout from its beginning on.
+fn tell_no_gdsii(told: &mut Telling, layout: &Layout<'_>, number: u8, place: u64) {
+    told.refuse(REFUSED, number, place);
+    let text = &mut told.text;
+    text.say("layout ");
+    text.name(layout.name);
+    text.say(": it is no GDSII layout");
+    if layout.bytes.is_empty() {
+        text.say(", but empty");
+    } else if let Some(format) = format_of(layout.bytes) {
+        text.say(", but ");
+        text.say(format);
+    } else if begins_as_text(layout.bytes) {
+        text.say("; it begins as a text does, with ");
+        text.name(&layout.bytes[..layout.bytes.len().min(16)]);
+    } else {
+        text.say("; it is compressed or of another format, so unpack it, or export it as GDSII");
+    }
+    text.say("\n");
+}
+
+/// Tells of a fault of a record, or of a record that may not stand where it does.
+fn tell_record(told: &mut Telling, layout: &Layout<'_>, fault: SyntaxFault) {
+    tell_number(told, layout, fault.number(), fault.place());
+    let text = &mut told.text;
+    let spot = spot_before(layout.bytes, fault.place() as u32);
+    text.say("  ");
+    match fault {
+        SyntaxFault::Unexpected { kind, .. } => {
+            let name = record_name(kind);
+            text.say(name);
+            text.say(" ");
+        }
+        SyntaxFault::Record(RecordFault::BadLength { len, .. }) => {
+            text.say("length ");
+            text.number(len as u64);
+            text.say(", ");
+        }
+        SyntaxFault::Record(RecordFault::BadRecord { kind, form, .. }) => {
+            let name = record_name(kind);
+            text.say(name);
+            text.say(", ");
+            text.number(u64::from(kind));
+            text.say(", with data of form ");
+            text.number(form as u64);
+            text.say(", ");
+        }
+        _ => {}
+    }
+    tell_before(text, &spot);
+    text.say(", ");
+    tell_place(text, &spot);
+    text.say("\n");
+}
+
+/// Tells of a fault of an element, or of a name that stands twice.
+fn tell_element_fault(told: &mut Telling, layout: &Layout<'_>, fault: SyntaxFault) {
+    tell_number(told, layout, fault.number(), fault.place());
+    let text = &mut told.text;
+    let spot = spot_at(layout.bytes, fault.place() as u32);
+    text.say("  ");
+    tell_place(text, &spot);
+    if let SyntaxFault::Missing { kind, .. } = fault {
+        let name = record_name(kind);
+        text.say("; it lacks ");
+        text.say(name);
+    }
+    text.say("\n");
+}
+
+/// Tells of bytes that are no library.
+fn tell_syntax(
+    told: &mut Telling,
+    layout: &Layout<'_>,
+    fault: SyntaxFault,
+) -> Result<(), NoMemory> {
+    match fault {
+        SyntaxFault::Memory => return Err(NoMemory),
+        SyntaxFault::Record(_) | SyntaxFault::Unexpected { .. } => {
+            if is_gdsii(layout.bytes) {
+                tell_record(told, layout, fault);
+            } else {
+                tell_no_gdsii(told, layout, fault.number(), fault.place());
+            }
+        }
+        _ => tell_element_fault(told, layout, fault),
+    }
+    Ok(())
+}
+
+/// Tells of the layout.
+pub fn tell_layout(alloc: Global, told: &mut Telling, layout: &Layout<'_>) -> Result<(), NoMemory>
+    requires { length layout.now.bytes.now ≤ 268435456 }
+{
+    match read_library(alloc, layout.bytes) {
+        Ok(_) => Ok(()),
+        Err(fault) => tell_syntax(told, layout, fault),
+    }
+}

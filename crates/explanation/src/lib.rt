@@ -1,0 +1,26 @@
+//! What critarea finds wrong with the words, the map or the layout of a run, in words for people. It reads the same files
+//! again by the same readers, finds the same first refusal, and tells more of it than a number and a place: the key, the
+//! structure by its name, the element. Its text is no promise, and may change.
+#![tactic(auto)]
+
+mod beginnings;
+mod explanation;
+mod inputs;
+mod kind_names;
+mod layouts;
+mod map_spot;
+mod maps;
+mod path_kinds;
+mod places;
+mod position;
+mod quoted;
+mod refused;
+mod spot;
+mod telling;
+mod text;
+mod usage;
+mod words;
+
+pub use command_line::Word;
+pub use explanation::{Explanation, explain};
+pub use path_kinds::{OsPaths, PathKind, Paths};

@@ -1,0 +1,199 @@
+//! Places in a layout: which structure and which element stand at an offset.
+
+use gds_records::{Record, Records, kinds, text};
+
+/// What is known of a place in a layout, as far as its records tell.
+#[derive(Clone, Copy)]
+pub struct Spot<'a> {
+    /// The name of the structure.
+    pub structure: Option<&'a [u8]>,
+    /// The number of the element in its structure, counted from 1, and 0 in front of the first.
+    pub element: u32,
+    /// The kind of the element's opening record, where the place is in an element.
+    pub kind: Option<u8>,
+    /// Its layer.
+    pub layer: Option<u16>,
+    /// Its datatype, or the type of a box, a text or a node.
+    pub datatype: Option<u16>,
+    /// Its first point, in database units.
+    pub point: Option<(i32, i32)>,
+    /// The name of the structure that a reference places.
+    pub target: Option<&'a [u8]>,
+    /// The kind of the last record in front of the place.
+    pub before: Option<u8>,
+}
+
+/// The place at the beginning of a layout.
+const BEGINNING: Spot<'static> = Spot {
+    structure: None,
+    element: 0,
+    kind: None,
+    layer: None,
+    datatype: None,
+    point: None,
+    target: None,
+    before: None,
+};
+
+/// Whether a record of this kind opens an element.
+fn opens_element(kind: u8) -> bool {
+    matches!(
+        kind,
+        kinds::BOUNDARY
+            | kinds::PATH
+            | kinds::SREF
+            | kinds::AREF
+            | kinds::TEXT
+            | kinds::NODE
+            | kinds::BOX
+    )
+}
+
+/// Whether a record of this kind ends or begins something, so that what stands behind it is no part of an element.
+fn is_border(kind: u8) -> bool {
+    opens_element(kind)
+        || matches!(
+            kind,
+            kinds::BGNSTR | kinds::ENDSTR | kinds::ENDEL | kinds::ENDLIB
+        )
+}
+
+/// The first number of two bytes, without sign.
+fn first_u16(body: &[u8]) -> Option<u16> {
+    match body {
+        [high, low, ..] => Some(u16::from_be_bytes([*high, *low])),
+        _ => None,
+    }
+}
+
+/// The first point.
+fn first_point(body: &[u8]) -> Option<(i32, i32)> {
+    match body {
+        [a, b, c, d, e, f, g, h, ..] => Some((
+            i32::from_be_bytes([*a, *b, *c, *d]),
+            i32::from_be_bytes([*e, *f, *g, *h]),
+        )),
+        _ => None,
+    }
+}
+
+impl<'a> Spot<'a> {
+    /// The place behind a record that opens a structure.
+    fn in_structure(self) -> Spot<'a> {
+        Spot {
+            structure: None,
+            element: 0,
+            ..self.outside()
+        }
+    }
+
+    /// The place outside of the element.
+    fn outside(self) -> Spot<'a> {
+        Spot {
+            structure: self.structure,
+            element: self.element,
+            kind: None,
+            layer: None,
+            datatype: None,
+            point: None,
+            target: None,
+            before: self.before,
+        }
+    }
+
+    /// The place behind a record that opens an element.
+    fn in_element(self, kind: u8) -> Spot<'a> {
+        Spot {
+            element: self.element.saturating_add(1),
+            kind: Some(kind),
+            ..self.outside()
+        }
+    }
+
+    /// The place behind a record within an element.
+    fn with_field(self, record: &Record<'a>) -> Spot<'a> {
+        match record.kind {
+            kinds::LAYER => Spot {
+                layer: first_u16(record.body),
+                ..self
+            },
+            kinds::DATATYPE | kinds::TEXTTYPE | kinds::NODETYPE | kinds::BOXTYPE => Spot {
+                datatype: first_u16(record.body),
+                ..self
+            },
+            kinds::XY => Spot {
+                point: first_point(record.body),
+                ..self
+            },
+            kinds::SNAME => Spot {
+                target: Some(text(record)),
+                ..self
+            },
+            _ => self,
+        }
+    }
+
+    /// The place behind a record.
+    fn behind(self, record: &Record<'a>) -> Spot<'a> {
+        let next = match record.kind {
+            kinds::BGNSTR => self.in_structure(),
+            kinds::STRNAME => Spot {
+                structure: Some(text(record)),
+                ..self
+            },
+            kinds::ENDEL | kinds::ENDSTR => self.outside(),
+            kind if opens_element(kind) => self.in_element(kind),
+            _ => self.with_field(record),
+        };
+        Spot {
+            before: Some(record.kind),
+            ..next
+        }
+    }
+}
+
+/// The next record, where one is left.
+fn next_record<'a>(records: &mut Records<'a>) -> Option<Record<'a>> {
+    match records.next() {
+        Ok(Some(record)) => Some(record),
+        _ => None,
+    }
+}
+
+/// What stands in front of the record at this offset of the bytes.
+pub fn spot_before(bytes: &[u8], place: u32) -> Spot<'_> {
+    let mut spot = BEGINNING;
+    if bytes.len() > u32::MAX as usize {
+        return spot;
+    }
+    let mut records = Records::new(bytes);
+    for _ in 0..bytes.len() {
+        let Some(record) = next_record(&mut records) else {
+            return spot;
+        };
+        if record.at >= place {
+            return spot;
+        }
+        spot = spot.behind(&record);
+    }
+    spot
+}
+
+/// What the record at this offset of the bytes opens: an element with what its records tell, or a structure with its name.
+pub fn spot_at(bytes: &[u8], place: u32) -> Spot<'_> {
+    let mut spot = BEGINNING;
+    if bytes.len() > u32::MAX as usize {
+        return spot;
+    }
+    let mut records = Records::new(bytes);
+    for _ in 0..bytes.len() {
+        let Some(record) = next_record(&mut records) else {
+            return spot;
+        };
+        if record.at > place && is_border(record.kind) {
+            return spot;
+        }
+        spot = spot.behind(&record);
+    }
+    spot
+}
