@@ -18,8 +18,7 @@ use std::alloc::Global;
 
 /// For each question of the parts, in order, how many cells of the window, where there is one, have its fault.
 ///
-/// Opens are not counted yet, so the amounts are right where there are no terminals. The only error is that no memory is
-/// left.
+/// Opens have the amount 0, so amounts are right where the map has no terminals. The only error is that no memory is left.
 pub fn amounts(alloc: Global, parts: &Parts, window: Option<Rect>) -> Result<Vec<u64>, NoMemory>
     ensures tallies { (layer_map : LayerMap) (lists : List (List Rectangle)) → ArePartsOf layer_map lists parts.now →
         layer_map.terminals ≡ [] → terminal_cuts_of layer_map ≡ [] →

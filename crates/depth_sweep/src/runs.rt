@@ -84,8 +84,8 @@ const LOOKS_EACH: usize = 8;
 /// Rectangles that together have the cells of these, and are no more.
 ///
 /// They are rectangles without common cells where these are no more and are found with few looks, and else those of the
-/// list. So equal and nested rectangles become one, and a mesh, which falls into as many rectangles as it has holes, stays
-/// as it is. Their order is left open. The only error is that no memory is left.
+/// list: no clause says which of the two. So equal and nested rectangles become one, and a mesh, which falls into as many
+/// rectangles as it has holes, stays as it is. Their order is left open. The only error is that no memory is left.
 pub fn merge_rects(alloc: Global, rects: &[Rect]) -> Result<Vec<Rect>, NoMemory>
     ensures same { IfOk result (λ merged. HaveSameCells rects.now merged.items) }
     ensures few { IfOk result (λ merged. length merged.items ≤ length rects.now) }

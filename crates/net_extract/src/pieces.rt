@@ -2,9 +2,9 @@ ghost use Rattle.std.specs.Prelude.{◌<◌, length};
 
 use geo_core::{Cell, Items, Rect, RectList};
 
-/// A rectangle of a metal with the numbers of an island and of a net. In `Nets`, pieces of one metal have the same
-/// `island` exactly where they are of one island, and pieces of any metals have the same `net` exactly where they are of
-/// one net. Pieces may overlap.
+/// A rectangle of a metal with the numbers of an island and of a net. In nets that `extract` makes, pieces of one metal
+/// have the same `island` exactly where they are of one island, and pieces of any metals have the same `net` exactly where
+/// they are of one net. Pieces may overlap.
 #[derive(Clone, Copy, Debug, PartialEq, Eq)]
 pub struct Piece {
     pub rect: Rect,

@@ -7,9 +7,9 @@ use depth_sweep::merge_rects;
 use geo_core::{Labelled, NoMemory, Rect};
 use std::alloc::Global;
 
-/// Rectangles that have the same cells under each label, and are no more. Where those of one label overlap, and others
-/// without common cells are no more, these stand in their place. Without this, what rectangles of a cut and of both its
-/// metals have in common would be as many pieces as there are triples of rectangles that overlap.
+/// Rectangles that have the same cells under each label. Where those of one label overlap, and others without common cells
+/// are no more and quickly found, these stand in their place, which no clause says. Without this, what rectangles of a cut
+/// and of both its metals have in common would be as many pieces as there are triples of rectangles that overlap.
 pub fn slim(alloc: Global, mut rects: Vec<Labelled>) -> Result<Vec<Labelled>, NoMemory>
     ensures { IfOk result (λ slim. HaveSameLabelled rects.items slim.items) }
 {

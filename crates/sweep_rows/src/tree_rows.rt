@@ -1,6 +1,6 @@
 //! Two ranges of three columns of different widths are put, and one is taken again.
 
-ghost use Rattle.std.specs.Prelude.{◌≡◌, ◌<◌, ◌≤◌, ◌+◌, ◌*◌, IfOk};
+ghost use Rattle.std.specs.Prelude.{◌≡◌, ◌<◌, ◌≤◌, ◌+◌, ◌*◌, IfOk, length};
 
 use cover_tree::CoverTree;
 use geo_core::{CountRow, NoMemory, Node, Steps};
@@ -42,7 +42,15 @@ fn counted_widths<L: Ledger>(alloc: Global, blank: Blank) -> Result<[(i64, i64);
     widths_in_turn(alloc, &mut steps)
 }
 
-/// A node of a new row of two, and that it took one step.
+/// A node of the row. It takes one step.
+fn node_at<L: Ledger>(row: &CountRow, number: usize, steps: &mut Steps<L>) -> Node
+    requires { number < length row.now }
+    ensures { steps.new ≡ steps.old + 1 }
+{
+    row.get(number, steps)
+}
+
+/// A node of a new row of two.
 fn node_of_new_row<L: Ledger>(alloc: Global, blank: Blank) -> Result<Node, NoMemory>
     requires name { blank.name ≡ L.name }
     requires parts { blank.parts ≡ L.parts }
@@ -50,7 +58,7 @@ fn node_of_new_row<L: Ledger>(alloc: Global, blank: Blank) -> Result<Node, NoMem
 {
     let mut steps = Steps::<L>::start(blank);
     let row = CountRow::new(alloc, 2)?;
-    Ok(row.get(1, &mut steps))
+    Ok(node_at(&row, 1, &mut steps))
 }
 
 #[test]
