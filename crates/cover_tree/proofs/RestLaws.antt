@@ -90,7 +90,8 @@ module _ (height : ℕ) (edit : Edit) (part : Part) (p : IsPart height part) (wh
       elsewhere = lower.elsewhere;
       counts = λ level column less under.
           subst (λ n. IsChangedBy edit.change n (row_node height old level column).count (row_node height mid level column).count) (same_times level column less under)
-          (subst (λ change. IsChangedBy change (times_in_cut height rest.low rest.high (node_over level column)) (row_node height old level column).count (row_node height mid level column).count) (same_change edit whole rest is)
+          (subst (λ change. IsChangedBy change (times_in_cut height rest.low rest.high (node_over level column)) (row_node height old level column).count (row_node height mid level column).count)
+          (same_change edit whole rest is)
           (lower.counts level column less under));
       kept = lower.kept;
     }

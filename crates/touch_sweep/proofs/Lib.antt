@@ -3,6 +3,9 @@ pub mod TouchLaws
 pub mod SweepSteps
 pub mod SearchSteps
 pub mod StripSteps
+pub mod SplitLaws
+pub mod ColumnLaws
+pub mod WorkLaws
 pub mod EntrySteps
 pub mod PairSteps
 pub mod AcrossSteps

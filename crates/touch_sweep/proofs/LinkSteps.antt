@@ -64,6 +64,9 @@ module _ (low high : ℤ) (points spans inner partly : List Numbered) (inner_is 
   pub inner_begin : All (λ e. IsIn low high e.rect.x0) inner
   inner_begin = all_of_each (λ e. IsIn low high e.rect.x0) inner (λ e c. begins_within low high e (passed (begins_in low high) points inner inner_is e c))
 
+  pub inner_among : (e : Numbered) → Contains inner e → Contains points e × IsIn low high e.rect.x0
+  inner_among e c = (in_points low high points spans inner partly inner_is partly_is e c, All-contains (λ e. IsIn low high e.rect.x0) inner e inner_begin c)
+
   pub nothing_to_link : (pairs : List (ℕ × ℕ)) → length inner ≡ 0 → Links (IsMatchFrom low high points spans) (IsMatchOf points spans) pairs pairs
   nothing_to_link pairs none = links_all (nothing_begins low high points spans inner partly inner_is partly_is pairs none) (λ p m. m) (λ p m. m)
 
@@ -91,9 +94,11 @@ link_from_halves low high left_low left_high right_low right_high points spans b
 
 -- ---- one column
 
-pub column_from_sweep : (points spans : List Numbered) {old new : List (ℕ × ℕ)} → Gains (IsMatchOf points spans) (IsMatchOf points spans) old new
-    → Links (IsMatchAfter points spans) (IsMatchOf points spans) old new
-column_from_sweep points spans g = links_all g (λ p (m : IsMatchAfter points spans p). m.found) (λ p m. m)
+pub column_begins : (points : List Numbered) (first : Numbered) (low high : ℤ) → low ≡ first.rect.x0 → high ≡ first.rect.x0 +ℤ pos 1 → All (λ e. e.rect.x0 ≡ first.rect.x0) points
+    → All (λ e. IsIn low high e.rect.x0) points
+column_begins points first low high begins ends column = all_of_each (λ e. IsIn low high e.rect.x0) points (λ e c.
+    let at = All-contains (λ e. e.rect.x0 ≡ first.rect.x0) points e column c in
+    record { from = omega (arith, ints); before = omega (arith, ints) })
 
 module _ (low high : ℤ) (points spans partly : List Numbered) (within : All (λ e. IsIn low high e.rect.x0) points) (partly_is : partly ≡ filter (meets_partly low high) spans) where
   begin : (e : Numbered) → Contains points e → IsIn low high e.rect.x0

@@ -1,6 +1,6 @@
 -- from the links that the search found to the answer
 use Rattle.std.proofs.Common.{ℕ, ◌<◌, List, [], inl, inr, length, ℤ, All, Contains}
-use Rattle.lists.proofs.Words.{slice_get_within}
+use Rattle.lists.proofs.Words.{slice_get_within, All-contains}
 use Rattle.paths.specs.Paths.{Path, stay, step}
 use Rattle.classes.specs.Classes.{AreJoined, IsPair}
 use Rattle.geo_core.specs.Plane.{IsIn}
@@ -11,7 +11,16 @@ use Rattle.touch_sweep.specs.inside.Entries.{AreNumbered}
 use Rattle.touch_sweep.specs.inside.Matches.{IsMatchFrom, IsMatchOf}
 use Rattle.touch_sweep.specs.declared.numbered.Numbered.{Numbered}
 use Rattle.touch_sweep.proofs.PairSteps.{match_from_touching, touching_from_match}
-use Rattle.lists.proofs.Containing.{Contains-none}
+use Rattle.lists.proofs.Containing.{Contains-none, Contains-slice_get}
+use Rattle.touch_sweep.specs.inside.Splits.{AreOrdered, HaveBegins}
+
+-- each entry begins in one of the columns in which the rectangles begin
+pub begins_of_all : (rects : List Rect) (entries : List Numbered) (columns : List ℤ) (low high : ℤ) → AreNumbered rects entries → AreOrdered columns
+    → All (λ rect. Contains columns rect.x0) rects → HaveBegins columns low high entries
+begins_of_all rects entries columns low high numbered ordered all = record {
+  ordered = ordered;
+  all = λ e c i. All-contains (λ (rect : Rect). Contains columns rect.x0) rects e.rect all (Contains-slice_get rects e.number e.rect ((numbered e).0 c));
+}
 
 module _ (rects : List Rect) (entries : List Numbered) (low high : ℤ) (found : List (ℕ × ℕ)) (all : AreNumbered rects entries) (within : All (λ e. IsIn low high e.rect.x0) entries)
     (g : Links (IsMatchFrom low high entries entries) (IsMatchOf entries entries) [] found) where

@@ -2,3 +2,4 @@ pub mod Entries
 pub mod Matches
 pub mod Chains
 pub mod Strips
+pub mod Splits

@@ -1,4 +1,4 @@
-ghost use Rattle.std.specs.Prelude.{[], IfNone, IfSome, OnOk, ◌≡◌};
+ghost use Rattle.std.specs.Prelude.{[], length, IfNone, IfSome, OnOk, ◌+◌, ◌*◌, ◌≤◌, ◌≡◌};
 ghost use Rattle.touch_sweep.specs.inside.Chains.{AreInRow, ChainsOne, ChainsRest, IsFarthestOf, KeepsFarthest, Links};
 ghost use Rattle.touch_sweep.specs.inside.Entries.{IsByRow};
 ghost use Rattle.touch_sweep.specs.inside.Matches.{IsMatchOf, IsMatchWith, Gains};
@@ -22,8 +22,10 @@ pub fn chain(
     requires points { IsByRow points.now }
     requires spans { IsByRow spans.now }
     requires rows { AreInRow points.now spans.now }
-    ensures { OnOk result (let found = IsMatchOf points.entry.now spans.entry.now in
+    ensures joined { OnOk result (let found = IsMatchOf points.entry.now spans.entry.now in
         Links found found pairs.old.items pairs.new.items) }
+    ensures few { OnOk result (length pairs.new.items ≤
+        length pairs.old.items + 2 * (length points.entry.now + length spans.entry.now)) }
 {
     if spans.is_empty() {
         return Ok(());
@@ -52,7 +54,9 @@ fn chain_rest(
     others: &mut Vec<Numbered>,
     pairs: &mut Vec<(usize, usize)>,
 ) -> Result<(), AllocError>
-    ensures { OnOk result (ChainsRest rest.entry.now own.old.items others.old.items pairs.old.items pairs.new.items) }
+    ensures joined { OnOk result (ChainsRest rest.entry.now own.old.items others.old.items pairs.old.items pairs.new.items) }
+    ensures few { OnOk result (length pairs.new.items ≤
+        length pairs.old.items + length own.old.items + length others.old.items + 2 * length rest.entry.now) }
 {
     while let Some((first, later)) = rest.split_first() {
         chain_one(*first, own, others, pairs)?;
@@ -69,8 +73,10 @@ fn chain_one(
     others: &mut Vec<Numbered>,
     pairs: &mut Vec<(usize, usize)>,
 ) -> Result<(), AllocError>
-    ensures { OnOk result (ChainsOne one own.old.items others.old.items own.new.items others.new.items
+    ensures chained { OnOk result (ChainsOne one own.old.items others.old.items own.new.items others.new.items
         pairs.old.items pairs.new.items) }
+    ensures few { OnOk result (length pairs.new.items + length own.new.items + length others.new.items ≤
+        length pairs.old.items + length own.old.items + length others.old.items + 2) }
 {
     add_each(one, others, pairs)?;
     keep_farthest(others)?;
@@ -84,8 +90,9 @@ fn add_each(
     others: &[Numbered],
     pairs: &mut Vec<(usize, usize)>,
 ) -> Result<(), AllocError>
-    ensures { OnOk result (let found = IsMatchWith one others.now in
+    ensures found { OnOk result (let found = IsMatchWith one others.now in
         Gains found found pairs.old.items pairs.new.items) }
+    ensures few { OnOk result (length pairs.new.items ≤ length pairs.old.items + length others.now) }
 {
     for other in others {
         add(one, *other, pairs)?;
@@ -95,7 +102,8 @@ fn add_each(
 
 /// Keeps the one entry, if there is any, that reaches farthest up.
 fn keep_farthest(entries: &mut Vec<Numbered>) -> Result<(), AllocError>
-    ensures { OnOk result (KeepsFarthest entries.old.items entries.new.items) }
+    ensures farthest { OnOk result (KeepsFarthest entries.old.items entries.new.items) }
+    ensures few { OnOk result (length entries.new.items ≤ 1) }
 {
     let Some(farthest) = farthest(entries) else {
         return Ok(());

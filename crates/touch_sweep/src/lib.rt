@@ -12,7 +12,7 @@ mod search;
 mod strip;
 mod sweep;
 
-ghost use Rattle.std.specs.Prelude.{ℕ, length, AllPairs, Contains, IfOk, ◌↔◌};
+ghost use Rattle.std.specs.Prelude.{ℕ, length, AllPairs, Contains, IfOk, ◌+◌, ◌*◌, ◌^◌, ◌≤◌, ◌↔◌};
 ghost use Rattle.classes.specs.Classes.{AreJoined};
 ghost use Rattle.touch_sweep.specs.Touching.{AreMeeting, AreTouching, ComesBefore};
 
@@ -49,10 +49,14 @@ pub fn touch_pairs(alloc: Global, rects: &[Rect]) -> Result<Vec<(usize, usize)>,
 /// Where many rectangles lie on one another, or across one another, these are far fewer than all pairs. A pair has the
 /// lesser number first. Pairs come in no order, and may come more than once. Numbers are counted from 0. The only error is
 /// that no memory is left.
+///
+/// For n rectangles there are at most 51 n (levels + 1) pairs, where n is at most 2 to the power of the levels.
 pub fn touch_links(alloc: Global, rects: &[Rect]) -> Result<Vec<(usize, usize)>, NoMemory>
     ensures touching { IfOk result (λ pairs. (a b : ℕ) → Contains pairs.items (a, b) → AreTouching rects.now a b) }
     ensures joined { IfOk result (λ pairs. (a b : ℕ) → AreTouching rects.now a b →
         AreJoined (length rects.now) pairs.items a b) }
+    ensures few { IfOk result (λ pairs. (levels : ℕ) → length rects.now ≤ 2 ^ levels →
+        length pairs.items ≤ 51 * length rects.now * (levels + 1)) }
 {
     let entries = by_row(alloc, rects)?;
     let entries = entries.as_slice();

@@ -1,8 +1,9 @@
-ghost use Rattle.std.specs.Prelude.{filter, All, IfOk, OnOk, ◌≡◌};
+ghost use Rattle.std.specs.Prelude.{ℕ, filter, length, All, IfOk, OnOk, ◌+◌, ◌*◌, ◌^◌, ◌≤◌, ◌≡◌};
 ghost use Rattle.geo_core.specs.Intervals.{IsIn};
 ghost use Rattle.touch_sweep.specs.inside.Entries.{IsByRow};
 ghost use Rattle.touch_sweep.specs.inside.Matches.{IsMatchOf, IsMatchFrom};
 ghost use Rattle.touch_sweep.specs.inside.Chains.{AreInRow, IsMatchAfter, Links};
+ghost use Rattle.touch_sweep.specs.inside.Splits.{HaveBegins, work_in};
 ghost use Rattle.touch_sweep.specs.inside.Strips.{crosses, meets_partly};
 
 use super::chain::chain;
@@ -28,9 +29,15 @@ pub fn link(
 ) -> Result<(), AllocError>
     requires points { IsByRow points.now }
     requires spans { IsByRow spans.now }
-    ensures { OnOk result (Links
+    requires splits { HaveBegins strip.splits.now strip.low strip.high points.now }
+    ensures joined { OnOk result (Links
         (IsMatchFrom strip.entry.low strip.entry.high points.now spans.now) (IsMatchOf points.now spans.now)
         pairs.old.items pairs.new.items) }
+
+    // A span meets two strips of each level in part at most: one for each of its sides.
+    ensures few { OnOk result ((levels : ℕ) → length strip.entry.splits.now ≤ 2 ^ levels →
+        let work = work_in strip.entry.low strip.entry.high points.now spans.now in
+        length pairs.new.items ≤ length pairs.old.items + 3 * length spans.now + 16 * (levels * work + work)) }
 {
     let points = strip.beginning(alloc, points)?;
     let points = points.as_slice();
@@ -43,7 +50,7 @@ pub fn link(
         return sweep(points, spans, pairs);
     }
     if strip.splits.len() <= 1 {
-        return link_column(alloc, points, spans, pairs);
+        return link_column(alloc, points, spans, points[0], pairs);
     }
     let (left, right) = strip.halves();
     link(alloc, points, spans, left, pairs)?;
@@ -65,6 +72,8 @@ fn link_across(
     ensures across { OnOk result (
         let found = IsMatchOf points.now (filter (crosses strip.entry.low strip.entry.high) spans.now) in
         Links found found pairs.old.items pairs.new.items) }
+    ensures few { IfOk result (λ partly.
+        length pairs.new.items ≤ length pairs.old.items + 7 * length points.now + 3 * length spans.now) }
     ensures partly { IfOk result (λ partly.
         partly.items ≡ filter (meets_partly strip.entry.low strip.entry.high) spans.now) }
 {
@@ -84,13 +93,13 @@ fn join(
     requires points { IsByRow points.now }
     requires spans { IsByRow spans.now }
     requires rows { AreInRow points.now spans.now }
-    ensures { OnOk result (let found = IsMatchOf points.now spans.now in
+    ensures joined { OnOk result (let found = IsMatchOf points.now spans.now in
         Links found found pairs.old.items pairs.new.items) }
+    ensures few { OnOk result (length pairs.new.items ≤
+        length pairs.old.items + 7 * length points.now + 3 * length spans.now) }
 {
-    let most = pairs
-        .len()
-        .saturating_add(ENOUGH.saturating_mul(points.len()));
-    let is_whole = sweep_some(points, spans, most, pairs)?;
+    let enough = ENOUGH.saturating_mul(points.len());
+    let is_whole = sweep_some(points, spans, enough, pairs)?;
     if is_whole {
         return Ok(());
     }
@@ -98,23 +107,24 @@ fn join(
 }
 
 /// Adds pairs of numbers by which each point and each span that touch are joined, where the span begins no later than
-/// the point. It is meant for points that all begin in one column.
+/// the point. All points begin in one column, that of the first one.
 fn link_column(
     alloc: Global,
     points: &[Numbered],
     spans: &[Numbered],
+    first: Numbered,
     pairs: &mut Vec<(usize, usize)>,
 ) -> Result<(), AllocError>
     requires points { IsByRow points.now }
     requires spans { IsByRow spans.now }
-    ensures { OnOk result (Links
+    requires column { All (λ e. e.rect.x0 ≡ first.rect.x0) points.now }
+    ensures joined { OnOk result (Links
         (IsMatchAfter points.now spans.now) (IsMatchOf points.now spans.now)
         pairs.old.items pairs.new.items) }
+    ensures few { OnOk result (length pairs.new.items ≤
+        length pairs.old.items + 9 * length points.now + 5 * length spans.now) }
 {
-    let column = Strip::around(points, &[]);
-    if !column.is_narrow() {
-        return sweep(points, spans, pairs);
-    }
+    let column = Strip::column_of(first);
     let partly = link_across(alloc, points, spans, column, pairs)?;
     chain(alloc, points, partly.as_slice(), pairs)
 }

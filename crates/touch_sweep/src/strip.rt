@@ -1,13 +1,14 @@
-ghost use Rattle.std.specs.Prelude.{pos, filter, length, All, IfOk, IsTrue, ◌+ℤ◌, ◌≡◌, ◌<◌, ◌≤◌, ◌≤ℤ◌};
+ghost use Rattle.std.specs.Prelude.{pos, filter, length, All, Contains, IfOk, ◌+ℤ◌, ◌≡◌, ◌<◌, ◌≤◌};
 ghost use Rattle.touch_sweep.specs.inside.Strips.{begins_in, crosses, meets_partly};
 ghost use Rattle.geo_core.specs.Intervals.{IsIn};
+ghost use Rattle.touch_sweep.specs.inside.Splits.{AreOrdered, AreParted};
 
 use super::numbered::Numbered;
 use geo_core::{FARTHEST_GROWN, Rect};
 use std::alloc::{AllocError, Global};
 
 /// The columns from `low` to before `high`, with columns in rising order at which they may be split. Where splits lie
-/// changes what is saved and not what is found, so nothing is promised of them.
+/// changes what is saved and not what is found.
 #[derive(Clone, Copy)]
 pub struct Strip<'a> {
     pub low: i32,
@@ -18,7 +19,8 @@ pub struct Strip<'a> {
 impl<'a> Strip<'a> {
     /// The columns in which the entries begin, and those between.
     pub fn around(entries: &[Numbered], splits: &'a [i32]) -> Strip<'a>
-        ensures { All (λ e. IsIn result.low result.high e.rect.x0) entries.now }
+        ensures within { All (λ e. IsIn result.low result.high e.rect.x0) entries.now }
+        ensures splits { result.splits.now ≡ splits.now }
     {
         let mut low = FARTHEST_GROWN;
         let mut high = -FARTHEST_GROWN;
@@ -37,9 +39,11 @@ impl<'a> Strip<'a> {
         ensures ends { result.1.high ≡ self.entry.high }
         ensures left { length result.0.splits.now < length self.entry.splits.now }
         ensures right { length result.1.splits.now < length self.entry.splits.now }
+        ensures parted { AreParted self.entry.low self.entry.high self.entry.splits.now
+            result.0.high result.0.splits.now result.1.splits.now }
     {
         let (before, after) = self.splits.split_at(self.splits.len() / 2);
-        let middle = after[0];
+        let middle = after[0].max(self.low).min(self.high);
         let left = Strip {
             low: self.low,
             high: middle,
@@ -53,11 +57,16 @@ impl<'a> Strip<'a> {
         (left, right)
     }
 
-    /// Whether there is one column at most.
-    pub fn is_narrow(self) -> bool
-        ensures { IsTrue result → self.entry.high ≤ℤ (self.entry.low +ℤ pos 1) }
+    /// The one column in which the entry begins.
+    pub fn column_of(entry: Numbered) -> Strip<'static>
+        ensures begins { result.low ≡ entry.rect.x0 }
+        ensures ends { result.high ≡ entry.rect.x0 +ℤ pos 1 }
     {
-        self.high <= self.low.saturating_add(1)
+        Strip {
+            low: entry.rect.x0,
+            high: entry.rect.x0 + 1,
+            splits: &[],
+        }
     }
 
     /// Whether the entry begins in one of the columns.
@@ -122,8 +131,12 @@ pub struct Met {
     pub partly: Vec<Numbered>,
 }
 
-/// The columns in which rectangles begin, in rising order. They are for splits, so no clause says so.
-pub fn beginnings(alloc: Global, rects: &[Rect]) -> Result<Vec<i32>, AllocError> {
+/// The columns in which rectangles begin, in rising order.
+pub fn beginnings(alloc: Global, rects: &[Rect]) -> Result<Vec<i32>, AllocError>
+    ensures ordered { IfOk result (λ columns. AreOrdered columns.items) }
+    ensures all { IfOk result (λ columns. All (λ rect. Contains columns.items rect.x0) rects.now) }
+    ensures few { IfOk result (λ columns. length columns.items ≤ length rects.now) }
+{
     let mut columns = Vec::with_capacity(alloc, rects.len())?;
     for rect in rects {
         columns.push(rect.x0)?;

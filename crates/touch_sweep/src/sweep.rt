@@ -1,4 +1,4 @@
-ghost use Rattle.std.specs.Prelude.{true, IfOk, OnOk, ◌≡◌};
+ghost use Rattle.std.specs.Prelude.{true, length, IfOk, OnOk, ◌+◌, ◌*◌, ◌≤◌, ◌≡◌};
 ghost use Rattle.touch_sweep.specs.inside.Entries.{IsByRow};
 ghost use Rattle.touch_sweep.specs.inside.Matches.{IsMatch, IsMatchWith, IsMatchOf, Gains};
 
@@ -15,8 +15,10 @@ pub fn sweep(
 ) -> Result<(), AllocError>
     requires points { IsByRow points.now }
     requires spans { IsByRow spans.now }
-    ensures { OnOk result (let found = IsMatchOf points.entry.now spans.entry.now in
+    ensures found { OnOk result (let found = IsMatchOf points.entry.now spans.entry.now in
         Gains found found pairs.old.items pairs.new.items) }
+    ensures few { OnOk result (length pairs.new.items ≤
+        length pairs.old.items + length points.entry.now * length spans.entry.now) }
 {
     while let Some((point, later_points)) = points.split_first() {
         let Some((span, later_spans)) = spans.split_first() else {
@@ -33,11 +35,11 @@ pub fn sweep(
     Ok(())
 }
 
-/// Does the same, or ends early where there are more than so many pairs, and tells whether it came to the end.
+/// Does the same, or ends early where there are more than so many new pairs, and tells whether it came to the end.
 pub fn sweep_some(
     mut points: &[Numbered],
     mut spans: &[Numbered],
-    most: usize,
+    enough: usize,
     pairs: &mut Vec<(usize, usize)>,
 ) -> Result<bool, AllocError>
     requires points { IsByRow points.now }
@@ -47,7 +49,10 @@ pub fn sweep_some(
     ensures all { IfOk result (λ is_whole. is_whole ≡ true →
         let found = IsMatchOf points.entry.now spans.entry.now in
         Gains found found pairs.old.items pairs.new.items) }
+    ensures few { OnOk result (length pairs.new.items ≤
+        length pairs.old.items + enough + length points.entry.now + length spans.entry.now) }
 {
+    let most = pairs.len().saturating_add(enough);
     while let Some((point, later_points)) = points.split_first() {
         let Some((span, later_spans)) = spans.split_first() else {
             return Ok(true);
@@ -74,8 +79,9 @@ fn add_all(
     pairs: &mut Vec<(usize, usize)>,
 ) -> Result<(), AllocError>
     requires { IsByRow others.now }
-    ensures { OnOk result (let found = IsMatchWith one others.now in
+    ensures found { OnOk result (let found = IsMatchWith one others.now in
         Gains found found pairs.old.items pairs.new.items) }
+    ensures few { OnOk result (length pairs.new.items ≤ length pairs.old.items + length others.now) }
 {
     for other in others {
         if other.rect.y0 > one.rect.y1 {
@@ -92,8 +98,9 @@ pub fn add(
     other: Numbered,
     pairs: &mut Vec<(usize, usize)>,
 ) -> Result<(), AllocError>
-    ensures { OnOk result (let found = IsMatch one other in
+    ensures found { OnOk result (let found = IsMatch one other in
         Gains found found pairs.old.items pairs.new.items) }
+    ensures few { OnOk result (length pairs.new.items ≤ length pairs.old.items + 1) }
 {
     if !touches(one.rect, other.rect) {
         return Ok(());

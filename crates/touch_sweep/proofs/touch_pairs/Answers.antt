@@ -9,5 +9,5 @@ search-requires c =
 
 pub returns-clause-exact : goal.returns-clause-exact
 returns-clause-exact c = exact_pairs c.args.rects.now c.as_slice-entries.result.now c.around-strip.result.low c.around-strip.result.high _ _
-    (rw c.as_slice-entries.ensures.value c.in_ok-entries.ensures.numbered) c.around-strip.ensures (rw c.new-pairs.ensures.items at c.in_ok-search.ensures)
+    (rw c.as_slice-entries.ensures.value c.in_ok-entries.ensures.numbered) c.around-strip.ensures.within (rw c.new-pairs.ensures.items at c.in_ok-search.ensures)
     c.in_order.ensures.same

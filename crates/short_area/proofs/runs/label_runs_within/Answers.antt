@@ -10,11 +10,14 @@ use Rattle.short_area.proofs.runs.label_runs_within.Goals.{then-zone-label+in_ok
 pub loop-zone-preserved : goal.loop-zone-preserved
 loop-zone-preserved c =
     let sorted = c.as_slice-zone-items.result.now in
-    let ordered : AllPairs (λ (a b : Labelled). a.label ≤ b.label) sorted = subst (AllPairs (λ (a b : Labelled). a.label ≤ b.label)) (sym c.as_slice-zone-items.ensures.value) c.in_ok-sorted.ensures.ordered in
+    let ordered : AllPairs (λ (a b : Labelled). a.label ≤ b.label) sorted
+    = subst (AllPairs (λ (a b : Labelled). a.label ≤ b.label)) (sym c.as_slice-zone-items.ensures.value) c.in_ok-sorted.ensures.ordered in
     let so_far : AreRunsTo sorted c.loop-zone.zone-index c.if-zone-label.label c.if-zone-label.runs.items c.if-zone-label.listed.items =
     elim c.if-zone-label.branch [
-      | then-zone-label+in_ok-add_runs_within+else-not-branch w ↦ rw (w.runs-is, w.listed-is, w.label-is, w.clear.ensures.items) (runs_next _ _ _ _ _ c.loop-zone.invariant c.zone-item.result c.loop-zone-test.true c.zone-item.is _
-          (subst (λ (xs : List Rect). GainsRuns c.loop-zone.runs.items w.add_runs_within.new.runs.items xs) w.as_slice.ensures.value (w.in_ok-add_runs_within.ensures w.if-not-branch.false)) w.if-zone-label.true ordered)
+      | then-zone-label+in_ok-add_runs_within+else-not-branch w ↦ rw (w.runs-is, w.listed-is, w.label-is, w.clear.ensures.items) (runs_next _ _ _ _ _ c.loop-zone.invariant
+          c.zone-item.result c.loop-zone-test.true c.zone-item.is _
+          (subst (λ (xs : List Rect). GainsRuns c.loop-zone.runs.items w.add_runs_within.new.runs.items xs) w.as_slice.ensures.value
+          (w.in_ok-add_runs_within.ensures w.if-not-branch.false)) w.if-zone-label.true ordered)
       | else-zone-label w ↦ rw (w.runs-is, w.listed-is, w.label-is) c.loop-zone.invariant
     ] in
     let here : c.zone-item.result.label ≡ c.if-zone-label.label =
@@ -27,6 +30,7 @@ loop-zone-preserved c =
 pub returns : goal.returns
 returns c =
     let moved = subst (λ (xs : List Labelled). IsPermutation c.args.zones.now xs) (sym c.as_slice-zone-items.ensures.value) c.in_ok-sorted.ensures.same in
-    let gains = subst (λ (xs : List Rect). GainsRuns c.loop-zone.runs.items c.add_runs_within-2.new.runs.items xs) c.as_slice-2.ensures.value (c.in_ok-add_runs_within-2.ensures c.if-not-branch-2.false) in
+    let gains = subst (λ (xs : List Rect). GainsRuns c.loop-zone.runs.items c.add_runs_within-2.new.runs.items xs) c.as_slice-2.ensures.value
+    (c.in_ok-add_runs_within-2.ensures c.if-not-branch-2.false) in
     runs_all c.args.zones.now c.as_slice-zone-items.result.now c.loop-zone.zone-index c.loop-zone.label c.loop-zone.runs.items c.loop-zone.listed.items c.add_runs_within-2.new.runs.items
     c.loop-zone-test.false moved c.loop-zone.invariant gains

@@ -22,6 +22,6 @@ search-requires-2 c =
 
 pub returns : goal.returns
 returns c = exact_across c.args.rects.now c.args.count c.as_slice-entries.result.now c.as_slice-before.result.now c.as_slice-behind.result.now
-    c.around-strip.result.low c.around-strip.result.high (rw c.as_slice-entries.ensures.value c.in_ok-entries.ensures.numbered) c.around-strip.ensures
+    c.around-strip.result.low c.around-strip.result.high (rw c.as_slice-entries.ensures.value c.in_ok-entries.ensures.numbered) c.around-strip.ensures.within
     (c.as_slice-before.ensures.value ∙ c.in_ok-before.ensures.before) (c.as_slice-behind.ensures.value ∙ c.in_ok-before.ensures.behind)
     _ _ (rw c.new-pairs.ensures.items at c.in_ok-search.ensures) c.in_ok-search-2.ensures

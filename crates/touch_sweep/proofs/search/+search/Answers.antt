@@ -46,7 +46,7 @@ returns-then-points-le-FEW t c =
     (λ (u : Unit {0}) rest. in_two_steps low high c.args.points.now c.args.spans.now points spans
     (c.as_slice-points.ensures.value ∙ c.in_ok-points.ensures) (c.as_slice-spans.ensures.value ∙ c.in_ok-spans.ensures.partly)
     _ _ _ c.in_ok-spans.ensures.across (from_sweep low high points spans rest))
-    c.sweep.ensures
+    c.sweep.ensures.found
 
 pub returns : goal.returns
 returns t c =

@@ -10,4 +10,4 @@ sweep-requires c = record {
 }
 
 pub returns-clause-across : goal.returns-clause-across
-returns-clause-across c = rw (c.as_slice.ensures.value, c.in_ok-across.ensures.across) at c.in_ok-sweep.ensures
+returns-clause-across c = rw (c.as_slice.ensures.value, c.in_ok-across.ensures.across) at c.in_ok-sweep.ensures.found
