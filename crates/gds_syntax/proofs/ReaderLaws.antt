@@ -1,5 +1,6 @@
 -- How a reader goes on record by record, and where it stops.
-use Rattle.std.proofs.Common.{◌≡◌, ◌≢◌, ℕ, ◌+◌, ◌-◌, ◌<◌, ◌≤◌, List, [], ◌∷◌, ◌++◌, length, refl, sym, ap, subst, ◌∙◌, arith, Bool, true, false, Some, None, Ok, Err, IsTrue, append_assoc, if◌then◌else◌, ◌==◌}
+use Rattle.std.proofs.Common.{◌≡◌, ◌≢◌, ℕ, ◌+◌, ◌-◌, ◌<◌, ◌≤◌, List, [], ◌∷◌, ◌++◌, length, refl, sym, ap, subst, ◌∙◌, arith, Bool, true, false, Some, None, Result, Ok, Err, IsTrue, append_assoc, if◌then◌else◌, ◌==◌}
+use Rattle.std.specs.Prelude.{IfErr, IsErrAnd}
 use Rattle.lists.proofs.Words.{append-nil, ne_eqb, add-zero}
 use Rattle.gds_records.specs.declared.kinds.TheConstants as kind
 use Rattle.library_grammar.specs.GrammarNames.{Reading, IsLeft, IsGivenOrLeft, MovesPast, entry_of, Entry, spelling, spellings, End, IsFirstFault, at_record, at_end, Shows, behind, Place, next_place, IsPlain}
@@ -8,7 +9,7 @@ use Rattle.gds_records.specs.declared.record.Record.{Record}
 use Rattle.library_grammar.specs.FirstFault.{may_not_stand as shows_unexpected}
 use Rattle.gds_syntax.specs.LibraryReaders.{Takes, TakesRecord, Standing, standing, IsAt, Advances, Stops, IsReady, most_bytes}
 use Rattle.library_grammar.specs.declared.fault.SyntaxFault.{SyntaxFault}
-use Rattle.library_grammar.specs.declared.fault.SyntaxFault.TheVariants.{Record as record_fault, Unexpected}
+use Rattle.library_grammar.specs.declared.fault.SyntaxFault.TheVariants.{Record as record_fault, Unexpected, Memory}
 use Rattle.library_grammar.proofs.PlaceLaws.{may_not_stand}
 use Rattle.library_grammar.proofs.NextRecords.{behind-append, NoneShows-snoc, AreNamesIn-snoc, place_after, plain_shows_nothing}
 
@@ -21,6 +22,12 @@ takes_one old new r moved split =
       offset = moved.moves ∙ ap (λ (n : ℕ). old.at + n) (ap length (sym (append-nil (spelling (entry_of r)))));
       bytes = moved.bytes;
     }
+
+-- the answer that no memory is left tells of no other fault
+pub no_memory_left : {T : Type 0} (result : Result T SyntaxFault) (P : SyntaxFault → Type 0) → IsErrAnd result (λ fault. fault ≡ Memory)
+    → IfErr result (λ fault. fault ≢ Memory → P fault)
+no_memory_left (Ok thing) P gave = tt
+no_memory_left (Err fault) P gave = λ other. absurd (other gave)
 
 -- what is not true is false
 pub is_false : (b : Bool) → (IsTrue b → ⊥) → b ≡ false

@@ -13,7 +13,7 @@ use std::alloc::Global;
 use std::marker::Model;
 
 /// The own records of an element, in the order of the stream. Contracts see the list of their contents.
-#[derive(Debug, Drop)]
+#[derive(Drop)]
 pub struct OwnRecords<'a> {
     records: Vec<Record<'a>>,
 }

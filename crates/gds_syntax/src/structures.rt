@@ -46,21 +46,20 @@ fn read_structure<'a>(
     })
 }
 
-/// Reads the structures of a library behind its head, and its end, into an empty list. The index of names has none yet.
+/// Reads the structures of a library behind its head, and its end. The index of names has none yet.
 fn collect_structures<'a>(
     alloc: Global,
     records: &mut Records<'a>,
-    structures: &mut Vec<Structure>,
     names: &mut NameIndex<'a>,
     own: &mut OwnRecords<'a>,
-) -> Result<(), SyntaxFault>
+) -> Result<Vec<Structure>, SyntaxFault>
     requires ready { IsReady records.old }
-    requires none { structures.old.items ≡ [] }
     requires no_names { names.old ≡ [] }
-    ensures structures { IfOk result (λ _. ReadsStructures records.old records.new structures.new.items) }
+    ensures structures { IfOk result (λ structures. ReadsStructures records.old records.new structures.items) }
     ensures faulty { IfErr result (λ fault. fault ≢ Memory → Stops records.old (standing between_structures []) fault) }
 {
     let mut found = next_record(records)?;
+    let mut structures = Vec::new(alloc);
     while found.kind == kinds::BGNSTR {
         let structure = read_structure(alloc, records, &found, names, own)?;
         structures.push(structure)?;
@@ -69,7 +68,7 @@ fn collect_structures<'a>(
     if found.kind != kinds::ENDLIB {
         return Err(unexpected(&found));
     }
-    Ok(())
+    Ok(structures)
 }
 
 /// Reads the structures of a library behind its head, and its end.
@@ -81,9 +80,7 @@ pub fn read_structures(
     ensures structures { IfOk result (λ structures. ReadsStructures records.old records.new structures.items) }
     ensures faulty { IfErr result (λ fault. fault ≢ Memory → Stops records.old (standing between_structures []) fault) }
 {
-    let mut structures = Vec::new(alloc);
     let mut names = NameIndex::new(alloc);
     let mut own = OwnRecords::new(alloc);
-    collect_structures(alloc, records, &mut structures, &mut names, &mut own)?;
-    Ok(structures)
+    collect_structures(alloc, records, &mut names, &mut own)
 }

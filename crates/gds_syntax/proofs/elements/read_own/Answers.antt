@@ -1,11 +1,11 @@
-use Rattle.std.proofs.Common.{[]}
+use Rattle.std.proofs.Common.{[], inl, inr}
 use Rattle.lists.proofs.Words.{iff_false}
 use Rattle.gds_syntax.specs.inside.ElementKinds.{form_for}
 use Rattle.library_grammar.specs.GrammarNames.{among_own}
 use Rattle.gds_syntax.specs.LibraryReaders.{standing}
 use Rattle.gds_syntax.proofs.OwnReading.{own_begins, own_is_ready, own_further, own_goes_on, foreign_stops, repeated_stops}
 use Rattle.first_refusal.proofs.AnswerLaws.{error_handed_on}
-use Rattle.gds_syntax.proofs.ReaderLaws.{stops_later, one_less_left}
+use Rattle.gds_syntax.proofs.ReaderLaws.{no_memory_left, stops_later, one_less_left}
 use Rattle.gds_syntax.proofs.elements.read_own.Goals as goal
 use Rattle.gds_syntax.proofs.elements.read_own.Goals.{then-loop-own-test+else-not-has, else-loop-own-test}
 
@@ -45,3 +45,9 @@ returns-then-found-ne-ENDEL-clause-faulty c = λ _ names. rw c.unexpected.ensure
       | else-loop-own-test w ↦
           foreign_stops (iff_false c.owns.ensures w.loop-own-test.false) c.if-found-ne-PROPATTR.true c.if-found-ne-ENDEL.true c.loop-own.invariant names
     ])
+
+pub returns-in_err-push-clause-faulty : goal.returns-in_err-push-clause-faulty
+returns-in_err-push-clause-faulty c = no_memory_left c.from_residual-in_err-push.result _ c.from_residual-in_err-push.ensures.1
+
+pub returns-clause-own : goal.returns-clause-own
+returns-clause-own c = record { so_far = c.loop-own.invariant; ends = elim c.else-found-ne-PROPATTR.either [ inl w ↦ inr w.1 | inr is ↦ inl is ] }

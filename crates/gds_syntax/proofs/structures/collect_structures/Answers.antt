@@ -2,7 +2,7 @@ use Rattle.std.proofs.Common.{ℕ, [], ◌∷◌, ap, sym, ◌∙◌, arith}
 use Rattle.library_grammar.specs.GrammarNames.{between_structures, behind, entry_of}
 use Rattle.gds_syntax.specs.LibraryReaders.{standing}
 use Rattle.first_refusal.proofs.AnswerLaws.{error_handed_on}
-use Rattle.gds_syntax.proofs.ReaderLaws.{stops_later, has_less_left}
+use Rattle.gds_syntax.proofs.ReaderLaws.{no_memory_left, stops_later, has_less_left}
 use Rattle.gds_syntax.proofs.StructuresReading.{structures_begin, structure_begins, structure_further, structures_go_on, structures_stop, structures_end, few_names}
 use Rattle.gds_syntax.proofs.structures.collect_structures.Goals as goal
 
@@ -12,7 +12,7 @@ returns-in_err-found-clause-faulty c =
 
 pub loop-found-init : goal.loop-found-init
 loop-found-init c =
-    rw (c.requires.none, c.requires.no_names) (structures_begin c.in_ok-found.ensures.found)
+    rw (c.new-structures.ensures.items, c.requires.no_names) (structures_begin c.in_ok-found.ensures.found)
 
 pub returns-in_err-structure-clause-faulty : goal.returns-in_err-structure-clause-faulty
 returns-in_err-structure-clause-faulty c =
@@ -52,3 +52,6 @@ returns-then-found-ne-ENDLIB-clause-faulty c = λ _.
 pub returns-clause-structures : goal.returns-clause-structures
 returns-clause-structures c =
     structures_end c.if-found-ne-ENDLIB.false c.requires.ready c.loop-found.invariant
+
+pub returns-in_err-push-clause-faulty : goal.returns-in_err-push-clause-faulty
+returns-in_err-push-clause-faulty c = no_memory_left c.from_residual-in_err-push.result _ c.from_residual-in_err-push.ensures.1

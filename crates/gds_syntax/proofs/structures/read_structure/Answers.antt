@@ -4,7 +4,7 @@ use Rattle.library_grammar.specs.GrammarNames.{before_strname, behind_strname}
 use Rattle.gds_syntax.specs.LibraryReaders.{standing}
 use Rattle.gds_syntax.proofs.StructureReading.{name_further, name_stops, structure_read}
 use Rattle.first_refusal.proofs.AnswerLaws.{error_handed_on}
-use Rattle.gds_syntax.proofs.ReaderLaws.{stops_later, only_one}
+use Rattle.gds_syntax.proofs.ReaderLaws.{no_memory_left, stops_later, only_one}
 use Rattle.gds_syntax.proofs.structures.read_structure.Goals as goal
 
 pub returns-in_err-found-clause-faulty : goal.returns-in_err-found-clause-faulty
@@ -35,3 +35,9 @@ returns-clause-structure c =
     c.requires.opens c.requires.place c.in_ok-found.ensures.found c.in_ok-found.ensures.of_kind c.text-name.ensures (c.in_ok-add.ensures.fresh.0 c.if-not-branch.false)
     c.in_ok-elements.ensures.elements
     refl (c.from_vec.ensures ∙ c.in_ok-name.ensures.items) c.from_vec-2.ensures)
+
+pub returns-in_err-add-clause-faulty : goal.returns-in_err-add-clause-faulty
+returns-in_err-add-clause-faulty c = no_memory_left c.from_residual-in_err-add.result _ c.from_residual-in_err-add.ensures.1
+
+pub returns-in_err-name-clause-faulty : goal.returns-in_err-name-clause-faulty
+returns-in_err-name-clause-faulty c = no_memory_left c.from_residual-in_err-name.result _ c.from_residual-in_err-name.ensures.1
