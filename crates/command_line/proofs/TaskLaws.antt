@@ -1,5 +1,5 @@
 -- tasks and requests of texts
-use Rattle.std.proofs.Common.{Bor, ℕ, List, [], ◌∷◌, ◌≡◌, ◌∙◌, sym, ap, refl, Option, Some, None}
+use Rattle.std.proofs.Common.{Bor, ℕ, Bool, true, false, List, [], ◌∷◌, ◌≡◌, ◌∙◌, sym, ap, refl, Option, Some, None}
 use Rattle.command_line.specs.declared.option_name.OptionName.{OptionName}
 use Rattle.command_line.specs.declared.option_name.OptionName.TheVariants.{Map, Top, Layer, Datatype, Radius}
 use Rattle.command_line.specs.declared.task.Task.{Task}
@@ -7,7 +7,7 @@ use Rattle.command_line.specs.declared.task.Task.TheVariants.{OneMetal, Mapped}
 use Rattle.command_line.specs.Numbers.{IsNumber}
 use Rattle.command_line.specs.OptionNames.{Text}
 use Rattle.command_line.specs.inside.Readings.{AreNumbers, AreNumbersLeftOut, texts_of}
-use Rattle.command_line.specs.Requests.{GiveNoOther, IsNumberOnce, IsNumberOrDefault, as_given, left_out, IsTask, IsTextIfGiven, options_for, of_one_metal, of_map}
+use Rattle.command_line.specs.Requests.{GiveNoOther, IsNumberOnce, IsNumberOrDefault, as_given, left_out, IsTask, IsTextIfGiven, options_for, of_one_metal, of_map, permitted}
 
 -- ---- texts that are found or not
 
@@ -33,6 +33,29 @@ module _ (found : Option (Bor Text)) (values : List Text) (same : texts_of found
         → (n : ℕ) → IsNumberOrDefault low high default values n → ⊥
     not_by_default text default is none n (as_given o) = none n (number_of text n is o)
     not_by_default text default is none n (left_out e) = let s = sym e ∙ one_text text is in cc s
+
+-- ---- options that are left out
+
+empty_unless : (texts : List Text) → ((texts ≡ [] → ⊥) → ⊥) → texts ≡ []
+empty_unless [] some = refl
+empty_unless (text ∷ texts) some = absurd (some (λ e. cc e))
+
+listed : (b : Bool) → b ≡ false → true ≡ b → ⊥
+listed b e f = cc (e, f)
+
+pub metal_no_other : (values : OptionName → List Text) → values Map ≡ [] → GiveNoOther values (Layer ∷ Datatype ∷ Radius ∷ permitted)
+metal_no_other values none Map other = none
+metal_no_other values none name other = absurd (listed true other refl)
+
+module _ (values : OptionName → List Text) (given : Bool) (tells : (AreNumbersLeftOut values → ⊥) → given ≡ true) (not_given : given ≡ false) where
+  left_out_unless : (texts : List Text) → (AreNumbersLeftOut values → texts ≡ []) → texts ≡ []
+  left_out_unless texts none = empty_unless texts (λ some. let s = sym not_given ∙ tells (λ out. some (none out)) in cc s)
+
+  pub mapped_no_other : GiveNoOther values (Map ∷ permitted)
+  mapped_no_other Layer other = left_out_unless (values Layer) (λ out. out.layer)
+  mapped_no_other Datatype other = left_out_unless (values Datatype) (λ out. out.datatype)
+  mapped_no_other Radius other = left_out_unless (values Radius) (λ out. out.radius)
+  mapped_no_other name other = absurd (listed true other refl)
 
 -- ---- tasks
 

@@ -1,5 +1,5 @@
 /// An option of the command, which takes one text as its value.
-#[derive(Clone, Copy, Debug, PartialEq, Eq)]
+#[derive(Clone, Copy)]
 pub enum OptionName {
     /// `map`: the name of the layer map's file.
     Map,

@@ -28,7 +28,6 @@ use toml::{Table, Value};
 const CUT_KEYS: [&str; 4] = ["name", "pairs", "lower", "upper"];
 
 /// The cuts, at most 16, which are seen behind these metals.
-#[tactic(auto, using(first_refusal::proofs::AnswerLaws::out_of_memory))]
 pub fn read_cuts(
     alloc: Global,
     document: &Table,

@@ -71,7 +71,6 @@ pub fn read_layer(
 }
 
 /// The name in the item, a name that is none of these, and is added.
-#[tactic(auto, using(first_refusal::proofs::AnswerLaws::out_of_memory))]
 fn add_name(names: &mut Vec<LayerName>, item: &Table, path: u32) -> Result<LayerName, MapFault>
     requires { path < 2 ^ 31 }
     ensures { (known : List (List ℕ)) (earlier : List Data) →
@@ -116,7 +115,6 @@ fn has_name(names: &[LayerName], name: &LayerName) -> bool
 }
 
 /// The pairs in the item, which are different and none of these, and are added.
-#[tactic(auto, using(first_refusal::proofs::AnswerLaws::out_of_memory))]
 fn add_pairs(
     alloc: Global,
     pairs: &mut Vec<(u16, u16)>,

@@ -22,7 +22,6 @@ use toml::Table;
 const METAL_KEYS: [&str; 2] = ["name", "pairs"];
 
 /// The metals, 1 to 16, which are the first layers that are seen.
-#[tactic(auto, using(first_refusal::proofs::AnswerLaws::out_of_memory))]
 pub fn read_metals(alloc: Global, document: &Table, seen: &mut Seen) -> Result<Metals, MapFault>
     requires { AreSeen [] seen.old }
     ensures { Answers MapFault.Memory (Checks

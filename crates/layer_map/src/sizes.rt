@@ -61,7 +61,6 @@ fn is_version_1(document: &Table) -> bool
 }
 
 /// The radii.
-#[tactic(auto, using(first_refusal::proofs::AnswerLaws::out_of_memory))]
 pub fn read_radii(alloc: Global, document: &Table) -> Result<Sizes, MapFault>
     ensures { Answers MapFault.Memory (Checks
         (Holds (table_view document.now)) (radii_are_array ∷ radii_are_few ∷ has_radii ∷ [])
@@ -109,7 +108,6 @@ fn is_rising(numbers: &[u32]) -> bool
 }
 
 /// The weights of so many radii.
-#[tactic(auto, using(first_refusal::proofs::AnswerLaws::out_of_memory))]
 pub fn read_weights(alloc: Global, document: &Table, count: usize) -> Result<Weights, MapFault>
     ensures { count ≡ length (values_in (radii_in (table_view document.now))) →
         Answers MapFault.Memory (Checks (Holds (table_view document.now)) (has_weights ∷ []) fault_of

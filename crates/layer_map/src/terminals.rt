@@ -44,7 +44,6 @@ pub fn read_terminals(
 }
 
 /// The terminals on these metals, whose places are added to an empty set.
-#[tactic(auto, using(first_refusal::proofs::AnswerLaws::out_of_memory))]
 fn read_each(
     alloc: Global,
     document: &Table,

@@ -1,6 +1,6 @@
 use Rattle.std.proofs.Common.{◌∙◌, sym, ap, option_to_list}
 use Rattle.command_line.specs.inside.Command.{positions_found, values_found}
-use Rattle.command_line.proofs.TaskLaws.{map_task, metal_task, no_task_of_both, no_task_without_numbers, no_text, one_text}
+use Rattle.command_line.proofs.TaskLaws.{map_task, mapped_no_other, metal_no_other, metal_task, no_task_of_both, no_task_without_numbers, no_text, one_text}
 use Rattle.command_line.proofs.words.task_of.Goals as goal
 
 pub returns-in_default-numbers-clause-usage : goal.returns-in_default-numbers-clause-usage
@@ -25,3 +25,9 @@ returns-clause-task c =
     map_task (values_found c.args.matches.now) (positions_found c.args.matches.now) c.in-Some.layout.now
     (one_text c.get_str.result _ (ap option_to_list c.get_str.ensures) c.in-Some.layout c.in-Some.is) _ c.in-Some-text_of.map.now _ c.in_ok-top.top c.in_ok-name-2.ensures
     (one_text c.text_of.result _ c.text_of.ensures c.in-Some-text_of.map c.in-Some-text_of.is) c.in_ok-name-3.ensures (sym c.text_of-wanted.ensures ∙ c.in_ok-top.ensures)
+
+pub returns-in_default-text_of-clause-no_other : goal.returns-in_default-text_of-clause-no_other
+returns-in_default-text_of-clause-no_other c = metal_no_other (values_found c.args.matches.now) (no_text c.text_of.result _ c.text_of.ensures c.in_default-text_of.is)
+
+pub returns-clause-no_other : goal.returns-clause-no_other
+returns-clause-no_other c = mapped_no_other (values_found c.args.matches.now) c.has_number.result c.has_number.ensures.1 c.if-has_number.false

@@ -1,7 +1,7 @@
 use Rattle.std.proofs.Common.{◌++◌, take, arith}
 use Rattle.toml.specs.View.{table_view, view}
 use Rattle.layer_map.specs.Values.{cuts_in, metals_in}
-use Rattle.first_refusal.proofs.AnswerLaws.{handed_on}
+use Rattle.first_refusal.proofs.AnswerLaws.{handed_on, out_of_memory}
 use Rattle.layer_map.proofs.CutLaws.{all_cuts, cut_stops, cuts_no_array, have_names, names_are_different, no_cut_yet, one_cut_more, too_many_cuts}
 use Rattle.layer_map.proofs.EachLaws.{shown_at}
 use Rattle.layer_map.proofs.MetalLaws.{count_of}
@@ -54,3 +54,6 @@ returns c takes =
     let all = c.loop-number-test.false in
     all_cuts document c.args.metals.now _ c.loop-number.number c.loop-number.cuts.items c.loop-number.seen c.from_vec.result (omega (arith, count, all)) (c.loop-number.invariant takes)
     (λ given. rw c.from_vec.ensures given)
+
+pub returns-in_err-push : goal.returns-in_err-push
+returns-in_err-push c takes = out_of_memory _ _ c.from_residual-in_err-push.result c.from_residual-in_err-push.ensures.1

@@ -2,6 +2,7 @@ use Rattle.std.proofs.Common.{◌≡◌, ◌∙◌, List, ℕ, ◌++◌, ap, sub
 use Rattle.toml.specs.Data.{table}
 use Rattle.toml.specs.View.{table_view}
 use Rattle.lists.specs.Differing.{AreDifferent}
+use Rattle.first_refusal.proofs.AnswerLaws.{out_of_memory}
 use Rattle.layer_map.proofs.FindLaws.{found, none_found}
 use Rattle.layer_map.proofs.SeenLaws.{new_pairs, no_pairs, old_pair}
 use Rattle.layer_map.proofs.layer_items.add_pairs.Goals as goal
@@ -28,3 +29,9 @@ returns-else-not-branch-clause-judged c known earlier seen differ =
 
 pub returns-else-not-branch-clause-pairs : goal.returns-else-not-branch-clause-pairs
 returns-else-not-branch-clause-pairs c = rw c.from_vec.ensures (found (rw c.in-Some.is at c.in_ok-more.ensures)).are_pairs
+
+pub returns-in_err-more-clause-judged : goal.returns-in_err-more-clause-judged
+returns-in_err-more-clause-judged c known earlier seen differ = out_of_memory _ _ c.from_residual.result c.from_residual.ensures.1
+
+pub returns-in_err-add_different-in-Some-clause-judged : goal.returns-in_err-add_different-in-Some-clause-judged
+returns-in_err-add_different-in-Some-clause-judged c known earlier seen differ = out_of_memory _ _ c.from_residual-in_err-add_different-in-Some.result c.from_residual-in_err-add_different-in-Some.ensures.1

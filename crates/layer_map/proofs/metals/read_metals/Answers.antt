@@ -2,7 +2,7 @@ use Rattle.std.proofs.Common.{length, take, refl, ap, arith}
 use Rattle.lists.proofs.Words.{nat_tests}
 use Rattle.toml.specs.View.{table_view, view}
 use Rattle.layer_map.specs.Values.{metals_in, metal_in}
-use Rattle.first_refusal.proofs.AnswerLaws.{handed_on}
+use Rattle.first_refusal.proofs.AnswerLaws.{handed_on, out_of_memory}
 use Rattle.layer_map.proofs.EachLaws.{shown_at}
 use Rattle.layer_map.proofs.MetalLaws.{all_metals, count_of, metal_stops, no_metal_yet, no_metals, one_metal_more, too_many_metals}
 use Rattle.layer_map.proofs.ValueLaws.{no_array_no_values, values_in-array}
@@ -66,3 +66,6 @@ returns c =
     let all = c.loop-number-test.false in
     all_metals document _ c.loop-number.number c.loop-number.metals.items c.loop-number.seen c.from_vec.result (omega (arith, count, all)) c.loop-number.invariant
     (λ takes. rw c.from_vec.ensures takes)
+
+pub returns-in_err-push : goal.returns-in_err-push
+returns-in_err-push c = out_of_memory _ _ c.from_residual-in_err-push.result c.from_residual-in_err-push.ensures.1

@@ -2,7 +2,7 @@ use Rattle.std.proofs.Common.{Some}
 use Rattle.toml.specs.View.{table_view}
 use Rattle.layer_map.specs.inside.ReadValues.{finds}
 use Rattle.layer_map.specs.Values.{radii_in}
-use Rattle.first_refusal.proofs.AnswerLaws.{handed_on}
+use Rattle.first_refusal.proofs.AnswerLaws.{handed_on, out_of_memory}
 use Rattle.layer_map.proofs.FindLaws.{found, none_found}
 use Rattle.layer_map.proofs.SizeLaws.{bad_radii, good_radii, radii_no_array, radii_there, too_many_radii}
 use Rattle.layer_map.proofs.sizes.read_radii.Goals as goal
@@ -25,3 +25,6 @@ returns-in-Some c =
     let there = found (radii_there (radii_in (table_view c.args.document.now)) c.in_ok-values.values.now (Some c.in-Some.radii.items) c.in_ok-values.ensures.array (finds are)) in
     good_radii (table_view c.args.document.now) _ c.in_ok-values.values.now c.in_ok-values.ensures.array c.if-values-gt-MOST_SIZES.false c.from_vec.result c.in-Some.radii.items are
     (rw c.from_vec.ensures there)
+
+pub returns-in_err-radii : goal.returns-in_err-radii
+returns-in_err-radii c = out_of_memory _ _ c.from_residual-in_err-radii.result c.from_residual-in_err-radii.ensures.1

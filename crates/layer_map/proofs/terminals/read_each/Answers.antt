@@ -1,7 +1,7 @@
 use Rattle.std.proofs.Common.{arith, take}
 use Rattle.toml.specs.View.{table_view, view}
 use Rattle.layer_map.specs.Values.{metals_in, terminals_in}
-use Rattle.first_refusal.proofs.AnswerLaws.{handed_on}
+use Rattle.first_refusal.proofs.AnswerLaws.{handed_on, out_of_memory}
 use Rattle.layer_map.proofs.CutLaws.{have_names, layer_names_differ}
 use Rattle.layer_map.proofs.EachLaws.{shown_at}
 use Rattle.layer_map.proofs.MetalLaws.{count_of}
@@ -68,3 +68,9 @@ returns c seen takes =
     let all = c.loop-number-test.false in
     all_terminals document c.args.metals.now _ c.loop-number.number c.loop-number.terminals.items c.loop-number.places.keys c.from_vec.result (omega (arith, count, all))
     (c.loop-number.invariant seen takes) (λ given. rw c.from_vec.ensures given)
+
+pub returns-in_err-add_place : goal.returns-in_err-add_place
+returns-in_err-add_place c seen takes = out_of_memory _ _ c.from_residual-in_err-add_place.result c.from_residual-in_err-add_place.ensures.1
+
+pub returns-in_err-push : goal.returns-in_err-push
+returns-in_err-push c seen takes = out_of_memory _ _ c.from_residual-in_err-push.result c.from_residual-in_err-push.ensures.1

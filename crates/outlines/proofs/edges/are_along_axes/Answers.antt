@@ -1,8 +1,8 @@
-use Rattle.std.proofs.Common.{inl, inr, refl, sym, subst, true, false, ◌≡◌, All}
-use Rattle.lists.proofs.Words.{All-nil}
+use Rattle.std.proofs.Common.{inl, inr, refl, sym, ap, subst, ◌∙◌, All}
+use Rattle.lists.proofs.Words.{iter_rest, zip_first, zip_second, All-nil}
 use Rattle.lists.proofs.Reading.{left_holds, left_fails, none_left}
 use Rattle.outlines.specs.Outlines.{IsAlongAxis, edges_of}
-use Rattle.outlines.proofs.EdgeLaws.{edges_begun, edges_next, edges_ended, edges_none}
+use Rattle.outlines.proofs.EdgeLaws.{edges_begun, edges_next, edges_ended, edges_none, untrue}
 use Rattle.outlines.proofs.edges.are_along_axes.Goals as goal
 
 pub returns-in_default : goal.returns-in_default
@@ -10,14 +10,16 @@ returns-in_default c = ((λ _. subst (All IsAlongAxis) (sym (edges_none c.args.p
 
 pub loop-from-init : goal.loop-from-init
 loop-from-init c =
-    let e = edges_begun c.args.points.now c.in-Some.others.now _ _ c.in-Some.field-0-0.now c.in-Some.ensures.cases.0 (cc) (cc) in
+    let e = edges_begun c.args.points.now c.in-Some.others.now _ _ c.in-Some.field-0-0.now c.in-Some.ensures.cases.0
+    (ap (λ z. iter_rest (zip_first z)) c.into_iter-from-iterator.ensures.into_iter_gives ∙ ap iter_rest c.zip-from-items.ensures.first ∙ c.iter.ensures.rest)
+    (ap (λ z. iter_rest (zip_second z)) c.into_iter-from-iterator.ensures.into_iter_gives ∙ c.zip-from-items.ensures.second.0) in
     ((λ h. subst (All IsAlongAxis) e h), λ h. subst (All IsAlongAxis) (sym e) h)
 
 pub returns-then-not-is_along_axis : goal.returns-then-not-is_along_axis
 returns-then-not-is_along_axis c =
     let steps = c.in-Some-2.ensures.steps in (
-      λ no. let f : false ≡ true = no in cc,
-      λ all. absurd (left_fails IsAlongAxis _ _ c.loop-from.invariant _ _ (edges_next _ _ _ _ _ _ steps.0 steps.1) (λ along. let t = c.is_along_axis.ensures.1 along in cc) all),
+      λ no. absurd (untrue no),
+      λ all. absurd (left_fails IsAlongAxis _ _ c.loop-from.invariant _ _ (edges_next _ _ _ _ _ _ steps.0 steps.1) (λ along. untrue (sym c.if-not-is_along_axis.true ∙ c.is_along_axis.ensures.1 along)) all),
     )
 
 pub loop-from-preserved : goal.loop-from-preserved

@@ -2,7 +2,7 @@ use Rattle.std.proofs.Common.{◌≡◌, ◌<◌, w32, to_z, of_z, arith, sym, s
 use Rattle.lists.proofs.Words.{ints}
 use Rattle.geo_core.specs.declared.bounds.TheConstants.{FARTHEST}
 use Rattle.outlines.specs.inside.Sweeps.{GoesOnPast}
-use Rattle.outlines.proofs.SweepLaws.{swept_none, swept_on, evenly, nearer, finished}
+use Rattle.outlines.proofs.SweepLaws.{begun_below, swept_none, swept_on, evenly, nearer, finished}
 use Rattle.outlines.proofs.sweep.sweep.Goals as goal
 
 pub cross-requires-clause-begun : goal.cross-requires-clause-begun
@@ -72,3 +72,25 @@ add_band-requires-clause-within c = c.loop-row.invariant.filled.within
 pub returns : goal.returns
 returns c = finished c.args.sides.now (to_z w32 c.loop-row.row-bits) c.loop-row.growth c.finish.result (omega (arith, ints, c.loop-row-test.false))
     c.loop-row.invariant.filled c.finish.ensures.cells c.finish.ensures.within
+
+pub cross-requires-clause-by_low : goal.cross-requires-clause-by_low
+cross-requires-clause-by_low c = c.requires.by_low
+
+pub next_end-next-requires : goal.next_end-next-requires
+next_end-next-requires c = c.loop-row.invariant.at_row.by_low
+
+pub cross-requires-in-loop-row-clause-begun : goal.cross-requires-in-loop-row-clause-begun
+cross-requires-in-loop-row-clause-begun c =
+    let row = to_z w32 c.loop-row.row-bits in let next = c.next_end-next.result in
+    let swept = c.loop-row.invariant in
+    let before : row <ℤ FARTHEST = omega (arith, ints, c.loop-row-test.true) in
+    let lasting : All (GoesOnPast row) c.as_slice.result.now = rw c.as_slice.ensures.value swept.at_row.lasting in
+    let further : row <ℤ next = c.next_end-next.ensures.further row before lasting swept.at_row.above in
+    let same : to_z w32 (of_z w32 next) ≡ next = omega (arith, ints) in
+    rw same (begun_below row next c.loop-row.crossing.items further swept.at_row.begun)
+
+pub cross-requires-in-loop-row-clause-by_low : goal.cross-requires-in-loop-row-clause-by_low
+cross-requires-in-loop-row-clause-by_low c = c.loop-row.invariant.at_row.by_low
+
+pub finish-requires : goal.finish-requires
+finish-requires c = c.loop-row.invariant.filled.within
