@@ -33,7 +33,8 @@ pub record ArePiecesOf (covers : ℕ → Cell → Type 0) (cuts : List Cut) (m :
 
 -- a defect of any radius covers one of the boxes exactly where it blocks a via of the cut
 abbrev pub AreBoxesOf : (ℕ → Cell → Type 0) → Cut → List Rect → Type 0
-AreBoxesOf covers cut boxes = (radius : ℕ) (c : Cell) → 1 ≤ radius → CoversSomeBox boxes radius c ↔ IsViaBlock covers cut (radius + radius) c
+AreBoxesOf covers cut boxes = (radius : ℕ) (c : Cell) → 1 ≤ radius
+    → CoversSomeBox boxes radius c ↔ IsViaBlock covers cut (radius + radius) c
 
 -- the parts are those of this layer map and of what the lists cover
 pub record ArePartsOf (layer_map : LayerMap) (lists : List (List Rect)) (parts : Parts) : Type 0 where

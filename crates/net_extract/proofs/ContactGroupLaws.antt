@@ -44,7 +44,8 @@ AreByIslands-from_sorted xs up i j d before within =
     let b = get_or xs j d in
     no_later a.lower a.upper b.lower b.upper (sorted_far (λ x y. is_lt (pair_cmp (ends_of_contact x) (ends_of_contact y))) (ranks_by pair_total ends_of_contact) xs up i j d (omega arith) within)
 
-pub ordered_by_sort : {F : Type 0} {g : Mut F (Bor ContactPiece × Unit {0}) (ℕ × ℕ)} {f : F} (xs : List ContactPiece) → ((key : ContactPiece → ℕ × ℕ) → ComputesKey g key f → IsSortedByKey key pair_cmp xs)
+pub ordered_by_sort : {F : Type 0} {g : Mut F (Bor ContactPiece × Unit {0}) (ℕ × ℕ)} {f : F} (xs : List ContactPiece)
+    → ((key : ContactPiece → ℕ × ℕ) → ComputesKey g key f → IsSortedByKey key pair_cmp xs)
     → ((a : Bor ContactPiece × Unit {0}) (r : ℕ × ℕ) (f' : F) → Called g f a r f' → (r ≡ ends_of_contact a.0.now) × (f' ≡ f)) → AreByIslands xs
 ordered_by_sort {g = g} {f = f} xs up h = AreByIslands-from_sorted xs (up ends_of_contact (always_returns_same g (λ a r. r ≡ ends_of_contact a.0.now) f h))
 
@@ -124,7 +125,8 @@ module _ (xs : List ContactPiece) (first : ContactPiece) (count : ℕ) (at : sli
       let far : count + k < length xs = omega (arith, length-drop count xs) in
       let begin : first ≡ get_or xs 0 d = sym (get_or_from_slice_get xs 0 first d at) in
       let one : IsNoLater first (get_or xs count d) = subst (λ x. IsNoLater x (get_or xs count d)) (sym begin) (up 0 count d not_first here) in
-      let differs : carries_both first.lower first.upper (get_or xs count d) ≡ false = subst (λ x. carries_both first.lower first.upper x ≡ false) (get_or_default xs count first d here) (other here) in
+      let differs : carries_both first.lower first.upper (get_or xs count d) ≡ false = subst (λ x. carries_both first.lower first.upper x ≡ false)
+      (get_or_default xs count first d here) (other here) in
       rw get_or-drop (elim (leb_tells k 0) [
         | inl z ↦ let e : count ≡ count + k = let f = z.1 in omega arith in subst (λ n. carries_both first.lower first.upper (get_or xs n d) ≡ false) e differs
         | inr p ↦ later first (get_or xs count d) (get_or xs (count + k) d) one differs (up count (count + k) d (let f = p.1 in omega arith) far)
@@ -177,20 +179,23 @@ module _ (xs : List ContactPiece) (start : ℕ) (groups : List ContactGroup) (ar
   taken : take (start + count) xs ≡ take start xs ++ take count rest
   taken = take-add start count xs
 
-  pub one_group : (group : ContactGroup) → group.lower ≡ lower → group.upper ≡ upper → group.rects ≡ map (λ (c : ContactPiece). c.rect) (take count rest) → AreFirstGroups xs (start + count) (more group)
+  pub one_group : (group : ContactGroup) → group.lower ≡ lower → group.upper ≡ upper → group.rects ≡ map (λ (c : ContactPiece). c.rect) (take count rest)
+      → AreFirstGroups xs (start + count) (more group)
   one_group group low high rects =
       let pair : ℕ → ℕ → ℕ × ℕ = λ i k. (i, k) in
       let ends : ends_of_group group ≡ (lower, upper) = ap (λ i. pair i group.upper) low ∙ ap (pair lower) high in
       let fits = is.within in
       record {
         within = let w = are.within in omega (arith, length-drop start xs);
-        once = subst AreDifferent (sym (mapped group)) (different_more (map ends_of_group groups) (ends_of_group group) are.once (λ has. new_ends (subst (Contains (map ends_of_group groups)) ends has)));
-        all = λ contact among. subst (λ ps. Contains ps (ends_of_contact contact)) (sym (mapped group)) (elim (Contains-append_cases (take start xs) (take count rest) contact (subst (λ ys. Contains ys contact) taken among)) [
-          | inl old ↦ Contains-append_left (map ends_of_group groups) (ends_of_group group ∷ []) (ends_of_contact contact) (are.all contact old)
-          | inr new ↦
-              let same = carries_tells lower upper contact (All-contains (λ c. carries_both lower upper c ≡ true) (take count rest) contact is.front new) in
-              subst (Contains (map ends_of_group groups ++ ends_of_group group ∷ [])) (ends ∙ sym same) (Contains-push (map ends_of_group groups) (ends_of_group group))
-        ]);
+        once = subst AreDifferent (sym (mapped group)) (different_more (map ends_of_group groups) (ends_of_group group) are.once
+            (λ has. new_ends (subst (Contains (map ends_of_group groups)) ends has)));
+        all = λ contact among. subst (λ ps. Contains ps (ends_of_contact contact)) (sym (mapped group))
+            (elim (Contains-append_cases (take start xs) (take count rest) contact (subst (λ ys. Contains ys contact) taken among)) [
+              | inl old ↦ Contains-append_left (map ends_of_group groups) (ends_of_group group ∷ []) (ends_of_contact contact) (are.all contact old)
+              | inr new ↦
+                  let same = carries_tells lower upper contact (All-contains (λ c. carries_both lower upper c ≡ true) (take count rest) contact is.front new) in
+                  subst (Contains (map ends_of_group groups ++ ends_of_group group ∷ [])) (ends ∙ sym same) (Contains-push (map ends_of_group groups) (ends_of_group group))
+            ]);
         no_later = λ contact among has.
             let behind : Contains (drop count rest) contact = subst (λ ys. Contains ys contact) (sym (drop-drop count start xs)) among in
             elim (Contains-push_cases (map ends_of_group groups) (ends_of_group group) (ends_of_contact contact) (subst (λ ps. Contains ps (ends_of_contact contact)) (mapped group) has)) [

@@ -52,7 +52,8 @@ Tally-each : {P : Cell → Type 0} (cells : List Cell) → ((c : Cell) → Conta
 Tally-each [] each = none
 Tally-each (c ∷ cs) each = hit (each c (Contains-head c cs)) (Tally-each cs (λ d h. each d (Contains-tail c cs d h)))
 
-pub count_of_all : (zones : List Labelled) (window : Rect) (one other n : ℕ) → IsWholeIn window zones one → IsWholeIn window zones other → one ≢ other → n ≡ length (cells_of window) → IsCountOf zones window n
+pub count_of_all : (zones : List Labelled) (window : Rect) (one other n : ℕ) → IsWholeIn window zones one → IsWholeIn window zones other → one ≢ other → n ≡ length (cells_of window)
+    → IsCountOf zones window n
 count_of_all zones window one other n h k different e =
     let in_two : (c : Cell) → Contains (cells_of window) c → IsInTwoLabels zones c = λ c at.
     let has = (Contains-cells_of window c).0 at in record { one = one; other = other; in_one = h c has; in_other = k c has; different = different } in
@@ -81,9 +82,11 @@ pub count_by_kept : {E : Type 0} (zones kept : List Labelled) (window : Rect) (r
 count_by_kept zones kept window (Ok n) same count = record { tally = Tally-same_all (cells_of window) n same count.tally; small = count.small }
 count_by_kept zones kept window (Err e) same count = tt
 
-pub count_by_zones : {E : Type 0} (pieces zones : List Labelled) (radius : ℕ) (window : Rect) (result : Result ℕ E) → 1 ≤ radius → AreZonesOf pieces radius window zones → IfOk result (λ (n : ℕ). IsCountOf zones window n)
+pub count_by_zones : {E : Type 0} (pieces zones : List Labelled) (radius : ℕ) (window : Rect) (result : Result ℕ E) → 1 ≤ radius → AreZonesOf pieces radius window zones
+    → IfOk result (λ (n : ℕ). IsCountOf zones window n)
     → IfOk result (λ (n : ℕ). Tally (TouchesTwoLabels pieces radius) (cells_of window) n)
-count_by_zones pieces zones radius window (Ok n) positive same count = Tally-same (cells_of window) n (λ c h. two_touched radius positive c pieces zones window same ((Contains-cells_of window c).0 h)) count.tally
+count_by_zones pieces zones radius window (Ok n) positive same count = Tally-same (cells_of window) n
+    (λ c h. two_touched radius positive c pieces zones window same ((Contains-cells_of window c).0 h)) count.tally
 count_by_zones pieces zones radius window (Err e) positive same count = tt
 
 pub count_small : {E : Type 0} (zones : List Labelled) (window : Rect) (result : Result ℕ E) → IfOk result (λ (n : ℕ). IsCountOf zones window n) → IfOk result (λ (n : ℕ). n < 2 ^ 63)
@@ -91,7 +94,8 @@ count_small zones window (Ok n) count = count.small
 count_small zones window (Err e) count = tt
 
 -- the counts of two parts add up
-pub count_of_parts : (zones before behind : List Labelled) (axis : Axis) (window first second : Rect) (m n : ℕ) → AreParts axis window first second → AreAlikeIn first zones before → AreAlikeIn second zones behind
+pub count_of_parts : (zones before behind : List Labelled) (axis : Axis) (window first second : Rect) (m n : ℕ) → AreParts axis window first second → AreAlikeIn first zones before
+    → AreAlikeIn second zones behind
     → IsCountOf before first m → IsCountOf behind second n → IsCountOf zones window (m + n)
 count_of_parts zones before behind axis window first second m n parts here there one other =
     let some = Tally-same (cells_of first) m (λ c h. two_alike c before zones (λ label. here c ((Contains-cells_of first c).0 h) label)) one.tally in
@@ -114,7 +118,8 @@ count_apart zones window one other own others all m n k alone split either s t u
     (omega arith, record { tally = moved; small = few_tallied (IsInTwoLabels zones) window (m + n - k) moved })
 
 -- the same, where the lists are known by other names
-pub count_by_union : (zones : List Labelled) (window : Rect) (one other : ℕ) (own others first second third joined all : List Rect) (m n k : ℕ) → HaveNoThird zones one other → AreSplit zones one own others
+pub count_by_union : (zones : List Labelled) (window : Rect) (one other : ℕ) (own others first second third joined all : List Rect) (m n k : ℕ) → HaveNoThird zones one other
+    → AreSplit zones one own others
     → first ≡ own → second ≡ others → third ≡ others → joined ≡ own ++ third → all ≡ joined
     → Tally (IsInUnion first) (cells_of window) m → Tally (IsInUnion second) (cells_of window) n → Tally (IsInUnion all) (cells_of window) k → (k ≤ m + n) × IsCountOf zones window (m + n - k)
 count_by_union zones window one other own others first second third joined all m n k alone split is_own is_others also_others is_joined is_all s t u =

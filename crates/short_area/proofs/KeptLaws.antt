@@ -28,7 +28,8 @@ module _ (zones : List Labelled) (k : ℕ) (kept : List Labelled) (so_far : Kept
   kept_one zone small is new e =
       let more = kept ++ zone ∷ [] in
       let one : Contains zones zone = subst (Contains zones) (sym is) (Contains-get_or zones k zone small) in
-      let before = All-weaker (λ (z : Labelled). MeetsOther zones z → Contains kept z) (λ (z : Labelled). MeetsOther zones z → Contains more z) (λ z f m. Contains-append_left kept (zone ∷ []) z (f m)) (take k zones) so_far.each in
+      let before = All-weaker (λ (z : Labelled). MeetsOther zones z → Contains kept z) (λ (z : Labelled). MeetsOther zones z → Contains more z)
+      (λ z f m. Contains-append_left kept (zone ∷ []) z (f m)) (take k zones) so_far.each in
       subst (KeptSoFar zones (k + 1)) (sym e) (record {
         no_others = All-push (Contains zones) kept zone so_far.no_others one;
         each = All-read (λ (z : Labelled). MeetsOther zones z → Contains more z) zones k zone small is before (λ m. Contains-push kept zone);

@@ -42,7 +42,8 @@ module _ (c : Cell) (xs ys : List Rect) where
 
   two_cases : (t : IsInTwo (xs ++ ys) c) → HasNumber xs t.first t.one ⊎ ((m : ℕ) × (t.first ≡ length xs + m) × HasNumber ys m t.one)
       → HasNumber xs t.second t.other ⊎ ((m : ℕ) × (t.second ≡ length xs + m) × HasNumber ys m t.other) → TwoOfBoth
-  two_cases t (inl p) (inl q) = inl (record { first = t.first; second = t.second; differ = t.differ; one = t.one; other = t.other; one_at = p; other_at = q; one_has = t.one_has; other_has = t.other_has })
+  two_cases t (inl p) (inl q) = inl
+      (record { first = t.first; second = t.second; differ = t.differ; one = t.one; other = t.other; one_at = p; other_at = q; one_has = t.one_has; other_has = t.other_has })
   two_cases t (inl p) (inr q) = inr (inr (record { number = t.first; rect = t.one; at = p; has = t.one_has }, record { number = q.0; rect = t.other; at = q.2; has = t.other_has }))
   two_cases t (inr p) (inl q) = let e = p.1 in let d = t.differ in let w = slice_get_within xs t.second t.other q in absurd (omega arith)
   two_cases t (inr p) (inr q) =
@@ -249,7 +250,8 @@ module _ (sorted : List Labelled) (i label : ℕ) (runs listed : List Rect) (h :
         some_at = slice_get_read sorted (length sorted) i zone refl small is
 
 -- all zones, in the order in which they were given
-pub runs_all : (zones sorted : List Labelled) (i label : ℕ) (runs listed new : List Rect) → length sorted ≤ i → IsPermutation zones sorted → AreRunsTo sorted i label runs listed → GainsRuns runs new listed
+pub runs_all : (zones sorted : List Labelled) (i label : ℕ) (runs listed new : List Rect) → length sorted ≤ i → IsPermutation zones sorted → AreRunsTo sorted i label runs listed
+    → GainsRuns runs new listed
     → AreRunsOf zones new
 runs_all zones sorted i label runs listed new past moved h gains =
     let all = subst (λ (zs : List Labelled). AreRunsOf zs new) (take_all i sorted past) (runs_so_far sorted i label runs listed h new gains) in record {

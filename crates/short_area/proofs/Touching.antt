@@ -57,7 +57,8 @@ module _ (radius : ℕ) (positive : 1 ≤ radius) (c : Cell) where
 pub zones_none : (radius : ℕ) (window : Rect) → AreZonesOf [] radius window []
 zones_none radius window c at label = (λ h. absurd (label_none c label h), λ t. absurd (Contains-none t.among))
 
-pub zones_more : (radius : ℕ) → 1 ≤ radius → (window : Rect) (pieces : List Labelled) (i : ℕ) (piece : Labelled) (found : Option Rect) (old new : List Labelled) → i < length pieces → piece ≡ get_or pieces i piece
+pub zones_more : (radius : ℕ) → 1 ≤ radius → (window : Rect) (pieces : List Labelled) (i : ℕ) (piece : Labelled) (found : Option Rect) (old new : List Labelled) → i < length pieces
+    → piece ≡ get_or pieces i piece
     → ((c : Cell) → IsInside found c ↔ (IsNearCell piece.rect radius c × Has window c)) → GainsZone old new found piece.label
     → AreZonesOf (take i pieces) radius window old → AreZonesOf (take (i + 1) pieces) radius window new
 zones_more radius positive window pieces i piece found old new small is inside gains so_far c at label =
@@ -68,5 +69,6 @@ zones_more radius positive window pieces i piece found old new small is inside g
       λ h. gain.1 (elim (more.0 h) [ inl k ↦ inl (before.1 k) | inr k ↦ inr (k.0, (inside c).1 (k.1, at)) ]),
     )
 
-pub zones_all : (radius : ℕ) (window : Rect) (pieces : List Labelled) (i : ℕ) (zones : List Labelled) → length pieces ≤ i → AreZonesOf (take i pieces) radius window zones → AreZonesOf pieces radius window zones
+pub zones_all : (radius : ℕ) (window : Rect) (pieces : List Labelled) (i : ℕ) (zones : List Labelled) → length pieces ≤ i → AreZonesOf (take i pieces) radius window zones
+    → AreZonesOf pieces radius window zones
 zones_all radius window pieces i zones past h = subst (λ (ys : List Labelled). AreZonesOf ys radius window zones) (take_all i pieces past) h

@@ -32,7 +32,8 @@ module _ (c : Cell) where
   pub label_more : (zones : List Labelled) (i : ℕ) (zone : Labelled) (label : ℕ) → i < length zones → zone ≡ get_or zones i zone
       → IsInLabel (take (i + 1) zones) label c ↔ (IsInLabel (take i zones) label c ⊎ ((zone.label ≡ label) × Has zone.rect c))
   label_more zones i zone label small is =
-      subst (λ (ys : List Labelled). IsInLabel ys label c ↔ (IsInLabel (take i zones) label c ⊎ ((zone.label ≡ label) × Has zone.rect c))) (sym (taken_more zones i zone small is)) (label_push (take i zones) zone label)
+      subst (λ (ys : List Labelled). IsInLabel ys label c ↔ (IsInLabel (take i zones) label c ⊎ ((zone.label ≡ label) × Has zone.rect c))) (sym (taken_more zones i zone small is))
+      (label_push (take i zones) zone label)
 
   pub label_append : (xs ys : List Labelled) (label : ℕ) → IsInLabel (xs ++ ys) label c ↔ (IsInLabel xs label c ⊎ IsInLabel ys label c)
   label_append xs ys label = (
@@ -147,7 +148,8 @@ split_none label = record {
   other_cells = λ c. (λ u. absurd (union_none c u), λ h. absurd (label_none c h.other h.in_other));
 }
 
-module _ (zones : List Labelled) (i : ℕ) (zone : Labelled) (label : ℕ) (own others : List Rect) (small : i < length zones) (is : zone ≡ get_or zones i zone) (so_far : AreSplit (take i zones) label own others) where
+module _ (zones : List Labelled) (i : ℕ) (zone : Labelled) (label : ℕ) (own others : List Rect) (small : i < length zones) (is : zone ≡ get_or zones i zone)
+    (so_far : AreSplit (take i zones) label own others) where
   pub split_own : (new : List Rect) → new ≡ own ++ zone.rect ∷ [] → zone.label ≡ label → AreSplit (take (i + 1) zones) label new others
   split_own new e here = subst (λ (xs : List Rect). AreSplit (take (i + 1) zones) label xs others) (sym e) (record {
     own_cells = λ c.
@@ -182,9 +184,14 @@ pub split_all : (zones : List Labelled) (i label : ℕ) (own others : List Rect)
 split_all zones i label own others past h = subst (λ (ys : List Labelled). AreSplit ys label own others) (take_all i zones past) h
 
 -- a zone that has all cells of the window
-pub whole_one : (zones : List Labelled) (k : ℕ) (zone : Labelled) (window : Rect) → k < length zones → zone ≡ get_or zones k zone → ((c : Cell) → Has window c → Has zone.rect c) → IsWholeIn window zones zone.label
+pub whole_one : (zones : List Labelled) (k : ℕ) (zone : Labelled) (window : Rect) → k < length zones → zone ≡ get_or zones k zone → ((c : Cell) → Has window c → Has zone.rect c)
+    → IsWholeIn window zones zone.label
 whole_one zones k zone window small is all c at = record { zone = zone; among = (k, small, sym is); labelled = refl; has = all c at }
 
 -- a rectangle round another one, by their sides
 pub sides_round : (rect window : Rect) → rect.x0 ≤ℤ window.x0 → window.x1 ≤ℤ rect.x1 → rect.y0 ≤ℤ window.y0 → window.y1 ≤ℤ rect.y1 → (c : Cell) → Has window c → Has rect c
-sides_round rect window left right bottom top c at = record { across = in_ends window.x0 window.x1 rect.x0 rect.x1 left right c.i at.across; up = in_ends window.y0 window.y1 rect.y0 rect.y1 bottom top c.j at.up }
+sides_round rect window left right bottom top c at = record {
+  across = in_ends window.x0 window.x1 rect.x0 rect.x1 left right c.i at.across;
+  up = in_ends window.y0 window.y1 rect.y0 rect.y1 bottom
+      top c.j at.up;
+}

@@ -210,11 +210,13 @@ ChainsDownTo rest own others pairs rest' own' others' pairs' =
     (mine theirs : List Numbered) (start : List (ℕ × ℕ)) → IsChaining mine theirs rest [] own others start pairs → IsChaining mine theirs rest' [] own' others' start pairs'
 
 module _ {rest own others rest' own' others' : List Numbered} {pairs pairs' : List (ℕ × ℕ)} (h : ChainsDownTo rest own others pairs rest' own' others' pairs') where
-  pub down_one : {own'' others'' : List Numbered} {pairs'' : List (ℕ × ℕ)} (x : Numbered) (later : List Numbered) → rest' ≡ x ∷ later → ChainsOne x own' others' own'' others'' pairs' pairs'' → ChainsDownTo rest own others pairs later own'' others'' pairs''
+  pub down_one : {own'' others'' : List Numbered} {pairs'' : List (ℕ × ℕ)} (x : Numbered) (later : List Numbered) → rest' ≡ x ∷ later → ChainsOne x own' others' own'' others'' pairs' pairs''
+      → ChainsDownTo rest own others pairs later own'' others'' pairs''
   down_one x later e c mine theirs start s =
       one_chained x (subst (λ ys. IsChaining mine theirs ys [] own' others' start pairs') e (h mine theirs start s)) (λ y d. absurd (Contains-none d)) c
 
-  pub down_all : length rest' ≡ 0 → (mine theirs : List Numbered) (start : List (ℕ × ℕ)) → IsChaining mine theirs rest [] own others start pairs → Links (IsMatchOf mine theirs) (IsMatchOf mine theirs) start pairs'
+  pub down_all : length rest' ≡ 0 → (mine theirs : List Numbered) (start : List (ℕ × ℕ)) → IsChaining mine theirs rest [] own others start pairs
+      → Links (IsMatchOf mine theirs) (IsMatchOf mine theirs) start pairs'
   down_all e mine theirs start s = all_chained (subst (λ ys. IsChaining mine theirs ys [] own' others' start pairs') (none_of_length rest' e) (h mine theirs start s))
 
 -- ---- both lists
@@ -230,7 +232,8 @@ module _ {mine theirs a b own others : List Numbered} {old now : List (ℕ × �
   none_of_theirs e = subst (λ ys. IsChaining mine theirs a ys own others old now) (none_of_length b e) s
 
 -- links of the two lists in the other order
-pub links_turned : {mine theirs : List Numbered} {old new : List (ℕ × ℕ)} → Links (IsMatchOf mine theirs) (IsMatchOf mine theirs) old new → Links (IsMatchOf theirs mine) (IsMatchOf theirs mine) old new
+pub links_turned : {mine theirs : List Numbered} {old new : List (ℕ × ℕ)} → Links (IsMatchOf mine theirs) (IsMatchOf mine theirs) old new
+    → Links (IsMatchOf theirs mine) (IsMatchOf theirs mine) old new
 links_turned {mine} {theirs} g = links_less g (match_turned theirs mine) (match_turned mine theirs)
 
 pub links_none : (mine theirs : List Numbered) (pairs : List (ℕ × ℕ)) → length theirs ≡ 0 → Links (IsMatchOf mine theirs) (IsMatchOf mine theirs) pairs pairs

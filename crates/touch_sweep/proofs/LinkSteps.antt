@@ -86,7 +86,8 @@ pub link_from_column : (low high : ℤ) (points spans : List Numbered) {old new 
     → Links (IsMatchFrom low high points spans) (IsMatchOf points spans) old new
 link_from_column low high points spans g = links_less g (λ p (m : IsMatchFrom low high points spans p). record { found = m.found; reached = m.reached }) (λ p m. m)
 
-pub link_from_halves : (low high left_low left_high right_low right_high : ℤ) (points spans : List Numbered) {old middle new : List (ℕ × ℕ)} → left_low ≡ low → left_high ≡ right_low → right_high ≡ high
+pub link_from_halves : (low high left_low left_high right_low right_high : ℤ) (points spans : List Numbered) {old middle new : List (ℕ × ℕ)} → left_low ≡ low → left_high ≡ right_low
+    → right_high ≡ high
     → Links (IsMatchFrom left_low left_high points spans) (IsMatchOf points spans) old middle → Links (IsMatchFrom right_low right_high points spans) (IsMatchOf points spans) middle new
     → Links (IsMatchFrom low high points spans) (IsMatchOf points spans) old new
 link_from_halves low high left_low left_high right_low right_high points spans begins_is meets_is ends_is g h =

@@ -59,16 +59,17 @@ module _ (box : Rect) (radius : ℕ) (c : Cell) where
 -- the defect covers one of the first boxes, or the next one
 some_more : (boxes : List Rect) (radius : ℕ) (c : Cell) (k : ℕ) (box : Rect) → k < length boxes → box ≡ get_or boxes k box
     → CoversSomeBox (take (k + 1) boxes) radius c ↔ (CoversSomeBox (take k boxes) radius c ⊎ CoversBox box radius c)
-some_more boxes radius c k box small is = subst (λ (bs : List Rect). CoversSomeBox bs radius c ↔ (CoversSomeBox (take k boxes) radius c ⊎ CoversBox box radius c)) (sym (taken_more boxes k box small is)) (
-  λ s. elim (Contains-push_cases (take k boxes) box s.box s.among) [
-    | inl among ↦ inl (record { box = s.box; among = among; covered = s.covered })
-    | inr e ↦ inr (subst (λ (b : Rect). CoversBox b radius c) (sym e) s.covered)
-  ],
-  λ s. elim s [
-    | inl t ↦ record { box = t.box; among = Contains-append_left (take k boxes) (box ∷ []) t.box t.among; covered = t.covered }
-    | inr covered ↦ record { box = box; among = Contains-push (take k boxes) box; covered = covered }
-  ],
-)
+some_more boxes radius c k box small is = subst (λ (bs : List Rect). CoversSomeBox bs radius c ↔ (CoversSomeBox (take k boxes) radius c ⊎ CoversBox box radius c))
+    (sym (taken_more boxes k box small is)) (
+      λ s. elim (Contains-push_cases (take k boxes) box s.box s.among) [
+        | inl among ↦ inl (record { box = s.box; among = among; covered = s.covered })
+        | inr e ↦ inr (subst (λ (b : Rect). CoversBox b radius c) (sym e) s.covered)
+      ],
+      λ s. elim s [
+        | inl t ↦ record { box = t.box; among = Contains-append_left (take k boxes) (box ∷ []) t.box t.among; covered = t.covered }
+        | inr covered ↦ record { box = box; among = Contains-push (take k boxes) box; covered = covered }
+      ],
+    )
 
 -- the rectangles have the cells of the window from which a defect covers one of the first boxes
 pub record AreCentresSoFar (boxes : List Rect) (window : Rect) (radius : ℕ) (k : ℕ) (centres : List Rect) : Type 0 where

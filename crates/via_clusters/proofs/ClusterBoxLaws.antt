@@ -86,7 +86,8 @@ module _ (nets : NetLists) (cut : ℕ) where
             (Contains-map rect (filter test contacts) k.contact (Contains-filter test contacts k.contact k.among (told_carries lower upper k.contact k.carries))) k.has,
       )
 
-  box_of_group : (group : ContactGroup) (box : Rect) → group.rects ≡ rects_between contacts group.lower group.upper → IsGroupBox group box → IsBoundsOf (IsClusterCell nets cut (ends_of_group group)) box
+  box_of_group : (group : ContactGroup) (box : Rect) → group.rects ≡ rects_between contacts group.lower group.upper → IsGroupBox group box
+      → IsBoundsOf (IsClusterCell nets cut (ends_of_group group)) box
   box_of_group group box rects is =
       bounds_same (IsInUnion (rects_between contacts group.lower group.upper)) (IsClusterCell nets cut (ends_of_group group)) box (group_cells group.lower group.upper)
       (subst (λ rs. IsBoundsOf (IsInUnion rs) box) rects is)

@@ -23,6 +23,8 @@ pub record IsFrontOf (contacts : List ContactPiece) (lower upper count : ℕ) : 
 pub record AreFirstGroups (contacts : List ContactPiece) (start : ℕ) (groups : List ContactGroup) : Type 0 where
   pub within : start ≤ length contacts
   pub once : AreDifferent (map ends_of_group groups)
-  pub all : (contact : ContactPiece) → Contains (take start contacts) contact → Contains (map ends_of_group groups) (ends_of_contact contact)
-  pub no_later : (contact : ContactPiece) → Contains (drop start contacts) contact → Contains (map ends_of_group groups) (ends_of_contact contact) → ⊥
+  pub all : (contact : ContactPiece) → Contains (take start contacts) contact
+      → Contains (map ends_of_group groups) (ends_of_contact contact)
+  pub no_later : (contact : ContactPiece) → Contains (drop start contacts) contact
+      → Contains (map ends_of_group groups) (ends_of_contact contact) → ⊥
   pub rects : All (λ group. group.rects ≡ rects_between contacts group.lower group.upper) groups

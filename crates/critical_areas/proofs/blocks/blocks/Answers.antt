@@ -41,5 +41,6 @@ returns-clause-tally c =
     let small : k < length parts.cuts = omega (arith, c.requires.cut, c.requires.behind_metals) in
     let is : c.args.number ≡ length parts.metals + k = omega (arith, c.requires.behind_metals) in
     IfOk-weaker c.via_area.result Covered Blocked (λ (n : ℕ) counted.
-    blocks_are layer_map lists parts k c.args.number radius c.args.measure boxes (cells_of_window c.args.window) n are small is (read c) c.reach.ensures (subst IsRadius (sym c.reach.ensures) (reach_is_radius c.args.measure c.requires.some c.requires.within)).least
+    blocks_are layer_map lists parts k c.args.number radius c.args.measure boxes (cells_of_window c.args.window) n are small is (read c) c.reach.ensures
+    (subst IsRadius (sym c.reach.ensures) (reach_is_radius c.args.measure c.requires.some c.requires.within)).least
     (subst (λ w. Tally (CoversSomeBox boxes radius) (cells_of_window w) n) (sym c.in-Some.is) counted)) c.via_area.ensures.tally

@@ -21,7 +21,8 @@ pub overflow_mul-result : goal.overflow_mul-result
 overflow_mul-result c = rw (product c.args.count c.from.result c.args.step c.from.ensures c.requires.few c.requires.short) (fits c.args.count c.args.step c.requires.few c.requires.short)
 
 pub returns-clause-value : goal.returns-clause-value
-returns-clause-value c = rw (product c.args.count c.from.result c.args.step c.from.ensures c.requires.few c.requires.short) (to_z-of_z w64 _ (fits c.args.count c.args.step c.requires.few c.requires.short))
+returns-clause-value c = rw (product c.args.count c.from.result c.args.step c.from.ensures c.requires.few c.requires.short)
+    (to_z-of_z w64 _ (fits c.args.count c.args.step c.requires.few c.requires.short))
 
 pub returns-clause-amount : goal.returns-clause-amount
 returns-clause-amount c =

@@ -15,5 +15,6 @@ pub returns-in_default : goal.returns-in_default
 returns-in_default c = record {
   tells = λ nodes are_true done.
       let k = c.in-Copies in
-      let d = done k.reference k.target (subst (λ (x : Part). Contains (c.args.part.now ∷ []) x) k.is (Contains-head c.args.part.now [])) in absurd (c.in_default.not-Done d.0 (c.state_at.ensures ∙ d.1));
+      let d = done k.reference k.target (subst (λ (x : Part). Contains (c.args.part.now ∷ []) x) k.is (Contains-head c.args.part.now [])) in absurd
+      (c.in_default.not-Done d.0 (c.state_at.ensures ∙ d.1));
 }

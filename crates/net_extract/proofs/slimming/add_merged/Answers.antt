@@ -11,4 +11,5 @@ returns c =
     let part = c.args.part.now in
     let label = c.args.label in
     let same = merged_alike part label c.deref.result.now c.in_ok-merged.merged.items (c.deref.ensures.value ∙ c.in_ok-rects.ensures) c.requires c.in_ok-merged.ensures.same in
-    on_ok_weaker _ (λ e. gained part (map (with_label label) c.in_ok-merged.merged.items) _ _ same (e ∙ ap (λ rs. c.args.slim.now.items ++ map (with_label label) rs) c.deref-2.ensures.value)) c.add_all.ensures
+    on_ok_weaker _ (λ e. gained part (map (with_label label) c.in_ok-merged.merged.items) _ _ same (e ∙ ap (λ rs. c.args.slim.now.items ++ map (with_label label) rs) c.deref-2.ensures.value))
+    c.add_all.ensures

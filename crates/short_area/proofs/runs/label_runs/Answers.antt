@@ -10,10 +10,12 @@ use Rattle.short_area.proofs.runs.label_runs.Goals.{then-zone-label+in_ok-add_ru
 pub loop-zone-preserved : goal.loop-zone-preserved
 loop-zone-preserved c =
     let sorted = c.as_slice-zone-items.result.now in
-    let ordered : AllPairs (λ (a b : Labelled). a.label ≤ b.label) sorted = subst (AllPairs (λ (a b : Labelled). a.label ≤ b.label)) (sym c.as_slice-zone-items.ensures.value) c.in_ok-sorted.ensures.ordered in
+    let ordered : AllPairs (λ (a b : Labelled). a.label ≤ b.label) sorted = subst (AllPairs (λ (a b : Labelled). a.label ≤ b.label)) (sym c.as_slice-zone-items.ensures.value)
+    c.in_ok-sorted.ensures.ordered in
     let so_far : AreRunsTo sorted c.loop-zone.zone-index c.if-zone-label.label c.if-zone-label.runs.items c.if-zone-label.listed.items =
     elim c.if-zone-label.branch [
-      | then-zone-label+in_ok-add_runs w ↦ rw (w.runs-is, w.listed-is, w.label-is, w.clear.ensures.items) (runs_next _ _ _ _ _ c.loop-zone.invariant c.zone-item.result c.loop-zone-test.true c.zone-item.is _
+      | then-zone-label+in_ok-add_runs w ↦ rw (w.runs-is, w.listed-is, w.label-is, w.clear.ensures.items)
+          (runs_next _ _ _ _ _ c.loop-zone.invariant c.zone-item.result c.loop-zone-test.true c.zone-item.is _
           (subst (λ (xs : List Rect). GainsRuns c.loop-zone.runs.items w.add_runs.new.runs.items xs) w.as_slice.ensures.value w.in_ok-add_runs.ensures) w.if-zone-label.true ordered)
       | else-zone-label w ↦ rw (w.runs-is, w.listed-is, w.label-is) c.loop-zone.invariant
     ] in

@@ -11,5 +11,6 @@ returns-clause-some c x =
 pub returns-then-low-high-clause-none : goal.returns-then-low-high-clause-none
 returns-then-low-high-clause-none c x h k =
     let a = c.max-low.ensures.value in let b = c.min-high.ensures.value in let f = c.if-low-high.true in
-    clip_none (c.args.places.low -ℤ pos c.args.radius) (c.args.places.high +ℤ pos c.args.radius) c.args.within.low c.args.within.high (to_z w32 (of_z w32 c.max-low.result)) (to_z w32 (of_z w32 c.min-high.result))
+    clip_none (c.args.places.low -ℤ pos c.args.radius) (c.args.places.high +ℤ pos c.args.radius) c.args.within.low c.args.within.high (to_z w32 (of_z w32 c.max-low.result))
+    (to_z w32 (of_z w32 c.min-high.result))
     (omega (arith, ints, clamps)) (omega (arith, ints, clamps)) (omega (arith, ints)) (x, h, k)

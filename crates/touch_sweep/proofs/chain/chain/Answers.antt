@@ -40,12 +40,14 @@ loop-point-preserved c =
 
 pub returns-in_default-split_first-clause-joined : goal.returns-in_default-split_first-clause-joined
 returns-in_default-split_first-clause-joined c = IfOk-weaker _ _ _
-    (λ (u : Unit {0}) (down : ChainsRest c.loop-point.points.now c.loop-point.open_points.items c.loop-point.open_spans.items c.loop-point.pairs.items c.chain_rest.new.pairs.items). down c.args.points.now c.args.spans.now c.args.pairs.now.items (none_of_theirs c.loop-point.invariant.chaining c.in_default-split_first.ensures.cases))
+    (λ (u : Unit {0}) (down : ChainsRest c.loop-point.points.now c.loop-point.open_points.items c.loop-point.open_spans.items c.loop-point.pairs.items c.chain_rest.new.pairs.items). down
+    c.args.points.now c.args.spans.now c.args.pairs.now.items (none_of_theirs c.loop-point.invariant.chaining c.in_default-split_first.ensures.cases))
     c.chain_rest.ensures.joined
 
 pub returns-clause-joined : goal.returns-clause-joined
 returns-clause-joined c = IfOk-weaker _ _ _
-    (λ (u : Unit {0}) (down : ChainsRest c.loop-point.spans.now c.loop-point.open_spans.items c.loop-point.open_points.items c.loop-point.pairs.items c.chain_rest-2.new.pairs.items). links_turned (down c.args.spans.now c.args.points.now c.args.pairs.now.items (none_of_theirs (turned c.loop-point.invariant.chaining) c.in_default.ensures.cases)))
+    (λ (u : Unit {0}) (down : ChainsRest c.loop-point.spans.now c.loop-point.open_spans.items c.loop-point.open_points.items c.loop-point.pairs.items c.chain_rest-2.new.pairs.items). links_turned
+    (down c.args.spans.now c.args.points.now c.args.pairs.now.items (none_of_theirs (turned c.loop-point.invariant.chaining) c.in_default.ensures.cases)))
     c.chain_rest-2.ensures.joined
 
 pub returns-in_default-split_first-clause-few : goal.returns-in_default-split_first-clause-few

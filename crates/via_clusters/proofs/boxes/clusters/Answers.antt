@@ -9,7 +9,8 @@ loop-group-preserved c =
     let groups = c.deref-group-items.result.now in
     let group = c.group-item.result in
     let is : IsGroupBox group c.bounds.result = rw c.as_slice.ensures at c.bounds.ensures in
-    rw c.in_ok-push.ensures.items (AllZip-more IsGroupBox groups c.loop-group.boxes.items c.loop-group.group-index group c.bounds.result c.loop-group-test.true c.group-item.is c.loop-group.invariant is)
+    rw c.in_ok-push.ensures.items (AllZip-more IsGroupBox groups c.loop-group.boxes.items c.loop-group.group-index group c.bounds.result c.loop-group-test.true c.group-item.is c.loop-group.invariant
+    is)
 
 pub returns : goal.returns
 returns c =
