@@ -91,7 +91,7 @@ fn tell_files<F: Files, P: Paths>(
     files: &mut F,
     paths: &P,
 ) -> Result<(), NoMemory> {
-    let Some(_map) = map_for(alloc, told, request, files, paths)? else {
+    let Some(map) = map_for(alloc, told, request, files, paths)? else {
         return Ok(());
     };
     let (name, top) = layout_of(&request.task);
@@ -106,7 +106,7 @@ fn tell_files<F: Files, P: Paths>(
         bytes: bytes.as_slice(),
         top,
     };
-    tell_layout(alloc, told, &layout)
+    tell_layout(alloc, told, &map, &layout)
 }
 
 /// What is to be said of the run of these words on these files.

@@ -1,16 +1,26 @@
 //! What is wrong with a layout, or that nothing is.
 
-ghost use Rattle.std.specs.Prelude.{◌≤◌, length};
+ghost use Rattle.std.specs.Prelude.{◌≤◌, length, All};
+ghost use Rattle.lists.specs.Differing.{AreDifferent};
+ghost use Rattle.library_model.specs.Names.{names_of};
+ghost use Rattle.library_model.specs.Points.{AreWellPointed};
+ghost use Rattle.rect_cover.specs.Coverings.{IsWellPlaced};
 
 use crate::beginnings::{begins_as_text, format_of, is_gdsii};
+use crate::good::tell_good;
 use crate::kind_names::record_name;
 use crate::places::{tell_before, tell_place};
 use crate::refused::meaning;
+use crate::shapes::{shapes_of, tell_uncovered};
 use crate::spot::{spot_at, spot_before};
+use crate::structures::tell_place_fault;
 use crate::telling::Telling;
+use flatten::{Placed, place};
 use gds_records::RecordFault;
 use gds_syntax::{SyntaxFault, read_library};
+use library_model::Library;
 use lists::NoMemory;
+use map_model::Map;
 use std::alloc::Global;
 
 /// The status of a run that refuses a layout.
@@ -132,12 +142,63 @@ fn tell_syntax(
     Ok(())
 }
 
+/// Tells of the shapes of a library.
+fn tell_shapes(
+    alloc: Global,
+    told: &mut Telling,
+    map: &Map,
+    layout: &Layout<'_>,
+    library: &Library,
+    placed: &[Placed],
+) -> Result<(), NoMemory>
+    requires { All (IsWellPlaced library.now.structures) placed.now }
+{
+    let shapes = shapes_of(alloc, map, library, placed)?;
+    let found = shapes.uncovered.as_slice();
+    match found.first() {
+        None => tell_good(
+            alloc,
+            &mut told.text,
+            map,
+            layout,
+            library,
+            shapes.held.as_slice(),
+        ),
+        Some(first) => {
+            tell_number(told, layout, first.number, u64::from(first.at));
+            tell_uncovered(alloc, &mut told.text, map, layout, found)
+        }
+    }
+}
+
+/// Tells of a library.
+fn tell_library(
+    alloc: Global,
+    told: &mut Telling,
+    map: &Map,
+    layout: &Layout<'_>,
+    library: &Library,
+) -> Result<(), NoMemory>
+    requires differ { AreDifferent (names_of library.now.structures) }
+    requires pointed { AreWellPointed library.now.structures }
+{
+    match place(alloc, library, map, layout.top) {
+        Ok(placed) => tell_shapes(alloc, told, map, layout, library, placed.as_slice()),
+        Err(fault) => tell_place_fault(alloc, told, map, layout, library, fault),
+    }
+}
+
 /// Tells of the layout.
-pub fn tell_layout(alloc: Global, told: &mut Telling, layout: &Layout<'_>) -> Result<(), NoMemory>
+pub fn tell_layout(
+    alloc: Global,
+    told: &mut Telling,
+    map: &Map,
+    layout: &Layout<'_>,
+) -> Result<(), NoMemory>
     requires { length layout.now.bytes.now ≤ 268435456 }
 {
     match read_library(alloc, layout.bytes) {
-        Ok(_) => Ok(()),
+        Ok(library) => tell_library(alloc, told, map, layout, &library),
         Err(fault) => tell_syntax(told, layout, fault),
     }
 }

@@ -5,8 +5,11 @@
 
 mod beginnings;
 mod explanation;
+mod good;
+mod graph;
 mod inputs;
 mod kind_names;
+mod layer_names;
 mod layouts;
 mod map_spot;
 mod maps;
@@ -15,7 +18,9 @@ mod places;
 mod position;
 mod quoted;
 mod refused;
+mod shapes;
 mod spot;
+mod structures;
 mod telling;
 mod text;
 mod usage;

@@ -1,0 +1,203 @@
+//! The placed shapes of a layout: what they cover on each layer of the map, and those that have no cover.
+
+ghost use Rattle.std.specs.Prelude.{All};
+ghost use Rattle.rect_cover.specs.Coverings.{IsWellPlaced};
+
+use crate::layer_names::{layer_count, tell_layer};
+use crate::layouts::Layout;
+use crate::places::tell_place;
+use crate::refused::short_meaning;
+use crate::spot::spot_at;
+use crate::text::Text;
+use flatten::Placed;
+use geo_core::Rect;
+use library_model::{Element, Library};
+use lists::NoMemory;
+use map_model::Map;
+use rect_cover::{CoverFault, cover};
+use std::alloc::Global;
+
+/// The most shapes that are told each in a line.
+const MOST_LINES: usize = 20;
+
+/// The numbers of shapes without a cover.
+const NUMBERS: [u8; 7] = [30, 31, 32, 33, 34, 35, 36];
+
+/// A placed shape that has no cover.
+#[derive(Clone, Copy)]
+pub struct Uncovered {
+    pub number: u8,
+    pub layer: u32,
+    pub at: u32,
+}
+
+/// What is placed on a layer.
+#[derive(Clone, Copy)]
+pub struct Held {
+    pub shapes: u64,
+    pub points: u64,
+    /// The left, the bottom, the right and the top of what is covered, where something is.
+    pub bounds: Option<(i32, i32, i32, i32)>,
+}
+
+/// The placed shapes: what each layer holds, and those that have no cover.
+#[derive(Drop)]
+pub struct Shapes {
+    pub held: Vec<Held>,
+    pub uncovered: Vec<Uncovered>,
+}
+
+/// How many points the placed shape has.
+fn point_count(library: &Library, placed: &Placed) -> usize {
+    let Some(structure) = library.structures.as_slice().get(placed.structure as usize) else {
+        return 0;
+    };
+    match structure.elements.as_slice().get(placed.element as usize) {
+        Some(Element::Shape(shape)) => shape.points.as_slice().len(),
+        _ => 0,
+    }
+}
+
+/// What both reach together.
+fn joined(bounds: Option<(i32, i32, i32, i32)>, rect: Rect) -> (i32, i32, i32, i32) {
+    let (left, bottom, right, top) = bounds.unwrap_or((rect.x0, rect.y0, rect.x1, rect.y1));
+    (
+        left.min(rect.x0),
+        bottom.min(rect.y0),
+        right.max(rect.x1),
+        top.max(rect.y1),
+    )
+}
+
+/// What is placed with one shape more, which has so many points and covers these rectangles.
+fn with_shape(held: Held, points: usize, rects: &[Rect]) -> Held {
+    let mut bounds = held.bounds;
+    for rect in rects {
+        bounds = Some(joined(bounds, *rect));
+    }
+    Held {
+        shapes: held.shapes.saturating_add(1),
+        points: held.points.saturating_add(points as u64),
+        bounds,
+    }
+}
+
+/// Notes a shape with its cover, or that it has none.
+fn note(
+    shapes: &mut Shapes,
+    library: &Library,
+    one: &Placed,
+    answer: Result<Vec<Rect>, CoverFault>,
+) -> Result<(), NoMemory> {
+    match answer {
+        Ok(rects) => {
+            if let Some(held) = shapes.held.get_mut(one.layer as usize) {
+                *held = with_shape(*held, point_count(library, one), rects.as_slice());
+            }
+        }
+        Err(CoverFault::Memory) => return Err(NoMemory),
+        Err(fault) => shapes.uncovered.push(Uncovered {
+            number: fault.number(),
+            layer: one.layer,
+            at: one.at,
+        })?,
+    }
+    Ok(())
+}
+
+/// Looks at all placed shapes.
+pub fn shapes_of(
+    alloc: Global,
+    map: &Map,
+    library: &Library,
+    placed: &[Placed],
+) -> Result<Shapes, NoMemory>
+    requires { All (IsWellPlaced library.now.structures) placed.now }
+{
+    let none = Held {
+        shapes: 0,
+        points: 0,
+        bounds: None,
+    };
+    let mut shapes = Shapes {
+        held: vec![in alloc; none; layer_count(map)]?,
+        uncovered: Vec::new(alloc),
+    };
+    for one in placed {
+        let answer = cover(alloc, library, one);
+        note(&mut shapes, library, one, answer)?;
+    }
+    Ok(shapes)
+}
+
+/// Tells how many shapes of a layer have no cover for the reason with this number.
+fn tell_count(text: &mut Text, map: &Map, found: &[Uncovered], number: u8, layer: usize) {
+    let count = found
+        .iter()
+        .filter(|one| one.number == number && one.layer as usize == layer)
+        .count();
+    if count > 0 {
+        text.say("  ");
+        text.number(count as u64);
+        text.say(" placed shapes of ");
+        tell_layer(text, map, layer);
+        text.say(": ");
+        text.number(u64::from(number));
+        text.say(", ");
+        text.say(short_meaning(number));
+        text.say("\n");
+    }
+}
+
+/// Tells how many shapes of each layer have no cover.
+fn tell_uncovered_counts(text: &mut Text, map: &Map, found: &[Uncovered]) {
+    for number in NUMBERS {
+        for layer in 0..layer_count(map) {
+            tell_count(text, map, found, number, layer);
+        }
+    }
+}
+
+/// Tells of a shape in a line.
+fn tell_line(text: &mut Text, layout: &Layout<'_>, one: &Uncovered) {
+    text.say("  byte ");
+    text.number(u64::from(one.at));
+    text.say(": ");
+    tell_place(text, &spot_at(layout.bytes, one.at));
+    text.say(": ");
+    text.say(short_meaning(one.number));
+    text.say("\n");
+}
+
+/// Tells of the first shapes, each in a line. One that is placed many times has one line.
+fn tell_lines(
+    alloc: Global,
+    text: &mut Text,
+    layout: &Layout<'_>,
+    found: &[Uncovered],
+) -> Result<(), NoMemory> {
+    let mut told = Vec::new(alloc);
+    for one in found {
+        if told.len() == MOST_LINES {
+            text.say("  and others\n");
+            return Ok(());
+        }
+        if !told.as_slice().contains(&one.at) {
+            tell_line(text, layout, one);
+            told.push(one.at)?;
+        }
+    }
+    Ok(())
+}
+
+/// Tells of the placed shapes that have no cover: how many, and the first ones each in a line.
+pub fn tell_uncovered(
+    alloc: Global,
+    text: &mut Text,
+    map: &Map,
+    layout: &Layout<'_>,
+    found: &[Uncovered],
+) -> Result<(), NoMemory> {
+    tell_uncovered_counts(text, map, found);
+    tell_lines(alloc, text, layout, found)
+}

@@ -1,0 +1,311 @@
+//! What is wrong with how the structures of a library refer to each other.
+
+use crate::graph::{Graph, chain_end, chain_length, circle_from, graph_of, times_placed, tops_of};
+use crate::layer_names::{layer_count, tell_layer};
+use crate::layouts::{Layout, tell_number};
+use crate::places::tell_place;
+use crate::spot::spot_at;
+use crate::telling::Telling;
+use crate::text::Text;
+use flatten::PlaceFault;
+use library_model::{Element, Library, Structure};
+use lists::NoMemory;
+use map_model::Map;
+use std::alloc::Global;
+
+/// The most structures of a circle, and the most tops of a kind, that are named.
+const MOST_NAMED: usize = 50;
+
+/// What the names of structures begin with that editors hide.
+const HIDDEN: &[u8] = b"$$$";
+
+/// The number of the structure that begins at this offset.
+fn structure_at(structures: &[Structure], place: u64) -> Option<usize> {
+    structures
+        .iter()
+        .position(|structure| u64::from(structure.at) == place)
+}
+
+/// Tells the name of the structure with this number.
+fn tell_name(text: &mut Text, structures: &[Structure], number: usize) {
+    if let Some(structure) = structures.get(number) {
+        text.name(structure.name.as_slice());
+    }
+}
+
+/// Tells a structure whose name differs from this in nothing but capital letters, where there is one.
+fn tell_alike(text: &mut Text, structures: &[Structure], name: &[u8]) {
+    let alike = structures.iter().find(|structure| structure
+        .name
+        .as_slice()
+        .eq_ignore_ascii_case(name));
+    if let Some(structure) = alike {
+        text.say("  there is ");
+        text.name(structure.name.as_slice());
+        text.say(", with other capital letters\n");
+    }
+}
+
+/// Tells which reference names no structure.
+fn tell_unknown(told: &mut Telling, layout: &Layout<'_>, structures: &[Structure], place: u32) {
+    let spot = spot_at(layout.bytes, place);
+    told.text.say("  ");
+    tell_place(&mut told.text, &spot);
+    told.text.say("\n");
+    if let Some(target) = spot.target {
+        told.text.say("  no structure is named ");
+        told.text.name(target);
+        told.text.say("\n");
+        tell_alike(&mut told.text, structures, target);
+    }
+}
+
+/// Tells the circle to which a structure leads.
+fn tell_circle(
+    alloc: Global,
+    text: &mut Text,
+    structures: &[Structure],
+    graph: &Graph,
+    one: usize,
+) -> Result<(), NoMemory> {
+    let circle = circle_from(alloc, graph, one, MOST_NAMED)?;
+    text.say("  structure ");
+    tell_name(text, structures, one);
+    text.say("; the circle:");
+    for number in &circle {
+        text.say(" ");
+        tell_name(text, structures, *number);
+        text.say(" ->");
+    }
+    if circle.len() < MOST_NAMED {
+        text.say(" ");
+        if let Some(first) = circle.first() {
+            tell_name(text, structures, *first);
+        }
+    } else {
+        text.say(" ..");
+    }
+    text.say("\n");
+    Ok(())
+}
+
+/// Tells the longest chain from the top.
+fn tell_chain(text: &mut Text, structures: &[Structure], graph: &Graph, top: usize) {
+    let length = chain_length(graph, top);
+    text.say("  the longest chain has ");
+    text.number(length as u64);
+    text.say(" references, from ");
+    tell_name(text, structures, top);
+    text.say(" to ");
+    tell_name(text, structures, chain_end(graph, top));
+    text.say("\n");
+}
+
+/// Whether editors hide the structure with this number.
+fn is_hidden(structures: &[Structure], number: usize) -> bool {
+    match structures.get(number) {
+        Some(structure) => structure.name.as_slice().starts_with(HIDDEN),
+        None => false,
+    }
+}
+
+/// Tells those of the tops that are hidden by editors, or those that are not, in a line behind these words.
+fn tell_some_tops(
+    text: &mut Text,
+    structures: &[Structure],
+    tops: &[usize],
+    hidden: bool,
+    words: &str,
+) {
+    let mut count = 0usize;
+    for top in tops {
+        if is_hidden(structures, *top) == hidden {
+            if count == 0 {
+                text.say("  ");
+                text.say(words);
+                text.say(":");
+            }
+            if count < MOST_NAMED {
+                text.say(" ");
+                tell_name(text, structures, *top);
+            }
+            count = count.saturating_add(1);
+        }
+    }
+    if count > MOST_NAMED {
+        text.say(", the first ");
+        text.number(MOST_NAMED as u64);
+        text.say(" of ");
+        text.number(count as u64);
+    }
+    if count > 0 {
+        text.say("\n");
+    }
+}
+
+/// Tells which structures no reference names.
+fn tell_tops(
+    alloc: Global,
+    text: &mut Text,
+    structures: &[Structure],
+    graph: &Graph,
+) -> Result<(), NoMemory> {
+    let tops = tops_of(alloc, graph)?;
+    let tops = tops.as_slice();
+    tell_some_tops(text, structures, tops, false, "named by no reference");
+    tell_some_tops(
+        text,
+        structures,
+        tops,
+        true,
+        "named by no reference, and hidden by editors, which keep notes of their own in them",
+    );
+    Ok(())
+}
+
+/// How many shapes and points are placed on a layer.
+#[derive(Clone, Copy, Debug, PartialEq, Eq)]
+struct Count {
+    shapes: u64,
+    points: u64,
+}
+
+/// Adds the shapes of a structure that is placed so often.
+fn add_shapes(counts: &mut Vec<Count>, map: &Map, structure: &Structure, times: u64) {
+    for element in structure.elements.as_slice() {
+        if let Element::Shape(shape) = element {
+            if let Some(number) = map.layer_of(shape.layer, shape.datatype) {
+                if let Some(count) = counts.get_mut(number as usize) {
+                    let points = times.saturating_mul(shape.points.as_slice().len() as u64);
+                    *count = Count {
+                        shapes: count.shapes.saturating_add(times),
+                        points: count.points.saturating_add(points),
+                    };
+                }
+            }
+        }
+    }
+}
+
+/// Tells how many shapes and points the top places on each layer of the map.
+fn tell_counts(
+    alloc: Global,
+    text: &mut Text,
+    map: &Map,
+    structures: &[Structure],
+    graph: &Graph,
+    top: usize,
+) -> Result<(), NoMemory> {
+    let times = times_placed(alloc, graph, top)?;
+    let none = Count {
+        shapes: 0,
+        points: 0,
+    };
+    let mut counts = vec![in alloc; none; layer_count(map)]?;
+    for (number, structure) in structures.iter().enumerate() {
+        match times.get(number) {
+            Some(times) if *times > 0 => add_shapes(&mut counts, map, structure, *times),
+            _ => {}
+        }
+    }
+    for (number, count) in counts.iter().enumerate() {
+        let Count { shapes, points } = *count;
+        text.say("  ");
+        tell_layer(text, map, number);
+        text.say(": ");
+        text.number(shapes);
+        text.say(" shapes with ");
+        text.number(points);
+        text.say(" points\n");
+    }
+    Ok(())
+}
+
+/// Tells that no structure has the wanted name, or that there is none.
+fn tell_no_top(
+    alloc: Global,
+    told: &mut Telling,
+    layout: &Layout<'_>,
+    structures: &[Structure],
+    graph: &Graph,
+) -> Result<(), NoMemory> {
+    told.refuse(4, 27, 0);
+    let text = &mut told.text;
+    if structures.is_empty() {
+        text.say("layout ");
+        text.name(layout.name);
+        text.say(": it has no structure\n");
+        return Ok(());
+    }
+    let top = layout.top.unwrap_or(b"");
+    text.say("layout ");
+    text.name(layout.name);
+    text.say(": no structure has the name ");
+    text.name(top);
+    text.say(" that --top gives\n");
+    tell_alike(text, structures, top);
+    tell_tops(alloc, text, structures, graph)
+}
+
+/// Tells of what is wrong with the structure at a place.
+fn tell_at_structure(
+    alloc: Global,
+    text: &mut Text,
+    map: &Map,
+    structures: &[Structure],
+    graph: &Graph,
+    fault: PlaceFault,
+) -> Result<(), NoMemory> {
+    let Some(one) = structure_at(structures, fault.place()) else {
+        return Ok(());
+    };
+    match fault {
+        PlaceFault::Cycle { .. } => tell_circle(alloc, text, structures, graph, one),
+        PlaceFault::TooDeep { .. } => {
+            tell_chain(text, structures, graph, one);
+            Ok(())
+        }
+        PlaceFault::ManyTops { .. } => tell_tops(alloc, text, structures, graph),
+        PlaceFault::TooManyShapes { .. } => {
+            text.say("  the top is ");
+            tell_name(text, structures, one);
+            text.say("\n");
+            tell_counts(alloc, text, map, structures, graph, one)
+        }
+        _ => Ok(()),
+    }
+}
+
+/// Tells why the shapes of a library are not placed.
+pub fn tell_place_fault(
+    alloc: Global,
+    told: &mut Telling,
+    map: &Map,
+    layout: &Layout<'_>,
+    library: &Library,
+    fault: PlaceFault,
+) -> Result<(), NoMemory> {
+    let structures = library.structures.as_slice();
+    if fault == PlaceFault::Memory {
+        return Err(NoMemory);
+    }
+    let graph = graph_of(alloc, structures)?;
+    if fault == PlaceFault::NoTop {
+        return tell_no_top(alloc, told, layout, structures, &graph);
+    }
+    tell_number(told, layout, fault.number(), fault.place());
+    match fault {
+        PlaceFault::UnknownStructure { at } => {
+            tell_unknown(told, layout, structures, at);
+            Ok(())
+        }
+        PlaceFault::OutOfRange { at } => {
+            let spot = spot_at(layout.bytes, at);
+            told.text.say("  ");
+            tell_place(&mut told.text, &spot);
+            told.text.say("\n");
+            Ok(())
+        }
+        _ => tell_at_structure(alloc, &mut told.text, map, structures, &graph, fault),
+    }
+}
