@@ -1,4 +1,4 @@
-ghost use Rattle.std.specs.Prelude.{◌≡◌, ◌≢◌, IfOk, IfErr, All, [], ◌∷◌, option_to_list};
+ghost use Rattle.std.specs.Prelude.{List, ◌≡◌, ◌≢◌, IfOk, IfErr, All, [], ◌∷◌, ◌++◌, option_to_list};
 ghost use Rattle.std.specs.List.{enumerate_from};
 ghost use Rattle.first_refusal.specs.Checks.{IsRefusalOfFirst};
 ghost use Rattle.map_model.specs.MapView.{layer_map_of};
@@ -40,6 +40,29 @@ fn part_of<'a>(
     }
 }
 
+/// Puts the part that the element at this place is, if it is one, behind the others.
+fn push_part<'a>(
+    parts: &mut Vec<Part<'a>>,
+    place: usize,
+    element: &'a Element,
+    map: &Map,
+    index: &NameIndex<'_>,
+) -> Result<(), PlaceFault>
+    ensures part { IfOk result (λ _. (more : List Part) × (parts.new.items ≡ parts.old.items ++ more)
+        × AreParts index.now (layer_map_of map.now) ((place, element.now) ∷ []) more) }
+    ensures known { IfOk result (λ _. All (IsKnown index.now) (references_in element.now)) }
+    ensures unknown { IfErr result (λ fault. fault ≢ Memory →
+        IsRefusalOfFirst (IsKnown index.now) (references_in element.now) (λ reference. UnknownStructure reference.at) fault) }
+{
+    let Ok(number) = u32::try_from(place) else {
+        return Err(PlaceFault::Memory);
+    };
+    if let Some(part) = part_of(number, element, map, index)? {
+        parts.push(part)?;
+    }
+    Ok(())
+}
+
 /// The parts of a structure.
 pub fn parts_of<'a>(
     alloc: Global,
@@ -56,14 +79,7 @@ pub fn parts_of<'a>(
     let elements = structure.elements.as_slice();
     let mut parts = Vec::with_capacity(alloc, elements.len())?;
     for (place, element) in elements.iter().enumerate() {
-        let Ok(number) = u32::try_from(place) else {
-            return Err(PlaceFault::Memory);
-        };
-        let found = part_of(number, element, map, index)?;
-        match found {
-            None => {}
-            Some(part) => parts.push(part)?,
-        }
+        push_part(&mut parts, place, element, map, index)?;
     }
     Ok(parts)
 }

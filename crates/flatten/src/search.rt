@@ -10,7 +10,6 @@ use super::part::Part;
 use super::summary::State;
 use super::summing::summary_of;
 use geo_core::NoMemory;
-use std::alloc::Global;
 
 /// The first reference, from the part at `next` on, to a structure that is not done: its place, and the structure.
 fn next_undone(parts: &[Part<'_>], states: &[State], next: usize) -> Option<(usize, u32)>
@@ -67,14 +66,15 @@ fn step(
     Ok(true)
 }
 
-/// Surveys the structure `root` and all that it leads to. The answer is whether its references lead to an end: where they
-/// do not, the states are of no more use.
+/// Surveys the structure `root` and all that it leads to, by a stack that is empty yet. The answer is whether its references
+/// lead to an end: where they do not, the states are of no more use.
 pub fn search(
-    alloc: Global,
     nodes: &[Vec<Part<'_>>],
     states: &mut [State],
+    stack: &mut Vec<u32>,
     root: u32,
 ) -> Result<bool, NoMemory>
+    requires empty { stack.old.items ≡ [] }
     requires below { AreNodesBelow (length nodes.now) nodes.now }
     requires long { length states.old ≡ length nodes.now }
     requires root { root < length nodes.now }
@@ -86,11 +86,10 @@ pub fn search(
     ensures cycle { IfOk result (λ ends. OnFalse ends ((n : ℕ) → Leads nodes.now n root)) }
     ensures kept { IfOk result (λ ends. OnTrue ends (KeepsDone states.old states.new)) }
 {
-    let mut stack = Vec::new(alloc);
     states[root as usize] = State::Open(0);
     stack.push(root)?;
     while let Some(one) = stack.pop() {
-        if !step(nodes, states, &mut stack, one, root)? {
+        if !step(nodes, states, stack, one, root)? {
             return Ok(false);
         }
     }

@@ -32,7 +32,10 @@ fn survey_from(
     ensures kept { IfOk result (λ ends. OnTrue ends (KeepsDone states.old states.new)) }
 {
     match states[root as usize] {
-        State::New => search(alloc, nodes, states, root),
+        State::New => {
+            let mut stack = Vec::new(alloc);
+            search(nodes, states, &mut stack, root)
+        }
         _ => Ok(true),
     }
 }

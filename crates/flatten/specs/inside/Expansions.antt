@@ -16,7 +16,6 @@ use Rattle.flatten.specs.inside.Plans.{IsPlanOf}
 use Rattle.flatten.specs.declared.fault.PlaceFault.{PlaceFault}
 use Rattle.flatten.specs.declared.fault.PlaceFault.TheVariants.{OutOfRange, Memory}
 use Rattle.flatten.specs.declared.motion.Motion.{Motion}
-use Rattle.flatten.specs.declared.part.Part.{Part}
 use Rattle.flatten.specs.declared.part.Part.TheVariants.{End}
 use Rattle.flatten.specs.declared.placed.Placed.{Placed}
 use Rattle.flatten.specs.declared.plan.Plan.{Plan}

@@ -1,4 +1,4 @@
-use Rattle.std.proofs.Common.{rules, ℕ, suc, ◌≡◌, ◌<◌, ◌-◌, length, Contains, refl, sym, subst, arith, map}
+use Rattle.std.proofs.Common.{rules, ℕ, suc, ◌≡◌, ◌-◌, Contains, sym, subst, arith, map}
 use Rattle.lists.proofs.Words.{range_with_len, err_from_is_err_and, IfOk-weaker, IfErr-weaker}
 use Rattle.flatten.specs.Steps.{Step, steps_in_row}
 use Rattle.flatten.specs.Routes.{behind_step}

@@ -1,4 +1,4 @@
-use Rattle.std.proofs.Common.{ℕ, ◌≡◌, ◌≤◌, ◌<◌, ◌^◌, ◌*◌, ℤ, pos, nat_abs, ◌*ℤ◌, to_z, of_z, w16, w64, arith, ap, ◌∙◌}
+use Rattle.std.proofs.Common.{ℕ, ◌≡◌, ◌≤◌, ◌<◌, ◌^◌, ℤ, pos, nat_abs, ◌*ℤ◌, to_z, of_z, w64, arith}
 use Rattle.lists.proofs.Words.{to_z-of_z, unsigned_abs-mul}
 use Rattle.std.proofs.lemmas.Int.{fits_signed_mul, fits_signed_from_abs, to_z_pos}
 use Rattle.std.specs.Int.RustNames.{FitsSigned}

@@ -1,5 +1,5 @@
-use Rattle.std.proofs.Common.{◌≡◌, ◌++◌, take_all, sym, ap, subst, ◌∙◌, option_to_list, All}
-use Rattle.lists.proofs.Words.{flat_map, enumerate_from, All-nil, append-nil, err_from_is_err_and, length-enumerate_from}
+use Rattle.std.proofs.Common.{take_all, subst, All}
+use Rattle.lists.proofs.Words.{flat_map, enumerate_from, All-nil, err_from_is_err_and, length-enumerate_from}
 use Rattle.map_model.specs.MapNames.{layer_map_of}
 use Rattle.flatten.specs.Structures.{references_in}
 use Rattle.flatten.specs.inside.Parts.{IsKnown, AreParts, no_more}
@@ -7,7 +7,6 @@ use Rattle.flatten.specs.declared.fault.PlaceFault.TheVariants.{UnknownStructure
 use Rattle.flatten.proofs.FirstLaws.{refused_at, hold_at}
 use Rattle.flatten.proofs.PartLaws.{one_element_more}
 use Rattle.flatten.proofs.parts.parts_of.Goals as goal
-use Rattle.flatten.proofs.parts.parts_of.Goals.{in-Some+in_ok-push-in-Some, in-None}
 
 pub loop-place-init : goal.loop-place-init
 loop-place-init c = record {
@@ -15,31 +14,25 @@ loop-place-init c = record {
   known = All-nil (IsKnown c.args.index.now);
 }
 
-pub returns-in_err-found-clause-unknown : goal.returns-in_err-found-clause-unknown
-returns-in_err-found-clause-unknown c =
-    let p = err_from_is_err_and c.from_residual-in_err-found.result c.from_residual-in_err-found.ensures.1 in
-    rw (p.1, p.2) (λ _.
+pub returns-in_err-push_part-clause-unknown : goal.returns-in_err-push_part-clause-unknown
+returns-in_err-push_part-clause-unknown c =
+    let p = err_from_is_err_and c.from_residual-in_err-push_part.result c.from_residual-in_err-push_part.ensures.1 in
+    rw (p.1, p.2) (λ kept.
     refused_at (IsKnown c.args.index.now) (λ reference. UnknownStructure reference.at) references_in c.args.structure.now.elements c.loop-place.place c.index-elements-place.result
     (rw c.as_slice-elements.ensures at c.loop-place-test.true) (rw c.as_slice-elements.ensures at c.index-elements-place.is)
-    c.in_err-found.field-0.0 c.loop-place.invariant.known c.in_err-found.ensures.unknown)
+    c.in_err-push_part.field-0.0 c.loop-place.invariant.known (c.in_err-push_part.ensures.unknown kept))
 
 pub loop-place-preserved : goal.loop-place-preserved
-loop-place-preserved c = record {
-  parts =
-      let part = c.in_ok-found.found in
-      let more = one_element_more c.args.index.now (layer_map_of c.args.map.now) c.args.structure.now.elements c.loop-place.place c.index-elements-place.result
-      c.loop-place.parts.items (option_to_list part) (rw c.as_slice-elements.ensures at c.loop-place-test.true) (rw c.as_slice-elements.ensures at c.index-elements-place.is)
-      c.loop-place.invariant.parts (rw c.in-Ok.ensures.1 at c.in_ok-found.ensures.part) in
-      elim c.match-found.branch [
-        | in-Some+in_ok-push-in-Some w ↦
-            let pushed : c.loop-place.parts.items ++ option_to_list part ≡ c.match-found.parts.items = rw w.in-Some.is (sym w.in_ok-push-in-Some.ensures.items ∙ ap (λ v. v.items) (sym w.parts-is)) in
-            subst (AreParts _ _ _) pushed more
-        | in-None w ↦ let same : c.loop-place.parts.items ++ option_to_list part ≡ c.match-found.parts.items =
-            rw w.in-None.is (append-nil c.loop-place.parts.items ∙ ap (λ v. v.items) (sym w.parts-is)) in subst (AreParts _ _ _) same more
-      ];
-  known = hold_at (IsKnown c.args.index.now) (λ reference. UnknownStructure reference.at) references_in c.args.structure.now.elements c.loop-place.place c.index-elements-place.result
-      (rw c.as_slice-elements.ensures at c.loop-place-test.true) (rw c.as_slice-elements.ensures at c.index-elements-place.is) c.loop-place.invariant.known c.in_ok-found.ensures.known;
-}
+loop-place-preserved c =
+    let within = rw c.as_slice-elements.ensures at c.loop-place-test.true in
+    let is = rw c.as_slice-elements.ensures at c.index-elements-place.is in
+    let added = c.in_ok-push_part.ensures.part in
+    record {
+      parts = rw added.1 (one_element_more c.args.index.now (layer_map_of c.args.map.now) c.args.structure.now.elements c.loop-place.place c.index-elements-place.result
+          c.loop-place.parts.items added.0 within is c.loop-place.invariant.parts added.2);
+      known = hold_at (IsKnown c.args.index.now) (λ reference. UnknownStructure reference.at) references_in c.args.structure.now.elements c.loop-place.place c.index-elements-place.result
+          within is c.loop-place.invariant.known c.in_ok-push_part.ensures.known;
+    }
 
 pub returns-clause-parts : goal.returns-clause-parts
 returns-clause-parts c =

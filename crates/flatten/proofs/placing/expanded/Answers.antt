@@ -2,7 +2,7 @@ use Rattle.std.proofs.Common.{[], ◌≡◌, ◌∙◌, sym, subst}
 use Rattle.lists.proofs.Words.{err_from_is_err_and}
 use Rattle.lists.proofs.Reading.{put_back}
 use Rattle.flatten.specs.inside.Parts.{Nodes}
-use Rattle.flatten.specs.inside.Prunings.{AreNodesDone, IsPruned}
+use Rattle.flatten.specs.inside.Prunings.{IsPruned}
 use Rattle.flatten.specs.inside.Expansions.{AddsEnds, IsFirstBeyond}
 use Rattle.flatten.proofs.PlacedLaws.{all_done, still_followed, still_there, routes_behind_none}
 use Rattle.flatten.proofs.PruningLaws.{pruned_layers}

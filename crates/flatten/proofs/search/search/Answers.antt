@@ -5,7 +5,7 @@ use Rattle.flatten.proofs.search.search.Goals as goal
 
 pub loop-one-init : goal.loop-one-init
 loop-one-init c =
-    let items : c.push.new.self.items ≡ c.args.root ∷ [] = c.in_ok-push.ensures.items ∙ ap (λ l. l ++ c.args.root ∷ []) c.new-stack.ensures.items in
+    let items : c.push.new.self.items ≡ c.args.root ∷ [] = c.in_ok-push.ensures.items ∙ ap (λ l. l ++ c.args.root ∷ []) c.requires.empty in
     record {
       search = subst (IsSearch _ _ _) (sym items) (begins_search c.args.nodes.now c.args.root c.args.states.now c.requires.long c.requires.root c.requires.new c.requires.settled);
       kept = begins_keeping c.args.nodes.now c.args.root c.args.states.now c.requires.long c.requires.root c.requires.new c.requires.settled;
