@@ -1,5 +1,5 @@
 -- what words ask for lies within its limits, and a request is told by its contents
-use Rattle.std.proofs.Common.{ℕ, ◌≤◌, ◌≡◌, List, refl, ap, subst}
+use Rattle.std.proofs.Common.{ℕ, ◌≡◌, List, ap, subst}
 use Rattle.lists.proofs.Words.{props}
 use Rattle.command_line.specs.OptionNames.{Text}
 use Rattle.command_line.specs.RequestLimits.{IsWithin, IsWithinLimits, IsWithinLimits-prop}

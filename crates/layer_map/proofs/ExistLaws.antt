@@ -1,5 +1,5 @@
 -- where all checks of a document hold it gives a layer map, and so bytes come to something
-use Rattle.std.proofs.Common.{add-zero, ◌≡◌, ℕ, zero, suc, ◌+◌, ◌<◌, List, [], ◌∷◌, ◌++◌, length, get_or, take, map, codes, Option, Some, false, refl, sym, ap, ◌∙◌, subst, arith, zero-add, All, Contains, slice_get}
+use Rattle.std.proofs.Common.{add-zero, ◌≡◌, ℕ, zero, suc, ◌+◌, ◌<◌, List, [], ◌∷◌, ◌++◌, length, get_or, take, map, Option, Some, false, refl, sym, ap, ◌∙◌, subst, arith, zero-add, All, Contains, slice_get}
 use Rattle.lists.proofs.Words.{flat_map, AllZip, range_with_len, get_or-map, length-map, get_or-take, length-take-le, slice_get-get_or, slice_get_within}
 use Rattle.geo_core.specs.declared.plane.Cell.{Cell}
 use Rattle.first_refusal.specs.Laws.{CannotLack}

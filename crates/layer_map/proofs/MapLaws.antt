@@ -1,5 +1,5 @@
 -- the checks of a document, part by part, and the map that it gives
-use Rattle.std.proofs.Common.{◌≡◌, ℕ, List, [], ◌∷◌, ◌++◌, length, map, Result, Ok, Err, refl, sym, ap, ◌∙◌, subst, codes, ◌≢◌, IfOk, IsErrAnd}
+use Rattle.std.proofs.Common.{◌≡◌, ℕ, List, [], ◌∷◌, ◌++◌, length, map, Result, Ok, Err, refl, sym, ap, ◌∙◌, subst, ◌≢◌, IfOk, IsErrAnd}
 use Rattle.lists.proofs.Words.{length-map}
 use Rattle.std.specs.Prelude.{IfErr}
 use Rattle.toml.specs.Data.{Members}

@@ -1,5 +1,5 @@
 -- what bytes say as a layer map: the map of their document, or the first refusal
-use Rattle.std.specs.Prelude.{IsUtf8, ℕ, false, ◌≡◌, List, codes, slice_get, Option, Some}
+use Rattle.std.specs.Prelude.{IsUtf8, ℕ, false, ◌≡◌, List, slice_get, Option, Some}
 use Rattle.lists.specs.Words.{AllZip}
 use Rattle.geo_core.specs.declared.plane.Cell.{Cell}
 use Rattle.first_refusal.specs.Outcomes.{Outcome, Reads, Then}

@@ -1,5 +1,5 @@
 -- the edges between points that are taken in pairs: each point with the one behind it
-use Rattle.std.proofs.Common.{◌≡◌, ◌⊎◌, Bool, true, false, inl, inr, List, [], ◌∷◌, drop, length, refl, ap, arith}
+use Rattle.std.proofs.Common.{◌≡◌, ◌⊎◌, true, false, inl, inr, List, [], ◌∷◌, drop, length, refl, ap, arith}
 use Rattle.lists.proofs.Words.{zip}
 use Rattle.geo_core.specs.declared.plane.Point.{Point}
 use Rattle.outlines.specs.Outlines.{edges_of}

@@ -18,28 +18,35 @@ loop-buf-preserved g c =
       read = rw (whole.items, front) (HasRead-more _ _ _ _ _ c.loop-buf.invariant.read given.gives);
     }
 
-pub returns-then-count-eq0-clause-answer : goal.returns-then-count-eq0-clause-answer
-returns-then-count-eq0-clause-answer g c =
+pub returns-then-count-eq0 : goal.returns-then-count-eq0
+returns-then-count-eq0 g c =
     let given = c.in_ok-count.ensures in
     let gives = rw c.if-count-eq0.true at given.gives in
     let none = HasRead-more _ _ _ _ _ c.loop-buf.invariant.read gives in
     let long : vec_len c.loop-buf.whole ≡ length c.loop-buf.whole.items = omega arith in
-    is_whole {bytes = c.loop-buf.whole} (HasRead-all _ _ _ _ c.loop-buf.invariant.read gives) (rw c.as_slice.ensures.value at c.tell_bytes.ensures) (omega arith) (given.calm
-    ∙ c.loop-buf.invariant.calm) given.started
-    (rw long (HasRead-Drops _ _ _ (rw append-nil at none)))
+    record {
+      answer = is_whole {bytes = c.loop-buf.whole} (HasRead-all _ _ _ _ c.loop-buf.invariant.read gives) (rw c.as_slice.ensures.value at c.tell_bytes.ensures) (omega arith)
+          (given.calm ∙ c.loop-buf.invariant.calm) given.started (rw long (HasRead-Drops _ _ _ (rw append-nil at none)));
+      holds = λ n. given.holds n ∙ c.loop-buf.invariant.holds n;
+      starts = given.starts ∙ c.loop-buf.invariant.starts;
+    }
 
-pub returns-in_err-start-clause-answer : goal.returns-in_err-start-clause-answer
-returns-in_err-start-clause-answer g c =
+pub returns-in_err-start : goal.returns-in_err-start
+returns-in_err-start g c =
     let error = err_from_is_err_and c.from_residual.result c.from_residual.ensures.1 in
-    rw (error.1, error.2) (has_failed c.in_err-start.ensures.failed)
+    record { answer = rw (error.1, error.2) (has_failed c.in_err-start.ensures.failed); holds = c.in_err-start.ensures.holds; starts = c.in_err-start.ensures.starts }
 
-pub returns-in_err-count-clause-answer : goal.returns-in_err-count-clause-answer
-returns-in_err-count-clause-answer g c =
+pub returns-in_err-count : goal.returns-in_err-count
+returns-in_err-count g c =
     let error = err_from_is_err_and c.from_residual-in_err-count.result c.from_residual-in_err-count.ensures.1 in
-    rw (error.1, error.2) (has_failed (rw c.loop-buf.invariant.calm at c.in_err-count.ensures.failed))
+    record {
+      answer = rw (error.1, error.2) (has_failed (rw c.loop-buf.invariant.calm at c.in_err-count.ensures.failed));
+      holds = λ n. c.in_err-count.ensures.holds n ∙ c.loop-buf.invariant.holds n;
+      starts = c.in_err-count.ensures.starts ∙ c.loop-buf.invariant.starts;
+    }
 
-pub returns-in_err-extend_from_slice-clause-answer : goal.returns-in_err-extend_from_slice-clause-answer
-returns-in_err-extend_from_slice-clause-answer g c =
+pub returns-in_err-extend_from_slice : goal.returns-in_err-extend_from_slice
+returns-in_err-extend_from_slice g c =
     let error = err_from_is_err_and c.from_residual-in_err-extend_from_slice.result c.from_residual-in_err-extend_from_slice.ensures.1 in
     let given : List ℕ = take c.in_ok-count.count c.read.new.buf in
     let more = HasRead-more _ _ _ _ given c.loop-buf.invariant.read c.in_ok-count.ensures.gives in
@@ -52,10 +59,21 @@ returns-in_err-extend_from_slice-clause-answer g c =
       length-take {A = ℕ},
       length-drop {A = ℕ},
     ) in
-    rw (error.1, error.2) (has_no_memory (c.in_ok-count.ensures.calm ∙ c.loop-buf.invariant.calm) c.in_ok-count.ensures.started (HasRead-DropsUpTo _ _ _ _ more fits))
+    record {
+      answer = rw (error.1, error.2) (has_no_memory (c.in_ok-count.ensures.calm ∙ c.loop-buf.invariant.calm) c.in_ok-count.ensures.started (HasRead-DropsUpTo _ _ _ _ more fits));
+      holds = λ n. c.in_ok-count.ensures.holds n ∙ c.loop-buf.invariant.holds n;
+      starts = c.in_ok-count.ensures.starts ∙ c.loop-buf.invariant.starts;
+    }
 
-pub returns-clause-answer : goal.returns-clause-answer
-returns-clause-answer g c =
+pub returns : goal.returns
+returns g c =
     let past : c.args.limit + 1 ≡ length c.loop-buf.whole.items = omega arith in
-    is_too_long (HasRead-long _ _ _ _ c.loop-buf.invariant.read (omega arith)) c.loop-buf.invariant.calm c.loop-buf.invariant.started
-    (rw past (HasRead-Drops _ _ _ c.loop-buf.invariant.read))
+    record {
+      answer = is_too_long (HasRead-long _ _ _ _ c.loop-buf.invariant.read (omega arith)) c.loop-buf.invariant.calm c.loop-buf.invariant.started
+          (rw past (HasRead-Drops _ _ _ c.loop-buf.invariant.read));
+      holds = c.loop-buf.invariant.holds;
+      starts = c.loop-buf.invariant.starts;
+    }
+
+pub read-requires-clause-started : goal.read-requires-clause-started
+read-requires-clause-started g c = c.loop-buf.invariant.started
