@@ -5,5 +5,5 @@ use Rattle.explanation.proofs.shapes.shapes_of.Goals as goal
 pub cover-answer-requires : goal.cover-answer-requires
 cover-answer-requires c = record {
   placed = subst (IsWellPlaced c.args.library.now.structures) (sym c.one-item.is)
-    (c.requires c.loop-one.one-index c.one-item.result c.loop-one-test.true);
+      (c.requires c.loop-one.one-index c.one-item.result c.loop-one-test.true);
 }

@@ -1,0 +1,102 @@
+use crate::rows::{Stands, expect};
+
+/// A library `L` with one structure `T`, and in it `[0,10)x[0,10)` and `[14,24)x[0,10)` on layer 1. The head and the
+/// structure's first records have 94 bytes, each of the two boundaries has 64, and the two ends have 8.
+const TWO_BARS: &[u8; 230] = b"\
+    \x00\x06\x00\x02\x02\x58\
+    \x00\x1C\x01\x02\x00\x00\x00\x00\x00\x00\x00\x00\x00\x00\x00\x00\x00\x00\x00\x00\x00\x00\x00\x00\
+    \x00\x00\x00\x00\
+    \x00\x06\x02\x06\x4C\x00\
+    \x00\x14\x03\x05\x41\x10\x00\x00\x00\x00\x00\x00\x41\x10\x00\x00\x00\x00\x00\x00\
+    \x00\x1C\x05\x02\x00\x00\x00\x00\x00\x00\x00\x00\x00\x00\x00\x00\x00\x00\x00\x00\x00\x00\x00\x00\
+    \x00\x00\x00\x00\
+    \x00\x06\x06\x06\x54\x00\
+    \x00\x04\x08\x00\
+    \x00\x06\x0D\x02\x00\x01\
+    \x00\x06\x0E\x02\x00\x00\
+    \x00\x2C\x10\x03\x00\x00\x00\x00\x00\x00\x00\x00\x00\x00\x00\x0A\x00\x00\x00\x00\x00\x00\x00\x0A\
+    \x00\x00\x00\x0A\x00\x00\x00\x00\x00\x00\x00\x0A\x00\x00\x00\x00\x00\x00\x00\x00\
+    \x00\x04\x11\x00\
+    \x00\x04\x08\x00\
+    \x00\x06\x0D\x02\x00\x01\
+    \x00\x06\x0E\x02\x00\x00\
+    \x00\x2C\x10\x03\x00\x00\x00\x0E\x00\x00\x00\x00\x00\x00\x00\x18\x00\x00\x00\x00\x00\x00\x00\x18\
+    \x00\x00\x00\x0A\x00\x00\x00\x0E\x00\x00\x00\x0A\x00\x00\x00\x0E\x00\x00\x00\x00\
+    \x00\x04\x11\x00\
+    \x00\x04\x07\x00\
+    \x00\x04\x04\x00";
+
+/// Where a byte of the two bars stands, what stands there in place of it, the status, and what is told.
+const CHANGED: &[(usize, u8, u8, &str)] = &[
+    // the byte that stands there
+    (
+        0,
+        0x00,
+        0,
+        "layout 'a': nothing is wrong, and the run gives its report\n  \
+         library 'L', 1 structures, top 'T'\n  \
+         metal 'm': 2 shapes with 10 points, from (0, 0) to (24, 10)\n",
+    ),
+    // the layer of both bars is asked for, and one has another
+    (
+        103,
+        0x02,
+        0,
+        "layout 'a': nothing is wrong, and the run gives its report\n  \
+         library 'L', 1 structures, top 'T'\n  \
+         metal 'm': 1 shapes with 5 points, from (14, 0) to (24, 10)\n",
+    ),
+    // the first byte of a gzip file is another, and its length is odd
+    (
+        1,
+        0x07,
+        4,
+        "error 11 at 0\n\
+         layout 'a': it is no GDSII layout; it is compressed or of another format, so unpack it, or export it as GDSII\n",
+    ),
+    // a LAYER that is a second DATATYPE
+    (
+        164,
+        0x0E,
+        4,
+        "error 14 at 168\n\
+         layout 'a', byte 168: the record here may not stand where it does; export the layout anew, and for a second XY in one element with fewer points a polygon\n  \
+         DATATYPE behind DATATYPE, structure 'T', element 2: a boundary, datatype 1\n",
+    ),
+    // the last point is (15, 0)
+    (
+        213,
+        0x0F,
+        4,
+        "error 18 at 158\n\
+         layout 'a', byte 158: the boundary or box here does not end at its first point; close the outline, or remove it\n  \
+         structure 'T', element 2: a boundary on layer 1, datatype 0, first point (14, 0)\n",
+    ),
+    // the second point is (25, 0)
+    (
+        189,
+        0x19,
+        4,
+        "error 31 at 158\n\
+         layout 'a', byte 158: the shape here is slanted: two points that follow one another differ in both coordinates; redraw it with edges along the axes, or draw it in steps\n  \
+         1 placed shapes of metal 'm': 31, slanted\n  \
+         byte 158: structure 'T', element 2: a boundary on layer 1, datatype 0, first point (14, 0): slanted\n",
+    ),
+];
+
+#[test]
+fn changed_layouts_are_told(rt: HostRuntime) {
+    for (place, byte, status, told) in CHANGED {
+        let mut layout = *TWO_BARS;
+        if *place < layout.len() {
+            layout[*place] = *byte;
+        }
+        let stands = Stands {
+            map: &[],
+            layout: &layout,
+            others: &[],
+        };
+        let words = "a|--layer|1|--datatype|0|--radius|3";
+        expect(&rt, rt.alloc(), words, &stands, *status, told);
+    }
+}

@@ -1,0 +1,13 @@
+//! What is told of faulty runs, worked out by hand. The crate has tests alone.
+#![tactic(auto)]
+
+#[cfg(test)]
+mod inputs;
+#[cfg(test)]
+mod layouts;
+#[cfg(test)]
+mod maps;
+#[cfg(test)]
+mod rows;
+#[cfg(test)]
+mod usage;

@@ -1,0 +1,76 @@
+use crate::rows::{Stands, expect};
+
+/// A map's bytes, and what is told of it. The layout is not there, and is not looked at.
+const ROWS: &[(&[u8], &str)] = &[
+    (
+        b"version = 1\nradii = [3\n",
+        "error 40 at 0\n\
+         map 'm': it is no TOML document\n  \
+         line 3, column 1: missing comma between array elements, expected `,` or `]`\n",
+    ),
+    (
+        b"\x1F\x8B\x08\x00",
+        "error 40 at 0\n\
+         map 'm': it is no TOML document, but a gzip file: unpack it with gunzip\n  \
+         line 1, column 2: invalid UTF-8\n",
+    ),
+    (
+        b"\x00\x06\x00\x02\x02\x58",
+        "error 40 at 0\n\
+         map 'm': it is a GDSII layout; were the layout and the map exchanged?\n",
+    ),
+    (
+        b"version = 1\nradii = [1]\nweights = [1]\ncolour = 3\n",
+        "error 41 at 1\n\
+         map 'm', the document: it has a key that is not known\n  \
+         not known: 'colour'\n  \
+         known: version radii weights metal cut terminal\n",
+    ),
+    (
+        b"version = 1\nradii = [5, 2]\n",
+        "error 42 at 3\n\
+         map 'm', `radii`: this may not stand there, or is missing\n  \
+         there stands, of the kind array: [5, 2]\n  \
+         there may stand: an array of 1 to 32 whole numbers from 1 to 1000000, each greater than the one before\n",
+    ),
+    (
+        b"version = 1\nradii = [1]\nweights = [1]\n[[metal]]\nname = \"m 1\"\n",
+        "error 42 at 101\n\
+         map 'm', `name` of [[metal]] number 1, 'm 1': this may not stand there, or is missing\n  \
+         there stands, of the kind string: \"m 1\"\n  \
+         there may stand: a text of 1 to 32 ASCII letters, digits and `_`\n",
+    ),
+    (
+        b"version = 1\nradii = [1]\nweights = [1]\n[[metal]]\nname = \"a\"\npairs = [[1, 0]]\n\
+          [[metal]]\nname = \"b\"\npairs = [[2, 0], [1, 0]]\n",
+        "error 43 at 112\n\
+         map 'm', `pairs` of [[metal]] number 2, 'b': a layer and a datatype stand twice in the map; leave them to one metal or cut\n  \
+         twice: layer 1, datatype 0\n",
+    ),
+    (
+        b"version = 1\nradii = [1]\nweights = [1]\n[[metal]]\nname = \"a\"\npairs = [[1, 0]]\n\
+          [[cut]]\nname = \"v\"\npairs = [[2, 0]]\nlower = \"a\"\nupper = \"b\"\n",
+        "error 45 at 304\n\
+         map 'm', `upper` of [[cut]] number 1, 'v': no metal has the name that stands there\n  \
+         there stands, of the kind string: \"b\"\n  \
+         metals: 'a'\n",
+    ),
+    (
+        b"version = 1\nradii = [1]\nweights = [1]\n[[metal]]\nname = \"a\"\npairs = [[1, 0]]\n\
+          [[terminal]]\nmetal = \"a\"\nx = 0\ny = 0\n",
+        "error 60 at 7\n\
+         map 'm', `terminal`: terminals are not supported yet; leave them out\n",
+    ),
+];
+
+#[test]
+fn maps_are_told(rt: HostRuntime) {
+    for (bytes, told) in ROWS {
+        let stands = Stands {
+            map: bytes,
+            layout: &[],
+            others: &[],
+        };
+        expect(&rt, rt.alloc(), "none|--map|m", &stands, 3, told);
+    }
+}

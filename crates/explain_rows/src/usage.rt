@@ -1,0 +1,87 @@
+use crate::rows::{Stands, expect};
+
+/// No file is there, and none is looked at.
+const NOTHING: Stands<'static> = Stands {
+    layout: &[],
+    map: &[],
+    others: &[],
+};
+
+/// Words, with a bar between two of them, and what is told of them between the line of the refusal and the forms.
+const ROWS: &[(&str, &str)] = &[
+    ("", "arguments: there are none"),
+    (
+        "a|--map|m|-r|3",
+        "arguments: '-r' begins with one dash; options begin with two, and in front of a file's name with a dash stands `--`",
+    ),
+    (
+        "a|--maps|m",
+        "arguments: there is no option '--maps'; options are --map, --top, --layer, --datatype, --radius, --tile and --workers",
+    ),
+    (
+        "a|--map|m|--help",
+        "arguments: there is no option '--help'; --help and --version are answered alone, and --explain in front of all other words",
+    ),
+    (
+        "a|--map",
+        "arguments: --map is the last word, and has no value; --map takes the name of a file",
+    ),
+    (
+        "a|--map|-m",
+        "arguments: '-m' behind --map begins with a dash; write such a value in one word, as --map=-name; --map takes the name of a file",
+    ),
+    (
+        "a|--map=",
+        "arguments: --map has an empty value; --map takes the name of a file",
+    ),
+    ("|--map|m", "arguments: the layout's name is empty"),
+    (
+        "a|--map|m|--top|t|--top=u",
+        "arguments: --top stands twice; --top takes the name of a structure",
+    ),
+    (
+        "a|--layer|1|--datatype|65536|--radius|3",
+        "arguments: '65536' behind --datatype does not fit; --datatype takes a whole number from 0 to 65535",
+    ),
+    (
+        "a|--layer|1|--datatype|0|--radius|0",
+        "arguments: '0' behind --radius does not fit; --radius takes a whole number from 1 to 1000000",
+    ),
+    (
+        "a|--layer|1|--datatype|0|--radius|00000000003",
+        "arguments: '00000000003' behind --radius does not fit; --radius takes a whole number from 1 to 1000000",
+    ),
+    (
+        "a.gds|m.toml",
+        "arguments: two layouts are named, 'a.gds' and 'm.toml'; name one, and a map behind --map",
+    ),
+    ("--map|m", "arguments: no layout is named"),
+    ("a", "arguments: it is not said which layers are metals"),
+    (
+        "a|--map|m|--radius|3",
+        "arguments: --radius stands beside --map, which says itself which layers there are, and which radii",
+    ),
+    (
+        "a|--layer|1|--radius|3",
+        "arguments: --datatype is missing; --layer, --datatype and --radius go together",
+    ),
+    // a name that would move a cursor, and one that is no ASCII
+    (
+        "a|--\x1B[2J",
+        "arguments: there is no option '--\\x1b[2J'; options are --map, --top, --layer, --datatype, --radius, --tile and --workers",
+    ),
+];
+
+/// The forms of the command.
+const FORMS: &str =
+    "\n  critarea LAYOUT --map MAP\n  critarea LAYOUT --layer L --datatype D --radius R\n";
+
+#[test]
+fn words_are_told(rt: HostRuntime) {
+    for (line, told) in ROWS {
+        let Ok(text) = format!(in rt.alloc(); "error 2 at 0\n{told}{FORMS}") else {
+            return;
+        };
+        expect(&rt, rt.alloc(), line, &NOTHING, 2, text.as_str());
+    }
+}
