@@ -8,9 +8,9 @@ mod layout;
 mod maps;
 mod printing;
 mod refusal;
-mod system_words;
+mod told;
 mod unreported;
 
 pub use command::run;
 pub use command_line::{Request, Task, Word, WordsFault, read_words};
-pub use system_words::system_words;
+pub use told::system_words;
