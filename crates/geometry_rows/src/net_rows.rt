@@ -98,7 +98,12 @@ const OVER_THE_SEAM: &[Sides] = &[(2, 1, 5, 2)];
 /// A plate, four bars of which each crosses two, and a cut on one of the crossings.
 const PLATE: &[Sides] = &[(0, 0, 20, 20)];
 
-const CROSSING: &[Sides] = &[(0, 4, 20, 6), (0, 14, 20, 16), (4, 0, 6, 20), (14, 0, 16, 20)];
+const CROSSING: &[Sides] = &[
+    (0, 4, 20, 6),
+    (0, 14, 20, 16),
+    (4, 0, 6, 20),
+    (14, 0, 16, 20),
+];
 
 const ON_A_CROSSING: &[Sides] = &[(4, 4, 6, 6)];
 
@@ -146,9 +151,9 @@ const NETS: &[Row] = &[
             &[(0, 0, 4, 4), (0, 0, 4, 4)],
             &[(0, 0, 4, 4), (0, 0, 4, 4)],
         ],
-        &[(0, 0), (0, 0)],
-        &[(1, 0), (1, 0)],
-        &[((0, 0, 4, 4), 0, 1)],
+        &[(0, 0)],
+        &[(2, 0)],
+        &[((0, 0, 4, 4), 0, 2)],
     ),
     // a corner does not join, and an edge does
     (

@@ -4,9 +4,7 @@ use std::alloc::Global;
 /// Whether the fault has this number and no place, and says this.
 fn says(alloc: Global, fault: WordsFault, number: u8, text: &str) -> bool {
     match format!(in alloc; "{fault}") {
-        Ok(said) => {
-            (fault.number(), fault.place()) == (number, 0) && said.as_str() == text
-        }
+        Ok(said) => { (fault.number(), fault.place()) == (number, 0) && said.as_str() == text }
         Err(_) => false,
     }
 }
