@@ -6,6 +6,7 @@ use std::env::FillError;
 use std::rt::Env;
 
 /// A system that was handed these words, the program's name before them.
+#[derive(Drop)]
 struct Told(&'static [&'static [u8]]);
 
 impl Env for Told {
