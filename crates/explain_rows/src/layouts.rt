@@ -34,7 +34,16 @@ const CHANGED: &[(usize, u8, u8, &str)] = &[
         0x00,
         0,
         "layout 'a': nothing is wrong, and the run gives its report\n  \
-         library 'L', 1 structures, top 'T'\n  \
+         library 'L', a database unit that is no length below a metre, 1 structures, top 'T'\n  \
+         metal 'm': 2 shapes with 10 points, from (0, 0) to (24, 10)\n",
+    ),
+    // the unit is 16 to the power of -8 metres, which is 0.23283064.. nanometres
+    (
+        52,
+        0x39,
+        0,
+        "layout 'a': nothing is wrong, and the run gives its report\n  \
+         library 'L', a database unit of 0.232831 nm, 1 structures, top 'T'\n  \
          metal 'm': 2 shapes with 10 points, from (0, 0) to (24, 10)\n",
     ),
     // the layer of both bars is asked for, and one has another
@@ -43,7 +52,7 @@ const CHANGED: &[(usize, u8, u8, &str)] = &[
         0x02,
         0,
         "layout 'a': nothing is wrong, and the run gives its report\n  \
-         library 'L', 1 structures, top 'T'\n  \
+         library 'L', a database unit that is no length below a metre, 1 structures, top 'T'\n  \
          metal 'm': 1 shapes with 5 points, from (14, 0) to (24, 10)\n",
     ),
     // the first byte of a gzip file is another, and its length is odd

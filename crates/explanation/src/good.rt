@@ -5,6 +5,7 @@ use crate::layer_names::{layer_count, tell_layer};
 use crate::layouts::Layout;
 use crate::shapes::Held;
 use crate::text::Text;
+use crate::unit::tell_unit;
 use library_model::Library;
 use lists::NoMemory;
 use map_model::Map;
@@ -80,6 +81,8 @@ fn tell_library(
     text.say(": nothing is wrong, and the run gives its report\n");
     text.say("  library ");
     text.name(library.name.as_slice());
+    text.say(", ");
+    tell_unit(text, library.units);
     text.say(", ");
     text.number(count as u64);
     text.say(" structures, ");

@@ -23,6 +23,7 @@ mod spot;
 mod structures;
 mod telling;
 mod text;
+mod unit;
 mod usage;
 mod words;
 
