@@ -1,5 +1,6 @@
 -- columns between places, and how wide they are
-use Rattle.std.specs.Prelude.{ℕ, zero, suc, ◌+◌, ◌-◌, min, ℤ, pos, ◌-ℤ◌, ◌<ℤ◌, List, length, AllPairs, slice_index_or, unsigned_abs, nat_le, if◌then◌else◌}
+use Rattle.std.specs.Prelude.{ℕ, zero, suc, ◌+◌, ◌-◌, min, ℤ, pos, ◌-ℤ◌, ◌<ℤ◌, List, length, AllPairs, slice_index_or, unsigned_abs, nat_le}
+use Rattle.std.specs.Prelude.{if◌then◌else◌}
 
 -- each place lies before all later ones
 abbrev pub AreRising : List ℤ → Type 0

@@ -1,5 +1,6 @@
 -- files in memory
-use Rattle.std.specs.Prelude.{ℕ, ◌≤◌, List, length, drop, ◌+◌, Option, None, IsSomeAnd, option_map, option_and_then, find, position, slice_get, Vec}
+use Rattle.std.specs.Prelude.{ℕ, ◌≤◌, List, length, drop, ◌+◌, Option, None, IsSomeAnd, option_map, option_and_then, find, position}
+use Rattle.std.specs.Prelude.{slice_get, Vec}
 use Rattle.lists.specs.Words.{Global, bytes_eq}
 use Rattle.edge_io.specs.FailureCounts.{one_more}
 use Rattle.edge_io.specs.declared.memory_files.MemFiles.{MemFiles}

@@ -74,7 +74,14 @@ module _ (one other : ℕ → Cell → Type 0) (same : (m : ℕ) (c : Cell) → 
     one = o.one;
     other = o.other;
     different = differ_alike o.one o.other o.different;
-    tied = (o.tied.0, o.tied.1, terminal_more one other there cuts named m o.one o.tied.0 o.tied.2, terminal_more one other there cuts named m o.other o.tied.1 o.tied.3, island_more one other there m o.tied.0 o.tied.1 o.tied.4);
+    tied = (
+      o.tied.0,
+      o.tied.1,
+      terminal_more one other there cuts named m o.one o.tied.0 o.tied.2,
+      terminal_more one other there cuts named m o.other o.tied.1 o.tied.3,
+      island_more one other there m
+          o.tied.0 o.tied.1 o.tied.4,
+    );
     parted = λ p q in_one in_other walk.
         o.parted p q (terminal_more other one back cuts named m o.one p in_one) (terminal_more other one back cuts named m o.other q in_other)
         (within (λ h spared. (IsOn-alike (back m) h spared.0, spared.1)) walk);

@@ -1,5 +1,6 @@
 -- Names that are cited together, passed on from one place.
-pub use Rattle.fault_model.specs.Areas.{Tally, IsCovered, cells_of_window, IsBoundsOf, IsWindow, IsWindowOf, cells_of, none, hit, miss, from, or_zero, row, range}
+pub use Rattle.fault_model.specs.Areas.{Tally, IsCovered, cells_of_window, IsBoundsOf, IsWindow, IsWindowOf, cells_of, none, hit, miss}
+pub use Rattle.fault_model.specs.Areas.{from, or_zero, row, range}
 pub use Rattle.fault_model.specs.FaultConsequences.{IsEquivalenceOn}
 pub use Rattle.fault_model.specs.Faults.{IsShort, IsViaBlock, IsOpen}
 pub use Rattle.fault_model.specs.Halves.{IsOn, IsInFootprint, LiesIn, Neighbours, IsTouched, IsSwallowed, IsHalfOf}

@@ -10,7 +10,8 @@ use Rattle.flatten.specs.Tops.{IsTop, IsUnnamed}
 use Rattle.flatten.specs.Routes.{Route, point_count}
 use Rattle.flatten.specs.Placements.{PlacesInRange, placed_routes}
 use Rattle.flatten.specs.declared.fault.PlaceFault.{PlaceFault}
-use Rattle.flatten.specs.declared.fault.PlaceFault.TheVariants.{UnknownStructure, Cycle, NoTop, ManyTops, TooDeep, TooManyShapes, OutOfRange, Memory}
+use Rattle.flatten.specs.declared.fault.PlaceFault.TheVariants.{UnknownStructure, Cycle, NoTop, ManyTops, TooDeep, TooManyShapes}
+use Rattle.flatten.specs.declared.fault.PlaceFault.TheVariants.{OutOfRange, Memory}
 
 -- no reference leads to this structure, and none leads to this earlier one
 pub record IsSecondTop (structures : List Structure) (earlier one : ℕ) : Type 0 where

@@ -1,7 +1,8 @@
 -- a fault as two numbers: one for what is wrong, which is this project's own, and the offset at which it shows
 use Rattle.std.specs.Prelude.{ℕ}
 use Rattle.flatten.specs.declared.fault.PlaceFault.{PlaceFault}
-use Rattle.flatten.specs.declared.fault.PlaceFault.TheVariants.{UnknownStructure, Cycle, NoTop, ManyTops, TooDeep, TooManyShapes, OutOfRange, Memory}
+use Rattle.flatten.specs.declared.fault.PlaceFault.TheVariants.{UnknownStructure, Cycle, NoTop, ManyTops, TooDeep, TooManyShapes}
+use Rattle.flatten.specs.declared.fault.PlaceFault.TheVariants.{OutOfRange, Memory}
 
 -- the fault's number
 abbrev pub number_of : PlaceFault → ℕ

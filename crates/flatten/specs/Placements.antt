@@ -13,7 +13,8 @@ use Rattle.flatten.specs.Routes.{Route, routes, mapped_routes, point_count}
 use Rattle.flatten.specs.ReferenceChains.{StartsChain, IsEndless}
 use Rattle.flatten.specs.Tops.{IsTop, HasTop, IsNoOtherTop}
 use Rattle.flatten.specs.declared.fault.PlaceFault.{PlaceFault}
-use Rattle.flatten.specs.declared.fault.PlaceFault.TheVariants.{UnknownStructure, Cycle, NoTop, ManyTops, TooDeep, TooManyShapes, OutOfRange}
+use Rattle.flatten.specs.declared.fault.PlaceFault.TheVariants.{UnknownStructure, Cycle, NoTop, ManyTops, TooDeep, TooManyShapes}
+use Rattle.flatten.specs.declared.fault.PlaceFault.TheVariants.{OutOfRange}
 
 -- what is checked of the library as a whole
 pub data LibraryCheck : Type 0 where

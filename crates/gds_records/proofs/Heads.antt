@@ -2,7 +2,7 @@
 use Rattle.std.proofs.Common.{◌≡◌, ℕ, ◌+◌, ◌-◌, ◌/◌, ◌%◌, ◌<◌, ◌≤◌, List, [], ◌∷◌, ◌++◌, length, get_or, take, drop, refl, sym, ap, subst, ◌∙◌, arith}
 use Rattle.lists.proofs.Words.{take_at, drop_at, take-append-drop, length-take-le, length-drop, drop-drop, All-take, All-drop, All-from_get_or}
 use Rattle.byteorder.specs.Numbers.{big_number-reads_back}
-use Rattle.gds_records.specs.Spelling.{Entry, HasSpelling, spelling}
+use Rattle.gds_records.specs.RecordSpelling.{Entry, HasSpelling, spelling}
 use Rattle.lists.specs.ByteLists.{IsByte, AreBytes}
 use Rattle.gds_records.specs.Profile.{IsInProfile}
 use Rattle.gds_records.specs.Table.{IsPermitted}

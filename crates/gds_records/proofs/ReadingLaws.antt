@@ -2,7 +2,7 @@
 use Rattle.std.proofs.Common.{◌≡◌, ◌↔◌, ℕ, ◌+◌, Bool, false, eqb, List, [], ◌∷◌, ◌++◌, length, drop, refl, sym, ap, subst, ◌∙◌}
 use Rattle.lists.proofs.Words.{drop-drop, drop_at}
 use Rattle.gds_records.specs.declared.fault.RecordFault.{RecordFault}
-use Rattle.gds_records.specs.Spelling.{Entry, spelling}
+use Rattle.gds_records.specs.RecordSpelling.{Entry, spelling}
 use Rattle.gds_records.specs.Profile.{IsInProfile}
 use Rattle.gds_records.specs.RecordChecks.{IsFaultOf}
 use Rattle.gds_records.specs.Split.{End, stops, Splits}

@@ -4,7 +4,7 @@ use Rattle.lists.proofs.Words.{cases_lt}
 use Rattle.first_refusal.proofs.CheckLaws.{fails_at_once, fails_later, all_hold_or_one_fails, first_refusals_agree}
 use Rattle.gds_records.specs.declared.fault.RecordFault.{RecordFault}
 use Rattle.gds_records.specs.declared.fault.RecordFault.TheVariants.{Truncated, BadLength, BadRecord, BadSize}
-use Rattle.gds_records.specs.Spelling.{Entry, spelling}
+use Rattle.gds_records.specs.RecordSpelling.{Entry, spelling}
 use Rattle.lists.specs.ByteLists.{AreBytes}
 use Rattle.gds_records.specs.Profile.{IsInProfile}
 use Rattle.gds_records.specs.Table.{IsListed, IsPermitted}

@@ -4,7 +4,7 @@ use Rattle.lists.proofs.Words.{eqb-true, eqb-false, eq-eqb, ne_eqb, All-nil, All
 use Rattle.std.specs.Prelude.{MatchBool}
 use Rattle.std.proofs.lemmas.List.{append_cancel_left}
 use Rattle.gds_records.specs.declared.fault.RecordFault.{RecordFault}
-use Rattle.gds_records.specs.Spelling.{Entry, IsEndlib, IsNoEndlib, spelling, spellings}
+use Rattle.gds_records.specs.RecordSpelling.{Entry, IsEndlib, IsNoEndlib, spelling, spellings}
 use Rattle.lists.specs.ByteLists.{IsByte, AreBytes}
 use Rattle.gds_records.specs.Profile.{IsInProfile}
 use Rattle.gds_records.specs.RecordChecks.{IsFaultOf}

@@ -1,5 +1,5 @@
 pub mod Table
-pub mod Spelling
+pub mod RecordSpelling
 pub mod Profile
 pub mod RecordFaults
 pub mod RecordChecks

@@ -1,8 +1,9 @@
 -- What a reader of records sees, and what its answers give of the split.
-use Rattle.std.specs.Prelude.{◌≡◌, ◌↔◌, ℕ, ◌+◌, ◌≤◌, Bool, false, IsTrue, MatchBool, List, [], ◌∷◌, ◌++◌, length, drop, Option, Some, None, Result, Ok, Err}
+use Rattle.std.specs.Prelude.{◌≡◌, ◌↔◌, ℕ, ◌+◌, ◌≤◌, Bool, false, IsTrue, MatchBool, List, [], ◌∷◌, ◌++◌, length, drop, Option, Some, None}
+use Rattle.std.specs.Prelude.{Result, Ok, Err}
 use Rattle.gds_records.specs.declared.fault.RecordFault.{RecordFault}
 use Rattle.gds_records.specs.declared.record.Record.{Record}
-use Rattle.gds_records.specs.Spelling.{Entry, IsEndlib, spelling}
+use Rattle.gds_records.specs.RecordSpelling.{Entry, IsEndlib, spelling}
 use Rattle.gds_records.specs.Profile.{IsInProfile}
 use Rattle.gds_records.specs.Split.{End, whole, stops, Splits}
 

@@ -1,7 +1,7 @@
 -- How a string of bytes splits into records, and how the split ends.
 use Rattle.std.specs.Prelude.{◌≡◌, ℕ, ◌+◌, List, [], ◌∷◌, ◌++◌, length, All}
 use Rattle.gds_records.specs.declared.fault.RecordFault.{RecordFault}
-use Rattle.gds_records.specs.Spelling.{Entry, IsEndlib, IsNoEndlib, spellings}
+use Rattle.gds_records.specs.RecordSpelling.{Entry, IsEndlib, IsNoEndlib, spellings}
 use Rattle.gds_records.specs.Profile.{IsInProfile}
 use Rattle.gds_records.specs.RecordChecks.{IsFaultOf}
 

@@ -2,7 +2,7 @@
 //! empty body, and its contract says what holds of the definitions.
 
 ghost use Rattle.std.specs.Prelude.{◌≡◌, ◌≢◌, ℕ, List, [], ◌++◌, Contains};
-ghost use Rattle.gds_records.specs.Spelling.{Entry, spellings};
+ghost use Rattle.gds_records.specs.RecordSpelling.{Entry, spellings};
 ghost use Rattle.lists.specs.ByteLists.{AreBytes};
 ghost use Rattle.gds_records.specs.declared.table.Rule.{Rule};
 ghost use Rattle.gds_records.specs.Table.{table};

@@ -1,6 +1,6 @@
 ghost use Rattle.std.specs.Prelude.{◌≡◌, ◌^◌, ◌<◌, ◌↔◌, false, List, length, IsTrue, IfOk, IfErr, IfSome, IfNone, OnErr};
 ghost use Rattle.gds_records.specs.declared.fault.RecordFault.{RecordFault};
-ghost use Rattle.gds_records.specs.Spelling.{Entry};
+ghost use Rattle.gds_records.specs.RecordSpelling.{Entry};
 ghost use Rattle.gds_records.specs.Profile.{IsInProfile};
 ghost use Rattle.gds_records.specs.RecordChecks.{IsFaultOf};
 ghost use Rattle.gds_records.specs.Split.{End};

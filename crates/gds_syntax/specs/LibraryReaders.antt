@@ -1,8 +1,15 @@
 -- What the readers of a library and of its parts do: which records they took from the stream, where they stand, and which fault
 -- they found.
-use Rattle.std.specs.Prelude.{ℕ, List, [], ◌∷◌, ◌++◌, length, All, Contains, Option, Some, None, IfSome, option_to_list, true, false, IsTrue, if◌then◌else◌, ◌==◌, ◌^◌, ◌<◌, ◌≤◌, ◌≡◌, ◌≢◌, ◌↔◌, ◌⊎◌, flat_map}
+use Rattle.std.specs.Prelude.{ℕ, List, [], ◌∷◌, ◌++◌, length, All, Contains, Option, Some, None, IfSome, option_to_list, true, false}
+use Rattle.std.specs.Prelude.{IsTrue, if◌then◌else◌, ◌==◌, ◌^◌, ◌<◌, ◌≤◌, ◌≡◌, ◌≢◌, ◌↔◌, ◌⊎◌, flat_map}
 use Rattle.gds_records.specs.declared.kinds.TheConstants as kind
-use Rattle.library_grammar.specs.GrammarNames.{IsInProfile, Reading, IsLeft, entry_of, Entry, IsEndlib, End, ElementForm, own_kinds, AreNamesIn, IsFirstFault, NoneShows, IsText, IsKept, kinds_of, head_kinds, IsOfKind, Property, property_records, IsProperty, ElementParts, element_records, IsElement, StructureParts, structure_records, IsStructure, behind, SayElements, SaysStructure, SayStructures, AreDifferent, names_of, IsPlain, Place, before_header, between_structures, before_strname, behind_strname, between_elements, among_own, behind_attribute, behind_property, behind_endlib, into_element, has_kind, next_place, place_behind}
+use Rattle.library_grammar.specs.GrammarNames.{IsInProfile, Reading, IsLeft, entry_of, Entry, IsEndlib, End, ElementForm, own_kinds}
+use Rattle.library_grammar.specs.GrammarNames.{AreNamesIn, IsFirstFault, NoneShows, IsText, IsKept, kinds_of, head_kinds, IsOfKind}
+use Rattle.library_grammar.specs.GrammarNames.{Property, property_records, IsProperty, ElementParts, element_records, IsElement}
+use Rattle.library_grammar.specs.GrammarNames.{StructureParts, structure_records, IsStructure, behind, SayElements, SaysStructure}
+use Rattle.library_grammar.specs.GrammarNames.{SayStructures, AreDifferent, names_of, IsPlain, Place, before_header, between_structures}
+use Rattle.library_grammar.specs.GrammarNames.{before_strname, behind_strname, between_elements, among_own, behind_attribute}
+use Rattle.library_grammar.specs.GrammarNames.{behind_property, behind_endlib, into_element, has_kind, next_place, place_behind}
 use Rattle.gds_records.specs.declared.record.Record.{Record}
 use Rattle.library_model.specs.declared.element.Element.{Element}
 use Rattle.library_grammar.specs.declared.fault.SyntaxFault.{SyntaxFault}

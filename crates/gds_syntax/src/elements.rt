@@ -1,6 +1,6 @@
 ghost use Rattle.std.specs.Prelude.{◌≡◌, ◌≢◌, [], ◌∷◌, ◌++◌, ℕ, List, IfOk, IfErr, option_to_list};
 ghost use Rattle.gds_records.specs.Reading.{entry_of};
-ghost use Rattle.gds_records.specs.Spelling.{Entry};
+ghost use Rattle.gds_records.specs.RecordSpelling.{Entry};
 ghost use Rattle.library_grammar.specs.ElementForms.{Opens};
 ghost use Rattle.gds_syntax.specs.inside.ElementKinds.{form_for};
 ghost use Rattle.library_grammar.specs.Libraries.{behind};

@@ -22,7 +22,7 @@ impl<'a> Model for OwnRecords<'a> {
     ghost use Rattle.std.specs.Prelude.{List, map, All};
     ghost use Rattle.gds_records.specs.Profile.{IsInProfile};
     ghost use Rattle.gds_records.specs.Reading.{entry_of};
-    ghost use Rattle.gds_records.specs.Spelling.{Entry};
+    ghost use Rattle.gds_records.specs.RecordSpelling.{Entry};
 
     ghost Value = { List Entry };
 

@@ -1,7 +1,7 @@
 ghost use Rattle.std.specs.Prelude.{◌≡◌, ◌≢◌, ◌<◌, ◌^◌, ℕ, List, [], ◌∷◌, ◌++◌, None, Some, IfOk, IfErr, false, length, All, Contains, if◌then◌else◌, ◌==◌};
 ghost use Rattle.gds_records.specs.declared.kinds.TheConstants as kind;
 ghost use Rattle.gds_records.specs.Reading.{entry_of};
-ghost use Rattle.gds_records.specs.Spelling.{Entry};
+ghost use Rattle.gds_records.specs.RecordSpelling.{Entry};
 ghost use Rattle.library_grammar.specs.Places.{next_place};
 ghost use Rattle.gds_syntax.specs.LibraryReaders.{IsReady, Standing, Stops, TakesRecord};
 ghost use Rattle.library_grammar.specs.Grammar.{head_kinds};

@@ -1,5 +1,6 @@
 -- The records that a library is written as.
-use Rattle.std.specs.Prelude.{ℕ, ℤ, pos, ◌+ℤ◌, ◌*ℤ◌, Bool, not, ◌||◌, ◌==◌, if◌then◌else◌, List, [], ◌∷◌, ◌++◌, Option, Some, None, flat_map}
+use Rattle.std.specs.Prelude.{ℕ, ℤ, pos, ◌+ℤ◌, ◌*ℤ◌, Bool, not, ◌||◌, ◌==◌, if◌then◌else◌, List, [], ◌∷◌, ◌++◌, Option, Some, None}
+use Rattle.std.specs.Prelude.{flat_map}
 use Rattle.byteorder.specs.Endian.{big_bytes}
 use Rattle.geo_core.specs.declared.plane.Point.{Point}
 use Rattle.geo_core.specs.declared.plane.Turn.{Turn}
@@ -15,7 +16,8 @@ use Rattle.library_model.specs.declared.element.ShapeKind.{ShapeKind}
 use Rattle.library_model.specs.declared.element.ShapeKind.TheVariants.{Boundary, BoxElement, Path}
 use Rattle.library_model.specs.declared.library.Library.{Library}
 use Rattle.library_model.specs.declared.library.Structure.{Structure}
-use Rattle.gds_write.specs.Bodies.{entry, bare, text_entry, unsigned_entry, short_entry, long_entry, date_entry, points_entry, counts_entry, entry_if, is_not_zero}
+use Rattle.gds_write.specs.Bodies.{entry, bare, text_entry, unsigned_entry, short_entry, long_entry, date_entry, points_entry, counts_entry}
+use Rattle.gds_write.specs.Bodies.{entry_if, is_not_zero}
 
 -- the kind of the record that opens a shape
 abbrev pub opening_of_shape : ShapeKind → ℕ

@@ -2,7 +2,7 @@
 
 ghost use Rattle.std.specs.Prelude.{◌≡◌, ◌+◌, ◌++◌, ◌∷◌, [], ◌<◌, ◌≤◌, ◌^◌, IfOk, length};
 ghost use Rattle.byteorder.specs.Endian.{big_bytes};
-ghost use Rattle.gds_records.specs.Spelling.{spelling, spellings};
+ghost use Rattle.gds_records.specs.RecordSpelling.{spelling, spellings};
 ghost use Rattle.gds_write.specs.Bodies.{
   bare,
   counts_entry,

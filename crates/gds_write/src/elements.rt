@@ -2,7 +2,7 @@
 
 ghost use Rattle.std.specs.Prelude.{◌≡◌, ◌++◌, ◌≤◌, ◌<◌, ◌^◌, ◌+ℤ◌, ◌*ℤ◌, FitsSigned, IfOk, IfSome, nat_abs, pos};
 ghost use Rattle.std.specs.Int.{w32};
-ghost use Rattle.gds_records.specs.Spelling.{spellings};
+ghost use Rattle.gds_records.specs.RecordSpelling.{spellings};
 ghost use Rattle.library_model.specs.Ranges.{ArePoints, IsKind, IsPoint, IsStep};
 ghost use Rattle.gds_write.specs.WellFormed.{IsWritableElement, IsWritableReference, IsWritableShape};
 ghost use Rattle.gds_write.specs.Written as written;

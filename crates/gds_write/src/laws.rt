@@ -2,7 +2,7 @@
 
 ghost use Rattle.std.specs.Prelude.{ℕ, List};
 ghost use Rattle.first_refusal.specs.Outcomes.{value};
-ghost use Rattle.gds_records.specs.Spelling.{spellings};
+ghost use Rattle.gds_records.specs.RecordSpelling.{spellings};
 ghost use Rattle.library_grammar.specs.FirstFault.{BytesComeTo};
 ghost use Rattle.library_model.specs.declared.library.Library.{Library};
 ghost use Rattle.gds_write.specs.SameLibrary.{IsSameButOffsets};

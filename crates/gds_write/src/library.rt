@@ -1,5 +1,5 @@
 ghost use Rattle.std.specs.Prelude.{◌≡◌, ◌++◌, IfOk};
-ghost use Rattle.gds_records.specs.Spelling.{spellings};
+ghost use Rattle.gds_records.specs.RecordSpelling.{spellings};
 ghost use Rattle.gds_write.specs.WellFormed.{IsWellFormed, IsWritableStructure};
 ghost use Rattle.gds_write.specs.Written.{written, written_head, written_structure};
 

@@ -8,7 +8,8 @@ use Rattle.toml.specs.Data.{Data, string, integer, Members}
 use Rattle.toml.specs.Parse.{parse_document}
 use Rattle.lists.specs.Differing.{AreDifferent}
 use Rattle.map_model.specs.MapNames.{LayerMap, MappedLayer, MappedCut, names_of, sizes_of}
-use Rattle.layer_map.specs.Values.{whole_numbers, pairs_value, radii_in, weights_in, metals_in, cuts_in, terminals_in, name_of_item, pairs_of_item, lower_of_item, upper_of_item, metal_of_item, x_of_item, y_of_item}
+use Rattle.layer_map.specs.Values.{whole_numbers, pairs_value, radii_in, weights_in, metals_in, cuts_in, terminals_in, name_of_item}
+use Rattle.layer_map.specs.Values.{pairs_of_item, lower_of_item, upper_of_item, metal_of_item, x_of_item, y_of_item}
 use Rattle.layer_map.specs.MapChecks.{Holds, checks_of, fault_of}
 use Rattle.layer_map.specs.declared.fault.MapFault.{MapFault}
 use Rattle.layer_map.specs.declared.fault.MapFault.TheVariants.{Syntax}

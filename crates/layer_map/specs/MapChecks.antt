@@ -1,10 +1,13 @@
 -- All that is checked of a map's document, one check after the other, and the fault of each.
-use Rattle.std.specs.Prelude.{ℕ, ◌≡◌, ◌≤◌, List, [], ◌∷◌, ◌++◌, codes, length, map, flat_map, take, slice_get, Option, Some, IsSome, IsSomeAnd, IfSome, All, Contains}
+use Rattle.std.specs.Prelude.{ℕ, ◌≡◌, ◌≤◌, List, [], ◌∷◌, ◌++◌, codes, length, map, flat_map, take, slice_get, Option, Some, IsSome}
+use Rattle.std.specs.Prelude.{IsSomeAnd, IfSome, All, Contains}
 use Rattle.lists.specs.Words.{range_with_len}
 use Rattle.toml.specs.Data.{Data, Members, as_array}
 use Rattle.map_model.specs.MapNames.{AreRadii, AreWeights}
-use Rattle.layer_map.specs.Values.{whole_number, whole_numbers, StandsAs, keys_in, values_in, version_in, radii_in, weights_in, cut_in, terminal_in, metals_in, cuts_in, terminals_in}
-use Rattle.layer_map.specs.DocumentPaths.{document_path, version_path, radii_path, weights_path, metals_path, cuts_path, terminals_path, metal_path, cut_path, terminal_path}
+use Rattle.layer_map.specs.Values.{whole_number, whole_numbers, StandsAs, keys_in, values_in, version_in, radii_in, weights_in, cut_in}
+use Rattle.layer_map.specs.Values.{terminal_in, metals_in, cuts_in, terminals_in}
+use Rattle.layer_map.specs.DocumentPaths.{document_path, version_path, radii_path, weights_path, metals_path, cuts_path, terminals_path}
+use Rattle.layer_map.specs.DocumentPaths.{metal_path, cut_path, terminal_path}
 use Rattle.layer_map.specs.LayerChecks.{LayerCheck, layer_checks, LayerHolds, layer_fault, metal_keys}
 use Rattle.layer_map.specs.CutChecks.{CutCheck, cut_checks, CutHolds, cut_fault}
 use Rattle.layer_map.specs.TerminalChecks.{TerminalCheck, terminal_checks, TerminalHolds, terminal_fault}

@@ -1,7 +1,8 @@
 -- A fault of a map as two numbers: one for what is wrong, which is this project's own, and the path of where it is.
 use Rattle.std.specs.Prelude.{ℕ}
 use Rattle.layer_map.specs.declared.fault.MapFault.{MapFault}
-use Rattle.layer_map.specs.declared.fault.MapFault.TheVariants.{Syntax, BadKey, BadValue, RepeatedPair, RepeatedName, UnknownMetal, RepeatedTerminal, LimitPassed, Memory}
+use Rattle.layer_map.specs.declared.fault.MapFault.TheVariants.{Syntax, BadKey, BadValue, RepeatedPair, RepeatedName, UnknownMetal}
+use Rattle.layer_map.specs.declared.fault.MapFault.TheVariants.{RepeatedTerminal, LimitPassed, Memory}
 
 -- the fault's number
 abbrev pub number_of : MapFault → ℕ

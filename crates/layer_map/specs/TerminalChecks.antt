@@ -3,7 +3,8 @@ use Rattle.std.specs.Prelude.{ℕ, ℤ, pos, neg_ℤ, ◌≤ℤ◌, ◌<ℤ◌, 
 use Rattle.toml.specs.Data.{Data, integer}
 use Rattle.layer_map.specs.Values.{StandsAs, metal_of_item, x_of_item, y_of_item}
 use Rattle.layer_map.specs.DocumentPaths.{metal_of_terminal_at, x_at, y_at}
-use Rattle.layer_map.specs.ItemChecks.{TableCheck, table_checks, TableHolds, table_fault, ReferenceCheck, reference_checks, ReferenceHolds, reference_fault}
+use Rattle.layer_map.specs.ItemChecks.{TableCheck, table_checks, TableHolds, table_fault, ReferenceCheck, reference_checks, ReferenceHolds}
+use Rattle.layer_map.specs.ItemChecks.{reference_fault}
 use Rattle.layer_map.specs.declared.fault.MapFault.{MapFault}
 use Rattle.layer_map.specs.declared.fault.MapFault.TheVariants.{BadValue, RepeatedTerminal}
 

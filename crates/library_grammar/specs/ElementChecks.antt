@@ -1,7 +1,7 @@
 -- what is checked of an element once its own records are read, one check after the other, and their faults
 use Rattle.std.specs.Prelude.{ℕ, ℤ, pos, negsuc, ◌≤ℤ◌, List, [], ◌∷◌, ◌++◌, map, length, Contains, IfSome, Result}
 use Rattle.gds_records.specs.declared.kinds.TheConstants as kind
-use Rattle.gds_records.specs.Spelling.{Entry}
+use Rattle.gds_records.specs.RecordSpelling.{Entry}
 use Rattle.gds_records.specs.Reals.{HasValue}
 use Rattle.first_refusal.specs.Answers.{Answers}
 use Rattle.first_refusal.specs.Checks.{Checks, IsRefusalOfFirst}
@@ -11,7 +11,8 @@ use Rattle.library_grammar.specs.Grammar.{kinds_of}
 use Rattle.library_grammar.specs.OwnRecords.{field, points_of, HasAbsoluteAngle, HasQuarters, columns_of, rows_of, HasSteps}
 use Rattle.geo_core.specs.Plane.{IsClosed}
 use Rattle.library_grammar.specs.declared.fault.SyntaxFault.{SyntaxFault}
-use Rattle.library_grammar.specs.declared.fault.SyntaxFault.TheVariants.{Missing, PointCount, NotClosed, Magnified, BadAngle, AbsoluteAngle, EmptyArray, UnevenArray, Memory}
+use Rattle.library_grammar.specs.declared.fault.SyntaxFault.TheVariants.{Missing, PointCount, NotClosed, Magnified, BadAngle, AbsoluteAngle}
+use Rattle.library_grammar.specs.declared.fault.SyntaxFault.TheVariants.{EmptyArray, UnevenArray, Memory}
 
 -- what is checked
 pub data ElementCheck : Type 0 where

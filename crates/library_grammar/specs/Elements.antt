@@ -2,9 +2,10 @@
 use Rattle.std.specs.Prelude.{ℕ, ℤ, pos, ◌+ℤ◌, ◌*ℤ◌, List, IsTrue, Option, Some, None, ◌≡◌, ◌↔◌}
 use Rattle.gds_records.specs.declared.kinds.TheConstants as kind
 use Rattle.gds_records.specs.Fields.{IsText}
-use Rattle.gds_records.specs.Spelling.{Entry}
+use Rattle.gds_records.specs.RecordSpelling.{Entry}
 use Rattle.geo_core.specs.declared.plane.Turn.{Turn}
-use Rattle.library_grammar.specs.OwnRecords.{body_of, point_in, points_of, unsigned_of, short_of, long_of, IsMirrored, HasQuarters, columns_of, rows_of, HasSteps}
+use Rattle.library_grammar.specs.OwnRecords.{body_of, point_in, points_of, unsigned_of, short_of, long_of, IsMirrored, HasQuarters}
+use Rattle.library_grammar.specs.OwnRecords.{columns_of, rows_of, HasSteps}
 use Rattle.library_model.specs.declared.element.Element.{Element}
 use Rattle.library_model.specs.declared.element.Element.TheVariants.{Shape as shape_element, Reference as reference_element}
 use Rattle.library_model.specs.declared.element.Shape.{Shape}

@@ -3,7 +3,7 @@ use Rattle.std.specs.Prelude.{ℕ, List, ◌∷◌, ◌++◌, All, Contains, ◌
 use Rattle.first_refusal.specs.Outcomes.{Outcome, value, refused}
 use Rattle.gds_records.specs.declared.kinds.TheConstants as kind
 use Rattle.gds_records.specs.Fields.{IsText}
-use Rattle.gds_records.specs.Spelling.{Entry}
+use Rattle.gds_records.specs.RecordSpelling.{Entry}
 use Rattle.gds_records.specs.declared.fault.RecordFault.{RecordFault}
 use Rattle.gds_records.specs.Split.{End, whole, stops, Splits}
 use Rattle.library_grammar.specs.ElementForms.{ElementForm, Opens, own_kinds}

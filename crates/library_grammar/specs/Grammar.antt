@@ -4,7 +4,7 @@
 use Rattle.std.specs.Prelude.{ℕ, List, [], ◌∷◌, ◌++◌, map, All, Contains, Option, IfSome, option_to_list, ◌≡◌, flat_map}
 use Rattle.lists.specs.Differing.{AreDifferent}
 use Rattle.gds_records.specs.declared.kinds.TheConstants as kind
-use Rattle.gds_records.specs.Spelling.{Entry}
+use Rattle.gds_records.specs.RecordSpelling.{Entry}
 use Rattle.library_grammar.specs.ElementForms.{ElementForm, Opens, own_kinds}
 
 -- the kinds of records

@@ -2,9 +2,10 @@
 -- begins where it ends.
 use Rattle.std.specs.Prelude.{ℕ, List, [], ◌∷◌, ◌++◌, length, option_to_list, Option, ◌≡◌, ◌+◌}
 use Rattle.gds_records.specs.Fields.{IsText}
-use Rattle.gds_records.specs.Spelling.{Entry, spellings}
+use Rattle.gds_records.specs.RecordSpelling.{Entry, spellings}
 use Rattle.library_grammar.specs.Elements.{IsKept}
-use Rattle.library_grammar.specs.Grammar.{ElementParts, StructureParts, LibraryParts, element_records, structure_head, structure_records, library_head, IsInShape}
+use Rattle.library_grammar.specs.Grammar.{ElementParts, StructureParts, LibraryParts, element_records, structure_head, structure_records}
+use Rattle.library_grammar.specs.Grammar.{library_head, IsInShape}
 use Rattle.library_model.specs.declared.element.Element.{Element}
 use Rattle.library_model.specs.declared.library.Structure.{Structure}
 use Rattle.library_model.specs.declared.library.Library.{Library}

@@ -1,11 +1,12 @@
 -- what an element's own records say, each by its kind
-use Rattle.std.specs.Prelude.{ℕ, ℤ, pos, ◌+ℤ◌, ◌*ℤ◌, List, [], map, length, Option, option_map, unwrap_or, find, MatchOption, ◌==◌, ◌+◌, ◌*◌, ◌/◌, ◌%◌, ◌^◌, ◌≡◌}
+use Rattle.std.specs.Prelude.{ℕ, ℤ, pos, ◌+ℤ◌, ◌*ℤ◌, List, [], map, length, Option, option_map, unwrap_or, find, MatchOption, ◌==◌, ◌+◌}
+use Rattle.std.specs.Prelude.{◌*◌, ◌/◌, ◌%◌, ◌^◌, ◌≡◌}
 use Rattle.lists.specs.Words.{w16, w32, range_with_len}
 use Rattle.std.specs.Int.{cast_signed}
 use Rattle.geo_core.specs.declared.plane.Point.{Point}
 use Rattle.gds_records.specs.declared.kinds.TheConstants as kind
 use Rattle.gds_records.specs.Fields.{item}
-use Rattle.gds_records.specs.Spelling.{Entry}
+use Rattle.gds_records.specs.RecordSpelling.{Entry}
 use Rattle.gds_records.specs.Reals.{HasValue}
 
 -- the body of the record of this kind, if there is one

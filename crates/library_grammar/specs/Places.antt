@@ -1,6 +1,7 @@
 -- Which records may follow, one at a time, as a reader decides it: where it stands in a library. What may stand is said by
 -- MayStand, of lists as a whole, and that the two agree is a law.
-use Rattle.std.specs.Prelude.{ℕ, ◌≢◌, Bool, not, ◌&&◌, if◌then◌else◌, List, [], ◌∷◌, ◌++◌, Option, Some, None, option_map, option_and_then, find, ◌==◌}
+use Rattle.std.specs.Prelude.{ℕ, ◌≢◌, Bool, not, ◌&&◌, if◌then◌else◌, List, [], ◌∷◌, ◌++◌, Option, Some, None, option_map, option_and_then}
+use Rattle.std.specs.Prelude.{find, ◌==◌}
 use Rattle.lists.specs.Words.{list_any}
 use Rattle.gds_records.specs.declared.kinds.TheConstants as kind
 use Rattle.library_grammar.specs.ElementForms.{ElementForm, element_forms, own_kinds}

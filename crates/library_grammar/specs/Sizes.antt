@@ -1,7 +1,7 @@
 -- the sizes of bodies
 use Rattle.std.specs.Prelude.{ℕ, length, ◌≡◌}
 use Rattle.gds_records.specs.Profile.{IsInProfile}
-use Rattle.gds_records.specs.Spelling.{Entry}
+use Rattle.gds_records.specs.RecordSpelling.{Entry}
 
 -- each record of this kind has so many bytes in its body
 abbrev pub BodiesHave : ℕ → ℕ → Type 0

@@ -2,7 +2,9 @@
 use Rattle.std.specs.Prelude.{ℕ}
 use Rattle.gds_records.specs.RecordFaults as record_faults
 use Rattle.library_grammar.specs.declared.fault.SyntaxFault.{SyntaxFault}
-use Rattle.library_grammar.specs.declared.fault.SyntaxFault.TheVariants.{Record, Unexpected, Missing, RepeatedStructure, PointCount, NotClosed, Magnified, BadAngle, AbsoluteAngle, EmptyArray, UnevenArray, Memory}
+use Rattle.library_grammar.specs.declared.fault.SyntaxFault.TheVariants.{Record, Unexpected, Missing, RepeatedStructure, PointCount}
+use Rattle.library_grammar.specs.declared.fault.SyntaxFault.TheVariants.{NotClosed, Magnified, BadAngle, AbsoluteAngle, EmptyArray}
+use Rattle.library_grammar.specs.declared.fault.SyntaxFault.TheVariants.{UnevenArray, Memory}
 
 -- the fault's number
 abbrev pub number_of : SyntaxFault → ℕ

@@ -5,7 +5,7 @@ ghost use Rattle.first_refusal.specs.Laws.{IsUnique, CannotLack};
 ghost use Rattle.lists.specs.ByteLists.{AreBytes};
 ghost use Rattle.lists.specs.Differing.{AreDifferent};
 ghost use Rattle.first_refusal.specs.Outcomes.{value};
-ghost use Rattle.gds_records.specs.Spelling.{Entry};
+ghost use Rattle.gds_records.specs.RecordSpelling.{Entry};
 ghost use Rattle.library_grammar.specs.FirstFault.{BytesComeTo};
 ghost use Rattle.library_model.specs.Names.{names_of};
 ghost use Rattle.library_model.specs.Points.{AreWellPointed};

@@ -1,7 +1,8 @@
 -- a fault as two numbers: one for what is wrong, which is this project's own, and the offset of the shape
 use Rattle.std.specs.Prelude.{ℕ}
 use Rattle.rect_cover.specs.declared.fault.CoverFault.{CoverFault}
-use Rattle.rect_cover.specs.declared.fault.CoverFault.TheVariants.{RoundPath, BadExtension, OddWidth, PointPath, NotRectilinear, Reversal, OutOfRange, Memory}
+use Rattle.rect_cover.specs.declared.fault.CoverFault.TheVariants.{RoundPath, BadExtension, OddWidth, PointPath, NotRectilinear, Reversal}
+use Rattle.rect_cover.specs.declared.fault.CoverFault.TheVariants.{OutOfRange, Memory}
 
 -- the fault's number
 abbrev pub number_of : CoverFault → ℕ

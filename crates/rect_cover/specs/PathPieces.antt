@@ -1,5 +1,6 @@
 -- the straight pieces of a path, and what each reaches past its two ends
-use Rattle.std.specs.Prelude.{ℤ, pos, ◌+ℤ◌, ◌-ℤ◌, ◌-◌, ◌/◌, nat_abs, Bool, true, false, not, ◌&&◌, ◌||◌, if◌then◌else◌, int_le, int_lt, List, [], ◌∷◌, ◌++◌, map, filter, zip, drop, take, length, replicate}
+use Rattle.std.specs.Prelude.{ℤ, pos, ◌+ℤ◌, ◌-ℤ◌, ◌-◌, ◌/◌, nat_abs, Bool, true, false, not, ◌&&◌, ◌||◌, if◌then◌else◌, int_le, int_lt}
+use Rattle.std.specs.Prelude.{List, [], ◌∷◌, ◌++◌, map, filter, zip, drop, take, length, replicate}
 use Rattle.geo_core.specs.declared.plane.Point.{Point}
 use Rattle.outlines.specs.Outlines.{Edge, edges_of}
 use Rattle.rect_cover.specs.declared.direction.Direction.{Direction}

@@ -1,12 +1,14 @@
 -- what is checked of a shape, and the fault where a check fails
-use Rattle.std.specs.Prelude.{ℕ, ℤ, pos, neg_ℤ, ◌*ℤ◌, ◌≡◌, ◌≢◌, ◌≤ℤ◌, ◌<ℤ◌, ◌==◌, nat_abs, if◌then◌else◌, List, [], ◌∷◌, ◌++◌, map, All, Contains}
+use Rattle.std.specs.Prelude.{ℕ, ℤ, pos, neg_ℤ, ◌*ℤ◌, ◌≡◌, ◌≢◌, ◌≤ℤ◌, ◌<ℤ◌, ◌==◌, nat_abs, if◌then◌else◌, List, [], ◌∷◌, ◌++◌, map, All}
+use Rattle.std.specs.Prelude.{Contains}
 use Rattle.geo_core.specs.declared.plane.Point.{Point}
 use Rattle.library_model.specs.declared.element.ShapeKind.{ShapeKind}
 use Rattle.library_model.specs.declared.element.ShapeKind.TheVariants.{Boundary, BoxElement, Path}
 use Rattle.outlines.specs.Outlines.{Edge, IsAlongAxis, edges_of}
 use Rattle.rect_cover.specs.PathPieces.{Box, style_of, half_width_of, direction_of, opposite, corners_of, neighbours, pieces_of, box_of}
 use Rattle.rect_cover.specs.declared.fault.CoverFault.{CoverFault}
-use Rattle.rect_cover.specs.declared.fault.CoverFault.TheVariants.{RoundPath, BadExtension, OddWidth, PointPath, NotRectilinear, Reversal, OutOfRange}
+use Rattle.rect_cover.specs.declared.fault.CoverFault.TheVariants.{RoundPath, BadExtension, OddWidth, PointPath, NotRectilinear, Reversal}
+use Rattle.rect_cover.specs.declared.fault.CoverFault.TheVariants.{OutOfRange}
 use Rattle.rect_cover.specs.declared.style.PathStyle.{PathStyle}
 
 -- what is checked of a shape: of its points, of the style of a path, or of both

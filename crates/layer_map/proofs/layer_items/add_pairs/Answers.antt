@@ -34,4 +34,5 @@ pub returns-in_err-more-clause-judged : goal.returns-in_err-more-clause-judged
 returns-in_err-more-clause-judged c known earlier seen differ = out_of_memory _ _ c.from_residual.result c.from_residual.ensures.1
 
 pub returns-in_err-add_different-in-Some-clause-judged : goal.returns-in_err-add_different-in-Some-clause-judged
-returns-in_err-add_different-in-Some-clause-judged c known earlier seen differ = out_of_memory _ _ c.from_residual-in_err-add_different-in-Some.result c.from_residual-in_err-add_different-in-Some.ensures.1
+returns-in_err-add_different-in-Some-clause-judged c known earlier seen differ = out_of_memory _ _ c.from_residual-in_err-add_different-in-Some.result
+    c.from_residual-in_err-add_different-in-Some.ensures.1

@@ -19,7 +19,8 @@ pub returns-then-not-is_along_axis : goal.returns-then-not-is_along_axis
 returns-then-not-is_along_axis c =
     let steps = c.in-Some-2.ensures.steps in (
       λ no. absurd (untrue no),
-      λ all. absurd (left_fails IsAlongAxis _ _ c.loop-from.invariant _ _ (edges_next _ _ _ _ _ _ steps.0 steps.1) (λ along. untrue (sym c.if-not-is_along_axis.true ∙ c.is_along_axis.ensures.1 along)) all),
+      λ all. absurd (left_fails IsAlongAxis _ _ c.loop-from.invariant _ _ (edges_next _ _ _ _ _ _ steps.0 steps.1)
+          (λ along. untrue (sym c.if-not-is_along_axis.true ∙ c.is_along_axis.ensures.1 along)) all),
     )
 
 pub loop-from-preserved : goal.loop-from-preserved
