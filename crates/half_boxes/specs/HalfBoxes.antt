@@ -1,0 +1,42 @@
+-- boxes of half squares: which half squares they have, and which of them touch
+use Rattle.std.specs.Prelude.{ℕ, List, Contains, Option, Some, None, slice_get, ◌≡◌, ◌⊎◌}
+use Rattle.geo_core.specs.Plane.{IsIn}
+use Rattle.geo_core.specs.declared.plane.Half.{Half}
+use Rattle.fault_model.specs.FaultNames.{Neighbours}
+use Rattle.half_boxes.specs.declared.boxes.HalfBox.{HalfBox}
+
+-- the half square lies in the box
+pub record HasHalf (one : HalfBox) (h : Half) : Type 0 where
+  pub across : IsIn one.columns.low one.columns.high h.u
+  pub up : IsIn one.rows.low one.rows.high h.v
+
+-- it lies in the box, where there is one
+abbrev pub HasHalfIn : Option HalfBox → Half → Type 0
+HasHalfIn None h = ⊥
+HasHalfIn (Some one) h = HasHalf one h
+
+-- a box of the list has it
+pub record IsInBoxes (boxes : List HalfBox) (h : Half) : Type 0 where
+  pub one : HalfBox
+  pub among : Contains boxes one
+  pub has : HasHalf one h
+
+-- each half square of the one box lies in the other
+abbrev pub LiesWithin : HalfBox → HalfBox → Type 0
+LiesWithin one other = (h : Half) → HasHalf one h → HasHalf other h
+
+-- the boxes have a half square in common
+abbrev pub OverlapHalves : HalfBox → HalfBox → Type 0
+OverlapHalves one other = (h : Half) × HasHalf one h × HasHalf other h
+
+-- the boxes have a half square in common, or one half square each that share an edge
+abbrev pub TouchHalves : HalfBox → HalfBox → Type 0
+TouchHalves one other = (p q : Half) × HasHalf one p × HasHalf other q × ((p ≡ q) ⊎ Neighbours p q)
+
+-- the boxes with these numbers, which are counted from 0, touch
+pub record AreTouchingBoxes (boxes : List HalfBox) (a b : ℕ) : Type 0 where
+  pub one : HalfBox
+  pub other : HalfBox
+  pub one_at : slice_get boxes a ≡ Some one
+  pub other_at : slice_get boxes b ≡ Some other
+  pub touch : TouchHalves one other

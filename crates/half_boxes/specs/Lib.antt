@@ -1,0 +1,3 @@
+-- what contracts of other crates cite
+pub mod HalfBoxes
+pub mod Footprints

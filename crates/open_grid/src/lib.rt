@@ -1,0 +1,12 @@
+//! Which defects part two anchors of an island, and at how many cells of a window a defect does.
+//!
+//! The window is halved into zones. Where the removal of all that some defect of a zone has parts no two anchors, no defect of
+//! the zone does; where the removal of what each of them has parts two, each does. What neither decides is halved where
+//! an edge of a defect meets one of the island, and where none does, one column or row stands for all of the zone.
+#![tactic(auto)]
+
+pub mod areas;
+mod parting;
+
+pub use areas::open_area;
+pub use parting::parted;

@@ -1,0 +1,10 @@
+//! What is left of an island round some defects, and whether its terminals are parted there. For a square of defects that
+//! grows smaller, less and less of the island is looked at: what lies outside of all of them stays, and only how it is joined
+//! matters.
+#![tactic(auto)]
+
+pub mod parts;
+pub mod remnant;
+
+pub use parts::{Fixed, Loose, Mark};
+pub use remnant::Remnant;

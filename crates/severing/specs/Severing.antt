@@ -1,0 +1,46 @@
+-- which terminals are parted where some half squares are removed
+use Rattle.std.specs.Prelude.{ℕ, List, Contains, Some, slice_get, length, ◌<◌, ◌≡◌, ◌≢◌, ◌⊎◌, ◌↔◌}
+use Rattle.geo_core.specs.Plane.{Has, IsInUnion}
+use Rattle.geo_core.specs.declared.plane.Cell.{Cell}
+use Rattle.geo_core.specs.declared.plane.Half.{Half}
+use Rattle.geo_core.specs.declared.plane.Rect.{Rect}
+use Rattle.fault_model.specs.FaultNames.{IsOn, LiesIn, Walk, IslandLists}
+use Rattle.fault_model.specs.Faults.{IsCellsOpen}
+use Rattle.half_boxes.specs.HalfBoxes.{HasHalf}
+use Rattle.half_boxes.specs.declared.boxes.HalfBox.{HalfBox}
+
+-- the half square is of the metal, and not removed
+abbrev pub IsLeft : (Half → Type 0) → (Half → Type 0) → Half → Type 0
+IsLeft on removed h = on h × (removed h → ⊥)
+
+-- Two of so many terminals, which go by their numbers, are parted: no walk on what is left of the metal joins a half square
+-- of the one to a half square of the other. A terminal is a set of half squares. All pairs of terminals are looked at: two
+-- that are joined to a third one may be parted, where the third one itself is in pieces.
+pub record IsParted (on : Half → Type 0) (count : ℕ) (terminal : ℕ → Half → Type 0) (removed : Half → Type 0) : Type 0 where
+  pub one : ℕ
+  pub other : ℕ
+  pub one_is : one < count
+  pub other_is : other < count
+  pub different : one ≢ other
+  pub apart : (p q : Half) → terminal one p → terminal other q → Walk (IsLeft on removed) p q → ⊥
+
+-- the half square lies in the cell of the anchor with this number
+pub record IsInAnchor (anchors : List Cell) (number : ℕ) (h : Half) : Type 0 where
+  pub cell : Cell
+  pub at : slice_get anchors number ≡ Some cell
+  pub lies : LiesIn h cell
+
+-- two anchors of the island are parted where these half squares are removed
+abbrev pub IsSevered : IslandLists → (Half → Type 0) → Type 0
+IsSevered island removed = IsParted (IsOn (IsInUnion island.pieces)) (length island.anchors) (IsInAnchor island.anchors) removed
+
+-- a defect of this side at the cell parts two anchors of some island
+pub record IsSomeOpen (islands : List IslandLists) (side : ℕ) (c : Cell) : Type 0 where
+  pub island : IslandLists
+  pub among : Contains islands island
+  pub is_open : IsCellsOpen (IsInUnion island.pieces) (Contains island.anchors) side c
+
+-- the box is that of a rectangle of the island, or of an anchor's cell
+pub data IsBoxOf (island : IslandLists) (one : HalfBox) : Type 0 where
+  of_piece : (piece : Rect) → Contains island.pieces piece → ((h : Half) → HasHalf one h ↔ IsOn (Has piece) h) → IsBoxOf island one
+  of_anchor : (cell : Cell) → Contains island.anchors cell → ((h : Half) → HasHalf one h ↔ LiesIn h cell) → IsBoxOf island one

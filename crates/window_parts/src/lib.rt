@@ -1,0 +1,8 @@
+//! Parts of a window: how many cells it has, where it is halved, and how the tallies of its parts make its own.
+#![tactic(auto)]
+
+pub mod laws;
+pub mod parts;
+
+pub use laws::{lines_repeat, parts_are_smaller, tallies_of_parts_add, tallies_of_whole_windows};
+pub use parts::{count_of, first_line, parts_at};
