@@ -47,11 +47,11 @@ module _ {Before After : ℤ → Type 0} {near middle far : ℤ} (move : Advance
   ]
 
   -- what is gained goes to the far column of its row, and all else stays
-  goes : (h : Half) → IsGained h ⊎ (IsGained h → ⊥) → Half
+  abbrev goes : (h : Half) → IsGained h ⊎ (IsGained h → ⊥) → Half
   goes h (inl g) = spot far h.v
   goes h (inr n) = h
 
-  pub place : Half → Half
+  abbrev place : Half → Half
   place h = goes h (gained_or_not h)
 
   -- a set that is alike has the new place
