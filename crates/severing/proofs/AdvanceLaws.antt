@@ -75,6 +75,7 @@ pub record IsMiddle (i : ℤ) (s : ℕ) (middle : ℤ) : Type 0 where
   pub not_both : (x : ℤ) → IsWithin x middle (pos 1) → IsUnder i s x → IsUnder (i +ℤ pos 1) s x → ⊥
   pub changes : (edge : ℤ) → IsEdgeOf middle edge → IsChange edge s (i +ℤ pos 1)
 
+-- the middles at the high end of the defect, and at the low one
 pub front_middle : (i : ℤ) (s : ℕ) → 1 ≤ s → IsMiddle i s (i +ℤ i +ℤ pos 2 +ℤ pos s)
 front_middle i s some = record {
   centre = i +ℤ pos 1;

@@ -47,7 +47,7 @@ module _ {Before After : ℤ → Type 0} {first middle beyond : ℤ} (move : Adv
     | inr n ↦ inr (λ g. n g.1)
   ]
 
-  -- what is gained goes to the beyond column of its row, and all else stays
+  -- what is gained goes to the column beyond, in its row, and all else stays
   abbrev goes : (h : Half) → IsGained h ⊎ (IsGained h → ⊥) → Half
   goes h (inl g) = spot beyond h.v
   goes h (inr n) = h
@@ -81,7 +81,7 @@ module _ {Before After : ℤ → Type 0} {first middle beyond : ℤ} (move : Adv
           | inr e ↦ subst (λ z. Walk (Spared After) (spot beyond y) (spot z y)) (sym e) (step beyond_at (inl (refl, back)) (stay middle_at))
         ]
 
-    -- what lies beside what is gained, in its row, and is not gained, is the beyond one
+    -- what lies beside what is gained, in its row, and is neither gained nor was had before, lies beyond
     beyond_beside : (x z y : ℤ) → (x ≡ first) ⊎ (x ≡ middle) → Adjoins x z → IsIn low high y → (IsGained (spot z y) → ⊥) → Spared Before (spot z y) → z ≡ beyond
     beyond_beside x z y (inl e) a row n left = elim (move.beside_first z (subst (λ w. Adjoins w z) e a)) [
       | inl m ↦ absurd (n (inr m, row))

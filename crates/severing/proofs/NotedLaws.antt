@@ -52,9 +52,11 @@ module _ (axis : Axis) (zone : Rect) (side : ℕ) (x y : ℤ) (here : Has zone (
         ];
       }
 
+  -- a box is alike where it is steady, where it is far, and where all defects have it
   steady_box : (one : HalfBox) → ((w : ℤ) → ChangesAt axis zone side one w → ⊥) → IsAlike one
   steady_box one steady w z v near_w near_z row =
-      let no_edge : (edge : ℤ) → (edge ≡ (span_along axis one).low) ⊎ (edge ≡ (span_along axis one).high) → IsEdgeOf middle edge → ⊥ = λ edge which e. steady (x +ℤ pos 1) (changes_at one edge which e) in
+      let no_edge : (edge : ℤ) → (edge ≡ (span_along axis one).low) ⊎ (edge ≡ (span_along axis one).high) → IsEdgeOf middle edge → ⊥ =
+      λ edge which e. steady (x +ℤ pos 1) (changes_at one edge which e) in
       has_along axis one w z v (all_three _ _ middle w z (no_edge _ (inl refl)) (no_edge _ (inr refl)) near_w near_z)
 
   -- the half square in the middle of a row of the defects is one that a defect has

@@ -19,5 +19,6 @@ parted_by f terminals walks parted = record {
   apart = λ p q in_p in_q w. parted.apart (f p) (f q) (terminals parted.one p in_p) (terminals parted.other q in_q) (walks p q w);
 }
 
+-- the removal of more parts what the removal of less does
 pub parted_grows : {on : Half → Type 0} {count : ℕ} {terminal : ℕ → Half → Type 0} {R S : Half → Type 0} → ((h : Half) → R h → S h) → IsParted on count terminal R → IsParted on count terminal S
 parted_grows more = parted_by (λ h. h) (λ k h is. is) (λ p q. within (λ h left. (left.0, λ gone. left.1 (more h gone))))

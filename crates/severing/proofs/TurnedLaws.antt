@@ -61,11 +61,13 @@ pub has_along : (axis : Axis) (one : HalfBox) (x w y : ℤ) → (IsIn (span_alon
 has_along X one x w y f h = record { across = f h.across; up = h.up }
 has_along Y one x w y f h = record { across = h.across; up = f h.up }
 
+-- nothing of a far box is beside what a defect has
 pub far_turned : (axis : Axis) (zone : Rect) (side : ℕ) (one : HalfBox) → IsFar zone side one → (h g : Half) → HasHalf one (turned axis h) → IsReached zone side (turned axis g)
     → IsWithin h.u g.u (pos 1) → IsWithin h.v g.v (pos 1) → ⊥
 far_turned X zone side one far h g has hit p q = far h g has hit p q
 far_turned Y zone side one far h g has hit p q = far (turned Y h) (turned Y g) has hit q p
 
+-- cells of the zone by their places along the axis
 pub along_zone : (axis : Axis) (zone : Rect) (x y : ℤ) → Has zone (cell_at axis x y) → IsIn (low_along axis zone) (high_along axis zone) x
 along_zone X zone x y h = h.across
 along_zone Y zone x y h = h.up
