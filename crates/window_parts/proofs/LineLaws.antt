@@ -1,5 +1,5 @@
 -- lines of cells: where a property does not change along an axis, the window's tally is that of its first line, so many times
-use Rattle.std.proofs.Common.{ℕ, suc, ◌+◌, ◌*◌, ◌≡◌, refl, sym, ap, subst, List, [], ◌∷◌, ◌++◌, length, arith, ℤ, pos, ◌+ℤ◌, ◌-ℤ◌, Contains, map}
+use Rattle.std.proofs.Common.{ℕ, suc, ◌+◌, ◌*◌, ◌≡◌, refl, ap, subst, List, [], ◌∷◌, arith, ℤ, pos, ◌+ℤ◌, ◌-ℤ◌, Contains, map}
 use Rattle.std.proofs.lemmas.List.{append-nil}
 use Rattle.lists.proofs.Words.{flat_map, ints}
 use Rattle.lists.proofs.Containing.{Contains-head, Contains-tail}
@@ -8,13 +8,12 @@ use Rattle.geo_core.specs.declared.axis.Axis.{Axis}
 use Rattle.geo_core.specs.declared.axis.Axis.TheVariants.{X, Y}
 use Rattle.geo_core.specs.declared.plane.Cell.{Cell}
 use Rattle.geo_core.specs.declared.plane.Rect.{Rect}
-use Rattle.geo_core.proofs.RectLaws.{AllIn, same_cells_same_rect}
-use Rattle.geo_core.specs.declared.bounds.TheConstants.{FARTHEST_GROWN}
+use Rattle.geo_core.proofs.RectLaws.{same_cells_same_rect}
 use Rattle.fault_model.specs.FaultNames.{Tally, none, hit, miss, from, or_zero, range, row, cells_of}
 use Rattle.fault_model.proofs.RangeLaws.{Contains-range, Tally-all, Tally-never, Tally-times, or_zero_is}
 use Rattle.fault_model.proofs.TallyLaws.{Tally-append}
 use Rattle.window_parts.proofs.PartLaws.{HasEnds, by_ends, from_ends}
-use Rattle.window_parts.specs.WindowParts.{AreInLine, IsFirstLine, count_along, place_along}
+use Rattle.window_parts.specs.WindowParts.{AreInLine, IsFirstLine, count_along}
 
 abbrev cell : ℤ → ℤ → Cell
 cell j i = record { i = i; j = j }
@@ -78,19 +77,19 @@ module _ (window line : Rect) where
   pub first_across : HasEnds line window.x0 window.y0 (window.x0 +ℤ pos 1) window.y1 → IsFirstLine X window line
   first_across s = record {
     cells = λ c. (
-        λ h. let e = by_ends s c h in let a = e.0.from in let b = e.0.before in let w = window.across.some in
-            (record { across = record { from = a; before = omega (arith, ints) }; up = e.1 }, omega (arith, ints)),
-        λ h. let e = h.1 in from_ends s c (record { from = omega (arith, ints); before = omega (arith, ints) }) h.0.up,
-      );
+      λ h. let e = by_ends s c h in let a = e.0.from in let b = e.0.before in let w = window.across.some in
+          (record { across = record { from = a; before = omega (arith, ints) }; up = e.1 }, omega (arith, ints)),
+      λ h. let e = h.1 in from_ends s c (record { from = omega (arith, ints); before = omega (arith, ints) }) h.0.up,
+    );
   }
 
   pub first_up : HasEnds line window.x0 window.y0 window.x1 (window.y0 +ℤ pos 1) → IsFirstLine Y window line
   first_up s = record {
     cells = λ c. (
-        λ h. let e = by_ends s c h in let a = e.1.from in let b = e.1.before in let w = window.up.some in
-            (record { across = e.0; up = record { from = a; before = omega (arith, ints) } }, omega (arith, ints)),
-        λ h. let e = h.1 in from_ends s c h.0.across (record { from = omega (arith, ints); before = omega (arith, ints) }),
-      );
+      λ h. let e = by_ends s c h in let a = e.1.from in let b = e.1.before in let w = window.up.some in
+          (record { across = e.0; up = record { from = a; before = omega (arith, ints) } }, omega (arith, ints)),
+      λ h. let e = h.1 in from_ends s c h.0.across (record { from = omega (arith, ints); before = omega (arith, ints) }),
+    );
   }
 
 -- no other rectangle has these cells
