@@ -2,5 +2,6 @@ pub mod BoxLaws
 pub mod FootprintLaws
 pub mod OutsideLaws
 pub mod RankLaws
+pub mod ScanLaws
 pub mod SpanLaws
 pub mod TouchLaws

@@ -4,9 +4,13 @@ ghost use Rattle.half_boxes.specs.HalfBoxes.{AreTouchingBoxes};
 
 use super::boxes::HalfBox;
 use super::ranks::ranked;
+use super::scan::touching_pairs;
 use geo_core::NoMemory;
 use std::alloc::Global;
 use touch_sweep::touch_links;
+
+/// Up to so many boxes are compared with one another, which is faster there.
+const SHORT_LIST: usize = 256;
 
 /// Some pairs of boxes that touch, by which all that touch are joined: where two boxes touch, a chain of the pairs leads
 /// from the one to the other. Boxes touch where they have a half square in common, or two half squares that share an
@@ -23,6 +27,9 @@ pub fn links_of(alloc: Global, boxes: &[HalfBox]) -> Result<Vec<(usize, usize)>,
     ensures few { IfOk result (λ pairs. (levels : ℕ) → length boxes.now ≤ 2 ^ levels →
         length pairs.items ≤ 51 * length boxes.now * (levels + 1)) }
 {
+    if boxes.len() <= SHORT_LIST {
+        return touching_pairs(alloc, boxes);
+    }
     let rects = ranked(alloc, boxes)?;
     touch_links(alloc, rects.as_slice())
 }
