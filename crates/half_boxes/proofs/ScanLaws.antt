@@ -1,6 +1,8 @@
 -- what a scan over boxes with their numbers adds to the pairs
-use Rattle.std.proofs.Common.{ℕ, ◌+◌, ◌*◌, ◌<◌, ◌≤◌, ◌≡◌, refl, sym, ap, subst, ◌∙◌, List, [], ◌∷◌, ◌++◌, length, length-append, get_or, drop, take, take_all, suc, arith, inl, inr, ◌⊎◌, Some, Contains, slice_get, ◌≤ℤ◌, ◌<ℤ◌, ◌↔◌}
-use Rattle.lists.proofs.Words.{eqb_tells, ints, length-take, take-append-drop, IsPermutation, IsPermutation-sym, Contains-permutation, Contains-append_left, Contains-append_right, Contains-append_cases, Contains-push, Contains-push_cases, slice_get_within}
+use Rattle.std.proofs.Common.{ℕ, ◌+◌, ◌*◌, ◌<◌, ◌≤◌, ◌≡◌, refl, sym, ap, subst, ◌∙◌, List, [], ◌∷◌, ◌++◌, length}
+use Rattle.std.proofs.Common.{length-append, get_or, drop, take, take_all, suc, arith, inl, inr, ◌⊎◌, Some, Contains, slice_get, ◌≤ℤ◌, ◌<ℤ◌}
+use Rattle.lists.proofs.Words.{ints, length-take, take-append-drop}
+use Rattle.lists.proofs.Words.{Contains-append_left, Contains-append_right, Contains-append_cases, Contains-push, Contains-push_cases}
 use Rattle.lists.proofs.Containing.{Contains-cons_cases, Contains-head, Contains-none, Contains-one, Contains-tail}
 use Rattle.lists.proofs.Differing.{AllPairs-tail, at_or_past}
 use Rattle.lists.proofs.Reading.{taken_more}
@@ -114,7 +116,8 @@ found_none entries by_column = record {
 pub later_in_order : (left : List Numbered) (x : Numbered) (rest : List Numbered) → left ≡ x ∷ rest → IsByColumn left → IsByColumn rest
 later_in_order left x rest e by_column = AllPairs-tail (λ a b. a.one.columns.low ≤ℤ b.one.columns.low) x rest (subst IsByColumn e by_column)
 
-pub found_next : (entries left : List Numbered) (x : Numbered) (rest : List Numbered) (old new : List (ℕ × ℕ)) → left ≡ x ∷ rest → AreFound entries left old → Adds x rest old new → AreFound entries rest new
+pub found_next : (entries left : List Numbered) (x : Numbered) (rest : List Numbered) (old new : List (ℕ × ℕ)) → left ≡ x ∷ rest
+    → AreFound entries left old → Adds x rest old new → AreFound entries rest new
 found_next entries left x rest old new e found adds = record {
   by_column = later_in_order left x rest e found.by_column;
   among = λ y c. among y (Contains-tail x rest y c);
@@ -135,7 +138,8 @@ found_next entries left x rest old new e found adds = record {
   among : (y : Numbered) → Contains (x ∷ rest) y → Contains entries y
   among y c = found.among y (subst (λ ys. Contains ys y) (sym e) c)
 
-  of_left : (a b : Numbered) → TouchHalves a.one b.one → (x ≡ a) ⊎ Contains rest a → (x ≡ b) ⊎ Contains rest b → (a.number ≡ b.number) ⊎ (IsPair new a.number b.number ⊎ (Contains rest a × Contains rest b))
+  of_left : (a b : Numbered) → TouchHalves a.one b.one → (x ≡ a) ⊎ Contains rest a → (x ≡ b) ⊎ Contains rest b
+      → (a.number ≡ b.number) ⊎ (IsPair new a.number b.number ⊎ (Contains rest a × Contains rest b))
   of_left a b t (inl p) (inl q) = inl (ap (λ (y : Numbered). y.number) (sym p ∙ q))
   of_left a b t (inl p) (inr d) =
       inr (inl (inl (subst (λ (y : Numbered). Contains new (y.number, b.number)) p (adds.all _ (record {
@@ -161,7 +165,8 @@ pub none_left : (entries left : List Numbered) (pairs : List (ℕ × ℕ)) → l
 none_left entries [] pairs e found = found
 none_left entries (x ∷ rest) pairs e found = absurd (omega arith)
 
-pub found_all : (boxes : List HalfBox) (entries : List Numbered) (pairs : List (ℕ × ℕ)) → AreNumbered boxes entries → length entries ≡ length boxes → AreFound entries [] pairs → AreTouchingPairs boxes pairs
+pub found_all : (boxes : List HalfBox) (entries : List Numbered) (pairs : List (ℕ × ℕ)) → AreNumbered boxes entries → length entries ≡ length boxes
+    → AreFound entries [] pairs → AreTouchingPairs boxes pairs
 found_all boxes entries pairs numbered as_many found = record {
   touching = λ a b c.
       let m = found.none_else (a, b) c in
@@ -185,46 +190,3 @@ found_all boxes entries pairs numbered as_many found = record {
       ];
   few = subst (λ n. length pairs ≤ n * n) as_many (let f = found.few in omega arith);
 }
-
--- ---- boxes with their numbers
-
--- exactly the first `n` boxes, each with its number
-abbrev pub AreFirstNumbered : List HalfBox → ℕ → List Numbered → Type 0
-AreFirstNumbered boxes n entries = (e : Numbered) → Contains entries e ↔ ((e.number < n) × (slice_get boxes e.number ≡ Some e.one))
-
-pub none_numbered : (boxes : List HalfBox) → AreFirstNumbered boxes 0 []
-none_numbered boxes e = (λ c. absurd (Contains-none c), λ h. absurd (let f = h.0 in omega arith))
-
-pub one_more_numbered : (boxes : List HalfBox) (n : ℕ) (one : HalfBox) (entries : List Numbered) → slice_get boxes n ≡ Some one → AreFirstNumbered boxes n entries
-    → AreFirstNumbered boxes (n + 1) (entries ++ record { number = n; one = one } ∷ [])
-one_more_numbered boxes n one entries at first e = (
-  λ c. elim (Contains-push_cases entries it e c) [
-    | inl d ↦ let h = (first e).0 d in let f = h.0 in (omega arith, h.1)
-    | inr same ↦ subst (λ (x : Numbered). (x.number < n + 1) × (slice_get boxes x.number ≡ Some x.one)) same (omega arith, at)
-  ],
-  λ h. elim (eqb_tells e.number n) [
-    | inl same ↦ subst (Contains (entries ++ it ∷ [])) (is_it h.1 same.1) (Contains-push entries it)
-    | inr other ↦ let f = h.0 in let g = other.1 in Contains-append_left entries (it ∷ []) e ((first e).1 (omega arith, h.1))
-  ],
-) where
-  it : Numbered
-  it = record { number = n; one = one }
-
-  is_it : slice_get boxes e.number ≡ Some e.one → e.number ≡ n → it ≡ e
-  is_it h same =
-      let one_is : one ≡ e.one = cc (at, h, ap (slice_get boxes) same) in
-      let make : ℕ → HalfBox → Numbered = λ k b. record { number = k; one = b } in
-      ap (λ k. make k one) (sym same) ∙ ap (make e.number) one_is
-
-pub all_numbered : (boxes : List HalfBox) (n : ℕ) (entries : List Numbered) → length boxes ≡ n → AreFirstNumbered boxes n entries → AreNumbered boxes entries
-all_numbered boxes n entries long first e = (
-  λ c. ((first e).0 c).1,
-  λ h. (first e).1 (let f = slice_get_within boxes e.number e.one h in omega arith, h),
-)
-
--- the order of the entries does not matter
-pub AreNumbered-permutation : (boxes : List HalfBox) (entries moved : List Numbered) → IsPermutation entries moved → AreNumbered boxes entries → AreNumbered boxes moved
-AreNumbered-permutation boxes entries moved p all e = (
-  λ c. (all e).0 (Contains-permutation moved entries e (IsPermutation-sym entries moved p) c),
-  λ h. Contains-permutation entries moved e p ((all e).1 h),
-)

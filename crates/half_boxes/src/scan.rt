@@ -1,4 +1,4 @@
-//! The pairs of boxes of a short list that touch: each box is compared with those that begin behind it, up to the first
+//! The pairs of boxes of a short list that touch: each box is compared with those that begin no earlier, up to the first
 //! one that begins behind its end.
 
 ghost use Rattle.std.specs.Prelude.{◌∷◌, [], length, IfOk, OnOk, ◌≡◌};

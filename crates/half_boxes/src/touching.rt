@@ -9,7 +9,7 @@ use geo_core::NoMemory;
 use std::alloc::Global;
 use touch_sweep::touch_links;
 
-/// Up to so many boxes are compared with one another, which is faster there.
+/// Lists of up to so many boxes are compared box by box, which is faster there than ranks and a sweep.
 const SHORT_LIST: usize = 256;
 
 /// Some pairs of boxes that touch, by which all that touch are joined: where two boxes touch, a chain of the pairs leads

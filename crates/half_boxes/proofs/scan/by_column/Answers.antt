@@ -1,7 +1,7 @@
 use Rattle.std.proofs.Common.{rules}
 use Rattle.lists.proofs.Sorting.{AllPairs-from_sort}
 use Rattle.half_boxes.specs.declared.scan.Numbered.{Numbered}
-use Rattle.half_boxes.proofs.ScanLaws.{AreNumbered-permutation}
+use Rattle.half_boxes.proofs.NumberLaws.{AreNumbered-permutation}
 use Rattle.half_boxes.proofs.scan.by_column.Goals as goal
 
 pub returns-clause-numbered : goal.returns-clause-numbered

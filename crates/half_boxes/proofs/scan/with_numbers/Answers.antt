@@ -1,7 +1,7 @@
 use Rattle.std.proofs.Common.{refl, arith, ap, length, List}
 use Rattle.lists.proofs.Words.{slice_get_read}
 use Rattle.half_boxes.specs.declared.scan.Numbered.{Numbered}
-use Rattle.half_boxes.proofs.ScanLaws.{none_numbered, one_more_numbered, all_numbered}
+use Rattle.half_boxes.proofs.NumberLaws.{none_numbered, one_more_numbered, all_numbered}
 use Rattle.half_boxes.proofs.scan.with_numbers.Goals as goal
 
 pub loop-number-init : goal.loop-number-init

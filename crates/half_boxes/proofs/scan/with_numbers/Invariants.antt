@@ -1,5 +1,5 @@
 use Rattle.std.proofs.Common.{length, ◌≡◌}
-use Rattle.half_boxes.proofs.ScanLaws.{AreFirstNumbered}
+use Rattle.half_boxes.proofs.NumberLaws.{AreFirstNumbered}
 use Rattle.half_boxes.proofs.scan.with_numbers.Given as goal
 
 abbrev pub invariant-loop-number : goal.invariant-loop-number

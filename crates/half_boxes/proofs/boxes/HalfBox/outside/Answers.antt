@@ -44,11 +44,13 @@ returns-in-None-clause-above c =
 pub returns-in-None-clause-left : goal.returns-in-None-clause-left
 returns-in-None-clause-left c =
     let rows = c.args.self.rows in let hole = c.args.hole in
-    none_beside c.args.self (λ v. IsIn hole.rows.low hole.rows.high v) (λ u. u <ℤ hole.columns.low) (rows_part c.args.self (λ v. IsIn hole.rows.low hole.rows.high v) c.clip.result None c.in-None.ensures
+    none_beside c.args.self (λ v. IsIn hole.rows.low hole.rows.high v) (λ u. u <ℤ hole.columns.low)
+    (rows_part c.args.self (λ v. IsIn hole.rows.low hole.rows.high v) c.clip.result None c.in-None.ensures
     (part_common rows.low rows.high hole.rows.low hole.rows.high c.clip.result c.clip.ensures.some c.clip.ensures.none))
 
 pub returns-in-None-clause-right : goal.returns-in-None-clause-right
 returns-in-None-clause-right c =
     let rows = c.args.self.rows in let hole = c.args.hole in
-    none_beside c.args.self (λ v. IsIn hole.rows.low hole.rows.high v) (λ u. hole.columns.high ≤ℤ u) (rows_part c.args.self (λ v. IsIn hole.rows.low hole.rows.high v) c.clip.result None c.in-None.ensures
+    none_beside c.args.self (λ v. IsIn hole.rows.low hole.rows.high v) (λ u. hole.columns.high ≤ℤ u)
+    (rows_part c.args.self (λ v. IsIn hole.rows.low hole.rows.high v) c.clip.result None c.in-None.ensures
     (part_common rows.low rows.high hole.rows.low hole.rows.high c.clip.result c.clip.ensures.some c.clip.ensures.none))
