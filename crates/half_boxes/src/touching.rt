@@ -17,7 +17,7 @@ const SHORT_LIST: usize = 256;
 /// edge; a common corner alone is not enough.
 ///
 /// Pairs come in no order, and may come more than once. Numbers are counted from 0. The only error is that no memory is
-/// left.
+/// left; it is the answer, too, where the boxes have more than 1,001,000,000 different edges along an axis.
 ///
 /// For n boxes there are at most 51 n (levels + 1) pairs, where n is at most 2 to the power of the levels.
 pub fn links_of(alloc: Global, boxes: &[HalfBox]) -> Result<Vec<(usize, usize)>, NoMemory>
