@@ -116,13 +116,16 @@ module _ (boxes : List HalfBox) (made : List Rect) (same : TouchAlike boxes made
 
 -- ---- short lists
 
-levels_of : (n levels : ℕ) → n ≤ 256 → n ≤ 2 ^ levels → n ≤ 51 * (levels + 1)
+-- a list that is short has no more pairs than a sweep may find
+levels_of : (n levels : ℕ) → n ≤ 400 → n ≤ 2 ^ levels → n ≤ 51 * (levels + 1)
 levels_of n zero h k = omega arith
 levels_of n (suc zero) h k = omega arith
 levels_of n (suc (suc zero)) h k = omega arith
 levels_of n (suc (suc (suc zero))) h k = omega arith
 levels_of n (suc (suc (suc (suc zero)))) h k = omega arith
-levels_of n (suc (suc (suc (suc (suc levels))))) h k = omega arith
+levels_of n (suc (suc (suc (suc (suc zero))))) h k = omega arith
+levels_of n (suc (suc (suc (suc (suc (suc zero)))))) h k = omega arith
+levels_of n (suc (suc (suc (suc (suc (suc (suc levels))))))) h k = omega arith
 
 module _ (boxes : List HalfBox) (pairs : List (ℕ × ℕ)) (found : AreTouchingPairs boxes pairs) where
   pub pairs_join : (a b : ℕ) → AreTouchingBoxes boxes a b → AreJoined (length boxes) pairs a b
@@ -133,5 +136,5 @@ module _ (boxes : List HalfBox) (pairs : List (ℕ × ℕ)) (found : AreTouching
         | inr pair ↦ step first pair (stay (slice_get_within boxes b t.other t.other_at))
       ]
 
-  pub pairs_few : length boxes ≤ 256 → (levels : ℕ) → length boxes ≤ 2 ^ levels → length pairs ≤ 51 * length boxes * (levels + 1)
+  pub pairs_few : length boxes ≤ 400 → (levels : ℕ) → length boxes ≤ 2 ^ levels → length pairs ≤ 51 * length boxes * (levels + 1)
   pairs_few short levels most = let few = found.few in let n = length boxes in omega (arith, mul-le-mul_left n (levels_of n levels short most))

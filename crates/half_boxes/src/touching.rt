@@ -10,7 +10,7 @@ use std::alloc::Global;
 use touch_sweep::touch_links;
 
 /// Lists of up to so many boxes are compared box by box, which is faster there than ranks and a sweep.
-const SHORT_LIST: usize = 256;
+const SHORT_LIST: usize = 400;
 
 /// Some pairs of boxes that touch, by which all that touch are joined: where two boxes touch, a chain of the pairs leads
 /// from the one to the other. Boxes touch where they have a half square in common, or two half squares that share an
