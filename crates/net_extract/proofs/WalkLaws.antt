@@ -9,7 +9,7 @@ use Rattle.geo_core.specs.declared.plane.Cell.{Cell}
 use Rattle.geo_core.specs.declared.plane.Half.{Half}
 use Rattle.geo_core.specs.declared.plane.Labelled.{Labelled}
 use Rattle.geo_core.specs.declared.plane.Rect.{Rect}
-use Rattle.fault_model.specs.FaultNames.{LiesIn, IsOn, Neighbours, Cut, Place, Joins, IsContact, IsOnMetal, NetStep, along, through, NetWalk, Walk}
+use Rattle.fault_model.specs.FaultNames.{LiesIn, IsOn, Neighbours, Cut, Place, Joins, IsOnMetal, NetStep, along, through, NetWalk, Walk}
 use Rattle.fault_model.proofs.HalfLaws.{cell_on, some_half}
 use Rattle.fault_model.specs.Nets.{JoinMetals}
 use Rattle.fault_model.proofs.NetLaws.{on_metal, step_keeps}
