@@ -1,29 +1,25 @@
 -- the bounds of rectangles, one after the other, and the window of lists of them
-use Rattle.std.proofs.Common.{ℕ, zero, suc, ◌+◌, ◌<◌, ◌≤◌, ◌≡◌, sym, subst, ◌∙◌, ap, List, [], ◌∷◌, ◌++◌, length, take, take_all, get_or, inl, inr, ℤ, pos, ◌↔◌, Option, Some, Contains}
-use Rattle.lists.proofs.Words.{append-nil, flat_map, flat_map-append, take_more, Contains-append_left, Contains-append_right, Contains-append_cases, Contains-push_cases, get_or_from_slice_get, slice_get-get_or}
+use Rattle.std.proofs.Common.{ℕ, zero, suc, ◌+◌, ◌<◌, ◌≡◌, sym, subst, ◌∙◌, ap, List, [], ◌∷◌, ◌++◌, length, take, get_or, inl, inr, ℤ, pos, ◌↔◌, Option, Some, Contains}
+use Rattle.lists.proofs.Words.{append-nil, flat_map, flat_map-append, get_or_from_slice_get, slice_get-get_or}
 use Rattle.geo_core.specs.Plane.{Has, ComesNear, IsInLayout, IsJoin, IsInUnion, IsCoveredIn}
 use Rattle.geo_core.specs.declared.plane.Cell.{Cell}
 use Rattle.geo_core.specs.declared.plane.Rect.{Rect}
 use Rattle.geo_core.proofs.RectLaws.{join_in_layout}
 use Rattle.fault_model.specs.FaultNames.{IsCovered, IsBoundsOf, IsWindow}
+-- crates above cite these from here
+pub use Rattle.fault_model.proofs.UnionLaws.{in_union, among_union}
+use Rattle.fault_model.proofs.UnionLaws.{union_append, union_one}
 use Rattle.critical_areas.specs.inside.LayoutBounds.{AreBounds}
-use Rattle.lists.proofs.Containing.{Contains-head, Contains-none, Contains-one, Contains-slice_get, Contains-tail, number_of}
+use Rattle.lists.proofs.Containing.{Contains-head, Contains-none, Contains-tail, number_of}
 use Rattle.lists.proofs.Mapping.{Contains-flat_map, Contains-flat_map_from}
 use Rattle.lists.proofs.Reading.{taken_more}
-
--- the union of rectangles, by what their list contains
-pub in_union : (rects : List Rect) (rect : Rect) (c : Cell) → Contains rects rect → Has rect c → IsInUnion rects c
-in_union rects rect c among has = let number = number_of rects rect among in record { number = number.0; rect = rect; at = number.1; has = has }
-
-pub among_union : (rects : List Rect) (c : Cell) → (v : IsInUnion rects c) → Contains rects v.rect
-among_union rects c v = Contains-slice_get rects v.number v.rect v.at
 
 -- the bounds of one rectangle
 pub one_bounds : (rect : Rect) → IsInLayout rect → AreBounds (rect ∷ []) (Some rect)
 one_bounds rect within = (
   record {
-    all_in = λ c v. subst (λ (one : Rect). Has one c) (sym (Contains-one rect v.rect (among_union (rect ∷ []) c v))) v.has;
-    least = λ other f c has. f c (in_union (rect ∷ []) rect c (Contains-head rect []) has);
+    all_in = λ c v. (union_one c rect).0 v;
+    least = λ other f c has. f c ((union_one c rect).1 has);
   },
   within,
 )
@@ -31,21 +27,11 @@ one_bounds rect within = (
 -- ---- two lists
 
 module _ (first second : List Rect) where
-  in_first : (c : Cell) → IsInUnion first c → IsInUnion (first ++ second) c
-  in_first c v = in_union (first ++ second) v.rect c (Contains-append_left first second v.rect (among_union first c v)) v.has
-
-  in_second : (c : Cell) → IsInUnion second c → IsInUnion (first ++ second) c
-  in_second c v = in_union (first ++ second) v.rect c (Contains-append_right first second v.rect (among_union second c v)) v.has
-
   pub joined_bounds : (a b box : Rect) → IsJoin a b box → AreBounds first (Some a) → AreBounds second (Some b) → AreBounds (first ++ second) (Some box)
   joined_bounds a b box j p q = (
     record {
-      all_in = λ c v.
-          elim (Contains-append_cases first second v.rect (among_union (first ++ second) c v)) [
-            | inl before ↦ j.first c (p.0.all_in c (in_union first v.rect c before v.has))
-            | inr behind ↦ j.second c (q.0.all_in c (in_union second v.rect c behind v.has))
-          ];
-      least = λ other f. j.least other (p.0.least other (λ c v. f c (in_first c v))) (q.0.least other (λ c v. f c (in_second c v)));
+      all_in = λ c v. elim ((union_append c first second).0 v) [ inl before ↦ j.first c (p.0.all_in c before) | inr behind ↦ j.second c (q.0.all_in c behind) ];
+      least = λ other f. j.least other (p.0.least other (λ c v. f c ((union_append c first second).1 (inl v)))) (q.0.least other (λ c v. f c ((union_append c first second).1 (inr v))));
     },
     join_in_layout a b box j p.1 q.1,
   )

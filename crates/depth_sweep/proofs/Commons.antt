@@ -7,7 +7,7 @@ use Rattle.geo_core.specs.declared.plane.Rect.{Rect}
 use Rattle.depth_sweep.specs.inside.Skylines.{GainsCommon, IsActiveIn, IsActiveOver, IsBelow, IsCommonFrom, IsSkyline, IsUnder}
 use Rattle.depth_sweep.specs.declared.skyline.Skyline.{Skyline}
 use Rattle.depth_sweep.proofs.Primitives.{over_column}
-use Rattle.depth_sweep.proofs.UnionSteps.{union_push}
+use Rattle.fault_model.proofs.UnionLaws.{union_push}
 
 -- what a rectangle has in common with one that begins no higher begins where it begins
 common_level : (active rect part : Rect) → active.y0 ≤ℤ rect.y0 → ((c : Cell) → Has part c ↔ (Has active c × Has rect c)) → part.y0 ≡ rect.y0

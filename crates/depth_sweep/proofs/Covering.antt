@@ -7,7 +7,7 @@ use Rattle.geo_core.specs.declared.plane.Rect.{Rect}
 use Rattle.depth_sweep.specs.Runs.{AreByRow}
 use Rattle.depth_sweep.specs.inside.Skylines.{IsBelow, IsSkyline, IsUnder}
 use Rattle.depth_sweep.specs.declared.skyline.Skyline.{Skyline}
-use Rattle.depth_sweep.proofs.UnionSteps.{union_more, union_none}
+use Rattle.fault_model.proofs.UnionLaws.{union_more, union_none}
 
 pub below_higher : (row higher : ℤ) (s : Skyline) → row ≤ℤ higher → IsBelow row s → IsBelow higher s
 below_higher row higher s up h = record {

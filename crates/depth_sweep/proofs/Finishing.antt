@@ -10,7 +10,7 @@ use Rattle.depth_sweep.specs.declared.skyline.Skyline.{Skyline}
 use Rattle.depth_sweep.proofs.Entries.{changes_from_updates}
 use Rattle.depth_sweep.proofs.Primitives.{finished, taken_out, with_active}
 use Rattle.depth_sweep.proofs.Searches.{active_at}
-use Rattle.depth_sweep.proofs.UnionSteps.{among, in_union}
+use Rattle.fault_model.proofs.UnionLaws.{among_union, in_union}
 
 -- the skyline has the cells of another one
 pub record IsFinishing (old now : Skyline) : Type 0 where
@@ -39,11 +39,11 @@ no_entry test (e ∷ es) q none at = none (omega arith)
 pub all_finished : (first : Skyline) (map : BTreeMap ℤ Rect) (runs : Vec Rect Global) → IsFinishing first (record { active = map; runs = runs }) → (0 < btree_map_len map → ⊥)
     → (c : Cell) → IsInUnion runs.items c ↔ IsUnder first c
 all_finished first map runs f none c = (
-  λ u. (f.cells c).0 (record { rect = u.rect; part = inr (among c runs.items u); has = u.has }),
+  λ u. (f.cells c).0 (record { rect = u.rect; part = inr (among_union runs.items c u); has = u.has }),
   λ u.
       let v = (f.cells c).1 u in
       elim v.part [
         | inl at ↦ absurd (no_entry (is_at (int_cmp v.rect.x0)) map.entries v.rect none at)
-        | inr done ↦ in_union c runs.items v.rect done v.has
+        | inr done ↦ in_union runs.items v.rect c done v.has
       ],
 )

@@ -7,7 +7,6 @@ pub mod Searches
 pub mod Joining
 pub mod Resting
 pub mod Adding
-pub mod UnionSteps
 pub mod Finishing
 pub mod Commons
 pub mod Covering

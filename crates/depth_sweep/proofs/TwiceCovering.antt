@@ -9,7 +9,7 @@ use Rattle.depth_sweep.specs.inside.Skylines.{IsBelow, IsSkyline, IsUnder}
 use Rattle.depth_sweep.specs.declared.skyline.Skyline.{Skyline}
 use Rattle.depth_sweep.proofs.Covering.{IsUnionTo, below_higher, union_all}
 use Rattle.depth_sweep.proofs.TwiceSteps.{two_more, two_none, two_permutation}
-use Rattle.depth_sweep.proofs.UnionSteps.{union_permutation}
+use Rattle.fault_model.proofs.UnionLaws.{union_permutation}
 
 pub record IsTwiceTo (once twice : Skyline) (rects : List Rect) (i : ℕ) : Type 0 where
   pub union : IsUnionTo once rects i

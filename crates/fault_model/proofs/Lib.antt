@@ -1,5 +1,6 @@
 pub mod HalfLaws
 pub mod LineLaws
+pub mod UnionLaws
 pub mod WalkLaws
 pub mod ListWalkLaws
 pub mod ChainLaws

@@ -14,7 +14,7 @@ end_below : (cut : Cut) (m n metals : ℕ) → (cut.lower < metals) × (cut.uppe
 end_below cut m n metals b (inl j) = omega arith
 end_below cut m n metals b (inr j) = omega arith
 
-step_keeps : {covers : ℕ → Cell → Type 0} {cuts : List Cut} (metals : ℕ) → JoinMetals metals cuts → (p q : Place) → NetStep covers cuts p q → p.metal < metals → q.metal < metals
+pub step_keeps : {covers : ℕ → Cell → Type 0} {cuts : List Cut} (metals : ℕ) → JoinMetals metals cuts → (p q : Place) → NetStep covers cuts p q → p.metal < metals → q.metal < metals
 step_keeps metals all p q (along e n) b = omega arith
 step_keeps metals all p q (through cut has joins e on) b = end_below cut p.metal q.metal metals (all cut has) joins
 

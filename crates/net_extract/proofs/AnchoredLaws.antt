@@ -1,6 +1,6 @@
 -- islands with their anchors
-use Rattle.std.proofs.Common.{ℕ, ◌+◌, ◌<◌, ◌≤◌, ◌≡◌, ◌≢◌, refl, sym, ap, ◌∙◌, subst, List, [], ◌∷◌, ◌++◌, Bool, true, false, ◌&&◌, length, get_or, take, arith, inl, inr, All, ◌==◌, Contains, filter, nat_le}
-use Rattle.lists.proofs.Words.{AllZip, Decides-eqb, leb_tells, append-nil, All-nil, All-cons, All-contains, filter_more, filter_passes, AllPairs-filter, and_parts}
+use Rattle.std.proofs.Common.{ℕ, ◌+◌, ◌<◌, ◌≤◌, ◌≡◌, ◌≢◌, sym, ap, ◌∙◌, subst, List, [], ◌∷◌, ◌++◌, Bool, true, false, ◌&&◌, length, get_or, take, arith, inl, inr, All, ◌==◌, Contains, filter, nat_le}
+use Rattle.lists.proofs.Words.{AllZip, Decides-eqb, leb_tells, append-nil, All-nil, All-cons, filter_more, filter_passes, AllPairs-filter, and_parts}
 use Rattle.paths.proofs.PathLaws.{within}
 use Rattle.geo_core.specs.Plane.{Has, IsInUnion}
 use Rattle.geo_core.specs.declared.plane.Cell.{Cell}
@@ -8,6 +8,7 @@ use Rattle.geo_core.specs.declared.plane.Rect.{Rect}
 use Rattle.lists.specs.Differing.{AreDifferent}
 use Rattle.net_extract.specs.AnchoredIslands.{rects_of_island, anchors_of_island, IsIslandNumbered, AreAnchoredIslands, AreDifferentCarried}
 use Rattle.fault_model.specs.FaultNames.{IslandLists}
+use Rattle.fault_model.proofs.UnionLaws.{in_union, among_union}
 use Rattle.fault_model.specs.IslandLists.{IsAnchoredIsland}
 use Rattle.net_extract.specs.NetFacts.{AreNets}
 use Rattle.net_extract.specs.NetLists.{NetLists, IsIslandCell, pieces_on}
@@ -15,7 +16,7 @@ use Rattle.net_extract.specs.declared.pieces.Anchor.{Anchor}
 use Rattle.net_extract.specs.declared.pieces.Piece.{Piece}
 use Rattle.lists.proofs.Pairing.{AllZip-push}
 use Rattle.net_extract.proofs.MadeLaws.{place_of}
-use Rattle.lists.proofs.Containing.{Contains-slice_get, number_of, some_item}
+use Rattle.lists.proofs.Containing.{Contains-slice_get, some_item}
 use Rattle.lists.proofs.Differing.{AllPairs-map, AllPairs-unmap}
 use Rattle.lists.proofs.Filtering.{Contains-filter, Contains-filter_passes, Contains-from_filter}
 use Rattle.lists.proofs.Mapping.{Contains-map, Contains-map_from}
@@ -51,7 +52,7 @@ module _ (nets : NetLists) (metal : ℕ) where
 
     island_cell : (c : Cell) → IsInUnion rects c → IsIslandCell nets metal number c
     island_cell c v =
-        let found = Contains-map_from (λ (piece : Piece). piece.rect) (filter of_island (pieces_on nets metal)) v.rect (Contains-slice_get rects v.number v.rect v.at) in
+        let found = Contains-map_from (λ (piece : Piece). piece.rect) (filter of_island (pieces_on nets metal)) v.rect (among_union rects c v) in
         record {
           piece = found.0;
           among = Contains-from_filter of_island (pieces_on nets metal) found.0 found.1;
@@ -62,8 +63,7 @@ module _ (nets : NetLists) (metal : ℕ) where
     in_rects : (c : Cell) → IsIslandCell nets metal number c → IsInUnion rects c
     in_rects c v =
         let kept = Contains-filter of_island (pieces_on nets metal) v.piece v.among ((Decides-eqb v.piece.island number).1 v.carries) in
-        let listed = number_of rects v.piece.rect (Contains-map (λ (piece : Piece). piece.rect) (filter of_island (pieces_on nets metal)) v.piece kept) in
-        record { number = listed.0; rect = v.piece.rect; at = listed.1; has = v.has }
+        in_union rects v.piece.rect c (Contains-map (λ (piece : Piece). piece.rect) (filter of_island (pieces_on nets metal)) v.piece kept) v.has
 
     -- an anchor's cell, by its anchor
     record IsAnchored (c : Cell) : Type 0 where

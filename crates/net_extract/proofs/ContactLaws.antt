@@ -10,7 +10,7 @@ use Rattle.net_extract.specs.inside.LabelledCells.{HasLabelled, AreMeetings, Are
 use Rattle.net_extract.specs.inside.Numbering.{AreContactLists, islands_on}
 use Rattle.net_extract.specs.declared.pieces.ContactPiece.{ContactPiece}
 use Rattle.net_extract.proofs.MetalLaws.{at_old, at_new, before_or_past}
-use Rattle.lists.proofs.Containing.{Contains-slice_get, number_of}
+use Rattle.fault_model.proofs.UnionLaws.{in_union, among_union}
 use Rattle.lists.proofs.Mapping.{Contains-map, Contains-map_from}
 
 -- what a meeting is a part of, on the upper side
@@ -22,13 +22,12 @@ alike rect = record { rect = rect; label = 0 }
 
 module _ (cut : List Rect) where
   alike_cell : (c : Cell) → IsInUnion cut c → HasLabelled (map alike cut) 0 c
-  alike_cell c v = record { labelled = alike v.rect; among = Contains-map alike cut v.rect (Contains-slice_get cut v.number v.rect v.at); carries = refl; has = v.has }
+  alike_cell c v = record { labelled = alike v.rect; among = Contains-map alike cut v.rect (among_union cut c v); carries = refl; has = v.has }
 
   cut_cell : (i : ℕ) (c : Cell) → HasLabelled (map alike cut) i c → IsInUnion cut c
   cut_cell i c h =
       let found = Contains-map_from alike cut h.labelled h.among in
-      let number = number_of cut found.0 found.1 in
-      record { number = number.0; rect = found.0; at = number.1; has = subst (λ (l : Labelled). Has l.rect c) (sym found.2) h.has }
+      in_union cut found.0 c found.1 (subst (λ (l : Labelled). Has l.rect c) (sym found.2) h.has)
 
   pub parts_are : (rects like parts : List Labelled) (met : List ContactPiece) → like ≡ map alike cut → AreMeetings like rects met → parts ≡ map part_of met → ArePartsIn cut rects parts
   parts_are rects like parts met e are f i c = (

@@ -3,11 +3,11 @@ use Rattle.std.proofs.Common.{ℕ, ◌+◌, ◌<◌, ◌≤◌, ◌≡◌, sym, 
 use Rattle.lists.proofs.Words.{IsPermutation, IsPermutation-sym, Contains-permutation, All-contains, Contains-append_cases, Contains-append_left, Contains-append_right, leb_tells, get_or_from_slice_get, length-drop}
 use Rattle.std.proofs.Math.Seq.{take-add}
 use Rattle.depth_sweep.specs.Runs.{HaveSameCells}
-use Rattle.geo_core.specs.Plane.{Has, IsInUnion}
+use Rattle.geo_core.specs.Plane.{Has}
 use Rattle.geo_core.specs.declared.plane.Cell.{Cell}
 use Rattle.geo_core.specs.declared.plane.Labelled.{Labelled}
 use Rattle.geo_core.specs.declared.plane.Rect.{Rect}
-use Rattle.lists.proofs.Containing.{Contains-slice_get, number_of}
+use Rattle.fault_model.proofs.UnionLaws.{in_union, among_union}
 use Rattle.lists.proofs.Mapping.{Contains-map, Contains-map_from}
 use Rattle.net_extract.specs.inside.LabelledCells.{HasLabelled, HaveSameLabelled, ArePartsIn}
 use Rattle.net_extract.specs.inside.Numbering.{AreIslandsFrom}
@@ -45,9 +45,8 @@ pub merged_alike : (part : List Labelled) (label : ℕ) (rects merged : List Rec
 merged_alike part label rects merged e all same i c = (
   λ h.
       let found = Contains-map_from (with_label label) merged h.labelled h.among in
-      let number = number_of merged found.0 found.1 in
-      let v = (same c).0 (record { number = number.0; rect = found.0; at = number.1; has = subst (λ (l : Labelled). Has l.rect c) (sym found.2) h.has }) in
-      let from = Contains-map_from rect_of part v.rect (subst (λ rs. Contains rs v.rect) e (Contains-slice_get rects v.number v.rect v.at)) in
+      let v = (same c).0 (in_union merged found.0 c found.1 (subst (λ (l : Labelled). Has l.rect c) (sym found.2) h.has)) in
+      let from = Contains-map_from rect_of part v.rect (subst (λ rs. Contains rs v.rect) e (among_union rects c v)) in
       record {
         labelled = from.0;
         among = from.1;
@@ -56,11 +55,10 @@ merged_alike part label rects merged e all same i c = (
       },
   λ h.
       let listed = subst (λ rs. Contains rs h.labelled.rect) (sym e) (Contains-map rect_of part h.labelled h.among) in
-      let number = number_of rects h.labelled.rect listed in
-      let v = (same c).1 (record { number = number.0; rect = h.labelled.rect; at = number.1; has = h.has }) in
+      let v = (same c).1 (in_union rects h.labelled.rect c listed h.has) in
       record {
         labelled = with_label label v.rect;
-        among = Contains-map (with_label label) merged v.rect (Contains-slice_get merged v.number v.rect v.at);
+        among = Contains-map (with_label label) merged v.rect (among_union merged c v);
         carries = sym (All-contains (λ (one : Labelled). one.label ≡ label) part h.labelled all h.among) ∙ h.carries;
         has = v.has;
       },

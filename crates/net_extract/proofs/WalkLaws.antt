@@ -2,14 +2,17 @@
 use Rattle.std.proofs.Common.{ℕ, zero, suc, ◌+◌, ◌<◌, ◌≡◌, refl, sym, ap, ◌∙◌, subst, List, [], ◌∷◌, length, get_or, map, arith, inl, inr, ◌⊎◌, All, Contains, Some, slice_get}
 use Rattle.lists.proofs.Words.{enumerate_from, leb_tells, get_or_past, All-contains, Contains-get_or, slice_get_within, get_or_from_slice_get}
 use Rattle.paths.specs.Paths.{stay, step}
-use Rattle.paths.proofs.PathLaws.{first, append}
+use Rattle.paths.specs.Parts.{AreJoint, AreLinkedParts}
+use Rattle.paths.proofs.PartLaws.{chain_from_path, path_from_chain}
+use Rattle.paths.proofs.PathLaws.{first}
 use Rattle.geo_core.specs.declared.plane.Cell.{Cell}
 use Rattle.geo_core.specs.declared.plane.Half.{Half}
 use Rattle.geo_core.specs.declared.plane.Labelled.{Labelled}
 use Rattle.geo_core.specs.declared.plane.Rect.{Rect}
-use Rattle.fault_model.specs.FaultNames.{LiesIn, IsOn, Neighbours, Cut, Place, Joins, IsContact, IsOnMetal, NetStep, along, through, NetWalk, Walk}
+use Rattle.fault_model.specs.FaultNames.{LiesIn, IsOn, Neighbours, Cut, Place, Joins, IsOnMetal, NetStep, along, through, NetWalk, Walk}
 use Rattle.fault_model.proofs.HalfLaws.{cell_on, some_half}
-use Rattle.fault_model.proofs.NetLaws.{leads_back, on_metal, at_contact}
+use Rattle.fault_model.specs.Nets.{JoinMetals}
+use Rattle.fault_model.proofs.NetLaws.{on_metal, step_keeps}
 use Rattle.map_model.specs.MapNames.{MappedCut, JoinsMetals, mapped_cut}
 use Rattle.map_model.specs.declared.layers.Cut.{Cut as GivenCut}
 use Rattle.geo_core.specs.Plane.{IsCoveredIn}
@@ -126,112 +129,91 @@ module _ (lists : List (List Rect)) (metals count : ℕ) (islands : List (List L
   pub links_small : (i k : ℕ) → IsLink contacts i k → (i < count) × (k < count)
   links_small i k l = let a = link_at i k l in (are.below a.cut.lower i a.cell a.lower, are.below a.cut.upper k a.cell a.upper)
 
-  -- ---- from links to walks
+  -- ---- islands are parts of what the metals cover, and contact pieces link them
 
-  abbrev Walks : Place → Place → Type 0
-  Walks = NetWalk covers cuts
-
-  -- within an island
-  on_island : (i : ℕ) (p q : Place) → LiesOn i p → LiesOn i q → Walks p q
+  on_island : (i : ℕ) (p q : Place) → LiesOn i p → LiesOn i q → NetWalk covers cuts p q
   on_island i p q p_on q_on =
       let same = (are.joined p.metal q.metal i i p.half q.half p_on q_on).0 refl in
-      subst (λ m. Walks p (record { metal = m; half = q.half })) same.0 (on_metal covers cuts p.metal p.half q.half same.1)
-
-  -- places on the two islands of a link, between which a walk leads
-  record IsBridge (i k : ℕ) : Type 0 where
-    one : Place
-    other : Place
-    on_one : LiesOn i one
-    on_other : LiesOn k other
-    walk : Walks one other
-
-  bridge : (i k : ℕ) → IsLink contacts i k → IsBridge i k
-  bridge i k l =
-      let a = link_at i k l in
-      let half = some_half a.cell in
-      let one : Place = record { metal = a.cut.lower; half = half.0 } in
-      let other : Place = record { metal = a.cut.upper; half = half.0 } in
-      let on_one : LiesOn i one = (a.cell, half.1, a.lower) in
-      let on_other : LiesOn k other = (a.cell, half.1, a.upper) in
-      let contact : IsContact covers (behind metals given a.number a.cut) half.0 = ((a.cell, half.1, a.cut_has), lies_on_metal i one on_one, lies_on_metal k other on_other) in
-      record {
-        one = one;
-        other = other;
-        on_one = on_one;
-        on_other = on_other;
-        walk = at_contact covers cuts (behind metals given a.number a.cut) half.0 (Contains-slice_get cuts a.number _ (cut_listed metals given a.number a.cut a.at)) contact;
-      }
-
-  either_way : (i k : ℕ) → IsLink contacts i k ⊎ IsLink contacts k i → IsBridge i k
-  either_way i k (inl l) = bridge i k l
-  either_way i k (inr l) =
-      let b = bridge k i l in
-      record { one = b.other; other = b.one; on_one = b.on_other; on_other = b.on_one; walk = leads_back b.one b.other b.walk }
-
-  pub walk_from_links : (i k : ℕ) (p q : Place) → LiesOn i p → LiesOn k q → AreLinked count contacts i k → Walks p q
-  walk_from_links i k p q p_on q_on (stay small) = on_island i p q p_on q_on
-  walk_from_links i k p q p_on q_on (step {b = j} small l rest) =
-      let b = either_way i j l in
-      append (on_island i p b.one p_on b.on_one) (append b.walk (walk_from_links j k b.other q b.on_other q_on rest))
-
-  -- ---- from walks to links
+      subst (λ m. NetWalk covers cuts p (record { metal = m; half = q.half })) same.0 (on_metal covers cuts p.metal p.half q.half same.1)
 
   -- neighbours on a metal are of one island
   next_same : (m i j : ℕ) (p q : Half) → LiesOn i (record { metal = m; half = p }) → LiesOn j (record { metal = m; half = q }) → Neighbours p q → i ≡ j
   next_same m i j p q p_on q_on n =
       (are.joined m m i j p q p_on q_on).1 (refl, step (lies_on_metal i (record { metal = m; half = p }) p_on) n (stay (lies_on_metal j (record { metal = m; half = q }) q_on)))
 
-  one_island : (m i j : ℕ) (p : Half) → LiesOn i (record { metal = m; half = p }) → LiesOn j (record { metal = m; half = p }) → i ≡ j
-  one_island m i j p p_on q_on = (are.joined m m i j p p p_on q_on).1 (refl, stay (lies_on_metal i (record { metal = m; half = p }) p_on))
+  one_island : (i j : ℕ) (p : Place) → LiesOn i p → LiesOn j p → i ≡ j
+  one_island i j p p_on q_on = (are.joined p.metal p.metal i j p.half p.half p_on q_on).1 (refl, stay (lies_on_metal i p p_on))
 
-  -- one step of a net walk leads along an island or a link
-  abbrev IsStep : ℕ → Place → Type 0
-  IsStep i q = (j : ℕ) × LiesOn j q × ((i ≡ j) ⊎ (IsLink contacts i j ⊎ IsLink contacts j i))
-
-  through_cut : (i : ℕ) (p q : Place) (cut : Cut) → LiesOn i p → Contains cuts cut → Joins cut p.metal q.metal → p.half ≡ q.half → IsOn (covers cut.number) p.half → IsOnMetal covers q → IsStep i q
-  through_cut i p q cut (c, lies, h) has joining same on q_on =
+  cuts_join : JoinMetals metals cuts
+  cuts_join cut has =
       let number = number_of cuts cut has in
       let source = cut_given metals given number.0 cut number.1 in
-      let k = number.0 in
-      let joined = All-contains (JoinsMetals metals) given source.0 joins (Contains-slice_get given k source.0 source.1) in
-      let cut_has : covers (metals + k) c = subst (λ n. covers n c) (sym (ap (λ (x : Cut). x.number) source.2)) (cell_on p.half c lies on) in
+      let joined = All-contains (JoinsMetals metals) given source.0 joins (Contains-slice_get given number.0 source.0 source.1) in
+      let below = λ (m n : ℕ) (e : m ≡ n) (h : m < metals). subst (λ k. k < metals) e h in
+      (below _ _ (ap (λ (x : Cut). x.lower) source.2) joined.lower, below _ _ (ap (λ (x : Cut). x.upper) source.2) joined.upper)
+
+  abbrev Linked : ℕ → ℕ → Type 0
+  Linked i k = IsLink contacts i k ⊎ IsLink contacts k i
+
+  abbrev Joint : ℕ → ℕ → Type 0
+  Joint = AreJoint (NetStep covers cuts) LiesOn
+
+  -- a step through the cut, up and down
+  both_ways : (i k : ℕ) → IsLink contacts i k → Joint i k × Joint k i
+  both_ways i k l =
+      let a = link_at i k l in
+      let half = some_half a.cell in
+      let lower : Place = record { metal = a.cut.lower; half = half.0 } in
+      let upper : Place = record { metal = a.cut.upper; half = half.0 } in
+      let listed = Contains-slice_get cuts a.number (behind metals given a.number a.cut) (cut_listed metals given a.number a.cut a.at) in
+      let on : IsOn (covers (metals + a.number)) half.0 = (a.cell, half.1, a.cut_has) in
+      let on_lower : LiesOn i lower = (a.cell, half.1, a.lower) in
+      let on_upper : LiesOn k upper = (a.cell, half.1, a.upper) in (
+        (lower, upper, on_lower, on_upper, inr (through _ listed (inl (refl, refl)) refl on)),
+        (upper, lower, on_upper, on_lower, inr (through _ listed (inr (refl, refl)) refl on)),
+      )
+
+  joint : (i k : ℕ) → Linked i k → Joint i k
+  joint i k (inl l) = (both_ways i k l).0
+  joint i k (inr l) = (both_ways k i l).1
+
+  through_cut : (i k : ℕ) (p q : Place) (cut : Cut) → LiesOn i p → LiesOn k q → Contains cuts cut → Joins cut p.metal q.metal → p.half ≡ q.half → IsOn (covers cut.number) p.half → Linked i k
+  through_cut i k p q cut (c, lies, h) q_on has joining same on =
+      let number = number_of cuts cut has in
+      let source = cut_given metals given number.0 cut number.1 in
+      let link = link_from number.0 source.0 source.1 c (subst (λ n. covers n c) (sym (ap (λ (x : Cut). x.number) source.2)) (cell_on p.half c lies on)) in
       let lower_is : source.0.lower ≡ cut.lower = ap (λ (x : Cut). x.lower) source.2 in
       let upper_is : source.0.upper ≡ cut.upper = ap (λ (x : Cut). x.upper) source.2 in
-      let lies_q : LiesIn q.half c = subst (λ x. LiesIn x c) same lies in
-      let q_has = cell_on q.half c lies_q q_on in
+      let q_has = cell_on q.half c (subst (λ x. LiesIn x c) same lies) q_on in
+      let at = λ (m n j : ℕ) (e : m ≡ n) (g : HasLabelled (islands_on islands n) j c). subst (λ l. HasLabelled (islands_on islands l) j c) (sym e) g in
       elim joining [
-        | inl j ↦
-            let small : q.metal < metals = subst (λ m. m < metals) (upper_is ∙ j.1) joined.upper in
-            let found = (are.covered q.metal c small).1 q_has in
-            let lower = subst (λ m. HasLabelled (islands_on islands m) i c) (sym (lower_is ∙ j.0)) h in
-            let upper = subst (λ m. HasLabelled (islands_on islands m) found.0 c) (sym (upper_is ∙ j.1)) found.1 in
-            (found.0, (c, lies_q, found.1), inr (inl (link_from k source.0 source.1 c cut_has i found.0 lower upper)))
-        | inr j ↦
-            let small : q.metal < metals = subst (λ m. m < metals) (lower_is ∙ j.0) joined.lower in
-            let found = (are.covered q.metal c small).1 q_has in
-            let lower = subst (λ m. HasLabelled (islands_on islands m) found.0 c) (sym (lower_is ∙ j.0)) found.1 in
-            let upper = subst (λ m. HasLabelled (islands_on islands m) i c) (sym (upper_is ∙ j.1)) h in
-            (found.0, (c, lies_q, found.1), inr (inr (link_from k source.0 source.1 c cut_has found.0 i lower upper)))
+        | inl j ↦ inl (link i k (at _ p.metal i (lower_is ∙ j.0) h) (at _ q.metal k (upper_is ∙ j.1) q_has))
+        | inr j ↦ inr (link k i (at _ q.metal k (lower_is ∙ j.0) q_has) (at _ p.metal i (upper_is ∙ j.1) h))
       ]
 
-  one_step : (i : ℕ) (p q : Place) → LiesOn i p → NetStep covers cuts p q → IsOnMetal covers q → IsStep i q
-  one_step i p q p_on (along same n) q_on =
-      let small = metal_small p.metal i p_on.0 p_on.2 in
-      let found = some_island q (subst (λ m. m < metals) same small) q_on in
-      let back : LiesOn found.0 (record { metal = p.metal; half = q.half }) = subst (λ m. LiesOn found.0 (record { metal = m; half = q.half })) (sym same) found.1 in
-      (found.0, found.1, inl (next_same p.metal i found.0 p.half q.half p_on back n))
-  one_step i p q p_on (through cut has joining same on) q_on = through_cut i p q cut p_on has joining same on q_on
+  linked_by : (i k : ℕ) (p q : Place) → LiesOn i p → LiesOn k q → NetStep covers cuts p q → (i ≡ k) ⊎ Linked i k
+  linked_by i k p q p_on q_on (along same n) =
+      inl (next_same p.metal i k p.half q.half p_on (subst (λ m. LiesOn k (record { metal = m; half = q.half })) (sym same) q_on) n)
+  linked_by i k p q p_on q_on (through cut has joining same on) = inr (through_cut i k p q cut p_on q_on has joining same on)
 
-  pub links_from_walk : (i k : ℕ) (p q : Place) → LiesOn i p → LiesOn k q → Walks p q → AreLinked count contacts i k
-  links_from_walk i k p q p_on q_on (stay h) =
-      subst (λ n. AreLinked count contacts i n) (one_island p.metal i k p.half p_on q_on) (stay (number_small i p p_on))
-  links_from_walk i k p q p_on q_on (step {b = b} h e w) =
-      let next = one_step i p b p_on e (first w) in
-      let rest = links_from_walk next.0 k b q next.1 q_on w in
-      elim next.2 [
-        | inl same ↦ subst (λ n. AreLinked count contacts n k) (sym same) rest
-        | inr l ↦ step (number_small i p p_on) l rest
-      ]
+  linked : (i k : ℕ) → Joint i k → (i ≡ k) ⊎ Linked i k
+  linked i k (p, q, p_on, q_on, inl same) = inl (one_island i k p p_on (subst (LiesOn k) (sym same) q_on))
+  linked i k (p, q, p_on, q_on, inr e) = linked_by i k p q p_on q_on e
+
+  parts : AreLinkedParts (IsOnMetal covers) (NetStep covers cuts) (λ i. i < count) Linked LiesOn
+  parts = record {
+    is_part = number_small;
+    whole = on_island;
+    closed = λ i p q p_on e q_on. some_island q (step_keeps metals cuts_join p q e (metal_small p.metal i p_on.0 p_on.2)) q_on;
+    joint = joint;
+    linked = linked;
+  }
+
+  pub walk_from_links : (i k : ℕ) (p q : Place) → LiesOn i p → LiesOn k q → AreLinked count contacts i k → NetWalk covers cuts p q
+  walk_from_links = path_from_chain parts
+
+  pub links_from_walk : (i k : ℕ) (p q : Place) → LiesOn i p → LiesOn k q → NetWalk covers cuts p q → AreLinked count contacts i k
+  links_from_walk = chain_from_path parts
 
   -- a walk on a metal keeps to its island
   pub keeps_island : (m i : ℕ) (p q : Half) → LiesOn i (record { metal = m; half = p }) → Walk (IsOn (covers m)) p q → Walk (IsOn (HasLabelled (islands_on islands m) i)) p q

@@ -13,7 +13,7 @@ use Rattle.window_parts.proofs.PartLaws.{few_tallied, parts_tally, whole_tally}
 use Rattle.short_area.specs.Labels.{TouchesTwoLabels}
 use Rattle.short_area.specs.inside.LabelRuns.{AreRunsOf}
 use Rattle.short_area.specs.inside.Zones.{AreAlikeIn, AreSplit, AreZonesOf, HaveNoThird, HaveSameTwo, IsCountOf, IsInTwoLabels, IsWholeIn}
-use Rattle.short_area.proofs.RunLaws.{union_append}
+use Rattle.fault_model.proofs.UnionLaws.{union_append}
 use Rattle.short_area.proofs.Touching.{two_touched}
 use Rattle.short_area.proofs.ZoneLaws.{beside_whole, both_of_two, two_alike}
 

@@ -11,7 +11,7 @@ use Rattle.lists.proofs.Mapping.{Contains-map, Contains-map_from}
 use Rattle.lists.proofs.Reading.{taken_more}
 use Rattle.depth_sweep.specs.Runs.{AreApart, HaveSameCells, IsInTwo}
 use Rattle.depth_sweep.proofs.TwiceSteps.{two_none}
-use Rattle.depth_sweep.proofs.UnionSteps.{in_union, among, union_none}
+use Rattle.fault_model.proofs.UnionLaws.{in_union, among_union, union_append, union_none}
 use Rattle.short_area.specs.inside.LabelRuns.{AreRunsOf, AreRunsTo, GainsRuns, IsInZone}
 use Rattle.short_area.specs.inside.Zones.{IsInLabel, IsInTwoLabels}
 use Rattle.short_area.proofs.ZoneLaws.{label_append, label_none, two_alike}
@@ -24,18 +24,6 @@ number_cases (x ∷ xs) ys zero r at = inl at
 number_cases (x ∷ xs) ys (suc k) r at = elim (number_cases xs ys k r at) [ inl h ↦ inl h | inr h ↦ let e = h.1 in inr (h.0, omega arith, h.2) ]
 
 module _ (c : Cell) (xs ys : List Rect) where
-  pub union_append : IsInUnion (xs ++ ys) c ↔ (IsInUnion xs c ⊎ IsInUnion ys c)
-  union_append = (
-    λ u. elim (number_cases xs ys u.number u.rect u.at) [
-      | inl at ↦ inl (record { number = u.number; rect = u.rect; at = at; has = u.has })
-      | inr h ↦ inr (record { number = h.0; rect = u.rect; at = h.2; has = u.has })
-    ],
-    λ h. elim h [
-      | inl u ↦ record { number = u.number; rect = u.rect; at = slice_get-front xs ys u.number u.rect u.at; has = u.has }
-      | inr u ↦ record { number = length xs + u.number; rect = u.rect; at = slice_get-back xs ys u.number ∙ u.at; has = u.has }
-    ],
-  )
-
   -- two rectangles of both lists
   abbrev TwoOfBoth : Type 0
   TwoOfBoth = IsInTwo xs c ⊎ (IsInTwo ys c ⊎ (IsInUnion xs c × IsInUnion ys c))
@@ -107,13 +95,13 @@ rects_of = map (λ (zone : Labelled). zone.rect)
 module _ (c : Cell) (back : List Labelled) (label : ℕ) (alike : All (λ (zone : Labelled). zone.label ≡ label) back) where
   union_of_label : IsInUnion (rects_of back) c ↔ IsInLabel back label c
   union_of_label = (
-    λ u. let from = Contains-map_from (λ (zone : Labelled). zone.rect) back u.rect (among c (rects_of back) u) in record {
+    λ u. let from = Contains-map_from (λ (zone : Labelled). zone.rect) back u.rect (among_union (rects_of back) c u) in record {
       zone = from.0;
       among = from.1;
       labelled = All-contains (λ (zone : Labelled). zone.label ≡ label) back from.0 alike from.1;
       has = subst (λ (r : Rect). Has r c) (sym from.2) u.has;
     },
-    λ h. in_union c (rects_of back) h.zone.rect (Contains-map (λ (zone : Labelled). zone.rect) back h.zone h.among) h.has,
+    λ h. in_union (rects_of back) h.zone.rect c (Contains-map (λ (zone : Labelled). zone.rect) back h.zone h.among) h.has,
   )
 
   label_of : (which : ℕ) → IsInLabel back which c → which ≡ label

@@ -9,7 +9,7 @@ use Rattle.geo_core.specs.declared.plane.Rect.{Rect}
 use Rattle.lists.proofs.Comparing.{equal_or_not}
 use Rattle.lists.proofs.Containing.{Contains-none}
 use Rattle.lists.proofs.Reading.{taken_more}
-use Rattle.depth_sweep.proofs.UnionSteps.{union_none, union_push}
+use Rattle.fault_model.proofs.UnionLaws.{union_none, union_push}
 use Rattle.short_area.specs.inside.Zones.{AreAlikeIn, AreSplit, GainsZone, HaveNoThird, IsInLabel, IsInOthers, IsInside, IsInTwoLabels, IsWholeIn}
 
 module _ (c : Cell) where

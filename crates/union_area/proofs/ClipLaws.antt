@@ -6,9 +6,7 @@ use Rattle.geo_core.specs.declared.plane.Rect.{Rect}
 use Rattle.fault_model.specs.FaultNames.{Tally, cells_of}
 use Rattle.fault_model.proofs.CellLaws.{Contains-cells_of}
 use Rattle.fault_model.proofs.TallyLaws.{Tally-none, Tally-same}
--- crates above cite these from here
-pub use Rattle.depth_sweep.proofs.UnionSteps.{in_union, union_none, union_push}
-use Rattle.depth_sweep.proofs.UnionSteps.{among, union_more}
+use Rattle.fault_model.proofs.UnionLaws.{among_union, union_more, union_push}
 use Rattle.window_parts.proofs.PartLaws.{whole_tally}
 
 -- the one list has the cells of the other list that lie in the window
@@ -59,7 +57,7 @@ module _ (rects : List Rect) (window : Rect) (inside : List Rect) (clipped : Are
 
   -- nothing is left
   pub tally_none : length inside ≡ 0 → Tally (IsInUnion rects) (cells_of window) 0
-  tally_none e = tally_clipped 0 (Tally-none (cells_of window) (λ c listed u. let at = among c inside u in let small = at.1 in absurd (omega (arith, e))))
+  tally_none e = tally_clipped 0 (Tally-none (cells_of window) (λ c listed u. let at = among_union inside c u in let small = at.1 in absurd (omega (arith, e))))
 
   -- all of the window is left
   pub tally_all : ((c : Cell) → Has window c → IsInUnion inside c) → Tally (IsInUnion rects) (cells_of window) (length (cells_of window))

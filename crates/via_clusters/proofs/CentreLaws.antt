@@ -7,7 +7,7 @@ use Rattle.geo_core.specs.declared.plane.Half.{Half}
 use Rattle.geo_core.specs.declared.plane.Rect.{Rect}
 use Rattle.fault_model.specs.FaultNames.{IsOn}
 use Rattle.fault_model.proofs.HalfLaws.{halves_in, whole_in}
-use Rattle.union_area.proofs.ClipLaws.{union_none, union_push}
+use Rattle.fault_model.proofs.UnionLaws.{union_none, union_push}
 use Rattle.lists.proofs.Containing.{Contains-none}
 use Rattle.lists.proofs.Reading.{taken_more}
 use Rattle.via_clusters.specs.Blocks.{CoversBox, CoversSomeBox}

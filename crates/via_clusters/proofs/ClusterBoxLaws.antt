@@ -1,13 +1,13 @@
 -- the least rectangles of groups of contact pieces
 use Rattle.std.proofs.Common.{ℕ, ◌≡◌, sym, subst, List, [], ◌∷◌, ◌++◌, inl, inr, ◌↔◌, map, get_or, filter, All, Contains}
-use Rattle.lists.proofs.Words.{AllZip, All-head, All-tail, All-contains, Contains-get_or, Contains-push_cases, Contains-append_left, Contains-push}
-use Rattle.lists.proofs.Containing.{Contains-head, Contains-none, Contains-slice_get, Contains-tail, Contains-cons_cases, number_of}
+use Rattle.lists.proofs.Words.{AllZip, All-head, All-tail, All-contains, Contains-get_or}
 use Rattle.lists.proofs.Filtering.{Contains-filter, Contains-from_filter, Contains-filter_passes}
 use Rattle.lists.proofs.Mapping.{Contains-map, Contains-map_from}
 use Rattle.geo_core.specs.Plane.{Has, IsInUnion, IsJoin}
 use Rattle.geo_core.specs.declared.plane.Cell.{Cell}
 use Rattle.geo_core.specs.declared.plane.Rect.{Rect}
 use Rattle.fault_model.specs.FaultNames.{IsBoundsOf}
+use Rattle.fault_model.proofs.UnionLaws.{in_union, among_union, union_append, union_one, union_push}
 use Rattle.net_extract.specs.ContactGroups.{AreGroupsOf, carries_both, ends_of_group, rects_between}
 use Rattle.net_extract.specs.NetLists.{NetLists, contacts_of}
 use Rattle.net_extract.specs.declared.pieces.ContactGroup.{ContactGroup}
@@ -19,9 +19,6 @@ use Rattle.via_clusters.specs.Clusters.{AreClusterBoxes, IsClusterCell}
 
 -- ---- bounds of a list
 
-in_union : (rects : List Rect) (rect : Rect) (c : Cell) → Contains rects rect → Has rect c → IsInUnion rects c
-in_union rects rect c among has = let number = number_of rects rect among in record { number = number.0; rect = rect; at = number.1; has = has }
-
 -- the same set has the same bounds
 bounds_same : (one other : Cell → Type 0) (box : Rect) → ((c : Cell) → one c ↔ other c) → IsBoundsOf one box → IsBoundsOf other box
 bounds_same one other box same bounds = record {
@@ -31,33 +28,22 @@ bounds_same one other box same bounds = record {
 
 pub bounds_of_first : (first : Rect) → IsBoundsOf (IsInUnion (first ∷ [])) first
 bounds_of_first first = record {
-  all_in = λ c h. elim (Contains-cons_cases first [] h.rect (Contains-slice_get (first ∷ []) h.number h.rect h.at)) [
-    | inl e ↦ subst (λ r. Has r c) (sym e) h.has
-    | inr rest ↦ absurd (Contains-none rest)
-  ];
-  least = λ other all c h. all c (in_union (first ∷ []) first c (Contains-head first []) h);
+  all_in = λ c h. (union_one c first).0 h;
+  least = λ other all c h. all c ((union_one c first).1 h);
 }
 
 -- one more rectangle
 pub bounds_of_more : (rects : List Rect) (rect box joined : Rect) → IsBoundsOf (IsInUnion rects) box → IsJoin box rect joined → IsBoundsOf (IsInUnion (rects ++ rect ∷ [])) joined
 bounds_of_more rects rect box joined bounds join = record {
-  all_in = λ c h. elim (Contains-push_cases rects rect h.rect (Contains-slice_get (rects ++ rect ∷ []) h.number h.rect h.at)) [
-    | inl old ↦ join.first c (bounds.all_in c (in_union rects h.rect c old h.has))
-    | inr new ↦ join.second c (subst (λ r. Has r c) (sym new) h.has)
-  ];
-  least = λ other all c h. join.least other
-      (bounds.least other (λ d k. all d (in_union (rects ++ rect ∷ []) k.rect d (Contains-append_left rects (rect ∷ []) k.rect (Contains-slice_get rects k.number k.rect k.at)) k.has)))
-      (λ d k. all d (in_union (rects ++ rect ∷ []) rect d (Contains-push rects rect) k)) c h;
+  all_in = λ c h. elim ((union_push c rects rect).0 h) [ inl old ↦ join.first c (bounds.all_in c old) | inr new ↦ join.second c new ];
+  least = λ other all. join.least other (bounds.least other (λ d k. all d ((union_push d rects rect).1 (inl k)))) (λ d k. all d ((union_push d rects rect).1 (inr k)));
 }
 
 -- a list with its first item once more
 pub bounds_of_all : (rects : List Rect) (first box : Rect) → Contains rects first → IsBoundsOf (IsInUnion (first ∷ rects)) box → IsBoundsOf (IsInUnion rects) box
 bounds_of_all rects first box among = bounds_same (IsInUnion (first ∷ rects)) (IsInUnion rects) box (λ c. (
-  λ h. elim (Contains-cons_cases first rects h.rect (Contains-slice_get (first ∷ rects) h.number h.rect h.at)) [
-    | inl e ↦ in_union rects first c among (subst (λ r. Has r c) (sym e) h.has)
-    | inr rest ↦ in_union rects h.rect c rest h.has
-  ],
-  λ h. in_union (first ∷ rects) h.rect c (Contains-tail first rects h.rect (Contains-slice_get rects h.number h.rect h.at)) h.has,
+  λ h. elim ((union_append c (first ∷ []) rects).0 h) [ inl one ↦ in_union rects first c among ((union_one c first).0 one) | inr rest ↦ rest ],
+  λ h. (union_append c (first ∷ []) rects).1 (inr h),
 ))
 
 -- ---- groups
@@ -75,7 +61,7 @@ module _ (nets : NetLists) (cut : ℕ) where
       let test = carries_both lower upper in
       let rect = λ (contact : ContactPiece). contact.rect in (
         λ h.
-            let from = Contains-map_from rect (filter test contacts) h.rect (Contains-slice_get (rects_between contacts lower upper) h.number h.rect h.at) in
+            let from = Contains-map_from rect (filter test contacts) h.rect (among_union (rects_between contacts lower upper) c h) in
             record {
               contact = from.0;
               among = Contains-from_filter test contacts from.0 from.1;
