@@ -1,0 +1,5 @@
+pub mod ZoneLaws
+pub mod ToldLaws
+pub mod LeftLaws
+pub mod CountLaws
+pub mod ChangeLaws
