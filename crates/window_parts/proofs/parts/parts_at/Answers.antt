@@ -2,8 +2,8 @@ use Rattle.std.proofs.Common.{ap, ◌∙◌, ◌≡◌, arith}
 use Rattle.lists.proofs.Words.{ints}
 use Rattle.geo_core.specs.Plane.{low_along, high_along}
 use Rattle.geo_core.specs.declared.axis.Axis.{Axis}
-use Rattle.union_area.proofs.PartLaws.{HasEnds, parts_across, parts_up}
-use Rattle.union_area.proofs.windows.parts_at.Goals as goal
+use Rattle.window_parts.proofs.PartLaws.{HasEnds, parts_across, parts_up}
+use Rattle.window_parts.proofs.parts.parts_at.Goals as goal
 
 pub returns-in-X : goal.returns-in-X
 returns-in-X c =

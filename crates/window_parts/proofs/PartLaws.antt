@@ -12,7 +12,7 @@ use Rattle.fault_model.proofs.OrderLaws.{Tally-as_often}
 use Rattle.fault_model.proofs.RangeLaws.{or_zero_is, length-range, length-times}
 use Rattle.fault_model.proofs.TallyLaws.{Tally-append, Tally-counts, Tally-le-length, Tally-unique}
 use Rattle.lists.proofs.Containing.{Contains-head, Contains-tail}
-use Rattle.union_area.specs.inside.WindowParts.{AreParts}
+use Rattle.window_parts.specs.WindowParts.{AreParts}
 
 -- ---- parts
 
@@ -61,10 +61,10 @@ pub record HasEnds (rect : Rect) (x0 y0 x1 y1 : ℤ) : Type 0 where
   pub top : y1 ≡ rect.y1
 
 module _ {rect : Rect} {x0 y0 x1 y1 : ℤ} (s : HasEnds rect x0 y0 x1 y1) (c : Cell) where
-  by_ends : Has rect c → IsIn x0 x1 c.i × IsIn y0 y1 c.j
+  pub by_ends : Has rect c → IsIn x0 x1 c.i × IsIn y0 y1 c.j
   by_ends h = (IsIn-at x0 x1 c.i h.across s.left s.right refl, IsIn-at y0 y1 c.j h.up s.bottom s.top refl)
 
-  from_ends : IsIn x0 x1 c.i → IsIn y0 y1 c.j → Has rect c
+  pub from_ends : IsIn x0 x1 c.i → IsIn y0 y1 c.j → Has rect c
   from_ends across up = record { across = IsIn-at rect.x0 rect.x1 c.i across (sym s.left) (sym s.right) refl; up = IsIn-at rect.y0 rect.y1 c.j up (sym s.bottom) (sym s.top) refl }
 
 module _ (window first second : Rect) (place : ℤ) where
@@ -97,12 +97,19 @@ module _ (window first second : Rect) (place : ℤ) where
 -- ---- how many cells
 
 -- the tally of a property that holds of each cell of the list
-pub Tally-each : {P : Cell → Type 0} (cells : List Cell) → ((c : Cell) → Contains cells c → P c) → Tally P cells (length cells)
+Tally-each : {P : Cell → Type 0} (cells : List Cell) → ((c : Cell) → Contains cells c → P c) → Tally P cells (length cells)
 Tally-each [] each = none
 Tally-each (c ∷ cs) each = hit (each c (Contains-head c cs)) (Tally-each cs (λ d h. each d (Contains-tail c cs d h)))
 
+-- of one that holds of each cell of a rectangle
+pub whole_tally : {P : Cell → Type 0} (rect : Rect) → ((c : Cell) → Has rect c → P c) → Tally P (cells_of rect) (length (cells_of rect))
+whole_tally rect whole = Tally-each (cells_of rect) (λ c listed. whole c ((Contains-cells_of rect c).0 listed))
+
 abbrev Always : Cell → Type 0
 Always c = Unit {0}
+
+all_of : (rect : Rect) → Tally Always (cells_of rect) (length (cells_of rect))
+all_of rect = whole_tally {P = Always} rect (λ c h. tt)
 
 -- a rectangle has at least one cell
 some_cell : (rect : Rect) → 1 ≤ length (cells_of rect)
@@ -110,14 +117,13 @@ some_cell rect =
     let x = rect.across.some in let y = rect.up.some in
     let corner : Cell = record { i = rect.x0; j = rect.y0 } in
     let has : Has rect corner = record { across = record { from = omega (arith, ints); before = x }; up = record { from = omega (arith, ints); before = y } } in
-    Tally-counts {P = Always} (cells_of rect) (length (cells_of rect)) corner ((Contains-cells_of rect corner).1 has) tt (Tally-each {P = Always} (cells_of rect) (λ c h. tt))
+    Tally-counts {P = Always} (cells_of rect) (length (cells_of rect)) corner ((Contains-cells_of rect corner).1 has) tt (all_of rect)
 
 -- so each of the two parts has fewer cells than the window
 pub fewer_cells : (window first second : Rect) → AreParts window first second → (length (cells_of first) < length (cells_of window)) × (length (cells_of second) < length (cells_of window))
 fewer_cells window first second parts =
-    let all : (rect : Rect) → Tally Always (cells_of rect) (length (cells_of rect)) = λ rect. Tally-each {P = Always} (cells_of rect) (λ c h. tt) in
-    let both = parts_tally window first second parts {P = Always} (length (cells_of first)) (length (cells_of second)) (all first) (all second) in
-    let e = Tally-unique (cells_of window) (length (cells_of first) + length (cells_of second)) (length (cells_of window)) both (all window) in
+    let both = parts_tally window first second parts {P = Always} (length (cells_of first)) (length (cells_of second)) (all_of first) (all_of second) in
+    let e = Tally-unique (cells_of window) (length (cells_of first) + length (cells_of second)) (length (cells_of window)) both (all_of window) in
     let a = some_cell first in let b = some_cell second in
     (omega (arith, e), omega (arith, e))
 
