@@ -11,7 +11,7 @@ use Rattle.half_boxes.specs.Footprints.{IsReached, IsAlwaysHit}
 use Rattle.half_boxes.specs.HalfBoxes.{HasHalf, HasHalfIn, LiesWithin}
 use Rattle.half_boxes.specs.declared.boxes.HalfBox.{HalfBox}
 use Rattle.remnants.specs.Remnants.{RemnantLists, IsSplit, IsLooseWithin}
-use Rattle.severing.specs.Changes.{HasNear}
+use Rattle.severing.specs.Changes.{HasNear, IsNoted}
 use Rattle.severing.specs.Severing.{IsSevered}
 use Rattle.open_grid.specs.inside.ZoneNeeds.{IsBetweenDefects, StandsFor}
 use Rattle.open_grid.specs.inside.ZoneSteps.{IsSingle, IsSplitWithout, IsToldOf, KeepsNear}
@@ -89,15 +89,25 @@ module _ (zone : Rect) (side : ℕ) (looked : Looked) (island : IslandLists) (st
       same : (removed : HalfBox) → IsBetweenDefects zone side removed → IsSplit made.remnant removed ↔ IsSevered island (HasHalf removed)
       same removed b = subst (λ r. IsSplit r removed ↔ IsSevered island (HasHalf removed)) (sym remnant_is) (same_as_island removed b)
 
+      still_noted : (set : Half → Type 0) → IsNoted zone side looked.near set → IsNoted zone side kept set
+      still_noted set n = record {
+        one = n.one;
+        same = n.same;
+        noted = elim n.noted [
+          | inr rest ↦ inr rest
+          | inl listed ↦ elim (keeps n.one listed) [
+              | inl stays ↦ inl stays
+              | inr (inl core) ↦ inr (inr (λ h has. (core_is h).0 (core h has)))
+              | inr (inr far) ↦ inr (inl (λ h g has r. far h g has ((reach_is g).1 r)))
+            ]
+        ];
+      }
+
       kept_near : HasNear island zone side kept
-      kept_near one is = elim (stands.has_near one is) [
-        | inr rest ↦ inr rest
-        | inl listed ↦ elim (keeps one listed) [
-            | inl stays ↦ inl stays
-            | inr (inl core) ↦ inr (inr (λ h has. (core_is h).0 (core h has)))
-            | inr (inr far) ↦ inr (inl (λ h g has r. far h g has ((reach_is g).1 r)))
-          ]
-      ]
+      kept_near = record {
+        pieces = λ piece among. still_noted _ (stands.has_near.pieces piece among);
+        anchors = λ cell among. still_noted _ (stands.has_near.anchors cell among);
+      }
 
       has_near : HasNear island zone side made.near
       has_near = subst (HasNear island zone side) (sym near_is) kept_near

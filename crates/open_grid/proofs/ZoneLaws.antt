@@ -8,7 +8,7 @@ use Rattle.geo_core.specs.declared.plane.Rect.{Rect}
 use Rattle.fault_model.specs.FaultNames.{IslandLists}
 use Rattle.half_boxes.specs.Footprints.{IsReached, IsAlwaysHit}
 use Rattle.half_boxes.specs.declared.boxes.HalfBox.{HalfBox}
-use Rattle.severing.specs.Changes.{HasNear}
+use Rattle.severing.specs.Changes.{HasNear, IsNoted}
 use Rattle.open_grid.specs.inside.ZoneNeeds.{IsBetweenDefects, StandsFor, StandForAll}
 use Rattle.open_grid.specs.declared.looked.Looked.{Looked}
 
@@ -22,12 +22,22 @@ module _ (zone sub : Rect) (side : ℕ) (part : (c : Cell) → Has sub c → Has
   between : (removed : HalfBox) → IsBetweenDefects sub side removed → IsBetweenDefects zone side removed
   between removed b = record { has_core = λ h all. b.has_core h (always h all); in_reach = λ h has. reached h (b.in_reach h has) }
 
+  noted_in_part : (near : List HalfBox) (set : Half → Type 0) → IsNoted zone side near set → IsNoted sub side near set
+  noted_in_part near set n = record {
+    one = n.one;
+    same = n.same;
+    noted = elim n.noted [
+      | inl listed ↦ inl listed
+      | inr (inl far) ↦ inr (inl (λ h g in_one r. far h g in_one (reached g r)))
+      | inr (inr core) ↦ inr (inr (λ h in_one. always h (core h in_one)))
+    ];
+  }
+
   near_in_part : (island : IslandLists) (near : List HalfBox) → HasNear island zone side near → HasNear island sub side near
-  near_in_part island near has one is = elim (has one is) [
-    | inl listed ↦ inl listed
-    | inr (inl far) ↦ inr (inl (λ h g in_one r. far h g in_one (reached g r)))
-    | inr (inr core) ↦ inr (inr (λ h in_one. always h (core h in_one)))
-  ]
+  near_in_part island near has = record {
+    pieces = λ piece among. noted_in_part near _ (has.pieces piece among);
+    anchors = λ cell among. noted_in_part near _ (has.anchors cell among);
+  }
 
   stands_in_part : (looked : Looked) (island : IslandLists) → StandsFor zone side looked island → StandsFor sub side looked island
   stands_in_part looked island s = record {

@@ -1,5 +1,5 @@
 -- what becomes of a zone when islands are looked at
-use Rattle.std.specs.Prelude.{ℤ, pos, ℕ, List, [], Contains, All, Option, Some, None, ◌≡◌, ◌≢◌, ◌⊎◌, ◌+ℤ◌, ◌<ℤ◌}
+use Rattle.std.specs.Prelude.{ℤ, pos, ℕ, List, [], Contains, All, Option, Some, None, ◌≡◌, ◌≢◌, ◌⊎◌, ◌↔◌, ◌+ℤ◌, ◌<ℤ◌}
 use Rattle.geo_core.specs.Plane.{Has, low_along, high_along}
 use Rattle.geo_core.specs.declared.axis.Axis.{Axis}
 use Rattle.geo_core.specs.declared.axis.Axis.TheVariants.{X, Y}
@@ -7,7 +7,7 @@ use Rattle.geo_core.specs.Intervals.{IsWithin}
 use Rattle.geo_core.specs.declared.plane.Cell.{Cell}
 use Rattle.geo_core.specs.declared.plane.Half.{Half}
 use Rattle.geo_core.specs.declared.plane.Rect.{Rect}
-use Rattle.fault_model.specs.FaultNames.{IslandLists, IsInFootprint}
+use Rattle.fault_model.specs.FaultNames.{IslandLists, IsInFootprint, IsOn, LiesIn}
 use Rattle.half_boxes.specs.HalfBoxes.{HasHalf, HasHalfIn}
 use Rattle.half_boxes.specs.declared.boxes.HalfBox.{HalfBox}
 use Rattle.remnants.specs.Remnants.{RemnantLists, IsSplit}
@@ -35,6 +35,26 @@ HasSeveral axis zone = (low_along axis zone +ℤ pos 1) <ℤ high_along axis zon
 pub record IsSingle (zone : Rect) : Type 0 where
   pub column : zone.x0 +ℤ pos 1 ≡ zone.x1
   pub row : zone.y0 +ℤ pos 1 ≡ zone.y1
+
+-- the list has a box with just the half squares of the set
+pub record HasBoxOf (boxes : List HalfBox) (set : Half → Type 0) : Type 0 where
+  pub one : HalfBox
+  pub among : Contains boxes one
+  pub same : (h : Half) → HasHalf one h ↔ set h
+
+-- it has one for each of the rectangles
+abbrev pub HavePieceBoxes : List Rect → List HalfBox → Type 0
+HavePieceBoxes pieces boxes = (piece : Rect) → Contains pieces piece → HasBoxOf boxes (IsOn (Has piece))
+
+-- it gains one for each of the cells that some rectangle has
+pub record GainsCells (cells : List Cell) (old new : List HalfBox) : Type 0 where
+  pub kept : (one : HalfBox) → Contains old one → Contains new one
+  pub gained : (cell : Cell) (rect : Rect) → Contains cells cell → Has rect cell → HasBoxOf new (λ h. LiesIn h cell)
+
+-- it has one for each rectangle of the island, and one for each anchor's cell
+pub record HaveBoxesOf (island : IslandLists) (boxes : List HalfBox) : Type 0 where
+  pub pieces : HavePieceBoxes island.pieces boxes
+  pub anchors : (cell : Cell) → Contains island.anchors cell → HasBoxOf boxes (λ h. LiesIn h cell)
 
 -- what an island says of the zone: no defect of it parts two of the anchors; each does; or this is to be looked at
 abbrev pub IsToldOf : Rect → ℕ → IslandLists → Told → Type 0
