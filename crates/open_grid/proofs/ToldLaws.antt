@@ -96,10 +96,10 @@ module _ (zone : Rect) (side : ℕ) (looked : Looked) (island : IslandLists) (st
         noted = elim n.noted [
           | inr rest ↦ inr rest
           | inl listed ↦ elim (keeps n.one listed) [
-              | inl stays ↦ inl stays
-              | inr (inl core) ↦ inr (inr (λ h has. (core_is h).0 (core h has)))
-              | inr (inr far) ↦ inr (inl (λ h g has r. far h g has ((reach_is g).1 r)))
-            ]
+            | inl stays ↦ inl stays
+            | inr (inl core) ↦ inr (inr (λ h has. (core_is h).0 (core h has)))
+            | inr (inr far) ↦ inr (inl (λ h g has r. far h g has ((reach_is g).1 r)))
+          ]
         ];
       }
 

@@ -54,12 +54,7 @@ fn span_along(one: HalfBox, axis: Axis) -> HalfSpan
 }
 
 /// Adds the place, if it lies inside the zone along the axis.
-fn add_inside(
-    zone: Rect,
-    axis: Axis,
-    place: i32,
-    places: &mut Vec<i32>,
-) -> Result<(), NoMemory>
+fn add_inside(zone: Rect, axis: Axis, place: i32, places: &mut Vec<i32>) -> Result<(), NoMemory>
     ensures { OnOk result (GainsPlace axis zone place places.old.items places.new.items) }
 {
     let along = zone.along(axis);

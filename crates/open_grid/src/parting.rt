@@ -30,5 +30,7 @@ pub fn parted(alloc: Global, island: &Island, cell: Cell, r: u32) -> Result<bool
         return Ok(false);
     };
     let whole = Remnant::whole(alloc, island)?;
-    whole.narrow(alloc, None, reach_of(zone, r + r))?.is_split(alloc)
+    whole
+        .narrow(alloc, None, reach_of(zone, r + r))?
+        .is_split(alloc)
 }

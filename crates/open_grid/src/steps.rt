@@ -35,12 +35,7 @@ fn has_several(zone: Rect, axis: Axis) -> bool
 
 /// What comes next of a zone for which these islands are looked at. It is halved along the axis with more changes, at the
 /// middle one, so that each change lies in few of the zones that are halved. The only error is that no memory is left.
-pub fn next_step(
-    alloc: Global,
-    looked: &[Looked],
-    zone: Rect,
-    side: u32,
-) -> Result<Step, NoMemory>
+pub fn next_step(alloc: Global, looked: &[Looked], zone: Rect, side: u32) -> Result<Step, NoMemory>
     requires some { 1 ≤ side }
     requires few { side ≤ GREATEST_SIDE }
     requires several { IsSingle zone → ⊥ }

@@ -10,7 +10,7 @@ use geo_core::{NoMemory, Rect};
 use lists::Items;
 use severing::{steady_columns_sever_alike, steady_rows_sever_alike};
 use std::alloc::Global;
-use window_parts::{count_of, first_line, lines_along, parts_at};
+use window_parts::{count_of, first_line, parts_at, places_along};
 
 /// What is left of islands in a zone.
 #[derive(Debug, Drop)]
@@ -22,12 +22,7 @@ pub enum Left {
 }
 
 /// Looks at islands for a zone. The only error is that no memory is left.
-fn look_closer(
-    alloc: Global,
-    looked: &[Looked],
-    zone: Rect,
-    side: u32,
-) -> Result<Left, NoMemory>
+fn look_closer(alloc: Global, looked: &[Looked], zone: Rect, side: u32) -> Result<Left, NoMemory>
     requires some { 1 ≤ side }
     requires few { side ≤ GREATEST_SIDE }
     ensures { (islands : List IslandLists) → StandForAll zone side looked.now islands →
@@ -46,12 +41,7 @@ fn look_closer(
 
 /// How many cells of the zone are the centre of a defect that parts two anchors of one of the islands, for which these are
 /// looked at. The only error is that no memory is left.
-pub fn count(
-    alloc: Global,
-    looked: &[Looked],
-    zone: Rect,
-    side: u32,
-) -> Result<u64, NoMemory>
+pub fn count(alloc: Global, looked: &[Looked], zone: Rect, side: u32) -> Result<u64, NoMemory>
     requires some { 1 ≤ side }
     requires few { side ≤ GREATEST_SIDE }
     ensures { (islands : List IslandLists) → StandForAll zone side looked.now islands →
@@ -69,7 +59,7 @@ pub fn count(
             steady_columns_sever_alike();
             steady_rows_sever_alike();
             let one = count(alloc, left.as_slice(), first_line(zone, axis), side)?;
-            Ok(one * lines_along(zone, axis))
+            Ok(places_along(zone, axis) * one)
         }
         Step::Halve(axis, place) => {
             let (first, second) = parts_at(zone, axis, place);

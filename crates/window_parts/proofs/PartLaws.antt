@@ -105,14 +105,14 @@ Tally-each (c ∷ cs) each = hit (each c (Contains-head c cs)) (Tally-each cs (�
 pub whole_tally : {P : Cell → Type 0} (rect : Rect) → ((c : Cell) → Has rect c → P c) → Tally P (cells_of rect) (length (cells_of rect))
 whole_tally rect whole = Tally-each (cells_of rect) (λ c listed. whole c ((Contains-cells_of rect c).0 listed))
 
-abbrev Always : Cell → Type 0
+abbrev pub Always : Cell → Type 0
 Always c = Unit {0}
 
-all_of : (rect : Rect) → Tally Always (cells_of rect) (length (cells_of rect))
+pub all_of : (rect : Rect) → Tally Always (cells_of rect) (length (cells_of rect))
 all_of rect = whole_tally {P = Always} rect (λ c h. tt)
 
 -- a rectangle has at least one cell
-some_cell : (rect : Rect) → 1 ≤ length (cells_of rect)
+pub some_cell : (rect : Rect) → 1 ≤ length (cells_of rect)
 some_cell rect =
     let x = rect.across.some in let y = rect.up.some in
     let corner : Cell = record { i = rect.x0; j = rect.y0 } in
