@@ -1,20 +1,18 @@
 -- defects in one line of a zone where nothing near changes part the same
-use Rattle.std.proofs.Common.{ℕ, zero, suc, ◌+◌, ◌≤◌, ◌≡◌, refl, subst, sym, arith, List, Contains, length, ℤ, pos, ◌+ℤ◌, ◌-ℤ◌, ◌<ℤ◌, ◌≤ℤ◌, ◌↔◌}
+use Rattle.std.proofs.Common.{ℕ, zero, suc, ◌≤◌, ◌≡◌, refl, subst, arith, List, length, ℤ, pos, ◌+ℤ◌, ◌-ℤ◌, ◌<ℤ◌, ◌≤ℤ◌, ◌↔◌}
 use Rattle.lists.proofs.Words.{ints, by_lt_z}
 use Rattle.lists.proofs.Containing.{Contains-slice_get}
 use Rattle.geo_core.specs.Plane.{IsIn, Has, IsInUnion, low_along, high_along}
 use Rattle.geo_core.specs.declared.axis.Axis.{Axis}
-use Rattle.geo_core.specs.declared.plane.Cell.{Cell}
-use Rattle.geo_core.specs.declared.plane.Half.{Half}
 use Rattle.geo_core.specs.declared.plane.Rect.{Rect}
 use Rattle.fault_model.specs.FaultNames.{IsOn, LiesIn, IsInFootprint, IslandLists, or_zero}
 use Rattle.fault_model.specs.Halves.{IsUnder}
 use Rattle.fault_model.proofs.RangeLaws.{or_zero_is}
 use Rattle.half_boxes.specs.declared.boxes.HalfBox.{HalfBox}
-use Rattle.severing.specs.Severing.{IsParted, IsInAnchor, IsSevered}
+use Rattle.severing.specs.Severing.{IsInAnchor, IsSevered}
 use Rattle.severing.specs.Changes.{HasNear, IsSteady}
 use Rattle.severing.proofs.AdvanceLaws.{Advances, onward, backward, IsMiddle, front_middle, back_middle}
-use Rattle.severing.proofs.MoveLaws.{spot, AreAlike, parted_before}
+use Rattle.severing.proofs.MoveLaws.{AreAlike, parted_before}
 use Rattle.severing.proofs.TurnedLaws.{turned, cell_at, hit_turned, turned_parted, parted_from_turned, along_zone, zone_along}
 use Rattle.severing.proofs.NotedLaws.{noted_alike}
 
@@ -59,9 +57,9 @@ module _ (axis : Axis) (island : IslandLists) (zone : Rect) (side : ℕ) (near :
         record { cell = a.cell; at = a.at; lies = alike w z v near_w near_z row a.lies }
 
     -- from where the defect is after a move to where it was before
-    severed_before : (i k near' middle far : ℤ) → Advances (IsUnder i side) (IsUnder k side) near' middle far → IsMiddle x side middle
+    severed_before : (i k first middle beyond : ℤ) → Advances (IsUnder i side) (IsUnder k side) first middle beyond → IsMiddle x side middle
         → IsSevered island (IsInFootprint (cell_at axis k y) side) → IsSevered island (IsInFootprint (cell_at axis i y) side)
-    severed_before i k near' middle far move is severed =
+    severed_before i k first middle beyond move is severed =
         parted_from_turned _ _ _ axis _ (λ h. IsUnder i side h.u × IsUnder y side h.v) (λ h. (hit_turned axis i y side h).1)
         (parted_before move low high _ (metal_alike middle is) (length island.anchors) _ (anchor_alike middle is)
         (turned_parted _ _ _ axis _ (λ h. IsUnder k side h.u × IsUnder y side h.v) (λ h. (hit_turned axis k y side h).0) severed))

@@ -1,5 +1,5 @@
 -- columns and rows exchanged, so that what is so along the one axis is so along the other
-use Rattle.std.proofs.Common.{ℕ, ◌≡◌, inl, inr, ◌⊎◌, ℤ, pos, ◌↔◌}
+use Rattle.std.proofs.Common.{ℕ, pos, inl, inr, ℤ, ◌↔◌}
 use Rattle.paths.specs.Paths.{stay, step}
 use Rattle.geo_core.specs.Plane.{IsIn, Has, low_along, high_along}
 use Rattle.geo_core.specs.Intervals.{IsWithin}
@@ -11,11 +11,13 @@ use Rattle.geo_core.specs.declared.plane.Rect.{Rect}
 use Rattle.fault_model.specs.FaultNames.{Neighbours, Walk, IsInFootprint}
 use Rattle.fault_model.specs.Halves.{IsUnder}
 use Rattle.half_boxes.specs.HalfBoxes.{HasHalf}
+use Rattle.half_boxes.specs.Footprints.{IsReached}
 use Rattle.half_boxes.specs.declared.boxes.HalfBox.{HalfBox}
-use Rattle.severing.specs.Severing.{IsLeft, IsParted}
+use Rattle.severing.specs.Severing.{IsParted}
 use Rattle.severing.specs.Changes.{span_along, IsFar}
 use Rattle.severing.proofs.MoveLaws.{spot}
 use Rattle.severing.proofs.PathMaps.{mapped}
+use Rattle.severing.proofs.RemovalLaws.{parted_by}
 
 -- the half square whose place along the axis is the column of this one, and across it the row
 abbrev pub turned : Axis → Half → Half
@@ -36,18 +38,10 @@ turned_neighbours Y p q (inr n) = inl n
 turned_walk : (axis : Axis) {S T : Half → Type 0} → ((h : Half) → S h → T (turned axis h)) → {p q : Half} → Walk S p q → Walk T (turned axis p) (turned axis q)
 turned_walk axis f w = mapped (turned axis) f (λ p q s t n. step (f p s) (turned_neighbours axis p q n) (stay (f q t))) w
 
-module _ (on : Half → Type 0) (count : ℕ) (terminal : ℕ → Half → Type 0) where
-  -- terminals are parted where all is turned
-  pub turned_parted : (axis : Axis) (R S : Half → Type 0) → ((h : Half) → R (turned axis h) → S h) → IsParted on count terminal R
-      → IsParted (λ h. on (turned axis h)) count (λ k h. terminal k (turned axis h)) S
-  turned_parted axis R S f parted = record {
-    one = parted.one;
-    other = parted.other;
-    one_is = parted.one_is;
-    other_is = parted.other_is;
-    different = parted.different;
-    apart = λ p q in_p in_q w. parted.apart (turned axis p) (turned axis q) in_p in_q (turned_walk axis (λ h left. (left.0, λ gone. left.1 (f h gone))) w);
-  }
+-- terminals are parted where all is turned
+pub turned_parted : (on : Half → Type 0) (count : ℕ) (terminal : ℕ → Half → Type 0) (axis : Axis) (R S : Half → Type 0) → ((h : Half) → R (turned axis h) → S h)
+    → IsParted on count terminal R → IsParted (λ h. on (turned axis h)) count (λ k h. terminal k (turned axis h)) S
+turned_parted on count terminal axis R S f = parted_by (turned axis) (λ k h is. is) (λ p q. turned_walk axis (λ h left. (left.0, λ gone. left.1 (f h gone))))
 
 -- and back
 pub parted_from_turned : (on : Half → Type 0) (count : ℕ) (terminal : ℕ → Half → Type 0) (axis : Axis) (R S : Half → Type 0) → ((h : Half) → S h → R (turned axis h))
@@ -67,6 +61,13 @@ pub has_along : (axis : Axis) (one : HalfBox) (x w y : ℤ) → (IsIn (span_alon
 has_along X one x w y f h = record { across = f h.across; up = h.up }
 has_along Y one x w y f h = record { across = h.across; up = f h.up }
 
+-- nothing of a far box is beside what a defect has
+pub far_turned : (axis : Axis) (zone : Rect) (side : ℕ) (one : HalfBox) → IsFar zone side one → (h g : Half) → HasHalf one (turned axis h) → IsReached zone side (turned axis g)
+    → IsWithin h.u g.u (pos 1) → IsWithin h.v g.v (pos 1) → ⊥
+far_turned X zone side one far h g has hit p q = far h g has hit p q
+far_turned Y zone side one far h g has hit p q = far (turned Y h) (turned Y g) has hit q p
+
+-- cells of the zone by their places along the axis
 pub along_zone : (axis : Axis) (zone : Rect) (x y : ℤ) → Has zone (cell_at axis x y) → IsIn (low_along axis zone) (high_along axis zone) x
 along_zone X zone x y h = h.across
 along_zone Y zone x y h = h.up

@@ -1,4 +1,4 @@
-use Rattle.severing.proofs.RemovalLaws.{severed_from_open, open_from_severed}
+use Rattle.severing.proofs.OpenLaws.{severed_from_open, open_from_severed}
 use Rattle.severing.proofs.laws.defects_sever_islands.Goals as goal
 
 pub returns : goal.returns

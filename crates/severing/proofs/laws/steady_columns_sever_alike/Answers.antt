@@ -1,4 +1,4 @@
-use Rattle.std.proofs.Common.{◌≡◌, ℤ, subst, sym, ◌↔◌}
+use Rattle.std.proofs.Common.{subst, sym, ◌↔◌}
 use Rattle.geo_core.specs.Plane.{Has}
 use Rattle.geo_core.specs.declared.axis.Axis.TheVariants.{X}
 use Rattle.fault_model.specs.FaultNames.{IsInFootprint}
