@@ -1,5 +1,6 @@
 -- counts of the cells of a zone at which a defect parts anchors of some island
 use Rattle.std.proofs.Common.{ℕ, arith, ◌+◌, ◌*◌, ◌^◌, ◌<◌, ◌≤◌, ◌≡◌, refl, sym, subst, List, [], ◌∷◌, length, inl, inr, ◌⊎◌, ◌↔◌, Contains, Result, Ok, Err, IfOk}
+use Rattle.lists.proofs.Words.{mul-le}
 use Rattle.lists.proofs.Containing.{Contains-none, Contains-head, Contains-tail, Contains-cons_cases}
 use Rattle.geo_core.specs.Plane.{Has}
 use Rattle.geo_core.specs.declared.axis.Axis.{Axis}
@@ -13,8 +14,8 @@ use Rattle.half_boxes.specs.declared.boxes.HalfBox.{HalfBox}
 use Rattle.severing.specs.Changes.{HasNear, IsSteady}
 use Rattle.severing.specs.Severing.{IsSevered}
 use Rattle.window_parts.specs.WindowParts.{AreInLine, AreParts, IsFirstLine, count_along}
-use Rattle.window_parts.proofs.PartLaws.{few_tallied, parts_tally, whole_tally}
-use Rattle.window_parts.proofs.LineLaws.{lines_tally}
+use Rattle.window_parts.proofs.PartLaws.{cells_of_parts, few_tallied, parts_tally, whole_tally}
+use Rattle.window_parts.proofs.LineLaws.{cells_of_lines, lines_tally}
 use Rattle.open_grid.specs.inside.ZoneNeeds.{AllSever, IsCountIn, SeverAlike, SeversSome, StandForAll, StandsFor}
 use Rattle.open_grid.specs.inside.ZoneSteps.{LeftStandsFor}
 use Rattle.open_grid.specs.declared.looked.Looked.{Looked}
@@ -91,3 +92,14 @@ module _ (zone : Rect) (side : ℕ) where
       let a = one l.others (stand_in_part zone line side (λ c h. ((first.cells c).0 h).0) left l.others l.stand) in
       let all = lines_tally P axis zone line n first (some_in_line axis left l.others law steady l.stand) a.tally in
       count_alike islands l.others (count_along axis zone * n) l.alike (record { tally = all; small = few_tallied {P = P} zone (count_along axis zone * n) all })
+
+-- ---- bounds, which hold whatever stands for what
+
+pub few_of_lines : (axis : Axis) (zone line : Rect) (n : ℕ) → IsFirstLine axis zone line → n ≤ length (cells_of line) → count_along axis zone * n ≤ length (cells_of zone)
+few_of_lines axis zone line n first few =
+    let e = cells_of_lines axis zone line first in
+    let most = mul-le (count_along axis zone) n (count_along axis zone) (length (cells_of line)) (omega arith) few in
+    omega arith
+
+pub few_of_halves : (zone first second : Rect) (m n : ℕ) → AreParts zone first second → m ≤ length (cells_of first) → n ≤ length (cells_of second) → m + n ≤ length (cells_of zone)
+few_of_halves zone first second m n parts few also = let e = cells_of_parts zone first second parts in omega arith

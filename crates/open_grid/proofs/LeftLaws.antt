@@ -1,6 +1,6 @@
 -- islands that are looked at one after the other
 use Rattle.std.proofs.Common.{ℕ, zero, suc, arith, ◌+◌, ◌<◌, ◌≡◌, ◌≢◌, refl, sym, ap, subst, ◌∙◌, List, [], ◌∷◌, ◌++◌, length, take, get_or, inl, inr, ◌⊎◌, ◌↔◌, Contains}
-use Rattle.lists.proofs.Words.{AllZip, Contains-append_left, Contains-push}
+use Rattle.lists.proofs.Words.{AllZip, Contains-append_left, Contains-push, Contains-push_cases}
 use Rattle.lists.proofs.Containing.{Contains-head, Contains-tail}
 use Rattle.lists.proofs.Pairing.{AllZip-push}
 use Rattle.geo_core.specs.Plane.{Has}
@@ -21,7 +21,7 @@ module _ (zone : Rect) (side : ℕ) where
     pub island : IslandLists
     pub among : Contains islands island
     pub stands : StandsFor zone side seen island
-    pub more : take (i + 1) islands ≡ take i islands ++ island ∷ []
+    pub more : take (suc i) islands ≡ take i islands ++ island ∷ []
 
   pub beside : (looked : List Looked) (islands : List IslandLists) (i : ℕ) (seen : Looked) → StandForAll zone side looked islands → i < length looked → seen ≡ get_or looked i seen
       → IsBeside islands i seen

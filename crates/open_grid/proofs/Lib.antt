@@ -3,3 +3,4 @@ pub mod ToldLaws
 pub mod LeftLaws
 pub mod CountLaws
 pub mod ChangeLaws
+pub mod BoxLaws

@@ -1,5 +1,6 @@
 ghost use Rattle.std.specs.Prelude.{◌≡◌, ◌↔◌, IfOk, IfSome, IfNone, OnOk};
 ghost use Rattle.fault_model.specs.Halves.{LiesIn};
+ghost use Rattle.fault_model.specs.IslandLists.{IsAnchoredIsland};
 ghost use Rattle.geo_core.specs.Cells.{Has};
 ghost use Rattle.geo_core.specs.declared.plane.Cell.{Cell as AnyCell};
 ghost use Rattle.geo_core.specs.declared.plane.Half.{Half};
@@ -15,7 +16,8 @@ use std::alloc::Global;
 
 /// The boxes of the island's rectangles and of its anchors' cells.
 pub fn boxes_of(alloc: Global, island: &Island) -> Result<Items<HalfBox>, NoMemory>
-    ensures { IfOk result (HaveBoxesOf island.now) }
+    ensures boxes { IfOk result (HaveBoxesOf island.now) }
+    ensures sound { IsAnchoredIsland island.now }
 {
     let mut boxes = piece_boxes(alloc, island.pieces.as_slice())?;
     add_cells(island.anchors.as_slice(), &mut boxes)?;

@@ -80,7 +80,8 @@ fn add_changes(
     add_inside(zone, axis, first_reaching(span.low, side), places)?;
     add_inside(zone, axis, first_passing(span.low, side), places)?;
     add_inside(zone, axis, first_reaching(span.high, side), places)?;
-    add_inside(zone, axis, first_passing(span.high, side), places)
+    add_inside(zone, axis, first_passing(span.high, side), places)?;
+    Ok(())
 }
 
 /// Adds those of each box of the list.

@@ -39,14 +39,14 @@ pub fn look(alloc: Global, island: &Island) -> Result<Looked, NoMemory>
     ensures stands { IfOk result (λ looked. (zone : AnyRect) (side : ℕ) → StandsFor zone side looked island.now) }
     ensures sound { IsAnchoredIsland island.now }
 {
-    let remnant = Remnant::whole(alloc, island)?;
     let near = boxes_of(alloc, island)?;
+    let remnant = Remnant::whole(alloc, island)?;
     Ok(Looked { remnant, near })
 }
 
 /// Looks at an island for a zone: what lies outside of all defects of the zone stays, and what lies within each of them is
 /// gone. The only error is that no memory is left.
-pub fn told(alloc: Global, looked: &Looked, zone: Rect, side: u32) -> Result<Told, NoMemory>
+pub fn look_at(alloc: Global, looked: &Looked, zone: Rect, side: u32) -> Result<Told, NoMemory>
     requires some { 1 ≤ side }
     requires few { side ≤ GREATEST_SIDE }
     ensures { (island : IslandLists) → StandsFor zone side looked.now island → IfOk result (IsToldOf zone side island) }

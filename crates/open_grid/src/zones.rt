@@ -1,10 +1,11 @@
-ghost use Rattle.std.specs.Prelude.{List, ◌≤◌, IfOk};
+ghost use Rattle.std.specs.Prelude.{List, ◌≤◌, IfOk, length};
+ghost use Rattle.fault_model.specs.Areas.{cells_of};
 ghost use Rattle.fault_model.specs.IslandLists.{IslandLists};
 ghost use Rattle.half_boxes.specs.declared.footprints.TheConstants.{GREATEST_SIDE};
 ghost use Rattle.open_grid.specs.inside.ZoneNeeds.{IsCountIn, StandForAll};
 ghost use Rattle.open_grid.specs.inside.ZoneSteps.{IsLeftOf};
 
-use super::looked::{Looked, Told, told};
+use super::looked::{Looked, Told, look_at};
 use super::steps::{Step, next_step};
 use geo_core::{NoMemory, Rect};
 use lists::Items;
@@ -30,7 +31,7 @@ fn look_closer(alloc: Global, looked: &[Looked], zone: Rect, side: u32) -> Resul
 {
     let mut left = Vec::new(alloc);
     for one in looked {
-        match told(alloc, one, zone, side)? {
+        match look_at(alloc, one, zone, side)? {
             Told::Never => {}
             Told::Always => return Ok(Left::Everywhere),
             Told::Open(closer) => left.push(closer)?,
@@ -44,8 +45,9 @@ fn look_closer(alloc: Global, looked: &[Looked], zone: Rect, side: u32) -> Resul
 pub fn count(alloc: Global, looked: &[Looked], zone: Rect, side: u32) -> Result<u64, NoMemory>
     requires some { 1 ≤ side }
     requires few { side ≤ GREATEST_SIDE }
-    ensures { (islands : List IslandLists) → StandForAll zone side looked.now islands →
+    ensures count { (islands : List IslandLists) → StandForAll zone side looked.now islands →
         IfOk result (IsCountIn islands side zone) }
+    ensures few { IfOk result (λ n. n ≤ length (cells_of zone)) }
 {
     let left = match look_closer(alloc, looked, zone, side)? {
         Left::Everywhere => return Ok(count_of(zone)),

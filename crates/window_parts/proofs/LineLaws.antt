@@ -140,11 +140,16 @@ two_along axis window several =
     let e = length-range low high (or_zero (high -ℤ low)) n in
     omega (arith, ints)
 
--- a line has fewer cells than the window, where there is more than one
+-- the lines have as many cells as the window
+pub cells_of_lines : (axis : Axis) (window line : Rect) → IsFirstLine axis window line → count_along axis window * length (cells_of line) ≡ length (cells_of window)
+cells_of_lines axis window line first =
+    let all = lines_tally Always axis window line (length (cells_of line)) first (λ c d h k l p. tt) (all_of line) in
+    Tally-unique (cells_of window) (count_along axis window * length (cells_of line)) (length (cells_of window)) all (all_of window)
+
+-- so one of them has fewer, where there is more than one
 pub fewer_in_line : (axis : Axis) (window line : Rect) → IsFirstLine axis window line → (low_along axis window +ℤ pos 1) <ℤ high_along axis window → length (cells_of line) < length (cells_of window)
 fewer_in_line axis window line first several =
-    let all = lines_tally Always axis window line (length (cells_of line)) first (λ c d h k l p. tt) (all_of line) in
-    let e = Tally-unique (cells_of window) (count_along axis window * length (cells_of line)) (length (cells_of window)) all (all_of window) in
+    let e = cells_of_lines axis window line first in
     let some = some_cell line in
     let many = mul-le 2 (length (cells_of line)) (count_along axis window) (length (cells_of line)) (two_along axis window several) (omega arith) in
     omega arith
