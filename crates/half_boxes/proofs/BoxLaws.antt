@@ -1,11 +1,11 @@
 -- boxes of half squares by their columns and their rows
-use Rattle.std.proofs.Common.{◌≡◌, refl, subst, ap, ◌∙◌, arith, inl, inr, ◌⊎◌, ℤ, ◌+ℤ◌, ◌↔◌}
+use Rattle.std.proofs.Common.{◌≡◌, refl, sym, subst, ap, ◌∙◌, arith, inl, inr, ◌⊎◌, ℤ, ◌+ℤ◌, ◌↔◌}
 use Rattle.lists.proofs.Words.{ints}
 use Rattle.geo_core.specs.Plane.{IsIn, IntervalsOverlap, IntervalsTouch, IsPartOf, Has}
 use Rattle.geo_core.specs.declared.plane.Half.{Half}
 use Rattle.geo_core.specs.declared.plane.Rect.{Rect}
 use Rattle.fault_model.specs.FaultNames.{IsOn}
-use Rattle.fault_model.proofs.HalfLaws.{halves_in, whole_in}
+use Rattle.fault_model.proofs.HalfLaws.{Neighbours-sym, halves_in, whole_in}
 use Rattle.half_boxes.specs.HalfBoxes.{HasHalf, LiesWithin, OverlapHalves, TouchHalves}
 use Rattle.half_boxes.specs.declared.boxes.HalfBox.{HalfBox}
 
@@ -26,6 +26,10 @@ of_rect_has rect one left right bottom top h = (
 )
 
 -- ---- two boxes
+
+pub TouchHalves-sym : (one other : HalfBox) → TouchHalves one other → TouchHalves other one
+TouchHalves-sym one other (p, q, h, k, inl e) = (q, p, k, h, inl (sym e))
+TouchHalves-sym one other (p, q, h, k, inr n) = (q, p, k, h, inr (Neighbours-sym p q n))
 
 module _ (a b : HalfBox) where
   abbrev ColumnsOverlap : Type 0

@@ -3,7 +3,7 @@ use Rattle.std.proofs.Common.{ℤ, ◌<ℤ◌, ◌≤ℤ◌, ◌↔◌, Option, 
 use Rattle.geo_core.specs.Plane.{IsIn, IntervalsOverlap}
 use Rattle.geo_core.specs.declared.plane.Half.{Half}
 use Rattle.half_boxes.specs.HalfBoxes.{HasHalf, HasHalfIn}
-use Rattle.half_boxes.specs.inside.Parts.{IsInSpan}
+use Rattle.half_boxes.specs.inside.MissingSpans.{IsInSpan}
 use Rattle.half_boxes.specs.declared.boxes.HalfBox.{HalfBox}
 use Rattle.half_boxes.specs.declared.span.HalfSpan.{HalfSpan}
 

@@ -1,6 +1,9 @@
 -- ends of spans in rising order, and their ranks
-use Rattle.std.proofs.Common.{ℕ, ◌+◌, ◌<◌, ◌≤◌, ◌≡◌, refl, sym, ap, subst, arith, take, inl, inr, List, [], ◌∷◌, ◌++◌, length, get_or, true, false, ℤ, pos, ◌≤ℤ◌, ◌<ℤ◌, int_lt, All, AllPairs, Contains, Some, slice_get}
-use Rattle.lists.proofs.Words.{MatchOrdering, Ordering, Less, Equal, Greater, ints, by_lt_z, int_eq, int_cmp, int_cmp_total, int_ranked, dedup, IsPermutation, IsSorted, All-from_recursion, All-weaker, AllPairs-cons, Contains-append_left, Contains-dedup, Contains-permutation, Contains-push, cases_lt, get_or_from_slice_get, slice_get_read, slice_get_within}
+use Rattle.std.proofs.Common.{ℕ, ◌+◌, ◌<◌, ◌≤◌, ◌≡◌, refl, sym, ap, subst, arith, take, inl, inr, List, [], ◌∷◌}
+use Rattle.std.proofs.Common.{◌++◌, length, get_or, true, false, ℤ, pos, ◌≤ℤ◌, ◌<ℤ◌, int_lt, All, AllPairs, Contains, Some, slice_get}
+use Rattle.lists.proofs.Words.{MatchOrdering, Ordering, Less, Equal, Greater, ints, by_lt_z, int_eq, int_cmp, int_cmp_total, int_ranked, dedup, IsPermutation}
+use Rattle.lists.proofs.Words.{IsSorted, All-from_recursion, All-weaker, AllPairs-cons, Contains-append_left, Contains-dedup}
+use Rattle.lists.proofs.Words.{Contains-permutation, Contains-push, cases_lt, get_or_from_slice_get, slice_get_read, slice_get_within}
 use Rattle.lists.proofs.Reading.{All-read}
 use Rattle.std.specs.Ordering.{eq_by_cmp}
 use Rattle.std.specs.List.Sorted.{IsStrictlySortedBy, IsPartitionPoint, IsPartitionedBy}

@@ -1,5 +1,5 @@
 -- spans of half units, which are whole numbers in one dimension
-use Rattle.std.proofs.Common.{◌≡◌, arith, ℤ, ◌≤ℤ◌, ◌<ℤ◌, ◌↔◌}
+use Rattle.std.proofs.Common.{◌≡◌, refl, arith, ℤ, ◌≤ℤ◌, ◌<ℤ◌, ◌↔◌}
 use Rattle.lists.proofs.Words.{int_max, int_min, ints, clamps}
 use Rattle.geo_core.specs.Plane.{IsIn, IsPartOf}
 use Rattle.geo_core.proofs.IntervalLaws.{ends_in, in_ends}
@@ -16,6 +16,9 @@ cut_above low high at from before x e f = (
   λ h. let a = h.from in let b = h.before in (record { from = omega (arith, ints, clamps); before = omega (arith, ints) }, omega (arith, ints, clamps)),
   λ k. let a = k.0.from in let b = k.0.before in let c = k.1 in record { from = omega (arith, ints, clamps); before = omega (arith, ints) },
 )
+
+pub none_above : (low high at from x : ℤ) → from ≡ int_max low at → high ≤ℤ from → IsIn low high x → at ≤ℤ x → ⊥
+none_above low high at from x e none h k = let c = (cut_above low high at from high x e refl).1 (h, k) in let a = c.from in let b = c.before in absurd (omega (arith, ints))
 
 -- an interval with a number lies in another by its ends
 pub within : (a0 a1 b0 b1 : ℤ) → a0 <ℤ a1 → ((b0 ≤ℤ a0) × (a1 ≤ℤ b1)) ↔ IsPartOf a0 a1 b0 b1

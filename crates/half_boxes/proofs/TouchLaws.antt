@@ -1,10 +1,11 @@
 -- rectangles by rank touch where the boxes do, and so do the pairs of them that a search finds
-use Rattle.std.proofs.Common.{ℕ, ◌<◌, refl, sym, subst, List, length, arith, inl, inr, ℤ, ◌<ℤ◌, Contains, ◌↔◌}
+use Rattle.std.proofs.Common.{ℕ, zero, suc, ◌+◌, ◌*◌, ◌^◌, ◌<◌, ◌≤◌, refl, sym, subst, List, length, arith, inl, inr, ℤ, ◌<ℤ◌, Contains, ◌↔◌}
 use Rattle.lists.proofs.Words.{AllZip, AllZip-long, leb_tells, slice_get_within}
 use Rattle.lists.proofs.Comparing.{equal_or_not}
 use Rattle.lists.proofs.Containing.{some_item}
+use Rattle.std.proofs.Math.Nat.{mul-le-mul_left}
 use Rattle.std.proofs.lemmas.Slice.Zip.{AllZip-left}
-use Rattle.paths.specs.Paths.{stay}
+use Rattle.paths.specs.Paths.{stay, step}
 use Rattle.paths.proofs.PathLaws.{reverse}
 use Rattle.classes.specs.Classes.{AreJoined}
 use Rattle.geo_core.specs.Plane.{IntervalsOverlap, IntervalsTouch, Touch}
@@ -13,12 +14,12 @@ use Rattle.geo_core.specs.declared.plane.Rect.{Rect}
 use Rattle.geo_core.proofs.IntervalLaws.{overlapping, touching}
 use Rattle.geo_core.proofs.RectLaws as rects
 use Rattle.geo_core.proofs.RectLaws.{HasSides, sides_of}
-use Rattle.fault_model.proofs.HalfLaws.{Neighbours-sym}
 use Rattle.touch_sweep.specs.Touching.{AreTouching}
 use Rattle.half_boxes.specs.HalfBoxes.{AreTouchingBoxes, TouchHalves}
 use Rattle.half_boxes.specs.inside.Ranks.{HaveRanks, IsRank, IsRankedBox, TouchAlike}
+use Rattle.half_boxes.specs.inside.Scans.{AreTouchingPairs}
 use Rattle.half_boxes.specs.declared.boxes.HalfBox.{HalfBox}
-use Rattle.half_boxes.proofs.BoxLaws.{touch_across, touch_by_axis, touch_up}
+use Rattle.half_boxes.proofs.BoxLaws.{TouchHalves-sym, touch_across, touch_by_axis, touch_up}
 use Rattle.half_boxes.proofs.RankLaws.{end_le, end_less, rank_le, rank_less}
 
 -- ---- along one axis
@@ -80,10 +81,6 @@ all_alike columns rows boxes made across up each = record {
 
 -- ---- pairs
 
-TouchHalves-sym : (one other : HalfBox) → TouchHalves one other → TouchHalves other one
-TouchHalves-sym one other (p, q, h, k, inl e) = (q, p, k, h, inl (sym e))
-TouchHalves-sym one other (p, q, h, k, inr n) = (q, p, k, h, inr (Neighbours-sym p q n))
-
 boxes_sym : (boxes : List HalfBox) (a b : ℕ) → AreTouchingBoxes boxes a b → AreTouchingBoxes boxes b a
 boxes_sym boxes a b t = record { one = t.other; other = t.one; one_at = t.other_at; other_at = t.one_at; touch = TouchHalves-sym t.one t.other t.touch }
 
@@ -116,3 +113,28 @@ module _ (boxes : List HalfBox) (made : List Rect) (same : TouchAlike boxes made
           | inr y ↦ reverse (λ a b e. elim e [ inl c ↦ inr c | inr c ↦ inl c ]) (all b a (touching_made b a y.1 (boxes_sym boxes a b t)))
         ]
   ])
+
+-- ---- short lists
+
+-- a list that is short has no more pairs than a sweep may find
+levels_of : (n levels : ℕ) → n ≤ 400 → n ≤ 2 ^ levels → n ≤ 51 * (levels + 1)
+levels_of n zero h k = omega arith
+levels_of n (suc zero) h k = omega arith
+levels_of n (suc (suc zero)) h k = omega arith
+levels_of n (suc (suc (suc zero))) h k = omega arith
+levels_of n (suc (suc (suc (suc zero)))) h k = omega arith
+levels_of n (suc (suc (suc (suc (suc zero))))) h k = omega arith
+levels_of n (suc (suc (suc (suc (suc (suc zero)))))) h k = omega arith
+levels_of n (suc (suc (suc (suc (suc (suc (suc levels))))))) h k = omega arith
+
+module _ (boxes : List HalfBox) (pairs : List (ℕ × ℕ)) (found : AreTouchingPairs boxes pairs) where
+  pub pairs_join : (a b : ℕ) → AreTouchingBoxes boxes a b → AreJoined (length boxes) pairs a b
+  pairs_join a b t =
+      let first = slice_get_within boxes a t.one t.one_at in
+      elim (found.all a b t) [
+        | inl e ↦ subst (AreJoined (length boxes) pairs a) e (stay first)
+        | inr pair ↦ step first pair (stay (slice_get_within boxes b t.other t.other_at))
+      ]
+
+  pub pairs_few : length boxes ≤ 400 → (levels : ℕ) → length boxes ≤ 2 ^ levels → length pairs ≤ 51 * length boxes * (levels + 1)
+  pairs_few short levels most = let few = found.few in let n = length boxes in omega (arith, mul-le-mul_left n (levels_of n levels short most))

@@ -1,3 +1,4 @@
 -- what only this crate's proofs and private contracts cite
-pub mod Parts
+pub mod MissingSpans
 pub mod Ranks
+pub mod Scans

@@ -50,9 +50,10 @@ fn reached(places: Interval, side: u32) -> HalfSpan
         ↔ ((i : ℤ) × IsIn places.low places.high i × IsUnder i side u) }
 {
     let side = side as i32;
+    let units = HalfSpan::of_units(places);
     HalfSpan {
-        low: places.low + places.low + 1 - side,
-        high: places.high + places.high - 1 + side,
+        low: units.low + 1 - side,
+        high: units.high - 1 + side,
     }
 }
 
@@ -65,8 +66,9 @@ fn always_hit(places: Interval, side: u32) -> Option<HalfSpan>
     ensures none { IfNone result ((u : ℤ) → ((i : ℤ) → IsIn places.low places.high i → IsUnder i side u) → ⊥) }
 {
     let side = side as i32;
-    let low = places.high + places.high - 1 - side;
-    let high = places.low + places.low + 1 + side;
+    let units = HalfSpan::of_units(places);
+    let low = units.high - 1 - side;
+    let high = units.low + 1 + side;
     if low >= high {
         return None;
     }

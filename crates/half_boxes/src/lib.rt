@@ -7,6 +7,7 @@ pub mod boxes;
 pub mod footprints;
 pub mod outside;
 mod ranks;
+mod scan;
 pub mod span;
 pub mod touching;
 

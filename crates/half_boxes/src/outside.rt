@@ -19,7 +19,7 @@ impl HalfBox {
     ghost use Rattle.geo_core.specs.Intervals.{IsIn};
     ghost use Rattle.geo_core.specs.declared.plane.Half.{Half};
     ghost use Rattle.half_boxes.specs.HalfBoxes.{HasHalf, HasHalfIn};
-    ghost use Rattle.half_boxes.specs.inside.Parts.{IsInSpan};
+    ghost use Rattle.half_boxes.specs.inside.MissingSpans.{IsInSpan};
 
     /// What the box has outside the hole.
     pub fn outside(self, hole: HalfBox) -> Outside

@@ -32,7 +32,7 @@ fn ends_along(alloc: Global, boxes: &[HalfBox], axis: Axis) -> Result<Vec<i32>, 
     let mut ends = all_ends_along(alloc, boxes, axis)?;
     ends.sort_unstable();
     ends.dedup();
-    // So many ends have more than 500,000,000 boxes, and no memory is left for what is made of those.
+    // More ends than that are those of over 500,000,000 boxes, whose rectangles are taken to find no memory.
     if ends.len() > MOST_ENDS {
         return Err(NoMemory);
     }

@@ -1,8 +1,8 @@
 -- the boxes of an island, and which of them may matter
-use Rattle.std.proofs.Common.{ℕ, ◌+◌, ◌<◌, ◌≤◌, ◌≡◌, refl, sym, subst, ap, ◌∙◌, List, [], ◌∷◌, ◌++◌, length, take, take_all, get_or, inl, inr, ◌⊎◌, ◌↔◌, arith, ℤ, pos, negsuc, ◌+ℤ◌, ◌≤ℤ◌, ◌<ℤ◌, Contains, Option, Some, None}
+use Rattle.std.proofs.Common.{ℕ, ◌+◌, ◌<◌, ◌≤◌, ◌≡◌, refl, sym, subst, ◌∙◌, List, [], ◌∷◌, ◌++◌, length, take, take_all, get_or, inl, inr, ◌↔◌, arith, ℤ, pos, ◌+ℤ◌, Contains, Option}
 use Rattle.lists.proofs.Words.{ints, Contains-append_left, Contains-push}
 use Rattle.lists.proofs.Containing.{Contains-none, Contains-take_cases}
-use Rattle.geo_core.specs.Plane.{Has, IsIn, IsInterval, IntervalsTouch}
+use Rattle.geo_core.specs.Plane.{Has, IsIn, IntervalsTouch}
 use Rattle.geo_core.specs.Intervals.{IsWithin}
 use Rattle.geo_core.specs.declared.plane.Cell.{Cell}
 use Rattle.geo_core.specs.declared.plane.Half.{Half}
@@ -11,11 +11,10 @@ use Rattle.geo_core.proofs.RectLaws.{same_cell}
 use Rattle.geo_core.proofs.IntervalLaws.{touching}
 use Rattle.fault_model.specs.FaultNames.{IsOn, IslandLists, LiesIn}
 use Rattle.fault_model.specs.IslandLists.{IsAnchoredIsland}
-use Rattle.fault_model.proofs.HalfLaws.{cell_on}
-use Rattle.half_boxes.specs.HalfBoxes.{HasHalf, HasHalfIn, LiesWithin}
+use Rattle.half_boxes.specs.HalfBoxes.{HasHalf}
 use Rattle.half_boxes.specs.declared.boxes.HalfBox.{HalfBox}
 use Rattle.half_boxes.specs.declared.span.HalfSpan.{HalfSpan}
-use Rattle.severing.specs.Changes.{HasNear, IsNoted}
+use Rattle.severing.specs.Changes.{HasNear}
 use Rattle.open_grid.specs.inside.ZoneSteps.{GainsCells, HasBoxOf, HaveBoxesOf, HavePieceBoxes, KeepsNear, MayNotMatter}
 
 -- ---- cells

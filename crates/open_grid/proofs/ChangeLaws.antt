@@ -1,11 +1,10 @@
 -- the places at which defects change, by halves that are rounded down
-use Rattle.std.proofs.Common.{ℕ, ◌≤◌, ◌≡◌, refl, sym, ap, ◌∙◌, subst, length, take, take_all, get_or, ◌+◌, ◌<◌, List, [], ◌∷◌, ◌++◌, arith, inl, inr, ◌⊎◌, ℤ, pos, ◌+ℤ◌, ◌-ℤ◌, ◌≤ℤ◌, ◌<ℤ◌, All, Contains}
+use Rattle.std.proofs.Common.{ℕ, ◌≤◌, ◌≡◌, sym, ap, ◌∙◌, subst, length, take, take_all, get_or, ◌+◌, ◌<◌, List, [], ◌∷◌, ◌++◌, arith, inl, inr, ◌⊎◌, ℤ, pos, ◌+ℤ◌, ◌-ℤ◌, ◌≤ℤ◌, ◌<ℤ◌, Contains}
 use Rattle.lists.proofs.Words.{ints, All-push, All-nil, IsPermutation, Contains-permutation, Contains-append_left, Contains-push}
 use Rattle.std.proofs.lemmas.List.Sorted.{All-permutation}
 use Rattle.lists.proofs.Containing.{Contains-head, Contains-none, Contains-one, Contains-take_cases}
 use Rattle.geo_core.specs.Plane.{low_along, high_along}
 use Rattle.geo_core.specs.declared.axis.Axis.{Axis}
-use Rattle.geo_core.specs.declared.axis.Axis.TheVariants.{X, Y}
 use Rattle.geo_core.specs.declared.plane.Rect.{Rect}
 use Rattle.half_boxes.specs.declared.boxes.HalfBox.{HalfBox}
 use Rattle.severing.specs.Changes.{ChangesAt, IsChange, Passes, Reaches, span_along}

@@ -1,6 +1,6 @@
 -- counts of the cells of a zone at which a defect parts anchors of some island
-use Rattle.std.proofs.Common.{ℕ, arith, ◌+◌, ◌*◌, ◌^◌, ◌<◌, ◌≤◌, ◌≡◌, refl, sym, subst, List, [], ◌∷◌, length, inl, inr, ◌⊎◌, ◌↔◌, Contains, Result, Ok, Err, IfOk}
-use Rattle.lists.proofs.Words.{mul-le}
+use Rattle.std.proofs.Common.{ℕ, true, false, ◌==◌, ◌≢◌, ap, arith, ◌+◌, ◌*◌, ◌≤◌, ◌≡◌, refl, sym, subst, List, [], ◌∷◌, length, inl, inr, ◌↔◌, Contains}
+use Rattle.lists.proofs.Words.{eqb-true, false≢true, mul-le}
 use Rattle.lists.proofs.Containing.{Contains-none, Contains-head, Contains-tail, Contains-cons_cases}
 use Rattle.geo_core.specs.Plane.{Has}
 use Rattle.geo_core.specs.declared.axis.Axis.{Axis}
@@ -20,6 +20,11 @@ use Rattle.open_grid.specs.inside.ZoneNeeds.{AllSever, IsCountIn, SeverAlike, Se
 use Rattle.open_grid.specs.inside.ZoneSteps.{LeftStandsFor}
 use Rattle.open_grid.specs.declared.looked.Looked.{Looked}
 use Rattle.open_grid.proofs.ZoneLaws.{IsStoodFor, stand_in_part}
+
+-- the law on the lines of steady zones
+abbrev pub SeverAlikeAlong : Axis → Type 0
+SeverAlikeAlong axis = (island : IslandLists) (side : ℕ) (zone : Rect) (near : List HalfBox) → 1 ≤ side → HasNear island zone side near → IsSteady axis zone side near → (c d : Cell) → Has zone c → Has zone d
+    → AreInLine axis c d → IsSevered island (IsInFootprint c side) ↔ IsSevered island (IsInFootprint d side)
 
 module _ (zone : Rect) (side : ℕ) where
   -- ---- islands, and what stands for them
@@ -77,6 +82,10 @@ module _ (zone : Rect) (side : ℕ) where
   LinesSeverAlike axis = (island : IslandLists) (near : List HalfBox) → HasNear island zone side near → IsSteady axis zone side near → (c d : Cell) → Has zone c → Has zone d → AreInLine axis c d
       → IsSevered island (IsInFootprint c side) ↔ IsSevered island (IsInFootprint d side)
 
+  pub by_axis : (axis : Axis) → 1 ≤ side → SeverAlikeAlong X → SeverAlikeAlong Y → LinesSeverAlike axis
+  by_axis X some columns rows island near = columns island side zone near some
+  by_axis Y some columns rows island near = rows island side zone near some
+
   some_in_line : (axis : Axis) (looked : List Looked) (islands : List IslandLists) → LinesSeverAlike axis → ((seen : Looked) → Contains looked seen → IsSteady axis zone side seen.near)
       → StandForAll zone side looked islands → (c d : Cell) → Has zone c → Has zone d → AreInLine axis c d → SeversSome islands side c → SeversSome islands side d
   some_in_line axis looked islands law steady stand c d has has' line s =
@@ -92,6 +101,16 @@ module _ (zone : Rect) (side : ℕ) where
       let a = one l.others (stand_in_part zone line side (λ c h. ((first.cells c).0 h).0) left l.others l.stand) in
       let all = lines_tally P axis zone line n first (some_in_line axis left l.others law steady l.stand) a.tally in
       count_alike islands l.others (count_along axis zone * n) l.alike (record { tally = all; small = few_tallied {P = P} zone (count_along axis zone * n) all })
+
+-- ---- lists with nothing, and with something
+
+pub no_items : {A : Type 0} (xs : List A) → true ≡ (length xs == 0) → xs ≡ []
+no_items [] h = refl
+no_items (x ∷ xs) h = let none = eqb-true (length (x ∷ xs)) 0 (sym h) in absurd (omega arith)
+
+pub some_items : {A : Type 0} (xs : List A) → false ≡ (length xs == 0) → xs ≢ []
+some_items [] h is = false≢true h
+some_items (x ∷ xs) h is = let e = ap length is in omega arith
 
 -- ---- bounds, which hold whatever stands for what
 

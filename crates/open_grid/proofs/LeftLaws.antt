@@ -1,15 +1,14 @@
 -- islands that are looked at one after the other
-use Rattle.std.proofs.Common.{ℕ, zero, suc, arith, ◌+◌, ◌<◌, ◌≡◌, ◌≢◌, refl, sym, ap, subst, ◌∙◌, List, [], ◌∷◌, ◌++◌, length, take, get_or, inl, inr, ◌⊎◌, ◌↔◌, Contains}
-use Rattle.lists.proofs.Words.{AllZip, Contains-append_left, Contains-push, Contains-push_cases}
+use Rattle.std.proofs.Common.{ℕ, zero, suc, arith, ◌<◌, ◌≡◌, refl, sym, ap, subst, List, [], ◌∷◌, ◌++◌, length, take, get_or, inl, inr, ◌⊎◌, Contains}
+use Rattle.lists.proofs.Words.{Contains-append_left, Contains-push, Contains-push_cases}
 use Rattle.lists.proofs.Containing.{Contains-head, Contains-tail}
 use Rattle.lists.proofs.Pairing.{AllZip-push}
-use Rattle.geo_core.specs.Plane.{Has}
 use Rattle.geo_core.specs.declared.plane.Cell.{Cell}
 use Rattle.geo_core.specs.declared.plane.Rect.{Rect}
 use Rattle.fault_model.specs.FaultNames.{IslandLists, IsInFootprint}
 use Rattle.severing.specs.Severing.{IsSevered}
-use Rattle.open_grid.specs.inside.ZoneNeeds.{StandsFor, StandForAll, SeversSome, SeverAlike, AllSever}
-use Rattle.open_grid.specs.inside.ZoneSteps.{IsSingle, IsToldOf, LeftStandsFor}
+use Rattle.open_grid.specs.inside.ZoneNeeds.{StandsFor, StandForAll, SeversSome, AllSever}
+use Rattle.open_grid.specs.inside.ZoneSteps.{IsToldOf, LeftStandsFor}
 use Rattle.open_grid.specs.declared.looked.Looked.{Looked}
 use Rattle.open_grid.specs.declared.looked.Told.TheVariants.{Never, Always, Open}
 
@@ -63,14 +62,13 @@ module _ (zone : Rect) (side : ℕ) where
   some_last islands last c s = record { island = last; among = Contains-push islands last; severed = s }
 
   pub left_none : LeftStandsFor zone side [] []
-  left_none = record { others = []; stand = tt; alike = λ c has. (λ s. s, λ s. s); several = λ some single. some refl }
+  left_none = record { others = []; stand = tt; alike = λ c has. (λ s. s, λ s. s) }
 
   module _ (islands : List IslandLists) (left : List Looked) (so_far : LeftStandsFor zone side islands left) (last : IslandLists) where
     pub left_never : IsToldOf zone side last Never → LeftStandsFor zone side (islands ++ last ∷ []) left
     left_never never = record {
       others = so_far.others;
       stand = so_far.stand;
-      several = so_far.several;
       alike = λ c has. (
         λ s. elim (some_cases islands last c s) [ inl t ↦ (so_far.alike c has).0 t | inr t ↦ absurd (never c has t) ],
         λ s. some_before islands last c ((so_far.alike c has).1 s),
@@ -80,8 +78,7 @@ module _ (zone : Rect) (side : ℕ) where
     pub left_open : (closer : Looked) → IsToldOf zone side last (Open closer) → LeftStandsFor zone side (islands ++ last ∷ []) (left ++ closer ∷ [])
     left_open closer told = record {
       others = so_far.others ++ last ∷ [];
-      stand = AllZip-push (StandsFor zone side) left so_far.others closer last so_far.stand told.0;
-      several = λ some single. told.1 single;
+      stand = AllZip-push (StandsFor zone side) left so_far.others closer last so_far.stand told;
       alike = λ c has. (
         λ s. elim (some_cases islands last c s) [
           | inl t ↦ some_before so_far.others last c ((so_far.alike c has).0 t)

@@ -4,3 +4,4 @@ pub mod LeftLaws
 pub mod CountLaws
 pub mod ChangeLaws
 pub mod BoxLaws
+pub mod PartingLaws

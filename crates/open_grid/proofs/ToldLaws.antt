@@ -1,7 +1,7 @@
 -- what an island says of a zone
-use Rattle.std.proofs.Common.{ℕ, pos, ◌+ℤ◌, ◌≡◌, sym, subst, ◌∙◌, List, inl, inr, ◌⊎◌, ◌↔◌, Bool, true, false, IsTrue, Contains, Option, Some, None, arith}
+use Rattle.std.proofs.Common.{ℕ, ◌≡◌, sym, subst, ◌∙◌, List, inl, inr, ◌↔◌, Bool, true, false, IsTrue, Option, Some, None, arith}
 use Rattle.lists.proofs.Words.{ints, false≢true}
-use Rattle.geo_core.specs.Plane.{Has, IsIn}
+use Rattle.geo_core.specs.Plane.{Has}
 use Rattle.geo_core.specs.declared.plane.Cell.{Cell}
 use Rattle.geo_core.specs.declared.plane.Half.{Half}
 use Rattle.geo_core.specs.declared.plane.Rect.{Rect}
@@ -10,7 +10,7 @@ use Rattle.fault_model.specs.FaultNames.{IslandLists, IsInFootprint}
 use Rattle.half_boxes.specs.Footprints.{IsReached, IsAlwaysHit}
 use Rattle.half_boxes.specs.HalfBoxes.{HasHalf, HasHalfIn, LiesWithin}
 use Rattle.half_boxes.specs.declared.boxes.HalfBox.{HalfBox}
-use Rattle.remnants.specs.Remnants.{RemnantLists, IsSplit, IsLooseWithin}
+use Rattle.remnants.specs.Remnants.{RemnantLists, IsSplit}
 use Rattle.severing.specs.Changes.{HasNear, IsNoted}
 use Rattle.severing.specs.Severing.{IsSevered}
 use Rattle.open_grid.specs.inside.ZoneNeeds.{IsBetweenDefects, StandsFor}
@@ -82,9 +82,9 @@ module _ (zone : Rect) (side : ℕ) (looked : Looked) (island : IslandLists) (st
           let b : IsBetweenDefects zone side core = record { has_core = λ g all. (is g).1 all; in_reach = λ g has'. core_reached g ((is g).0 has') } in
           defects island core side c (λ g has'. (is g).0 has' c has) ((same_as_island core b).0 h)
 
-  pub told_open : (kept : List HalfBox) → KeepsNear inner outer looked.near kept → (IsSingle zone → ⊥) → (made : Looked) → made.remnant ≡ remnant → made.near ≡ kept
+  pub told_open : (kept : List HalfBox) → KeepsNear inner outer looked.near kept → (made : Looked) → made.remnant ≡ remnant → made.near ≡ kept
       → IsToldOf zone side island (Open made)
-  told_open kept keeps several made remnant_is near_is = (record { same = same; has_near = has_near }, several)
+  told_open kept keeps made remnant_is near_is = record { same = same; has_near = has_near }
     where
       same : (removed : HalfBox) → IsBetweenDefects zone side removed → IsSplit made.remnant removed ↔ IsSevered island (HasHalf removed)
       same removed b = subst (λ r. IsSplit r removed ↔ IsSevered island (HasHalf removed)) (sym remnant_is) (same_as_island removed b)

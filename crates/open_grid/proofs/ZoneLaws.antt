@@ -1,6 +1,5 @@
 -- what stands for an island in a zone stands for it in a part of the zone
-use Rattle.std.proofs.Common.{ℕ, List, [], ◌∷◌, inl, inr, ◌⊎◌, ◌≡◌, ◌↔◌, Contains}
-use Rattle.lists.proofs.Words.{AllZip}
+use Rattle.std.proofs.Common.{ℕ, List, [], ◌∷◌, inl, inr, Contains}
 use Rattle.geo_core.specs.Plane.{Has}
 use Rattle.geo_core.specs.declared.plane.Cell.{Cell}
 use Rattle.geo_core.specs.declared.plane.Half.{Half}

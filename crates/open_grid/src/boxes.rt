@@ -6,7 +6,7 @@ ghost use Rattle.geo_core.specs.declared.plane.Cell.{Cell as AnyCell};
 ghost use Rattle.geo_core.specs.declared.plane.Half.{Half};
 ghost use Rattle.geo_core.specs.declared.plane.Rect.{Rect as AnyRect};
 ghost use Rattle.half_boxes.specs.HalfBoxes.{HasHalf};
-ghost use Rattle.open_grid.specs.inside.ZoneSteps.{GainsCells, HaveBoxesOf, HavePieceBoxes};
+ghost use Rattle.open_grid.specs.inside.ZoneSteps.{GainsCells, HaveBoxesOf, HavePieceBoxes, IsSingle};
 
 use fault_model::Island;
 use geo_core::{Cell, FARTHEST_GROWN, NoMemory, Rect};
@@ -59,6 +59,7 @@ fn cell_box(cell: Cell) -> Option<HalfBox>
 /// The rectangle of the cell alone. Beyond where rectangles may lie there is none.
 pub fn zone_at(cell: Cell) -> Option<Rect>
     ensures some { IfSome result (λ zone. (c : AnyCell) → Has zone c ↔ (c ≡ cell)) }
+    ensures single { IfSome result IsSingle }
     ensures none { IfNone result ((rect : AnyRect) → Has rect cell → ⊥) }
 {
     if cell.i < -FARTHEST_GROWN {

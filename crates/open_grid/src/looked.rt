@@ -3,7 +3,7 @@ ghost use Rattle.geo_core.specs.declared.plane.Rect.{Rect as AnyRect};
 ghost use Rattle.fault_model.specs.IslandLists.{IslandLists, IsAnchoredIsland};
 ghost use Rattle.half_boxes.specs.declared.footprints.TheConstants.{GREATEST_SIDE};
 ghost use Rattle.open_grid.specs.inside.ZoneNeeds.{StandsFor};
-ghost use Rattle.open_grid.specs.inside.ZoneSteps.{IsSplitWithout, IsToldOf, KeepsNear, MayNotMatter};
+ghost use Rattle.open_grid.specs.inside.ZoneSteps.{IsSplitWithout, IsToldAtOnce, IsToldOf, KeepsNear, MayNotMatter};
 
 use super::boxes::boxes_of;
 use super::steps::is_single;
@@ -49,7 +49,8 @@ pub fn look(alloc: Global, island: &Island) -> Result<Looked, NoMemory>
 pub fn look_at(alloc: Global, looked: &Looked, zone: Rect, side: u32) -> Result<Told, NoMemory>
     requires some { 1 ≤ side }
     requires few { side ≤ GREATEST_SIDE }
-    ensures { (island : IslandLists) → StandsFor zone side looked.now island → IfOk result (IsToldOf zone side island) }
+    ensures told { (island : IslandLists) → StandsFor zone side looked.now island → IfOk result (IsToldOf zone side island) }
+    ensures at_once { IfOk result (IsToldAtOnce zone) }
 {
     let outer = reach_of(zone, side);
     let inner = core_of(zone, side);

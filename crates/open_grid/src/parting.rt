@@ -5,11 +5,10 @@ ghost use Rattle.geo_core.specs.Unions.{IsInUnion};
 ghost use Rattle.fault_model.specs.Faults.{IsCellsOpen};
 
 use super::boxes::zone_at;
+use super::looked::{Told, look, look_at};
 use fault_model::Island;
 use geo_core::{Cell, NoMemory};
-use half_boxes::reach_of;
-use remnants::Remnant;
-use severing::{boxes_and_defects_sever, defects_sever_islands};
+use severing::defects_sever_islands;
 use std::alloc::Global;
 
 /// Whether the defect of this radius at the cell parts two anchors of the island: on what it spares of the island's
@@ -23,14 +22,16 @@ pub fn parted(alloc: Global, island: &Island, cell: Cell, r: u32) -> Result<bool
     ensures { IfOk result (λ answer. IsTrue answer
         ↔ IsCellsOpen (IsInUnion island.now.pieces) (Contains island.now.anchors) (r + r) cell) }
 {
-    defects_sever_islands();
-    boxes_and_defects_sever();
     // Beyond where rectangles may lie a defect has nothing of a layout.
     let Some(zone) = zone_at(cell) else {
         return Ok(false);
     };
-    let whole = Remnant::whole(alloc, island)?;
-    whole
-        .narrow(alloc, None, reach_of(zone, r + r))?
-        .is_split(alloc)
+    let looked = look(alloc, island)?;
+    defects_sever_islands();
+    match look_at(alloc, &looked, zone, r + r)? {
+        Told::Never => Ok(false),
+        Told::Always => Ok(true),
+        // One cell leaves nothing to look at.
+        Told::Open(_) => unreachable!(),
+    }
 }

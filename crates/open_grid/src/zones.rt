@@ -3,7 +3,7 @@ ghost use Rattle.fault_model.specs.Areas.{cells_of};
 ghost use Rattle.fault_model.specs.IslandLists.{IslandLists};
 ghost use Rattle.half_boxes.specs.declared.footprints.TheConstants.{GREATEST_SIDE};
 ghost use Rattle.open_grid.specs.inside.ZoneNeeds.{IsCountIn, StandForAll};
-ghost use Rattle.open_grid.specs.inside.ZoneSteps.{IsLeftOf};
+ghost use Rattle.open_grid.specs.inside.ZoneSteps.{IsDoneAtOnce, IsLeftOf};
 
 use super::looked::{Looked, Told, look_at};
 use super::steps::{Step, next_step};
@@ -26,8 +26,9 @@ pub enum Left {
 fn look_closer(alloc: Global, looked: &[Looked], zone: Rect, side: u32) -> Result<Left, NoMemory>
     requires some { 1 ≤ side }
     requires few { side ≤ GREATEST_SIDE }
-    ensures { (islands : List IslandLists) → StandForAll zone side looked.now islands →
+    ensures left { (islands : List IslandLists) → StandForAll zone side looked.now islands →
         IfOk result (IsLeftOf zone side islands) }
+    ensures at_once { IfOk result (IsDoneAtOnce zone) }
 {
     let mut left = Vec::new(alloc);
     for one in looked {

@@ -1,20 +1,18 @@
 -- counts of the cells of two labels
-use Rattle.std.proofs.Common.{ℕ, suc, ◌+◌, ◌-◌, ◌^◌, ◌<◌, ◌≤◌, ◌≡◌, ◌≢◌, refl, sym, ap, ◌∙◌, subst, List, [], ◌∷◌, ◌++◌, length, inl, inr, ◌⊎◌, ◌↔◌, arith, Result, Ok, Err, IfOk, Contains}
+use Rattle.std.proofs.Common.{ℕ, suc, ◌+◌, ◌-◌, ◌^◌, ◌<◌, ◌≤◌, ◌≡◌, ◌≢◌, sym, ap, ◌∙◌, subst, List, [], ◌∷◌, ◌++◌, length, inl, inr, ◌⊎◌, ◌↔◌, arith, Result, Ok, Err, IfOk}
 use Rattle.geo_core.specs.Plane.{Has, IsInUnion}
 use Rattle.geo_core.specs.declared.plane.Cell.{Cell}
 use Rattle.geo_core.specs.declared.plane.Labelled.{Labelled}
 use Rattle.geo_core.specs.declared.plane.Rect.{Rect}
-use Rattle.geo_core.specs.declared.axis.Axis.{Axis}
 use Rattle.fault_model.specs.FaultNames.{Tally, none, hit, miss, cells_of}
 use Rattle.fault_model.proofs.CellLaws.{Contains-cells_of}
 use Rattle.fault_model.proofs.TallyLaws.{Tally-none, Tally-same, Tally-same_all}
-use Rattle.lists.proofs.Containing.{Contains-head, Contains-tail}
 use Rattle.depth_sweep.specs.Runs.{IsInTwo}
 use Rattle.window_parts.specs.WindowParts.{AreParts}
 use Rattle.window_parts.proofs.PartLaws.{few_tallied, parts_tally, whole_tally}
 use Rattle.short_area.specs.Labels.{TouchesTwoLabels}
 use Rattle.short_area.specs.inside.LabelRuns.{AreRunsOf}
-use Rattle.short_area.specs.inside.Zones.{AreAlikeIn, AreSplit, AreZonesOf, HaveNoThird, HaveSameTwo, IsCountOf, IsInLabel, IsInTwoLabels, IsWholeIn}
+use Rattle.short_area.specs.inside.Zones.{AreAlikeIn, AreSplit, AreZonesOf, HaveNoThird, HaveSameTwo, IsCountOf, IsInTwoLabels, IsWholeIn}
 use Rattle.short_area.proofs.RunLaws.{union_append}
 use Rattle.short_area.proofs.Touching.{two_touched}
 use Rattle.short_area.proofs.ZoneLaws.{beside_whole, both_of_two, two_alike}

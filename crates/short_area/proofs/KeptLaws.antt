@@ -2,11 +2,9 @@
 use Rattle.std.proofs.Common.{ℕ, ◌+◌, ◌<◌, ◌≤◌, ◌≡◌, ◌≢◌, ◌∙◌, sym, subst, List, [], ◌∷◌, ◌++◌, length, take, get_or, All, Contains}
 use Rattle.lists.proofs.Words.{All-contains, All-nil, All-push, All-weaker, Contains-append_left, Contains-get_or, Contains-push}
 use Rattle.geo_core.specs.Plane.{Overlap}
-use Rattle.geo_core.specs.declared.plane.Cell.{Cell}
 use Rattle.geo_core.specs.declared.plane.Labelled.{Labelled}
-use Rattle.geo_core.specs.declared.plane.Rect.{Rect}
 use Rattle.lists.proofs.Reading.{All-read, All-read_all}
-use Rattle.short_area.specs.inside.Zones.{HaveSameTwo, IsInLabel, IsInTwoLabels, MeetsOther}
+use Rattle.short_area.specs.inside.Zones.{HaveSameTwo, IsInLabel, MeetsOther}
 
 -- the zone has the label of the other, or no cell in common with it
 abbrev pub IsApartFrom : Labelled → Labelled → Type 0

@@ -1,5 +1,5 @@
 -- lists in the order of a sort by numbers
-use Rattle.std.proofs.Common.{ℕ, List, arith, get_or, refl, ◌<◌, ◌≤◌, ◌≡◌, AllPairs, Bool, false}
+use Rattle.std.proofs.Common.{ℕ, List, arith, get_or, refl, ◌<◌, ◌≤◌, ◌≡◌, AllPairs, false}
 use Rattle.lists.proofs.Words.{always_returns_same, ranks_by, sorted_far, Called, ComputesKey, IsSortedByKey, MatchOrdering, is_lt, Ordering, Less, Equal, Greater}
 use Rattle.std.proofs.lemmas.Cmp.{nat_cmp_total, ranked}
 use Rattle.std.specs.Ordering.{nat_cmp}

@@ -6,7 +6,7 @@ use Rattle.geo_core.specs.declared.plane.Cell.{Cell}
 use Rattle.geo_core.specs.declared.plane.Labelled.{Labelled}
 use Rattle.geo_core.specs.declared.plane.Rect.{Rect}
 use Rattle.lists.proofs.Comparing.{equal_or_not}
-use Rattle.lists.proofs.Containing.{Contains-slice_get, slice_get-front, slice_get-back}
+use Rattle.lists.proofs.Containing.{slice_get-front, slice_get-back}
 use Rattle.lists.proofs.Mapping.{Contains-map, Contains-map_from}
 use Rattle.lists.proofs.Reading.{taken_more}
 use Rattle.depth_sweep.specs.Runs.{AreApart, HaveSameCells, IsInTwo}

@@ -12,7 +12,7 @@ use Rattle.fault_model.proofs.SizeLaws.{footprint_near}
 use Rattle.lists.proofs.Containing.{Contains-none}
 use Rattle.lists.proofs.Reading.{taken_more}
 use Rattle.short_area.specs.Labels.{TouchesLabel, TouchesTwoLabels}
-use Rattle.short_area.specs.inside.Zones.{AreZonesOf, GainsZone, IsInLabel, IsInside, IsInTwoLabels, IsNearCell}
+use Rattle.short_area.specs.inside.Zones.{AreZonesOf, GainsZone, IsInside, IsInTwoLabels, IsNearCell}
 use Rattle.short_area.proofs.ZoneLaws.{label_none}
 
 -- a defect touches a rectangle exactly where the rectangle is near its cell

@@ -1,5 +1,5 @@
 -- lines of cells: where a property does not change along an axis, the window's tally is that of its first line, so many times
-use Rattle.std.proofs.Common.{ℕ, suc, ◌+◌, ◌*◌, ◌<◌, ◌≤◌, ◌≡◌, refl, sym, ap, subst, List, [], ◌∷◌, ◌++◌, length, arith, ℤ, pos, ◌+ℤ◌, ◌-ℤ◌, ◌<ℤ◌, Contains, map}
+use Rattle.std.proofs.Common.{ℕ, suc, ◌+◌, ◌*◌, ◌<◌, ◌≤◌, ◌≡◌, refl, sym, ap, subst, List, [], ◌∷◌, ◌++◌, length, arith, ℤ, pos, ◌+ℤ◌, ◌-ℤ◌, ◌<ℤ◌, Contains, map, ◌↔◌}
 use Rattle.std.proofs.lemmas.List.{append-nil}
 use Rattle.lists.proofs.Words.{flat_map, ints, mul-le}
 use Rattle.lists.proofs.Containing.{Contains-head, Contains-tail}
@@ -8,8 +8,7 @@ use Rattle.geo_core.specs.declared.axis.Axis.{Axis}
 use Rattle.geo_core.specs.declared.axis.Axis.TheVariants.{X, Y}
 use Rattle.geo_core.specs.declared.plane.Cell.{Cell}
 use Rattle.geo_core.specs.declared.plane.Rect.{Rect}
-use Rattle.geo_core.proofs.RectLaws.{AllIn, same_cells_same_rect}
-use Rattle.geo_core.specs.declared.bounds.TheConstants.{FARTHEST_GROWN}
+use Rattle.geo_core.proofs.RectLaws.{same_cells_same_rect}
 use Rattle.fault_model.specs.FaultNames.{Tally, none, hit, miss, from, or_zero, range, row, cells_of}
 use Rattle.fault_model.proofs.RangeLaws.{Contains-range, Tally-all, Tally-never, Tally-times, or_zero_is, length-range}
 use Rattle.fault_model.proofs.TallyLaws.{Tally-append, Tally-unique}
@@ -22,12 +21,12 @@ cell j i = record { i = i; j = j }
 range-one : (x : ℤ) → range x (x +ℤ pos 1) ≡ x ∷ []
 range-one x = let a = or_zero_is (x +ℤ pos 1 -ℤ x) (omega (arith, ints)) in let e : or_zero (x +ℤ pos 1 -ℤ x) ≡ 1 = omega (arith, ints) in ap (from x) e
 
--- a list of cells and another, of which each is as the one in its place, have the same tally
-Tally-moved : (P : Cell → Type 0) (f g : ℤ → Cell) (xs : List ℤ) (n : ℕ) → ((x : ℤ) → Contains xs x → P (f x) → P (g x)) → ((x : ℤ) → Contains xs x → P (g x) → P (f x))
-    → Tally P (map f xs) n → Tally P (map g xs) n
-Tally-moved P f g [] n go back none = none
-Tally-moved P f g (x ∷ xs) n go back (hit {n = k} h t) = hit (go x (Contains-head x xs) h) (Tally-moved P f g xs k (λ y i. go y (Contains-tail x xs y i)) (λ y i. back y (Contains-tail x xs y i)) t)
-Tally-moved P f g (x ∷ xs) n go back (miss h t) = miss (λ p. h (back x (Contains-head x xs) p)) (Tally-moved P f g xs n (λ y i. go y (Contains-tail x xs y i)) (λ y i. back y (Contains-tail x xs y i)) t)
+-- two lists of cells, of which each is as the one in its place, have the same tally
+module _ (P : Cell → Type 0) (f g : ℤ → Cell) where
+  Tally-moved : (xs : List ℤ) (n : ℕ) → ((x : ℤ) → Contains xs x → P (f x) ↔ P (g x)) → Tally P (map f xs) n → Tally P (map g xs) n
+  Tally-moved [] n same none = none
+  Tally-moved (x ∷ xs) n same (hit {n = k} h t) = hit ((same x (Contains-head x xs)).0 h) (Tally-moved xs k (λ y i. same y (Contains-tail x xs y i)) t)
+  Tally-moved (x ∷ xs) n same (miss h t) = miss (λ p. h ((same x (Contains-head x xs)).1 p)) (Tally-moved xs n (λ y i. same y (Contains-tail x xs y i)) t)
 
 module _ (P : Cell → Type 0) (window : Rect) where
   -- the property is the same at all cells in a line
@@ -53,7 +52,7 @@ module _ (P : Cell → Type 0) (window : Rect) where
   rows_repeat : IsAlike Y → (n : ℕ) → Tally P (row window window.y0) n → Tally P (cells_of window) (count_along Y window * n)
   rows_repeat alike n t = Tally-times P (row window) (range window.y0 window.y1) n (λ j up.
       Tally-moved P (cell window.y0) (cell j) (range window.x0 window.x1) n
-      (λ i across. alike _ _ (lowest i across) (has i j across up) refl) (λ i across. alike _ _ (has i j across up) (lowest i across) refl) t)
+      (λ i across. (alike _ _ (lowest i across) (has i j across up) refl, alike _ _ (has i j across up) (lowest i across) refl)) t)
 
   -- a row has the property at all of its cells where it has it at the leftmost one, and else at none
   rows_whole : IsAlike X → (ys : List ℤ) (n : ℕ) → ((j : ℤ) → Contains ys j → Contains (range window.y0 window.y1) j) → Tally P (flat_map (λ j. map (cell j) (window.x0 ∷ [])) ys) n

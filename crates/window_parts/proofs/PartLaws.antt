@@ -1,5 +1,5 @@
 -- tallies of parts add up, no tally of a rectangle is large, and a part has fewer cells than the whole
-use Rattle.std.proofs.Common.{ℕ, ◌+◌, ◌*◌, ◌^◌, ◌<◌, ◌≤◌, ◌≡◌, refl, sym, subst, List, [], ◌∷◌, ◌++◌, length, arith, inl, inr, ◌⊎◌, ℤ, pos, ◌+ℤ◌, ◌-ℤ◌, ◌<ℤ◌, ◌↔◌, Contains}
+use Rattle.std.proofs.Common.{ℕ, ◌+◌, ◌*◌, ◌^◌, ◌<◌, ◌≤◌, ◌≡◌, refl, sym, subst, List, [], ◌∷◌, ◌++◌, length, arith, inl, inr, ◌⊎◌, ℤ, ◌-ℤ◌, ◌<ℤ◌, ◌↔◌, Contains}
 use Rattle.lists.proofs.Words.{ints, by_lt_z, length-map, mul-le}
 use Rattle.geo_core.specs.Plane.{Has, IsIn, IsInterval}
 use Rattle.geo_core.specs.declared.bounds.TheConstants.{FARTHEST_GROWN}

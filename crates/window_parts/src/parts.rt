@@ -9,6 +9,8 @@ use geo_core::{Axis, Interval, Rect};
 /// How many columns the window has, or how many rows.
 pub fn places_along(window: Rect, axis: Axis) -> u64
     ensures count { result ≡ count_along axis window }
+
+    // No edge of a rectangle is further than 1,001,000,000 from 0.
     ensures small { result ≤ 2002000000 }
 {
     let places = window.along(axis);
@@ -18,8 +20,6 @@ pub fn places_along(window: Rect, axis: Axis) -> u64
 /// How many cells the window has.
 pub fn count_of(window: Rect) -> u64
     ensures count { result ≡ length (cells_of window) }
-
-    // No edge of a rectangle is further than 1,001,000,000 from 0.
     ensures small { result < 2 ^ 63 }
 {
     places_along(window, Axis::Y) * places_along(window, Axis::X)

@@ -1,5 +1,5 @@
 -- what a zone of centres needs of islands, and which of its defects part anchors of them
-use Rattle.std.specs.Prelude.{ℕ, List, Contains, ◌≡◌, ◌<◌, ◌^◌, ◌↔◌}
+use Rattle.std.specs.Prelude.{ℕ, List, Contains, ◌<◌, ◌^◌, ◌↔◌}
 use Rattle.lists.specs.Words.{AllZip}
 use Rattle.geo_core.specs.Plane.{Has}
 use Rattle.geo_core.specs.declared.plane.Cell.{Cell}

@@ -1,8 +1,7 @@
 -- what becomes of a zone when islands are looked at
-use Rattle.std.specs.Prelude.{ℤ, pos, ℕ, List, [], Contains, All, Option, Some, None, ◌≡◌, ◌≢◌, ◌⊎◌, ◌↔◌, ◌+ℤ◌, ◌<ℤ◌}
+use Rattle.std.specs.Prelude.{ℤ, pos, ℕ, List, [], Contains, All, Option, Some, None, ◌≡◌, ◌≢◌, ◌⊎◌, ◌↔◌, ◌+ℤ◌, ◌<ℤ◌, ⊤}
 use Rattle.geo_core.specs.Plane.{Has, low_along, high_along}
 use Rattle.geo_core.specs.declared.axis.Axis.{Axis}
-use Rattle.geo_core.specs.declared.axis.Axis.TheVariants.{X, Y}
 use Rattle.geo_core.specs.Intervals.{IsWithin}
 use Rattle.geo_core.specs.declared.plane.Cell.{Cell}
 use Rattle.geo_core.specs.declared.plane.Half.{Half}
@@ -60,19 +59,29 @@ pub record HaveBoxesOf (island : IslandLists) (boxes : List HalfBox) : Type 0 wh
 abbrev pub IsToldOf : Rect → ℕ → IslandLists → Told → Type 0
 IsToldOf zone side island Never = (c : Cell) → Has zone c → IsSevered island (IsInFootprint c side) → ⊥
 IsToldOf zone side island Always = (c : Cell) → Has zone c → IsSevered island (IsInFootprint c side)
-IsToldOf zone side island (Open looked) = StandsFor zone side looked island × (IsSingle zone → ⊥)
+IsToldOf zone side island (Open looked) = StandsFor zone side looked island
+
+-- one cell leaves nothing to look at
+abbrev pub IsToldAtOnce : Rect → Told → Type 0
+IsToldAtOnce zone Never = ⊤
+IsToldAtOnce zone Always = ⊤
+IsToldAtOnce zone (Open looked) = IsSingle zone → ⊥
 
 -- the islands that these are looked at for have the same defects in the zone
 pub record LeftStandsFor (zone : Rect) (side : ℕ) (islands : List IslandLists) (looked : List Looked) : Type 0 where
   pub others : List IslandLists
   pub stand : StandForAll zone side looked others
   pub alike : SeverAlike islands others side zone
-  pub several : looked ≢ [] → IsSingle zone → ⊥
 
 -- what is left of islands in the zone: each defect parts some, or these are to be looked at
 abbrev pub IsLeftOf : Rect → ℕ → List IslandLists → Left → Type 0
 IsLeftOf zone side islands Everywhere = AllSever islands side zone
 IsLeftOf zone side islands (Of looked) = LeftStandsFor zone side islands looked
+
+-- of one cell nothing is left
+abbrev pub IsDoneAtOnce : Rect → Left → Type 0
+IsDoneAtOnce zone Everywhere = ⊤
+IsDoneAtOnce zone (Of looked) = looked ≢ [] → IsSingle zone → ⊥
 
 -- the removal of the box, where there is one, parts two terminals of the remnant, all else being left of it
 abbrev pub IsSplitWithout : RemnantLists → Option HalfBox → Type 0

@@ -17,7 +17,8 @@ ranks_of-requires-in-loop-one-clause-ends c =
 
 pub loop-one-preserved : goal.loop-one-preserved
 loop-one-preserved c =
-    let sides : HasSides c.of.result c.ranks_of.result c.ranks_of-in-loop-one.result = record { left = c.of.ensures.left; right = c.of.ensures.right; bottom = c.of.ensures.bottom; top = c.of.ensures.top } in
+    let sides : HasSides c.of.result c.ranks_of.result c.ranks_of-in-loop-one.result =
+    record { left = c.of.ensures.left; right = c.of.ensures.right; bottom = c.of.ensures.bottom; top = c.of.ensures.top } in
     rw c.in_ok-push.ensures.items
     (AllZip-more (IsRankedBox c.args.columns.now c.args.rows.now) c.args.boxes.now c.loop-one.rects.items c.loop-one.one-index c.one-item.result c.of.result c.loop-one-test.true c.one-item.is
     c.loop-one.invariant

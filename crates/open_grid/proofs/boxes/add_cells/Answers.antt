@@ -1,5 +1,4 @@
-use Rattle.std.proofs.Common.{subst}
-use Rattle.open_grid.proofs.BoxLaws.{cell_more, cell_past, cells_all}
+use Rattle.open_grid.proofs.BoxLaws.{cell_more, cell_past}
 use Rattle.open_grid.proofs.boxes.add_cells.Goals as goal
 use Rattle.open_grid.proofs.boxes.add_cells.Goals.{in-Some+in_ok-push, in_default}
 

@@ -1,4 +1,4 @@
-use Rattle.open_grid.proofs.ChangeLaws.{gains_all, gains_more}
+use Rattle.open_grid.proofs.ChangeLaws.{gains_more}
 use Rattle.open_grid.proofs.changes.add_all_changes.Goals as goal
 
 pub loop-one-preserved : goal.loop-one-preserved

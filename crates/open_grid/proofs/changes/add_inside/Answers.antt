@@ -1,7 +1,7 @@
 use Rattle.std.proofs.Common.{arith}
 use Rattle.lists.proofs.Words.{ints}
 use Rattle.std.proofs.lemmas.Int.{to_z-of_z}
-use Rattle.open_grid.proofs.ChangeLaws.{gains_inside, gains_outside}
+use Rattle.open_grid.proofs.ChangeLaws.{gains_inside}
 use Rattle.open_grid.proofs.changes.add_inside.Goals as goal
 
 pub returns-in_ok-push : goal.returns-in_ok-push

@@ -1,4 +1,4 @@
-use Rattle.std.proofs.Common.{inl, inr, Bool, true, false, not, refl, sym, ◌∙◌, subst, IsTrue, ◌≡◌, ◌⊎◌, Option, Some, ◌↔◌}
+use Rattle.std.proofs.Common.{inl, inr, Bool, true, false, not, refl, sym, ◌∙◌, subst, IsTrue, ◌⊎◌, Some, ◌↔◌}
 use Rattle.lists.proofs.Words.{false≢true}
 use Rattle.half_boxes.specs.HalfBoxes.{LiesWithin}
 use Rattle.half_boxes.specs.declared.boxes.HalfBox.{HalfBox}

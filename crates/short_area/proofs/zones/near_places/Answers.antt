@@ -1,5 +1,5 @@
 use Rattle.std.proofs.Common.{arith, w32, to_z, of_z, pos, ◌+ℤ◌, ◌-ℤ◌}
-use Rattle.lists.proofs.Words.{clamps, ints, to_z-of_z}
+use Rattle.lists.proofs.Words.{clamps, ints}
 use Rattle.geo_core.proofs.IntervalLaws.{clipped, clip_none}
 use Rattle.short_area.proofs.zones.near_places.Goals as goal
 

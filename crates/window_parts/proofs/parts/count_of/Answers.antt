@@ -1,4 +1,4 @@
-use Rattle.std.proofs.Common.{refl, sym}
+use Rattle.std.proofs.Common.{sym}
 use Rattle.window_parts.proofs.PartLaws.{length-cells_of}
 use Rattle.window_parts.proofs.parts.count_of.Goals as goal
 

@@ -1,8 +1,7 @@
-use Rattle.std.proofs.Common.{ap, ◌∙◌, ◌≡◌, sym, subst, arith, pos, ◌+ℤ◌}
+use Rattle.std.proofs.Common.{ap, ◌∙◌, ◌≡◌, arith, pos, ◌+ℤ◌}
 use Rattle.lists.proofs.Words.{ints}
 use Rattle.geo_core.specs.Plane.{low_along}
 use Rattle.geo_core.specs.declared.axis.Axis.{Axis}
-use Rattle.window_parts.specs.WindowParts.{IsFirstLine}
 use Rattle.window_parts.proofs.LineLaws.{first_across, first_up}
 use Rattle.window_parts.proofs.PartLaws.{HasEnds}
 use Rattle.window_parts.proofs.parts.first_line.Goals as goal

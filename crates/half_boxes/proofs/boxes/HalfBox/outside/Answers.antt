@@ -1,6 +1,6 @@
-use Rattle.std.proofs.Common.{◌<ℤ◌, ◌≤ℤ◌, Some}
+use Rattle.std.proofs.Common.{◌<ℤ◌, ◌≤ℤ◌, None, Some}
 use Rattle.geo_core.specs.Plane.{IsIn}
-use Rattle.half_boxes.proofs.OutsideLaws.{columns_part, part_above, part_below, part_common, rows_part, some_beside}
+use Rattle.half_boxes.proofs.OutsideLaws.{columns_part, none_beside, part_above, part_below, part_common, rows_part, some_beside}
 use Rattle.half_boxes.proofs.boxes.HalfBox.outside.Goals as goal
 
 pub returns-in-Some-clause-left : goal.returns-in-Some-clause-left
@@ -30,3 +30,27 @@ pub returns-in-Some-clause-above : goal.returns-in-Some-clause-above
 returns-in-Some-clause-above c =
     let rows = c.args.self.rows in let at = c.args.hole.rows.high in
     rows_part c.args.self (λ v. at ≤ℤ v) c.above.result c.rows_at-above.result c.rows_at-above.ensures (part_above rows.low rows.high at c.above.result c.above.ensures.some c.above.ensures.none)
+
+pub returns-in-None-clause-below : goal.returns-in-None-clause-below
+returns-in-None-clause-below c =
+    let rows = c.args.self.rows in let at = c.args.hole.rows.low in
+    rows_part c.args.self (λ v. v <ℤ at) c.below.result c.rows_at-below.result c.rows_at-below.ensures (part_below rows.low rows.high at c.below.result c.below.ensures.some c.below.ensures.none)
+
+pub returns-in-None-clause-above : goal.returns-in-None-clause-above
+returns-in-None-clause-above c =
+    let rows = c.args.self.rows in let at = c.args.hole.rows.high in
+    rows_part c.args.self (λ v. at ≤ℤ v) c.above.result c.rows_at-above.result c.rows_at-above.ensures (part_above rows.low rows.high at c.above.result c.above.ensures.some c.above.ensures.none)
+
+pub returns-in-None-clause-left : goal.returns-in-None-clause-left
+returns-in-None-clause-left c =
+    let rows = c.args.self.rows in let hole = c.args.hole in
+    none_beside c.args.self (λ v. IsIn hole.rows.low hole.rows.high v) (λ u. u <ℤ hole.columns.low)
+    (rows_part c.args.self (λ v. IsIn hole.rows.low hole.rows.high v) c.clip.result None c.in-None.ensures
+    (part_common rows.low rows.high hole.rows.low hole.rows.high c.clip.result c.clip.ensures.some c.clip.ensures.none))
+
+pub returns-in-None-clause-right : goal.returns-in-None-clause-right
+returns-in-None-clause-right c =
+    let rows = c.args.self.rows in let hole = c.args.hole in
+    none_beside c.args.self (λ v. IsIn hole.rows.low hole.rows.high v) (λ u. hole.columns.high ≤ℤ u)
+    (rows_part c.args.self (λ v. IsIn hole.rows.low hole.rows.high v) c.clip.result None c.in-None.ensures
+    (part_common rows.low rows.high hole.rows.low hole.rows.high c.clip.result c.clip.ensures.some c.clip.ensures.none))
