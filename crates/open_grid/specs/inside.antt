@@ -1,1 +1,2 @@
 pub mod ZoneNeeds
+pub mod ZoneSteps

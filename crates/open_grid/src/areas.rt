@@ -3,8 +3,11 @@ ghost use Rattle.geo_core.specs.Bounds.{IsRadius};
 ghost use Rattle.fault_model.specs.Areas.{Tally, cells_of};
 ghost use Rattle.severing.specs.Severing.{IsSomeOpen};
 
+use super::looked::look;
+use super::zones::count;
 use fault_model::Island;
 use geo_core::{NoMemory, Rect};
+use severing::defects_sever_islands;
 use std::alloc::Global;
 
 /// How many cells of the window are the centre of a defect that parts two anchors of at least one of the islands. The
@@ -19,9 +22,10 @@ pub fn open_area(alloc: Global, islands: &[Island], window: Rect, r: u32) -> Res
     // No edge of a window is further than 1,001,000,000 from 0.
     ensures small { IfOk result (λ n. n < 2 ^ 63) }
 {
-    let _ = Vec::<u8>::new(alloc);
-    let _ = islands.len();
-    let _ = window;
-    let _ = r;
-    Err(NoMemory)
+    let mut looked = Vec::with_capacity(alloc, islands.len())?;
+    for island in islands {
+        looked.push(look(alloc, island)?)?;
+    }
+    defects_sever_islands();
+    count(alloc, looked.as_slice(), window, r + r)
 }

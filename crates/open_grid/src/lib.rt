@@ -6,7 +6,12 @@
 #![tactic(auto)]
 
 pub mod areas;
+mod boxes;
+mod changes;
+mod looked;
 mod parting;
+mod steps;
+mod zones;
 
 pub use areas::open_area;
 pub use parting::parted;

@@ -1,10 +1,14 @@
-ghost use Rattle.std.specs.Prelude.{Contains, IfOk, IsTrue, ◌+◌, ◌↔◌};
+ghost use Rattle.std.specs.Prelude.{All, Contains, IfOk, IsTrue, ◌+◌, ◌↔◌};
 ghost use Rattle.geo_core.specs.Bounds.{IsRadius};
+ghost use Rattle.geo_core.specs.Cells.{IsInLayout};
 ghost use Rattle.geo_core.specs.Unions.{IsInUnion};
 ghost use Rattle.fault_model.specs.Faults.{IsCellsOpen};
 
+use super::boxes::zone_at;
+use super::looked::{Told, look, look_at};
 use fault_model::Island;
 use geo_core::{Cell, NoMemory};
+use severing::defects_sever_islands;
 use std::alloc::Global;
 
 /// Whether the defect of this radius at the cell parts two anchors of the island: on what it spares of the island's
@@ -13,13 +17,21 @@ use std::alloc::Global;
 ///
 /// The one error is that no memory is left.
 pub fn parted(alloc: Global, island: &Island, cell: Cell, r: u32) -> Result<bool, NoMemory>
-    requires { IsRadius r }
+    requires radius { IsRadius r }
+    requires within { All IsInLayout island.now.pieces }
     ensures { IfOk result (λ answer. IsTrue answer
         ↔ IsCellsOpen (IsInUnion island.now.pieces) (Contains island.now.anchors) (r + r) cell) }
 {
-    let _ = Vec::<u8>::new(alloc);
-    let _ = island.anchors.as_slice().len();
-    let _ = cell;
-    let _ = r;
-    Err(NoMemory)
+    // Beyond where rectangles may lie a defect has nothing of a layout.
+    let Some(zone) = zone_at(cell) else {
+        return Ok(false);
+    };
+    let looked = look(alloc, island)?;
+    defects_sever_islands();
+    match look_at(alloc, &looked, zone, r + r)? {
+        Told::Never => Ok(false),
+        Told::Always => Ok(true),
+        // One cell leaves nothing to look at.
+        Told::Open(_) => unreachable!(),
+    }
 }

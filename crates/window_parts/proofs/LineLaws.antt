@@ -1,19 +1,19 @@
 -- lines of cells: where a property does not change along an axis, the window's tally is that of its first line, so many times
-use Rattle.std.proofs.Common.{ℕ, suc, ◌+◌, ◌*◌, ◌≡◌, refl, ap, subst, List, [], ◌∷◌, arith, ℤ, pos, ◌+ℤ◌, ◌-ℤ◌, Contains, map, ◌↔◌}
+use Rattle.std.proofs.Common.{ℕ, suc, ◌+◌, ◌*◌, ◌<◌, ◌≤◌, ◌≡◌, refl, sym, ap, subst, List, [], ◌∷◌, ◌++◌, length, arith, ℤ, pos, ◌+ℤ◌, ◌-ℤ◌, ◌<ℤ◌, Contains, map, ◌↔◌}
 use Rattle.std.proofs.lemmas.List.{append-nil}
-use Rattle.lists.proofs.Words.{flat_map, ints}
+use Rattle.lists.proofs.Words.{flat_map, ints, mul-le}
 use Rattle.lists.proofs.Containing.{Contains-head, Contains-tail}
-use Rattle.geo_core.specs.Plane.{Has}
+use Rattle.geo_core.specs.Plane.{Has, low_along, high_along}
 use Rattle.geo_core.specs.declared.axis.Axis.{Axis}
 use Rattle.geo_core.specs.declared.axis.Axis.TheVariants.{X, Y}
 use Rattle.geo_core.specs.declared.plane.Cell.{Cell}
 use Rattle.geo_core.specs.declared.plane.Rect.{Rect}
 use Rattle.geo_core.proofs.RectLaws.{same_cells_same_rect}
 use Rattle.fault_model.specs.FaultNames.{Tally, none, hit, miss, from, or_zero, range, row, cells_of}
-use Rattle.fault_model.proofs.RangeLaws.{Contains-range, Tally-all, Tally-never, Tally-times, or_zero_is}
-use Rattle.fault_model.proofs.TallyLaws.{Tally-append}
-use Rattle.window_parts.proofs.PartLaws.{HasEnds, by_ends, from_ends}
-use Rattle.window_parts.specs.WindowParts.{AreInLine, IsFirstLine, count_along}
+use Rattle.fault_model.proofs.RangeLaws.{Contains-range, Tally-all, Tally-never, Tally-times, or_zero_is, length-range}
+use Rattle.fault_model.proofs.TallyLaws.{Tally-append, Tally-unique}
+use Rattle.window_parts.proofs.PartLaws.{Always, HasEnds, all_of, by_ends, from_ends, some_cell}
+use Rattle.window_parts.specs.WindowParts.{AreInLine, IsFirstLine, count_along, place_along}
 
 abbrev cell : ℤ → ℤ → Cell
 cell j i = record { i = i; j = j }
@@ -130,3 +130,25 @@ lines_tally P Y window line n first alike t =
     let rows = subst (λ (r : Rect). Tally P (cells_of r) n) e t in
     let one = subst (λ (ys : List ℤ). Tally P (flat_map (row window) ys) n) (range-one window.y0) rows in
     rows_repeat P window alike n (subst (λ (cs : List Cell). Tally P cs n) (append-nil (row window window.y0)) one)
+
+-- two places at least, where there is more than one
+two_along : (axis : Axis) (window : Rect) → (low_along axis window +ℤ pos 1) <ℤ high_along axis window → 2 ≤ count_along axis window
+two_along axis window several =
+    let low = low_along axis window in let high = high_along axis window in
+    let n = or_zero_is (high -ℤ low) (omega (arith, ints)) in
+    let e = length-range low high (or_zero (high -ℤ low)) n in
+    omega (arith, ints)
+
+-- the lines have as many cells as the window
+pub cells_of_lines : (axis : Axis) (window line : Rect) → IsFirstLine axis window line → count_along axis window * length (cells_of line) ≡ length (cells_of window)
+cells_of_lines axis window line first =
+    let all = lines_tally Always axis window line (length (cells_of line)) first (λ c d h k l p. tt) (all_of line) in
+    Tally-unique (cells_of window) (count_along axis window * length (cells_of line)) (length (cells_of window)) all (all_of window)
+
+-- so one of them has fewer, where there is more than one
+pub fewer_in_line : (axis : Axis) (window line : Rect) → IsFirstLine axis window line → (low_along axis window +ℤ pos 1) <ℤ high_along axis window → length (cells_of line) < length (cells_of window)
+fewer_in_line axis window line first several =
+    let e = cells_of_lines axis window line first in
+    let some = some_cell line in
+    let many = mul-le 2 (length (cells_of line)) (count_along axis window) (length (cells_of line)) (two_along axis window several) (omega arith) in
+    omega arith

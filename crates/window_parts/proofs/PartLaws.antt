@@ -105,25 +105,30 @@ Tally-each (c ∷ cs) each = hit (each c (Contains-head c cs)) (Tally-each cs (�
 pub whole_tally : {P : Cell → Type 0} (rect : Rect) → ((c : Cell) → Has rect c → P c) → Tally P (cells_of rect) (length (cells_of rect))
 whole_tally rect whole = Tally-each (cells_of rect) (λ c listed. whole c ((Contains-cells_of rect c).0 listed))
 
-abbrev Always : Cell → Type 0
+abbrev pub Always : Cell → Type 0
 Always c = Unit {0}
 
-all_of : (rect : Rect) → Tally Always (cells_of rect) (length (cells_of rect))
+pub all_of : (rect : Rect) → Tally Always (cells_of rect) (length (cells_of rect))
 all_of rect = whole_tally {P = Always} rect (λ c h. tt)
 
 -- a rectangle has at least one cell
-some_cell : (rect : Rect) → 1 ≤ length (cells_of rect)
+pub some_cell : (rect : Rect) → 1 ≤ length (cells_of rect)
 some_cell rect =
     let x = rect.across.some in let y = rect.up.some in
     let corner : Cell = record { i = rect.x0; j = rect.y0 } in
     let has : Has rect corner = record { across = record { from = omega (arith, ints); before = x }; up = record { from = omega (arith, ints); before = y } } in
     Tally-counts {P = Always} (cells_of rect) (length (cells_of rect)) corner ((Contains-cells_of rect corner).1 has) tt (all_of rect)
 
--- so each of the two parts has fewer cells than the window
+-- the two parts have as many cells as the window
+pub cells_of_parts : (window first second : Rect) → AreParts window first second → length (cells_of first) + length (cells_of second) ≡ length (cells_of window)
+cells_of_parts window first second parts =
+    let both = parts_tally window first second parts {P = Always} (length (cells_of first)) (length (cells_of second)) (all_of first) (all_of second) in
+    Tally-unique (cells_of window) (length (cells_of first) + length (cells_of second)) (length (cells_of window)) both (all_of window)
+
+-- so each of them has fewer
 pub fewer_cells : (window first second : Rect) → AreParts window first second → (length (cells_of first) < length (cells_of window)) × (length (cells_of second) < length (cells_of window))
 fewer_cells window first second parts =
-    let both = parts_tally window first second parts {P = Always} (length (cells_of first)) (length (cells_of second)) (all_of first) (all_of second) in
-    let e = Tally-unique (cells_of window) (length (cells_of first) + length (cells_of second)) (length (cells_of window)) both (all_of window) in
+    let e = cells_of_parts window first second parts in
     let a = some_cell first in let b = some_cell second in
     (omega (arith, e), omega (arith, e))
 

@@ -1,6 +1,7 @@
 //! Laws of tallies over a window and over its parts.
 
-ghost use Rattle.std.specs.Prelude.{ℕ, ◌+◌, ◌*◌, ◌^◌, ◌<◌, length};
+ghost use Rattle.std.specs.Prelude.{ℕ, pos, ◌+◌, ◌*◌, ◌^◌, ◌<◌, ◌+ℤ◌, ◌<ℤ◌, length};
+ghost use Rattle.geo_core.specs.Axes.{low_along, high_along};
 ghost use Rattle.geo_core.specs.Cells.{Has};
 ghost use Rattle.geo_core.specs.declared.axis.Axis.{Axis};
 ghost use Rattle.geo_core.specs.declared.plane.Cell.{Cell};
@@ -21,6 +22,12 @@ pub fn tallies_of_parts_add<P: Property>()
 pub fn parts_are_smaller()
     ensures { (window first second : Rect) → AreParts window first second →
         (length (cells_of first) < length (cells_of window)) × (length (cells_of second) < length (cells_of window)) }
+{}
+
+/// The first line has fewer cells than the window, where it is not all of it.
+pub fn lines_are_smaller()
+    ensures { (axis : Axis) (window line : Rect) → IsFirstLine axis window line →
+        (low_along axis window +ℤ pos 1) <ℤ high_along axis window → length (cells_of line) < length (cells_of window) }
 {}
 
 /// A property that holds of each cell of a window has the number of its cells as its tally, and no tally is as large as

@@ -5,6 +5,9 @@ pub mod laws;
 pub mod middles;
 pub mod parts;
 
-pub use laws::{lines_repeat, parts_are_smaller, tallies_of_parts_add, tallies_of_whole_windows};
+pub use laws::{
+    lines_are_smaller, lines_repeat, parts_are_smaller, tallies_of_parts_add,
+    tallies_of_whole_windows,
+};
 pub use middles::{distance_from_middle, half_way, inner_half_way, is_broad, longer_first};
 pub use parts::{count_of, first_line, halved_along, parts_at, places_along};

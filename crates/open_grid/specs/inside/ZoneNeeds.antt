@@ -1,21 +1,49 @@
--- what a zone of centres needs of an island
-use Rattle.std.specs.Prelude.{ℕ, List, ◌↔◌}
+-- what a zone of centres needs of islands, and which of its defects part anchors of them
+use Rattle.std.specs.Prelude.{ℕ, List, Contains, ◌<◌, ◌^◌, ◌↔◌}
+use Rattle.lists.specs.Words.{AllZip}
+use Rattle.geo_core.specs.Plane.{Has}
+use Rattle.geo_core.specs.declared.plane.Cell.{Cell}
 use Rattle.geo_core.specs.declared.plane.Half.{Half}
 use Rattle.geo_core.specs.declared.plane.Rect.{Rect}
-use Rattle.fault_model.specs.FaultNames.{IslandLists}
+use Rattle.fault_model.specs.FaultNames.{IslandLists, IsInFootprint, Tally, cells_of}
 use Rattle.half_boxes.specs.Footprints.{IsReached, IsAlwaysHit}
 use Rattle.half_boxes.specs.HalfBoxes.{HasHalf}
 use Rattle.half_boxes.specs.declared.boxes.HalfBox.{HalfBox}
-use Rattle.remnants.specs.Remnants.{RemnantLists, IsSplit}
+use Rattle.remnants.specs.Remnants.{IsSplit}
 use Rattle.severing.specs.Changes.{HasNear}
 use Rattle.severing.specs.Severing.{IsSevered}
+use Rattle.open_grid.specs.declared.looked.Looked.{Looked}
 
 -- the box has what each defect of the zone has, and nothing that none of them has
 pub record IsBetweenDefects (zone : Rect) (side : ℕ) (removed : HalfBox) : Type 0 where
   pub has_core : (h : Half) → IsAlwaysHit zone side h → HasHalf removed h
   pub in_reach : (h : Half) → HasHalf removed h → IsReached zone side h
 
--- the remnant stands for the island where such a box is removed, and the list has the boxes whose ends matter in the zone
-pub record IsFor (zone : Rect) (side : ℕ) (island : IslandLists) (remnant : RemnantLists) (near : List HalfBox) : Type 0 where
-  pub same : (removed : HalfBox) → IsBetweenDefects zone side removed → IsSplit remnant removed ↔ IsSevered island (HasHalf removed)
-  pub has_near : HasNear island zone side near
+-- what was looked at stands for the island where such a box is removed, and it has the boxes whose ends matter in the zone
+pub record StandsFor (zone : Rect) (side : ℕ) (looked : Looked) (island : IslandLists) : Type 0 where
+  pub same : (removed : HalfBox) → IsBetweenDefects zone side removed →
+      IsSplit looked.remnant removed ↔ IsSevered island (HasHalf removed)
+  pub has_near : HasNear island zone side looked.near
+
+-- one island each
+abbrev pub StandForAll : Rect → ℕ → List Looked → List IslandLists → Type 0
+StandForAll zone side = AllZip (StandsFor zone side)
+
+-- the defect of this side at the cell parts two anchors of some island of the list
+pub record SeversSome (islands : List IslandLists) (side : ℕ) (c : Cell) : Type 0 where
+  pub island : IslandLists
+  pub among : Contains islands island
+  pub severed : IsSevered island (IsInFootprint c side)
+
+-- so many cells of the zone are the centres of such defects
+pub record IsCountIn (islands : List IslandLists) (side : ℕ) (zone : Rect) (n : ℕ) : Type 0 where
+  pub tally : Tally (SeversSome islands side) (cells_of zone) n
+  pub small : n < 2 ^ 63
+
+-- each defect of the zone parts two anchors of some island
+abbrev pub AllSever : List IslandLists → ℕ → Rect → Type 0
+AllSever islands side zone = (c : Cell) → Has zone c → SeversSome islands side c
+
+-- the one list of islands has an island that a defect parts at the same cells of the zone as the other
+abbrev pub SeverAlike : List IslandLists → List IslandLists → ℕ → Rect → Type 0
+SeverAlike islands others side zone = (c : Cell) → Has zone c → SeversSome islands side c ↔ SeversSome others side c

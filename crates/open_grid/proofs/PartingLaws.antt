@@ -1,0 +1,68 @@
+-- defects at one cell, and what they part of an island
+use Rattle.std.proofs.Common.{ℕ, pos, ◌+ℤ◌, ◌+◌, List, ◌↔◌, All, Contains, arith, Result, Ok, Err, IfOk}
+use Rattle.lists.proofs.Words.{ints, All-contains}
+use Rattle.lists.specs.declared.memory.NoMemory.{NoMemory}
+use Rattle.lists.proofs.Containing.{Contains-slice_get}
+use Rattle.paths.proofs.PathLaws.{within}
+use Rattle.geo_core.specs.Bounds.{IsRadius}
+use Rattle.geo_core.specs.Plane.{Has, IsInLayout, IsInUnion}
+use Rattle.geo_core.specs.declared.plane.Cell.{Cell}
+use Rattle.geo_core.specs.declared.plane.Half.{Half}
+use Rattle.geo_core.specs.declared.plane.Rect.{Rect}
+use Rattle.fault_model.specs.FaultNames.{IsInFootprint, IsOn, IslandLists, Tally, cells_of}
+use Rattle.fault_model.specs.Faults.{IsCellsOpen}
+use Rattle.fault_model.proofs.TallyLaws.{Tally-same}
+use Rattle.fault_model.specs.IslandLists.{IsAnchoredIsland}
+use Rattle.severing.specs.Severing.{IsSevered, IsSomeOpen}
+use Rattle.open_grid.specs.inside.ZoneNeeds.{IsCountIn}
+use Rattle.open_grid.specs.inside.ZoneSteps.{IsToldOf}
+use Rattle.open_grid.specs.declared.looked.Told.TheVariants.{Never, Always}
+
+-- the law on defects and islands
+abbrev pub DefectsSeverIslands : Type 0
+DefectsSeverIslands = (island : IslandLists) (s : ℕ) (c : Cell) → IsAnchoredIsland island → IsCellsOpen (IsInUnion island.pieces) (Contains island.anchors) s c ↔ IsSevered island (IsInFootprint c s)
+
+module _ (pieces : List Rect) (in_layout : All IsInLayout pieces) (r : ℕ) (radius : IsRadius r) (cell : Cell) (out : (rect : Rect) → Has rect cell → ⊥) where
+  -- a defect whose cell no rectangle may have does not reach a layout
+  none_hit : (h : Half) → IsOn (IsInUnion pieces) h → IsInFootprint cell (r + r) h → ⊥
+  none_hit h on hit =
+      let u = on.2 in
+      let small = All-contains IsInLayout pieces u.rect in_layout (Contains-slice_get pieces u.number u.rect u.at) in
+      let most = radius.most in
+      let a = hit.0.from in let b = hit.0.before in let d = hit.1.from in let e = hit.1.before in
+      let f = on.1.0.from in let g = on.1.0.before in let k = on.1.1.from in let l = on.1.1.before in
+      let m = u.has.across.from in let n = u.has.across.before in let o = u.has.up.from in let p = u.has.up.before in
+      let x = small.across.least in let y = small.across.most in let z = small.up.least in let w = small.up.most in
+      out (record {
+        x0 = cell.i;
+        y0 = cell.j;
+        x1 = cell.i +ℤ pos 1;
+        y1 = cell.j +ℤ pos 1;
+        across = record { some = omega (arith, ints); least = omega (arith, ints); most = omega (arith, ints) };
+        up = record { some = omega (arith, ints); least = omega (arith, ints); most = omega (arith, ints) };
+      }) (record {
+        across = record { from = omega (arith, ints); before = omega (arith, ints) };
+        up = record { from = omega (arith, ints); before = omega (arith, ints) };
+      })
+
+  -- so it parts nothing
+  pub not_open : (anchors : List Cell) → IsCellsOpen (IsInUnion pieces) (Contains anchors) (r + r) cell → ⊥
+  not_open anchors o = o.parted o.tied.0 o.tied.1 o.tied.2 o.tied.3 (within (λ h on. (on, none_hit h on)) o.tied.4)
+
+module _ (law : DefectsSeverIslands) where
+  -- what an island says of the zone of one cell is the answer
+  module _ (zone : Rect) (cell : Cell) (has : Has zone cell) (side : ℕ) (island : IslandLists) (sound : IsAnchoredIsland island) where
+    pub never_open : IsToldOf zone side island Never → IsCellsOpen (IsInUnion island.pieces) (Contains island.anchors) side cell → ⊥
+    never_open never o = never cell has ((law island side cell sound).0 o)
+
+    pub always_open : IsToldOf zone side island Always → IsCellsOpen (IsInUnion island.pieces) (Contains island.anchors) side cell
+    always_open always = (law island side cell sound).1 (always cell has)
+
+  -- the cells at which defects part anchors of islands, by both definitions
+  pub tally_of : (islands : List IslandLists) (window : Rect) (side : ℕ) (result : Result ℕ NoMemory) → All IsAnchoredIsland islands → IfOk result (IsCountIn islands side window)
+      → IfOk result (λ n. Tally (IsSomeOpen islands side) (cells_of window) n)
+  tally_of islands window side (Err e) sound count = tt
+  tally_of islands window side (Ok n) sound count = Tally-same (cells_of window) n (λ c at. (
+    λ s. record { island = s.island; among = s.among; is_open = (law s.island side c (All-contains IsAnchoredIsland islands s.island sound s.among)).1 s.severed },
+    λ o. record { island = o.island; among = o.among; severed = (law o.island side c (All-contains IsAnchoredIsland islands o.island sound o.among)).0 o.is_open },
+  )) count.tally

@@ -1,0 +1,13 @@
+use Rattle.std.proofs.Common.{subst}
+use Rattle.fault_model.specs.FaultNames.{IslandLists}
+use Rattle.open_grid.specs.inside.ZoneSteps.{HaveBoxesOf}
+use Rattle.open_grid.proofs.BoxLaws.{boxes_of_island}
+use Rattle.open_grid.proofs.boxes.boxes_of.Goals as goal
+
+pub returns-clause-boxes : goal.returns-clause-boxes
+returns-clause-boxes c =
+    let seen : IslandLists = record { pieces = c.island.inside.pieces; anchors = c.island.inside.anchors } in
+    let pieces = rw c.as_slice.ensures at c.in_ok-boxes.ensures in
+    let cells = rw c.as_slice-2.ensures at c.in_ok-add_cells.ensures in
+    rw c.from_vec.ensures (subst (λ i. HaveBoxesOf i c.add_cells.new.boxes.items) c.island.view_is
+    (boxes_of_island seen c.in_ok-boxes.boxes.items c.add_cells.new.boxes.items c.island.invariant pieces cells))

@@ -1,0 +1,8 @@
+use Rattle.open_grid.proofs.BoxLaws.{all_near}
+use Rattle.open_grid.proofs.looked.look.Goals as goal
+
+pub returns-clause-stands : goal.returns-clause-stands
+returns-clause-stands c = λ zone side. record {
+  same = λ removed b. c.in_ok-remnant.ensures removed;
+  has_near = all_near c.args.island.now c.in_ok-near.near zone side c.in_ok-near.ensures.boxes;
+}

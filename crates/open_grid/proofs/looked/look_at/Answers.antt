@@ -1,0 +1,30 @@
+use Rattle.std.proofs.Common.{refl, sym, ◌∙◌}
+use Rattle.lists.proofs.Words.{false≢true}
+use Rattle.open_grid.proofs.ToldLaws.{told_always, told_at_once, told_never, told_open}
+use Rattle.open_grid.proofs.looked.look_at.Goals as goal
+
+pub returns-then-not-branch-clause-told : goal.returns-then-not-branch-clause-told
+returns-then-not-branch-clause-told c = λ island stands.
+    told_never c.args.zone c.args.side c.args.looked.now island stands c.core_of-inner.result c.reach_of-outer.result c.core_of-inner.ensures c.reach_of-outer.ensures c.in_ok-remnant.remnant
+    c.in_ok-remnant.ensures.same c.in_ok-is_split.field-0 (c.in_ok-is_split.ensures c.reach_of-outer.result c.in_ok-remnant.ensures.within) c.boxes_and_defects_sever.ensures.boxes
+    c.if-not-branch.true
+
+pub returns-then-is_single-clause-told : goal.returns-then-is_single-clause-told
+returns-then-is_single-clause-told c = λ island stands.
+    told_at_once c.args.zone c.args.side c.args.looked.now island stands c.core_of-inner.result c.reach_of-outer.result c.core_of-inner.ensures c.reach_of-outer.ensures c.in_ok-remnant.remnant
+    c.in_ok-remnant.ensures.same c.in_ok-is_split.field-0 (c.in_ok-is_split.ensures c.reach_of-outer.result c.in_ok-remnant.ensures.within) c.boxes_and_defects_sever.ensures.defects
+    c.if-not-branch.false (c.is_single.ensures.0 c.if-is_single.true)
+
+pub returns-then-branch-clause-told : goal.returns-then-branch-clause-told
+returns-then-branch-clause-told c = λ island stands.
+    told_always c.args.zone c.args.side c.args.looked.now island stands c.core_of-inner.result c.reach_of-outer.result c.core_of-inner.ensures c.reach_of-outer.ensures c.in_ok-remnant.remnant
+    c.in_ok-remnant.ensures.same c.boxes_and_defects_sever.ensures.defects (c.in_ok-is_split_without.ensures c.if-branch.true)
+
+pub returns-clause-told : goal.returns-clause-told
+returns-clause-told c = λ island stands.
+    told_open c.args.zone c.args.side c.args.looked.now island stands c.core_of-inner.result c.reach_of-outer.result c.core_of-inner.ensures c.reach_of-outer.ensures c.in_ok-remnant.remnant
+    c.in_ok-remnant.ensures.same c.in_ok-near.near (rw c.as_slice.ensures at c.in_ok-near.ensures)
+    (record { remnant = c.in_ok-remnant.remnant; near = c.in_ok-near.near }) refl refl
+
+pub returns-clause-at_once : goal.returns-clause-at_once
+returns-clause-at_once c = λ single. false≢true (sym c.if-is_single.false ∙ c.is_single.ensures.1 single)

@@ -1,0 +1,123 @@
+-- what becomes of a zone when islands are looked at
+use Rattle.std.specs.Prelude.{ℤ, pos, ℕ, List, [], Contains, All, Option, Some, None, ◌≡◌, ◌≢◌, ◌⊎◌, ◌↔◌, ◌+ℤ◌, ◌<ℤ◌, ⊤}
+use Rattle.geo_core.specs.Plane.{Has, low_along, high_along}
+use Rattle.geo_core.specs.declared.axis.Axis.{Axis}
+use Rattle.geo_core.specs.Intervals.{IsWithin}
+use Rattle.geo_core.specs.declared.plane.Cell.{Cell}
+use Rattle.geo_core.specs.declared.plane.Half.{Half}
+use Rattle.geo_core.specs.declared.plane.Rect.{Rect}
+use Rattle.fault_model.specs.FaultNames.{IslandLists, IsInFootprint, IsOn, LiesIn}
+use Rattle.half_boxes.specs.HalfBoxes.{HasHalf, HasHalfIn}
+use Rattle.half_boxes.specs.declared.boxes.HalfBox.{HalfBox}
+use Rattle.remnants.specs.Remnants.{RemnantLists, IsSplit}
+use Rattle.severing.specs.Changes.{ChangesAt, IsSteady}
+use Rattle.severing.specs.Severing.{IsSevered}
+use Rattle.window_parts.specs.WindowParts.{IsBetween}
+use Rattle.open_grid.specs.inside.ZoneNeeds.{StandsFor, StandForAll, AllSever, SeverAlike}
+use Rattle.open_grid.specs.declared.looked.Looked.{Looked}
+use Rattle.open_grid.specs.declared.looked.Told.{Told}
+use Rattle.open_grid.specs.declared.looked.Told.TheVariants.{Never, Always, Open}
+use Rattle.open_grid.specs.declared.zones.Left.{Left}
+use Rattle.open_grid.specs.declared.zones.Left.TheVariants.{Everywhere, Of}
+use Rattle.open_grid.specs.declared.steps.Step.{Step}
+use Rattle.open_grid.specs.declared.steps.Step.TheVariants.{Repeat, Halve}
+
+-- the place lies inside the zone along the axis, and is not its first one
+abbrev pub IsInsideAlong : Axis → Rect → ℤ → Type 0
+IsInsideAlong axis zone = IsBetween (low_along axis zone) (high_along axis zone)
+
+-- the zone has more than one place along the axis
+abbrev pub HasSeveral : Axis → Rect → Type 0
+HasSeveral axis zone = (low_along axis zone +ℤ pos 1) <ℤ high_along axis zone
+
+-- the zone is one cell
+pub record IsSingle (zone : Rect) : Type 0 where
+  pub column : zone.x0 +ℤ pos 1 ≡ zone.x1
+  pub row : zone.y0 +ℤ pos 1 ≡ zone.y1
+
+-- the list has a box with just the half squares of the set
+pub record HasBoxOf (boxes : List HalfBox) (set : Half → Type 0) : Type 0 where
+  pub one : HalfBox
+  pub among : Contains boxes one
+  pub same : (h : Half) → HasHalf one h ↔ set h
+
+-- it has one for each of the rectangles
+abbrev pub HavePieceBoxes : List Rect → List HalfBox → Type 0
+HavePieceBoxes pieces boxes = (piece : Rect) → Contains pieces piece → HasBoxOf boxes (IsOn (Has piece))
+
+-- it gains one for each of the cells that some rectangle has
+pub record GainsCells (cells : List Cell) (old new : List HalfBox) : Type 0 where
+  pub kept : (one : HalfBox) → Contains old one → Contains new one
+  pub gained : (cell : Cell) (rect : Rect) → Contains cells cell → Has rect cell → HasBoxOf new (λ h. LiesIn h cell)
+
+-- it has one for each rectangle of the island, and one for each anchor's cell
+pub record HaveBoxesOf (island : IslandLists) (boxes : List HalfBox) : Type 0 where
+  pub pieces : HavePieceBoxes island.pieces boxes
+  pub anchors : (cell : Cell) → Contains island.anchors cell → HasBoxOf boxes (λ h. LiesIn h cell)
+
+-- what an island says of the zone: no defect of it parts two of the anchors; each does; or this is to be looked at
+abbrev pub IsToldOf : Rect → ℕ → IslandLists → Told → Type 0
+IsToldOf zone side island Never = (c : Cell) → Has zone c → IsSevered island (IsInFootprint c side) → ⊥
+IsToldOf zone side island Always = (c : Cell) → Has zone c → IsSevered island (IsInFootprint c side)
+IsToldOf zone side island (Open looked) = StandsFor zone side looked island
+
+-- one cell leaves nothing to look at
+abbrev pub IsToldAtOnce : Rect → Told → Type 0
+IsToldAtOnce zone Never = ⊤
+IsToldAtOnce zone Always = ⊤
+IsToldAtOnce zone (Open looked) = IsSingle zone → ⊥
+
+-- the islands that these are looked at for have the same defects in the zone
+pub record LeftStandsFor (zone : Rect) (side : ℕ) (islands : List IslandLists) (looked : List Looked) : Type 0 where
+  pub others : List IslandLists
+  pub stand : StandForAll zone side looked others
+  pub alike : SeverAlike islands others side zone
+
+-- what is left of islands in the zone: each defect parts some, or these are to be looked at
+abbrev pub IsLeftOf : Rect → ℕ → List IslandLists → Left → Type 0
+IsLeftOf zone side islands Everywhere = AllSever islands side zone
+IsLeftOf zone side islands (Of looked) = LeftStandsFor zone side islands looked
+
+-- of one cell nothing is left
+abbrev pub IsDoneAtOnce : Rect → Left → Type 0
+IsDoneAtOnce zone Everywhere = ⊤
+IsDoneAtOnce zone (Of looked) = looked ≢ [] → IsSingle zone → ⊥
+
+-- the removal of the box, where there is one, parts two terminals of the remnant, all else being left of it
+abbrev pub IsSplitWithout : RemnantLists → Option HalfBox → Type 0
+IsSplitWithout remnant None = ⊥
+IsSplitWithout remnant (Some core) = IsSplit remnant core
+
+-- the box lies in the core, where there is one, or it has no half square that is at most 1 from one of the reach
+abbrev pub MayNotMatter : Option HalfBox → HalfBox → HalfBox → Type 0
+MayNotMatter core reach one =
+    ((h : Half) → HasHalf one h → HasHalfIn core h)
+    ⊎ ((h g : Half) → HasHalf one h → HasHalf reach g → IsWithin h.u g.u (pos 1) → IsWithin h.v g.v (pos 1) → ⊥)
+
+-- the boxes of the list that may matter stay
+abbrev pub KeepsNear : Option HalfBox → HalfBox → List HalfBox → List HalfBox → Type 0
+KeepsNear core reach near kept = (one : HalfBox) → Contains near one → Contains kept one ⊎ MayNotMatter core reach one
+
+-- the list gains the place, where it lies inside the zone along the axis
+pub record GainsPlace (axis : Axis) (zone : Rect) (place : ℤ) (old new : List ℤ) : Type 0 where
+  pub inside : All (IsInsideAlong axis zone) old → All (IsInsideAlong axis zone) new
+  pub kept : (x : ℤ) → Contains old x → Contains new x
+  pub gained : IsInsideAlong axis zone place → Contains new place
+
+-- the list gains places inside the zone, and all those at which the defects change at an end of one of the boxes
+pub record GainsChanges (axis : Axis) (zone : Rect) (side : ℕ) (near : List HalfBox) (old new : List ℤ) : Type 0 where
+  pub inside : All (IsInsideAlong axis zone) old → All (IsInsideAlong axis zone) new
+  pub kept : (x : ℤ) → Contains old x → Contains new x
+  pub gained : (one : HalfBox) (x : ℤ) → Contains near one → ChangesAt axis zone side one x → Contains new x
+
+-- places inside the zone along the axis, among which are all at which the defects change at an end of a box that is near
+pub record AreChanges (axis : Axis) (zone : Rect) (side : ℕ) (looked : List Looked) (places : List ℤ) : Type 0 where
+  pub inside : All (IsInsideAlong axis zone) places
+  pub complete : (seen : Looked) (one : HalfBox) (x : ℤ) → Contains looked seen → Contains seen.near one
+      → ChangesAt axis zone side one x → Contains places x
+
+-- what comes next of a zone that is more than one cell: one line of it stands for all, of which there is more than one; or it
+-- is halved at a place inside
+abbrev pub IsStepOf : Rect → ℕ → List Looked → Step → Type 0
+IsStepOf zone side looked (Repeat axis) = HasSeveral axis zone × ((seen : Looked) → Contains looked seen → IsSteady axis zone side seen.near)
+IsStepOf zone side looked (Halve axis place) = IsInsideAlong axis zone place
