@@ -3,8 +3,14 @@
 //! matters.
 #![tactic(auto)]
 
+mod cutting;
+mod island_boxes;
+mod joining;
+mod marking;
+mod numbers;
 pub mod parts;
 pub mod remnant;
+mod unjoined;
 
 pub use parts::{Fixed, Loose, Mark};
 pub use remnant::Remnant;

@@ -1,4 +1,9 @@
+use super::cutting::cut_into;
+use super::island_boxes::{boxes_of_pieces, numbers_below, with_anchors};
+use super::joining::join;
+use super::marking::are_unmarked;
 use super::parts::{Fixed, Loose, Mark};
+use super::unjoined::Unjoined;
 use fault_model::Island;
 use half_boxes::HalfBox;
 use lists::NoMemory;
@@ -36,21 +41,41 @@ impl Model for Remnant {
 }
 
 impl Remnant {
-    ghost use Rattle.std.specs.Prelude.{◌↔◌, Option, IfOk, IsTrue};
+    ghost use Rattle.std.specs.Prelude.{◌≡◌, ◌↔◌, Option, IfOk, IsTrue};
     ghost use Rattle.geo_core.specs.declared.plane.Half.{Half};
     ghost use Rattle.half_boxes.specs.HalfBoxes.{HasHalf, HasHalfIn, LiesWithin};
     ghost use Rattle.half_boxes.specs.declared.boxes.HalfBox.{HalfBox as AnyBox};
-    ghost use Rattle.remnants.specs.Remnants.{IsLooseWithin, IsSplit};
+    ghost use Rattle.remnants.specs.Remnants.{IsJoined, IsLooseWithin, IsSplit};
     ghost use Rattle.severing.specs.Severing.{IsSevered};
+
+    /// The remnant of these parts.
+    pub(crate) fn new(
+        fixed: Vec<Fixed>,
+        loose: Vec<Loose>,
+        marks: Vec<Mark>,
+        terminals: Vec<usize>,
+    ) -> Remnant
+        requires { IsJoined (record { fixed = fixed.items; loose = loose.items; marks = marks.items; terminals = terminals.items }) }
+        ensures { result ≡ record { fixed = fixed.items; loose = loose.items; marks = marks.items; terminals = terminals.items } }
+    {
+        Remnant {
+            fixed,
+            loose,
+            marks,
+            terminals,
+        }
+    }
 
     /// All of the island, loose, with its anchors as terminals. The only error is that no memory is left.
     pub fn whole(alloc: Global, island: &Island) -> Result<Remnant, NoMemory>
         ensures { IfOk result (λ remnant. (removed : AnyBox) →
             IsSplit remnant removed ↔ IsSevered island.now (HasHalf removed)) }
     {
-        let _ = Vec::<Loose>::new(alloc);
-        let _ = island.anchors.as_slice().len();
-        Err(NoMemory)
+        let anchors = island.anchors.as_slice();
+        let pieces = boxes_of_pieces(alloc, island.pieces.as_slice())?;
+        let loose = with_anchors(pieces, anchors)?;
+        let terminals = numbers_below(alloc, anchors.len())?;
+        Ok(Remnant::new(Vec::new(alloc), loose, Vec::new(alloc), terminals))
     }
 
     /// The remnant within `outer`, for the removal of boxes that lie in it and have all of `inner`, if there is that: whichever
@@ -67,11 +92,11 @@ impl Remnant {
             IsSplit narrowed removed ↔ IsSplit self.now removed) }
         ensures within { IfOk result (λ narrowed. IsLooseWithin narrowed outer) }
     {
-        let _ = Vec::<Loose>::new(alloc);
-        let _ = outer;
-        let _ = inner;
-        let _ = self.loose.len();
-        Err(NoMemory)
+        let mut cut = Unjoined::without_loose(alloc, &self.fixed, &self.marks, &self.terminals)?;
+        for loose in &self.loose {
+            cut = cut_into(cut, *loose, inner, outer)?;
+        }
+        join(alloc, cut)
     }
 
     /// Whether two terminals are parted where all that is loose is removed. The only error is that no memory is left.
@@ -79,8 +104,6 @@ impl Remnant {
         ensures { IfOk result (λ answer. (removed : AnyBox) → IsLooseWithin self.now removed →
             IsTrue answer ↔ IsSplit self.now removed) }
     {
-        let _ = Vec::<Loose>::new(alloc);
-        let _ = self.loose.len();
-        Err(NoMemory)
+        are_unmarked(alloc, &self.terminals, &self.marks)
     }
 }

@@ -1,0 +1,4 @@
+pub mod Parting
+pub mod Joining
+pub mod Marking
+pub mod IslandBoxes
