@@ -1,3 +1,6 @@
+ghost use Rattle.std.specs.Prelude.{◌++◌, ◌≡◌, IfOk};
+ghost use Rattle.remnants.specs.inside.Parting.{marks_of};
+
 use super::parts::{Fixed, Loose, Mark};
 use half_boxes::HalfBox;
 use lists::NoMemory;
@@ -75,14 +78,12 @@ impl Unjoined {
         let Unjoined {
             mut fixed,
             loose,
-            mut marks,
+            marks,
             terminals,
         } = self;
         let leader = fixed.len();
         fixed.push(Fixed { part, leader })?;
-        if let Some(terminal) = terminal {
-            marks.push(Mark { terminal, leader })?;
-        }
+        let marks = with_mark(marks, terminal, leader)?;
         Ok(Unjoined {
             fixed,
             loose,
@@ -121,4 +122,16 @@ impl Unjoined {
             terminals,
         })
     }
+}
+
+/// The marks, and one of the terminal at the leader, if there is the terminal.
+fn with_mark(marks: Vec<Mark>, terminal: Option<usize>, leader: usize) -> Result<Vec<Mark>, NoMemory>
+    ensures { IfOk result (λ more. more.items ≡ marks.items ++ marks_of terminal leader) }
+{
+    let mut marks = marks;
+    match terminal {
+        Some(terminal) => marks.push(Mark { terminal, leader })?,
+        None => {}
+    }
+    Ok(marks)
 }

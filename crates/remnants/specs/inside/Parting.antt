@@ -5,6 +5,7 @@ use Rattle.half_boxes.specs.HalfBoxes.{HasHalf, HasHalfIn, LiesWithin}
 use Rattle.half_boxes.specs.declared.boxes.HalfBox.{HalfBox}
 use Rattle.remnants.specs.Remnants.{RemnantLists, IsSplit}
 use Rattle.remnants.specs.declared.parts.Loose.{Loose}
+use Rattle.remnants.specs.declared.parts.Mark.{Mark}
 
 -- the box has all of `inner`, if there is that, and lies in `outer`
 pub record IsBetween (inner : Option HalfBox) (outer removed : HalfBox) : Type 0 where
@@ -23,6 +24,11 @@ with_loose remnant more = record { fixed = remnant.fixed; loose = remnant.loose 
 abbrev pub loose_of : Option HalfBox → Option ℕ → List Loose
 loose_of None terminal = []
 loose_of (Some part) terminal = record { part = part; terminal = terminal } ∷ []
+
+-- the mark of the terminal at the leader, if there is the terminal
+abbrev pub marks_of : Option ℕ → ℕ → List Mark
+marks_of None leader = []
+marks_of (Some terminal) leader = record { terminal = terminal; leader = leader } ∷ []
 
 -- a loose box of the terminal, or of none, has the half square
 pub record HasLooseOf (loose : List Loose) (terminal : Option ℕ) (h : Half) : Type 0 where
