@@ -5,3 +5,4 @@ pub mod JoinLaws
 pub mod MarkLaws
 pub mod IslandLaws
 pub mod LeaderLaws
+pub mod MeetingLaws

@@ -14,7 +14,10 @@ pub fn are_unmarked(
 ) -> Result<bool, NoMemory>
     ensures { IfOk result (λ answer. IsTrue answer ↔ AreUnmarked terminals.now marks.now) }
 {
-    if terminals.len() < 2 || have_one_leader(alloc, terminals, marks)? {
+    if terminals.len() < 2 {
+        return Ok(false);
+    }
+    if have_one_leader(alloc, terminals, marks)? {
         return Ok(false);
     }
     for one in terminals {

@@ -1,0 +1,1 @@
+use Rattle.remnants.proofs.marking.are_unmarked.Goals as goal

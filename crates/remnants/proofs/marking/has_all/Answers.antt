@@ -1,0 +1,1 @@
+use Rattle.remnants.proofs.marking.has_all.Goals as goal

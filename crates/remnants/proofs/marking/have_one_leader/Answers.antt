@@ -1,0 +1,1 @@
+use Rattle.remnants.proofs.marking.have_one_leader.Goals as goal

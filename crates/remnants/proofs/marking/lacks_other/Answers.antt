@@ -1,0 +1,1 @@
+use Rattle.remnants.proofs.marking.lacks_other.Goals as goal

@@ -1,0 +1,1 @@
+use Rattle.remnants.proofs.marking.leaders_of.Goals as goal

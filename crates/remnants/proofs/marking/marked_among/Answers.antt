@@ -1,0 +1,1 @@
+use Rattle.remnants.proofs.marking.marked_among.Goals as goal
