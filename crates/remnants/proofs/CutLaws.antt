@@ -1,7 +1,7 @@
 -- a loose box that is cut by what may be removed
 use Rattle.std.proofs.Common.{ℕ, List, [], ◌∷◌, ◌++◌, ◌≡◌, length, refl, subst, sym, inl, inr, ◌⊎◌, ◌↔◌, ap, ◌∙◌, append_assoc, arith, Contains, Option, Some, None, All, ℤ, ◌<ℤ◌, ◌≤ℤ◌}
 use Rattle.lists.proofs.Containing.{Contains-none, Contains-one, Contains-head}
-use Rattle.lists.proofs.Words.{Contains-append_left, Contains-append_right, Contains-append_cases, All-append, All-nil, All-cons, ints, by_lt_z}
+use Rattle.lists.proofs.Words.{append-nil, Contains-append_left, Contains-append_right, Contains-append_cases, All-append, All-nil, All-cons, ints, by_lt_z}
 use Rattle.geo_core.specs.Plane.{IsIn}
 use Rattle.geo_core.specs.declared.plane.Half.{Half}
 use Rattle.half_boxes.specs.HalfBoxes.{HasHalf, HasHalfIn, LiesWithin}
@@ -196,3 +196,29 @@ module _ (inner : Option HalfBox) (outer part : HalfBox) (below above left right
     kept_all : (some : Option HalfBox) → ((h : Half) → HasHalfIn some h → HasHalf outer h) → All (λ (one : Loose). LiesWithin one.part outer) (loose_of some terminal)
     kept_all None in_outer = All-nil (λ (one : Loose). LiesWithin one.part outer)
     kept_all (Some box) in_outer = All-cons (λ (one : Loose). LiesWithin one.part outer) (record { part = box; terminal = terminal }) [] in_outer (All-nil (λ (one : Loose). LiesWithin one.part outer))
+
+-- ---- one loose box after the other
+
+-- what is left is still to be cut
+pub record IsCutTo (inner : Option HalfBox) (outer : HalfBox) (old : RemnantLists) (left : List Loose) (cut : RemnantLists) : Type 0 where
+  pub same : PartAlike inner outer old (with_loose cut left)
+  pub within : IsLooseWithin cut outer
+
+pub none_cut : (inner : Option HalfBox) (outer : HalfBox) (old : RemnantLists)
+    → IsCutTo inner outer old old.loose (record { fixed = old.fixed; loose = []; marks = old.marks; terminals = old.terminals })
+none_cut inner outer old = record {
+  same = λ removed between. (λ s. s, λ s. s);
+  within = All-nil (λ (one : Loose). LiesWithin one.part outer);
+}
+
+pub cut_more : (inner : Option HalfBox) (outer : HalfBox) (old cut more : RemnantLists) (loose : Loose) (left rest : List Loose) → left ≡ loose ∷ rest → IsCutTo inner outer old left cut
+    → IsCutInto inner outer loose cut more → (IsLooseWithin cut outer → IsLooseWithin more outer) → IsCutTo inner outer old rest more
+cut_more inner outer old cut more loose left rest e so_far into stays = record {
+  same = alike_then inner outer old (with_loose cut (loose ∷ rest)) (with_loose more rest) (subst (λ (xs : List Loose). PartAlike inner outer old (with_loose cut xs)) e so_far.same) (into rest);
+  within = stays so_far.within;
+}
+
+pub all_cut : (inner : Option HalfBox) (outer : HalfBox) (old : RemnantLists) (left : List Loose) (cut : RemnantLists) → left ≡ [] → IsCutTo inner outer old left cut → PartAlike inner outer old cut
+all_cut inner outer old left cut e so_far =
+    subst (λ (xs : List Loose). PartAlike inner outer old (record { fixed = cut.fixed; loose = xs; marks = cut.marks; terminals = cut.terminals })) (append-nil cut.loose)
+    (subst (λ (xs : List Loose). PartAlike inner outer old (with_loose cut xs)) e so_far.same)

@@ -6,3 +6,4 @@ pub mod MarkLaws
 pub mod IslandLaws
 pub mod LeaderLaws
 pub mod MeetingLaws
+pub mod PieceLaws

@@ -107,12 +107,12 @@ one_unmarked marks terminals leaders met one other one_is other_is different are
 }
 
 -- all at one leader
-pub one_leader_shared : (marks : List Mark) (terminals met : List ℕ) (leader : ℕ) → ((terminal : ℕ) → Contains met terminal ↔ IsMarkedAmong marks (leader ∷ []) terminal)
+pub one_leader_shared : (marks : List Mark) (terminals leaders met : List ℕ) (leader : ℕ) → ((other : ℕ) → Contains leaders other → leader ≡ other) → ((terminal : ℕ) → Contains met terminal ↔ IsMarkedAmong marks leaders terminal)
     → ((terminal : ℕ) → Contains terminals terminal → Contains met terminal) → AreUnmarked terminals marks → ⊥
-one_leader_shared marks terminals met leader meet all u =
+one_leader_shared marks terminals leaders met leader only meet all u =
     let a = (meet u.one).0 (all u.one u.one_is) in
     let b = (meet u.other).0 (all u.other u.other_is) in
-    u.none leader (subst (IsMarked marks u.one) (sym (Contains-one leader a.0 a.1)) a.2) (subst (IsMarked marks u.other) (sym (Contains-one leader b.0 b.1)) b.2)
+    u.none leader (subst (IsMarked marks u.one) (sym (only a.0 a.1)) a.2) (subst (IsMarked marks u.other) (sym (only b.0 b.1)) b.2)
 
 -- fewer than two
 pub few_share : (marks : List Mark) (terminals : List ℕ) → length terminals < 2 → AreUnmarked terminals marks → ⊥

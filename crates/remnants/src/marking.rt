@@ -1,4 +1,4 @@
-ghost use Rattle.std.specs.Prelude.{ℕ, ◌≡◌, ◌≢◌, ◌↔◌, Contains, IfOk, IsTrue};
+ghost use Rattle.std.specs.Prelude.{ℕ, ◌≢◌, ◌↔◌, Contains, IfOk, IsTrue, MatchBool};
 ghost use Rattle.remnants.specs.inside.Marking.{AreUnmarked, IsMarked, IsMarkedAmong};
 
 use super::numbers::Numbers;
@@ -39,7 +39,8 @@ fn have_one_leader(alloc: Global, terminals: &[usize], marks: &[Mark]) -> Result
     };
     let mut leaders = Vec::new(alloc);
     leaders.push(leader)?;
-    let met = marked_among(alloc, marks, &Numbers::of(leaders))?;
+    let one = Numbers::of(leaders);
+    let met = marked_among(alloc, marks, &one)?;
     Ok(has_all(&met, terminals))
 }
 
@@ -51,7 +52,7 @@ fn most_marked(alloc: Global, marks: &[Mark]) -> Result<Option<usize>, NoMemory>
     }
     leaders.sort_unstable();
     let mut most = None;
-    let mut run = 0;
+    let mut run = 0_usize;
     let mut longest = 0;
     let mut last = None;
     for leader in &leaders {
@@ -93,8 +94,9 @@ fn marked_among(alloc: Global, marks: &[Mark], leaders: &Numbers) -> Result<Numb
 
 /// Whether one of the terminals is not this one, and not in the set.
 fn lacks_other(met: &Numbers, terminals: &[usize], one: usize) -> bool
-    ensures { IsTrue result
-        ↔ ((other : ℕ) × Contains terminals.now other × (one ≢ other) × (Contains met.now other → ⊥)) }
+    ensures { MatchBool result
+        ((other : ℕ) × Contains terminals.now other × (one ≢ other) × (Contains met.now other → ⊥))
+        ((other : ℕ) → Contains terminals.now other → one ≢ other → Contains met.now other) }
 {
     for other in terminals {
         if *other != one && !met.has(*other) {
