@@ -66,11 +66,11 @@ module _ (remnant : RemnantLists) (leaders : HasLeaders remnant) (part : HalfBox
   is_settled inner outer outside rest =
       let loose = remnant.loose ++ rest in
       let moved = loose_alike inner outer remnant (remnant.loose ++ record { part = part; terminal = terminal } ∷ rest) (record { part = part; terminal = terminal } ∷ loose)
-          (λ removed between. first_spared removed remnant.loose rest (record { part = part; terminal = terminal })) in
+      (λ removed between. first_spared removed remnant.loose rest (record { part = part; terminal = terminal })) in
       let settled = settled_alike remnant leaders part terminal loose inner outer outside in
       subst (λ (ms : List Mark). PartAlike inner outer (with_loose remnant (record { part = part; terminal = terminal } ∷ rest)) (record { fixed = fixed; loose = loose; marks = ms; terminals = remnant.terminals })) (sym marks_are)
       (subst (λ (fs : List Fixed). PartAlike inner outer (with_loose remnant (record { part = part; terminal = terminal } ∷ rest))
-          (record { fixed = fs; loose = loose; marks = remnant.marks ++ marks_of terminal (length remnant.fixed); terminals = remnant.terminals })) (sym fixed_are)
+      (record { fixed = fs; loose = loose; marks = remnant.marks ++ marks_of terminal (length remnant.fixed); terminals = remnant.terminals })) (sym fixed_are)
       (alike_then inner outer _ _ _ moved settled))
 
   pub leaders_settled : HasLeaders (record { fixed = fixed; loose = remnant.loose; marks = marks; terminals = remnant.terminals })
@@ -105,11 +105,11 @@ module _ (inner : Option HalfBox) (outer part : HalfBox) (below above left right
   in_parts h has = by_lt_z h.v outer.rows.low (λ low. inl ((parts.below h).1 (has, low)))
       (λ from. by_lt_z h.v outer.rows.high
       (λ before.
-          let up : IsIn outer.rows.low outer.rows.high h.v = record { from = from; before = before } in
-          by_lt_z h.u outer.columns.low (λ low. inr (inr (inl ((parts.left h).1 (has, up, low)))))
-          (λ from'. by_lt_z h.u outer.columns.high
-          (λ before'. inr (inr (inr (inr (keeps.all h has (record { across = record { from = from'; before = before' }; up = up }))))))
-          (λ past. inr (inr (inr (inl ((parts.right h).1 (has, up, past))))))))
+      let up : IsIn outer.rows.low outer.rows.high h.v = record { from = from; before = before } in
+      by_lt_z h.u outer.columns.low (λ low. inr (inr (inl ((parts.left h).1 (has, up, low)))))
+      (λ from'. by_lt_z h.u outer.columns.high
+      (λ before'. inr (inr (inr (inr (keeps.all h has (record { across = record { from = from'; before = before' }; up = up }))))))
+      (λ past. inr (inr (inr (inl ((parts.right h).1 (has, up, past))))))))
       (λ past. inr (inl ((parts.above h).1 (has, past)))))
 
   pub below_outside : (h : Half) → HasHalfIn below h → HasHalf outer h → ⊥

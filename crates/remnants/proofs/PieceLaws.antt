@@ -1,7 +1,7 @@
 -- the boxes of an island, piece by piece and anchor by anchor
 use Rattle.std.proofs.Common.{ℕ, zero, suc, List, [], ◌∷◌, ◌++◌, ◌≡◌, ◌<◌, ◌+◌, refl, subst, sym, inl, inr, ◌⊎◌, ◌↔◌, ap, ◌∙◌, arith, length, Contains, Option, Some, None, slice_get, ℤ, pos, ◌+ℤ◌}
 use Rattle.lists.proofs.Containing.{Contains-slice_get, Contains-none, Contains-one, number_of, slice_get-front, slice_get-back}
-use Rattle.lists.proofs.Words.{slice_get_within, same_Some, add-zero, ints, Contains-append_left, Contains-push, Contains-push_cases}
+use Rattle.lists.proofs.Words.{same_Some, ints, leb_tells, Contains-append_left, Contains-push, Contains-push_cases}
 use Rattle.geo_core.specs.Plane.{IsIn, Has, IsInUnion}
 use Rattle.geo_core.specs.declared.plane.Cell.{Cell}
 use Rattle.geo_core.specs.declared.plane.Half.{Half}
@@ -107,4 +107,18 @@ cell_alone rect cell box left right bottom top is h = (
       let same : on.0 ≡ cell = same_cell on.0 cell (one_unit rect.x0 rect.x1 cell.i on.0.i left right on.2.across) (one_unit rect.y0 rect.y1 cell.j on.0.j bottom top on.2.up) in
       subst (LiesIn h) same on.1,
   λ lies. (is h).1 (cell, lies, record { across = record { from = omega (arith, ints); before = omega (arith, ints) }; up = record { from = omega (arith, ints); before = omega (arith, ints) } }),
+)
+
+-- ---- numbers below a count
+
+pub none_below : (k : ℕ) → Contains [] k ↔ (k < 0)
+none_below k = (λ h. absurd (Contains-none h), λ small. absurd (omega arith))
+
+pub below_more : (numbers : List ℕ) (count : ℕ) → ((k : ℕ) → Contains numbers k ↔ (k < count)) → (k : ℕ) → Contains (numbers ++ count ∷ []) k ↔ (k < count + 1)
+below_more numbers count so_far k = (
+  λ h. elim (Contains-push_cases numbers count k h) [ inl old ↦ let less = (so_far k).0 old in omega arith | inr same ↦ omega arith ],
+  λ small. elim (leb_tells count k) [
+    | inl y ↦ let from = y.1 in let same : count ≡ k = omega arith in subst (Contains (numbers ++ count ∷ [])) same (Contains-push numbers count)
+    | inr y ↦ let less = y.1 in Contains-append_left numbers (count ∷ []) k ((so_far k).1 (omega arith))
+  ],
 )

@@ -28,11 +28,11 @@ with_other remnant loose = record { fixed = remnant.fixed; loose = loose; marks 
 loose_follows : (removed : HalfBox) (remnant : RemnantLists) (one other : List Loose) → HasSpared removed one other → Follows removed (with_other remnant one) (with_other remnant other)
 loose_follows removed remnant one other spared = more_follows removed (with_other remnant one) (with_other remnant other) (λ terminal h. h) (λ f h. h) (λ m h. h)
     (λ h l.
-        let x = spared l.loose.terminal h l.spared (record { one = l.loose; among = l.among; of_terminal = refl; has = l.has }) in
-        inr (record { loose = x.one; among = x.among; has = x.has; spared = l.spared }))
+    let x = spared l.loose.terminal h l.spared (record { one = l.loose; among = l.among; of_terminal = refl; has = l.has }) in
+    inr (record { loose = x.one; among = x.among; has = x.has; spared = l.spared }))
     (λ terminal h l.
-        let x = spared (Some terminal) h l.spared (record { one = l.loose; among = l.among; of_terminal = l.of_terminal; has = l.has }) in
-        inr (record { loose = x.one; among = x.among; of_terminal = x.of_terminal; has = x.has; spared = l.spared }))
+    let x = spared (Some terminal) h l.spared (record { one = l.loose; among = l.among; of_terminal = l.of_terminal; has = l.has }) in
+    inr (record { loose = x.one; among = x.among; of_terminal = x.of_terminal; has = x.has; spared = l.spared }))
 
 pub loose_alike : (inner : Option HalfBox) (outer : HalfBox) (remnant : RemnantLists) (one other : List Loose)
     → ((removed : HalfBox) → IsBetween inner outer removed → HasSpared removed one other × HasSpared removed other one)

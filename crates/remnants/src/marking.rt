@@ -7,11 +7,7 @@ use lists::NoMemory;
 use std::alloc::Global;
 
 /// Whether two of the terminals have no mark at the same leader.
-pub fn are_unmarked(
-    alloc: Global,
-    terminals: &[usize],
-    marks: &[Mark],
-) -> Result<bool, NoMemory>
+pub fn are_unmarked(alloc: Global, terminals: &[usize], marks: &[Mark]) -> Result<bool, NoMemory>
     ensures { IfOk result (λ answer. IsTrue answer ↔ AreUnmarked terminals.now marks.now) }
 {
     if terminals.len() < 2 {

@@ -75,7 +75,9 @@ impl Remnant {
         let pieces = boxes_of_pieces(alloc, island.pieces.as_slice())?;
         let loose = with_anchors(pieces, anchors)?;
         let terminals = numbers_below(alloc, anchors.len())?;
-        Ok(Remnant::new(Vec::new(alloc), loose, Vec::new(alloc), terminals))
+        let fixed = Vec::new(alloc);
+        let marks = Vec::new(alloc);
+        Ok(Remnant::new(fixed, loose, marks, terminals))
     }
 
     /// The remnant within `outer`, for the removal of boxes that lie in it and have all of `inner`, if there is that: whichever

@@ -93,16 +93,12 @@ impl Unjoined {
     }
 
     /// With the part, if there is one, as a loose box.
-    pub fn hold(
-        self,
-        part: Option<HalfBox>,
-        terminal: Option<usize>,
-    ) -> Result<Unjoined, NoMemory>
+    pub fn hold(self, part: Option<HalfBox>, terminal: Option<usize>) -> Result<Unjoined, NoMemory>
         ensures { IfOk result (λ held. held ≡ record {
-            fixed = self.fixed;
-            loose = self.loose ++ loose_of part terminal;
-            marks = self.marks;
-            terminals = self.terminals
+          fixed = self.fixed;
+          loose = self.loose ++ loose_of part terminal;
+          marks = self.marks;
+          terminals = self.terminals;
         }) }
     {
         let Some(part) = part else {
@@ -125,7 +121,11 @@ impl Unjoined {
 }
 
 /// The marks, and one of the terminal at the leader, if there is the terminal.
-fn with_mark(marks: Vec<Mark>, terminal: Option<usize>, leader: usize) -> Result<Vec<Mark>, NoMemory>
+fn with_mark(
+    marks: Vec<Mark>,
+    terminal: Option<usize>,
+    leader: usize,
+) -> Result<Vec<Mark>, NoMemory>
     ensures { IfOk result (λ more. more.items ≡ marks.items ++ marks_of terminal leader) }
 {
     let mut marks = marks;

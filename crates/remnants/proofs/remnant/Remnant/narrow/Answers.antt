@@ -1,12 +1,17 @@
-use Rattle.std.proofs.Common.{◌≡◌, ◌↔◌, [], List, All, drop, subst, sym}
-use Rattle.lists.proofs.Words.{IfOk-weaker, drop_all, drop_at}
+use Rattle.std.proofs.Common.{◌≡◌, ◌∙◌, ◌+◌, ◌↔◌, [], ◌∷◌, List, All, ap, drop, get_or, subst, sym}
+use Rattle.lists.proofs.Words.{IfOk-weaker, drop_all, drop_more}
 use Rattle.geo_core.specs.declared.plane.Half.{Half}
 use Rattle.half_boxes.specs.HalfBoxes.{HasHalf, HasHalfIn, LiesWithin}
 use Rattle.half_boxes.specs.declared.boxes.HalfBox.{HalfBox}
 use Rattle.remnants.specs.Remnants.{RemnantLists, IsLooseWithin, IsSplit}
 use Rattle.remnants.specs.declared.parts.Loose.{Loose}
-use Rattle.remnants.proofs.CutLaws.{IsCutTo, none_cut, cut_more, all_cut}
+use Rattle.remnants.proofs.CutLaws.{IsCutTo, leaders_with, none_cut, cut_more, all_cut}
 use Rattle.remnants.proofs.remnant.Remnant.narrow.Goals as goal
+
+pub without_loose-requires : goal.without_loose-requires
+without_loose-requires c =
+    let inside = c.self.inside in
+    rw (c.deref.ensures.value, c.deref-2.ensures.value, c.deref-3.ensures.value) (leaders_with inside.fixed.items inside.marks.items inside.loose.items [] inside.terminals.items c.self.invariant.leaders)
 
 pub loop-loose-init : goal.loop-loose-init
 loop-loose-init c =
@@ -21,7 +26,8 @@ pub loop-loose-preserved : goal.loop-loose-preserved
 loop-loose-preserved c =
     let items = c.deref-loose-items.result.now in
     let k = c.loop-loose.loose-index in
-    cut_more c.args.inner c.args.outer c.args.self.now c.loop-loose.cut c.in_ok-cut-2.cut c.loose-item.result (drop k items) (drop (k + 1) items) ?
+    cut_more c.args.inner c.args.outer c.args.self.now c.loop-loose.cut c.in_ok-cut-2.cut c.loose-item.result (drop k items) (drop (k + 1) items)
+    (drop_more items k c.loose-item.result c.loop-loose-test.true ∙ ap (λ (x : Loose). x ∷ drop (k + 1) items) (sym c.loose-item.is))
     c.loop-loose.invariant c.in_ok-cut-2.ensures.cut c.in_ok-cut-2.ensures.within
 
 pub returns-clause-same : goal.returns-clause-same

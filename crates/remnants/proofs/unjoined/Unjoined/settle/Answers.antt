@@ -19,6 +19,6 @@ returns-clause-settled c =
     let new : RemnantLists = record { fixed = c.push.new.self.items; loose = inside.loose.items; marks = c.in_ok-marks.marks.items; terminals = inside.terminals.items } in
     let count : c.len-leader.result ≡ length inside.fixed.items = omega (arith, inside.fixed.ok.0) in
     let settled : IsSettled (Some c.in-Some.part) c.args.terminal old new =
-        is_settled old c.self.invariant c.in-Some.part c.args.terminal c.len-leader.result c.push.new.self.items c.in_ok-marks.marks.items count c.in_ok-push.ensures.items c.in_ok-marks.ensures in
+    is_settled old c.self.invariant c.in-Some.part c.args.terminal c.len-leader.result c.push.new.self.items c.in_ok-marks.marks.items count c.in_ok-push.ensures.items c.in_ok-marks.ensures in
     subst (λ (r : RemnantLists). IsSettled c.args.part c.args.terminal r new) c.self.view_is
     (subst (λ (o : Option HalfBox). IsSettled o c.args.terminal old new) (sym c.in-Some.is) settled)
