@@ -1,7 +1,8 @@
 -- the classes of pairs as leaders of boxes
-use Rattle.std.proofs.Common.{ℕ, List, [], ◌∷◌, ◌++◌, ◌≡◌, ◌<◌, ◌≤◌, ◌+◌, map, length, refl, subst, sym, inl, inr, ◌⊎◌, ap, ◌∙◌, arith, Contains, All, Option, Some, option_map, slice_get}
+use Rattle.std.proofs.Common.{ℕ, List, [], ◌∷◌, ◌++◌, ◌≡◌, ◌<◌, ◌≤◌, ◌+◌, map, length, refl, subst, sym, inl, inr, ◌⊎◌, ap, ◌∙◌, arith, ◌↔◌, Bool, true, ◌&&◌, nat_eq, Contains, All, Option, Some, option_map, slice_get}
 use Rattle.lists.proofs.Containing.{Contains-slice_get, Contains-none, some_item, slice_get-front, slice_get-back, number_of, all_of_each}
 use Rattle.lists.proofs.Words.{slice_get_within, slice_get-map, same_Some, length-map, length_push, leb_tells, add-zero, Contains-append_left, Contains-push, Contains-push_cases, All-contains}
+use Rattle.lists.proofs.Words.{nat_tests, nat_eq_equiv, and_equiv, on_equiv, IsEquivalence, IsPermutation, dedup, Contains-dedup, Contains-from_dedup, Contains-permutation, IsPermutation-sym}
 use Rattle.paths.specs.Paths.{stay, step}
 use Rattle.paths.proofs.PathLaws.{first, retold, reverse}
 use Rattle.classes.specs.Classes.{AreBelow, IsPair, AreJoined, IsClasses}
@@ -96,6 +97,32 @@ moved_more leaders old new x y so_far here = record {
     | inr same ↦ (x, Contains-push old x, subst (λ (z : Mark). IsMovedTo leaders x z) same here)
   ];
 }
+
+pub moved_once : (leaders : List ℕ) (old new once : List Mark) → AreMovedTo leaders old new → ((mark : Mark) → Contains once mark ↔ Contains new mark) → AreMovedTo leaders old once
+moved_once leaders old new once moved same = record {
+  each = λ m h. let to = moved.each m h in (to.0, (same to.0).1 to.1, to.2);
+  only = λ m h. moved.only m ((same m).0 h);
+}
+
+-- what `==` answers at marks
+abbrev pub mark_eq : Mark → Mark → Bool
+mark_eq a b = nat_eq a.terminal b.terminal && nat_eq a.leader b.leader
+
+mark_eq_equiv : IsEquivalence mark_eq
+mark_eq_equiv = and_equiv (on_equiv (λ (m : Mark). m.terminal) nat_eq_equiv) (on_equiv (λ (m : Mark). m.leader) nat_eq_equiv)
+
+same_mark : (a b : Mark) → mark_eq a b ≡ true → a ≡ b
+same_mark a b e =
+    let terminal_is : a.terminal ≡ b.terminal = grind (arith, nat_tests) in
+    let leader_is : a.leader ≡ b.leader = grind (arith, nat_tests) in
+    let make : ℕ → ℕ → Mark = λ t l. record { terminal = t; leader = l } in
+    ap (λ t. make t a.leader) terminal_is ∙ ap (make b.terminal) leader_is
+
+pub same_marks : (marks sorted once : List Mark) → IsPermutation marks sorted → once ≡ dedup mark_eq sorted → (mark : Mark) → Contains once mark ↔ Contains marks mark
+same_marks marks sorted once moved e mark = (
+  λ c. Contains-permutation sorted marks mark (IsPermutation-sym marks sorted moved) (Contains-from_dedup mark_eq sorted mark (subst (λ ms. Contains ms mark) e c)),
+  λ c. subst (λ ms. Contains ms mark) (sym e) (Contains-dedup mark_eq_equiv same_mark sorted mark (Contains-permutation marks sorted mark moved c)),
+)
 
 -- ---- leaders from classes
 

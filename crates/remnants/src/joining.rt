@@ -1,6 +1,7 @@
-ghost use Rattle.std.specs.Prelude.{ℕ, ◌≡◌, ◌<◌, All, IfOk, length, map, ◌↔◌};
+ghost use Rattle.std.specs.Prelude.{ℕ, Contains, ◌≡◌, ◌<◌, All, IfOk, length, map, ◌↔◌};
 ghost use Rattle.half_boxes.specs.declared.boxes.HalfBox.{HalfBox as AnyBox};
 ghost use Rattle.remnants.specs.Remnants.{IsJoined, IsSplit};
+ghost use Rattle.remnants.specs.declared.parts.Mark.{Mark as AnyMark};
 ghost use Rattle.remnants.specs.inside.Joining.{AreLeaders, AreLedBy, AreMovedTo, HasLeads};
 
 use super::parts::{Fixed, Mark};
@@ -71,7 +72,17 @@ fn moved_to(alloc: Global, marks: &[Mark], leaders: &[usize]) -> Result<Vec<Mark
             leader: leaders[mark.leader],
         })?;
     }
-    Ok(moved)
+    Ok(each_once(moved))
+}
+
+/// The marks in order, each once.
+fn each_once(marks: Vec<Mark>) -> Vec<Mark>
+    ensures { (mark : AnyMark) → Contains result.items mark ↔ Contains marks.items mark }
+{
+    let mut once = marks;
+    once.sort_unstable_by_key(|mark| (mark.terminal, mark.leader));
+    once.dedup();
+    once
 }
 
 /// With one leader for fixed boxes that touch.

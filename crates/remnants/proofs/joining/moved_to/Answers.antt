@@ -1,7 +1,7 @@
 use Rattle.std.proofs.Common.{◌<◌, get_or, length, refl, take, take_all}
 use Rattle.lists.proofs.Words.{take_more, slice_get-get_or, All-get_or}
 use Rattle.remnants.specs.declared.parts.Mark.{Mark}
-use Rattle.remnants.proofs.LeaderLaws.{none_moved, moved_more}
+use Rattle.remnants.proofs.LeaderLaws.{none_moved, moved_more, moved_once}
 use Rattle.remnants.proofs.joining.moved_to.Goals as goal
 
 pub loop-mark-init : goal.loop-mark-init
@@ -20,4 +20,5 @@ loop-mark-preserved c =
     (moved_more leaders (take k marks) c.loop-mark.moved.items mark new c.loop-mark.invariant (record { same_terminal = refl; moved = slice_get-get_or leaders mark.leader 0 small }))
 
 pub returns : goal.returns
-returns c = rw (take_all c.loop-mark.mark-index c.args.marks.now c.loop-mark-test.false) at c.loop-mark.invariant
+returns c =
+    moved_once c.args.leaders.now c.args.marks.now c.loop-mark.moved.items _ (rw (take_all c.loop-mark.mark-index c.args.marks.now c.loop-mark-test.false) at c.loop-mark.invariant) c.each_once.ensures
