@@ -24,7 +24,7 @@ pub record HasLeadsTo (links : List (ℕ × ℕ)) (fixed : List Fixed) (count : 
 pub no_leads : (links : List (ℕ × ℕ)) (fixed : List Fixed) → HasLeadsTo links fixed 0 links
 no_leads links fixed = record { kept = λ a b h. h; led = λ k one small. absurd (omega arith); only = λ a b h. inl h }
 
-below_or_last : (k n : ℕ) → k < n + 1 → (k < n) ⊎ (k ≡ n)
+pub below_or_last : (k n : ℕ) → k < n + 1 → (k < n) ⊎ (k ≡ n)
 below_or_last k n small = elim (leb_tells n k) [ inl y ↦ let past = y.1 in inr (omega arith) | inr y ↦ let before = y.1 in inl (omega arith) ]
 
 pub leads_more : (links : List (ℕ × ℕ)) (fixed : List Fixed) (count : ℕ) (pairs : List (ℕ × ℕ)) (one : Fixed) → slice_get fixed count ≡ Some one → HasLeadsTo links fixed count pairs

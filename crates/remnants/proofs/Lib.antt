@@ -7,3 +7,5 @@ pub mod IslandLaws
 pub mod LeaderLaws
 pub mod MeetingLaws
 pub mod PieceLaws
+pub mod KeepLaws
+pub mod PlaceLaws

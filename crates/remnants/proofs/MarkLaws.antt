@@ -15,7 +15,7 @@ use Rattle.remnants.proofs.JoinLaws.{some_half_of}
 
 module _ (remnant : RemnantLists) (joined : IsJoined remnant) where
   -- boxes with one half square in common, or neighbours, have one leader
-  one_leader : (l m : ℕ) (p q : Half) → HasFixed remnant l p → HasFixed remnant m q → (p ≡ q) ⊎ Neighbours p q → l ≡ m
+  pub one_leader : (l m : ℕ) (p q : Half) → HasFixed remnant l p → HasFixed remnant m q → (p ≡ q) ⊎ Neighbours p q → l ≡ m
   one_leader l m p q a b near = sym a.led ∙ joined.touching a.fixed b.fixed a.among b.among (p, q, a.has, b.has, near) ∙ b.led
 
   module _ (removed : HalfBox) (within : IsLooseWithin remnant removed) where

@@ -2,3 +2,4 @@ pub mod Parting
 pub mod Joining
 pub mod Marking
 pub mod IslandBoxes
+pub mod Keeping

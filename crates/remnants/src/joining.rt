@@ -61,7 +61,7 @@ fn led_by(alloc: Global, fixed: &[Fixed], leaders: &[usize]) -> Result<Vec<Fixed
 }
 
 /// The marks at new leaders, each once.
-fn moved_to(alloc: Global, marks: &[Mark], leaders: &[usize]) -> Result<Vec<Mark>, NoMemory>
+pub fn moved_to(alloc: Global, marks: &[Mark], leaders: &[usize]) -> Result<Vec<Mark>, NoMemory>
     requires { All (λ mark. mark.leader < length leaders.now) marks.now }
     ensures { IfOk result (λ moved. AreMovedTo leaders.now marks.now moved.items) }
 {

@@ -6,6 +6,7 @@
 mod cutting;
 mod island_boxes;
 mod joining;
+mod keeping;
 mod marking;
 mod numbers;
 pub mod parts;

@@ -1,6 +1,7 @@
 use super::cutting::cut_into;
 use super::island_boxes::{boxes_of_pieces, numbers_below, with_anchors};
-use super::joining::join;
+use super::joining::{join, moved_to};
+use super::keeping::{kept_at, places_of};
 use super::marking::are_unmarked;
 use super::parts::{Fixed, Loose, Mark};
 use super::unjoined::Unjoined;
@@ -98,7 +99,26 @@ impl Remnant {
         for loose in &self.loose {
             cut = cut_into(cut, *loose, inner, outer)?;
         }
-        join(alloc, cut)
+        let joined = join(alloc, cut)?;
+        joined.keep(alloc, outer)
+    }
+
+    /// Without the fixed boxes that neither touch `outer`, in which all that is loose lies, nor lead others.
+    fn keep(self, alloc: Global, outer: HalfBox) -> Result<Remnant, NoMemory>
+        requires { IsLooseWithin self outer }
+        ensures same { IfOk result (λ kept. (removed : AnyBox) → IsSplit kept removed ↔ IsSplit self removed) }
+        ensures loose { IfOk result (λ kept. kept.loose ≡ self.loose) }
+    {
+        let Remnant {
+            fixed,
+            loose,
+            marks,
+            terminals,
+        } = self;
+        let found = places_of(alloc, &fixed, outer)?;
+        let kept = kept_at(alloc, &fixed, &found.places, &found.numbers)?;
+        let moved = moved_to(alloc, &marks, &found.numbers)?;
+        Ok(Remnant::new(kept, loose, moved, terminals))
     }
 
     /// Whether two terminals are parted where all that is loose is removed. The only error is that no memory is left.
