@@ -68,7 +68,8 @@ module _ (remnant : RemnantLists) (leaders : HasLeaders remnant) (part : HalfBox
       let moved = loose_alike inner outer remnant (remnant.loose ++ record { part = part; terminal = terminal } ∷ rest) (record { part = part; terminal = terminal } ∷ loose)
       (λ removed between. first_spared removed remnant.loose rest (record { part = part; terminal = terminal })) in
       let settled = settled_alike remnant leaders part terminal loose inner outer outside in
-      subst (λ (ms : List Mark). PartAlike inner outer (with_loose remnant (record { part = part; terminal = terminal } ∷ rest)) (record { fixed = fixed; loose = loose; marks = ms; terminals = remnant.terminals })) (sym marks_are)
+      subst (λ (ms : List Mark). PartAlike inner outer (with_loose remnant (record { part = part; terminal = terminal } ∷ rest))
+      (record { fixed = fixed; loose = loose; marks = ms; terminals = remnant.terminals })) (sym marks_are)
       (subst (λ (fs : List Fixed). PartAlike inner outer (with_loose remnant (record { part = part; terminal = terminal } ∷ rest))
       (record { fixed = fs; loose = loose; marks = remnant.marks ++ marks_of terminal (length remnant.fixed); terminals = remnant.terminals })) (sym fixed_are)
       (alike_then inner outer _ _ _ moved settled))
@@ -76,7 +77,8 @@ module _ (remnant : RemnantLists) (leaders : HasLeaders remnant) (part : HalfBox
   pub leaders_settled : HasLeaders (record { fixed = fixed; loose = remnant.loose; marks = marks; terminals = remnant.terminals })
   leaders_settled =
       subst (λ (ms : List Mark). HasLeaders (record { fixed = fixed; loose = remnant.loose; marks = ms; terminals = remnant.terminals })) (sym marks_are)
-      (subst (λ (fs : List Fixed). HasLeaders (record { fixed = fs; loose = remnant.loose; marks = remnant.marks ++ marks_of terminal (length remnant.fixed); terminals = remnant.terminals })) (sym fixed_are)
+      (subst (λ (fs : List Fixed). HasLeaders (record { fixed = fs; loose = remnant.loose; marks = remnant.marks ++ marks_of terminal (length remnant.fixed); terminals = remnant.terminals }))
+      (sym fixed_are)
       (leaders_after remnant leaders part terminal remnant.loose))
 
 -- leaders have nothing to do with loose boxes
@@ -96,7 +98,8 @@ pub record AreParts (part outer : HalfBox) (low high near far : Option HalfBox) 
   pub left : (h : Half) → HasHalfIn near h ↔ (HasHalf part h × IsIn outer.rows.low outer.rows.high h.v × (h.u <ℤ outer.columns.low))
   pub right : (h : Half) → HasHalfIn far h ↔ (HasHalf part h × IsIn outer.rows.low outer.rows.high h.v × (outer.columns.high ≤ℤ h.u))
 
-module _ (inner : Option HalfBox) (outer part : HalfBox) (below above left right kept : Option HalfBox) (parts : AreParts part outer below above left right) (keeps : IsKeptPart inner outer part kept) where
+module _ (inner : Option HalfBox) (outer part : HalfBox) (below above left right kept : Option HalfBox) (parts : AreParts part outer below above left right)
+    (keeps : IsKeptPart inner outer part kept) where
   -- a half square of the box lies in one of the parts, or in what may stay loose, or in `inner`
   abbrev InParts : Half → Type 0
   InParts h = HasHalfIn below h ⊎ (HasHalfIn above h ⊎ (HasHalfIn left h ⊎ (HasHalfIn right h ⊎ (HasHalfIn kept h ⊎ HasHalfIn inner h))))
@@ -135,11 +138,13 @@ module _ (inner : Option HalfBox) (outer part : HalfBox) (below above left right
     into_parts h (inr (inr (inr (inl r)))) out =
         in_right (loose_of below terminal) _ (in_right (loose_of above terminal) _ (in_right (loose_of left terminal) _ (in_left (loose_of right terminal) _ (as_part right r))))
     into_parts h (inr (inr (inr (inr (inl k))))) out =
-        in_right (loose_of below terminal) _ (in_right (loose_of above terminal) _ (in_right (loose_of left terminal) _ (in_right (loose_of right terminal) _ (in_left (loose_of kept terminal) _ (as_part kept k)))))
+        in_right (loose_of below terminal) _ (in_right (loose_of above terminal) _
+        (in_right (loose_of left terminal) _ (in_right (loose_of right terminal) _ (in_left (loose_of kept terminal) _ (as_part kept k)))))
     into_parts h (inr (inr (inr (inr (inr i))))) out = absurd (out i)
 
     into_rest : (some : Option ℕ) (h : Half) → HasLooseOf rest some h → HasLooseOf some_parts some h
-    into_rest some h l = in_right (loose_of below terminal) _ (in_right (loose_of above terminal) _ (in_right (loose_of left terminal) _ (in_right (loose_of right terminal) _ (in_right (loose_of kept terminal) _ l))))
+    into_rest some h l = in_right (loose_of below terminal) _
+        (in_right (loose_of above terminal) _ (in_right (loose_of left terminal) _ (in_right (loose_of right terminal) _ (in_right (loose_of kept terminal) _ l))))
 
     -- a part of the box, as the box
     as_whole : (some : Option ℕ) (h : Half) → terminal ≡ some → HasHalf part h → HasLooseOf (record { part = part; terminal = terminal } ∷ rest) some h
@@ -164,7 +169,8 @@ module _ (inner : Option HalfBox) (outer part : HalfBox) (below above left right
     ]
 
     cut_spared : (removed : HalfBox) (front : List Loose) → IsBetween inner outer removed
-        → HasSpared removed (front ++ record { part = part; terminal = terminal } ∷ rest) (front ++ some_parts) × HasSpared removed (front ++ some_parts) (front ++ record { part = part; terminal = terminal } ∷ rest)
+        → HasSpared removed (front ++ record { part = part; terminal = terminal } ∷ rest) (front ++ some_parts) × HasSpared removed (front ++ some_parts)
+        (front ++ record { part = part; terminal = terminal } ∷ rest)
     cut_spared removed front between = (
       λ some h out l. elim (in_either front _ l) [
         | inl f ↦ in_left front some_parts f
@@ -182,20 +188,25 @@ module _ (inner : Option HalfBox) (outer part : HalfBox) (below above left right
     )
 
   -- so the box is cut into what the steps make of it, one after the other
-  pub cut_alike : (terminal : Option ℕ) (s0 s1 s2 s3 s4 : RemnantLists) → IsSettled below terminal s0 s1 → IsSettled above terminal s1 s2 → IsSettled left terminal s2 s3 → IsSettled right terminal s3 s4
+  pub cut_alike : (terminal : Option ℕ) (s0 s1 s2 s3 s4 : RemnantLists) → IsSettled below terminal s0 s1 → IsSettled above terminal s1 s2 → IsSettled left terminal s2 s3
+      → IsSettled right terminal s3 s4
       → IsCutInto inner outer (record { part = part; terminal = terminal }) s0 (with_loose s4 (loose_of kept terminal))
   cut_alike terminal s0 s1 s2 s3 s4 first second third fourth rest =
-      let parted = loose_alike inner outer s0 (s0.loose ++ record { part = part; terminal = terminal } ∷ rest) (s0.loose ++ some_parts terminal rest) (λ removed between. cut_spared terminal rest removed s0.loose between) in
-      subst (λ (xs : List Loose). PartAlike inner outer (with_loose s0 (record { part = part; terminal = terminal } ∷ rest)) (record { fixed = s4.fixed; loose = xs; marks = s4.marks; terminals = s4.terminals }))
+      let parted = loose_alike inner outer s0 (s0.loose ++ record { part = part; terminal = terminal } ∷ rest) (s0.loose ++ some_parts terminal rest)
+      (λ removed between. cut_spared terminal rest removed s0.loose between) in
+      subst (λ (xs : List Loose). PartAlike inner outer (with_loose s0 (record { part = part; terminal = terminal } ∷ rest))
+      (record { fixed = s4.fixed; loose = xs; marks = s4.marks; terminals = s4.terminals }))
       (sym (append_assoc s4.loose (loose_of kept terminal) rest))
       (alike_then inner outer _ _ _ parted (alike_then inner outer _ _ _ (first inner outer below_outside _) (alike_then inner outer _ _ _ (second inner outer above_outside _)
       (alike_then inner outer _ _ _ (third inner outer left_outside _) (fourth inner outer right_outside _)))))
 
-  pub kept_within : (terminal : Option ℕ) (loose : List Loose) → All (λ (one : Loose). LiesWithin one.part outer) loose → All (λ (one : Loose). LiesWithin one.part outer) (loose ++ loose_of kept terminal)
+  pub kept_within : (terminal : Option ℕ) (loose : List Loose) → All (λ (one : Loose). LiesWithin one.part outer) loose
+      → All (λ (one : Loose). LiesWithin one.part outer) (loose ++ loose_of kept terminal)
   kept_within terminal loose all = All-append (λ (one : Loose). LiesWithin one.part outer) loose (loose_of kept terminal) all (kept_all kept keeps.in_outer) where
     kept_all : (some : Option HalfBox) → ((h : Half) → HasHalfIn some h → HasHalf outer h) → All (λ (one : Loose). LiesWithin one.part outer) (loose_of some terminal)
     kept_all None in_outer = All-nil (λ (one : Loose). LiesWithin one.part outer)
-    kept_all (Some box) in_outer = All-cons (λ (one : Loose). LiesWithin one.part outer) (record { part = box; terminal = terminal }) [] in_outer (All-nil (λ (one : Loose). LiesWithin one.part outer))
+    kept_all (Some box) in_outer = All-cons (λ (one : Loose). LiesWithin one.part outer) (record { part = box; terminal = terminal }) [] in_outer
+        (All-nil (λ (one : Loose). LiesWithin one.part outer))
 
 -- ---- one loose box after the other
 

@@ -18,7 +18,8 @@ use Rattle.remnants.specs.declared.parts.Loose.{Loose}
 use Rattle.remnants.specs.inside.Parting.{HasLooseOf}
 use Rattle.remnants.specs.inside.IslandBoxes.{IsOfIsland, AreIslandBoxes}
 
-module _ (island : IslandLists) (anchored : IsAnchoredIsland island) (loose : List Loose) (boxes : AreIslandBoxes island loose) (terminals : List ℕ) (all : (k : ℕ) → Contains terminals k ↔ (k < length island.anchors)) (removed : HalfBox) where
+module _ (island : IslandLists) (anchored : IsAnchoredIsland island) (loose : List Loose) (boxes : AreIslandBoxes island loose) (terminals : List ℕ)
+    (all : (k : ℕ) → Contains terminals k ↔ (k < length island.anchors)) (removed : HalfBox) where
   abbrev whole : RemnantLists
   whole = record { fixed = []; loose = loose; marks = []; terminals = terminals }
 

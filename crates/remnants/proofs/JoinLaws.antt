@@ -35,14 +35,16 @@ module _ (remnant : RemnantLists) (removed : HalfBox) where
   in_box k one p q at a b = jump one.leader p q (has_fixed k one p at a) (has_fixed k one q at b)
 
   -- half squares of boxes that touch are joined
-  across : (a b : ℕ) (one other : Fixed) (p q : Half) → slice_get remnant.fixed a ≡ Some one → slice_get remnant.fixed b ≡ Some other → HasHalf one.part p → HasHalf other.part q → TouchHalves one.part other.part
+  across : (a b : ℕ) (one other : Fixed) (p q : Half) → slice_get remnant.fixed a ≡ Some one → slice_get remnant.fixed b ≡ Some other → HasHalf one.part p → HasHalf other.part q
+      → TouchHalves one.part other.part
       → Way remnant removed p q
   across a b one other p q at at' hp hq (x, y, hx, hy, inl same) = append (in_box a one p x at hp hx) (in_box b other x q at' (subst (HasHalf other.part) (sym same) hy) hq)
   across a b one other p q at at' hp hq (x, y, hx, hy, inr next) =
       append (in_box a one p x at hp hx) (step (inl (one.leader, has_fixed a one x at hx)) (inl next) (in_box b other y q at' hy hq))
 
   module _ (leaders : HasLeaders remnant) where
-    tie_way : (a b : ℕ) (one other : Fixed) (p q : Half) → AreTied remnant.fixed a b → slice_get remnant.fixed a ≡ Some one → slice_get remnant.fixed b ≡ Some other → HasHalf one.part p → HasHalf other.part q
+    tie_way : (a b : ℕ) (one other : Fixed) (p q : Half) → AreTied remnant.fixed a b → slice_get remnant.fixed a ≡ Some one → slice_get remnant.fixed b ≡ Some other → HasHalf one.part p
+        → HasHalf other.part q
         → Way remnant removed p q
     tie_way a b one other p q (touch one' other' at at' t) e f hp hq =
         let same : one' ≡ one = same_Some one' one (sym at ∙ e) in
@@ -56,13 +58,15 @@ module _ (remnant : RemnantLists) (removed : HalfBox) where
         let itself : other.leader ≡ one.leader = ap (λ (x : Fixed). x.leader) (sym leader) ∙ is.itself in
         jump one.leader p q (has_fixed a one p e hp) (subst (λ l. HasFixed remnant l q) itself (has_fixed b other q f hq))
 
-    tied_way : (a b : ℕ) (one other : Fixed) (p q : Half) → AreTied remnant.fixed a b ⊎ AreTied remnant.fixed b a → slice_get remnant.fixed a ≡ Some one → slice_get remnant.fixed b ≡ Some other → HasHalf one.part p
+    tied_way : (a b : ℕ) (one other : Fixed) (p q : Half) → AreTied remnant.fixed a b ⊎ AreTied remnant.fixed b a → slice_get remnant.fixed a ≡ Some one → slice_get remnant.fixed b ≡ Some other
+        → HasHalf one.part p
         → HasHalf other.part q → Way remnant removed p q
     tied_way a b one other p q (inl t) e f hp hq = tie_way a b one other p q t e f hp hq
     tied_way a b one other p q (inr t) e f hp hq = Way-reverse (tie_way b a other one q p t f e hq hp)
 
     -- so are those of chained boxes
-    pub chain_way : {a b : ℕ} (one other : Fixed) (p q : Half) → AreChained remnant.fixed a b → slice_get remnant.fixed a ≡ Some one → slice_get remnant.fixed b ≡ Some other → HasHalf one.part p → HasHalf other.part q
+    pub chain_way : {a b : ℕ} (one other : Fixed) (p q : Half) → AreChained remnant.fixed a b → slice_get remnant.fixed a ≡ Some one → slice_get remnant.fixed b ≡ Some other → HasHalf one.part p
+        → HasHalf other.part q
         → Way remnant removed p q
     chain_way {a} one other p q (stay h) e f hp hq =
         let same : other ≡ one = same_Some other one (sym f ∙ e) in
@@ -72,7 +76,8 @@ module _ (remnant : RemnantLists) (removed : HalfBox) where
         let g = some_half_of mid.0.part in
         append (tied_way a b one mid.0 p g.0 e at mid.1 hp g.1) (chain_way mid.0 other g.0 q rest mid.1 at' g.1 hq)
 
-module _ (remnant : RemnantLists) (leads : HasLeaders remnant) (leaders : List ℕ) (new : AreLeaders remnant.fixed leaders) (led : List Fixed) (by : AreLedBy remnant.fixed leaders led) (moved : List Mark)
+module _ (remnant : RemnantLists) (leads : HasLeaders remnant) (leaders : List ℕ) (new : AreLeaders remnant.fixed leaders) (led : List Fixed) (by : AreLedBy remnant.fixed leaders led)
+    (moved : List Mark)
     (at : AreMovedTo leaders remnant.marks moved) where
   abbrev joined : RemnantLists
   joined = record { fixed = led; loose = remnant.loose; marks = moved; terminals = remnant.terminals }
@@ -183,7 +188,11 @@ module _ (remnant : RemnantLists) (leads : HasLeaders remnant) (leaders : List �
           inl (record { mark = old.0; among = old.1; of_terminal = sym old.2.same_terminal ∙ m.of_terminal; has = has }),
           chain_way remnant removed leads is.fixed f.one g.0 h (new.chained old.0.leader f.number m.mark.leader old.2.moved f.leads_at) is.at f.old_at g.1 f.has,
         )
-    back_at terminal h (inr l) = (h, inr (record { loose = l.loose; among = l.among; of_terminal = l.of_terminal; has = l.has; spared = l.spared }), stay (inr (record { loose = l.loose; among = l.among; has = l.has; spared = l.spared })))
+    back_at terminal h (inr l) = (
+      h,
+      inr (record { loose = l.loose; among = l.among; of_terminal = l.of_terminal; has = l.has; spared = l.spared }),
+      stay (inr (record { loose = l.loose; among = l.among; has = l.has; spared = l.spared })),
+    )
 
     back : Follows removed joined remnant
     back = record { listed = λ t h. h; stays = back_stays; steps = back_steps; at = back_at }

@@ -19,7 +19,8 @@ use Rattle.remnants.proofs.FollowLaws.{Follows, split_follows, Way-reverse, at_s
 use Rattle.remnants.proofs.JoinLaws.{some_half_of}
 use Rattle.remnants.proofs.MarkLaws.{one_leader}
 
-module _ (old : RemnantLists) (joined : IsJoined old) (outer : HalfBox) (within : IsLooseWithin old outer) (places numbers : List ℕ) (are : ArePlaces outer old.fixed places numbers) (kept : List Fixed)
+module _ (old : RemnantLists) (joined : IsJoined old) (outer : HalfBox) (within : IsLooseWithin old outer) (places numbers : List ℕ) (are : ArePlaces outer old.fixed places numbers)
+    (kept : List Fixed)
     (keeps : AreKept old.fixed places numbers kept) (moved : List Mark) (at : AreMovedTo numbers old.marks moved) where
   abbrev new : RemnantLists
   new = record { fixed = kept; loose = old.loose; marks = moved; terminals = old.terminals }
@@ -213,7 +214,8 @@ module _ (old : RemnantLists) (joined : IsJoined old) (outer : HalfBox) (within 
         (r.0, r.1, append s.2 r.2)
 
     -- where terminals begin, and where they end
-    moved_mark : (mark : Mark) (terminal m : ℕ) (h : Half) → Contains old.marks mark → mark.terminal ≡ terminal → slice_get numbers mark.leader ≡ Some m → HasFixed new m h → IsAt new removed terminal h
+    moved_mark : (mark : Mark) (terminal m : ℕ) (h : Half) → Contains old.marks mark → mark.terminal ≡ terminal → slice_get numbers mark.leader ≡ Some m → HasFixed new m h
+        → IsAt new removed terminal h
     moved_mark mark terminal m h among e f has =
         let x = at.each mark among in
         inl (record { mark = x.0; among = x.1; of_terminal = x.2.same_terminal ∙ e; has = subst (λ n. HasFixed new n h) (same_Some m x.0.leader (sym f ∙ x.2.moved)) has })

@@ -1,5 +1,6 @@
 -- the classes of pairs as leaders of boxes
-use Rattle.std.proofs.Common.{ℕ, List, [], ◌∷◌, ◌++◌, ◌≡◌, ◌<◌, ◌≤◌, ◌+◌, map, length, refl, subst, sym, inl, inr, ◌⊎◌, ap, ◌∙◌, arith, ◌↔◌, Bool, true, ◌&&◌, nat_eq, Contains, All, Option, Some, option_map, slice_get}
+use Rattle.std.proofs.Common.{ℕ, List, [], ◌∷◌, ◌++◌, ◌≡◌, ◌<◌, ◌≤◌, ◌+◌, map, length, refl, subst, sym, inl, inr, ◌⊎◌, ap, ◌∙◌, arith, ◌↔◌, Bool, true, ◌&&◌, nat_eq, Contains, All, Option}
+use Rattle.std.proofs.Common.{Some, option_map, slice_get}
 use Rattle.lists.proofs.Containing.{Contains-slice_get, Contains-none, some_item, slice_get-front, slice_get-back, number_of, all_of_each}
 use Rattle.lists.proofs.Words.{slice_get_within, slice_get-map, same_Some, length-map, length_push, leb_tells, add-zero, Contains-append_left, Contains-push, Contains-push_cases, All-contains}
 use Rattle.lists.proofs.Words.{nat_tests, nat_eq_equiv, and_equiv, on_equiv, IsEquivalence, IsPermutation, dedup, Contains-dedup, Contains-from_dedup, Contains-permutation, IsPermutation-sym}
@@ -61,7 +62,8 @@ pub record AreLedTo (fixed : List Fixed) (leaders : List ℕ) (count : ℕ) (led
 pub none_led : (fixed : List Fixed) (leaders : List ℕ) → AreLedTo fixed leaders 0 []
 none_led fixed leaders = record { as_many = refl; each = λ k m one small. absurd (omega arith) }
 
-pub led_more : (fixed : List Fixed) (leaders : List ℕ) (count m : ℕ) (led : List Fixed) (one : Fixed) → slice_get fixed count ≡ Some one → slice_get leaders count ≡ Some m → AreLedTo fixed leaders count led
+pub led_more : (fixed : List Fixed) (leaders : List ℕ) (count m : ℕ) (led : List Fixed) (one : Fixed) → slice_get fixed count ≡ Some one → slice_get leaders count ≡ Some m
+    → AreLedTo fixed leaders count led
     → AreLedTo fixed leaders (count + 1) (led ++ record { part = one.part; leader = m } ∷ [])
 led_more fixed leaders count m led one at leads so_far =
     let new : Fixed = record { part = one.part; leader = m } in record {
@@ -130,7 +132,8 @@ abbrev pub boxes_in : List Fixed → List HalfBox
 boxes_in fixed = map (λ (one : Fixed). one.part) fixed
 
 module _ (fixed : List Fixed) (links pairs : List (ℕ × ℕ)) (touching : (a b : ℕ) → Contains links (a, b) → AreTouchingBoxes (boxes_in fixed) a b)
-    (joins : (a b : ℕ) → AreTouchingBoxes (boxes_in fixed) a b → AreJoined (length (boxes_in fixed)) links a b) (leads : HasLeads links fixed pairs) (small : All (λ (one : Fixed). one.leader < length fixed) fixed) where
+    (joins : (a b : ℕ) → AreTouchingBoxes (boxes_in fixed) a b → AreJoined (length (boxes_in fixed)) links a b) (leads : HasLeads links fixed pairs)
+    (small : All (λ (one : Fixed). one.leader < length fixed) fixed) where
   box_at : (k : ℕ) (box : HalfBox) → slice_get (boxes_in fixed) k ≡ Some box → (one : Fixed) × (slice_get fixed k ≡ Some one) × (one.part ≡ box)
   box_at k box e =
       let within = slice_get_within (boxes_in fixed) k box e in

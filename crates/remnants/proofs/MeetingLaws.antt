@@ -17,7 +17,8 @@ IsMarked-more marks mark terminal leader m = record { mark = m.mark; among = Con
 pub IsMarked-last : (marks : List Mark) (mark : Mark) → IsMarked (marks ++ mark ∷ []) mark.terminal mark.leader
 IsMarked-last marks mark = record { mark = mark; among = Contains-push marks mark; of_terminal = refl; at_leader = refl }
 
-pub IsMarked-cases : (marks : List Mark) (mark : Mark) (terminal leader : ℕ) → IsMarked (marks ++ mark ∷ []) terminal leader → IsMarked marks terminal leader ⊎ ((mark.terminal ≡ terminal) × (mark.leader ≡ leader))
+pub IsMarked-cases : (marks : List Mark) (mark : Mark) (terminal leader : ℕ) → IsMarked (marks ++ mark ∷ []) terminal leader
+    → IsMarked marks terminal leader ⊎ ((mark.terminal ≡ terminal) × (mark.leader ≡ leader))
 IsMarked-cases marks mark terminal leader m = elim (Contains-push_cases marks mark m.mark m.among) [
   | inl before ↦ inl (record { mark = m.mark; among = before; of_terminal = m.of_terminal; at_leader = m.at_leader })
   | inr last ↦ inr (ap (λ (x : Mark). x.terminal) last ∙ m.of_terminal, ap (λ (x : Mark). x.leader) last ∙ m.at_leader)
@@ -81,7 +82,8 @@ ShareLeaders marks first others = (one other : ℕ) → Contains first one → C
 pub none_share : (marks : List Mark) (others : List ℕ) → ShareLeaders marks [] others
 none_share marks others one other h = absurd (Contains-none h)
 
-pub share_more : (marks : List Mark) (terminals : List ℕ) (k : ℕ) (leaders met : List ℕ) → k < length terminals → ((leader : ℕ) → Contains leaders leader ↔ IsMarked marks (get_or terminals k 0) leader)
+pub share_more : (marks : List Mark) (terminals : List ℕ) (k : ℕ) (leaders met : List ℕ) → k < length terminals
+    → ((leader : ℕ) → Contains leaders leader ↔ IsMarked marks (get_or terminals k 0) leader)
     → ((terminal : ℕ) → Contains met terminal ↔ IsMarkedAmong marks leaders terminal) → ((other : ℕ) → Contains terminals other → get_or terminals k 0 ≢ other → Contains met other)
     → ShareLeaders marks (take k terminals) terminals → ShareLeaders marks (take (k + 1) terminals) terminals
 share_more marks terminals k leaders met small are meet all so_far one other h h' different = elim (Contains-take_cases terminals k 0 one small h) [
@@ -96,7 +98,8 @@ all_share marks terminals share u = let s = share u.one u.other u.one_is u.other
 
 -- one that has no mark at the leaders of another
 pub one_unmarked : (marks : List Mark) (terminals leaders met : List ℕ) (one other : ℕ) → Contains terminals one → Contains terminals other → one ≢ other
-    → ((leader : ℕ) → Contains leaders leader ↔ IsMarked marks one leader) → ((terminal : ℕ) → Contains met terminal ↔ IsMarkedAmong marks leaders terminal) → (Contains met other → ⊥) → AreUnmarked terminals marks
+    → ((leader : ℕ) → Contains leaders leader ↔ IsMarked marks one leader) → ((terminal : ℕ) → Contains met terminal ↔ IsMarkedAmong marks leaders terminal) → (Contains met other → ⊥)
+    → AreUnmarked terminals marks
 one_unmarked marks terminals leaders met one other one_is other_is different are meet lacks = record {
   one = one;
   other = other;
@@ -107,7 +110,8 @@ one_unmarked marks terminals leaders met one other one_is other_is different are
 }
 
 -- all at one leader
-pub one_leader_shared : (marks : List Mark) (terminals leaders met : List ℕ) (leader : ℕ) → ((other : ℕ) → Contains leaders other → leader ≡ other) → ((terminal : ℕ) → Contains met terminal ↔ IsMarkedAmong marks leaders terminal)
+pub one_leader_shared : (marks : List Mark) (terminals leaders met : List ℕ) (leader : ℕ) → ((other : ℕ) → Contains leaders other → leader ≡ other)
+    → ((terminal : ℕ) → Contains met terminal ↔ IsMarkedAmong marks leaders terminal)
     → ((terminal : ℕ) → Contains terminals terminal → Contains met terminal) → AreUnmarked terminals marks → ⊥
 one_leader_shared marks terminals leaders met leader only meet all u =
     let a = (meet u.one).0 (all u.one u.one_is) in

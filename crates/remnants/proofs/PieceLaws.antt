@@ -33,7 +33,13 @@ union_cases pieces piece c u = elim (Contains-push_cases pieces piece u.rect (Co
 -- ---- boxes, one more at the end
 
 last_box : (loose : List Loose) (box : HalfBox) (terminal some : Option ℕ) (h : Half) → terminal ≡ some → HasHalf box h → HasLooseOf (loose ++ record { part = box; terminal = terminal } ∷ []) some h
-last_box loose box terminal some h e has = record { one = record { part = box; terminal = terminal }; among = Contains-push loose (record { part = box; terminal = terminal }); of_terminal = e; has = has }
+last_box loose box terminal some h e has = record {
+  one = record { part = box; terminal = terminal };
+  among = Contains-push loose
+      (record { part = box; terminal = terminal });
+  of_terminal = e;
+  has = has;
+}
 
 pub no_boxes : AreIslandBoxes (record { pieces = []; anchors = [] }) []
 no_boxes terminal h = (λ l. absurd (Contains-none l.among), λ is. absurd (nothing terminal h is)) where
@@ -41,8 +47,10 @@ no_boxes terminal h = (λ l. absurd (Contains-none l.among), λ is. absurd (noth
   nothing None h (c, lies, u) = Contains-none (Contains-slice_get [] u.number u.rect u.at)
   nothing (Some number) h a = Contains-none (Contains-slice_get [] number a.cell a.at)
 
-module _ (pieces : List Rect) (loose : List Loose) (piece : Rect) (box : HalfBox) (is : (h : Half) → HasHalf box h ↔ IsOn (Has piece) h) (so_far : AreIslandBoxes (record { pieces = pieces; anchors = [] }) loose) where
-  piece_in : (terminal : Option ℕ) (h : Half) → HasLooseOf (loose ++ record { part = box; terminal = None } ∷ []) terminal h → IsOfIsland (record { pieces = pieces ++ piece ∷ []; anchors = [] }) terminal h
+module _ (pieces : List Rect) (loose : List Loose) (piece : Rect) (box : HalfBox) (is : (h : Half) → HasHalf box h ↔ IsOn (Has piece) h)
+    (so_far : AreIslandBoxes (record { pieces = pieces; anchors = [] }) loose) where
+  piece_in : (terminal : Option ℕ) (h : Half) → HasLooseOf (loose ++ record { part = box; terminal = None } ∷ []) terminal h
+      → IsOfIsland (record { pieces = pieces ++ piece ∷ []; anchors = [] }) terminal h
   piece_in None h l = elim (in_either loose (record { part = box; terminal = None } ∷ []) l) [
     | inl old ↦ let on = (so_far None h).0 old in (on.0, on.1, union_more pieces piece on.0 on.2)
     | inr new ↦ let on = (is h).0 (of_part (Some box) None new).1 in (on.0, on.1, union_last pieces piece on.0 on.2)
@@ -52,7 +60,8 @@ module _ (pieces : List Rect) (loose : List Loose) (piece : Rect) (box : HalfBox
     | inr new ↦ let none = (of_part (Some box) None new).0 in cc none
   ]
 
-  in_piece : (terminal : Option ℕ) (h : Half) → IsOfIsland (record { pieces = pieces ++ piece ∷ []; anchors = [] }) terminal h → HasLooseOf (loose ++ record { part = box; terminal = None } ∷ []) terminal h
+  in_piece : (terminal : Option ℕ) (h : Half) → IsOfIsland (record { pieces = pieces ++ piece ∷ []; anchors = [] }) terminal h
+      → HasLooseOf (loose ++ record { part = box; terminal = None } ∷ []) terminal h
   in_piece None h (c, lies, u) = elim (union_cases pieces piece c u) [
     | inl old ↦ in_left loose (record { part = box; terminal = None } ∷ []) ((so_far None h).1 (c, lies, old))
     | inr new ↦ last_box loose box None None h refl ((is h).1 (c, lies, new))
@@ -69,9 +78,11 @@ pushed_cases [] x y (suc k) e = cc e
 pushed_cases (z ∷ xs) x y zero e = inl e
 pushed_cases (z ∷ xs) x y (suc k) e = elim (pushed_cases xs x y k e) [ inl a ↦ inl a | inr b ↦ inr (ap suc b.0, b.1) ]
 
-module _ (pieces : List Rect) (anchors : List Cell) (loose : List Loose) (cell : Cell) (number : ℕ) (count : number ≡ length anchors) (box : HalfBox) (is : (h : Half) → HasHalf box h ↔ LiesIn h cell)
+module _ (pieces : List Rect) (anchors : List Cell) (loose : List Loose) (cell : Cell) (number : ℕ) (count : number ≡ length anchors) (box : HalfBox)
+    (is : (h : Half) → HasHalf box h ↔ LiesIn h cell)
     (so_far : AreIslandBoxes (record { pieces = pieces; anchors = anchors }) loose) where
-  anchor_in : (terminal : Option ℕ) (h : Half) → HasLooseOf (loose ++ record { part = box; terminal = Some number } ∷ []) terminal h → IsOfIsland (record { pieces = pieces; anchors = anchors ++ cell ∷ [] }) terminal h
+  anchor_in : (terminal : Option ℕ) (h : Half) → HasLooseOf (loose ++ record { part = box; terminal = Some number } ∷ []) terminal h
+      → IsOfIsland (record { pieces = pieces; anchors = anchors ++ cell ∷ [] }) terminal h
   anchor_in None h l = elim (in_either loose (record { part = box; terminal = Some number } ∷ []) l) [
     | inl old ↦ (so_far None h).0 old
     | inr new ↦ let some = (of_part (Some box) (Some number) new).0 in cc some
@@ -85,7 +96,8 @@ module _ (pieces : List Rect) (anchors : List Cell) (loose : List Loose) (cell :
         record { cell = cell; at = ap (slice_get (anchors ++ cell ∷ [])) (sym place) ∙ slice_get-back anchors (cell ∷ []) 0; lies = (is h).0 x.1 }
   ]
 
-  in_anchor : (terminal : Option ℕ) (h : Half) → IsOfIsland (record { pieces = pieces; anchors = anchors ++ cell ∷ [] }) terminal h → HasLooseOf (loose ++ record { part = box; terminal = Some number } ∷ []) terminal h
+  in_anchor : (terminal : Option ℕ) (h : Half) → IsOfIsland (record { pieces = pieces; anchors = anchors ++ cell ∷ [] }) terminal h
+      → HasLooseOf (loose ++ record { part = box; terminal = Some number } ∷ []) terminal h
   in_anchor None h on = in_left loose (record { part = box; terminal = Some number } ∷ []) ((so_far None h).1 on)
   in_anchor (Some other) h a = elim (pushed_cases anchors cell a.cell other a.at) [
     | inl old ↦ in_left loose (record { part = box; terminal = Some number } ∷ []) ((so_far (Some other) h).1 (record { cell = a.cell; at = old; lies = a.lies }))

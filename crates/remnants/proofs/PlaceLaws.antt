@@ -18,14 +18,16 @@ pub record ArePlacesTo (outer : HalfBox) (fixed : List Fixed) (count : ℕ) (pla
 pub no_places : (outer : HalfBox) (fixed : List Fixed) → ArePlacesTo outer fixed 0 [] []
 no_places outer fixed = record { one_each = refl; known = λ n k e. cc e; placed = λ k one small. absurd (omega arith) }
 
-pub all_places : (outer : HalfBox) (fixed : List Fixed) (count : ℕ) (places numbers : List ℕ) → length fixed ≡ count → ArePlacesTo outer fixed count places numbers → ArePlaces outer fixed places numbers
+pub all_places : (outer : HalfBox) (fixed : List Fixed) (count : ℕ) (places numbers : List ℕ) → length fixed ≡ count → ArePlacesTo outer fixed count places numbers
+    → ArePlaces outer fixed places numbers
 all_places outer fixed count places numbers all are = record {
   one_each = are.one_each ∙ sym all;
   known = λ n k e. let small = are.known n k e in omega arith;
   placed = λ k one e m. let small = slice_get_within fixed k one e in are.placed k one (omega arith) e m;
 }
 
-module _ (outer : HalfBox) (fixed : List Fixed) (count : ℕ) (places numbers : List ℕ) (so_far : ArePlacesTo outer fixed count places numbers) (one : Fixed) (here : slice_get fixed count ≡ Some one) (next : ℕ) (next_is : next ≡ length places) where
+module _ (outer : HalfBox) (fixed : List Fixed) (count : ℕ) (places numbers : List ℕ) (so_far : ArePlacesTo outer fixed count places numbers) (one : Fixed)
+    (here : slice_get fixed count ≡ Some one) (next : ℕ) (next_is : next ≡ length places) where
   last_number : slice_get (numbers ++ next ∷ []) count ≡ Some next
   last_number = let place : length numbers + 0 ≡ count = let many = so_far.one_each in omega arith in ap (slice_get (numbers ++ next ∷ [])) (sym place) ∙ slice_get-back numbers (next ∷ []) 0
 
@@ -65,7 +67,8 @@ module _ (outer : HalfBox) (fixed : List Fixed) (count : ℕ) (places numbers : 
 
 pub record AreKeptTo (fixed : List Fixed) (places numbers : List ℕ) (count : ℕ) (kept : List Fixed) : Type 0 where
   pub as_many : length kept ≡ count
-  pub each : (n k m : ℕ) (one : Fixed) → n < count → slice_get places n ≡ Some k → slice_get fixed k ≡ Some one → slice_get numbers one.leader ≡ Some m → slice_get kept n ≡ Some (record { part = one.part; leader = m })
+  pub each : (n k m : ℕ) (one : Fixed) → n < count → slice_get places n ≡ Some k → slice_get fixed k ≡ Some one → slice_get numbers one.leader ≡ Some m
+      → slice_get kept n ≡ Some (record { part = one.part; leader = m })
 
 pub none_kept : (fixed : List Fixed) (places numbers : List ℕ) → AreKeptTo fixed places numbers 0 []
 none_kept fixed places numbers = record { as_many = refl; each = λ n k m one small. absurd (omega arith) }
@@ -76,7 +79,8 @@ all_kept fixed places numbers count kept all so_far = record {
   each = λ n k m one e f g. let small = slice_get_within places n k e in so_far.each n k m one (omega arith) e f g;
 }
 
-pub kept_more : (fixed : List Fixed) (places numbers : List ℕ) (count k m : ℕ) (kept : List Fixed) (one : Fixed) → slice_get places count ≡ Some k → slice_get fixed k ≡ Some one → slice_get numbers one.leader ≡ Some m
+pub kept_more : (fixed : List Fixed) (places numbers : List ℕ) (count k m : ℕ) (kept : List Fixed) (one : Fixed) → slice_get places count ≡ Some k → slice_get fixed k ≡ Some one
+    → slice_get numbers one.leader ≡ Some m
     → AreKeptTo fixed places numbers count kept → AreKeptTo fixed places numbers (count + 1) (kept ++ record { part = one.part; leader = m } ∷ [])
 kept_more fixed places numbers count k m kept one at has leads so_far =
     let new : Fixed = record { part = one.part; leader = m } in record {

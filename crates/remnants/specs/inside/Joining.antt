@@ -7,7 +7,8 @@ use Rattle.remnants.specs.declared.parts.Mark.{Mark}
 
 -- the boxes with these numbers touch, or the one goes by the number of the other
 pub data AreTied (fixed : List Fixed) (a b : ℕ) : Type 0 where
-  touch : (one other : Fixed) → slice_get fixed a ≡ Some one → slice_get fixed b ≡ Some other → TouchHalves one.part other.part → AreTied fixed a b
+  touch : (one other : Fixed) → slice_get fixed a ≡ Some one → slice_get fixed b ≡ Some other → TouchHalves one.part other.part
+      → AreTied fixed a b
   lead : (one : Fixed) → slice_get fixed a ≡ Some one → one.leader ≡ b → AreTied fixed a b
 
 -- a chain of boxes leads from the one to the other, each tied to the next
@@ -41,4 +42,5 @@ pub record AreMovedTo (leaders : List ℕ) (old new : List Mark) : Type 0 where
 pub record HasLeads (links : List (ℕ × ℕ)) (fixed : List Fixed) (pairs : List (ℕ × ℕ)) : Type 0 where
   pub kept : (a b : ℕ) → Contains links (a, b) → Contains pairs (a, b)
   pub led : (k : ℕ) (one : Fixed) → slice_get fixed k ≡ Some one → Contains pairs (k, one.leader)
-  pub only : (a b : ℕ) → Contains pairs (a, b) → Contains links (a, b) ⊎ ((one : Fixed) × (slice_get fixed a ≡ Some one) × (one.leader ≡ b))
+  pub only : (a b : ℕ) → Contains pairs (a, b) → Contains links (a, b) ⊎
+      ((one : Fixed) × (slice_get fixed a ≡ Some one) × (one.leader ≡ b))

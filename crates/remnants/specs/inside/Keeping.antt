@@ -18,5 +18,6 @@ pub record ArePlaces (outer : HalfBox) (fixed : List Fixed) (places numbers : Li
 -- the boxes at the places, with the numbers that their leaders have now
 pub record AreKept (fixed : List Fixed) (places numbers : List ℕ) (kept : List Fixed) : Type 0 where
   pub as_many : length kept ≡ length places
-  pub each : (n k m : ℕ) (one : Fixed) → slice_get places n ≡ Some k → slice_get fixed k ≡ Some one → slice_get numbers one.leader ≡ Some m →
+  pub each : (n k m : ℕ) (one : Fixed) → slice_get places n ≡ Some k → slice_get fixed k ≡ Some one
+      → slice_get numbers one.leader ≡ Some m →
       slice_get kept n ≡ Some (record { part = one.part; leader = m })

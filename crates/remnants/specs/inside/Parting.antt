@@ -18,7 +18,12 @@ PartAlike inner outer one other = (removed : HalfBox) → IsBetween inner outer 
 
 -- the remnant with more loose boxes
 abbrev pub with_loose : RemnantLists → List Loose → RemnantLists
-with_loose remnant more = record { fixed = remnant.fixed; loose = remnant.loose ++ more; marks = remnant.marks; terminals = remnant.terminals }
+with_loose remnant more = record {
+  fixed = remnant.fixed;
+  loose = remnant.loose ++ more;
+  marks = remnant.marks;
+  terminals = remnant.terminals;
+}
 
 -- the part as a loose box, if there is one
 abbrev pub loose_of : Option HalfBox → Option ℕ → List Loose

@@ -13,7 +13,8 @@ returns-clause-cut c =
     let e = c.outside-parts.ensures in
     let are : AreParts c.args.loose.part c.args.outer parts.below parts.above parts.left parts.right = record { below = e.below; above = e.above; left = e.left; right = e.right } in
     IfOk-weaker c.hold.result (λ (held : RemnantLists). held ≡ with_loose c.in_ok-right.right (loose_of c.kept_part.result c.args.loose.terminal))
-    (λ (cut : RemnantLists). IsCutInto c.args.inner c.args.outer c.args.loose c.args.unjoined cut) (λ (held : RemnantLists) is. subst (IsCutInto c.args.inner c.args.outer c.args.loose c.args.unjoined) (sym is)
+    (λ (cut : RemnantLists). IsCutInto c.args.inner c.args.outer c.args.loose c.args.unjoined cut)
+    (λ (held : RemnantLists) is. subst (IsCutInto c.args.inner c.args.outer c.args.loose c.args.unjoined) (sym is)
     (cut_alike c.args.inner c.args.outer c.args.loose.part parts.below parts.above parts.left parts.right c.kept_part.result are c.kept_part.ensures c.args.loose.terminal
     c.args.unjoined c.in_ok-below.below c.in_ok-above.above c.in_ok-left.left c.in_ok-right.right
     c.in_ok-below.ensures.settled c.in_ok-above.ensures.settled c.in_ok-left.ensures.settled c.in_ok-right.ensures.settled)) c.hold.ensures

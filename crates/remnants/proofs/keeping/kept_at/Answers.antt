@@ -20,7 +20,8 @@ loop-place-preserved c =
     let at = slice_get_read fixed (length fixed) place one refl small c.index-fixed-place.is in
     let leads : one.leader < length numbers = All-contains (λ (x : Fixed). x.leader < length numbers) fixed one c.requires.leaders (Contains-slice_get fixed place one at) in
     rw c.in_ok-push.ensures.items
-    (kept_more fixed places numbers k place (get_or numbers one.leader 0) c.loop-place.kept.items one (slice_get-get_or places k 0 c.loop-place-test.true) at (slice_get-get_or numbers one.leader 0 leads) c.loop-place.invariant)
+    (kept_more fixed places numbers k place (get_or numbers one.leader 0) c.loop-place.kept.items one (slice_get-get_or places k 0 c.loop-place-test.true) at
+    (slice_get-get_or numbers one.leader 0 leads) c.loop-place.invariant)
 
 pub returns : goal.returns
 returns c = all_kept c.args.fixed.now c.args.places.now c.args.numbers.now c.loop-place.place-index c.loop-place.kept.items (omega arith) c.loop-place.invariant

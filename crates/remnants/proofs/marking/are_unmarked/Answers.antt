@@ -15,7 +15,8 @@ returns-then-lacks_other c =
 
 pub loop-one-preserved : goal.loop-one-preserved
 loop-one-preserved c =
-    share_more c.args.marks.now c.args.terminals.now c.loop-one.one-index c.in_ok-leaders.leaders c.in_ok-met.met c.loop-one-test.true c.in_ok-leaders.ensures c.in_ok-met.ensures c.if-lacks_other.ensures
+    share_more c.args.marks.now c.args.terminals.now c.loop-one.one-index c.in_ok-leaders.leaders c.in_ok-met.met c.loop-one-test.true c.in_ok-leaders.ensures c.in_ok-met.ensures
+    c.if-lacks_other.ensures
     c.loop-one.invariant
 
 pub returns : goal.returns

@@ -30,7 +30,8 @@ new-requires c =
     let inside = c.self.inside in
     let old : RemnantLists = record { fixed = inside.fixed.items; loose = inside.loose.items; marks = inside.marks.items; terminals = inside.terminals.items } in
     let within : IsLooseWithin old c.args.outer = subst (λ (r : RemnantLists). IsLooseWithin r c.args.outer) (sym c.self.view_is) c.requires in
-    kept_joined old c.self.invariant c.args.outer within c.in_ok-found.found.places.items c.in_ok-found.found.numbers.items (rw c.deref.ensures.value at c.in_ok-found.ensures) c.in_ok-kept.kept.items
+    kept_joined old c.self.invariant c.args.outer within c.in_ok-found.found.places.items c.in_ok-found.found.numbers.items
+    (rw c.deref.ensures.value at c.in_ok-found.ensures) c.in_ok-kept.kept.items
     (rw (c.deref-2.ensures.value, c.deref-3.ensures.value, c.deref-4.ensures.value) at c.in_ok-kept.ensures) c.in_ok-moved.moved.items
     (rw (c.deref-5.ensures.value, c.deref-6.ensures.value) at c.in_ok-moved.ensures)
 

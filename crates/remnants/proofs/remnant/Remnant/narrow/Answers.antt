@@ -11,7 +11,8 @@ use Rattle.remnants.proofs.remnant.Remnant.narrow.Goals as goal
 pub without_loose-requires : goal.without_loose-requires
 without_loose-requires c =
     let inside = c.self.inside in
-    rw (c.deref.ensures.value, c.deref-2.ensures.value, c.deref-3.ensures.value) (leaders_with inside.fixed.items inside.marks.items inside.loose.items [] inside.terminals.items c.self.invariant.leaders)
+    rw (c.deref.ensures.value, c.deref-2.ensures.value, c.deref-3.ensures.value)
+    (leaders_with inside.fixed.items inside.marks.items inside.loose.items [] inside.terminals.items c.self.invariant.leaders)
 
 pub loop-loose-init : goal.loop-loose-init
 loop-loose-init c =
@@ -39,9 +40,11 @@ returns-clause-same c =
     let items = c.deref-loose-items.result.now in
     let k = c.loop-loose.loose-index in
     IfOk-weaker c.keep.result (λ (narrowed : RemnantLists). (removed : HalfBox) → IsSplit narrowed removed ↔ IsSplit c.in_ok-joined.joined removed)
-    (λ (narrowed : RemnantLists). (removed : HalfBox) → ((h : Half) → HasHalfIn c.args.inner h → HasHalf removed h) → LiesWithin removed c.args.outer → IsSplit narrowed removed ↔ IsSplit c.args.self.now removed)
+    (λ (narrowed : RemnantLists). (removed : HalfBox) → ((h : Half) → HasHalfIn c.args.inner h → HasHalf removed h) → LiesWithin removed c.args.outer
+    → IsSplit narrowed removed ↔ IsSplit c.args.self.now removed)
     (λ (narrowed : RemnantLists) same removed has_inner within.
-    let cut = all_cut c.args.inner c.args.outer c.args.self.now (drop k items) c.loop-loose.cut (drop_all k items c.loop-loose-test.false) c.loop-loose.invariant removed (record { has_inner = has_inner; within = within }) in
+    let cut = all_cut c.args.inner c.args.outer c.args.self.now (drop k items) c.loop-loose.cut (drop_all k items c.loop-loose-test.false) c.loop-loose.invariant removed
+    (record { has_inner = has_inner; within = within }) in
     let joined = c.in_ok-joined.ensures.same removed in
     let kept = same removed in
     (λ s. cut.1 (joined.0 (kept.0 s)), λ s. kept.1 (joined.1 (cut.0 s)))) c.keep.ensures.same

@@ -27,5 +27,6 @@ returns c =
     let all = rw c.as_slice-anchors.ensures at c.in_ok-terminals.ensures in
     let made = rw (c.new-fixed.ensures.items, c.new-marks.ensures.items) at c.new.ensures in
     subst (λ (r : RemnantLists). (removed : HalfBox) → IsSplit r removed ↔ IsSevered c.args.island.now (HasHalf removed)) (sym made)
-    (subst (λ (i : IslandLists). (removed : HalfBox) → IsSplit (record { fixed = []; loose = c.in_ok-loose.loose.items; marks = []; terminals = c.in_ok-terminals.terminals.items }) removed ↔ IsSevered i (HasHalf removed))
+    (subst (λ (i : IslandLists). (removed : HalfBox) → IsSplit
+    (record { fixed = []; loose = c.in_ok-loose.loose.items; marks = []; terminals = c.in_ok-terminals.terminals.items }) removed ↔ IsSevered i (HasHalf removed))
     c.island.view_is (λ removed. whole_parts island c.island.invariant c.in_ok-loose.loose.items boxes c.in_ok-terminals.terminals.items all removed))
