@@ -1,5 +1,5 @@
 -- a loose box that is cut by what may be removed
-use Rattle.std.proofs.Common.{ℕ, List, [], ◌∷◌, ◌++◌, ◌≡◌, length, refl, subst, sym, inl, inr, ◌⊎◌, ◌↔◌, ap, ◌∙◌, append_assoc, arith, Contains, Option, Some, None, All, ℤ, ◌<ℤ◌, ◌≤ℤ◌}
+use Rattle.std.proofs.Common.{ℕ, List, [], ◌∷◌, ◌++◌, ◌≡◌, length, refl, subst, sym, inl, inr, ◌⊎◌, ◌↔◌, ap, ◌∙◌, append_assoc, arith, Option, Some, None, All, ◌<ℤ◌, ◌≤ℤ◌}
 use Rattle.lists.proofs.Containing.{Contains-none, Contains-one, Contains-head}
 use Rattle.lists.proofs.Words.{append-nil, Contains-append_left, Contains-append_right, Contains-append_cases, All-append, All-nil, All-cons, ints, by_lt_z}
 use Rattle.geo_core.specs.Plane.{IsIn}

@@ -1,13 +1,11 @@
 -- what one remnant joins, another joins too
-use Rattle.std.proofs.Common.{ℕ, List, ◌≡◌, refl, subst, sym, inl, inr, ◌⊎◌, ◌↔◌, Contains, Option, Some}
+use Rattle.std.proofs.Common.{ℕ, inl, inr, Contains, Option}
 use Rattle.paths.specs.Paths.{stay, step}
 use Rattle.paths.proofs.PathLaws.{first, append, reverse}
 use Rattle.geo_core.specs.declared.plane.Half.{Half}
-use Rattle.fault_model.specs.FaultNames.{Neighbours}
 use Rattle.fault_model.proofs.HalfLaws.{Neighbours-sym}
-use Rattle.half_boxes.specs.HalfBoxes.{HasHalf}
 use Rattle.half_boxes.specs.declared.boxes.HalfBox.{HalfBox}
-use Rattle.remnants.specs.Remnants.{RemnantLists, HasFixed, HasLoose, Stays, IsStep, Way, IsMarkedAt, IsLooseOf, IsAt, IsSplit}
+use Rattle.remnants.specs.Remnants.{RemnantLists, HasFixed, HasLoose, Stays, IsStep, Way, IsLooseOf, IsAt, IsSplit}
 use Rattle.remnants.specs.declared.parts.Fixed.{Fixed}
 use Rattle.remnants.specs.declared.parts.Mark.{Mark}
 use Rattle.remnants.specs.inside.Parting.{IsBetween, PartAlike}

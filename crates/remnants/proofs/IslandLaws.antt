@@ -1,21 +1,16 @@
 -- the loose boxes of an island part its anchors as its metal does
-use Rattle.std.proofs.Common.{ℕ, List, [], ◌∷◌, ◌++◌, ◌≡◌, ◌<◌, ◌+◌, refl, subst, sym, inl, inr, ◌⊎◌, ◌↔◌, ap, ◌∙◌, arith, length, take, Contains, Option, Some, None, All, slice_get}
-use Rattle.lists.proofs.Containing.{Contains-slice_get, Contains-none, Contains-one, number_of}
-use Rattle.lists.proofs.Words.{slice_get_within}
-use Rattle.paths.specs.Paths.{stay, step}
+use Rattle.std.proofs.Common.{ℕ, List, [], ◌<◌, refl, inl, inr, ◌↔◌, length, Contains, Option, Some, None}
+use Rattle.lists.proofs.Containing.{Contains-slice_get, Contains-none}
 use Rattle.paths.proofs.PathLaws.{first, last, within, retold}
-use Rattle.geo_core.specs.Plane.{Has, IsInUnion}
-use Rattle.geo_core.specs.declared.plane.Cell.{Cell}
+use Rattle.geo_core.specs.Plane.{IsInUnion}
 use Rattle.geo_core.specs.declared.plane.Half.{Half}
-use Rattle.geo_core.specs.declared.plane.Rect.{Rect}
-use Rattle.fault_model.specs.FaultNames.{IsOn, LiesIn, Neighbours, Walk, IslandLists}
+use Rattle.fault_model.specs.FaultNames.{IsOn, Neighbours, Walk, IslandLists}
 use Rattle.fault_model.specs.IslandLists.{IsAnchoredIsland}
 use Rattle.half_boxes.specs.HalfBoxes.{HasHalf}
 use Rattle.half_boxes.specs.declared.boxes.HalfBox.{HalfBox}
 use Rattle.severing.specs.Severing.{IsLeft, IsInAnchor, IsSevered}
-use Rattle.remnants.specs.Remnants.{RemnantLists, HasFixed, HasLoose, Stays, IsStep, Way, IsMarkedAt, IsLooseOf, IsAt, IsSplit, HasLeaders, IsJoined}
+use Rattle.remnants.specs.Remnants.{RemnantLists, HasFixed, Stays, IsStep, Way, IsAt, IsSplit, IsJoined}
 use Rattle.remnants.specs.declared.parts.Loose.{Loose}
-use Rattle.remnants.specs.inside.Parting.{HasLooseOf}
 use Rattle.remnants.specs.inside.IslandBoxes.{IsOfIsland, AreIslandBoxes}
 
 module _ (island : IslandLists) (anchored : IsAnchoredIsland island) (loose : List Loose) (boxes : AreIslandBoxes island loose) (terminals : List ℕ)

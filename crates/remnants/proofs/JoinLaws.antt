@@ -1,17 +1,16 @@
 -- one leader for fixed boxes that touch
-use Rattle.std.proofs.Common.{ℕ, List, ◌≡◌, ◌<◌, length, refl, subst, sym, inl, inr, ◌⊎◌, ◌↔◌, ap, ◌∙◌, arith, All, Contains, Option, Some, slice_get, pos, ◌+ℤ◌}
+use Rattle.std.proofs.Common.{ℕ, List, ◌≡◌, ◌<◌, length, refl, subst, sym, inl, inr, ◌⊎◌, ◌↔◌, ap, ◌∙◌, arith, All, Contains, Some, slice_get}
 use Rattle.lists.proofs.Containing.{number_of, Contains-slice_get, all_of_each, some_item}
 use Rattle.lists.proofs.Words.{slice_get_within, same_Some, ints}
-use Rattle.paths.specs.Paths.{Path, stay, step}
+use Rattle.paths.specs.Paths.{stay, step}
 use Rattle.paths.proofs.PathLaws.{first, append}
 use Rattle.geo_core.specs.declared.plane.Half.{Half}
-use Rattle.fault_model.specs.FaultNames.{Neighbours}
 use Rattle.half_boxes.specs.HalfBoxes.{HasHalf, TouchHalves}
 use Rattle.half_boxes.specs.declared.boxes.HalfBox.{HalfBox}
-use Rattle.remnants.specs.Remnants.{RemnantLists, HasFixed, HasLoose, Stays, IsStep, Way, IsMarkedAt, IsLooseOf, IsAt, IsSplit, HasLeaders, IsLeader, IsJoined}
+use Rattle.remnants.specs.Remnants.{RemnantLists, HasFixed, HasLoose, Stays, IsStep, Way, IsAt, IsSplit, HasLeaders, IsLeader, IsJoined}
 use Rattle.remnants.specs.declared.parts.Fixed.{Fixed}
 use Rattle.remnants.specs.declared.parts.Mark.{Mark}
-use Rattle.remnants.specs.inside.Joining.{AreTied, touch, lead, AreChained, AreLeaders, AreLedBy, IsMovedTo, AreMovedTo}
+use Rattle.remnants.specs.inside.Joining.{AreTied, touch, lead, AreChained, AreLeaders, AreLedBy, AreMovedTo}
 use Rattle.remnants.proofs.FollowLaws.{Follows, split_follows, Way-reverse, at_stays}
 
 -- a box has a half square

@@ -9,7 +9,7 @@ use Rattle.fault_model.specs.FaultNames.{Neighbours}
 use Rattle.fault_model.proofs.HalfLaws.{Neighbours-sym}
 use Rattle.half_boxes.specs.HalfBoxes.{HasHalf, LiesWithin, TouchHalves}
 use Rattle.half_boxes.specs.declared.boxes.HalfBox.{HalfBox}
-use Rattle.remnants.specs.Remnants.{RemnantLists, HasFixed, HasLoose, Stays, IsStep, Way, IsMarkedAt, IsLooseOf, IsAt, IsSplit, IsLeader, IsJoined, IsLooseWithin}
+use Rattle.remnants.specs.Remnants.{RemnantLists, HasFixed, HasLoose, Stays, IsStep, Way, IsAt, IsSplit, IsLeader, IsJoined, IsLooseWithin}
 use Rattle.remnants.specs.declared.parts.Fixed.{Fixed}
 use Rattle.remnants.specs.declared.parts.Loose.{Loose}
 use Rattle.remnants.specs.declared.parts.Mark.{Mark}

@@ -1,12 +1,12 @@
 -- the classes of pairs as leaders of boxes
-use Rattle.std.proofs.Common.{ℕ, List, [], ◌∷◌, ◌++◌, ◌≡◌, ◌<◌, ◌≤◌, ◌+◌, map, length, refl, subst, sym, inl, inr, ◌⊎◌, ap, ◌∙◌, arith, ◌↔◌, Bool, true, ◌&&◌, nat_eq, Contains, All, Option}
+use Rattle.std.proofs.Common.{ℕ, List, [], ◌∷◌, ◌++◌, ◌≡◌, ◌<◌, ◌≤◌, ◌+◌, map, length, refl, subst, sym, inl, inr, ◌⊎◌, ap, ◌∙◌, arith, ◌↔◌, Bool, true, ◌&&◌, nat_eq, Contains, All}
 use Rattle.std.proofs.Common.{Some, option_map, slice_get}
-use Rattle.lists.proofs.Containing.{Contains-slice_get, Contains-none, some_item, slice_get-front, slice_get-back, number_of, all_of_each}
-use Rattle.lists.proofs.Words.{slice_get_within, slice_get-map, same_Some, length-map, length_push, leb_tells, add-zero, Contains-append_left, Contains-push, Contains-push_cases, All-contains}
+use Rattle.lists.proofs.Containing.{Contains-slice_get, Contains-none, some_item, slice_get-front, slice_get-back, all_of_each}
+use Rattle.lists.proofs.Words.{slice_get_within, slice_get-map, same_Some, length-map, length_push, leb_tells, Contains-append_left, Contains-push, Contains-push_cases, All-contains}
 use Rattle.lists.proofs.Words.{nat_tests, nat_eq_equiv, and_equiv, on_equiv, IsEquivalence, IsPermutation, dedup, Contains-dedup, Contains-from_dedup, Contains-permutation, IsPermutation-sym}
 use Rattle.paths.specs.Paths.{stay, step}
 use Rattle.paths.proofs.PathLaws.{first, retold, reverse}
-use Rattle.classes.specs.Classes.{AreBelow, IsPair, AreJoined, IsClasses}
+use Rattle.classes.specs.Classes.{AreBelow, AreJoined, IsClasses}
 use Rattle.classes.specs.ClassConsequences.{EqualWhereJoined}
 use Rattle.half_boxes.specs.HalfBoxes.{AreTouchingBoxes, TouchHalves}
 use Rattle.half_boxes.specs.declared.boxes.HalfBox.{HalfBox}

@@ -1,5 +1,5 @@
 -- which terminals are parted where all that is loose is removed
-use Rattle.std.proofs.Common.{ℕ, List, ◌≡◌, ◌≢◌, refl, subst, sym, inl, inr, ◌⊎◌, ◌↔◌, ap, ◌∙◌, Contains}
+use Rattle.std.proofs.Common.{ℕ, ◌≡◌, refl, subst, sym, inl, inr, ◌⊎◌, ◌↔◌, ◌∙◌, Contains}
 use Rattle.lists.proofs.Words.{All-contains}
 use Rattle.lists.proofs.Containing.{Contains-slice_get}
 use Rattle.paths.specs.Paths.{stay, step}
@@ -8,7 +8,7 @@ use Rattle.geo_core.specs.declared.plane.Half.{Half}
 use Rattle.fault_model.specs.FaultNames.{Neighbours}
 use Rattle.half_boxes.specs.HalfBoxes.{HasHalf, LiesWithin}
 use Rattle.half_boxes.specs.declared.boxes.HalfBox.{HalfBox}
-use Rattle.remnants.specs.Remnants.{RemnantLists, HasFixed, HasLoose, Stays, IsStep, Way, IsMarkedAt, IsLooseOf, IsAt, IsSplit, IsJoined, IsLooseWithin}
+use Rattle.remnants.specs.Remnants.{RemnantLists, HasFixed, Stays, IsStep, Way, IsAt, IsSplit, IsJoined, IsLooseWithin}
 use Rattle.remnants.specs.declared.parts.Loose.{Loose}
 use Rattle.remnants.specs.inside.Marking.{IsMarked, AreUnmarked}
 use Rattle.remnants.proofs.JoinLaws.{some_half_of}

@@ -2,7 +2,6 @@
 use Rattle.std.proofs.Common.{ℕ, List, [], ◌∷◌, ◌++◌, ◌≡◌, ◌≢◌, ◌<◌, ◌+◌, length, refl, subst, sym, inl, inr, ◌⊎◌, ◌↔◌, ap, ◌∙◌, arith, take, get_or, Contains}
 use Rattle.lists.proofs.Containing.{Contains-none, Contains-one, Contains-take_cases}
 use Rattle.lists.proofs.Words.{Contains-append_left, Contains-push, Contains-push_cases}
-use Rattle.lists.proofs.Comparing.{equal_or_not}
 use Rattle.remnants.specs.declared.parts.Mark.{Mark}
 use Rattle.remnants.specs.inside.Marking.{IsMarked, IsMarkedAmong, AreUnmarked}
 

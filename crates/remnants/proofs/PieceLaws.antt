@@ -1,6 +1,6 @@
 -- the boxes of an island, piece by piece and anchor by anchor
 use Rattle.std.proofs.Common.{ℕ, zero, suc, List, [], ◌∷◌, ◌++◌, ◌≡◌, ◌<◌, ◌+◌, refl, subst, sym, inl, inr, ◌⊎◌, ◌↔◌, ap, ◌∙◌, arith, length, Contains, Option, Some, None, slice_get, ℤ, pos, ◌+ℤ◌}
-use Rattle.lists.proofs.Containing.{Contains-slice_get, Contains-none, Contains-one, number_of, slice_get-front, slice_get-back}
+use Rattle.lists.proofs.Containing.{Contains-slice_get, Contains-none, number_of, slice_get-front, slice_get-back}
 use Rattle.lists.proofs.Words.{same_Some, ints, leb_tells, Contains-append_left, Contains-push, Contains-push_cases}
 use Rattle.geo_core.specs.Plane.{IsIn, Has, IsInUnion}
 use Rattle.geo_core.specs.declared.plane.Cell.{Cell}
@@ -10,11 +10,10 @@ use Rattle.geo_core.proofs.RectLaws.{same_cell}
 use Rattle.fault_model.specs.FaultNames.{IsOn, LiesIn}
 use Rattle.half_boxes.specs.HalfBoxes.{HasHalf}
 use Rattle.half_boxes.specs.declared.boxes.HalfBox.{HalfBox}
-use Rattle.severing.specs.Severing.{IsInAnchor}
 use Rattle.remnants.specs.declared.parts.Loose.{Loose}
 use Rattle.remnants.specs.inside.Parting.{HasLooseOf}
 use Rattle.remnants.specs.inside.IslandBoxes.{IsOfIsland, AreIslandBoxes}
-use Rattle.remnants.proofs.CutLaws.{in_left, in_right, in_either, of_part}
+use Rattle.remnants.proofs.CutLaws.{in_left, in_either, of_part}
 
 -- ---- unions of rectangles, one more at the end
 

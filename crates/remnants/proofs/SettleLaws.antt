@@ -1,19 +1,18 @@
 -- loose boxes that are cut, dropped, or become fixed
-use Rattle.std.proofs.Common.{ℕ, List, [], ◌∷◌, ◌++◌, ◌≡◌, ◌<◌, refl, subst, sym, inl, inr, ◌⊎◌, ◌↔◌, ap, ◌∙◌, Contains, Option, Some, None, length, slice_get, arith}
+use Rattle.std.proofs.Common.{ℕ, List, [], ◌∷◌, ◌++◌, ◌≡◌, ◌<◌, refl, subst, sym, inl, inr, ◌⊎◌, ap, ◌∙◌, Contains, Option, Some, None, length, slice_get, arith}
 use Rattle.lists.proofs.Containing.{Contains-cons_cases, Contains-head, Contains-none, Contains-tail, Contains-one, slice_get-front, slice_get-back}
 use Rattle.lists.proofs.Words.{Contains-append_left, Contains-append_right, Contains-append_cases, Contains-push, slice_get_within, add-zero}
 use Rattle.paths.specs.Paths.{stay, step}
-use Rattle.paths.proofs.PathLaws.{within, retold}
+use Rattle.paths.proofs.PathLaws.{retold}
 use Rattle.geo_core.specs.declared.plane.Half.{Half}
-use Rattle.fault_model.specs.FaultNames.{Neighbours, Walk}
 use Rattle.fault_model.proofs.LineLaws.{walk_in_box}
-use Rattle.half_boxes.specs.HalfBoxes.{HasHalf, HasHalfIn}
+use Rattle.half_boxes.specs.HalfBoxes.{HasHalf}
 use Rattle.half_boxes.specs.declared.boxes.HalfBox.{HalfBox}
 use Rattle.remnants.specs.Remnants.{RemnantLists, HasFixed, HasLoose, Stays, IsStep, Way, IsMarkedAt, IsLooseOf, IsAt, HasLeaders, IsLeader}
 use Rattle.remnants.specs.declared.parts.Fixed.{Fixed}
 use Rattle.remnants.specs.declared.parts.Loose.{Loose}
 use Rattle.remnants.specs.declared.parts.Mark.{Mark}
-use Rattle.remnants.specs.inside.Parting.{IsBetween, PartAlike, HasLooseOf, loose_of, marks_of, with_loose}
+use Rattle.remnants.specs.inside.Parting.{IsBetween, PartAlike, HasLooseOf, marks_of}
 use Rattle.remnants.proofs.FollowLaws.{Follows, alike, more_follows, at_stays}
 
 -- ---- loose boxes with the same half squares

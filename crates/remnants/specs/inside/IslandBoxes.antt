@@ -1,5 +1,5 @@
 -- the loose boxes of an island
-use Rattle.std.specs.Prelude.{ℕ, List, [], Option, Some, None, ◌↔◌}
+use Rattle.std.specs.Prelude.{ℕ, List, Option, Some, None, ◌↔◌}
 use Rattle.geo_core.specs.Plane.{IsInUnion}
 use Rattle.geo_core.specs.declared.plane.Half.{Half}
 use Rattle.fault_model.specs.FaultNames.{IsOn, IslandLists}

@@ -1,5 +1,5 @@
 -- which fixed boxes get one leader
-use Rattle.std.specs.Prelude.{ℕ, List, Some, length, slice_get, Contains, ◌≡◌, ◌<◌, ◌⊎◌, ◌↔◌}
+use Rattle.std.specs.Prelude.{ℕ, List, Some, length, slice_get, Contains, ◌≡◌, ◌<◌, ◌⊎◌}
 use Rattle.paths.specs.Paths.{Path}
 use Rattle.half_boxes.specs.HalfBoxes.{TouchHalves}
 use Rattle.remnants.specs.declared.parts.Fixed.{Fixed}

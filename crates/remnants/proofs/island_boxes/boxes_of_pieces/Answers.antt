@@ -1,8 +1,5 @@
-use Rattle.std.proofs.Common.{List, [], ◌∷◌, ◌++◌, ◌∙◌, ap, length, subst, sym, take, take_all}
+use Rattle.std.proofs.Common.{take, take_all}
 use Rattle.lists.proofs.Reading.{taken_more}
-use Rattle.geo_core.specs.declared.plane.Rect.{Rect}
-use Rattle.remnants.specs.declared.parts.Loose.{Loose}
-use Rattle.remnants.specs.inside.IslandBoxes.{AreIslandBoxes}
 use Rattle.remnants.proofs.PieceLaws.{no_boxes, piece_more}
 use Rattle.remnants.proofs.island_boxes.boxes_of_pieces.Goals as goal
 

@@ -1,9 +1,7 @@
-use Rattle.std.proofs.Common.{◌≡◌, ◌<◌, ◌∙◌, ◌↔◌, All, ap, length, List, subst, sym}
+use Rattle.std.proofs.Common.{◌≡◌, ◌<◌, ◌∙◌, ◌↔◌, All, ap, length, subst, sym}
 use Rattle.half_boxes.specs.declared.boxes.HalfBox.{HalfBox}
 use Rattle.remnants.specs.Remnants.{RemnantLists, IsSplit}
-use Rattle.remnants.specs.declared.parts.Fixed.{Fixed}
 use Rattle.remnants.specs.declared.parts.Mark.{Mark}
-use Rattle.remnants.specs.inside.Joining.{AreLeaders, AreLedBy, AreMovedTo}
 use Rattle.remnants.proofs.JoinLaws.{join_alike, is_joined, leaders_small, marks_small}
 use Rattle.remnants.proofs.joining.join.Goals as goal
 

@@ -1,4 +1,4 @@
-use Rattle.std.proofs.Common.{◌≡◌, ◌<◌, ◌∙◌, ◌↔◌, All, ap, length, subst, sym}
+use Rattle.std.proofs.Common.{◌<◌, ◌↔◌, All, subst, sym}
 use Rattle.half_boxes.specs.declared.boxes.HalfBox.{HalfBox}
 use Rattle.remnants.specs.Remnants.{RemnantLists, IsLooseWithin, IsSplit}
 use Rattle.remnants.specs.declared.parts.Fixed.{Fixed}

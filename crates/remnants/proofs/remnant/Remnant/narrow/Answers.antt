@@ -1,4 +1,4 @@
-use Rattle.std.proofs.Common.{◌≡◌, ◌∙◌, ◌+◌, ◌↔◌, [], ◌∷◌, List, All, ap, drop, get_or, subst, sym}
+use Rattle.std.proofs.Common.{◌≡◌, ◌∙◌, ◌+◌, ◌↔◌, [], ◌∷◌, List, All, ap, drop, subst, sym}
 use Rattle.lists.proofs.Words.{IfOk-weaker, drop_all, drop_more}
 use Rattle.geo_core.specs.declared.plane.Half.{Half}
 use Rattle.half_boxes.specs.HalfBoxes.{HasHalf, HasHalfIn, LiesWithin}

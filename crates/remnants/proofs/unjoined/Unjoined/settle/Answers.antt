@@ -1,4 +1,4 @@
-use Rattle.std.proofs.Common.{◌≡◌, ◌++◌, length, Option, Some, arith, subst, sym}
+use Rattle.std.proofs.Common.{◌≡◌, length, Option, Some, arith, subst, sym}
 use Rattle.half_boxes.specs.declared.boxes.HalfBox.{HalfBox}
 use Rattle.remnants.specs.Remnants.{RemnantLists}
 use Rattle.remnants.specs.inside.Parting.{IsSettled}

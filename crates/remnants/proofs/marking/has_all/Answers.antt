@@ -1,1 +1,0 @@
-use Rattle.remnants.proofs.marking.has_all.Goals as goal

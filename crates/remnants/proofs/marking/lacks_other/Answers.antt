@@ -1,1 +1,0 @@
-use Rattle.remnants.proofs.marking.lacks_other.Goals as goal
