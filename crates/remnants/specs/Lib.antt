@@ -1,2 +1,4 @@
 -- what contracts of other crates cite
 pub mod Remnants
+-- what only this crate's proofs and private contracts cite
+pub mod inside

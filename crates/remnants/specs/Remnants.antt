@@ -1,5 +1,5 @@
 -- what is left of an island round some defects, and which of its terminals are parted there
-use Rattle.std.specs.Prelude.{ℕ, List, Contains, All, Some, length, ◌<◌, ◌≡◌, ◌≢◌, ◌⊎◌}
+use Rattle.std.specs.Prelude.{ℕ, List, Contains, All, Some, slice_get, ◌≡◌, ◌≢◌, ◌⊎◌}
 use Rattle.paths.specs.Paths.{Path}
 use Rattle.geo_core.specs.declared.plane.Half.{Half}
 use Rattle.fault_model.specs.FaultNames.{Neighbours}
@@ -72,10 +72,16 @@ pub record IsSplit (remnant : RemnantLists) (removed : HalfBox) : Type 0 where
   pub different : one ≢ other
   pub apart : (p q : Half) → IsAt remnant removed one p → IsAt remnant removed other q → Way remnant removed p q → ⊥
 
--- leaders are numbers of fixed boxes
+-- the number is that of a fixed box that leads itself
+pub record IsLeader (remnant : RemnantLists) (leader : ℕ) : Type 0 where
+  pub fixed : Fixed
+  pub at : slice_get remnant.fixed leader ≡ Some fixed
+  pub itself : fixed.leader ≡ leader
+
+-- leaders are numbers of fixed boxes that lead themselves
 pub record HasLeaders (remnant : RemnantLists) : Type 0 where
-  pub led : All (λ (fixed : Fixed). fixed.leader < length remnant.fixed) remnant.fixed
-  pub marked : All (λ (mark : Mark). mark.leader < length remnant.fixed) remnant.marks
+  pub led : (fixed : Fixed) → Contains remnant.fixed fixed → IsLeader remnant fixed.leader
+  pub marked : (mark : Mark) → Contains remnant.marks mark → IsLeader remnant mark.leader
 
 -- and fixed boxes that touch have one leader
 pub record IsJoined (remnant : RemnantLists) : Type 0 where

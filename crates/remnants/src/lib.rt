@@ -3,8 +3,15 @@
 //! matters.
 #![tactic(auto)]
 
+mod cutting;
+mod island_boxes;
+mod joining;
+mod keeping;
+mod marking;
+mod numbers;
 pub mod parts;
 pub mod remnant;
+mod unjoined;
 
 pub use parts::{Fixed, Loose, Mark};
 pub use remnant::Remnant;

@@ -1,0 +1,11 @@
+pub mod FollowLaws
+pub mod SettleLaws
+pub mod CutLaws
+pub mod JoinLaws
+pub mod MarkLaws
+pub mod IslandLaws
+pub mod LeaderLaws
+pub mod MeetingLaws
+pub mod PieceLaws
+pub mod KeepLaws
+pub mod PlaceLaws

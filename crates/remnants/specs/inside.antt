@@ -1,0 +1,5 @@
+pub mod Parting
+pub mod Joining
+pub mod Marking
+pub mod IslandBoxes
+pub mod Keeping
