@@ -1,5 +1,5 @@
 -- a rectangle that is added from the right to the left
-use Rattle.std.proofs.Common.{subst, sym, inl, inr, arith, ◌≡◌, ◌⊎◌, ℤ, ◌≤ℤ◌, ◌<ℤ◌, ◌↔◌}
+use Rattle.std.proofs.Common.{subst, sym, inl, inr, arith, ◌≡◌, ◌⊎◌, ℤ, List, Contains, ◌≤ℤ◌, ◌<ℤ◌, ◌↔◌}
 use Rattle.lists.proofs.Words.{ints, clamps, by_lt_z, int_max}
 use Rattle.geo_core.specs.Plane.{Has, IsIn}
 use Rattle.geo_core.specs.declared.plane.Cell.{Cell}
@@ -24,6 +24,12 @@ room_above s rect low high below free = record {
 }
 
 -- ---- the rectangle lies under the active one where both have columns
+
+-- the greater one of two columns of a list is one of the list
+of_greater : (xs : List ℤ) (a b c : ℤ) → c ≡ int_max a b → Contains xs a → Contains xs b → Contains xs c
+of_greater xs a b c is left right = by_lt_z a b
+    (λ less. subst (λ (z : ℤ). Contains xs z) (omega (arith, ints, clamps)) right)
+    (λ more. subst (λ (z : ℤ). Contains xs z) (omega (arith, ints, clamps)) left)
 
 module _ (old new : Skyline) (active rect : Rect) (end next : ℤ) (below : IsBelow rect.y0 old) (met : IsNextActive old active rect end)
     (some : rect.x0 <ℤ end) (under : rect.y1 ≤ℤ active.y1) (to : next ≡ int_max active.x0 rect.x0) (made : Activates old new active.x1 end rect) where
@@ -59,6 +65,7 @@ module _ (old new : Skyline) (active rect : Rect) (end next : ℤ) (below : IsBe
         from = omega (arith, ints, clamps);
         up_to = omega (arith, ints, clamps);
         looked = omega (arith, ints, clamps);
+        sides = λ xs s left start. (made.sides xs s (s.ends active met.is_active) start, of_greater xs active.x0 rect.x0 next to (s.begins active met.is_active) left);
       }
 
 -- ---- the rectangle takes the place of the active one
@@ -104,6 +111,7 @@ module _ (old middle new : Skyline) (active rect : Rect) (end : ℤ) (below : Is
         from = omega (arith, ints);
         up_to = omega (arith, ints);
         looked = omega (arith, ints);
+        sides = λ xs s left start. (kept.sides xs (out.sides xs s) (s.begins active met.is_active) (s.ends active met.is_active) left start, start);
       }
 
 -- ---- from one active rectangle to the next
@@ -120,6 +128,7 @@ added_more old now new rect column column' start end next a b =
       from = b.from;
       up_to = omega (arith, ints);
       looked = b.looked;
+      sides = λ xs s left from. let k = a.sides xs s left from in b.sides xs k.0 left k.1;
     }
 
 -- the active rectangle that comes next
@@ -151,6 +160,7 @@ added_none s rect column end sound below some e f = added_at s s rect rect.x1 co
   from = omega (arith, ints);
   up_to = omega (arith, ints);
   looked = omega (arith, ints);
+  sides = λ xs s left start. (s, start);
 }) (sym e) (sym f)
 
 -- nothing is active before the column, either
@@ -164,6 +174,7 @@ added_free old now rect column start end a none = record {
   from = a.from;
   up_to = a.up_to;
   looked = a.from;
+  sides = a.sides;
 }
 
 -- the columns are looked at to the left end of the rectangle

@@ -1,5 +1,5 @@
 -- active rectangles that are joined with their neighbours, and parts of rectangles
-use Rattle.std.proofs.Common.{refl, sym, subst, inl, inr, arith, ◌∙◌, ◌≡◌, ◌⊎◌, ℤ, Contains, Some, ◌≤ℤ◌, ◌<ℤ◌, ◌↔◌}
+use Rattle.std.proofs.Common.{refl, sym, subst, inl, inr, arith, ◌∙◌, ◌≡◌, ◌⊎◌, ℤ, List, Contains, Some, ◌≤ℤ◌, ◌<ℤ◌, ◌↔◌}
 use Rattle.std.specs.BTreeMap.{get}
 use Rattle.std.specs.Ordering.{int_cmp}
 use Rattle.lists.proofs.Words.{ints, by_lt_z}
@@ -35,6 +35,7 @@ joins_none s rect sound room = record {
   runs = refl;
   rows = refl;
   below = λ row h. h;
+  sides = λ xs s from to. (s, from, to);
 }
 
 -- the rectangle has the columns of the two others, all three in the same rows
@@ -44,6 +45,7 @@ pub record IsBoth (one other both : Rect) : Type 0 where
   pub one_high : one.y1 ≡ both.y1
   pub other_low : other.y0 ≡ both.y0
   pub other_high : other.y1 ≡ both.y1
+  pub sides : (xs : List ℤ) → Contains xs one.x0 → Contains xs one.x1 → Contains xs other.x0 → Contains xs other.x1 → Contains xs both.x0 × Contains xs both.x1
 
 pub both_abutting : (one other both : Rect) → one.x1 ≡ other.x0 → both.x0 ≡ one.x0 → both.x1 ≡ other.x1 → one.y0 ≡ both.y0 → one.y1 ≡ both.y1 → other.y0 ≡ both.y0 → other.y1 ≡ both.y1
     → IsBoth one other both
@@ -57,6 +59,7 @@ both_abutting one other both meet left right a b d e = record {
   one_high = b;
   other_low = d;
   other_high = e;
+  sides = λ xs f g h k. (subst (λ (z : ℤ). Contains xs z) (sym left) f, subst (λ (z : ℤ). Contains xs z) (sym right) k);
 }
 
 pub both_turned : (one other both : Rect) → IsBoth one other both → IsBoth other one both
@@ -69,6 +72,7 @@ both_turned one other both h = record {
   one_high = h.other_high;
   other_low = h.one_low;
   other_high = h.one_high;
+  sides = λ xs f g k l. h.sides xs k l f g;
 }
 
 -- its cells are those of the two
@@ -85,7 +89,8 @@ has_both one other both c h = (
 )
 
 -- a neighbour that was taken out, and the rectangle, are one
-module _ (old new : Skyline) (neighbour rect both : Rect) (room : HasRoom old rect.x0 rect.x1 rect) (out : TakesOut old new neighbour) (h : IsBoth neighbour rect both) where
+module _ (old new : Skyline) (neighbour rect both : Rect) (room : HasRoom old rect.x0 rect.x1 rect) (out : TakesOut old new neighbour) (h : IsBoth neighbour rect both)
+    (at : IsActiveIn old neighbour) where
   no_cell : (run : Rect) (c : Cell) → IsDoneIn new run → Has run c → Has both c → ⊥
   no_cell run c done has b = elim ((has_both neighbour rect both c h).0 b) [
     | inl k ↦ out.room.cells run c done has (in_part neighbour c k)
@@ -122,6 +127,7 @@ module _ (old new : Skyline) (neighbour rect both : Rect) (room : HasRoom old re
     runs = out.runs;
     rows = sym h.other_low;
     below = out.below;
+    sides = λ xs s from to. let k = h.sides xs (s.begins neighbour at) (s.ends neighbour at) from to in (out.sides xs s, k.0, k.1);
   }
 
 -- what was joined is made active
@@ -135,6 +141,7 @@ joined_activated old middle new rect both j a = record {
   columns = λ x. (λ o. (j.columns x).0 ((a.columns x).0 o), λ k. (a.columns x).1 ((j.columns x).1 k));
   runs = a.runs ∙ j.runs;
   below = λ row low begins. a.below row (j.below row low) (subst (λ (y : ℤ). y ≤ℤ row) (sym j.rows) begins);
+  sides = λ xs s from to. let k = j.sides xs s from to in a.sides xs k.0 k.1 k.2;
 }
 
 -- a rectangle of its own in place of some columns of another one
@@ -164,6 +171,7 @@ module _ (low high : ℤ) (part rect : Rect) (left : part.x0 ≡ low) (right : p
     );
     runs = a.runs;
     below = λ row l begins. a.below row l (subst (λ (y : ℤ). y ≤ℤ row) (sym bottom) begins);
+    sides = λ xs s from to. a.sides xs s (subst (λ (z : ℤ). Contains xs z) (sym left) from) (subst (λ (z : ℤ). Contains xs z) (sym right) to);
   }
 
 -- no columns, nothing to make active
@@ -174,4 +182,5 @@ none_activated s low high rect sound none = record {
   columns = λ x. (λ o. inl o, λ k. elim k [ inl o ↦ o | inr i ↦ let a = i.from in let b = i.before in absurd (omega (arith, ints)) ]);
   runs = refl;
   below = λ row l begins. l;
+  sides = λ xs s from to. s;
 }

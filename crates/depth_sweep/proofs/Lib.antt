@@ -6,6 +6,7 @@ pub mod Primitives
 pub mod Searches
 pub mod Joining
 pub mod Resting
+pub mod Looking
 pub mod Adding
 pub mod Finishing
 pub mod Commons

@@ -100,6 +100,10 @@ module _ (old : Skyline) (map : BTreeMap ℤ Rect) (rect : Rect) (sound : IsSkyl
       begun = λ q at. elim (one_or_old q.x0 q at) [ inl (_, e) ↦ subst (λ (r : Rect). r.y0 ≤ℤ row) (sym e) begins | inr h ↦ low.begun q h ];
       ended = low.ended;
     };
+    sides = λ xs s from to. record {
+      begins = λ q at. elim (one_or_old q.x0 q at) [ inl (_, e) ↦ subst (λ (r : Rect). Contains xs r.x0) (sym e) from | inr h ↦ s.begins q h ];
+      ends = λ q at. elim (one_or_old q.x0 q at) [ inl (_, e) ↦ subst (λ (r : Rect). Contains xs r.x1) (sym e) to | inr h ↦ s.ends q h ];
+    };
   }
 
 -- one active rectangle less
@@ -161,6 +165,7 @@ module _ (old : Skyline) (map : BTreeMap ℤ Rect) (rect : Rect) (sound : IsSkyl
       cells = λ run c done has p. sound.clear run rect c done at_rect has (from_part rect c p);
     };
     below = λ row low. record { begun = λ q at. low.begun q (was q.x0 q at); ended = low.ended };
+    sides = λ xs s. record { begins = λ q at. s.begins q (was q.x0 q at); ends = λ q at. s.ends q (was q.x0 q at) };
   }
 
 -- the skyline with these finished rectangles
@@ -219,4 +224,5 @@ module _ (old : Skyline) (runs : Vec Rect Global) (rect : Rect) (sound : IsSkyli
       ended = λ q done. elim (one_or_before q done) [ inl e ↦ subst (λ (r : Rect). r.y1 ≤ℤ row) (sym e) ends | inr d ↦ low.ended q d ];
     };
     runs = more;
+    sides = λ xs s. record { begins = λ q at. s.begins q at; ends = λ q at. s.ends q at };
   }

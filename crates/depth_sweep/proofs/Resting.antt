@@ -78,6 +78,7 @@ module _ (active rect : Rect) (end : ℤ) (lower : Rect) (reaches : rect.y0 <ℤ
     );
     columns = λ x. (f.columns x).0;
     below = λ low. f.below rect.y0 low (let e = h.top in omega (arith, ints));
+    sides = f.sides;
   }
 
 pub none_lower : (s : Skyline) (active rect : Rect) (end : ℤ) → IsSkyline s → rect.y0 ≤ℤ active.y0 → FinishesLower s s active rect end
@@ -86,6 +87,7 @@ none_lower s active rect end sound high = record {
   cells = λ c. (λ u. inl u, λ k. elim k [ inl u ↦ u | inr l ↦ let a = l.has.up.from in let b = l.lower in absurd (omega (arith, ints)) ]);
   columns = λ x o. o;
   below = λ low. low;
+  sides = λ xs s. s;
 }
 
 -- ---- what is kept
@@ -100,6 +102,7 @@ all_kept old new active rect end low f = record {
   );
   columns = λ x i. (f.columns x).0;
   below = λ l begins. f.below rect.y0 l low;
+  sides = λ xs s a b d e. f.sides xs s;
 }
 
 module _ (old left right new : Skyline) (active rect : Rect) (end : ℤ) (begins : active.x0 <ℤ end) (ends : rect.x0 <ℤ active.x1)
@@ -158,4 +161,5 @@ module _ (old left right new : Skyline) (active rect : Rect) (end : ℤ) (begins
       | inr m ↦ let a = m.from in let b = i.before in absurd (omega (arith, ints))
     ];
     below = λ low lowest. f.below (on_right.below rect.y0 (on_left.below rect.y0 low lowest) lowest);
+    sides = λ xs s a b d e. f.sides xs (on_right.sides xs (on_left.sides xs s a d) e b);
   }

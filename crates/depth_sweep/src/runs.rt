@@ -1,4 +1,4 @@
-ghost use Rattle.std.specs.Prelude.{◌≤◌, ◌+◌, ◌≡◌, IfNone, IfOk, IfSome, length};
+ghost use Rattle.std.specs.Prelude.{◌<◌, ◌≤◌, ◌+◌, ◌*◌, ◌≡◌, IfNone, IfOk, IfSome, length};
 ghost use Rattle.std.specs.List.Sorted.{IsPermutation};
 ghost use Rattle.depth_sweep.specs.Runs.{AreApart, AreByRow, HaveCellsOfTwo, HaveSameCells};
 
@@ -21,7 +21,8 @@ pub fn union_runs(alloc: Global, rects: &[Rect]) -> Result<Vec<Rect>, NoMemory>
 }
 
 /// Rectangles without common cells that have the cells of the list together, where they are found with no more looks at
-/// rectangles than are left. Each rectangle of the list takes one look at least.
+/// rectangles than are left. Each rectangle of the list takes one look at least. All n of them take at most n (2 n + 1):
+/// where so many are left the rectangles are found.
 ///
 /// Each look is taken off those left. None is the answer where they do not suffice, and then none is left: so many lists
 /// share one number of looks. The only error is that no memory is left.
@@ -34,6 +35,7 @@ pub fn runs_within(
     ensures apart { IfOk result (λ found. IfSome found (λ runs. AreApart runs.items)) }
     ensures taken { IfOk result (λ found. IfSome found (λ runs. left.new + length rects.now ≤ left.old)) }
     ensures none { IfOk result (λ found. IfNone found (left.new ≡ 0)) }
+    ensures enough { IfOk result (λ found. IfNone found (left.old < length rects.now * (2 * length rects.now + 1))) }
 {
     let sorted = by_row(alloc, rects)?;
     let mut skyline = Skyline::new(alloc);

@@ -1,4 +1,4 @@
-ghost use Rattle.std.specs.Prelude.{ℤ, All, Contains, IfOk, IfSome, IfNone, OnOk, ◌<◌, ◌≤ℤ◌, ◌<ℤ◌, ◌≡◌, ◌↔◌, ◌⊎◌};
+ghost use Rattle.std.specs.Prelude.{ℤ, List, length, All, Contains, IfOk, IfSome, IfNone, OnOk, ◌+◌, ◌<◌, ◌≤◌, ◌≤ℤ◌, ◌<ℤ◌, ◌≡◌, ◌↔◌, ◌⊎◌};
 ghost use Rattle.depth_sweep.specs.inside.Skylines.{GainsCommon};
 
 use geo_core::{NoMemory, Rect, clip};
@@ -22,7 +22,7 @@ impl Skyline {
     ghost use Rattle.geo_core.specs.declared.plane.Cell.{Cell};
     ghost use Rattle.geo_core.specs.declared.plane.Rect.{Rect};
     ghost use Rattle.depth_sweep.specs.Runs.{AreApart};
-    ghost use Rattle.depth_sweep.specs.inside.Skylines.{IsActiveIn, IsActiveOver, IsAddedTo, IsBelow, IsDoneIn, IsNextActive, IsSkyline, IsUnder};
+    ghost use Rattle.depth_sweep.specs.inside.Skylines.{HasSides, IsActiveIn, IsActiveOver, IsAddedTo, IsBelow, IsDoneIn, IsNextActive, IsSkyline, IsUnder};
     ghost use Rattle.depth_sweep.specs.inside.Skylines.{Activates, Finishes, FinishesLower, HasRoom, Joins, KeepsRest, TakesOut};
 
     /// Nothing is covered.
@@ -46,6 +46,10 @@ impl Skyline {
         ensures below { OnOk result (IsBelow rect.y0 self.new) }
         ensures cells { OnOk result ((c : Cell) → IsUnder self.new c ↔ (IsUnder self.old c ⊎ Has rect c)) }
         ensures looks { IfOk result (λ looks. 0 < looks) }
+        ensures sides { OnOk result ((xs : List ℤ) → HasSides xs self.old → Contains xs rect.x0 → Contains xs rect.x1 →
+            HasSides xs self.new) }
+        ensures few { IfOk result (λ looks. (xs : List ℤ) → HasSides xs self.old → Contains xs rect.x0 → Contains xs rect.x1 →
+            looks ≤ length xs + 1) }
     {
         let (end, met) = self.add_over(rect)?;
         self.start(rect.x0, end, rect)?;
@@ -53,11 +57,14 @@ impl Skyline {
     }
 
     /// Adds what the rectangle has over active ones, from the right to the left, so that what is still to be added has no
-    /// active one over its columns. Gives the column up to which it lies, and how many active ones it met.
+    /// active one over its columns. Gives the column up to which it lies, and how many active ones it met. Each of these
+    /// begins at another column, and all of them at sides of rectangles that were added.
     fn add_over(&mut self, rect: Rect) -> Result<(i32, usize), NoMemory>
         requires sound { IsSkyline self.old }
         requires below { IsBelow rect.y0 self.old }
-        ensures { IfOk result (λ found. IsAddedTo self.old self.new rect rect.x0 rect.x1 found.0) }
+        ensures added { IfOk result (λ found. IsAddedTo self.old self.new rect rect.x0 rect.x1 found.0) }
+        ensures few { IfOk result (λ found. (xs : List ℤ) → HasSides xs self.old → Contains xs rect.x0 →
+            Contains xs rect.x1 → found.1 ≤ length xs) }
     {
         let mut met: usize = 0;
         let mut column = rect.x1;

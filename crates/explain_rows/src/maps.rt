@@ -31,7 +31,8 @@ const ROWS: &[(&[u8], &str)] = &[
         "error 42 at 3\n\
          map 'm', `radii`: this may not stand there, or is missing\n  \
          there stands, of the kind array: [5, 2]\n  \
-         there may stand: an array of 1 to 32 whole numbers from 1 to 1000000, each greater than the one before\n",
+         there may stand: an array of 1 to 32 whole numbers from 1 to 1000000, each greater than the one before\n  \
+         not greater than the one before it, 5: 2\n",
     ),
     (
         b"version = 1\nradii = [1]\nweights = [1]\n[[metal]]\nname = \"m 1\"\n",
@@ -49,11 +50,35 @@ const ROWS: &[(&[u8], &str)] = &[
     ),
     (
         b"version = 1\nradii = [1]\nweights = [1]\n[[metal]]\nname = \"a\"\npairs = [[1, 0]]\n\
+          [[metal]]\nname = \"b\"\npairs = [[2, 0]]\n[[metal]]\nname = \"b\"\npairs = [[3, 0]]\n",
+        "error 44 at 121\n\
+         map 'm', `name` of [[metal]] number 3, 'b': an earlier metal or cut has this name; give each one of its own\n  \
+         earlier: [[metal]] number 2, 'b'\n",
+    ),
+    (
+        b"version = 1\nradii = [1]\nweights = [1]\n[[metal]]\nname = \"a\"\npairs = [[1, 0]]\n\
+          [[metal]]\nname = \"b\"\npairs = [[2, 0]]\n\
+          [[cut]]\nname = \"v\"\npairs = [[3, 0]]\nlower = \"a\"\nupper = \"b\"\n\
+          [[cut]]\nname = \"v\"\npairs = [[4, 0]]\nlower = \"a\"\nupper = \"b\"\n",
+        "error 44 at 311\n\
+         map 'm', `name` of [[cut]] number 2, 'v': an earlier metal or cut has this name; give each one of its own\n  \
+         earlier: [[cut]] number 1, 'v'\n",
+    ),
+    (
+        b"version = 1\nradii = [1]\nweights = [1]\n[[metal]]\nname = \"a\"\npairs = [[1, 0]]\n\
           [[cut]]\nname = \"v\"\npairs = [[2, 0]]\nlower = \"a\"\nupper = \"b\"\n",
         "error 45 at 304\n\
          map 'm', `upper` of [[cut]] number 1, 'v': no metal has the name that stands there\n  \
          there stands, of the kind string: \"b\"\n  \
          metals: 'a'\n",
+    ),
+    (
+        b"version = 1\nradii = [1]\nweights = [1]\n[[metal]]\nname = \"a\"\npairs = [[1, 0]]\n\
+          [[terminal]]\nmetal = \"a\"\nx = 0\ny = 0\n[[terminal]]\nmetal = \"a\"\nx = -3\ny = 0\n\
+          [[terminal]]\nmetal = \"a\"\nx = -3\ny = 0\n",
+        "error 46 at 1020\n\
+         map 'm', [[terminal]] number 3: an earlier terminal is the same cell of the same metal; leave one out\n  \
+         earlier: [[terminal]] number 2, the cell (-3, 0) of 'a'\n",
     ),
     (
         b"version = 1\nradii = [1]\nweights = [1]\n[[metal]]\nname = \"a\"\npairs = [[1, 0]]\n\

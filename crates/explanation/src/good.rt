@@ -32,13 +32,13 @@ fn tell_held(text: &mut Text, map: &Map, number: usize, held: &Held) {
     match bounds {
         Some((left, bottom, right, top)) => {
             text.say(", from (");
-            text.signed(left);
+            text.signed(left as i64);
             text.say(", ");
-            text.signed(bottom);
+            text.signed(bottom as i64);
             text.say(") to (");
-            text.signed(right);
+            text.signed(right as i64);
             text.say(", ");
-            text.signed(top);
+            text.signed(top as i64);
             text.say(")\n");
         }
         None => text.say(", which cover nothing\n"),

@@ -131,6 +131,28 @@ fn tell_bad_key(text: &mut Text, document: &Table, spot: Spot) {
     }
 }
 
+/// Tells which whole number of a list is the first that is not greater than the one before it.
+fn tell_fall(text: &mut Text, value: Option<&Value>) {
+    let Some(Value::Array(items)) = value else {
+        return;
+    };
+    let mut before = None;
+    for item in items {
+        let number = item.as_integer();
+        if let (Some(before), Some(number)) = (before, number) {
+            if number <= before {
+                text.say("  not greater than the one before it, ");
+                text.signed(before);
+                text.say(": ");
+                text.signed(number);
+                text.say("\n");
+                return;
+            }
+        }
+        before = number;
+    }
+}
+
 /// Tells of a value that may not stand where it does.
 fn tell_bad_value(
     alloc: Global,
@@ -144,6 +166,9 @@ fn tell_bad_value(
     text.say("  there may stand: ");
     text.say(wanted);
     text.say("\n");
+    if spot == Spot::Key("radii") {
+        tell_fall(text, value_at(document, spot));
+    }
     Ok(())
 }
 
@@ -212,6 +237,75 @@ fn tell_repeated_pair(
     Ok(())
 }
 
+/// The first item of a list that has this name.
+fn first_named(document: &Table, list: List, name: &str) -> Option<usize> {
+    let mut number: usize = 0;
+    for item in items_of(document, list) {
+        if text_in(item, "name") == Some(name) {
+            return Some(number);
+        }
+        number = number.saturating_add(1);
+    }
+    None
+}
+
+/// Tells which metal or cut is the first to have the name that stands at a place.
+fn tell_first_named(text: &mut Text, document: &Table, spot: Spot) {
+    text.say("an earlier metal or cut has this name; give each one of its own\n");
+    let Some(Value::String(name)) = value_at(document, spot) else {
+        return;
+    };
+    let name = name.as_str();
+    for list in [List::Metal, List::Cut] {
+        if let Some(number) = first_named(document, list, name) {
+            text.say("  earlier: ");
+            tell_item(text, document, list, number);
+            text.say("\n");
+            return;
+        }
+    }
+}
+
+/// The metal and the cell of a terminal, where the value is one.
+fn terminal_of(value: &Value) -> Option<(&str, i64, i64)> {
+    let metal = text_in(value, "metal")?;
+    let x = member(value, "x")?.as_integer()?;
+    let y = member(value, "y")?.as_integer()?;
+    Some((metal, x, y))
+}
+
+/// The first terminal that has this cell of this metal.
+fn first_terminal(document: &Table, terminal: (&str, i64, i64)) -> Option<usize> {
+    let mut number: usize = 0;
+    for item in items_of(document, List::Terminal) {
+        if terminal_of(item) == Some(terminal) {
+            return Some(number);
+        }
+        number = number.saturating_add(1);
+    }
+    None
+}
+
+/// Tells which terminal is the first to have the cell and the metal of the one at a place.
+fn tell_first_terminal(text: &mut Text, document: &Table, spot: Spot) {
+    text.say("an earlier terminal is the same cell of the same metal; leave one out\n");
+    let Some((metal, x, y)) = value_at(document, spot).and_then(terminal_of) else {
+        return;
+    };
+    let Some(number) = first_terminal(document, (metal, x, y)) else {
+        return;
+    };
+    text.say("  earlier: ");
+    tell_item(text, document, List::Terminal, number);
+    text.say(", the cell (");
+    text.signed(x);
+    text.say(", ");
+    text.signed(y);
+    text.say(") of ");
+    text.name(metal.as_bytes());
+    text.say("\n");
+}
+
 /// Tells the names of the metals.
 fn tell_metals(text: &mut Text, document: &Table) {
     text.say("  metals:");
@@ -254,17 +348,13 @@ fn tell_fault(
         MapFault::BadKey { .. } => tell_bad_key(text, document, spot),
         MapFault::BadValue { .. } => tell_bad_value(alloc, text, document, spot)?,
         MapFault::RepeatedPair { .. } => tell_repeated_pair(alloc, text, document, spot)?,
-        MapFault::RepeatedName { .. } => {
-            text.say("an earlier metal or cut has this name; give each one of its own\n");
-        }
+        MapFault::RepeatedName { .. } => tell_first_named(text, document, spot),
         MapFault::UnknownMetal { .. } => {
             text.say("no metal has the name that stands there\n");
             tell_value(alloc, text, value_at(document, spot))?;
             tell_metals(text, document);
         }
-        MapFault::RepeatedTerminal { .. } => {
-            text.say("an earlier terminal is the same cell of the same metal; leave one out\n");
-        }
+        MapFault::RepeatedTerminal { .. } => tell_first_terminal(text, document, spot),
         MapFault::LimitPassed { .. } => tell_limit(text, document, spot),
         MapFault::Syntax | MapFault::Memory => {}
     }

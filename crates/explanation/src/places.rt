@@ -45,9 +45,9 @@ fn tell_element(text: &mut Text, spot: &Spot<'_>) {
     tell_layer(text, spot);
     if let Some((x, y)) = spot.point {
         text.say(", first point (");
-        text.signed(x);
+        text.signed(x as i64);
         text.say(", ");
-        text.signed(y);
+        text.signed(y as i64);
         text.say(")");
     }
 }

@@ -36,7 +36,7 @@ impl Text {
     }
 
     /// Puts a number with its sign behind it.
-    pub fn signed(&mut self, number: i32) {
+    pub fn signed(&mut self, number: i64) {
         if write!(self.text, "{number}").is_err() {
             self.is_cut = true;
         }

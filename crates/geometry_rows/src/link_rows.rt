@@ -8,9 +8,9 @@ use touch_sweep::touch_links;
 /// How many rectangles there are of each kind.
 const COUNT: usize = 200;
 
-/// How many pairs for each rectangle are enough to join them: four for each time that their number can be halved. All
-/// pairs of equal ones are some 100 for each.
-const ENOUGH: usize = 32;
+/// How many pairs for each rectangle are enough to join them. Without pairs that the others make needless squares within
+/// one another have some 26 for each, and all pairs of equal ones are some 100 for each.
+const ENOUGH: usize = 12;
 
 /// How the rectangles lie.
 #[derive(Clone, Copy)]

@@ -1,4 +1,4 @@
-//! 5,000 squares in 50 rows of 100, each of which begins ten columns or rows after the one before.
+//! 5,000 squares in 50 rows of 100, each of which begins ten columns or rows after the one before, and 20,000 such in one row.
 
 use super::net_rows::nets_with;
 use super::sides::{Sides, sides_of};
@@ -33,20 +33,20 @@ fn labels(alloc: Global, side: u8) -> Result<Vec<usize>, NoMemory> {
     label(alloc, squares.as_slice())
 }
 
-/// Whether each of the squares has its own number as its label.
-fn are_islands(labels: &[usize]) -> bool {
+/// Whether each of so many squares has its own number as its label.
+fn are_islands(labels: &[usize], count: usize) -> bool {
     for (number, label) in labels.iter().enumerate() {
         if *label != number {
             return false;
         }
     }
-    labels.len() == COUNT
+    labels.len() == count
 }
 
 #[test]
 fn squares_apart_are_islands(rt: HostRuntime) {
     match labels(rt.alloc(), 2) {
-        Ok(labels) => assert!(rt; are_islands(labels.as_slice())),
+        Ok(labels) => assert!(rt; are_islands(labels.as_slice(), COUNT)),
         Err(_) => panic!(rt; "out of memory"),
     }
 }
@@ -139,4 +139,47 @@ fn small_ones_are_joined(alloc: Global) -> bool {
 #[test]
 fn many_squares_are_one_net(rt: HostRuntime) {
     assert!(rt; small_ones_are_joined(rt.alloc()));
+}
+
+/// How many squares stand in one row.
+const IN_A_ROW: usize = 20_000;
+
+/// The square of this number in that row, with a side of 2.
+fn in_a_row(number: usize) -> Rect {
+    let x = 10 * (number % IN_A_ROW) as i32;
+    Rect::new(x, 0, x + 2, 2)
+}
+
+/// The labels of the squares in the row.
+fn row_labels(alloc: Global) -> Result<Vec<usize>, NoMemory> {
+    let mut squares = Vec::new(alloc);
+    for number in 0..IN_A_ROW {
+        squares.push(in_a_row(number))?;
+    }
+    label(alloc, squares.as_slice())
+}
+
+/// A search that left all but a few columns to one of its halves would go as deep as there are squares.
+#[test]
+fn squares_in_a_row_are_islands(rt: HostRuntime) {
+    match row_labels(rt.alloc()) {
+        Ok(labels) => assert!(rt; are_islands(labels.as_slice(), IN_A_ROW)),
+        Err(_) => panic!(rt; "out of memory"),
+    }
+}
+
+/// The area of the squares in the row, a net each, for the radius 5.
+fn row_area(alloc: Global) -> Result<u64, NoMemory> {
+    let mut pieces = Vec::new(alloc);
+    for label in 0..IN_A_ROW {
+        let rect = in_a_row(label);
+        pieces.push(Labelled { rect, label })?;
+    }
+    short_area(alloc, &pieces, Rect::new(-10, -10, 200_010, 20), 5)
+}
+
+/// Grown by 5, each of the squares has 2 columns of 12 rows in common with the next.
+#[test]
+fn squares_in_a_row_have_their_area(rt: HostRuntime) {
+    assert!(rt; row_area(rt.alloc()) == Ok(19_999 * 24));
 }

@@ -183,7 +183,7 @@ module _ {mine theirs a b own others own' others' : List Numbered} {old now new 
 -- where none is left, all that touch are joined
 pub all_chained : {mine theirs own others : List Numbered} {old now : List (ℕ × ℕ)} → IsChaining mine theirs [] [] own others old now → Links (IsMatchOf mine theirs) (IsMatchOf mine theirs) old now
 all_chained {mine} {theirs} {own} {others} {old} {now} s = record {
-  kept = s.gains.kept;
+  kept = λ a b h. linked_still s.gains.kept h;
   joined = joined_both;
   none_else = s.gains.none_else;
 } where

@@ -11,6 +11,7 @@ pub mod PairSteps
 pub mod AcrossSteps
 pub mod FarthestSteps
 pub mod LinkLaws
+pub mod TreeSteps
 pub mod ChainSteps
 pub mod LinkSteps
 pub mod LinkedRects

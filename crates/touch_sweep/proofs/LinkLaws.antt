@@ -44,12 +44,12 @@ linked_with {one} {other} {others} {may} {old} {new} g among touch = elim (equal
 -- ---- what a list of pairs joins
 
 pub links_nothing : {must may : ℕ × ℕ → Type 0} (pairs : List (ℕ × ℕ)) → ((p : ℕ × ℕ) → must p → ⊥) → Links must may pairs pairs
-links_nothing pairs none = record { kept = λ p h. h; joined = λ p h. absurd (none p h); none_else = λ p h. inl h }
+links_nothing pairs none = record { kept = λ a b h. h; joined = λ p h. absurd (none p h); none_else = λ p h. inl h }
 
 -- what has all pairs joins them
 pub links_all : {must may must' may' : ℕ × ℕ → Type 0} {old new : List (ℕ × ℕ)} → Gains must may old new → ((p : ℕ × ℕ) → must' p → must p) → ((p : ℕ × ℕ) → may p → may' p) → Links must' may' old new
 links_all {new = new} g fewer more = record {
-  kept = g.kept;
+  kept = λ a b h. linked_still g.kept h;
   joined = λ p k. linked_by new p.0 p.1 (inl (g.all p (fewer p k)));
   none_else = λ p k. elim (g.none_else p k) [ inl a ↦ inl a | inr b ↦ inr (more p b) ];
 }
@@ -58,8 +58,8 @@ links_all {new = new} g fewer more = record {
 pub links_both : {first second first_may second_may must may : ℕ × ℕ → Type 0} {old middle new : List (ℕ × ℕ)} → Links first first_may old middle → Links second second_may middle new
     → ((p : ℕ × ℕ) → must p → first p ⊎ second p) → ((p : ℕ × ℕ) → first_may p → may p) → ((p : ℕ × ℕ) → second_may p → may p) → Links must may old new
 links_both g h one_of_them of_first of_second = record {
-  kept = λ p k. h.kept p (g.kept p k);
-  joined = λ p k. elim (one_of_them p k) [ inl a ↦ linked_still h.kept (g.joined p a) | inr b ↦ h.joined p b ];
+  kept = λ a b k. h.kept a b (g.kept a b k);
+  joined = λ p k. elim (one_of_them p k) [ inl a ↦ h.kept p.0 p.1 (g.joined p a) | inr b ↦ h.joined p b ];
   none_else = λ p k. elim (h.none_else p k) [
     | inl a ↦ elim (g.none_else p a) [ inl b ↦ inl b | inr b ↦ inr (of_first p b) ]
     | inr b ↦ inr (of_second p b)
@@ -73,3 +73,7 @@ links_less g fewer more = record {
   joined = λ p k. g.joined p (fewer p k);
   none_else = λ p k. elim (g.none_else p k) [ inl a ↦ inl a | inr b ↦ inr (more p b) ];
 }
+
+-- pairs are let go that the others make needless
+pub links_thinned : {must may : ℕ × ℕ → Type 0} {old middle new : List (ℕ × ℕ)} → Links must may old middle → Links (λ p. ⊥) (λ p. ⊥) middle new → Links must may old new
+links_thinned g h = links_both g h (λ p m. inl m) (λ p m. m) (λ p none. absurd none)

@@ -3,3 +3,4 @@ pub mod Matches
 pub mod Chains
 pub mod Strips
 pub mod Splits
+pub mod Trees

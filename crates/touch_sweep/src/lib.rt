@@ -11,6 +11,7 @@ mod order;
 mod search;
 mod strip;
 mod sweep;
+mod thin;
 
 ghost use Rattle.std.specs.Prelude.{ℕ, length, AllPairs, Contains, IfOk, ◌+◌, ◌*◌, ◌^◌, ◌≤◌, ◌↔◌};
 ghost use Rattle.classes.specs.Classes.{AreJoined};
@@ -63,7 +64,7 @@ pub fn touch_links(alloc: Global, rects: &[Rect]) -> Result<Vec<(usize, usize)>,
     let columns = beginnings(alloc, rects)?;
     let strip = Strip::around(entries, columns.as_slice());
     let mut pairs = Vec::new(alloc);
-    link(alloc, entries, entries, strip, &mut pairs)?;
+    link(alloc, rects.len(), entries, entries, strip, &mut pairs)?;
     Ok(pairs)
 }
 

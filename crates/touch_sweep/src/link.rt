@@ -10,6 +10,7 @@ use super::chain::chain;
 use super::numbered::Numbered;
 use super::strip::{Met, Strip};
 use super::sweep::{sweep, sweep_some};
+use super::thin::thin;
 use std::alloc::{AllocError, Global};
 
 /// Where no more than this many rectangles begin, all pairs are looked at.
@@ -19,9 +20,11 @@ const FEW: usize = 16;
 const ENOUGH: usize = 4;
 
 /// Adds pairs of numbers by which each point and each span that touch are joined, where the point begins in the strip
-/// and the span begins no later than the point. Both lists are in the order of their lowest rows.
+/// and the span begins no later than the point. Both lists are in the order of their lowest rows. Where there are many
+/// pairs for so many numbers, pairs are let go that the others make needless.
 pub fn link(
     alloc: Global,
+    count: usize,
     points: &[Numbered],
     spans: &[Numbered],
     strip: Strip<'_>,
@@ -44,23 +47,24 @@ pub fn link(
     if points.is_empty() {
         return Ok(());
     }
-    let spans = link_across(alloc, points, spans, strip, pairs)?;
+    let spans = link_across(alloc, count, points, spans, strip, pairs)?;
     let spans = spans.as_slice();
     if points.len() <= FEW {
         return sweep(points, spans, pairs);
     }
     if strip.splits.len() <= 1 {
-        return link_column(alloc, points, spans, points[0], pairs);
+        return link_column(alloc, count, points, spans, points[0], pairs);
     }
     let (left, right) = strip.halves();
-    link(alloc, points, spans, left, pairs)?;
-    link(alloc, points, spans, right, pairs)
+    link(alloc, count, points, spans, left, pairs)?;
+    link(alloc, count, points, spans, right, pairs)
 }
 
 /// Adds pairs of numbers by which each point and each span that touch are joined, where the span reaches over all columns
 /// of the strip, and gives the spans that meet some of them only. All points begin in the strip.
 fn link_across(
     alloc: Global,
+    count: usize,
     points: &[Numbered],
     spans: &[Numbered],
     strip: Strip<'_>,
@@ -79,6 +83,7 @@ fn link_across(
 {
     let Met { across, partly } = strip.met(alloc, spans)?;
     join(alloc, points, across.as_slice(), pairs)?;
+    thin(alloc, count, pairs)?;
     Ok(partly)
 }
 
@@ -110,6 +115,7 @@ fn join(
 /// the point. All points begin in one column, that of the first one.
 fn link_column(
     alloc: Global,
+    count: usize,
     points: &[Numbered],
     spans: &[Numbered],
     first: Numbered,
@@ -125,6 +131,6 @@ fn link_column(
         length pairs.old.items + 9 * length points.now + 5 * length spans.now) }
 {
     let column = Strip::column_of(first);
-    let partly = link_across(alloc, points, spans, column, pairs)?;
+    let partly = link_across(alloc, count, points, spans, column, pairs)?;
     chain(alloc, points, partly.as_slice(), pairs)
 }

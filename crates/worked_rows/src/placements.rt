@@ -1,7 +1,7 @@
 //! Layouts of several structures: which shapes they place, and which of them are refused.
 
 use super::layouts::{Plate, Wire};
-use super::rows::{LEFT, RIGHT};
+use super::rows::{EMPTY_REPORT, LEFT, RIGHT};
 use super::runs::Want::BadLayout;
 use super::runs::{NO_SHORT, RADIUS_3, SHORT_32, Want, answers, expect, layout_answers};
 use super::structures::{
@@ -153,6 +153,13 @@ const PLACED: &[Row] = &[
         RADIUS_3,
         NO_SHORT,
     ),
+    // four arrays, one in the other, over a shape on a layer that is not asked for
+    (
+        IN_ARRAYS,
+        &[A, B, C, (b"S", &[Part::Plate((60, 0, (0, 0, 10, 10)))])],
+        RADIUS_3,
+        EMPTY_REPORT,
+    ),
     NESTED,
 ];
 
@@ -196,6 +203,31 @@ const MANY: Copies<'_> = Copies {
     size: Some((32_767, 32_767)),
     ..ONE
 };
+
+/// The outermost of four arrays of so many copies, one in the other: of the structure `A`, which has one of `B`, which has
+/// one of `C`, which has one of `S`.
+const IN_ARRAYS: &[Part<'_>] = &[Part::Copies(Copies {
+    target: b"A",
+    ..MANY
+})];
+
+const A: Structure<'_> = (
+    b"A",
+    &[Part::Copies(Copies {
+        target: b"B",
+        ..MANY
+    })],
+);
+
+const B: Structure<'_> = (
+    b"B",
+    &[Part::Copies(Copies {
+        target: b"C",
+        ..MANY
+    })],
+);
+
+const C: Structure<'_> = (b"C", &[Part::Copies(MANY)]);
 
 /// A thousand times a thousand copies.
 const MILLION: Copies<'_> = Copies {
@@ -288,6 +320,7 @@ const REFUSED: &[Row] = &[
         RADIUS_3,
         BadLayout(29, 162),
     ),
+    (IN_ARRAYS, &[A, B, C, BAR], RADIUS_3, BadLayout(29, 60)),
     // 30: at the shape, and of two the one that is placed first
     (&[Part::Plate(FAR)], &[], RADIUS_3, BadLayout(30, 94)),
     (&[Part::Copies(TOO_FAR)], &[S], RADIUS_3, BadLayout(30, 176)),

@@ -4,7 +4,7 @@ use std::alloc::Global;
 use std::thread::Threads;
 
 /// The report on no shapes.
-const EMPTY_REPORT: Want = Want::Report(
+pub const EMPTY_REPORT: Want = Want::Report(
     "short m r=3 area=0 weight=1 sum=0\n\
      open m r=3 area=0 weight=1 sum=0\n\
      total short 0\n\

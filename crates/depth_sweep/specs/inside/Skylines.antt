@@ -50,6 +50,11 @@ pub record HasRoom (skyline : Skyline) (low high : ℤ) (rect : Rect) : Type 0 w
   pub columns : (x : ℤ) → IsIn low high x → IsActiveOver skyline x → ⊥
   pub cells : (run : Rect) (c : Cell) → IsDoneIn skyline run → Has run c → IsInPart low high rect c → ⊥
 
+-- each active rectangle begins and ends at one of these columns
+pub record HasSides (xs : List ℤ) (skyline : Skyline) : Type 0 where
+  pub begins : (rect : Rect) → IsActiveIn skyline rect → Contains xs rect.x0
+  pub ends : (rect : Rect) → IsActiveIn skyline rect → Contains xs rect.x1
+
 -- the part of the rectangle in these columns is opened, and nothing else changes but how active rectangles are joined
 pub record Activates (old new : Skyline) (low high : ℤ) (rect : Rect) : Type 0 where
   pub sound : IsSkyline new
@@ -57,6 +62,7 @@ pub record Activates (old new : Skyline) (low high : ℤ) (rect : Rect) : Type 0
   pub columns : (x : ℤ) → IsActiveOver new x ↔ (IsActiveOver old x ⊎ IsIn low high x)
   pub runs : new.runs.items ≡ old.runs.items
   pub below : (row : ℤ) → IsBelow row old → rect.y0 ≤ℤ row → IsBelow row new
+  pub sides : (xs : List ℤ) → HasSides xs old → Contains xs low → Contains xs high → HasSides xs new
 
 -- the active rectangle is taken out, and leaves its room
 pub record TakesOut (old new : Skyline) (rect : Rect) : Type 0 where
@@ -66,6 +72,7 @@ pub record TakesOut (old new : Skyline) (rect : Rect) : Type 0 where
   pub runs : new.runs.items ≡ old.runs.items
   pub room : HasRoom new rect.x0 rect.x1 rect
   pub below : (row : ℤ) → IsBelow row old → IsBelow row new
+  pub sides : (xs : List ℤ) → HasSides xs old → HasSides xs new
 
 -- the rectangle is finished
 pub record Finishes (old new : Skyline) (rect : Rect) : Type 0 where
@@ -74,6 +81,7 @@ pub record Finishes (old new : Skyline) (rect : Rect) : Type 0 where
   pub columns : (x : ℤ) → IsActiveOver new x ↔ IsActiveOver old x
   pub runs : new.runs.items ≡ old.runs.items ++ rect ∷ []
   pub below : (row : ℤ) → IsBelow row old → rect.y1 ≤ℤ row → IsBelow row new
+  pub sides : (xs : List ℤ) → HasSides xs old → HasSides xs new
 
 -- the rectangle takes an active neighbour of the same rows in, which is active no longer
 pub record Joins (old new : Skyline) (rect joined : Rect) : Type 0 where
@@ -84,6 +92,8 @@ pub record Joins (old new : Skyline) (rect joined : Rect) : Type 0 where
   pub runs : new.runs.items ≡ old.runs.items
   pub rows : joined.y0 ≡ rect.y0
   pub below : (row : ℤ) → IsBelow row old → IsBelow row new
+  pub sides : (xs : List ℤ) → HasSides xs old → Contains xs rect.x0 → Contains xs rect.x1 →
+      HasSides xs new × Contains xs joined.x0 × Contains xs joined.x1
 
 -- this active rectangle reaches into the columns of the rectangle, and nothing is active from it up to the column `end`
 pub record IsNextActive (skyline : Skyline) (active rect : Rect) (end : ℤ) : Type 0 where
@@ -102,6 +112,7 @@ pub record IsAddedTo (old now : Skyline) (rect : Rect) (column start end : ℤ) 
   pub from : rect.x0 ≤ℤ end
   pub up_to : end ≤ℤ start
   pub looked : column ≤ℤ end
+  pub sides : (xs : List ℤ) → HasSides xs old → Contains xs rect.x0 → Contains xs start → HasSides xs now × Contains xs end
 
 -- the cell lies in the active rectangle, and below the other rectangle where it lies in the columns of that one that
 -- come before `end`
@@ -115,6 +126,8 @@ pub record KeepsRest (old new : Skyline) (active rect : Rect) (end : ℤ) : Type
   pub cells : (c : Cell) → IsUnder new c ↔ (IsUnder old c ⊎ IsInRest active rect end c)
   pub columns : (x : ℤ) → IsIn rect.x0 end x → IsActiveOver new x → IsActiveOver old x
   pub below : IsBelow rect.y0 old → active.y0 ≤ℤ rect.y0 → IsBelow rect.y0 new
+  pub sides : (xs : List ℤ) → HasSides xs old → Contains xs active.x0 → Contains xs active.x1 → Contains xs rect.x0 →
+      Contains xs end → HasSides xs new
 
 -- the cell lies in the active rectangle, in these columns of the other rectangle and below it
 pub record IsInLower (active rect : Rect) (end : ℤ) (c : Cell) : Type 0 where
@@ -128,6 +141,7 @@ pub record FinishesLower (old new : Skyline) (active rect : Rect) (end : ℤ) : 
   pub cells : (c : Cell) → IsUnder new c ↔ (IsUnder old c ⊎ IsInLower active rect end c)
   pub columns : (x : ℤ) → IsActiveOver new x → IsActiveOver old x
   pub below : IsBelow rect.y0 old → IsBelow rect.y0 new
+  pub sides : (xs : List ℤ) → HasSides xs old → HasSides xs new
 
 -- a list of rectangles gains what the two have in common
 pub record GainsCommon (old new : List Rect) (active rect : Rect) : Type 0 where

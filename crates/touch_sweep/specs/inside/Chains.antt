@@ -11,9 +11,9 @@ use Rattle.touch_sweep.specs.declared.numbered.Numbered.{Numbered}
 pub record IsLinked (pairs : List (ℕ × ℕ)) (a b : ℕ) : Type 0 where
   pub path : Path (λ k. Unit {0}) (IsPair pairs) a b
 
--- a list keeps its pairs, joins the numbers of all pairs of the one kind, and gains none but of the other kind
+-- a list joins what it joined, and the numbers of all pairs of the one kind, and gains none but of the other kind
 pub record Links (must may : ℕ × ℕ → Type 0) (old new : List (ℕ × ℕ)) : Type 0 where
-  pub kept : (p : ℕ × ℕ) → Contains old p → Contains new p
+  pub kept : (a b : ℕ) → IsLinked old a b → IsLinked new a b
   pub joined : (p : ℕ × ℕ) → must p → IsLinked new p.0 p.1
   pub none_else : (p : ℕ × ℕ) → Contains new p → Contains old p ⊎ may p
 

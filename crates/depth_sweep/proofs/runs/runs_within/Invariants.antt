@@ -1,6 +1,13 @@
-use Rattle.std.proofs.Common.{◌+◌, ◌≤◌}
+use Rattle.std.proofs.Common.{◌+◌, ◌*◌, ◌≤◌, length}
+use Rattle.depth_sweep.specs.inside.Skylines.{HasSides}
+use Rattle.depth_sweep.proofs.Looking.{sides_of}
 use Rattle.depth_sweep.proofs.Covering.{IsUnionTo}
 use Rattle.depth_sweep.proofs.runs.runs_within.Given as goal
 
 abbrev pub invariant-loop-rect : goal.invariant-loop-rect
-invariant-loop-rect l = record { cells : IsUnionTo l.skyline l.rect-items l.rect-index; looks : l.left + l.rect-index ≤ l.initial.left }
+invariant-loop-rect l = record {
+  cells : IsUnionTo l.skyline l.rect-items l.rect-index;
+  looks : l.left + l.rect-index ≤ l.initial.left;
+  sides : HasSides (sides_of l.rect-items) l.skyline;
+  few : l.initial.left ≤ l.left + l.rect-index * (2 * length l.rect-items + 1);
+}

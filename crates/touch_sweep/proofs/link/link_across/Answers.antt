@@ -1,6 +1,7 @@
 use Rattle.std.proofs.Common.{◌∙◌, refl, ap, arith, length, List}
 use Rattle.touch_sweep.specs.inside.Strips.{crosses}
 use Rattle.touch_sweep.proofs.SearchSteps.{IsByRow-filter}
+use Rattle.touch_sweep.proofs.LinkLaws.{links_thinned}
 use Rattle.touch_sweep.proofs.LinkSteps.{column_across}
 use Rattle.touch_sweep.proofs.WorkLaws.{filter_few}
 use Rattle.touch_sweep.specs.declared.numbered.Numbered.{Numbered}
@@ -17,11 +18,11 @@ join-requires c =
     }
 
 pub returns-clause-across : goal.returns-clause-across
-returns-clause-across c = rw (c.as_slice.ensures.value, c.in_ok-across.ensures.across) at c.in_ok-join.ensures.joined
+returns-clause-across c = links_thinned (rw (c.as_slice.ensures.value, c.in_ok-across.ensures.across) at c.in_ok-join.ensures.joined) c.in_ok-thin.ensures.joined
 
 pub returns-clause-few : goal.returns-clause-few
 returns-clause-few c =
     let low = c.args.strip.low in let high = c.args.strip.high in
     let across = ap (λ (xs : List Numbered). length xs) (c.as_slice.ensures.value ∙ c.in_ok-across.ensures.across) in
     let fewer = filter_few (crosses low high) c.args.spans.now in
-    let joined = c.in_ok-join.ensures.few in omega arith
+    let joined = c.in_ok-join.ensures.few in let thinned = c.in_ok-thin.ensures.few in omega arith

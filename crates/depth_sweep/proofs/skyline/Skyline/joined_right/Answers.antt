@@ -18,6 +18,7 @@ returns-in-Some c =
     joined c.args.self.now c.take_out.new.self c.in-Some.right c.args.rect c.new.result c.requires.room c.take_out.ensures
     (both_turned c.args.rect c.in-Some.right c.new.result (both_abutting c.args.rect c.in-Some.right c.new.result meet (omega (arith, ints)) (omega (arith, ints))
     (omega (arith, ints)) (omega (arith, ints)) (omega (arith, ints, c.if-right-rect.true)) (omega (arith, ints, c.if-right-rect-2.true))))
+    (active_at c.args.self.now _ c.in-Some.right c.requires.sound (sym c.get.ensures.value ∙ sym c.copied.ensures ∙ c.in-Some.is))
 
 pub take_out-requires-clause-is_active : goal.take_out-requires-clause-is_active
 take_out-requires-clause-is_active c = active_at c.args.self.now _ c.in-Some.right c.requires.sound (sym c.get.ensures.value ∙ sym c.copied.ensures ∙ c.in-Some.is)
