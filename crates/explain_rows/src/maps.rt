@@ -55,12 +55,6 @@ const ROWS: &[(&[u8], &str)] = &[
          there stands, of the kind string: \"b\"\n  \
          metals: 'a'\n",
     ),
-    (
-        b"version = 1\nradii = [1]\nweights = [1]\n[[metal]]\nname = \"a\"\npairs = [[1, 0]]\n\
-          [[terminal]]\nmetal = \"a\"\nx = 0\ny = 0\n",
-        "error 60 at 7\n\
-         map 'm', `terminal`: terminals are not supported yet; leave them out\n",
-    ),
 ];
 
 #[test]
