@@ -12,7 +12,7 @@ use Rattle.fault_model.specs.Faults.{IsCellsOpen, IsSpared}
 use Rattle.map_model.specs.MapNames.{LayerMap}
 use Rattle.net_extract.specs.AnchoredIslands.{rects_of_island, anchors_of_island, IsIslandNumbered, AreAnchoredIslands}
 use Rattle.net_extract.specs.Extraction.{AreNetsOf}
-use Rattle.net_extract.specs.NetLists.{NetLists, IsIslandCell, pieces_on}
+use Rattle.net_extract.specs.NetLists.{NetLists, IsIslandCell, places_of}
 use Rattle.net_extract.specs.declared.pieces.Anchor.{Anchor}
 use Rattle.net_extract.proofs.AnchoredLaws.{island_cell, in_rects, anchor_at, on_pieces}
 use Rattle.lists.proofs.Containing.{Contains-cons_cases, Contains-head, Contains-none, Contains-tail}
@@ -91,7 +91,8 @@ module _ (layer_map : LayerMap) (lists : List (List Rect)) (nets : NetLists) (ar
       let a = anchor_at nets metal i d among in
       let pair : ℕ → Cell → ℕ × Cell = λ m c. (m, c) in
       let listed = Contains-map (λ (anchor : Anchor). pair anchor.metal anchor.cell) nets.anchors a.anchor a.among in
-      subst (λ ts. Contains ts (pair metal d)) are.anchors (subst (λ m. Contains _ (pair m d)) a.on_metal (subst (λ c. Contains _ (pair a.anchor.metal c)) a.at listed))
+      let same : pair a.anchor.metal a.anchor.cell ≡ pair metal d = ap (λ m. pair m a.anchor.cell) a.on_metal ∙ ap (pair metal) a.at in
+      subst (λ ts. Contains ts (pair metal d)) are.anchors (subst (Contains (places_of nets)) same listed)
 
   -- a terminal of the metal, as an anchor of an island
   record IsAnchor (d : Cell) : Type 0 where
