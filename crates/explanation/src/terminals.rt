@@ -36,8 +36,8 @@ pub fn known_terminals(alloc: Global, map: &Map) -> Result<Vec<Known>, NoMemory>
 
 /// Notes the terminals that a rectangle of the metal covers, among terminals in this order.
 pub fn note_covered(known: &mut [Known], metal: u32, rect: Rect) {
-    let first = known
-        .partition_point(|one| one.metal < metal || one.metal == metal && one.cell.i < rect.x0);
+    let first = known.partition_point(|one| one.metal < metal
+        || one.metal == metal && one.cell.i < rect.x0);
     for k in first..known.len() {
         let one = known[k];
         if one.metal != metal || one.cell.i >= rect.x1 {

@@ -153,8 +153,7 @@ module _ (layer_map : LayerMap) (lists : List (List Rect)) (nets : NetLists) (ar
         let q_on : IsOn (IsIslandCell nets metal b.island) t.1 = (o.other, t.3.1, b.on) in
         let same = (are.islands metal i b.island t.0 t.1 p_on q_on).1 t.4 in
         let other_among = subst (λ k. Contains (anchors_of_island nets metal k) o.other) (sym same) b.among in
-        let joined = are.facts.connected metal i t.0 t.1 p_on (subst (λ k. IsOn (IsIslandCell nets metal k) t.1) (sym same) q_on) in
-        (
+        let joined = are.facts.connected metal i t.0 t.1 p_on (subst (λ k. IsOn (IsIslandCell nets metal k) t.1) (sym same) q_on) in (
           i,
           record {
             many = two_different (anchors_of_island nets metal i) o.one o.other a.among other_among o.different;

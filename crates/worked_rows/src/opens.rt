@@ -148,11 +148,7 @@ const OFF: &[(&[Plate], &[u8], Want)] = &[
     ),
     (&[WIRE, SECOND], SECOND_OFF, Want::BadLayout(50, 1)),
     // a wire that ends in front of the second terminal
-    (
-        &[(1, 0, (0, 0, 19, 2))],
-        RADIUS_1,
-        Want::BadLayout(50, 1),
-    ),
+    (&[(1, 0, (0, 0, 19, 2))], RADIUS_1, Want::BadLayout(50, 1)),
     // nothing is covered
     (&[], RADIUS_1, Want::BadLayout(50, 0)),
 ];
