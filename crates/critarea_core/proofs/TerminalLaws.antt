@@ -1,6 +1,6 @@
 -- rows on a subject, where its terminals are on their metals, and the first terminal that is not
-use Rattle.std.proofs.Common.{ℕ, ◌≡◌, ◌≢◌, ◌≤◌, List, length, refl, sym, ap, subst, Ok, Err, Vec, All}
-use Rattle.lists.proofs.Words.{Global}
+use Rattle.std.proofs.Common.{ℕ, ◌≡◌, ◌≢◌, ◌≤◌, List, length, get_or, refl, sym, ap, subst, Ok, Err, Vec, All}
+use Rattle.lists.proofs.Words.{Global, enumerate_from}
 use Rattle.first_refusal.specs.Answers.{Answers, gives, refuses, no_memory}
 use Rattle.first_refusal.specs.Checks.{all_hold, one_fails}
 use Rattle.first_refusal.specs.Outcomes.{refused}
@@ -26,12 +26,15 @@ module _ (layer_map : LayerMap) (layers : Layers) (subject : Subject) (laid : Ar
   abbrev lists : List (List Rect)
   lists = layers.lists.items
 
+  abbrev numbered_terminals : List (ℕ × (ℕ × Cell))
+  numbered_terminals = enumerate_from 0 subject.layer_map.terminals
+
   -- terminals that are on their metals by the lists are so by the shapes
   terminals_on : (numbered : List (ℕ × (ℕ × Cell))) → All (IsOnItsMetal lists) numbered → All (IsTerminalOn subject) numbered
-  terminals_on numbered all k d small = (laid.layers.covers _ _).0 (all k d small)
+  terminals_on numbered all k d small = let one = get_or numbered k d in (laid.layers.covers one.1.0 one.1.1).0 (all k d small)
 
   by_rows : (rows : Vec Row Global) → Answers Memory (ComeToRows subject.layer_map lists) (Ok rows) → length rows.items ≤ MOST_ROWS → Finds (TerminalsComeTo subject) HasRows (Ok rows)
-  by_rows rows (gives (all_hold all are)) few = gives (gives_thing {v = subject} (all_hold (terminals_on _ all) refl) (record {
+  by_rows rows (gives (all_hold all are)) few = gives (gives_thing {v = subject} (all_hold (terminals_on numbered_terminals all) refl) (record {
     are_rows = rows_follow subject.layer_map (IsCoveredIn lists) (IsCoveredOn subject.layer_map subject.routes) laid.layers.covers rows.items are;
     few = few;
   }))
@@ -43,8 +46,8 @@ module _ (layer_map : LayerMap) (layers : Layers) (subject : Subject) (laid : Ar
       before = q.is_first.before;
       after = q.is_first.after;
       parts = q.is_first.parts;
-      all_before = terminals_on _ q.is_first.all_before;
-      fails = λ on. q.is_first.fails ((laid.layers.covers _ _).1 on);
+      all_before = terminals_on q.is_first.before q.is_first.all_before;
+      fails = λ on. q.is_first.fails ((laid.layers.covers q.check.1.0 q.check.1.1).1 on);
     };
     is_its_refusal = ap of_net_fault q.is_its_refusal;
   })

@@ -1,4 +1,4 @@
--- rows by amounts, and what rows of a layer map without cuts and terminals stand on
+-- rows by amounts, and what is covered alike has the same rows
 use Rattle.std.proofs.Common.{ℕ, ◌≡◌, sym, subst, List, [], ◌∷◌, map, ◌↔◌}
 use Rattle.lists.proofs.Words.{AllZip}
 use Rattle.geo_core.specs.declared.plane.Cell.{Cell}

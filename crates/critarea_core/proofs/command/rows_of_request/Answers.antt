@@ -22,6 +22,3 @@ returns-clause-started g c words asked =
     let map = map_found told c.args.request.now _ _ c.in-Ok.map c.in-Ok.ensures.found in
     starts_both words told c.args.request.now asked (layer_map_of c.in-Ok.map) map.1 c.as_slice-layout.result.now (rw c.as_slice-layout.ensures c.layout_of.ensures)
     c.in-Ok.ensures.starts c.rows_of_file.ensures.starts
-
-pub rows_of_file-requires : goal.rows_of_file-requires
-rows_of_file-requires g c = c.type_bounds.sync-typeof-rt
