@@ -6,6 +6,7 @@
 pub mod boxes;
 pub mod footprints;
 pub mod outside;
+mod ranks;
 pub mod span;
 pub mod touching;
 

@@ -19,6 +19,7 @@ impl HalfBox {
     ghost use Rattle.geo_core.specs.Intervals.{IsIn};
     ghost use Rattle.geo_core.specs.declared.plane.Half.{Half};
     ghost use Rattle.half_boxes.specs.HalfBoxes.{HasHalf, HasHalfIn};
+    ghost use Rattle.half_boxes.specs.inside.Parts.{IsInSpan};
 
     /// What the box has outside the hole.
     pub fn outside(self, hole: HalfBox) -> Outside
@@ -48,7 +49,9 @@ impl HalfBox {
     }
 
     /// The box with these rows in place of its own, where there are some.
-    fn rows_at(self, rows: Option<HalfSpan>) -> Option<HalfBox> {
+    fn rows_at(self, rows: Option<HalfSpan>) -> Option<HalfBox>
+        ensures { (h : Half) → HasHalfIn result h ↔ (IsIn self.columns.low self.columns.high h.u × IsInSpan rows h.v) }
+    {
         let rows = rows?;
         Some(HalfBox {
             columns: self.columns,
@@ -57,7 +60,9 @@ impl HalfBox {
     }
 
     /// The box with these columns in place of its own, where there are some.
-    fn columns_at(self, columns: Option<HalfSpan>) -> Option<HalfBox> {
+    fn columns_at(self, columns: Option<HalfSpan>) -> Option<HalfBox>
+        ensures { (h : Half) → HasHalfIn result h ↔ (IsInSpan columns h.u × IsIn self.rows.low self.rows.high h.v) }
+    {
         let columns = columns?;
         Some(HalfBox {
             columns,

@@ -3,8 +3,10 @@ ghost use Rattle.classes.specs.Classes.{AreJoined};
 ghost use Rattle.half_boxes.specs.HalfBoxes.{AreTouchingBoxes};
 
 use super::boxes::HalfBox;
+use super::ranks::ranked;
 use geo_core::NoMemory;
 use std::alloc::Global;
+use touch_sweep::touch_links;
 
 /// Some pairs of boxes that touch, by which all that touch are joined: where two boxes touch, a chain of the pairs leads
 /// from the one to the other. Boxes touch where they have a half square in common, or two half squares that share an
@@ -21,7 +23,6 @@ pub fn links_of(alloc: Global, boxes: &[HalfBox]) -> Result<Vec<(usize, usize)>,
     ensures few { IfOk result (λ pairs. (levels : ℕ) → length boxes.now ≤ 2 ^ levels →
         length pairs.items ≤ 51 * length boxes.now * (levels + 1)) }
 {
-    let _pairs: Vec<(usize, usize)> = Vec::new(alloc);
-    let _count = boxes.len();
-    Err(NoMemory)
+    let rects = ranked(alloc, boxes)?;
+    touch_links(alloc, rects.as_slice())
 }

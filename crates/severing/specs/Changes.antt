@@ -1,17 +1,17 @@
 -- where a defect that moves along an axis comes to an edge, or past it
-use Rattle.std.specs.Prelude.{ℤ, pos, ℕ, List, Contains, ◌+ℤ◌, ◌-ℤ◌, ◌<ℤ◌, ◌≤ℤ◌, ◌≡◌, ◌⊎◌}
+use Rattle.std.specs.Prelude.{ℤ, pos, ℕ, List, Contains, ◌+ℤ◌, ◌-ℤ◌, ◌<ℤ◌, ◌≤ℤ◌, ◌⊎◌, ◌↔◌}
 use Rattle.geo_core.specs.Intervals.{IsWithin}
+use Rattle.geo_core.specs.declared.plane.Cell.{Cell}
 use Rattle.geo_core.specs.declared.plane.Half.{Half}
 use Rattle.geo_core.specs.declared.plane.Rect.{Rect}
 use Rattle.geo_core.specs.declared.axis.Axis.{Axis}
 use Rattle.geo_core.specs.declared.axis.Axis.TheVariants.{X, Y}
-use Rattle.geo_core.specs.Plane.{low_along, high_along}
-use Rattle.fault_model.specs.FaultNames.{IslandLists}
+use Rattle.geo_core.specs.Plane.{Has, low_along, high_along}
+use Rattle.fault_model.specs.FaultNames.{IslandLists, IsOn, LiesIn}
 use Rattle.half_boxes.specs.HalfBoxes.{HasHalf}
 use Rattle.half_boxes.specs.Footprints.{IsReached, IsAlwaysHit}
 use Rattle.half_boxes.specs.declared.boxes.HalfBox.{HalfBox}
 use Rattle.half_boxes.specs.declared.span.HalfSpan.{HalfSpan}
-use Rattle.severing.specs.Severing.{IsBoxOf}
 
 -- along one axis the defect of this side at the place `x` is the first whose high end is at the edge or past it
 pub record Reaches (edge : ℤ) (side : ℕ) (x : ℤ) : Type 0 where
@@ -46,9 +46,16 @@ IsFar zone side one = (h g : Half) → HasHalf one h → IsReached zone side g �
 abbrev pub IsInCore : Rect → ℕ → HalfBox → Type 0
 IsInCore zone side one = (h : Half) → HasHalf one h → IsAlwaysHit zone side h
 
--- the list has the boxes of the island whose ends matter to defects of the zone
-abbrev pub HasNear : IslandLists → Rect → ℕ → List HalfBox → Type 0
-HasNear island zone side near = (one : HalfBox) → IsBoxOf island one → Contains near one ⊎ (IsFar zone side one ⊎ IsInCore zone side one)
+-- a box has just the half squares of the set, and the list has it, or its ends do not matter to defects of the zone
+pub record IsNoted (zone : Rect) (side : ℕ) (near : List HalfBox) (set : Half → Type 0) : Type 0 where
+  pub one : HalfBox
+  pub same : (h : Half) → HasHalf one h ↔ set h
+  pub noted : Contains near one ⊎ (IsFar zone side one ⊎ IsInCore zone side one)
+
+-- the list has the boxes of the island's rectangles and of its anchors' cells whose ends matter to defects of the zone
+pub record HasNear (island : IslandLists) (zone : Rect) (side : ℕ) (near : List HalfBox) : Type 0 where
+  pub pieces : (piece : Rect) → Contains island.pieces piece → IsNoted zone side near (IsOn (Has piece))
+  pub anchors : (cell : Cell) → Contains island.anchors cell → IsNoted zone side near (λ h. LiesIn h cell)
 
 -- at none of the boxes do the defects of the zone change along the axis
 abbrev pub IsSteady : Axis → Rect → ℕ → List HalfBox → Type 0

@@ -1,13 +1,10 @@
 -- which terminals are parted where some half squares are removed
-use Rattle.std.specs.Prelude.{ℕ, List, Contains, Some, slice_get, length, ◌<◌, ◌≡◌, ◌≢◌, ◌⊎◌, ◌↔◌}
-use Rattle.geo_core.specs.Plane.{Has, IsInUnion}
+use Rattle.std.specs.Prelude.{ℕ, List, Contains, Some, slice_get, length, ◌<◌, ◌≡◌, ◌≢◌}
+use Rattle.geo_core.specs.Plane.{IsInUnion}
 use Rattle.geo_core.specs.declared.plane.Cell.{Cell}
 use Rattle.geo_core.specs.declared.plane.Half.{Half}
-use Rattle.geo_core.specs.declared.plane.Rect.{Rect}
 use Rattle.fault_model.specs.FaultNames.{IsOn, LiesIn, Walk, IslandLists}
 use Rattle.fault_model.specs.Faults.{IsCellsOpen}
-use Rattle.half_boxes.specs.HalfBoxes.{HasHalf}
-use Rattle.half_boxes.specs.declared.boxes.HalfBox.{HalfBox}
 
 -- the half square is of the metal, and not removed
 abbrev pub IsLeft : (Half → Type 0) → (Half → Type 0) → Half → Type 0
@@ -39,8 +36,3 @@ pub record IsSomeOpen (islands : List IslandLists) (side : ℕ) (c : Cell) : Typ
   pub island : IslandLists
   pub among : Contains islands island
   pub is_open : IsCellsOpen (IsInUnion island.pieces) (Contains island.anchors) side c
-
--- the box is that of a rectangle of the island, or of an anchor's cell
-pub data IsBoxOf (island : IslandLists) (one : HalfBox) : Type 0 where
-  of_piece : (piece : Rect) → Contains island.pieces piece → ((h : Half) → HasHalf one h ↔ IsOn (Has piece) h) → IsBoxOf island one
-  of_anchor : (cell : Cell) → Contains island.anchors cell → ((h : Half) → HasHalf one h ↔ LiesIn h cell) → IsBoxOf island one

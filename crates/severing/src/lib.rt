@@ -6,6 +6,6 @@
 pub mod laws;
 
 pub use laws::{
-    boxes_and_defects_sever, defects_sever_islands, larger_removals_sever, steady_columns_sever_alike,
-    steady_rows_sever_alike,
+    boxes_and_defects_sever, defects_sever_islands, larger_removals_sever,
+    steady_columns_sever_alike, steady_rows_sever_alike,
 };

@@ -10,11 +10,11 @@ use Rattle.fault_model.proofs.CellLaws.{Contains-cells_of}
 use Rattle.fault_model.proofs.TallyLaws.{Tally-none, Tally-same, Tally-same_all}
 use Rattle.lists.proofs.Containing.{Contains-head, Contains-tail}
 use Rattle.depth_sweep.specs.Runs.{IsInTwo}
+use Rattle.window_parts.specs.WindowParts.{AreParts}
+use Rattle.window_parts.proofs.PartLaws.{few_tallied, parts_tally, whole_tally}
 use Rattle.short_area.specs.Labels.{TouchesTwoLabels}
 use Rattle.short_area.specs.inside.LabelRuns.{AreRunsOf}
-use Rattle.short_area.specs.inside.Windows.{AreParts}
 use Rattle.short_area.specs.inside.Zones.{AreAlikeIn, AreSplit, AreZonesOf, HaveNoThird, HaveSameTwo, IsCountOf, IsInLabel, IsInTwoLabels, IsWholeIn}
-use Rattle.short_area.proofs.TallyParts.{few_cells, few_tallied, parts_tally}
 use Rattle.short_area.proofs.RunLaws.{union_append}
 use Rattle.short_area.proofs.Touching.{two_touched}
 use Rattle.short_area.proofs.ZoneLaws.{beside_whole, both_of_two, two_alike}
@@ -47,18 +47,12 @@ module _ (P Q R : Cell → Type 0) (either : (c : Cell) → R c ↔ (P c ⊎ Q c
 pub count_of_none : (zones : List Labelled) (window : Rect) → ((c : Cell) → IsInTwoLabels zones c → ⊥) → IsCountOf zones window 0
 count_of_none zones window never = record { tally = Tally-none (cells_of window) (λ c h. never c); small = omega arith }
 
--- the tally of a property that holds of each cell of the list
-Tally-each : {P : Cell → Type 0} (cells : List Cell) → ((c : Cell) → Contains cells c → P c) → Tally P cells (length cells)
-Tally-each [] each = none
-Tally-each (c ∷ cs) each = hit (each c (Contains-head c cs)) (Tally-each cs (λ d h. each d (Contains-tail c cs d h)))
-
 pub count_of_all : (zones : List Labelled) (window : Rect) (one other n : ℕ) → IsWholeIn window zones one → IsWholeIn window zones other → one ≢ other → n ≡ length (cells_of window)
     → IsCountOf zones window n
 count_of_all zones window one other n h k different e =
-    let in_two : (c : Cell) → Contains (cells_of window) c → IsInTwoLabels zones c = λ c at.
-    let has = (Contains-cells_of window c).0 at in record { one = one; other = other; in_one = h c has; in_other = k c has; different = different } in
-    let few = few_cells window in
-    record { tally = subst (Tally (IsInTwoLabels zones) (cells_of window)) (sym e) (Tally-each (cells_of window) in_two); small = omega arith }
+    let in_two : (c : Cell) → Has window c → IsInTwoLabels zones c = λ c has. record { one = one; other = other; in_one = h c has; in_other = k c has; different = different } in
+    let whole = subst (Tally (IsInTwoLabels zones) (cells_of window)) (sym e) (whole_tally window in_two) in
+    record { tally = whole; small = few_tallied window n whole }
 
 -- what is counted where the same cells are
 pub count_by : {E : Type 0} (P : Cell → Type 0) (zones : List Labelled) (window : Rect) (result : Result ℕ E) → ((c : Cell) → Has window c → P c ↔ IsInTwoLabels zones c)
@@ -94,14 +88,14 @@ count_small zones window (Ok n) count = count.small
 count_small zones window (Err e) count = tt
 
 -- the counts of two parts add up
-pub count_of_parts : (zones before behind : List Labelled) (axis : Axis) (window first second : Rect) (m n : ℕ) → AreParts axis window first second → AreAlikeIn first zones before
+pub count_of_parts : (zones before behind : List Labelled) (window first second : Rect) (m n : ℕ) → AreParts window first second → AreAlikeIn first zones before
     → AreAlikeIn second zones behind
     → IsCountOf before first m → IsCountOf behind second n → IsCountOf zones window (m + n)
-count_of_parts zones before behind axis window first second m n parts here there one other =
+count_of_parts zones before behind window first second m n parts here there one other =
     let some = Tally-same (cells_of first) m (λ c h. two_alike c before zones (λ label. here c ((Contains-cells_of first c).0 h) label)) one.tally in
     let rest = Tally-same (cells_of second) n (λ c h. two_alike c behind zones (λ label. there c ((Contains-cells_of second c).0 h) label)) other.tally in
-    let sum = parts_tally (IsInTwoLabels zones) axis window first second m n parts some rest in
-    record { tally = sum; small = few_tallied (IsInTwoLabels zones) window (m + n) sum }
+    let sum = parts_tally window first second parts m n some rest in
+    record { tally = sum; small = few_tallied window (m + n) sum }
 
 -- of two labels: the cells of the one and those of the other, less those of either
 pub count_apart : (zones : List Labelled) (window : Rect) (one other : ℕ) (own others all : List Rect) (m n k : ℕ) → HaveNoThird zones one other → AreSplit zones one own others
@@ -115,7 +109,7 @@ count_apart zones window one other own others all m n k alone split either s t u
     let two = both_of_two c zones one other alone in
     (λ h. two.0 ((split.own_cells c).0 h.0, (split.other_cells c).0 h.1), λ h. let p = two.1 h in ((split.own_cells c).1 p.0, (split.other_cells c).1 p.1))) both.tally in
     let moved = subst (Tally (IsInTwoLabels zones) (cells_of window)) same tally in
-    (omega arith, record { tally = moved; small = few_tallied (IsInTwoLabels zones) window (m + n - k) moved })
+    (omega arith, record { tally = moved; small = few_tallied window (m + n - k) moved })
 
 -- the same, where the lists are known by other names
 pub count_by_union : (zones : List Labelled) (window : Rect) (one other : ℕ) (own others first second third joined all : List Rect) (m n k : ℕ) → HaveNoThird zones one other

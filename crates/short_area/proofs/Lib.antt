@@ -1,5 +1,3 @@
-pub mod TallyParts
-pub mod SizeLaws
 pub mod ZoneLaws
 pub mod Touching
 pub mod Counting

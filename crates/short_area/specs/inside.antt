@@ -1,4 +1,3 @@
-pub mod Windows
 pub mod Zones
 pub mod LabelRuns
 pub mod AreaSteps

@@ -4,12 +4,13 @@ ghost use Rattle.fault_model.specs.Areas.{Tally, cells_of};
 ghost use Rattle.short_area.specs.Labels.{TouchesTwoLabels};
 ghost use Rattle.short_area.specs.inside.Zones.{IsCountOf};
 
-use super::halves::{halves, parts_at};
+use super::halves::halves;
 use super::steps::Step;
 use super::ways::next_step;
 use super::zones::zones_of;
 use geo_core::{Labelled, NoMemory, Rect};
 use std::alloc::Global;
+use window_parts::parts_at;
 
 /// How many cells of the window are the centre of a defect that touches pieces of two labels. The defect is the square
 /// of side `2r` round the cell's centre, in database units. A cell counts once, whether it is near two labels or more,

@@ -1,10 +1,10 @@
 ghost use Rattle.std.specs.Prelude.{◌≡◌, ◌⊎◌, IfSome};
 ghost use Rattle.geo_core.specs.Axes.{low_along, high_along};
-ghost use Rattle.geo_core.specs.Intervals.{IsIn};
 ghost use Rattle.geo_core.specs.declared.axis.Axis.{Axis};
-ghost use Rattle.short_area.specs.inside.Windows.{IsBetween};
+ghost use Rattle.window_parts.specs.WindowParts.{IsBetween};
 
 use geo_core::{Axis, Interval, Labelled, Rect};
+use window_parts::{distance_from_middle, half_way, inner_half_way, is_broad, longer_first};
 
 /// How zones lie about the middle of a window.
 #[derive(Clone, Copy)]
@@ -27,9 +27,6 @@ const SHARE: usize = 8;
 
 /// So many broad zones over the middle soon have all cells of the parts.
 const BROAD: usize = 8;
-
-/// A broad zone is at most so many times as wide as high, or as high as wide.
-const BREADTH: u64 = 4;
 
 impl Spread {
     /// Counts one zone more.
@@ -62,8 +59,8 @@ impl Spread {
 
 /// How the zones lie about the middle of the window.
 pub fn spread_of(zones: &[Labelled], window: Rect) -> Spread {
-    let x = middle_of(window.columns());
-    let y = middle_of(window.rows());
+    let x = half_way(window.columns());
+    let y = half_way(window.rows());
     let mut spread = Spread {
         zones: 0,
         across: 0,
@@ -77,13 +74,6 @@ pub fn spread_of(zones: &[Labelled], window: Rect) -> Spread {
         spread = spread.add(across, up, is_broad(rect));
     }
     spread
-}
-
-/// Whether neither side is much longer than the other.
-fn is_broad(rect: Rect) -> bool {
-    let width = u64::from(rect.x1.abs_diff(rect.x0));
-    let height = u64::from(rect.y1.abs_diff(rect.y0));
-    width <= BREADTH * height && height <= BREADTH * width
 }
 
 /// Whether one label has most of the zones: it leads all others together by half of them. The label that is left over
@@ -102,30 +92,6 @@ pub fn has_leader(zones: &[Labelled]) -> bool {
         }
     }
     zones.len() / 2 <= lead
-}
-
-/// A number of the interval in its middle.
-fn middle_of(places: Interval) -> i32
-    ensures { IsIn places.low places.high result }
-{
-    places.low + (places.high - places.low) / 2
-}
-
-/// The middle of the places, if it has places on both sides.
-fn inner_middle(places: Interval) -> Option<i32>
-    ensures { IfSome result (IsBetween places.low places.high) }
-{
-    let middle = middle_of(places);
-    if places.low < middle {
-        return Some(middle);
-    }
-    None
-}
-
-/// Twice the distance of the place from the middle of the places.
-fn distance_from_middle(places: Interval, place: i32) -> u64 {
-    let middle = i64::from(places.low) + i64::from(places.high);
-    (2 * i64::from(place)).abs_diff(middle)
 }
 
 /// This place, where it lies between the ends of the places and nearer to their middle than the one found before.
@@ -158,14 +124,6 @@ fn central_edge(zones: &[Labelled], axis: Axis, places: Interval) -> Option<i32>
     nearest
 }
 
-/// The axis of the longer side, and the other one.
-fn longer_first(window: Rect) -> (Axis, Axis) {
-    if window.x1.abs_diff(window.x0) < window.y1.abs_diff(window.y0) {
-        return (Axis::Y, Axis::X);
-    }
-    (Axis::X, Axis::Y)
-}
-
 /// The axis along which fewer zones lie on both sides of the middle, and the other one.
 fn less_crossed_first(window: Rect, spread: Spread) -> (Axis, Axis) {
     if spread.across < spread.up {
@@ -196,10 +154,10 @@ fn middle_to_halve_at(window: Rect, spread: Spread) -> Option<(Axis, i32)>
     ensures { IfSome result (λ cut. IsBetween (low_along cut.0 window) (high_along cut.0 window) cut.1) }
 {
     let (first, second) = less_crossed_first(window, spread);
-    if let Some(place) = inner_middle(window.along(first)) {
+    if let Some(place) = inner_half_way(window.along(first)) {
         return Some((first, place));
     }
-    match inner_middle(window.along(second)) {
+    match inner_half_way(window.along(second)) {
         None => None,
         Some(place) => Some((second, place)),
     }

@@ -1,4 +1,4 @@
-ghost use Rattle.std.specs.Prelude.{ℕ, ◌≡◌, ◌<◌, ◌^◌, IfOk, IfSome, IsTrue, length};
+ghost use Rattle.std.specs.Prelude.{ℕ, ◌≡◌, ◌<◌, ◌^◌, IfOk, IfSome, IsTrue};
 ghost use Rattle.fault_model.specs.Areas.{Tally, cells_of};
 ghost use Rattle.depth_sweep.specs.Runs.{IsInTwo};
 ghost use Rattle.short_area.specs.inside.Zones.{HaveNoThird, HaveSameTwo, IsCountOf, IsWholeIn, MeetsOther};
@@ -11,18 +11,10 @@ use std::alloc::Global;
 use std::marker::Brand;
 use std::sync::ledger::{Blank, Ledger};
 use union_area::union_area;
+use window_parts::count_of;
 
 /// So many looks for each zone are few.
 const LOOKS_EACH: usize = 4;
-
-/// How many cells the rectangle has.
-fn count_of(rect: Rect) -> u64
-    ensures { result ≡ length (cells_of rect) }
-{
-    let width = rect.x1.abs_diff(rect.x0);
-    let height = rect.y1.abs_diff(rect.y0);
-    u64::from(height) * u64::from(width)
-}
 
 /// The count, where it needs no halving and no sweep for two: fewer than two labels, or a label that has all cells of the
 /// window. Then the other labels count, each cell once.

@@ -9,7 +9,7 @@ use Rattle.fault_model.proofs.TallyLaws.{Tally-none, Tally-same}
 -- crates above cite these from here
 pub use Rattle.depth_sweep.proofs.UnionSteps.{in_union, union_none, union_push}
 use Rattle.depth_sweep.proofs.UnionSteps.{among, union_more}
-use Rattle.union_area.proofs.PartLaws.{Tally-each}
+use Rattle.window_parts.proofs.PartLaws.{whole_tally}
 
 -- the one list has the cells of the other list that lie in the window
 abbrev pub AreClipped : List Rect → Rect → List Rect → Type 0
@@ -63,4 +63,4 @@ module _ (rects : List Rect) (window : Rect) (inside : List Rect) (clipped : Are
 
   -- all of the window is left
   pub tally_all : ((c : Cell) → Has window c → IsInUnion inside c) → Tally (IsInUnion rects) (cells_of window) (length (cells_of window))
-  tally_all filled = tally_clipped (length (cells_of window)) (Tally-each (cells_of window) (λ c listed. filled c ((Contains-cells_of window c).0 listed)))
+  tally_all filled = tally_clipped (length (cells_of window)) (whole_tally window filled)

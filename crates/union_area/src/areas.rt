@@ -1,15 +1,16 @@
 ghost use Rattle.std.specs.Prelude.{◌<◌, ◌^◌, ◌≡◌, IfOk, IfSome};
 ghost use Rattle.geo_core.specs.Unions.{IsInUnion};
 ghost use Rattle.fault_model.specs.Areas.{Tally, cells_of};
-ghost use Rattle.union_area.specs.inside.WindowParts.{AreParts};
+ghost use Rattle.window_parts.specs.WindowParts.{AreParts};
 
 use super::survey::Survey;
-use super::windows::{clipped, count_of, is_filled};
+use super::windows::{clipped, is_filled};
 use depth_sweep::area_once;
 use geo_core::{NoMemory, Rect, Steps};
 use std::alloc::Global;
 use std::marker::Brand;
 use std::sync::ledger::{Blank, Ledger};
+use window_parts::count_of;
 
 /// So many rectangles are swept at once.
 const FEW: usize = 64;

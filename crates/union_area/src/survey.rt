@@ -1,6 +1,8 @@
-use super::windows::{half_way, halved_along, parts_at};
 use geo_core::{Axis, Interval, Rect};
 use std::marker::Model;
+use window_parts::{
+    distance_from_middle, half_way, halved_along, is_broad, longer_first, parts_at,
+};
 
 /// Where so many broad rectangles lie over the middle, parts of the window are soon covered whole.
 const MANY_BROAD: usize = 8;
@@ -38,12 +40,6 @@ impl Model for Survey {
     ghost view = { λ survey. survey.window };
 }
 
-/// How far the place is from the middle of the places, twice.
-fn distance_from_middle(places: Interval, place: i32) -> u64 {
-    let middle = i64::from(places.low) + i64::from(places.high);
-    (2 * i64::from(place)).abs_diff(middle)
-}
-
 /// The one of two places that is nearer to the middle.
 fn nearer(places: Interval, place: i32, other: i32) -> i32 {
     if distance_from_middle(places, other) < distance_from_middle(places, place) {
@@ -58,13 +54,6 @@ fn more_if(is_so: bool, count: usize) -> usize {
         return count.saturating_add(1);
     }
     count
-}
-
-/// Whether neither side is longer than four times the other.
-fn is_broad(rect: Rect) -> bool {
-    let width = u64::from(rect.x1.abs_diff(rect.x0));
-    let height = u64::from(rect.y1.abs_diff(rect.y0));
-    width <= 4 * height && height <= 4 * width
 }
 
 impl Middle {
@@ -97,7 +86,7 @@ impl Middle {
 
 impl Survey {
     ghost use Rattle.std.specs.Prelude.{◌≡◌, IfSome};
-    ghost use Rattle.union_area.specs.inside.WindowParts.{AreParts};
+    ghost use Rattle.window_parts.specs.WindowParts.{AreParts};
 
     /// Of no rectangles so far.
     pub fn of(window: Rect) -> Survey
@@ -143,7 +132,7 @@ impl Survey {
         if self.parts_well() {
             return self.halved();
         }
-        let (longer, shorter) = self.longer_first();
+        let (longer, shorter) = longer_first(self.window);
         if let Some(parts) = self.parts_at_edge(longer) {
             return Some(parts);
         }
@@ -179,14 +168,6 @@ impl Survey {
         Some(parts_at(self.window, axis, edge))
     }
 
-    /// The axis of the window's longer side, and the other one.
-    fn longer_first(&self) -> (Axis, Axis) {
-        if self.window.x1.abs_diff(self.window.x0) < self.window.y1.abs_diff(self.window.y0) {
-            return (Axis::Y, Axis::X);
-        }
-        (Axis::X, Axis::Y)
-    }
-
     /// The axis on which fewer rectangles lie on both sides of the middle, and the other one.
     fn clearer_first(&self) -> (Axis, Axis) {
         if self.columns.across < self.rows.across {
@@ -195,6 +176,6 @@ impl Survey {
         if self.rows.across < self.columns.across {
             return (Axis::Y, Axis::X);
         }
-        self.longer_first()
+        longer_first(self.window)
     }
 }

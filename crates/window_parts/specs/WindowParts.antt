@@ -1,10 +1,11 @@
 -- parts of a window
-use Rattle.std.specs.Prelude.{ℤ, ◌≡◌, ◌<ℤ◌, ◌↔◌, ◌⊎◌}
-use Rattle.geo_core.specs.Plane.{Has}
+use Rattle.std.specs.Prelude.{ℕ, ℤ, ◌≡◌, ◌<ℤ◌, ◌↔◌, ◌⊎◌, length}
+use Rattle.geo_core.specs.Plane.{Has, low_along, high_along}
 use Rattle.geo_core.specs.declared.axis.Axis.{Axis}
 use Rattle.geo_core.specs.declared.axis.Axis.TheVariants.{X, Y}
 use Rattle.geo_core.specs.declared.plane.Cell.{Cell}
 use Rattle.geo_core.specs.declared.plane.Rect.{Rect}
+use Rattle.fault_model.specs.FaultNames.{range}
 
 -- each cell of the window lies in one of the two rectangles and not in the other, and they have no other cells
 pub record AreParts (window first second : Rect) : Type 0 where
@@ -20,3 +21,16 @@ pub record IsBetween (low high place : ℤ) : Type 0 where
 abbrev pub AreInLine : Axis → Cell → Cell → Type 0
 AreInLine X c d = c.j ≡ d.j
 AreInLine Y c d = c.i ≡ d.i
+
+-- where the cell stands along the axis: its column, or its row
+abbrev pub place_along : Axis → Cell → ℤ
+place_along X c = c.i
+place_along Y c = c.j
+
+-- the line has the cells of the window that stand first along the axis: its left column, or its bottom row
+pub record IsFirstLine (axis : Axis) (window line : Rect) : Type 0 where
+  pub cells : (c : Cell) → Has line c ↔ (Has window c × (place_along axis c ≡ low_along axis window))
+
+-- how many places the window has along the axis: its columns, or its rows
+abbrev pub count_along : Axis → Rect → ℕ
+count_along axis window = length (range (low_along axis window) (high_along axis window))

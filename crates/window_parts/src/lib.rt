@@ -2,7 +2,9 @@
 #![tactic(auto)]
 
 pub mod laws;
+pub mod middles;
 pub mod parts;
 
 pub use laws::{lines_repeat, parts_are_smaller, tallies_of_parts_add, tallies_of_whole_windows};
-pub use parts::{count_of, first_line, parts_at};
+pub use middles::{distance_from_middle, half_way, inner_half_way, is_broad, longer_first};
+pub use parts::{count_of, first_line, halved_along, parts_at, places_along};

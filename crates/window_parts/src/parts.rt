@@ -1,9 +1,19 @@
-ghost use Rattle.std.specs.Prelude.{◌≡◌, ◌<◌, ◌^◌, length};
+ghost use Rattle.std.specs.Prelude.{◌≡◌, ◌<◌, ◌≤◌, ◌^◌, IfSome, length};
 ghost use Rattle.geo_core.specs.Axes.{low_along, high_along};
 ghost use Rattle.fault_model.specs.Areas.{cells_of};
-ghost use Rattle.window_parts.specs.WindowParts.{AreParts, IsBetween};
+ghost use Rattle.window_parts.specs.WindowParts.{AreParts, IsBetween, IsFirstLine, count_along};
 
+use super::middles::inner_half_way;
 use geo_core::{Axis, Interval, Rect};
+
+/// How many columns the window has, or how many rows.
+pub fn places_along(window: Rect, axis: Axis) -> u64
+    ensures count { result ≡ count_along axis window }
+    ensures small { result ≤ 2002000000 }
+{
+    let places = window.along(axis);
+    u64::from(places.high.abs_diff(places.low))
+}
 
 /// How many cells the window has.
 pub fn count_of(window: Rect) -> u64
@@ -12,9 +22,7 @@ pub fn count_of(window: Rect) -> u64
     // No edge of a rectangle is further than 1,001,000,000 from 0.
     ensures small { result < 2 ^ 63 }
 {
-    let width = window.x1.abs_diff(window.x0);
-    let height = window.y1.abs_diff(window.y0);
-    u64::from(height) * u64::from(width)
+    places_along(window, Axis::Y) * places_along(window, Axis::X)
 }
 
 /// The columns of the window before the place and the others, or its rows.
@@ -40,5 +48,28 @@ pub fn parts_at(window: Rect, axis: Axis, place: i32) -> (Rect, Rect)
             Rect::of(window.columns(), before),
             Rect::of(window.columns(), behind),
         ),
+    }
+}
+
+/// Two parts of the window, cut half way along the axis. There are none where it has one column, or one row.
+pub fn halved_along(window: Rect, axis: Axis) -> Option<(Rect, Rect)>
+    ensures { IfSome result (λ parts. AreParts window parts.0 parts.1) }
+{
+    let place = inner_half_way(window.along(axis))?;
+    Some(parts_at(window, axis, place))
+}
+
+/// The first column of the window, for the axis from left to right, or its first row, for that from bottom to top.
+pub fn first_line(window: Rect, axis: Axis) -> Rect
+    ensures { IsFirstLine axis window result }
+{
+    let places = window.along(axis);
+    let first = Interval {
+        low: places.low,
+        high: places.low + 1,
+    };
+    match axis {
+        Axis::X => Rect::of(first, window.rows()),
+        Axis::Y => Rect::of(window.columns(), first),
     }
 }

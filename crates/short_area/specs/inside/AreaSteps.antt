@@ -3,7 +3,7 @@ use Rattle.std.specs.Prelude.{List}
 use Rattle.geo_core.specs.Plane.{low_along, high_along}
 use Rattle.geo_core.specs.declared.plane.Labelled.{Labelled}
 use Rattle.geo_core.specs.declared.plane.Rect.{Rect}
-use Rattle.short_area.specs.inside.Windows.{IsBetween}
+use Rattle.window_parts.specs.WindowParts.{IsBetween}
 use Rattle.short_area.specs.inside.Zones.{IsCountOf}
 use Rattle.short_area.specs.declared.steps.Step.{Step}
 use Rattle.short_area.specs.declared.steps.Step.TheVariants.{Count, Halve}

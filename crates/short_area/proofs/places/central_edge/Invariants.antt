@@ -1,5 +1,5 @@
 use Rattle.std.proofs.Common.{IfSome}
-use Rattle.short_area.specs.inside.Windows.{IsBetween}
+use Rattle.window_parts.specs.WindowParts.{IsBetween}
 use Rattle.short_area.proofs.places.central_edge.Given as goal
 
 abbrev pub invariant-loop-zone : goal.invariant-loop-zone

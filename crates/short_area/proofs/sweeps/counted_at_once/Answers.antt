@@ -8,4 +8,4 @@ returns-in_default c = count_of_none c.args.zones.now c.args.window c.in_default
 pub returns-then-is_other_whole : goal.returns-then-is_other_whole
 returns-then-is_other_whole c =
     let other = c.if-is_other_whole.ensures refl in
-    count_of_all c.args.zones.now c.args.window c.in-Some-whole_label.label other.0 c.count_of.result c.in-Some-whole_label.ensures other.2 other.1 c.count_of.ensures
+    count_of_all c.args.zones.now c.args.window c.in-Some-whole_label.label other.0 c.count_of.result c.in-Some-whole_label.ensures other.2 other.1 c.count_of.ensures.count

@@ -3,7 +3,7 @@ use Rattle.lists.proofs.Words.{eqb-true, IfOk-weaker}
 use Rattle.geo_core.specs.Plane.{IsInUnion}
 use Rattle.fault_model.specs.FaultNames.{Tally, cells_of}
 use Rattle.union_area.proofs.ClipLaws.{AreClipped, tally_all, tally_clipped, tally_none}
-use Rattle.union_area.proofs.PartLaws.{few_cells, few_tallied, fewer_cells, parts_tally}
+use Rattle.window_parts.proofs.PartLaws.{few_tallied, fewer_cells, parts_tally}
 use Rattle.union_area.proofs.areas.+union_area.Goals as goal
 
 pub returns-then-is_empty-clause-tally : goal.returns-then-is_empty-clause-tally
@@ -14,10 +14,7 @@ returns-then-is_empty-clause-tally t c =
 pub returns-then-is_filled-clause-tally : goal.returns-then-is_filled-clause-tally
 returns-then-is_filled-clause-tally t c =
     let those = subst (AreClipped c.args.rects.now c.args.window) (sym c.as_slice-inside.ensures.value) c.in_ok-inside.ensures in
-    rw c.count_of.ensures (tally_all c.args.rects.now c.args.window c.as_slice-inside.result.now those (c.if-is_filled.ensures refl))
-
-pub returns-then-is_filled-clause-small : goal.returns-then-is_filled-clause-small
-returns-then-is_filled-clause-small t c = let few = few_cells c.args.window in let e = c.count_of.ensures in omega arith
+    rw c.count_of.ensures.count (tally_all c.args.rects.now c.args.window c.as_slice-inside.result.now those (c.if-is_filled.ensures refl))
 
 pub returns-in-None-clause-tally : goal.returns-in-None-clause-tally
 returns-in-None-clause-tally t c =

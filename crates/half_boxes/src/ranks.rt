@@ -1,0 +1,103 @@
+//! Boxes as rectangles of the plane of cells. Whether boxes touch depends on the order of their edges alone, so each edge
+//! may be replaced by its number among all edges.
+
+ghost use Rattle.std.specs.Prelude.{◌≡◌, All, Contains, IfOk};
+ghost use Rattle.lists.specs.Words.{AllZip};
+ghost use Rattle.half_boxes.specs.inside.Ranks.{AreEnds, HasEnds, HaveRanks, IsRank, IsRankedBox, IsRankedSpan, TouchAlike, span_along};
+
+use super::boxes::HalfBox;
+use super::span::HalfSpan;
+use geo_core::{Axis, FARTHEST_GROWN, Interval, NoMemory, Rect};
+use std::alloc::{AllocError, Global};
+
+/// The most ends that have ranks up to the greatest coordinate of a rectangle.
+const MOST_ENDS: usize = 1_001_000_000;
+
+const _: () = prove!(MOST_ENDS == FARTHEST_GROWN as usize);
+
+/// A rectangle for each box, of which two touch exactly where the two boxes do.
+pub fn ranked(alloc: Global, boxes: &[HalfBox]) -> Result<Vec<Rect>, NoMemory>
+    ensures { IfOk result (λ rects. TouchAlike boxes.now rects.items) }
+{
+    let columns = ends_along(alloc, boxes, Axis::X)?;
+    let rows = ends_along(alloc, boxes, Axis::Y)?;
+    let rects = ranked_among(alloc, boxes, columns.as_slice(), rows.as_slice())?;
+    Ok(rects)
+}
+
+/// The ends of the boxes along the axis, in rising order and each once.
+fn ends_along(alloc: Global, boxes: &[HalfBox], axis: Axis) -> Result<Vec<i32>, NoMemory>
+    ensures { IfOk result (λ ends. AreEnds axis boxes.now ends.items) }
+{
+    let mut ends = all_ends_along(alloc, boxes, axis)?;
+    ends.sort_unstable();
+    ends.dedup();
+    // So many ends have more than 500,000,000 boxes, and no memory is left for what is made of those.
+    if ends.len() > MOST_ENDS {
+        return Err(NoMemory);
+    }
+    Ok(ends)
+}
+
+/// The ends of the boxes along the axis, box by box.
+fn all_ends_along(alloc: Global, boxes: &[HalfBox], axis: Axis) -> Result<Vec<i32>, AllocError>
+    ensures { IfOk result (λ ends. All (λ one. HasEnds ends.items (span_along axis one)) boxes.now) }
+{
+    let mut ends = Vec::new(alloc);
+    for one in boxes {
+        let span = along(*one, axis);
+        ends.push(span.low)?;
+        ends.push(span.high)?;
+    }
+    Ok(ends)
+}
+
+/// The columns or the rows of the box.
+fn along(one: HalfBox, axis: Axis) -> HalfSpan
+    ensures low { result.low ≡ (span_along axis one).low }
+    ensures high { result.high ≡ (span_along axis one).high }
+{
+    match axis {
+        Axis::X => one.columns,
+        Axis::Y => one.rows,
+    }
+}
+
+/// The boxes with the ranks of their edges in place of these.
+fn ranked_among(
+    alloc: Global,
+    boxes: &[HalfBox],
+    columns: &[i32],
+    rows: &[i32],
+) -> Result<Vec<Rect>, AllocError>
+    requires columns { AreEnds Axis.X boxes.now columns.now }
+    requires rows { AreEnds Axis.Y boxes.now rows.now }
+    ensures { IfOk result (λ rects. AllZip (IsRankedBox columns.now rows.now) boxes.now rects.items) }
+{
+    let mut rects = Vec::with_capacity(alloc, boxes.len())?;
+    for one in boxes {
+        rects.push(Rect::of(ranks_of(columns, one.columns), ranks_of(rows, one.rows)))?;
+    }
+    Ok(rects)
+}
+
+/// The span with the ranks of its ends in place of these.
+fn ranks_of(ends: &[i32], span: HalfSpan) -> Interval
+    requires rising { HaveRanks ends.now }
+    requires ends { HasEnds ends.now span }
+    ensures { IsRankedSpan ends.now span result }
+{
+    Interval {
+        low: rank_of(ends, span.low),
+        high: rank_of(ends, span.high),
+    }
+}
+
+/// The rank of an end: its number in the rising list, which is counted from 0.
+fn rank_of(ends: &[i32], end: i32) -> i32
+    requires rising { HaveRanks ends.now }
+    requires found { Contains ends.now end }
+    ensures { IsRank ends.now end result }
+{
+    ends.partition_point(|other| *other < end) as i32
+}

@@ -1,0 +1,13 @@
+use Rattle.std.proofs.Common.{subst, sym, ◌↔◌}
+use Rattle.geo_core.specs.Plane.{Has}
+use Rattle.geo_core.specs.declared.axis.Axis.TheVariants.{X}
+use Rattle.fault_model.specs.FaultNames.{IsInFootprint}
+use Rattle.severing.specs.Severing.{IsSevered}
+use Rattle.severing.proofs.TurnedLaws.{cell_at}
+use Rattle.severing.proofs.SteadyLaws.{lines_sever_alike}
+use Rattle.severing.proofs.laws.steady_columns_sever_alike.Goals as goal
+
+pub returns : goal.returns
+returns c island side zone near some noted steady a b in_a in_b same =
+    subst (λ j. IsSevered island (IsInFootprint a side) ↔ IsSevered island (IsInFootprint (cell_at X b.i j) side)) same
+    (lines_sever_alike X island zone side near some noted steady a.i b.i a.j in_a (subst (λ j. Has zone (cell_at X b.i j)) (sym same) in_b))

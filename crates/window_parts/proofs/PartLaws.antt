@@ -1,0 +1,152 @@
+-- tallies of parts add up, no tally of a rectangle is large, and a part has fewer cells than the whole
+use Rattle.std.proofs.Common.{ℕ, ◌+◌, ◌*◌, ◌^◌, ◌<◌, ◌≤◌, ◌≡◌, refl, sym, subst, List, [], ◌∷◌, ◌++◌, length, arith, inl, inr, ◌⊎◌, ℤ, pos, ◌+ℤ◌, ◌-ℤ◌, ◌<ℤ◌, ◌↔◌, Contains}
+use Rattle.lists.proofs.Words.{ints, by_lt_z, length-map, mul-le}
+use Rattle.geo_core.specs.Plane.{Has, IsIn, IsInterval}
+use Rattle.geo_core.specs.declared.bounds.TheConstants.{FARTHEST_GROWN}
+use Rattle.geo_core.specs.declared.plane.Cell.{Cell}
+use Rattle.geo_core.specs.declared.plane.Rect.{Rect}
+use Rattle.geo_core.proofs.IntervalLaws.{IsIn-at, in_or_not}
+use Rattle.fault_model.specs.FaultNames.{Tally, none, hit, or_zero, range, row, cells_of}
+use Rattle.fault_model.proofs.CellLaws.{Contains-cells_of, once, never}
+use Rattle.fault_model.proofs.OrderLaws.{Tally-as_often}
+use Rattle.fault_model.proofs.RangeLaws.{or_zero_is, length-range, length-times}
+use Rattle.fault_model.proofs.TallyLaws.{Tally-append, Tally-counts, Tally-le-length, Tally-unique}
+use Rattle.lists.proofs.Containing.{Contains-head, Contains-tail}
+use Rattle.window_parts.specs.WindowParts.{AreParts}
+
+-- ---- parts
+
+-- a cell lies in the rectangle, or not
+has_or_not : (rect : Rect) (c : Cell) → Has rect c ⊎ (Has rect c → ⊥)
+has_or_not rect c = elim (in_or_not rect.x0 rect.x1 c.i) [
+  | inl across ↦ elim (in_or_not rect.y0 rect.y1 c.j) [ inl up ↦ inl (record { across = across; up = up }) | inr n ↦ inr (λ h. n h.up) ]
+  | inr n ↦ inr (λ h. n h.across)
+]
+
+module _ (window first second : Rect) (parts : AreParts window first second) where
+  -- the cells of the parts, one after the other, have each cell as often as the window's
+  as_often : (c : Cell) (k : ℕ) → Tally (λ d. d ≡ c) (cells_of first ++ cells_of second) k → Tally (λ d. d ≡ c) (cells_of window) k
+  as_often c k t = elim (has_or_not first c) [
+    | inl h ↦ same 1 0 (once first c h) (never second c (parts.apart c h)) (once window c ((parts.cells c).1 (inl h)))
+    | inr n ↦ elim (has_or_not second c) [
+      | inl h ↦ same 0 1 (never first c n) (once second c h) (once window c ((parts.cells c).1 (inr h)))
+      | inr m ↦ same 0 0 (never first c n) (never second c m) (never window c (λ h. elim ((parts.cells c).0 h) [ inl a ↦ n a | inr b ↦ m b ]))
+    ]
+  ] where
+    same : (m n : ℕ) → Tally (λ d. d ≡ c) (cells_of first) m → Tally (λ d. d ≡ c) (cells_of second) n → Tally (λ d. d ≡ c) (cells_of window) (m + n)
+        → Tally (λ d. d ≡ c) (cells_of window) k
+    same m n a b whole = subst (Tally (λ d. d ≡ c) (cells_of window)) (Tally-unique (cells_of first ++ cells_of second) (m + n) k (Tally-append (cells_of first) (cells_of second) m n a b) t) whole
+
+  -- the tallies of the two parts of a window add up
+  pub parts_tally : {P : Cell → Type 0} (m n : ℕ) → Tally P (cells_of first) m → Tally P (cells_of second) n → Tally P (cells_of window) (m + n)
+  parts_tally m n s t = Tally-as_often (cells_of first ++ cells_of second) (cells_of window) (m + n) as_often (Tally-append (cells_of first) (cells_of second) m n s t)
+
+-- ---- the two parts before a place and behind it
+
+module _ (low place high : ℤ) (above : low <ℤ place) (below : place <ℤ high) (x : ℤ) where
+  parts_of_interval : IsIn low high x ↔ (IsIn low place x ⊎ IsIn place high x)
+  parts_of_interval = (
+    λ h. let a = h.from in let b = h.before in by_lt_z x place (λ l. inl (record { from = a; before = l })) (λ l. inr (record { from = l; before = b })),
+    λ h. elim h [
+      | inl k ↦ let a = k.from in let b = k.before in record { from = a; before = omega (arith, ints) }
+      | inr k ↦ let a = k.from in let b = k.before in record { from = omega (arith, ints); before = b }
+    ],
+  )
+
+-- the sides of a rectangle
+pub record HasEnds (rect : Rect) (x0 y0 x1 y1 : ℤ) : Type 0 where
+  pub left : x0 ≡ rect.x0
+  pub bottom : y0 ≡ rect.y0
+  pub right : x1 ≡ rect.x1
+  pub top : y1 ≡ rect.y1
+
+module _ {rect : Rect} {x0 y0 x1 y1 : ℤ} (s : HasEnds rect x0 y0 x1 y1) (c : Cell) where
+  pub by_ends : Has rect c → IsIn x0 x1 c.i × IsIn y0 y1 c.j
+  by_ends h = (IsIn-at x0 x1 c.i h.across s.left s.right refl, IsIn-at y0 y1 c.j h.up s.bottom s.top refl)
+
+  pub from_ends : IsIn x0 x1 c.i → IsIn y0 y1 c.j → Has rect c
+  from_ends across up = record { across = IsIn-at rect.x0 rect.x1 c.i across (sym s.left) (sym s.right) refl; up = IsIn-at rect.y0 rect.y1 c.j up (sym s.bottom) (sym s.top) refl }
+
+module _ (window first second : Rect) (place : ℤ) where
+  pub parts_across : window.x0 <ℤ place → place <ℤ window.x1 → HasEnds first window.x0 window.y0 place window.y1 → HasEnds second place window.y0 window.x1 window.y1 → AreParts window first second
+  parts_across above below s t = record {
+    cells = λ c.
+        let split = parts_of_interval window.x0 place window.x1 above below c.i in (
+          λ h. elim (split.0 h.across) [ inl a ↦ inl (from_ends s c a h.up) | inr b ↦ inr (from_ends t c b h.up) ],
+          λ h. elim h [
+            | inl k ↦ let e = by_ends s c k in record { across = split.1 (inl e.0); up = e.1 }
+            | inr k ↦ let e = by_ends t c k in record { across = split.1 (inr e.0); up = e.1 }
+          ],
+        );
+    apart = λ c h k. let a = (by_ends s c h).0.before in let b = (by_ends t c k).0.from in absurd (omega (arith, ints));
+  }
+
+  pub parts_up : window.y0 <ℤ place → place <ℤ window.y1 → HasEnds first window.x0 window.y0 window.x1 place → HasEnds second window.x0 place window.x1 window.y1 → AreParts window first second
+  parts_up above below s t = record {
+    cells = λ c.
+        let split = parts_of_interval window.y0 place window.y1 above below c.j in (
+          λ h. elim (split.0 h.up) [ inl a ↦ inl (from_ends s c h.across a) | inr b ↦ inr (from_ends t c h.across b) ],
+          λ h. elim h [
+            | inl k ↦ let e = by_ends s c k in record { across = e.0; up = split.1 (inl e.1) }
+            | inr k ↦ let e = by_ends t c k in record { across = e.0; up = split.1 (inr e.1) }
+          ],
+        );
+    apart = λ c h k. let a = (by_ends s c h).1.before in let b = (by_ends t c k).1.from in absurd (omega (arith, ints));
+  }
+
+-- ---- how many cells
+
+-- the tally of a property that holds of each cell of the list
+Tally-each : {P : Cell → Type 0} (cells : List Cell) → ((c : Cell) → Contains cells c → P c) → Tally P cells (length cells)
+Tally-each [] each = none
+Tally-each (c ∷ cs) each = hit (each c (Contains-head c cs)) (Tally-each cs (λ d h. each d (Contains-tail c cs d h)))
+
+-- of one that holds of each cell of a rectangle
+pub whole_tally : {P : Cell → Type 0} (rect : Rect) → ((c : Cell) → Has rect c → P c) → Tally P (cells_of rect) (length (cells_of rect))
+whole_tally rect whole = Tally-each (cells_of rect) (λ c listed. whole c ((Contains-cells_of rect c).0 listed))
+
+abbrev Always : Cell → Type 0
+Always c = Unit {0}
+
+all_of : (rect : Rect) → Tally Always (cells_of rect) (length (cells_of rect))
+all_of rect = whole_tally {P = Always} rect (λ c h. tt)
+
+-- a rectangle has at least one cell
+some_cell : (rect : Rect) → 1 ≤ length (cells_of rect)
+some_cell rect =
+    let x = rect.across.some in let y = rect.up.some in
+    let corner : Cell = record { i = rect.x0; j = rect.y0 } in
+    let has : Has rect corner = record { across = record { from = omega (arith, ints); before = x }; up = record { from = omega (arith, ints); before = y } } in
+    Tally-counts {P = Always} (cells_of rect) (length (cells_of rect)) corner ((Contains-cells_of rect corner).1 has) tt (all_of rect)
+
+-- so each of the two parts has fewer cells than the window
+pub fewer_cells : (window first second : Rect) → AreParts window first second → (length (cells_of first) < length (cells_of window)) × (length (cells_of second) < length (cells_of window))
+fewer_cells window first second parts =
+    let both = parts_tally window first second parts {P = Always} (length (cells_of first)) (length (cells_of second)) (all_of first) (all_of second) in
+    let e = Tally-unique (cells_of window) (length (cells_of first) + length (cells_of second)) (length (cells_of window)) both (all_of window) in
+    let a = some_cell first in let b = some_cell second in
+    (omega (arith, e), omega (arith, e))
+
+-- ---- a rectangle has at most 2,002,000,000 columns and as many rows
+
+-- how many numbers there are from one to before another
+few_in_range : (low high : ℤ) → IsInterval FARTHEST_GROWN low high → length (range low high) ≤ 2002000000
+few_in_range low high within =
+    let a = within.some in let b = within.least in let c = within.most in
+    let n = or_zero_is (high -ℤ low) (omega (arith, ints)) in
+    let e = length-range low high (or_zero (high -ℤ low)) n in
+    omega (arith, ints)
+
+-- a rectangle's cells are as many as its rows times its columns
+pub length-cells_of : (rect : Rect) → length (cells_of rect) ≡ length (range rect.y0 rect.y1) * length (range rect.x0 rect.x1)
+length-cells_of rect = length-times (row rect) (range rect.y0 rect.y1) (length (range rect.x0 rect.x1)) (λ j. length-map (range rect.x0 rect.x1) (λ i. record { i = i; j = j }))
+
+-- so its cells are few, and no tally of them is more
+pub few_cells : (rect : Rect) → length (cells_of rect) < 2 ^ 63
+few_cells rect =
+    let e = length-cells_of rect in
+    let d = mul-le (length (range rect.y0 rect.y1)) (length (range rect.x0 rect.x1)) 2002000000 2002000000 (few_in_range rect.y0 rect.y1 rect.up) (few_in_range rect.x0 rect.x1 rect.across) in
+    omega arith
+
+pub few_tallied : {P : Cell → Type 0} (rect : Rect) (n : ℕ) → Tally P (cells_of rect) n → n < 2 ^ 63
+few_tallied rect n t = let a = few_cells rect in let b = Tally-le-length (cells_of rect) n t in omega arith
