@@ -1,5 +1,5 @@
 -- the parts that come of nets
-use Rattle.std.proofs.Common.{arith, ◌+◌, ◌/◌, ◌≤◌, Some, slice_get, ◌≡◌, ◌<◌, ℕ, List, [], map, length, sym, subst, ap, ◌∙◌, ◌↔◌, Contains, slice_index_or, Ok, Err}
+use Rattle.std.proofs.Common.{arith, ◌+◌, ◌/◌, Some, slice_get, ◌≡◌, ◌<◌, ℕ, List, [], map, length, sym, subst, ap, ◌∙◌, ◌↔◌, Contains, slice_index_or, Ok, Err}
 use Rattle.lists.proofs.Words.{slice_get_within, length-enumerate_from, length-map}
 use Rattle.std.proofs.Math.ListN.{get_or-map}
 use Rattle.first_refusal.specs.Answers.{Answers, gives, refuses, no_memory}

@@ -1,5 +1,5 @@
 -- rows by amounts, and what is covered alike has the same rows
-use Rattle.std.proofs.Common.{ℕ, ◌≡◌, sym, subst, List, [], ◌∷◌, map, ◌↔◌}
+use Rattle.std.proofs.Common.{ℕ, sym, subst, List, [], ◌∷◌, map, ◌↔◌}
 use Rattle.lists.proofs.Words.{AllZip}
 use Rattle.geo_core.specs.declared.plane.Cell.{Cell}
 use Rattle.fault_model.specs.FaultNames.{IsCovered, cells_of_window}

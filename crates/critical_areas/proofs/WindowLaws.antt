@@ -1,6 +1,6 @@
 -- the bounds of rectangles, one after the other, and the window of lists of them
-use Rattle.std.proofs.Common.{ℕ, zero, suc, ◌+◌, ◌<◌, ◌≤◌, ◌≡◌, sym, subst, ◌∙◌, ap, List, [], ◌∷◌, ◌++◌, length, take, take_all, get_or, inl, inr, ℤ, pos, ◌↔◌, Option, Some, Contains}
-use Rattle.lists.proofs.Words.{append-nil, flat_map, flat_map-append, take_more, Contains-append_left, Contains-append_right, Contains-append_cases, Contains-push_cases, get_or_from_slice_get, slice_get-get_or}
+use Rattle.std.proofs.Common.{ℕ, zero, suc, ◌+◌, ◌<◌, ◌≡◌, sym, subst, ◌∙◌, ap, List, [], ◌∷◌, ◌++◌, length, take, get_or, inl, inr, ℤ, pos, ◌↔◌, Option, Some, Contains}
+use Rattle.lists.proofs.Words.{append-nil, flat_map, flat_map-append, Contains-append_left, Contains-append_right, Contains-append_cases, get_or_from_slice_get, slice_get-get_or}
 use Rattle.geo_core.specs.Plane.{Has, ComesNear, IsInLayout, IsJoin, IsInUnion, IsCoveredIn}
 use Rattle.geo_core.specs.declared.plane.Cell.{Cell}
 use Rattle.geo_core.specs.declared.plane.Rect.{Rect}

@@ -1,4 +1,4 @@
-use Rattle.std.proofs.Common.{Global, ap, sym, subst, Vec}
+use Rattle.std.proofs.Common.{Global, subst, Vec}
 use Rattle.lists.proofs.Words.{enumerate_from}
 use Rattle.first_refusal.proofs.AnswerLaws.{handed_on}
 use Rattle.first_refusal.proofs.JudgeLaws.{given, passed, passes, unread}

@@ -17,8 +17,8 @@ pub returns-in-Open-clause-tally : goal.returns-in-Open-clause-tally
 returns-in-Open-clause-tally c =
     λ layer_map lists are.
     let asked = c.args.question.now in
-    let Counted : Kind → Type 0 = λ kind. IfOk c.opens-in-Open.result (Tally (IsFault layer_map (IsCoveredIn lists) kind asked.number (side_of asked.measure)) (cells_of_window c.args.window)) in
-    subst Counted (sym c.in-Open.is) (c.opens-in-Open.ensures.tally layer_map lists are)
+    let Counted : Kind → Type 0 = λ kind. IfOk c.opens.result (Tally (IsFault layer_map (IsCoveredIn lists) kind asked.number (side_of asked.measure)) (cells_of_window c.args.window)) in
+    subst Counted (sym c.in-Open.is) (c.opens.ensures.tally layer_map lists are)
 
 pub returns-in-Via-clause-tally : goal.returns-in-Via-clause-tally
 returns-in-Via-clause-tally c =

@@ -1,6 +1,6 @@
 use Rattle.std.proofs.Common.{◌≡◌, ◌∙◌, map, length, List, arith, sym, subst, ap, All}
 use Rattle.lists.proofs.Words.{length-map}
-use Rattle.first_refusal.proofs.AnswerLaws.{handed_on, out_of_memory}
+use Rattle.first_refusal.proofs.AnswerLaws.{handed_on}
 use Rattle.map_model.specs.MapNames.{layer_map_of}
 use Rattle.net_extract.specs.declared.fault.NetFault.TheVariants.{Memory}
 use Rattle.questions.specs.Questions.{IsAskable}
