@@ -25,8 +25,8 @@ open_is layer_map lists parts are metal small side c =
 
 -- what is counted over the islands of a metal are its opens
 pub opens_are : (layer_map : LayerMap) (lists : List (List Rect)) (parts : Parts) (metal radius : ℕ) (measure : Measure) (islands : List IslandLists) (cells : List Cell) (n : ℕ)
-    → ArePartsOf layer_map lists parts → metal < length parts.metals → islands ≡ slice_index_or parts.islands metal [] → radius ≡ side_of measure / 2 → Tally (IsSomeOpen islands (radius + radius)) cells n
-    → Tally (IsFault layer_map (IsCoveredIn lists) Open metal (side_of measure)) cells n
+    → ArePartsOf layer_map lists parts → metal < length parts.metals → islands ≡ slice_index_or parts.islands metal [] → radius ≡ side_of measure / 2
+    → Tally (IsSomeOpen islands (radius + radius)) cells n → Tally (IsFault layer_map (IsCoveredIn lists) Open metal (side_of measure)) cells n
 opens_are layer_map lists parts metal radius measure islands cells n are small read reach counted =
     let among : metal < length layer_map.metals = omega (arith, are.one_each) in
     let of_list = subst (λ is. Tally (IsSomeOpen is (radius + radius)) cells n) read counted in

@@ -1,6 +1,6 @@
 -- islands with their anchors
-use Rattle.std.proofs.Common.{ℕ, ◌+◌, ◌<◌, ◌≤◌, ◌≡◌, ◌≢◌, refl, sym, ap, ◌∙◌, subst, List, [], ◌∷◌, ◌++◌, Bool, true, false, ◌&&◌, length, get_or, take, arith, inl, inr, All, ◌==◌, Contains, filter, nat_le}
-use Rattle.lists.proofs.Words.{AllZip, Decides-eqb, leb_tells, append-nil, All-nil, All-cons, All-contains, filter_more, filter_passes, AllPairs-filter, and_parts}
+use Rattle.std.proofs.Common.{ℕ, ◌+◌, ◌<◌, ◌≤◌, ◌≡◌, ◌≢◌, sym, ap, ◌∙◌, subst, List, [], ◌∷◌, ◌++◌, Bool, true, false, ◌&&◌, length, get_or, take, arith, inl, inr, All, ◌==◌, Contains, filter, nat_le}
+use Rattle.lists.proofs.Words.{AllZip, Decides-eqb, leb_tells, append-nil, All-nil, All-cons, filter_more, filter_passes, AllPairs-filter, and_parts}
 use Rattle.paths.proofs.PathLaws.{within}
 use Rattle.geo_core.specs.Plane.{Has, IsInUnion}
 use Rattle.geo_core.specs.declared.plane.Cell.{Cell}

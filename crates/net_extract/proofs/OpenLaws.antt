@@ -1,5 +1,5 @@
 -- what parts two terminals of a metal parts two anchors of one of its islands
-use Rattle.std.proofs.Common.{ℕ, ◌+◌, ◌<◌, ◌≤◌, ◌≡◌, ◌≢◌, refl, sym, ap, ◌∙◌, subst, List, [], ◌∷◌, Bool, true, ◌&&◌, length, get_or, arith, inl, inr, ◌↔◌, ◌==◌, Contains, filter, map}
+use Rattle.std.proofs.Common.{ℕ, ◌<◌, ◌≤◌, ◌≡◌, ◌≢◌, refl, sym, ap, ◌∙◌, subst, List, [], ◌∷◌, Bool, true, ◌&&◌, length, arith, inl, inr, ◌↔◌, ◌==◌, Contains, filter}
 use Rattle.lists.proofs.Words.{AllZip, Decides-eqb, leb_tells, get_or_past}
 use Rattle.paths.specs.Paths.{stay, step}
 use Rattle.paths.proofs.PathLaws.{first, within}
@@ -7,8 +7,8 @@ use Rattle.geo_core.specs.Plane.{IsInUnion, IsCoveredIn}
 use Rattle.geo_core.specs.declared.plane.Cell.{Cell}
 use Rattle.geo_core.specs.declared.plane.Half.{Half}
 use Rattle.geo_core.specs.declared.plane.Rect.{Rect}
-use Rattle.fault_model.specs.FaultNames.{IsOn, LiesIn, Walk, IslandLists}
-use Rattle.fault_model.specs.Faults.{IsCellsOpen, IsSpared}
+use Rattle.fault_model.specs.FaultNames.{IsOn, Walk, IslandLists}
+use Rattle.fault_model.specs.Faults.{IsCellsOpen}
 use Rattle.map_model.specs.MapNames.{LayerMap}
 use Rattle.net_extract.specs.AnchoredIslands.{rects_of_island, anchors_of_island, IsIslandNumbered, AreAnchoredIslands}
 use Rattle.net_extract.specs.Extraction.{AreNetsOf}

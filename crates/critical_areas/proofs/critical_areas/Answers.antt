@@ -36,6 +36,6 @@ returns-clause-rows c =
     let rows = c.in_ok-rows.field-0 in
     let by_amounts = subst (λ ns. AreRowsOf c.in_ok-parts.parts.questions ns rows.items) c.deref.ensures.value c.in_ok-rows.ensures in
     let by_questions = subst (λ qs. AreRowsOf qs c.in_ok-amounts.amounts.items rows.items) parts_are.asked by_amounts in
-    let answered : AreRows layer_map (IsCoveredIn lists) rows.items =
-    record { window = window; is_window = is_window; answers = rows_answer layer_map (IsCoveredIn lists) cells (questions layer_map) c.in_ok-amounts.amounts.items rows.items by_questions counted } in
-    passes (IsOnItsMetal lists) off_metal (λ (found : Vec Row Global). AreRows layer_map (IsCoveredIn lists) found.items) (enumerate_from 0 layer_map.terminals) rows (passed c.in_ok-parts.ensures) answered
+    let answers = rows_answer layer_map (IsCoveredIn lists) cells (questions layer_map) c.in_ok-amounts.amounts.items rows.items by_questions counted in
+    passes (IsOnItsMetal lists) off_metal (λ (found : Vec Row Global). AreRows layer_map (IsCoveredIn lists) found.items) (enumerate_from 0 layer_map.terminals) rows (passed c.in_ok-parts.ensures)
+    (record { window = window; is_window = is_window; answers = answers })
