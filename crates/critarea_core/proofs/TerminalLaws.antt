@@ -1,5 +1,5 @@
 -- rows on a subject, where its terminals are on their metals, and the first terminal that is not
-use Rattle.std.proofs.Common.{ℕ, ◌≡◌, ◌≢◌, ◌≤◌, List, length, get_or, refl, sym, ap, subst, Ok, Err, Vec, All}
+use Rattle.std.proofs.Common.{ℕ, ◌≢◌, ◌≤◌, List, length, get_or, refl, sym, ap, subst, Ok, Err, Vec, All}
 use Rattle.lists.proofs.Words.{Global, enumerate_from}
 use Rattle.first_refusal.specs.Answers.{Answers, gives, refuses, no_memory}
 use Rattle.first_refusal.specs.Checks.{all_hold, one_fails}
