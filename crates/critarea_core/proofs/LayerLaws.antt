@@ -9,35 +9,16 @@ use Rattle.map_model.specs.declared.layers.Metal.{Metal}
 use Rattle.map_model.specs.declared.layers.Cut.{Cut}
 use Rattle.lists.specs.Differing.{AreDifferent}
 use Rattle.map_model.proofs.MappedLaws.{pair_tells_layer}
+use Rattle.net_extract.proofs.OpenLaws.{across_from, back_from}
 use Rattle.critical_areas.proofs.WindowLaws.{in_union, among_union}
 use Rattle.critarea_core.specs.Coverage.{IsCoveredOn}
 use Rattle.critarea_core.specs.Layout.{Subject}
 use Rattle.critarea_core.specs.inside.LayoutReaders.{Covered, rects_on, AreListsUpTo, AreLayersOf}
 use Rattle.critarea_core.proofs.CoverReading.{IsCoveredAlong}
-use Rattle.lists.proofs.Containing.{Contains-cons_cases, Contains-head, Contains-none, Contains-slice_get, Contains-tail, all_of_each}
+use Rattle.lists.proofs.Containing.{Contains-none, Contains-slice_get, all_of_each}
 use Rattle.lists.proofs.Filtering.{Contains-filter, Contains-filter_passes, Contains-from_filter}
 use Rattle.lists.proofs.Mapping.{Contains-flat_map, Contains-flat_map_from}
 use Rattle.lists.proofs.Reading.{taken_at}
-
--- ---- lists
-
--- an item of one of two lists that go side by side has one in the other
-module _ {X Y : Type 0} (R : X → Y → Type 0) where
-  across_from : (xs : List X) (ys : List Y) (x : X) → AllZip R xs ys → Contains xs x → (y : Y) × Contains ys y × R x y
-  across_from [] ys x zipped h = absurd (Contains-none h)
-  across_from (a ∷ xs) [] x zipped h = absurd zipped
-  across_from (a ∷ xs) (b ∷ ys) x zipped h = elim (Contains-cons_cases a xs x h) [
-    | inl same ↦ (b, Contains-head b ys, subst (λ z. R z b) same zipped.0)
-    | inr rest ↦ let found = across_from xs ys x zipped.1 rest in (found.0, Contains-tail b ys found.0 found.1, found.2)
-  ]
-
-  back_from : (xs : List X) (ys : List Y) (y : Y) → AllZip R xs ys → Contains ys y → (x : X) × Contains xs x × R x y
-  back_from xs [] y zipped h = absurd (Contains-none h)
-  back_from [] (b ∷ ys) y zipped h = absurd zipped
-  back_from (a ∷ xs) (b ∷ ys) y zipped h = elim (Contains-cons_cases b ys y h) [
-    | inl same ↦ (a, Contains-head a xs, subst (R a) same zipped.0)
-    | inr rest ↦ let found = back_from xs ys y zipped.1 rest in (found.0, Contains-tail a xs found.0 found.1, found.2)
-  ]
 
 -- ---- the rectangles of one layer
 

@@ -1,4 +1,5 @@
--- What a library comes to: to one subject or one refusal at most, and it cannot be that it comes to neither.
+-- What a library and terminals come to: to one subject or one refusal at most, and it cannot be that it comes to neither.
+use Rattle.lists.proofs.Words.{enumerate_from}
 use Rattle.std.proofs.Common.{ℕ, ◌≡◌, List, Option, refl, sym, ◌∙◌}
 use Rattle.first_refusal.specs.Laws.{IsUnique, CannotLack}
 use Rattle.first_refusal.specs.Outcomes.{Retold}
@@ -9,7 +10,7 @@ use Rattle.map_model.specs.MapNames.{LayerMap}
 use Rattle.flatten.specs.Placements.{Placing}
 use Rattle.flatten.specs.Routes.{Route}
 use Rattle.flatten.proofs.PlacingLaws.{placings_agree, placings_cannot_lack}
-use Rattle.critarea_core.specs.Layout.{Subject, RouteHolds, route_checks, route_refusal, RoutesComeTo, LibraryComesTo}
+use Rattle.critarea_core.specs.Layout.{Subject, RouteHolds, route_checks, route_refusal, RoutesComeTo, LibraryComesTo, IsTerminalOn, terminal_refusal, TerminalsComeTo}
 use Rattle.critarea_core.specs.Refusals.{of_place_fault}
 
 -- what a report is on, where the routes are these
@@ -27,3 +28,11 @@ libraries_come_to_something layer_map wanted library =
     stages_cannot_lack (Retold of_place_fault (Placing library.structures layer_map wanted)) (RoutesComeTo layer_map)
     (retold_cannot_lack of_place_fault (Placing library.structures layer_map wanted) (placings_cannot_lack library.structures layer_map wanted))
     (λ routes placing. checks_cannot_lack RouteHolds (route_checks routes) route_refusal (λ subject. subject ≡ subject_of layer_map routes) (λ all none. none (subject_of layer_map routes) refl))
+
+pub terminals_come_to_one : (subject : Subject) → IsUnique (TerminalsComeTo subject)
+terminals_come_to_one subject =
+    checks_agree (IsTerminalOn subject) (enumerate_from 0 subject.layer_map.terminals) terminal_refusal (λ same. same ≡ subject) (λ one other a b. a ∙ sym b)
+
+pub terminals_come_to_something : (subject : Subject) → CannotLack (TerminalsComeTo subject)
+terminals_come_to_something subject =
+    checks_cannot_lack (IsTerminalOn subject) (enumerate_from 0 subject.layer_map.terminals) terminal_refusal (λ same. same ≡ subject) (λ all none. none subject refl)

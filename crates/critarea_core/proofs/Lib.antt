@@ -4,5 +4,5 @@ pub mod LayerLaws
 pub mod LayoutLaws
 pub mod ReadingLaws
 pub mod VerdictLaws
-pub mod MapLaws
+pub mod TerminalLaws
 pub mod RunLaws

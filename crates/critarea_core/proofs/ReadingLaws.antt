@@ -2,7 +2,7 @@
 use Rattle.std.proofs.Common.{ℕ, ◌≡◌, ◌≢◌, ◌<◌, ◌≤◌, List, [], ◌∷◌, length, zero, suc, refl, sym, ap, subst, arith, if◌then◌else◌, Bool, true, false, Option, Some, None, IfSome, IsErrAnd, Result, Ok, Err, Vec, vec_len, unwrap_or}
 use Rattle.lists.proofs.Words.{Global, bytes_eq, All-cons, All-nil, bytes_eq-Decides}
 use Rattle.first_refusal.specs.Answers.{gives, refuses, no_memory}
-use Rattle.first_refusal.specs.Outcomes.{Outcome, value, refused}
+use Rattle.first_refusal.specs.Outcomes.{Outcome, value, refused, Then, stops}
 use Rattle.lists.specs.ByteLists.{AreBytes, IsByte}
 use Rattle.lists.proofs.Containing.{Contains-head}
 use Rattle.edge_io.specs.ReadAnswers.{ReadsWhole, is_whole, is_too_long, has_no_memory, has_failed}
@@ -33,16 +33,6 @@ module _ {T V : Type 0} (Stage : Outcome V Refusal → Type 0) (IsFor : V → T 
   not_read memory refusal_of fault (Ok thing) gave known = absurd gave
   not_read memory refusal_of fault (Err told) gave known = told_so memory refusal_of fault told gave known
 
-  not_found : {U : Type 0} (IsAlso : V → U → Type 0) (why : Unreported) → Finds Stage IsAlso (Err why) → Finds Stage IsFor (Err why)
-  not_found IsAlso why (refuses (gives_refusal comes)) = refuses (gives_refusal comes)
-  not_found IsAlso why no_memory = no_memory
-
-  -- what another reader did not find for the same stage
-  pub not_found_either : {U : Type 0} (IsAlso : V → U → Type 0) (why : Unreported) (result : Result T Unreported) → IsErrAnd result (λ same. same ≡ why)
-      → Finds Stage IsAlso (Err why) → Finds Stage IsFor result
-  not_found_either IsAlso why (Ok thing) gave found = absurd gave
-  not_found_either IsAlso why (Err same) gave found = rw gave (not_found IsAlso why found)
-
   -- what was found is for some value of the stage
   pub found_for : (thing : T) → Finds Stage IsFor (Ok thing) → (v : V) × Stage (value v) × IsFor v thing
   found_for thing (gives (gives_thing {v = v} comes is)) = (v, comes, is)
@@ -53,6 +43,16 @@ module _ {T V : Type 0} (Stage : Outcome V Refusal → Type 0) (IsFor : V → T 
   restaged Other each result (gives (gives_thing {v = v} comes is)) = gives (gives_thing (each (value v) comes) is)
   restaged Other each result (refuses (gives_refusal {refusal = r} comes)) = refuses (gives_refusal (each (refused r) comes))
   restaged Other each result no_memory = no_memory
+
+-- what the first of two stages did not find
+module _ {T U V W : Type 0} (First : Outcome V Refusal → Type 0) (Second : V → Outcome W Refusal → Type 0) (IsAlso : V → U → Type 0) (IsFor : W → T → Type 0) where
+  stopped_so : (why : Unreported) → Finds First IsAlso (Err why) → Finds (Then First Second) IsFor (Err why)
+  stopped_so why (refuses (gives_refusal comes)) = refuses (gives_refusal (stops comes))
+  stopped_so why no_memory = no_memory
+
+  pub stopped : (why : Unreported) (result : Result T Unreported) → IsErrAnd result (λ same. same ≡ why) → Finds First IsAlso (Err why) → Finds (Then First Second) IsFor result
+  stopped why (Ok thing) gave found = absurd gave
+  stopped why (Err same) gave found = rw gave (stopped_so why found)
 
 -- ---- what a file may have
 

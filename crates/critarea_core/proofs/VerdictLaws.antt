@@ -1,11 +1,9 @@
 -- the verdict, stage by stage: each has one outcome at most, and none can lack one
-use Rattle.std.proofs.Common.{ℕ, ◌≡◌, ◌<◌, ◌≤◌, List, [], ◌∷◌, length, refl, sym, ap, subst, ◌∙◌, arith, Option, All}
-use Rattle.lists.proofs.Words.{ints, All-cons, All-nil}
+use Rattle.std.proofs.Common.{ℕ, ◌≡◌, ◌<◌, ◌≤◌, List, length, refl, sym, ap, subst, ◌∙◌, arith, Option}
+use Rattle.lists.proofs.Words.{ints}
 use Rattle.first_refusal.specs.Outcomes.{Outcome, value, refused, Reads, reads, lacks, stops, goes_on}
-use Rattle.first_refusal.specs.Checks.{all_hold}
 use Rattle.first_refusal.specs.Laws.{IsUnique, CannotLack}
 use Rattle.first_refusal.proofs.StageLaws.{readings_agree, reading_cannot_lack, retold_agree, retold_cannot_lack, stages_agree, stages_cannot_lack}
-use Rattle.first_refusal.proofs.CheckLaws.{checks_agree, checks_cannot_lack}
 use Rattle.command_line.specs.Requests.{Ask, IsTask, of_one_metal, of_map, values_of}
 use Rattle.command_line.specs.declared.request.Request.{Request}
 use Rattle.command_line.specs.declared.task.Task.{Task}
@@ -21,14 +19,14 @@ use Rattle.critical_areas.proofs.UniqueLaws.{rows_agree}
 use Rattle.critarea_core.specs.Coverage.{IsCoveredOn}
 use Rattle.critarea_core.specs.inside.Finding.{IsRadiusOf}
 use Rattle.critarea_core.specs.Refusals.{usage, map_limit, map_too_long, of_map_fault, layout_limit, layout_too_long, of_syntax_fault}
-use Rattle.critarea_core.specs.Layout.{Subject, ShortLayoutComesTo}
-use Rattle.critarea_core.specs.Verdict.{IsShortEnough, IsSupported, has_no_terminals, support_checks, not_supported, IsReportOn, ReadMapComesTo, ShortMapComesTo, MapTextComesTo, MapComesTo, WordsComeTo, LayoutComesTo, IsVerdict}
+use Rattle.critarea_core.specs.Layout.{Subject, ShapesComeTo, ShortLayoutComesTo, TerminalsComeTo}
+use Rattle.critarea_core.specs.Verdict.{IsShortEnough, IsReportOn, ShortMapComesTo, MapTextComesTo, MapComesTo, WordsComeTo, LayoutComesTo, IsVerdict}
 use Rattle.critarea_core.specs.declared.refusal.Refusal.{Refusal}
 use Rattle.library_grammar.specs.FirstFault.{BytesComeTo}
 use Rattle.library_grammar.proofs.FaultsAgree.{libraries_agree}
 use Rattle.library_grammar.proofs.LibraryThere.{bytes_come_to_something}
 use Rattle.lists.specs.ByteLists.{AreBytes}
-use Rattle.critarea_core.proofs.LayoutLaws.{libraries_come_to_one, libraries_come_to_something}
+use Rattle.critarea_core.proofs.LayoutLaws.{libraries_come_to_one, libraries_come_to_something, terminals_come_to_one, terminals_come_to_something}
 
 -- ---- one outcome at most, a lemma a stage
 
@@ -38,11 +36,8 @@ words_agree words = readings_agree (Ask words) usage (requests_agree words)
 lengths_agree : (limit : ℕ) (text : List ℕ) → IsUnique (IsShortEnough limit text)
 lengths_agree limit text one other a b = a.is_text ∙ sym b.is_text
 
-read_maps_agree : (layer_map : LayerMap) → IsUnique (ReadMapComesTo layer_map)
-read_maps_agree layer_map = checks_agree (IsSupported layer_map) support_checks not_supported (λ same. same ≡ layer_map) (λ one other e f. e ∙ sym f)
-
 short_maps_agree : (text : List ℕ) → IsUnique (ShortMapComesTo text)
-short_maps_agree text = stages_agree _ _ (retold_agree of_map_fault (document.MapComesTo text) (maps_agree text)) read_maps_agree
+short_maps_agree text = retold_agree of_map_fault (document.MapComesTo text) (maps_agree text)
 
 map_texts_agree : (bytes : List ℕ) → IsUnique (MapTextComesTo bytes)
 map_texts_agree bytes = stages_agree _ _ (readings_agree (IsShortEnough map_limit bytes) map_too_long (lengths_agree map_limit bytes)) short_maps_agree
@@ -52,7 +47,9 @@ map_outcomes_agree (OneMetal layout layer datatype radius top) bytes one other a
 map_outcomes_agree (Mapped layout map top) bytes one other a b = map_texts_agree (bytes map) one other a b
 
 short_layouts_agree : (layer_map : LayerMap) (wanted : Option (List ℕ)) (layout : List ℕ) → IsUnique (ShortLayoutComesTo layer_map wanted layout)
-short_layouts_agree layer_map wanted layout = stages_agree _ _ (retold_agree of_syntax_fault (BytesComeTo layout) (libraries_agree layout)) (libraries_come_to_one layer_map wanted)
+short_layouts_agree layer_map wanted layout =
+    stages_agree (ShapesComeTo layer_map wanted layout) TerminalsComeTo
+    (stages_agree _ _ (retold_agree of_syntax_fault (BytesComeTo layout) (libraries_agree layout)) (libraries_come_to_one layer_map wanted)) terminals_come_to_one
 
 pub layout_outcomes_agree : (layer_map : LayerMap) (wanted : Option (List ℕ)) (layout : List ℕ) → IsUnique (LayoutComesTo layer_map wanted layout)
 layout_outcomes_agree layer_map wanted layout = stages_agree _ _ (readings_agree (IsShortEnough layout_limit layout) layout_too_long (lengths_agree layout_limit layout))
@@ -67,8 +64,7 @@ verdicts_agree words contents = stages_agree (WordsComeTo words) _ (words_agree 
 
 map_text_cannot_lack : (bytes : List ℕ) → CannotLack (MapTextComesTo bytes)
 map_text_cannot_lack bytes = stages_cannot_lack _ _ (reading_cannot_lack (IsShortEnough map_limit bytes) map_too_long)
-    (λ text _. stages_cannot_lack _ _ (retold_cannot_lack of_map_fault (document.MapComesTo text) (maps_cannot_lack text))
-    (λ layer_map _. checks_cannot_lack (IsSupported layer_map) support_checks not_supported (λ same. same ≡ layer_map) (λ _ none. none layer_map refl)))
+    (λ text _. retold_cannot_lack of_map_fault (document.MapComesTo text) (maps_cannot_lack text))
 
 map_cannot_lack : (task : Task) (bytes : List ℕ → List ℕ) → CannotLack (MapComesTo task bytes)
 map_cannot_lack (OneMetal layout layer datatype radius top) bytes none = none (value (one_metal_map layer datatype radius)) refl
@@ -80,8 +76,10 @@ text_of layout text (reads short) = short.is_text
 
 layout_cannot_lack : (layer_map : LayerMap) (wanted : Option (List ℕ)) (layout : List ℕ) → AreBytes layout → CannotLack (LayoutComesTo layer_map wanted layout)
 layout_cannot_lack layer_map wanted layout are = stages_cannot_lack _ _ (reading_cannot_lack (IsShortEnough layout_limit layout) layout_too_long)
-    (λ text short. stages_cannot_lack _ _ (retold_cannot_lack of_syntax_fault (BytesComeTo text) (bytes_come_to_something text (subst AreBytes (sym (text_of layout text short)) are)))
+    (λ text short. stages_cannot_lack (ShapesComeTo layer_map wanted text) TerminalsComeTo
+    (stages_cannot_lack _ _ (retold_cannot_lack of_syntax_fault (BytesComeTo text) (bytes_come_to_something text (subst AreBytes (sym (text_of layout text short)) are)))
     (λ library comes. libraries_come_to_something layer_map wanted library))
+    (λ subject shapes. terminals_come_to_something subject))
 
 asked_for : (words : List (List ℕ)) (request : Request) → WordsComeTo words (value request) → Ask words request
 asked_for words request (reads asked) = asked
@@ -112,28 +110,13 @@ refused_map_length bytes long = stops (lacks (λ text t. let s = t.short in absu
 pub short_map : (bytes : List ℕ) (outcome : Outcome LayerMap Refusal) → length bytes ≤ map_limit → ShortMapComesTo bytes outcome → MapTextComesTo bytes outcome
 short_map bytes outcome short comes = goes_on {v = bytes} (reads (record { is_text = refl; short = short })) comes
 
--- ---- reports, and what a good map is
+-- ---- reports, and radii
 
 -- a subject has one report
 pub reports_agree : (subject : Subject) → IsUnique (IsReportOn subject)
 reports_agree subject text other a b =
     let rows = rows_agree subject.layer_map (IsCoveredOn subject.layer_map subject.routes) a.rows b.rows a.are_rows b.are_rows in
     a.is_text ∙ ap report_text rows ∙ sym b.is_text
-
-supported : {layer_map : LayerMap} {text : List ℕ} → MapTextComesTo text (value layer_map) → All (IsSupported layer_map) support_checks
-supported (goes_on short (goes_on {v = read} says (all_hold all e))) = subst (λ m. All (IsSupported m) support_checks) (sym e) all
-
-one_metal_is : (layer datatype radius : ℕ) → All (IsSupported (one_metal_map layer datatype radius)) support_checks
-one_metal_is layer datatype radius =
-    let Is = IsSupported (one_metal_map layer datatype radius) in
-    All-cons Is has_no_terminals [] refl (All-nil Is)
-
--- a good map is supported
-pub is_supported : (task : Task) (bytes : List ℕ → List ℕ) (layer_map : LayerMap) → MapComesTo task bytes (value layer_map) → All (IsSupported layer_map) support_checks
-is_supported (OneMetal layout layer datatype radius top) bytes layer_map e =
-    let same : layer_map ≡ one_metal_map layer datatype radius = cc e in
-    subst (λ m. All (IsSupported m) support_checks) (sym same) (one_metal_is layer datatype radius)
-is_supported (Mapped layout map top) bytes layer_map comes = supported comes
 
 -- the radius that words ask for is one
 pub radius_of : (words : List (List ℕ)) (request : Request) → Ask words request → IsRadiusOf request.task

@@ -1,15 +1,19 @@
--- what the bytes of a layout come to: the shapes that are placed on layers of the map, or a refusal
+-- what the bytes of a layout come to: the shapes that are placed on layers of the map, with its terminals on their metals, or
+-- a refusal
 use Rattle.std.specs.Prelude.{ℕ, List, map, flat_map, Option, ◌≡◌}
+use Rattle.lists.specs.Words.{enumerate_from}
 use Rattle.first_refusal.specs.Outcomes.{Outcome, Retold, Then}
 use Rattle.first_refusal.specs.Checks.{Checks}
+use Rattle.geo_core.specs.declared.plane.Cell.{Cell}
 use Rattle.library_grammar.specs.FirstFault.{BytesComeTo}
 use Rattle.library_model.specs.declared.library.Library.{Library}
 use Rattle.map_model.specs.MapNames.{LayerMap}
+use Rattle.net_extract.specs.Extraction.{off_metal}
 use Rattle.flatten.specs.Placements.{Placing}
 use Rattle.flatten.specs.Routes.{Route}
 use Rattle.rect_cover.specs.ShapeChecks.{ShapeCheck, ShapeHolds, checks_of, shape_fault}
-use Rattle.critarea_core.specs.Coverage.{route_points}
-use Rattle.critarea_core.specs.Refusals.{of_cover_fault, of_place_fault, of_syntax_fault}
+use Rattle.critarea_core.specs.Coverage.{IsCoveredOn, route_points}
+use Rattle.critarea_core.specs.Refusals.{of_cover_fault, of_net_fault, of_place_fault, of_syntax_fault}
 use Rattle.critarea_core.specs.declared.refusal.Refusal.{Refusal}
 
 -- what a report is on: the layer map, and the routes to the shapes that the layout places on its layers
@@ -43,6 +47,23 @@ abbrev pub LibraryComesTo : LayerMap → Option (List ℕ) → Library → Outco
 LibraryComesTo layer_map wanted library =
     Then (Retold of_place_fault (Placing library.structures layer_map wanted)) (RoutesComeTo layer_map)
 
--- the bytes of a layout that is short enough: the library that they come to, and then that
+-- the bytes of a layout: the library that they come to, and then that
+abbrev pub ShapesComeTo : LayerMap → Option (List ℕ) → List ℕ → Outcome Subject Refusal → Type 0
+ShapesComeTo layer_map wanted bytes = Then (Retold of_syntax_fault (BytesComeTo bytes)) (LibraryComesTo layer_map wanted)
+
+-- a terminal with its number: its metal covers its cell
+abbrev pub IsTerminalOn : Subject → ℕ × (ℕ × Cell) → Type 0
+IsTerminalOn subject numbered = IsCoveredOn subject.layer_map subject.routes numbered.1.0 numbered.1.1
+
+-- the refusal of one that is not on its metal
+abbrev pub terminal_refusal : ℕ × (ℕ × Cell) → Refusal
+terminal_refusal numbered = of_net_fault (off_metal numbered)
+
+-- the terminals of the layer map, in order: whether each is on its metal
+abbrev pub TerminalsComeTo : Subject → Outcome Subject Refusal → Type 0
+TerminalsComeTo subject =
+    Checks (IsTerminalOn subject) (enumerate_from 0 subject.layer_map.terminals) terminal_refusal (λ same. same ≡ subject)
+
+-- the bytes of a layout that is short enough: its shapes, and then the terminals
 abbrev pub ShortLayoutComesTo : LayerMap → Option (List ℕ) → List ℕ → Outcome Subject Refusal → Type 0
-ShortLayoutComesTo layer_map wanted bytes = Then (Retold of_syntax_fault (BytesComeTo bytes)) (LibraryComesTo layer_map wanted)
+ShortLayoutComesTo layer_map wanted bytes = Then (ShapesComeTo layer_map wanted bytes) TerminalsComeTo

@@ -3,6 +3,8 @@ use Rattle.std.specs.Prelude.{ℕ, List, [], ◌∷◌, codes}
 use Rattle.lists.specs.Words.{decimal, concat}
 use Rattle.layer_map.specs.MapFaults as map_faults
 use Rattle.layer_map.specs.declared.fault.MapFault.{MapFault}
+use Rattle.net_extract.specs.NetFaults as net_faults
+use Rattle.net_extract.specs.declared.fault.NetFault.{NetFault}
 use Rattle.flatten.specs.PlaceFaults as place_faults
 use Rattle.flatten.specs.declared.fault.PlaceFault.{PlaceFault}
 use Rattle.rect_cover.specs.CoverFaults as cover_faults
@@ -39,10 +41,6 @@ map_too_long = of_map 39 map_limit
 abbrev pub of_map_fault : MapFault → Refusal
 of_map_fault fault = of_map (map_faults.number_of fault) (map_faults.place_of fault)
 
--- the map has what is not supported yet, at this path
-abbrev pub map_not_supported : ℕ → Refusal
-map_not_supported path = of_map 60 path
-
 -- the most bytes that a layout may have
 abbrev pub layout_limit : ℕ
 layout_limit = 268435456
@@ -62,6 +60,10 @@ of_place_fault fault = of_layout (place_faults.number_of fault) (place_faults.pl
 -- one of its placed shapes is not cut into rectangles
 abbrev pub of_cover_fault : CoverFault → Refusal
 of_cover_fault fault = of_layout (cover_faults.number_of fault) (cover_faults.place_of fault)
+
+-- one of the map's terminals is not on its metal
+abbrev pub of_net_fault : NetFault → Refusal
+of_net_fault fault = of_layout (net_faults.number_of fault) (net_faults.place_of fault)
 
 -- the line that is printed for a refusal
 abbrev pub refusal_text : Refusal → List ℕ

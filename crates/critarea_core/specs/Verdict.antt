@@ -1,21 +1,19 @@
 -- the verdict on words and on what files contain: the first refusal, or what a report is on
-use Rattle.std.specs.Prelude.{ℕ, List, [], ◌∷◌, ◌≡◌, ◌≤◌, length, Option}
+use Rattle.std.specs.Prelude.{ℕ, List, ◌≡◌, ◌≤◌, length, Option}
 use Rattle.first_refusal.specs.Outcomes.{Outcome, value, Reads, Retold, Then}
-use Rattle.first_refusal.specs.Checks.{Checks}
 use Rattle.command_line.specs.Requests.{Ask}
 use Rattle.command_line.specs.declared.request.Request.{Request}
 use Rattle.command_line.specs.declared.task.Task.{Task}
 use Rattle.command_line.specs.declared.task.Task.TheVariants.{OneMetal, Mapped}
 use Rattle.layer_map.specs.Documents as document
 use Rattle.map_model.specs.MapNames.{LayerMap, one_metal_map}
-use Rattle.layer_map.specs.DocumentPaths.{terminals_path}
 use Rattle.critical_areas.specs.Rows.{AreRows}
 use Rattle.report.specs.Report.{report_text}
 use Rattle.questions.specs.declared.row.Row.{Row}
 use Rattle.critarea_core.specs.Coverage.{IsCoveredOn}
 use Rattle.critarea_core.specs.Contents.{Contents, bytes_from, layout_source, wanted_top}
 use Rattle.critarea_core.specs.Layout.{Subject, ShortLayoutComesTo}
-use Rattle.critarea_core.specs.Refusals.{usage, map_limit, map_too_long, of_map_fault, map_not_supported, layout_limit, layout_too_long}
+use Rattle.critarea_core.specs.Refusals.{usage, map_limit, map_too_long, of_map_fault, layout_limit, layout_too_long}
 use Rattle.critarea_core.specs.declared.refusal.Refusal.{Refusal}
 
 -- the same text, where it has at most so many bytes
@@ -23,28 +21,9 @@ pub record IsShortEnough (limit : ℕ) (text same : List ℕ) : Type 0 where
   pub is_text : same ≡ text
   pub short : length text ≤ limit
 
--- what a layer map may not have yet: terminals
-pub data SupportCheck : Type 0 where
-  has_no_terminals : SupportCheck
-
-abbrev pub support_checks : List SupportCheck
-support_checks = has_no_terminals ∷ []
-
--- what this demands of a layer map
-abbrev pub IsSupported : LayerMap → SupportCheck → Type 0
-IsSupported layer_map has_no_terminals = layer_map.terminals ≡ []
-
--- the refusal where it fails
-abbrev pub not_supported : SupportCheck → Refusal
-not_supported has_no_terminals = map_not_supported terminals_path
-
--- a layer map that was read: whether it is supported
-abbrev pub ReadMapComesTo : LayerMap → Outcome LayerMap Refusal → Type 0
-ReadMapComesTo layer_map = Checks (IsSupported layer_map) support_checks not_supported (λ same. same ≡ layer_map)
-
--- the text of a map that is short enough: what it says, and then whether that is supported
+-- the text of a map that is short enough: what it says
 abbrev pub ShortMapComesTo : List ℕ → Outcome LayerMap Refusal → Type 0
-ShortMapComesTo text = Then (Retold of_map_fault (document.MapComesTo text)) ReadMapComesTo
+ShortMapComesTo text = Retold of_map_fault (document.MapComesTo text)
 
 -- the text of a map: first its length, and then what it says
 abbrev pub MapTextComesTo : List ℕ → Outcome LayerMap Refusal → Type 0

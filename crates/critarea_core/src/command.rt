@@ -1,15 +1,14 @@
-ghost use Rattle.std.specs.Prelude.{◌≡◌, ◌≤◌, ◌+◌, ℕ, List, [], ◌∷◌, length, All, IfOk, option_copied};
+ghost use Rattle.std.specs.Prelude.{◌≡◌, ◌≤◌, ◌+◌, ℕ, List, [], ◌∷◌, length, All, option_copied};
 ghost use Rattle.edge_io.specs.Bytes.{Appends};
 ghost use Rattle.command_line.specs.Requests.{Ask};
 ghost use Rattle.geo_core.specs.Cells.{IsInLayout};
 ghost use Rattle.map_model.specs.MapView.{layer_map_of};
 ghost use Rattle.critarea_core.specs.Contents.{file, layout_source, wanted_top};
 ghost use Rattle.critarea_core.specs.inside.Finding.{AreFew, Finds, FindsInFiles, HasRows, IsFound, IsOneOf, IsRadiusOf, LayoutMayCome};
-ghost use Rattle.critarea_core.specs.Layout.{ShortLayoutComesTo, Subject};
+ghost use Rattle.critarea_core.specs.Layout.{ShortLayoutComesTo, Subject, TerminalsComeTo};
 ghost use Rattle.critarea_core.specs.inside.LayoutReaders.{AreLayersFor};
 ghost use Rattle.critarea_core.specs.Refusals.{layout_limit};
 ghost use Rattle.critarea_core.specs.Run.{RunsTo, StartsNamed, change};
-ghost use Rattle.critarea_core.specs.Verdict.{IsSupported, support_checks};
 
 use super::layout::read_layout;
 use super::maps::map_for;
@@ -19,23 +18,23 @@ use super::unreported::Unreported;
 use command_line::{Request, Task, Word, WordsFault, read_words};
 use critical_areas::critical_areas;
 use edge_io::{Files, Sink, read_whole};
-use lists::{Name, NoMemory};
+use lists::Name;
 use map_model::{Layers, Map};
 use questions::Row;
 use std::alloc::Global;
 use std::thread::Threads;
 
-/// The rows on the subject whose layers these are. The map has no terminals.
-fn rows_on(alloc: Global, map: &Map, layers: &Layers) -> Result<Vec<Row>, NoMemory>
-    requires supported { All (IsSupported (layer_map_of map.now)) support_checks }
+/// The rows on the subject whose layers these are, or the refusal of the first terminal that is not on its metal.
+fn rows_on(alloc: Global, map: &Map, layers: &Layers) -> Result<Vec<Row>, Unreported>
     requires one_each { length layers.now.lists.items ≡ length map.now.metals + length map.now.cuts }
     requires within { All (All IsInLayout) layers.now.lists.items }
-    ensures { IfOk result (λ rows. (subject : Subject) → AreLayersFor (layer_map_of map.now) subject layers.now → HasRows subject rows) }
+    ensures { (subject : Subject) → AreLayersFor (layer_map_of map.now) subject layers.now →
+        Finds (TerminalsComeTo subject) HasRows result }
 {
-    critical_areas(alloc, map, layers)
+    Ok(critical_areas(alloc, map, layers)?)
 }
 
-/// The rows of the map on the layout with these bytes, of which this top is wanted, or any. The map has no terminals.
+/// The rows of the map on the layout with these bytes, of which this top is wanted, or any.
 fn rows_of_bytes(
     rt: &(impl Threads + Sync),
     alloc: Global,
@@ -43,12 +42,11 @@ fn rows_of_bytes(
     top: Option<&[u8]>,
     bytes: Vec<u8>,
 ) -> Result<Vec<Row>, Unreported>
-    requires short { length bytes.items ≤ layout_limit }
-    requires supported { All (IsSupported (layer_map_of map.now)) support_checks }
+    requires { length bytes.items ≤ layout_limit }
     ensures { Finds (ShortLayoutComesTo (layer_map_of map.now) (option_copied top.entry) bytes.items) HasRows result }
 {
     let layers = read_layout(rt, alloc, map, top, bytes)?;
-    Ok(rows_on(alloc, map, &layers)?)
+    rows_on(alloc, map, &layers)
 }
 
 /// The rows of the map on the layout in the file of this name, of which this top is wanted, or any; or why there are none.
@@ -60,7 +58,6 @@ fn rows_of_file<F: Files>(
     files: &mut F,
     name: &[u8],
 ) -> Result<Vec<Row>, Unreported>
-    requires supported { All (IsSupported (layer_map_of map.now)) support_checks }
     ensures found { FindsInFiles (change (F.faults files.old) (F.faults files.new)) (IsOneOf (name.now ∷ []))
         (LayoutMayCome (F.holds files.old) (layer_map_of map.now) (option_copied top.entry) name.now) HasRows result }
     ensures starts { Appends (F.starts files.old) (F.starts files.new) (name.now ∷ []) }
@@ -155,10 +152,11 @@ fn find<F: Files>(
 ///
 /// Nothing goes out before the report is complete, so a refused map or layout leaves `out` as it was. Where what the files
 /// tell of the map is refused, the layout's file is not started. A map's refusal has number 39 at 1048576 where the map
-/// has more bytes than that, one of 40 to 47 at a path of its document, and 60 at 7 where it has terminals, which are not
-/// supported yet. A layout's refusal has number 9 at 268435456 where the layout has more bytes than that,
-/// one of 10 to 23 at an offset where its bytes are no library, one of 24 to 30 where its shapes are not placed, and then
-/// one of 30 to 36 at the offset of the first placed shape, in the order of the routes, that has no cover.
+/// has more bytes than that, and one of 40 to 47 at a path of its document. A layout's refusal has number 9 at 268435456
+/// where the layout has more bytes than that, one of 10 to 23 at an offset where its bytes are no library, one of 24 to 30
+/// where its shapes are not placed, then one of 30 to 36 at the offset of the first placed shape, in the order of the
+/// routes, that has no cover, and at last 50 at the number of the first terminal of the map, counted from 0, whose cell the
+/// shapes of its metal do not cover.
 pub fn run<F: Files, O: Sink, E: Sink>(
     rt: &(impl Threads + Sync),
     alloc: Global,

@@ -1,7 +1,7 @@
 ghost use Rattle.std.specs.Prelude.{◌≡◌, ◌≤◌, ◌+◌, length, option_copied};
 ghost use Rattle.map_model.specs.MapView.{layer_map_of};
 ghost use Rattle.critarea_core.specs.inside.Finding.{Finds};
-ghost use Rattle.critarea_core.specs.Layout.{ShortLayoutComesTo};
+ghost use Rattle.critarea_core.specs.Layout.{ShapesComeTo};
 ghost use Rattle.critarea_core.specs.inside.LayoutReaders.{AreLayersFor};
 ghost use Rattle.critarea_core.specs.Refusals.{layout_limit};
 
@@ -34,7 +34,7 @@ pub fn read_layout(
     bytes: Vec<u8>,
 ) -> Result<Layers, Unreported>
     requires { length bytes.items ≤ layout_limit }
-    ensures { Finds (ShortLayoutComesTo (layer_map_of map.now) (option_copied top.entry) bytes.items) (AreLayersFor (layer_map_of map.now)) result }
+    ensures { Finds (ShapesComeTo (layer_map_of map.now) (option_copied top.entry) bytes.items) (AreLayersFor (layer_map_of map.now)) result }
 {
     let library = read_library(alloc, bytes.as_slice())?;
     drop(bytes);

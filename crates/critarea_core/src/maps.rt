@@ -6,24 +6,19 @@ ghost use Rattle.critarea_core.specs.inside.Finding.{Finds, FindsInFiles, IsMapO
 ghost use Rattle.critarea_core.specs.Run.{change};
 ghost use Rattle.critarea_core.specs.Verdict.{ShortMapComesTo};
 
-use super::refusal::{MAP_LIMIT, MAP_TOO_LONG, NOT_SUPPORTED, Refusal};
+use super::refusal::{MAP_LIMIT, MAP_TOO_LONG, Refusal};
 use super::unreported::Unreported;
 use command_line::{Request, Task};
 use edge_io::{Files, read_whole};
-use layer_map::paths::TERMINALS;
 use layer_map::read_map;
 use map_model::{Map, one_metal};
 use std::alloc::Global;
 
-/// The map that the bytes say, where it has no terminals, which are not supported yet.
-fn supported_map(alloc: Global, bytes: &[u8]) -> Result<Map, Unreported>
+/// The map that the bytes say.
+fn map_of_bytes(alloc: Global, bytes: &[u8]) -> Result<Map, Unreported>
     ensures { Finds (ShortMapComesTo bytes.now) IsMapOf result }
 {
-    let map = read_map(alloc, bytes)?;
-    if !map.terminals.as_slice().is_empty() {
-        return Err(Unreported::Refused(Refusal::of_map(NOT_SUPPORTED, u64::from(TERMINALS))));
-    }
-    Ok(map)
+    Ok(read_map(alloc, bytes)?)
 }
 
 /// The map in the file of this name, or why there is none.
@@ -40,7 +35,7 @@ fn map_in<F: Files>(alloc: Global, files: &mut F, name: &[u8]) -> Result<Map, Un
             return Err(Unreported::of_unread(error, too_long));
         }
     };
-    supported_map(alloc, bytes.as_slice())
+    map_of_bytes(alloc, bytes.as_slice())
 }
 
 /// The map that is asked for, or why there is none: that of one metal is made, and any other is in the file that is

@@ -16,9 +16,6 @@ pub const MAP_TOO_LONG: u8 = 39;
 /// The number of a layout that has more bytes.
 pub const LAYOUT_TOO_LONG: u8 = 9;
 
-/// The number of what is not supported yet.
-pub const NOT_SUPPORTED: u8 = 60;
-
 /// Why the input is refused, as it is printed, with the exit status that goes with it.
 #[derive(Clone, Copy, Debug, PartialEq, Eq)]
 pub struct Refusal {
@@ -26,7 +23,7 @@ pub struct Refusal {
     pub status: u8,
     /// Which rule the input breaks.
     pub number: u8,
-    /// Where the input shows it: a path of the map, an offset in bytes, a limit on a length, or 0.
+    /// Where the input shows it: a path of the map, an offset in bytes, a limit on a length, the number of a terminal, or 0.
     pub place: u64,
 }
 

@@ -4,6 +4,7 @@ use flatten::PlaceFault;
 use gds_syntax::SyntaxFault;
 use layer_map::MapFault;
 use lists::NoMemory;
+use net_extract::NetFault;
 use rect_cover::CoverFault;
 use thiserror::Error;
 
@@ -103,6 +104,21 @@ impl From<CoverFault> for Unreported {
     fn from(fault: CoverFault) -> Unreported {
         match fault {
             CoverFault::Memory => Unreported::Memory,
+            _ => Unreported::Refused(Refusal::of_layout(fault.number(), fault.place())),
+        }
+    }
+}
+
+impl From<NetFault> for Unreported {
+    ghost use Rattle.critarea_core.specs.inside.Finding.{IsToldAs};
+    ghost use Rattle.critarea_core.specs.Refusals.{of_net_fault};
+    ghost use Rattle.net_extract.specs.declared.fault.NetFault.TheVariants.{Memory as net_memory};
+
+    ghost from_gives = { λ fault why. IsToldAs net_memory of_net_fault fault why };
+
+    fn from(fault: NetFault) -> Unreported {
+        match fault {
+            NetFault::Memory => Unreported::Memory,
             _ => Unreported::Refused(Refusal::of_layout(fault.number(), fault.place())),
         }
     }

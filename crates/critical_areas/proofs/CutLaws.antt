@@ -13,12 +13,10 @@ use Rattle.map_model.specs.MapNames.{LayerMap, MappedCut, side_of}
 use Rattle.map_model.specs.declared.measure.Measure.{Measure}
 use Rattle.net_extract.specs.Cuts.{cut_of, cuts_of, numbered_cuts}
 use Rattle.questions.specs.declared.kind.Kind.TheVariants.{Via}
-use Rattle.net_extract.specs.NetLists.{NetLists}
 use Rattle.via_clusters.specs.Blocks.{CoversSomeBox}
-use Rattle.via_clusters.specs.Clusters.{AreClusterBoxes}
 use Rattle.critical_areas.specs.AreaParts.{ArePartsOf}
 use Rattle.critical_areas.specs.FaultKinds.{IsFault}
-use Rattle.critical_areas.specs.inside.CutBoxes.{AreAllBoxes}
+use Rattle.critical_areas.specs.inside.LayerParts.{AreOneEach}
 use Rattle.critical_areas.specs.declared.parts.Parts.{Parts}
 use Rattle.critical_areas.proofs.PieceLaws.{even}
 
@@ -60,16 +58,16 @@ module _ (layer_map : LayerMap) (k : ℕ) (small : k < length layer_map.cuts) wh
         λ f. boxed.1 (subst (λ (cut : Cut). IsViaBlock (IsCoveredIn lists) cut (radius + radius) c) (sym (only_cut f.0 f.1 f.2)) f.3),
       )
 
--- the boxes of one cut more
-pub more_boxes : (nets : NetLists) (k : ℕ) (lists : List (List Rect)) (boxes : List Rect) → AreAllBoxes nets k lists → AreClusterBoxes nets k boxes → AreAllBoxes nets (k + 1) (lists ++ boxes ∷ [])
-more_boxes nets k lists boxes are more = record {
-  one_each = omega (arith, length-append lists (boxes ∷ []), are.one_each);
-  boxes = λ number small.
+-- one list more
+pub one_list_more : {X : Type 0} (Is : ℕ → List X → Type 0) (k : ℕ) (lists : List (List X)) (list : List X) → AreOneEach Is k lists → Is k list → AreOneEach Is (k + 1) (lists ++ list ∷ [])
+one_list_more Is k lists list are more = record {
+  one_each = omega (arith, length-append lists (list ∷ []), are.one_each);
+  each = λ number small.
       elim (cases_lt number k) [
-        | inl before ↦ subst (AreClusterBoxes nets number) (sym (get_or_append_left lists (boxes ∷ []) [] number (omega (arith, are.one_each)))) (are.boxes number before)
+        | inl before ↦ subst (Is number) (sym (get_or_append_left lists (list ∷ []) [] number (omega (arith, are.one_each)))) (are.each number before)
         | inr last ↦
             let is : number ≡ k = omega arith in
-            subst (AreClusterBoxes nets number) (sym (get_or_push lists boxes [] number (are.one_each ∙ sym is))) (subst (λ n. AreClusterBoxes nets n boxes) (sym is) more)
+            subst (Is number) (sym (get_or_push lists list [] number (are.one_each ∙ sym is))) (subst (λ n. Is n list) (sym is) more)
       ];
 }
 

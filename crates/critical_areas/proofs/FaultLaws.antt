@@ -1,11 +1,12 @@
--- faults of a layer map: opens need terminals, and what is covered alike has the same faults
-use Rattle.std.proofs.Common.{ℕ, ◌+◌, ◌≡◌, refl, ap, subst, List, [], ◌∷◌, ◌↔◌, Contains, map, filter, length}
+-- faults of a layer map: its terminals are cells, and what is covered alike has the same faults
+use Rattle.std.proofs.Common.{ℕ, ◌+◌, ◌≡◌, refl, sym, ap, subst, List, [], ◌∷◌, ◌↔◌, Contains, map, filter, length}
 use Rattle.lists.proofs.Words.{enumerate_from}
 use Rattle.geo_core.specs.declared.plane.Cell.{Cell}
 use Rattle.fault_model.specs.FaultNames.{IsViasOpen}
+use Rattle.fault_model.specs.Faults.{IsCellsOpen}
 use Rattle.fault_model.proofs.AlikeLaws.{block_alike, open_alike, short_alike}
 use Rattle.fault_model.proofs.TallyLaws.{Tally-same_all}
-use Rattle.fault_model.proofs.TerminalLaws.{no_terminal, no_vias}
+use Rattle.fault_model.proofs.TerminalLaws.{no_vias}
 use Rattle.map_model.specs.MapNames.{LayerMap, layer_map_of, mapped_cut, side_of}
 use Rattle.map_model.specs.declared.layers.Cut.{Cut}
 use Rattle.map_model.specs.declared.map.Map.{Map}
@@ -16,14 +17,16 @@ use Rattle.critical_areas.specs.Rows.{Answers}
 use Rattle.questions.specs.declared.kind.Kind.{Kind}
 use Rattle.questions.specs.declared.kind.Kind.TheVariants.{Short, Open, Via}
 use Rattle.questions.specs.declared.row.Row.{Row}
-use Rattle.lists.proofs.Containing.{Contains-none}
 
--- without terminals nothing is parted
-pub no_open : (layer_map : LayerMap) → layer_map.terminals ≡ [] → terminal_cuts_of layer_map ≡ [] → (covers : ℕ → Cell → Type 0) (m s : ℕ) (c : Cell) → IsFault layer_map covers Open m s c → ⊥
-no_open layer_map no_terminals no_cuts covers m s c f =
+-- where no cut has clusters for terminals, the opens are those of cells
+pub opens_of_cells : (layer_map : LayerMap) → terminal_cuts_of layer_map ≡ [] → (covers : ℕ → Cell → Type 0) (m s : ℕ) (c : Cell)
+    → IsCellsOpen (covers m) (λ d. Contains layer_map.terminals (m, d)) s c ↔ IsFault layer_map covers Open m s c
+opens_of_cells layer_map cells_alone covers m s c =
     let named : Cell → Type 0 = λ d. Contains layer_map.terminals (m, d) in
-    let open_cells = (no_vias covers named m s c).0 (subst (λ cuts. IsViasOpen covers cuts named m s c) no_cuts f) in
-    no_terminal (covers m) named s c (λ d h. Contains-none (subst (λ ts. Contains ts (m, d)) no_terminals h)) open_cells
+    let same = no_vias covers named m s c in (
+      λ o. subst (λ cuts. IsViasOpen covers cuts named m s c) (sym cells_alone) (same.1 o),
+      λ f. same.0 (subst (λ cuts. IsViasOpen covers cuts named m s c) cells_alone f),
+    )
 
 -- no cut of a map says that its clusters are terminals
 none_numbered : (cuts : List Cut) (first : ℕ) → filter (λ numbered. numbered.1.has_terminals) (enumerate_from first (map mapped_cut cuts)) ≡ []

@@ -6,3 +6,4 @@ pub mod FaultLaws
 pub mod RowLaws
 pub mod UniqueLaws
 pub mod CutLaws
+pub mod OpenLaws

@@ -1,30 +1,31 @@
 -- the parts that come of nets
-use Rattle.std.proofs.Common.{arith, ◌+◌, ◌/◌, ◌≤◌, Some, slice_get, ◌≡◌, ◌<◌, ℕ, List, [], map, length, sym, subst, ap, ◌∙◌, ◌↔◌, Contains, slice_index_or, Ok, Err}
-use Rattle.lists.proofs.Words.{slice_get_within, length-enumerate_from, enumerate_from, length-map, All-nil}
+use Rattle.std.proofs.Common.{arith, ◌+◌, ◌/◌, Some, slice_get, ◌≡◌, ◌<◌, ℕ, List, [], map, length, sym, subst, ap, ◌∙◌, ◌↔◌, Contains, slice_index_or, Ok, Err}
+use Rattle.lists.proofs.Words.{slice_get_within, length-enumerate_from, length-map}
 use Rattle.std.proofs.Math.ListN.{get_or-map}
-use Rattle.first_refusal.proofs.CheckLaws.{none_fails}
 use Rattle.first_refusal.specs.Answers.{Answers, gives, refuses, no_memory}
-use Rattle.first_refusal.specs.Checks.{IsFirstFailing, all_hold, one_fails}
+use Rattle.first_refusal.specs.Checks.{all_hold, one_fails}
 use Rattle.geo_core.specs.Plane.{Has, IsCoveredIn}
 use Rattle.geo_core.specs.declared.plane.Cell.{Cell}
 use Rattle.geo_core.specs.declared.plane.Half.{Half}
 use Rattle.geo_core.specs.declared.plane.Labelled.{Labelled}
 use Rattle.geo_core.specs.declared.plane.Rect.{Rect}
-use Rattle.fault_model.specs.FaultNames.{IsOn, Cut, IsViaBlock}
+use Rattle.fault_model.specs.FaultNames.{IsOn, Cut, IsViaBlock, IslandLists}
 use Rattle.lists.proofs.Mapping.{Contains-map, Contains-map_from}
 use Rattle.map_model.specs.MapNames.{LayerMap}
-use Rattle.net_extract.specs.Cuts.{cut_of, cuts_of, numbered_cuts}
-use Rattle.net_extract.specs.Extraction.{AreNetsOf, ComeToNets, IsOnItsMetal}
+use Rattle.net_extract.specs.AnchoredIslands.{AreAnchoredIslands}
+use Rattle.net_extract.specs.Cuts.{cut_of, cuts_of, numbered_cuts, terminal_cuts_of}
+use Rattle.net_extract.specs.Extraction.{AreNetsOf, ComeToNets}
 use Rattle.net_extract.specs.NetLists.{NetLists, IsPieceCell, IsNetCell, pieces_on}
 use Rattle.net_extract.specs.declared.fault.NetFault.{NetFault}
-use Rattle.net_extract.specs.declared.fault.NetFault.TheVariants.{TerminalOffMetal, Memory}
+use Rattle.net_extract.specs.declared.fault.NetFault.TheVariants.{Memory}
 use Rattle.net_extract.proofs.ClusterLaws.{carry_clusters}
+use Rattle.net_extract.proofs.OpenLaws.{opens_are_of_islands}
 use Rattle.questions.specs.Questions.{questions}
 use Rattle.via_clusters.specs.Blocks.{CoversSomeBox}
 use Rattle.via_clusters.specs.Clusters.{AreClusterBoxes}
 use Rattle.via_clusters.proofs.BlockLaws.{block_is_box}
-use Rattle.critical_areas.specs.AreaParts.{AreBoxesOf, ArePartsOf, ArePiecesOf, ComeToParts, IsInPieces, by_net}
-use Rattle.critical_areas.specs.inside.CutBoxes.{AreAllBoxes}
+use Rattle.critical_areas.specs.AreaParts.{AreBoxesOf, AreIslandsOf, ArePartsOf, ArePiecesOf, ComeToParts, IsInPieces, by_net}
+use Rattle.critical_areas.specs.inside.LayerParts.{AreAllBoxes, AreAllIslands}
 use Rattle.critical_areas.specs.declared.parts.Parts.{Parts}
 
 module _ (layer_map : LayerMap) (lists : List (List Rect)) (made : NetLists) (are : AreNetsOf layer_map lists made) (metal : ℕ) where
@@ -51,6 +52,14 @@ module _ (layer_map : LayerMap) (lists : List (List Rect)) (made : NetLists) (ar
     nets = λ one other p q one_in other_in p_on q_on. are.nets metal metal one.label other.label p q (in_net one p one_in p_on) (in_net other q other_in q_on);
   }
 
+  -- the islands of a metal that have two anchors or more
+  islands_of_metal : (islands : List IslandLists) → AreAnchoredIslands made metal islands → AreIslandsOf (IsCoveredIn lists metal) (λ d. Contains layer_map.terminals (metal, d)) islands
+  islands_of_metal islands anchored side c =
+      let same = opens_are_of_islands layer_map lists made are metal side c islands anchored in (
+        λ o. same.0 (o.island, o.among, o.is_open),
+        λ o. let found = same.1 o in record { island = found.0; among = found.1; is_open = found.2 },
+      )
+
 -- the boxes of a cut's clusters tell where it is blocked
 boxes_of_cut : (layer_map : LayerMap) (lists : List (List Rect)) (made : NetLists) → AreNetsOf layer_map lists made → (number : ℕ) (cut : Cut) → slice_get (cuts_of layer_map) number ≡ Some cut
     → (boxes : List Rect) → AreClusterBoxes made number boxes → AreBoxesOf (IsCoveredIn lists) cut boxes
@@ -69,17 +78,21 @@ cut_is_among layer_map number cut there =
     omega (arith, within, as_many, numbered)
 
 pub parts_are : (layer_map : LayerMap) (lists : List (List Rect)) (made : NetLists) (parts : Parts) → AreNetsOf layer_map lists made → parts.questions ≡ questions layer_map
-    → parts.metals ≡ map (map by_net) made.pieces → AreAllBoxes made (length made.contacts) parts.cuts → ArePartsOf layer_map lists parts
-parts_are layer_map lists made parts are asked metals boxed = record {
+    → parts.metals ≡ map (map by_net) made.pieces → AreAllIslands made (length made.pieces) parts.islands → AreAllBoxes made (length made.contacts) parts.cuts → terminal_cuts_of layer_map ≡ []
+    → ArePartsOf layer_map lists parts
+parts_are layer_map lists made parts are asked metals anchored boxed cells_alone = record {
   asked = asked;
   one_each = ap length metals ∙ length-map made.pieces (map by_net) ∙ are.metals;
   pieces = λ metal small.
       let at = ap (λ ms. slice_index_or ms metal []) metals ∙ get_or-map (map by_net) made.pieces metal [] in
       subst (ArePiecesOf (IsCoveredIn lists) (cuts_of layer_map) metal) (sym at) (pieces_by_net layer_map lists made are metal small);
+  islands_each = anchored.one_each ∙ are.metals;
+  islands = λ metal small. islands_of_metal layer_map lists made are metal _ (anchored.each metal (omega (arith, are.metals)));
+  cells_alone = cells_alone;
   one_each_cut = boxed.one_each ∙ are.cuts;
   boxes = λ number cut there.
       let among = cut_is_among layer_map number cut there in
-      boxes_of_cut layer_map lists made are number cut there _ (boxed.boxes number (omega (arith, are.cuts, among)));
+      boxes_of_cut layer_map lists made are number cut there _ (boxed.each number (omega (arith, are.cuts, among)));
 }
 
 module _ (layer_map : LayerMap) (lists : List (List Rect)) where
@@ -92,11 +105,3 @@ module _ (layer_map : LayerMap) (lists : List (List Rect)) where
   pub refused_too : (fault : NetFault) → Answers Memory (ComeToNets layer_map lists) (Err fault) → Answers Memory (ComeToParts layer_map lists) (Err fault)
   refused_too fault (refuses (one_fails q)) = refuses (one_fails q)
   refused_too fault no_memory = no_memory
-
-  -- without terminals all answers are parts, or that no memory is left
-  pub parts_given : (parts : Parts) → Answers Memory (ComeToParts layer_map lists) (Ok parts) → ArePartsOf layer_map lists parts
-  parts_given parts (gives (all_hold all are)) = are
-
-  pub not_off_metal : layer_map.terminals ≡ [] → (index : ℕ) → Answers Memory (ComeToParts layer_map lists) (Err (TerminalOffMetal index)) → ⊥
-  not_off_metal none index (refuses (one_fails q)) =
-      none_fails (IsOnItsMetal lists) [] (All-nil (IsOnItsMetal lists)) q.check (subst (λ ts. IsFirstFailing (IsOnItsMetal lists) (enumerate_from 0 ts) q.check) none q.is_first)

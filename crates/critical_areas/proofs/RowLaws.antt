@@ -1,5 +1,5 @@
--- rows by amounts, and what rows of a layer map without cuts and terminals stand on
-use Rattle.std.proofs.Common.{ℕ, ◌≡◌, sym, subst, List, [], ◌∷◌, map, ◌↔◌}
+-- rows by amounts, and what is covered alike has the same rows
+use Rattle.std.proofs.Common.{ℕ, sym, subst, List, [], ◌∷◌, map, ◌↔◌}
 use Rattle.lists.proofs.Words.{AllZip}
 use Rattle.geo_core.specs.declared.plane.Cell.{Cell}
 use Rattle.fault_model.specs.FaultNames.{IsCovered, cells_of_window}

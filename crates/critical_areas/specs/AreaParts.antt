@@ -1,5 +1,5 @@
--- what the areas of a layout are counted from: what is asked, the pieces of each metal, labelled by their nets, and the boxes
--- of each cut's via clusters
+-- what the areas of a layout are counted from: what is asked, the pieces of each metal, labelled by their nets, its islands
+-- with terminals, and the boxes of each cut's via clusters
 use Rattle.std.specs.Prelude.{ℕ, List, [], Some, slice_get, Contains, length, slice_index_or, ◌+◌, ◌≡◌, ◌<◌, ◌≤◌, ◌↔◌}
 use Rattle.lists.specs.Words.{enumerate_from}
 use Rattle.first_refusal.specs.Checks.{Checks}
@@ -9,13 +9,15 @@ use Rattle.geo_core.specs.declared.plane.Cell.{Cell}
 use Rattle.geo_core.specs.declared.plane.Half.{Half}
 use Rattle.geo_core.specs.declared.plane.Labelled.{Labelled}
 use Rattle.geo_core.specs.declared.plane.Rect.{Rect}
-use Rattle.fault_model.specs.FaultNames.{IsOn, Cut, IsSameNetOn, IsViaBlock}
+use Rattle.fault_model.specs.FaultNames.{IsOn, Cut, IsSameNetOn, IsViaBlock, IslandLists}
+use Rattle.fault_model.specs.Faults.{IsCellsOpen}
 use Rattle.map_model.specs.MapNames.{LayerMap}
-use Rattle.net_extract.specs.Cuts.{cuts_of}
+use Rattle.net_extract.specs.Cuts.{cuts_of, terminal_cuts_of}
 use Rattle.net_extract.specs.Extraction.{IsOnItsMetal, off_metal}
 use Rattle.net_extract.specs.declared.fault.NetFault.{NetFault}
 use Rattle.net_extract.specs.declared.pieces.Piece.{Piece}
 use Rattle.questions.specs.Questions.{questions}
+use Rattle.severing.specs.Severing.{IsSomeOpen}
 use Rattle.via_clusters.specs.Blocks.{CoversSomeBox}
 use Rattle.critical_areas.specs.declared.parts.Parts.{Parts}
 
@@ -31,6 +33,10 @@ pub record ArePiecesOf (covers : ℕ → Cell → Type 0) (cuts : List Cut) (m :
   pub nets : (one other : Labelled) (p q : Half) → Contains pieces one → Contains pieces other →
       IsOn (Has one.rect) p → IsOn (Has other.rect) q → (one.label ≡ other.label) ↔ IsSameNetOn covers cuts m p q
 
+-- a defect of any side parts two anchors of one of the islands exactly where it parts two of the cells that are named
+abbrev pub AreIslandsOf : (Cell → Type 0) → (Cell → Type 0) → List IslandLists → Type 0
+AreIslandsOf covered named islands = (side : ℕ) (c : Cell) → IsSomeOpen islands side c ↔ IsCellsOpen covered named side c
+
 -- a defect of any radius covers one of the boxes exactly where it blocks a via of the cut
 abbrev pub AreBoxesOf : (ℕ → Cell → Type 0) → Cut → List Rect → Type 0
 AreBoxesOf covers cut boxes = (radius : ℕ) (c : Cell) → 1 ≤ radius
@@ -42,6 +48,11 @@ pub record ArePartsOf (layer_map : LayerMap) (lists : List (List Rect)) (parts :
   pub one_each : length parts.metals ≡ length layer_map.metals
   pub pieces : (metal : ℕ) → metal < length layer_map.metals →
       ArePiecesOf (IsCoveredIn lists) (cuts_of layer_map) metal (slice_index_or parts.metals metal [])
+  pub islands_each : length parts.islands ≡ length layer_map.metals
+  pub islands : (metal : ℕ) → metal < length layer_map.metals →
+      AreIslandsOf (IsCoveredIn lists metal) (λ d. Contains layer_map.terminals (metal, d)) (slice_index_or parts.islands metal [])
+  -- the terminals are cells: no cut has via clusters for terminals
+  pub cells_alone : terminal_cuts_of layer_map ≡ []
   pub one_each_cut : length parts.cuts ≡ length layer_map.cuts
   pub boxes : (number : ℕ) (cut : Cut) → slice_get (cuts_of layer_map) number ≡ Some cut →
       AreBoxesOf (IsCoveredIn lists) cut (slice_index_or parts.cuts number [])

@@ -1,10 +1,15 @@
 -- the rows that answer the questions of a layer map
-use Rattle.std.specs.Prelude.{ℕ, ◌≡◌, List, Option, map}
-use Rattle.lists.specs.Words.{AllZip}
+use Rattle.std.specs.Prelude.{ℕ, ◌≡◌, List, Option, map, Vec}
+use Rattle.lists.specs.Words.{AllZip, Global, enumerate_from}
+use Rattle.first_refusal.specs.Checks.{Checks}
+use Rattle.first_refusal.specs.Outcomes.{Outcome}
+use Rattle.geo_core.specs.Plane.{IsCoveredIn}
 use Rattle.geo_core.specs.declared.plane.Cell.{Cell}
 use Rattle.geo_core.specs.declared.plane.Rect.{Rect}
 use Rattle.fault_model.specs.FaultNames.{Tally, IsCovered, IsWindowOf, cells_of_window}
 use Rattle.map_model.specs.MapNames.{LayerMap, reach_of, side_of}
+use Rattle.net_extract.specs.Extraction.{IsOnItsMetal, off_metal}
+use Rattle.net_extract.specs.declared.fault.NetFault.{NetFault}
 use Rattle.questions.specs.Questions.{IsRowFor, questions}
 use Rattle.questions.specs.declared.question.Question.{Question}
 use Rattle.questions.specs.declared.row.Row.{Row}
@@ -38,3 +43,8 @@ pub record AreRows (layer_map : LayerMap) (covers : ℕ → Cell → Type 0) (ro
   pub window : Option Rect
   pub is_window : IsWindowFor layer_map covers window
   pub answers : AllZip (Answers layer_map covers (cells_of_window window)) (questions layer_map) rows
+
+-- what layers come to: rows where all terminals are on their metals, and else the fault of the first that is not
+abbrev pub ComeToRows : LayerMap → List (List Rect) → Outcome (Vec Row Global) NetFault → Type 0
+ComeToRows layer_map lists =
+    Checks (IsOnItsMetal lists) (enumerate_from 0 layer_map.terminals) off_metal (λ rows. AreRows layer_map (IsCoveredIn lists) rows.items)

@@ -1,2 +1,2 @@
 pub mod LayoutBounds
-pub mod CutBoxes
+pub mod LayerParts

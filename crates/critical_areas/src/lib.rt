@@ -6,25 +6,25 @@ mod answering;
 mod blocks;
 mod counting;
 pub mod laws;
+mod opens;
 mod parts;
 mod preparing;
 mod shorts;
 mod window;
 
-ghost use Rattle.std.specs.Prelude.{[], ◌≡◌, ◌≤◌, ◌+◌, IfOk, All, length};
+ghost use Rattle.std.specs.Prelude.{◌≡◌, ◌≤◌, ◌+◌, IfOk, All, length};
+ghost use Rattle.first_refusal.specs.Answers.{Answers};
 ghost use Rattle.geo_core.specs.Cells.{IsInLayout};
-ghost use Rattle.geo_core.specs.Unions.{IsCoveredIn};
-ghost use Rattle.critical_areas.specs.Rows.{AreRows};
+ghost use Rattle.critical_areas.specs.Rows.{ComeToRows};
 ghost use Rattle.map_model.specs.MapView.{layer_map_of};
 ghost use Rattle.questions.specs.declared.row.TheConstants.{MOST_ROWS};
 
 pub use answering::rows;
 pub use counting::amounts;
-use lists::NoMemory;
 use map_model::{Layers, Map};
-pub use parts::{Parts, PieceList};
+pub use net_extract::NetFault;
+pub use parts::{IslandList, Parts, PieceList};
 pub use preparing::prepare;
-use preparing::prepare_without_terminals;
 use questions::Row;
 use std::alloc::Global;
 use window::{reach, window_of};
@@ -32,17 +32,17 @@ use window::{reach, window_of};
 /// The rows of the report on what the rectangles cover, of which there is one list for each layer of the map: shorts of
 /// each metal, then opens of each, and then via blocks of each cut, for each size in order.
 ///
-/// An area is a number of cells of the window, which is what all layers cover, grown by the greatest radius. Opens are not
-/// counted yet: the map may have no terminals, and so all areas of opens are 0. The only error is that no memory is left.
-pub fn critical_areas(alloc: Global, map: &Map, layers: &Layers) -> Result<Vec<Row>, NoMemory>
-    requires no_terminals { map.now.terminals ≡ [] }
+/// An area is a number of cells of the window, which is what all layers cover, grown by the greatest radius. The error is
+/// 50 with the number of the first terminal whose cell its metal does not cover, or that no memory is left.
+#[tactic(auto, using(first_refusal::proofs::AnswerLaws::out_of_memory))]
+pub fn critical_areas(alloc: Global, map: &Map, layers: &Layers) -> Result<Vec<Row>, NetFault>
     requires one_each { length layers.now.lists.items ≡ length map.now.metals + length map.now.cuts }
     requires within { All (All IsInLayout) layers.now.lists.items }
-    ensures rows { IfOk result (λ rows. AreRows (layer_map_of map.now) (IsCoveredIn layers.now.lists.items) rows.items) }
+    ensures rows { Answers NetFault.Memory (ComeToRows (layer_map_of map.now) layers.now.lists.items) result }
     ensures few { IfOk result (λ rows. length rows.items ≤ MOST_ROWS) }
 {
     let window = window_of(layers.lists.as_slice(), reach(map));
-    let parts = prepare_without_terminals(alloc, map, layers)?;
+    let parts = prepare(alloc, map, layers)?;
     let amounts = amounts(alloc, &parts, window)?;
-    rows(alloc, &parts, &amounts)
+    Ok(rows(alloc, &parts, &amounts)?)
 }

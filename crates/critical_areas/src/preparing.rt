@@ -1,10 +1,10 @@
-ghost use Rattle.std.specs.Prelude.{[], ◌≡◌, ◌<◌, ◌+◌, ◌^◌, IfOk, length, map};
+ghost use Rattle.std.specs.Prelude.{◌≡◌, ◌<◌, ◌+◌, ◌^◌, IfOk, length, map};
 ghost use Rattle.first_refusal.specs.Answers.{Answers};
 ghost use Rattle.map_model.specs.MapView.{layer_map_of};
-ghost use Rattle.critical_areas.specs.AreaParts.{ArePartsOf, ComeToParts, by_net};
-ghost use Rattle.critical_areas.specs.inside.CutBoxes.{AreAllBoxes};
+ghost use Rattle.critical_areas.specs.AreaParts.{ComeToParts, by_net};
+ghost use Rattle.critical_areas.specs.inside.LayerParts.{AreAllBoxes, AreAllIslands};
 
-use super::parts::{Parts, PieceList};
+use super::parts::{IslandList, Parts, PieceList};
 use geo_core::{Labelled, RectList};
 use lists::{Items, NoMemory};
 use map_model::{Layers, Map};
@@ -23,29 +23,14 @@ pub fn prepare(alloc: Global, map: &Map, layers: &Layers) -> Result<Parts, NetFa
     let nets = extract(alloc, layers, map)?;
     let questions = questions_of(alloc, map)?;
     let metals = pieces_by_net(alloc, &nets, map.metals.as_slice().len())?;
+    let islands = anchored_islands(alloc, &nets, map.metals.as_slice().len())?;
     let cuts = boxes_of_clusters(alloc, &nets, map.cuts.as_slice().len())?;
     Ok(Parts {
         questions: Items::from_vec(questions),
         metals,
+        islands,
         cuts,
     })
-}
-
-/// The same for a map without terminals, where the only error is that no memory is left.
-pub fn prepare_without_terminals(
-    alloc: Global,
-    map: &Map,
-    layers: &Layers,
-) -> Result<Parts, NoMemory>
-    requires no_terminals { map.now.terminals ≡ [] }
-    requires one_each { length layers.now.lists.items ≡ length map.now.metals + length map.now.cuts }
-    ensures { IfOk result (ArePartsOf (layer_map_of map.now) layers.now.lists.items) }
-{
-    match prepare(alloc, map, layers) {
-        Ok(parts) => Ok(parts),
-        Err(NetFault::Memory) => Err(NoMemory),
-        Err(NetFault::TerminalOffMetal { .. }) => unreachable!(),
-    }
 }
 
 /// The pieces of each of the metals, labelled by their nets.
@@ -57,6 +42,23 @@ fn pieces_by_net(alloc: Global, nets: &Nets, metals: usize) -> Result<Items<Piec
     let mut lists = Vec::new(alloc);
     for metal in 0..metals as u32 {
         lists.push(labelled(alloc, nets.pieces(metal))?)?;
+    }
+    Ok(Items::from_vec(lists))
+}
+
+/// The islands of each of the metals that have two anchors or more.
+fn anchored_islands(
+    alloc: Global,
+    nets: &Nets,
+    metals: usize,
+) -> Result<Items<IslandList>, NoMemory>
+    requires all { metals ≡ length nets.now.pieces }
+    requires small { metals < 2 ^ 32 }
+    ensures { IfOk result (λ lists. AreAllIslands nets.now metals lists) }
+{
+    let mut lists = Vec::new(alloc);
+    for metal in 0..metals as u32 {
+        lists.push(IslandList::from_vec(nets.islands(alloc, metal)?))?;
     }
     Ok(Items::from_vec(lists))
 }

@@ -35,7 +35,8 @@ const CHANGED: &[(usize, u8, u8, &str)] = &[
         0,
         "layout 'a': nothing is wrong, and the run gives its report\n  \
          library 'L', a database unit that is no length below a metre, 1 structures, top 'T'\n  \
-         metal 'm': 2 shapes with 10 points, from (0, 0) to (24, 10)\n",
+         metal 'm': 2 shapes with 10 points, from (0, 0) to (24, 10)\n  \
+         metal 'm': no terminals, so its opens are 0, and nothing is said of its wires\n",
     ),
     // the unit is 16 to the power of -8 metres, which is 0.23283064.. nanometres
     (
@@ -44,7 +45,8 @@ const CHANGED: &[(usize, u8, u8, &str)] = &[
         0,
         "layout 'a': nothing is wrong, and the run gives its report\n  \
          library 'L', a database unit of 0.232831 nm, 1 structures, top 'T'\n  \
-         metal 'm': 2 shapes with 10 points, from (0, 0) to (24, 10)\n",
+         metal 'm': 2 shapes with 10 points, from (0, 0) to (24, 10)\n  \
+         metal 'm': no terminals, so its opens are 0, and nothing is said of its wires\n",
     ),
     // the layer of both bars is asked for, and one has another
     (
@@ -53,7 +55,8 @@ const CHANGED: &[(usize, u8, u8, &str)] = &[
         0,
         "layout 'a': nothing is wrong, and the run gives its report\n  \
          library 'L', a database unit that is no length below a metre, 1 structures, top 'T'\n  \
-         metal 'm': 1 shapes with 5 points, from (14, 0) to (24, 10)\n",
+         metal 'm': 1 shapes with 5 points, from (14, 0) to (24, 10)\n  \
+         metal 'm': no terminals, so its opens are 0, and nothing is said of its wires\n",
     ),
     // the first byte of a gzip file is another, and its length is odd
     (
@@ -107,5 +110,51 @@ fn changed_layouts_are_told(rt: HostRuntime) {
         };
         let words = "a|--layer|1|--datatype|0|--radius|3";
         expect(&rt, rt.alloc(), words, &stands, *status, told);
+    }
+}
+
+/// Maps of the two bars with terminals, the status, and what is told.
+const TERMINALS: &[(&[u8], u8, &str)] = &[
+    (
+        b"version=1\nradii=[1]\nweights=[1]\nmetal=[{name=\"m1\",pairs=[[1,0]]},{name=\"m2\",pairs=[[2,0]]}]\n\
+          terminal=[{metal=\"m1\",x=0,y=0},{metal=\"m1\",x=23,y=9}]\n",
+        0,
+        "layout 'a': nothing is wrong, and the run gives its report\n  \
+         library 'L', a database unit that is no length below a metre, 1 structures, top 'T'\n  \
+         metal 'm1': 2 shapes with 10 points, from (0, 0) to (24, 10)\n  \
+         metal 'm2': no shapes; are its layers and datatypes those of the layout?\n  \
+         metal 'm1': 2 terminals\n  \
+         metal 'm2': no terminals, so its opens are 0, and nothing is said of its wires\n",
+    ),
+    (
+        b"version=1\nradii=[1]\nweights=[1]\nmetal=[{name=\"m1\",pairs=[[1,0]]}]\n\
+          terminal=[{metal=\"m1\",x=14,y=0}]\n",
+        0,
+        "layout 'a': nothing is wrong, and the run gives its report\n  \
+         library 'L', a database unit that is no length below a metre, 1 structures, top 'T'\n  \
+         metal 'm1': 2 shapes with 10 points, from (0, 0) to (24, 10)\n  \
+         metal 'm1': 1 terminal, so its opens are 0: an open parts two of one island\n",
+    ),
+    // in the gap between the bars, and above the first
+    (
+        b"version=1\nradii=[1]\nweights=[1]\nmetal=[{name=\"m1\",pairs=[[1,0]]}]\n\
+          terminal=[{metal=\"m1\",x=9,y=9},{metal=\"m1\",x=10,y=5},{metal=\"m1\",x=5,y=10}]\n",
+        4,
+        "error 50 at 1\n\
+         layout 'a': no shape of its metal covers [[terminal]] number 2, metal 'm1', cell (10, 5); \
+         move the terminal onto one, or see whether the metal has the right layers and datatypes\n  \
+         nor does one cover [[terminal]] number 3, metal 'm1', cell (5, 10)\n",
+    ),
+];
+
+#[test]
+fn terminals_are_told(rt: HostRuntime) {
+    for (map, status, told) in TERMINALS {
+        let stands = Stands {
+            map,
+            layout: TWO_BARS,
+            others: &[],
+        };
+        expect(&rt, rt.alloc(), "a|--map|m", &stands, *status, told);
     }
 }

@@ -80,12 +80,6 @@ const ROWS: &[(&[u8], &str)] = &[
          map 'm', [[terminal]] number 3: an earlier terminal is the same cell of the same metal; leave one out\n  \
          earlier: [[terminal]] number 2, the cell (-3, 0) of 'a'\n",
     ),
-    (
-        b"version = 1\nradii = [1]\nweights = [1]\n[[metal]]\nname = \"a\"\npairs = [[1, 0]]\n\
-          [[terminal]]\nmetal = \"a\"\nx = 0\ny = 0\n",
-        "error 60 at 7\n\
-         map 'm', `terminal`: terminals are not supported yet; leave them out\n",
-    ),
 ];
 
 #[test]

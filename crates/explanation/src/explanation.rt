@@ -2,7 +2,7 @@
 
 use crate::inputs::{Input, LONGEST_LAYOUT, read_again};
 use crate::layouts::{Layout, tell_layout};
-use crate::maps::{tell_map_fault, tell_terminals};
+use crate::maps::tell_map_fault;
 use crate::path_kinds::Paths;
 use crate::telling::Telling;
 use crate::text::Text;
@@ -67,11 +67,12 @@ fn map_of(
     bytes: &[u8],
 ) -> Result<Option<Map>, NoMemory> {
     match read_map(alloc, bytes) {
-        Ok(map) if map.terminals.as_slice().is_empty() => return Ok(Some(map)),
-        Ok(_) => tell_terminals(told, name),
-        Err(fault) => tell_map_fault(alloc, told, name, bytes, fault)?,
+        Ok(map) => Ok(Some(map)),
+        Err(fault) => {
+            tell_map_fault(alloc, told, name, bytes, fault)?;
+            Ok(None)
+        }
     }
-    Ok(None)
 }
 
 /// The names of the layout's file and of the structure that is wanted, where one is.

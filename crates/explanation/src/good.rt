@@ -4,6 +4,7 @@ use crate::graph::{graph_of, tops_of};
 use crate::layer_names::{layer_count, tell_layer};
 use crate::layouts::Layout;
 use crate::shapes::Held;
+use crate::terminals::tell_terminal_counts;
 use crate::text::Text;
 use crate::unit::tell_unit;
 use library_model::Library;
@@ -104,5 +105,6 @@ pub fn tell_good(
     for (number, held) in layers.iter().enumerate() {
         tell_held(text, map, number, held);
     }
+    tell_terminal_counts(text, map);
     Ok(())
 }

@@ -11,10 +11,11 @@ use crate::good::tell_good;
 use crate::kind_names::record_name;
 use crate::places::{tell_before, tell_place};
 use crate::refused::meaning;
-use crate::shapes::{shapes_of, tell_uncovered};
+use crate::shapes::{Shapes, shapes_of, tell_uncovered};
 use crate::spot::{spot_at, spot_before};
 use crate::structures::tell_place_fault;
 use crate::telling::Telling;
+use crate::terminals::{Known, first_off, tell_others, tell_terminal};
 use flatten::{Placed, place};
 use gds_records::RecordFault;
 use gds_syntax::{SyntaxFault, read_library};
@@ -142,6 +143,51 @@ fn tell_syntax(
     Ok(())
 }
 
+/// Tells of the terminals that no shape of their metals covers, of which this is the first.
+fn tell_off_metal(
+    told: &mut Telling,
+    map: &Map,
+    layout: &Layout<'_>,
+    known: &[Known],
+    first: Known,
+) {
+    told.refuse(REFUSED, 50, first.index as u64);
+    told.text.say("layout ");
+    told.text.name(layout.name);
+    told.text.say(": no shape of its metal covers ");
+    tell_terminal(&mut told.text, map, first);
+    told.text.say(
+        "; move the terminal onto one, or see whether the metal has the right layers and datatypes\n",
+    );
+    tell_others(&mut told.text, map, known, first);
+}
+
+/// Tells of a library all of whose placed shapes have covers.
+fn tell_covered(
+    alloc: Global,
+    told: &mut Telling,
+    map: &Map,
+    layout: &Layout<'_>,
+    library: &Library,
+    shapes: &Shapes,
+) -> Result<(), NoMemory> {
+    let known = shapes.terminals.as_slice();
+    match first_off(known) {
+        Some(first) => {
+            tell_off_metal(told, map, layout, known, first);
+            Ok(())
+        }
+        None => tell_good(
+            alloc,
+            &mut told.text,
+            map,
+            layout,
+            library,
+            shapes.held.as_slice(),
+        ),
+    }
+}
+
 /// Tells of the shapes of a library.
 fn tell_shapes(
     alloc: Global,
@@ -156,14 +202,7 @@ fn tell_shapes(
     let shapes = shapes_of(alloc, map, library, placed)?;
     let found = shapes.uncovered.as_slice();
     match found.first() {
-        None => tell_good(
-            alloc,
-            &mut told.text,
-            map,
-            layout,
-            library,
-            shapes.held.as_slice(),
-        ),
+        None => tell_covered(alloc, told, map, layout, library, &shapes),
         Some(first) => {
             tell_number(told, layout, first.number, u64::from(first.at));
             tell_uncovered(alloc, &mut told.text, map, layout, found)

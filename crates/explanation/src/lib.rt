@@ -22,6 +22,7 @@ mod shapes;
 mod spot;
 mod structures;
 mod telling;
+mod terminals;
 mod text;
 mod unit;
 mod usage;

@@ -385,11 +385,3 @@ pub fn tell_map_fault(
     tell_spot(text, &document, name, spot);
     tell_fault(alloc, text, &document, fault, spot)
 }
-
-/// Tells that terminals are not supported yet.
-pub fn tell_terminals(told: &mut Telling, name: &[u8]) {
-    told.refuse(3, 60, 7);
-    told.text.say("map ");
-    told.text.name(name);
-    told.text.say(", `terminal`: terminals are not supported yet; leave them out\n");
-}

@@ -1,4 +1,5 @@
-//! The placed shapes of a layout: what they cover on each layer of the map, and those that have no cover.
+//! The placed shapes of a layout: what they cover on each layer of the map, which of its terminals they cover, and those that
+//! have no cover.
 
 ghost use Rattle.std.specs.Prelude.{All};
 ghost use Rattle.rect_cover.specs.Coverings.{IsWellPlaced};
@@ -8,6 +9,7 @@ use crate::layouts::Layout;
 use crate::places::tell_place;
 use crate::refused::short_meaning;
 use crate::spot::spot_at;
+use crate::terminals::{Known, known_terminals, note_covered};
 use crate::text::Text;
 use flatten::Placed;
 use geo_core::Rect;
@@ -40,11 +42,12 @@ pub struct Held {
     pub bounds: Option<(i32, i32, i32, i32)>,
 }
 
-/// The placed shapes: what each layer holds, and those that have no cover.
+/// The placed shapes: what each layer holds, those that have no cover, and which terminals are covered.
 #[derive(Drop)]
 pub struct Shapes {
     pub held: Vec<Held>,
     pub uncovered: Vec<Uncovered>,
+    pub terminals: Vec<Known>,
 }
 
 /// How many points the placed shape has.
@@ -94,6 +97,9 @@ fn note(
             if let Some(held) = shapes.held.get_mut(one.layer as usize) {
                 *held = with_shape(*held, point_count(library, one), rects.as_slice());
             }
+            for rect in &rects {
+                note_covered(&mut shapes.terminals, one.layer, *rect);
+            }
         }
         Err(CoverFault::Memory) => return Err(NoMemory),
         Err(fault) => shapes.uncovered.push(Uncovered {
@@ -105,7 +111,7 @@ fn note(
     Ok(())
 }
 
-/// Looks at all placed shapes.
+/// Looks at all placed shapes. The terminals come in the order of the map.
 pub fn shapes_of(
     alloc: Global,
     map: &Map,
@@ -122,11 +128,13 @@ pub fn shapes_of(
     let mut shapes = Shapes {
         held: vec![in alloc; none; layer_count(map)]?,
         uncovered: Vec::new(alloc),
+        terminals: known_terminals(alloc, map)?,
     };
     for one in placed {
         let answer = cover(alloc, library, one);
         note(&mut shapes, library, one, answer)?;
     }
+    shapes.terminals.sort_by_key(|one| one.index)?;
     Ok(shapes)
 }
 

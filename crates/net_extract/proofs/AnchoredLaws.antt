@@ -50,7 +50,7 @@ module _ (nets : NetLists) (metal : ℕ) where
     abbrev cells : List Cell
     cells = anchors_of_island nets metal number
 
-    island_cell : (c : Cell) → IsInUnion rects c → IsIslandCell nets metal number c
+    pub island_cell : (c : Cell) → IsInUnion rects c → IsIslandCell nets metal number c
     island_cell c v =
         let found = Contains-map_from (λ (piece : Piece). piece.rect) (filter of_island (pieces_on nets metal)) v.rect (among_union rects c v) in
         record {
@@ -60,20 +60,20 @@ module _ (nets : NetLists) (metal : ℕ) where
           has = subst (λ r. Has r c) (sym found.2) v.has;
         }
 
-    in_rects : (c : Cell) → IsIslandCell nets metal number c → IsInUnion rects c
+    pub in_rects : (c : Cell) → IsIslandCell nets metal number c → IsInUnion rects c
     in_rects c v =
         let kept = Contains-filter of_island (pieces_on nets metal) v.piece v.among ((Decides-eqb v.piece.island number).1 v.carries) in
         in_union rects v.piece.rect c (Contains-map (λ (piece : Piece). piece.rect) (filter of_island (pieces_on nets metal)) v.piece kept) v.has
 
     -- an anchor's cell, by its anchor
-    record IsAnchored (c : Cell) : Type 0 where
-      anchor : Anchor
-      among : Contains nets.anchors anchor
-      on_metal : anchor.metal ≡ metal
-      on_island : anchor.island ≡ number
-      at : anchor.cell ≡ c
+    pub record IsAnchored (c : Cell) : Type 0 where
+      pub anchor : Anchor
+      pub among : Contains nets.anchors anchor
+      pub on_metal : anchor.metal ≡ metal
+      pub on_island : anchor.island ≡ number
+      pub at : anchor.cell ≡ c
 
-    anchor_at : (c : Cell) → Contains cells c → IsAnchored c
+    pub anchor_at : (c : Cell) → Contains cells c → IsAnchored c
     anchor_at c among =
         let found = Contains-map_from (λ (anchor : Anchor). anchor.cell) (filter here nets.anchors) c among in
         let both = and_parts (found.0.metal == metal) (found.0.island == number) (Contains-filter_passes here nets.anchors found.0 found.1) in
@@ -86,7 +86,7 @@ module _ (nets : NetLists) (metal : ℕ) where
         }
 
     module _ (are : AreNets nets) where
-      on_pieces : (c : Cell) → Contains cells c → IsInUnion rects c
+      pub on_pieces : (c : Cell) → Contains cells c → IsInUnion rects c
       on_pieces c among =
           let a = anchor_at c among in
           let on = are.anchored a.anchor a.among in

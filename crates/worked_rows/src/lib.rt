@@ -18,6 +18,8 @@ mod long_reports;
 #[cfg(test)]
 mod maps;
 #[cfg(test)]
+mod opens;
+#[cfg(test)]
 mod outline_runs;
 #[cfg(test)]
 mod placements;

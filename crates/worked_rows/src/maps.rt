@@ -100,27 +100,6 @@ fn maps_have_their_reports(rt: HostRuntime) {
     }
 }
 
-/// Two metals with a cut between them, and a terminal: a map of each kind of item.
-const ALL_KINDS: &[u8] = b"\
-    version = 1\n\
-    radii = [2, 5]\n\
-    weights = [10, 1]\n\
-    [[metal]]\n\
-    name = \"m1\"\n\
-    pairs = [[1, 0], [1, 20]]\n\
-    [[metal]]\n\
-    name = \"m2\"\n\
-    pairs = [[3, 0]]\n\
-    [[cut]]\n\
-    name = \"v1\"\n\
-    pairs = [[2, 0]]\n\
-    lower = \"m1\"\n\
-    upper = \"m2\"\n\
-    [[terminal]]\n\
-    metal = \"m1\"\n\
-    x = 0\n\
-    y = 0\n";
-
 /// Maps that are refused, and the line.
 const BAD_MAPS: &[(&[u8], Want)] = &[
     (b"x", Want::BadMap("error 40 at 0\n")),
@@ -129,20 +108,7 @@ const BAD_MAPS: &[(&[u8], Want)] = &[
     (b"q = 1", Want::BadMap("error 41 at 1\n")),
     (b"version = 3", Want::BadMap("error 42 at 2\n")),
     (b"version = 1", Want::BadMap("error 42 at 3\n")),
-    (ALL_KINDS, Want::BadMap("error 60 at 7\n")),
-    // terminals, with a cut and without, which are not supported yet
-    (
-        b"version=1\nradii=[3]\nweights=[1]\nmetal=[{name=\"a\",pairs=[[1,0]]}]\n\
-          terminal=[{metal=\"a\",x=0,y=0}]\n",
-        Want::BadMap("error 60 at 7\n"),
-    ),
-    (
-        b"version=1\nradii=[3]\nweights=[1]\nmetal=[{name=\"a\",pairs=[[1,0]]},{name=\"b\",pairs=[[2,0]]}]\n\
-          cut=[{name=\"c\",pairs=[[3,0]],lower=\"a\",upper=\"b\"}]\n\
-          terminal=[{metal=\"a\",x=0,y=0}]\n",
-        Want::BadMap("error 60 at 7\n"),
-    ),
-    // a fault of a cut before it is told that terminals are not supported
+    // a cut whose lower metal is none
     (
         b"version=1\nradii=[3]\nweights=[1]\nmetal=[{name=\"a\",pairs=[[1,0]]},{name=\"b\",pairs=[[2,0]]}]\n\
           cut=[{name=\"c\",pairs=[[3,0]],lower=\"d\",upper=\"b\"}]\n",

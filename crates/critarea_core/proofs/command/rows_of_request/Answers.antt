@@ -1,6 +1,5 @@
 use Rattle.map_model.specs.MapNames.{layer_map_of}
 use Rattle.critarea_core.proofs.RunLaws.{map_found, told_alike, no_map, on_good_map, starts_map, starts_both}
-use Rattle.critarea_core.proofs.VerdictLaws.{is_supported}
 use Rattle.critarea_core.proofs.command.rows_of_request.Goals as goal
 
 pub returns-in-Err-clause-found : goal.returns-in-Err-clause-found
@@ -23,8 +22,3 @@ returns-clause-started g c words asked =
     let map = map_found told c.args.request.now _ _ c.in-Ok.map c.in-Ok.ensures.found in
     starts_both words told c.args.request.now asked (layer_map_of c.in-Ok.map) map.1 c.as_slice-layout.result.now (rw c.as_slice-layout.ensures c.layout_of.ensures)
     c.in-Ok.ensures.starts c.rows_of_file.ensures.starts
-
-pub rows_of_file-requires : goal.rows_of_file-requires
-rows_of_file-requires g c =
-    let map = map_found (g.F.Files.holds c.args.files.now) c.args.request.now _ _ c.in-Ok.map c.in-Ok.ensures.found in
-    (c.type_bounds.sync-typeof-rt, is_supported c.args.request.now.task map.1.bytes (layer_map_of c.in-Ok.map) map.1.comes)

@@ -1,8 +1,18 @@
-use Rattle.critarea_core.proofs.MapLaws.{no_terminals, rows_are}
+use Rattle.map_model.specs.MapNames.{layer_map_of}
+use Rattle.net_extract.specs.declared.fault.NetFault.TheVariants.{Memory}
+use Rattle.critarea_core.specs.inside.Finding.{HasRows}
+use Rattle.critarea_core.specs.Layout.{TerminalsComeTo}
+use Rattle.critarea_core.specs.Refusals.{of_net_fault}
+use Rattle.critarea_core.proofs.ReadingLaws.{not_read}
+use Rattle.critarea_core.proofs.TerminalLaws.{rows_found, terminal_off}
 use Rattle.critarea_core.proofs.command.rows_on.Goals as goal
 
-pub critical_areas-requires-clause-no_terminals : goal.critical_areas-requires-clause-no_terminals
-critical_areas-requires-clause-no_terminals c = no_terminals c.args.map.now c.requires.supported
+pub returns-in_err-critical_areas : goal.returns-in_err-critical_areas
+returns-in_err-critical_areas c subject laid =
+    let fault = c.in_err-critical_areas.field-0.0 in
+    not_read (TerminalsComeTo subject) HasRows Memory of_net_fault fault c.from_residual.result c.from_residual.ensures.1
+    (terminal_off (layer_map_of c.args.map.now) c.args.layers.now subject laid fault c.in_err-critical_areas.ensures.rows)
 
 pub returns : goal.returns
-returns c = rows_are c.args.map.now c.args.layers.now c.critical_areas.result c.critical_areas.ensures.rows c.critical_areas.ensures.few
+returns c subject laid =
+    rows_found (layer_map_of c.args.map.now) c.args.layers.now subject laid c.in_ok-critical_areas.field-0 c.in_ok-critical_areas.ensures.rows c.in_ok-critical_areas.ensures.few

@@ -12,7 +12,7 @@ use Rattle.rect_cover.specs.Coverings.{IsFirstCoverFault}
 use Rattle.rect_cover.specs.declared.fault.CoverFault.TheVariants as cover
 use Rattle.rect_cover.proofs.ListedLaws.{first_fault, lists_given}
 use Rattle.critarea_core.specs.inside.Finding.{gives_thing}
-use Rattle.critarea_core.specs.Layout.{Subject, ShortLayoutComesTo}
+use Rattle.critarea_core.specs.Layout.{Subject, ShapesComeTo}
 use Rattle.critarea_core.specs.inside.LayoutReaders.{AreLayersFor, AreListsUpTo}
 use Rattle.critarea_core.specs.Refusals.{of_cover_fault, of_place_fault, of_syntax_fault}
 use Rattle.critarea_core.proofs.CoverReading.{HasCover, all_covered, covered_along, first_refused}
@@ -25,7 +25,7 @@ pub returns-in_err-library : goal.returns-in_err-library
 returns-in_err-library g c =
     let layer_map = layer_map_of c.args.map.now in
     let why = c.in_err-library.field-0.0 in
-    not_read (ShortLayoutComesTo layer_map (option_copied c.args.top) c.args.bytes.items) (AreLayersFor layer_map) syntax.Memory of_syntax_fault why c.from_residual.result c.from_residual.ensures.1
+    not_read (ShapesComeTo layer_map (option_copied c.args.top) c.args.bytes.items) (AreLayersFor layer_map) syntax.Memory of_syntax_fault why c.from_residual.result c.from_residual.ensures.1
     (λ known. stops (retold (subst (λ bs. BytesComeTo bs (refused why)) c.as_slice.ensures.value (c.in_err-library.ensures.faulty known))))
 
 pub returns-in_err-placed : goal.returns-in_err-placed
@@ -33,7 +33,7 @@ returns-in_err-placed g c =
     let layer_map = layer_map_of c.args.map.now in
     let why = c.in_err-placed.field-0.0 in
     let comes = subst (λ bs. BytesComeTo bs (value c.in_ok-library.library)) c.as_slice.ensures.value c.in_ok-library.ensures.library in
-    not_read (ShortLayoutComesTo layer_map (option_copied c.args.top) c.args.bytes.items) (AreLayersFor layer_map) place.Memory of_place_fault why c.from_residual-in_err-placed.result
+    not_read (ShapesComeTo layer_map (option_copied c.args.top) c.args.bytes.items) (AreLayersFor layer_map) place.Memory of_place_fault why c.from_residual-in_err-placed.result
     c.from_residual-in_err-placed.ensures.1 (λ known. goes_on {v = c.in_ok-library.library} (kept comes) (stops (retold (c.in_err-placed.ensures.refused known))))
 
 pub cover_all-requires-clause-placed : goal.cover_all-requires-clause-placed
@@ -53,7 +53,7 @@ returns-in_err-covers g c =
     let along = placed_along library.structures layer_map (option_copied c.args.top) placed are in
     let comes = subst (λ bs. BytesComeTo bs (value library)) c.as_slice.ensures.value c.in_ok-library.ensures.library in
     let why = c.in_err-covers.field-0.0 in
-    not_read (ShortLayoutComesTo layer_map (option_copied c.args.top) c.args.bytes.items) (AreLayersFor layer_map) cover.Memory of_cover_fault why c.from_residual-in_err-covers.result
+    not_read (ShapesComeTo layer_map (option_copied c.args.top) c.args.bytes.items) (AreLayersFor layer_map) cover.Memory of_cover_fault why c.from_residual-in_err-covers.result
     c.from_residual-in_err-covers.ensures.1 (λ known. goes_on {v = library} (kept comes) (goes_on {v = are.routes} (kept are.placing) (one_fails
     (first_refused library.structures layer_map are.routes placed why along (subst (λ ps. IsFirstCoverFault library.structures ps why) c.as_slice-2.ensures.value
     (first_fault _ _ _ c.in_err-covers.ensures known))))))

@@ -18,11 +18,11 @@ loop-question-preserved c =
     let small = subst (λ (qs : List Question). k < length qs) c.as_slice-question-items.ensures c.loop-question-test.true in
     let is = subst (λ (qs : List Question). question ≡ get_or qs k question) c.as_slice-question-items.ensures c.question-item.is in
     record {
-      tallies = λ layer_map lists are no_terminals no_vias.
+      tallies = λ layer_map lists are.
           let Counted = IsAmount layer_map (IsCoveredIn lists) (cells_of_window c.args.window) in
           subst (AllZip Counted (take (k + 1) asked)) (sym pushed)
-          (AllZip-more Counted asked old k question amount small is (c.loop-question.invariant.tallies layer_map lists are no_terminals no_vias)
-          (c.in_ok-amount.ensures.tally layer_map lists are no_terminals no_vias));
+          (AllZip-more Counted asked old k question amount small is (c.loop-question.invariant.tallies layer_map lists are)
+          (c.in_ok-amount.ensures.tally layer_map lists are));
       one_each = omega (arith, ap length pushed, length-append {A = ℕ}, c.loop-question.invariant.one_each);
       small = subst (All (λ (n : ℕ). n < 2 ^ 63)) (sym pushed) (All-push (λ (n : ℕ). n < 2 ^ 63) old amount c.loop-question.invariant.small c.in_ok-amount.ensures.small);
     }

@@ -1,0 +1,10 @@
+//! Worked rows on which defects part terminals, and from how many cells. Each row's answer was worked out by hand. The crate
+//! has tests alone.
+#![tactic(auto)]
+
+#[cfg(test)]
+mod areas;
+#[cfg(test)]
+mod drawn;
+#[cfg(test)]
+mod partings;
