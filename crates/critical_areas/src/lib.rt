@@ -32,8 +32,9 @@ use window::{reach, window_of};
 /// The rows of the report on what the rectangles cover, of which there is one list for each layer of the map: shorts of
 /// each metal, then opens of each, and then via blocks of each cut, for each size in order.
 ///
-/// An area is a number of cells of the window, which is what all layers cover, grown by the greatest radius. The error is
-/// 50 with the number of the first terminal whose cell its metal does not cover, or that no memory is left.
+/// An area is a number of cells of the window: the bounds of what all layers cover, grown by the greatest radius. The error
+/// is 50 with the number, counted from 0, of the first terminal whose cell its metal does not cover, or that no memory is
+/// left.
 #[tactic(auto, using(first_refusal::proofs::AnswerLaws::out_of_memory))]
 pub fn critical_areas(alloc: Global, map: &Map, layers: &Layers) -> Result<Vec<Row>, NetFault>
     requires one_each { length layers.now.lists.items ≡ length map.now.metals + length map.now.cuts }

@@ -36,7 +36,7 @@ const CHANGED: &[(usize, u8, u8, &str)] = &[
         "layout 'a': nothing is wrong, and the run gives its report\n  \
          library 'L', a database unit that is no length below a metre, 1 structures, top 'T'\n  \
          metal 'm': 2 shapes with 10 points, from (0, 0) to (24, 10)\n  \
-         metal 'm': no terminals, so its opens are 0, and nothing is said of its wires\n",
+         metal 'm': no terminals, so its opens are 0, which says nothing of its wires\n",
     ),
     // the unit is 16 to the power of -8 metres, which is 0.23283064.. nanometres
     (
@@ -46,7 +46,7 @@ const CHANGED: &[(usize, u8, u8, &str)] = &[
         "layout 'a': nothing is wrong, and the run gives its report\n  \
          library 'L', a database unit of 0.232831 nm, 1 structures, top 'T'\n  \
          metal 'm': 2 shapes with 10 points, from (0, 0) to (24, 10)\n  \
-         metal 'm': no terminals, so its opens are 0, and nothing is said of its wires\n",
+         metal 'm': no terminals, so its opens are 0, which says nothing of its wires\n",
     ),
     // the layer of both bars is asked for, and one has another
     (
@@ -56,7 +56,7 @@ const CHANGED: &[(usize, u8, u8, &str)] = &[
         "layout 'a': nothing is wrong, and the run gives its report\n  \
          library 'L', a database unit that is no length below a metre, 1 structures, top 'T'\n  \
          metal 'm': 1 shapes with 5 points, from (14, 0) to (24, 10)\n  \
-         metal 'm': no terminals, so its opens are 0, and nothing is said of its wires\n",
+         metal 'm': no terminals, so its opens are 0, which says nothing of its wires\n",
     ),
     // the first byte of a gzip file is another, and its length is odd
     (
@@ -124,7 +124,7 @@ const TERMINALS: &[(&[u8], u8, &str)] = &[
          metal 'm1': 2 shapes with 10 points, from (0, 0) to (24, 10)\n  \
          metal 'm2': no shapes; are its layers and datatypes those of the layout?\n  \
          metal 'm1': 2 terminals\n  \
-         metal 'm2': no terminals, so its opens are 0, and nothing is said of its wires\n",
+         metal 'm2': no terminals, so its opens are 0, which says nothing of its wires\n",
     ),
     (
         b"version=1\nradii=[1]\nweights=[1]\nmetal=[{name=\"m1\",pairs=[[1,0]]}]\n\

@@ -105,7 +105,7 @@ pub fn tell_terminal_counts(text: &mut Text, map: &Map) {
         text.say("  ");
         tell_layer(text, map, metal);
         match count {
-            0 => text.say(": no terminals, so its opens are 0, and nothing is said of its wires\n"),
+            0 => text.say(": no terminals, so its opens are 0, which says nothing of its wires\n"),
             1 => text.say(": 1 terminal, so its opens are 0: an open parts two of one island\n"),
             _ => {
                 text.say(": ");

@@ -14,7 +14,8 @@ use Rattle.geo_core.specs.declared.axis.Axis.{Axis}
 use Rattle.geo_core.specs.declared.interval.Interval.{Interval}
 use Rattle.geo_core.specs.declared.plane.Rect.{Rect}
 use Rattle.geo_core.proofs.RectLaws.{HasSides}
-use Rattle.half_boxes.specs.inside.Ranks.{AreEnds, HasEnds, HaveRanks, IsRank, IsRankedBox, IsRankedSpan, span_along}
+use Rattle.half_boxes.specs.inside.Ranks.{AreEnds, HasEnds, HaveRanks, IsRank, IsRankedBox, IsRankedSpan}
+use Rattle.half_boxes.specs.HalfBoxes.{span_along}
 use Rattle.half_boxes.specs.declared.boxes.HalfBox.{HalfBox}
 
 -- ---- the ends, as they are found

@@ -1,9 +1,17 @@
 -- boxes of half squares: which half squares they have, and which of them touch
 use Rattle.std.specs.Prelude.{ℕ, List, Contains, Option, Some, None, slice_get, ◌≡◌, ◌⊎◌}
 use Rattle.geo_core.specs.Plane.{IsIn}
+use Rattle.geo_core.specs.declared.axis.Axis.{Axis}
+use Rattle.geo_core.specs.declared.axis.Axis.TheVariants.{X, Y}
 use Rattle.geo_core.specs.declared.plane.Half.{Half}
 use Rattle.fault_model.specs.FaultNames.{Neighbours}
 use Rattle.half_boxes.specs.declared.boxes.HalfBox.{HalfBox}
+use Rattle.half_boxes.specs.declared.span.HalfSpan.{HalfSpan}
+
+-- the half units of the box along the axis: its columns, or its rows
+abbrev pub span_along : Axis → HalfBox → HalfSpan
+span_along X one = one.columns
+span_along Y one = one.rows
 
 -- the half square lies in the box
 pub record HasHalf (one : HalfBox) (h : Half) : Type 0 where

@@ -3,7 +3,8 @@
 
 ghost use Rattle.std.specs.Prelude.{◌≡◌, All, Contains, IfOk};
 ghost use Rattle.lists.specs.Words.{AllZip};
-ghost use Rattle.half_boxes.specs.inside.Ranks.{AreEnds, HasEnds, HaveRanks, IsRank, IsRankedBox, IsRankedSpan, TouchAlike, span_along};
+ghost use Rattle.half_boxes.specs.inside.Ranks.{AreEnds, HasEnds, HaveRanks, IsRank, IsRankedBox, IsRankedSpan, TouchAlike};
+ghost use Rattle.half_boxes.specs.HalfBoxes.{span_along};
 
 use super::boxes::HalfBox;
 use super::span::HalfSpan;

@@ -7,7 +7,8 @@ use Rattle.geo_core.specs.Plane.{low_along, high_along}
 use Rattle.geo_core.specs.declared.axis.Axis.{Axis}
 use Rattle.geo_core.specs.declared.plane.Rect.{Rect}
 use Rattle.half_boxes.specs.declared.boxes.HalfBox.{HalfBox}
-use Rattle.severing.specs.Changes.{ChangesAt, IsChange, Passes, Reaches, span_along}
+use Rattle.severing.specs.Changes.{ChangesAt, IsChange, Passes, Reaches}
+use Rattle.half_boxes.specs.HalfBoxes.{span_along}
 use Rattle.open_grid.specs.inside.ZoneSteps.{AreChanges, GainsChanges, GainsPlace, IsInsideAlong}
 use Rattle.open_grid.specs.declared.looked.Looked.{Looked}
 

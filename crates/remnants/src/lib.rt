@@ -1,6 +1,6 @@
-//! What is left of an island round some defects, and whether its terminals are parted there. For a square of defects that
-//! grows smaller, less and less of the island is looked at: what lies outside of all of them stays, and only how it is joined
-//! matters.
+//! What is left of an island round some defects, and whether its terminals are parted there. For a zone of their
+//! centres that grows smaller, less and less of the island is looked at: what lies outside of all of the defects stays, and
+//! only how it is joined matters.
 #![tactic(auto)]
 
 mod cutting;

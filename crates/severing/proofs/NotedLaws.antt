@@ -6,10 +6,10 @@ use Rattle.geo_core.specs.Intervals.{IsWithin}
 use Rattle.geo_core.specs.declared.axis.Axis.{Axis}
 use Rattle.geo_core.specs.declared.plane.Half.{Half}
 use Rattle.geo_core.specs.declared.plane.Rect.{Rect}
-use Rattle.half_boxes.specs.HalfBoxes.{HasHalf}
+use Rattle.half_boxes.specs.HalfBoxes.{HasHalf, span_along}
 use Rattle.half_boxes.specs.Footprints.{IsReached}
 use Rattle.half_boxes.specs.declared.boxes.HalfBox.{HalfBox}
-use Rattle.severing.specs.Changes.{span_along, IsChange, IsFar, IsInCore, IsNoted, IsSteady, ChangesAt}
+use Rattle.severing.specs.Changes.{IsChange, IsFar, IsInCore, IsNoted, IsSteady, ChangesAt}
 use Rattle.severing.proofs.AdvanceLaws.{IsEdgeOf, IsMiddle}
 use Rattle.severing.proofs.MoveLaws.{spot, AreAlike}
 use Rattle.severing.proofs.TurnedLaws.{far_turned, turned, cell_at, hit_turned, has_along, along_zone}

@@ -10,11 +10,11 @@ use Rattle.geo_core.specs.declared.plane.Half.{Half}
 use Rattle.geo_core.specs.declared.plane.Rect.{Rect}
 use Rattle.fault_model.specs.FaultNames.{Neighbours, Walk, IsInFootprint}
 use Rattle.fault_model.specs.Halves.{IsUnder}
-use Rattle.half_boxes.specs.HalfBoxes.{HasHalf}
+use Rattle.half_boxes.specs.HalfBoxes.{HasHalf, span_along}
 use Rattle.half_boxes.specs.Footprints.{IsReached}
 use Rattle.half_boxes.specs.declared.boxes.HalfBox.{HalfBox}
 use Rattle.severing.specs.Severing.{IsParted}
-use Rattle.severing.specs.Changes.{span_along, IsFar}
+use Rattle.severing.specs.Changes.{IsFar}
 use Rattle.severing.proofs.MoveLaws.{spot}
 use Rattle.severing.proofs.PathMaps.{mapped}
 use Rattle.severing.proofs.RemovalLaws.{parted_by}

@@ -5,13 +5,11 @@ use Rattle.geo_core.specs.declared.plane.Cell.{Cell}
 use Rattle.geo_core.specs.declared.plane.Half.{Half}
 use Rattle.geo_core.specs.declared.plane.Rect.{Rect}
 use Rattle.geo_core.specs.declared.axis.Axis.{Axis}
-use Rattle.geo_core.specs.declared.axis.Axis.TheVariants.{X, Y}
 use Rattle.geo_core.specs.Plane.{Has, low_along, high_along}
 use Rattle.fault_model.specs.FaultNames.{IslandLists, IsOn, LiesIn}
-use Rattle.half_boxes.specs.HalfBoxes.{HasHalf}
+use Rattle.half_boxes.specs.HalfBoxes.{HasHalf, span_along}
 use Rattle.half_boxes.specs.Footprints.{IsReached, IsAlwaysHit}
 use Rattle.half_boxes.specs.declared.boxes.HalfBox.{HalfBox}
-use Rattle.half_boxes.specs.declared.span.HalfSpan.{HalfSpan}
 
 -- along one axis the defect of this side at the place `x` is the first whose high end is at the edge or past it
 pub record Reaches (edge : ℤ) (side : ℕ) (x : ℤ) : Type 0 where
@@ -26,11 +24,6 @@ pub record Passes (edge : ℤ) (side : ℕ) (x : ℤ) : Type 0 where
 -- between the defect at the place before `x` and the one at `x`, an end comes to the edge or past it
 abbrev pub IsChange : ℤ → ℕ → ℤ → Type 0
 IsChange edge side x = Reaches edge side x ⊎ Passes edge side x
-
--- the half units of the box along the axis
-abbrev pub span_along : Axis → HalfBox → HalfSpan
-span_along X one = one.columns
-span_along Y one = one.rows
 
 -- the defects of the zone change at the place, which is not their first one, at an end of the box
 pub record ChangesAt (axis : Axis) (zone : Rect) (side : ℕ) (one : HalfBox) (x : ℤ) : Type 0 where

@@ -12,7 +12,8 @@ IsLeft on removed h = on h × (removed h → ⊥)
 
 -- Two of so many terminals, which go by their numbers, are parted: no walk on what is left of the metal joins a half square
 -- of the one to a half square of the other. A terminal is a set of half squares. All pairs of terminals are looked at: two
--- that are joined to a third one may be parted, where the third one itself is in pieces.
+-- that are joined to a third one may be parted, where the third one itself is in pieces. It is asked of islands alone, whose
+-- terminals are all joined as long as nothing is removed.
 pub record IsParted (on : Half → Type 0) (count : ℕ) (terminal : ℕ → Half → Type 0) (removed : Half → Type 0) : Type 0 where
   pub one : ℕ
   pub other : ℕ

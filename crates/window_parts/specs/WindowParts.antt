@@ -17,7 +17,7 @@ pub record IsBetween (low high place : ℤ) : Type 0 where
   pub above : low <ℤ place
   pub below : place <ℤ high
 
--- the cells lie in one row of cells along the axis: that of X goes from left to right, that of Y from bottom to top
+-- the cells lie in one line along the axis: in one row for X, which goes from left to right, and in one column for Y
 abbrev pub AreInLine : Axis → Cell → Cell → Type 0
 AreInLine X c d = c.j ≡ d.j
 AreInLine Y c d = c.i ≡ d.i

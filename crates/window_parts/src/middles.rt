@@ -1,4 +1,4 @@
-ghost use Rattle.std.specs.Prelude.{IfSome};
+ghost use Rattle.std.specs.Prelude.{ℤ, ◌<ℤ◌, IfNone, IfSome};
 ghost use Rattle.geo_core.specs.Intervals.{IsIn};
 ghost use Rattle.window_parts.specs.WindowParts.{IsBetween};
 
@@ -9,14 +9,16 @@ const BREADTH: u64 = 4;
 
 /// The place half way, which is the lowest one where there is no other.
 pub fn half_way(places: Interval) -> i32
-    ensures { IsIn places.low places.high result }
+    ensures one { IsIn places.low places.high result }
+    ensures inner { (place : ℤ) → IsBetween places.low places.high place → places.low <ℤ result }
 {
     places.low + (places.high - places.low) / 2
 }
 
 /// The place half way, where there is one with places on both sides of it.
 pub fn inner_half_way(places: Interval) -> Option<i32>
-    ensures { IfSome result (IsBetween places.low places.high) }
+    ensures some { IfSome result (IsBetween places.low places.high) }
+    ensures none { IfNone result ((place : ℤ) → IsBetween places.low places.high place → ⊥) }
 {
     let middle = half_way(places);
     if places.low < middle {
@@ -25,20 +27,20 @@ pub fn inner_half_way(places: Interval) -> Option<i32>
     None
 }
 
-/// Twice the distance of the place from the middle of the places.
+/// Twice the distance of the place from the middle of the places. It serves to choose among places that are all right.
 pub fn distance_from_middle(places: Interval, place: i32) -> u64 {
     let middle = i64::from(places.low) + i64::from(places.high);
     (2 * i64::from(place)).abs_diff(middle)
 }
 
-/// Whether neither side is longer than four times the other.
+/// Whether neither side is longer than four times the other. It serves to choose among ways that all lead to the answer.
 pub fn is_broad(rect: Rect) -> bool {
     let width = u64::from(rect.x1.abs_diff(rect.x0));
     let height = u64::from(rect.y1.abs_diff(rect.y0));
     width <= BREADTH * height && height <= BREADTH * width
 }
 
-/// The axis of the longer side, and the other one.
+/// The axis of the longer side, and the other one. It serves to choose among ways that all lead to the answer.
 pub fn longer_first(window: Rect) -> (Axis, Axis) {
     if window.x1.abs_diff(window.x0) < window.y1.abs_diff(window.y0) {
         return (Axis::Y, Axis::X);

@@ -1,4 +1,4 @@
-ghost use Rattle.std.specs.Prelude.{◌≡◌, ◌<◌, ◌≤◌, ◌^◌, IfSome, length};
+ghost use Rattle.std.specs.Prelude.{ℤ, ◌≡◌, ◌<◌, ◌≤◌, ◌^◌, IfNone, IfSome, length};
 ghost use Rattle.geo_core.specs.Axes.{low_along, high_along};
 ghost use Rattle.fault_model.specs.Areas.{cells_of};
 ghost use Rattle.window_parts.specs.WindowParts.{AreParts, IsBetween, IsFirstLine, count_along};
@@ -53,7 +53,8 @@ pub fn parts_at(window: Rect, axis: Axis, place: i32) -> (Rect, Rect)
 
 /// Two parts of the window, cut half way along the axis. There are none where it has one column, or one row.
 pub fn halved_along(window: Rect, axis: Axis) -> Option<(Rect, Rect)>
-    ensures { IfSome result (λ parts. AreParts window parts.0 parts.1) }
+    ensures some { IfSome result (λ parts. AreParts window parts.0 parts.1) }
+    ensures none { IfNone result ((place : ℤ) → IsBetween (low_along axis window) (high_along axis window) place → ⊥) }
 {
     let place = inner_half_way(window.along(axis))?;
     Some(parts_at(window, axis, place))

@@ -2,17 +2,11 @@
 use Rattle.std.specs.Prelude.{ℕ, List, Some, All, AllPairs, Contains, length, slice_get, ℤ, pos, ◌≡◌, ◌≤◌, ◌↔◌, ◌<ℤ◌}
 use Rattle.geo_core.specs.Plane.{Touch}
 use Rattle.geo_core.specs.declared.axis.Axis.{Axis}
-use Rattle.geo_core.specs.declared.axis.Axis.TheVariants.{X, Y}
 use Rattle.geo_core.specs.declared.interval.Interval.{Interval}
 use Rattle.geo_core.specs.declared.plane.Rect.{Rect}
-use Rattle.half_boxes.specs.HalfBoxes.{TouchHalves}
+use Rattle.half_boxes.specs.HalfBoxes.{TouchHalves, span_along}
 use Rattle.half_boxes.specs.declared.boxes.HalfBox.{HalfBox}
 use Rattle.half_boxes.specs.declared.span.HalfSpan.{HalfSpan}
-
--- the columns or the rows of the box
-abbrev pub span_along : Axis → HalfBox → HalfSpan
-span_along X one = one.columns
-span_along Y one = one.rows
 
 -- both ends of the span are in the list
 pub record HasEnds (ends : List ℤ) (span : HalfSpan) : Type 0 where

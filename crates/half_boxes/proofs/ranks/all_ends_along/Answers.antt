@@ -1,7 +1,8 @@
 use Rattle.std.proofs.Common.{rules, ◌∙◌, FitsSigned, w32}
 use Rattle.lists.proofs.Words.{to_z-of_z, All-nil}
 use Rattle.lists.proofs.Reading.{All-read_all}
-use Rattle.half_boxes.specs.inside.Ranks.{HasEnds, span_along}
+use Rattle.half_boxes.specs.inside.Ranks.{HasEnds}
+use Rattle.half_boxes.specs.HalfBoxes.{span_along}
 use Rattle.half_boxes.proofs.RankLaws.{ends_next}
 use Rattle.half_boxes.proofs.ranks.all_ends_along.Goals as goal
 

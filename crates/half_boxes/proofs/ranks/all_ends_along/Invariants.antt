@@ -1,5 +1,6 @@
 use Rattle.std.proofs.Common.{All, take}
-use Rattle.half_boxes.specs.inside.Ranks.{HasEnds, span_along}
+use Rattle.half_boxes.specs.inside.Ranks.{HasEnds}
+use Rattle.half_boxes.specs.HalfBoxes.{span_along}
 use Rattle.half_boxes.proofs.ranks.all_ends_along.Given as goal
 
 abbrev pub invariant-loop-one : goal.invariant-loop-one

@@ -1,7 +1,8 @@
 use Rattle.std.proofs.Common.{ap, rules, FitsSigned, w32}
 use Rattle.lists.proofs.Words.{to_z-of_z}
 use Rattle.half_boxes.specs.declared.span.HalfSpan.{HalfSpan}
-use Rattle.severing.specs.Changes.{Passes, Reaches, span_along}
+use Rattle.severing.specs.Changes.{Passes, Reaches}
+use Rattle.half_boxes.specs.HalfBoxes.{span_along}
 use Rattle.open_grid.proofs.ChangeLaws.{as_read, gains_changes}
 use Rattle.open_grid.proofs.changes.add_changes.Goals as goal
 
