@@ -69,9 +69,9 @@ pub fn tell_terminal(text: &mut Text, map: &Map, one: Known) {
     text.say(", ");
     tell_layer(text, map, one.metal as usize);
     text.say(", cell (");
-    text.signed(one.cell.i);
+    text.signed(one.cell.i as i64);
     text.say(", ");
-    text.signed(one.cell.j);
+    text.signed(one.cell.j as i64);
     text.say(")");
 }
 

@@ -10,6 +10,9 @@ type Row = (&'static [Drawn], u32, Sides, u64);
 /// A window round all defects that come near.
 const AROUND: Sides = (-10, -10, 40, 40);
 
+/// A window round all defects of the greatest radius that come near.
+const VAST: Sides = (-1_000_010, -1_000_010, 1_000_010, 1_000_010);
+
 /// A wire of its own beside the wire, with a row between the two.
 const BESIDE: Drawn = Drawn {
     rects: &[(0, 3, 20, 5)],
@@ -59,6 +62,8 @@ const ROWS: &[Row] = &[
     (&[CORNER], 1, AROUND, 2),
     (&[PAIR], 1, AROUND, 2),
     (&[PAIR], 2, AROUND, 12),
+    // from a square of 1,999,999 for each terminal, one column apart
+    (&[PAIR], 1_000_000, VAST, 3_999_998_000_000),
 ];
 
 /// The islands of all that is drawn.

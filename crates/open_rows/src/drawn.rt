@@ -1,11 +1,12 @@
 //! Islands as a run makes them, from rectangles of one metal and its terminals.
 
-ghost use Rattle.std.specs.Prelude.{◌≡◌, true};
+ghost use Rattle.std.specs.Prelude.{All, ◌≡◌, true};
+ghost use Rattle.geo_core.specs.Cells.{IsInLayout};
 ghost use Rattle.geo_core.specs.Intervals.{IsInterval};
 ghost use Rattle.geo_core.specs.declared.bounds.TheConstants.{FARTHEST_GROWN};
 
 use fault_model::Island;
-use geo_core::{FARTHEST_GROWN, Rect, RectList};
+use geo_core::{FARTHEST, FARTHEST_GROWN, Rect, RectList};
 use layer_map::read_map;
 use lists::NoMemory;
 use map_model::{Layers, Map};
@@ -75,6 +76,28 @@ fn is_interval(low: i32, high: i32) -> bool
         return false;
     }
     low < high
+}
+
+/// Whether a rectangle lies where those of a layout do.
+fn is_near(rect: Rect) -> bool
+    ensures { result ≡ true → IsInLayout rect }
+{
+    if rect.x0 < -FARTHEST || rect.x1 > FARTHEST {
+        return false;
+    }
+    -FARTHEST <= rect.y0 && rect.y1 <= FARTHEST
+}
+
+/// Whether each of the rectangles does.
+pub fn are_near(rects: &[Rect]) -> bool
+    ensures { result ≡ true → All IsInLayout rects.now }
+{
+    for rect in rects {
+        if !is_near(*rect) {
+            return false;
+        }
+    }
+    true
 }
 
 /// The rectangle with these sides, if they are those of one.

@@ -7,4 +7,6 @@ mod areas;
 #[cfg(test)]
 mod drawn;
 #[cfg(test)]
+mod links;
+#[cfg(test)]
 mod partings;

@@ -1,10 +1,16 @@
-use super::drawn::{CORNER, Drawn, FRAME, NECK, Spot, WIRE, islands_of};
+use super::drawn::{CORNER, Drawn, FRAME, NECK, Spot, WIRE, are_near, islands_of};
 use geo_core::Cell;
 use open_grid::parted;
 use std::alloc::Global;
 
 /// What is drawn, a radius, a cell, and whether the defect there parts two terminals.
 type Row = (Drawn, u32, Spot, bool);
+
+/// A wire that ends where shapes may end at most.
+const FAR: Drawn = Drawn {
+    rects: &[(999_999_980, 999_999_998, 1_000_000_000, 1_000_000_000)],
+    terminals: &[(999_999_980, 999_999_998), (999_999_999, 999_999_999)],
+};
 
 const ROWS: &[Row] = &[
     // a terminal that is covered, and one of which half squares are left
@@ -35,6 +41,10 @@ const ROWS: &[Row] = &[
     (CORNER, 2, (4, 11), true),
     (CORNER, 1, (4, 10), false),
     (CORNER, 2, (3, 3), false),
+    // the greatest radius, from the farthest cell at which it covers a terminal, from the next, and from beyond all rectangles
+    (FAR, 1_000_000, (1_000_999_998, 1_000_999_998), true),
+    (FAR, 1_000_000, (1_000_999_999, 1_000_999_998), false),
+    (FAR, 1_000_000, (1_001_000_000, 1_000_999_998), false),
 ];
 
 /// Whether the one island that is drawn is parted there, or not, as it should be.
@@ -47,7 +57,10 @@ fn is_right(alloc: Global, row: &Row) -> bool {
         return false;
     };
     match islands.as_slice() {
-        [island] => parted(alloc, island, Cell { i, j }, radius) == Ok(wanted),
+        [island] => {
+            are_near(island.pieces.as_slice())
+                && parted(alloc, island, Cell { i, j }, radius) == Ok(wanted)
+        }
         _ => false,
     }
 }
