@@ -38,6 +38,11 @@ const ON_A_FRAME: &[u8] = b"version=1\nradii=[2]\nweights=[1]\n\
     cut=[{name=\"v1\",pairs=[[2,0]],lower=\"m1\",upper=\"m2\"}]\n\
     terminal=[{metal=\"m1\",x=0,y=10},{metal=\"m1\",x=19,y=10}]\n";
 
+/// A terminal at either end of the wire, and two on the second metal, of which the first is the same cell as one on the wire.
+const ON_BOTH_METALS: &[u8] = b"version=1\nradii=[1]\nweights=[1]\n\
+    metal=[{name=\"m1\",pairs=[[1,0]]},{name=\"m2\",pairs=[[3,0]]}]\n\
+    terminal=[{metal=\"m1\",x=0,y=0},{metal=\"m2\",x=0,y=0},{metal=\"m1\",x=19,y=1},{metal=\"m2\",x=1,y=1}]\n";
+
 /// Where the terminals are parted in no place.
 const NO_OPEN: Want = Want::Report(
     "short m1 r=2 area=0 weight=1 sum=0\n\
@@ -109,6 +114,21 @@ const OPENS: &[(&[Plate], &[u8], Want)] = &[
              total 18\n",
         ),
     ),
+    // Each metal has terminals of its own: each of the four is covered from its own cell alone.
+    (
+        &[WIRE, SECOND],
+        ON_BOTH_METALS,
+        Want::Report(
+            "short m1 r=1 area=0 weight=1 sum=0\n\
+             short m2 r=1 area=0 weight=1 sum=0\n\
+             open m1 r=1 area=2 weight=1 sum=2\n\
+             open m2 r=1 area=2 weight=1 sum=2\n\
+             total short 0\n\
+             total open 4\n\
+             total via 0\n\
+             total 4\n",
+        ),
+    ),
     // Terminals of two islands are not joined to begin with: nothing is parted.
     (
         &[(1, 0, (0, 0, 9, 2)), (1, 0, (13, 0, 20, 2))],
@@ -151,6 +171,12 @@ const OFF: &[(&[Plate], &[u8], Want)] = &[
     (&[(1, 0, (0, 0, 19, 2))], RADIUS_1, Want::BadLayout(50, 1)),
     // nothing is covered
     (&[], RADIUS_1, Want::BadLayout(50, 0)),
+    // a shape that reaches too far is refused before terminals are looked at
+    (
+        &[(1, 0, (0, 0, 1_000_000_001, 2))],
+        TERMINAL_AT_5,
+        Want::BadLayout(30, 94),
+    ),
 ];
 
 #[test]
