@@ -45,7 +45,7 @@ fn first_passing(edge: i32, side: u32) -> i32
 }
 
 /// The half units of the box along the axis.
-fn span_along(one: HalfBox, axis: Axis) -> HalfSpan
+pub fn span_along(one: HalfBox, axis: Axis) -> HalfSpan
     ensures { result ≡ span_of axis one }
 {
     match axis {

@@ -2,9 +2,10 @@ ghost use Rattle.std.specs.Prelude.{◌≤◌, ◌↔◌, IfOk, IsTrue};
 ghost use Rattle.half_boxes.specs.declared.footprints.TheConstants.{GREATEST_SIDE};
 ghost use Rattle.open_grid.specs.inside.ZoneSteps.{HasSeveral, IsSingle, IsStepOf};
 
-use super::changes::changes_of;
+use super::changes::{changes_of, span_along};
 use super::looked::Looked;
 use geo_core::{Axis, NoMemory, Rect};
+use half_boxes::{HalfBox, HalfSpan, reach_of};
 use std::alloc::Global;
 
 /// What comes next of a zone of more than one cell.
@@ -33,8 +34,56 @@ fn has_several(zone: Rect, axis: Axis) -> bool
     places.low + 1 < places.high
 }
 
-/// What comes next of a zone for which these islands are looked at. It is halved along the axis with more changes, at the
-/// middle one, so that each change lies in few of the zones that are halved. The only error is that no memory is left.
+/// Whether the box has half units, along an axis on which the defects reach so far, that some of them have and others do not.
+fn is_open_along(one: HalfSpan, reach: HalfSpan, side: u32) -> bool
+    requires few { side ≤ GREATEST_SIDE }
+{
+    let width = 2 * side as i32;
+    let core_low = reach.high - width;
+    let core_high = reach.low + width;
+    one.low.max(reach.low) < core_low || core_high < one.high.min(reach.high)
+}
+
+/// How many of the boxes have such half units along the axis.
+fn open_boxes(near: &[HalfBox], axis: Axis, reach: HalfBox, side: u32) -> u64
+    requires few { side ≤ GREATEST_SIDE }
+{
+    let reach = span_along(reach, axis);
+    let mut count = 0_u64;
+    for one in near {
+        if is_open_along(span_along(*one, axis), reach, side) {
+            count = count.saturating_add(1);
+        }
+    }
+    count
+}
+
+/// How many boxes of all these islands have such half units along the axis.
+fn all_open_boxes(looked: &[Looked], axis: Axis, reach: HalfBox, side: u32) -> u64
+    requires few { side ≤ GREATEST_SIDE }
+{
+    let mut count = 0_u64;
+    for one in looked {
+        count = count.saturating_add(open_boxes(one.near.as_slice(), axis, reach, side));
+    }
+    count
+}
+
+/// Whether the zone, which has changes along both axes, is rather halved by columns: where more boxes stay open along this axis,
+/// or as many and there are more changes along it. Where thousands of rows end in one strip of columns, a cut through the strip
+/// decides them all, and one between two rows leaves as many open.
+fn prefers_columns(looked: &[Looked], zone: Rect, side: u32, columns: usize, rows: usize) -> bool
+    requires some { 1 ≤ side }
+    requires few { side ≤ GREATEST_SIDE }
+{
+    let reach = reach_of(zone, side);
+    let across = all_open_boxes(looked, Axis::X, reach, side);
+    let up = all_open_boxes(looked, Axis::Y, reach, side);
+    up < across || up == across && rows < columns
+}
+
+/// What comes next of a zone for which these islands are looked at. It is halved at the middle one of its changes along an
+/// axis, so that each change lies in few of the zones that are halved. The only error is that no memory is left.
 pub fn next_step(alloc: Global, looked: &[Looked], zone: Rect, side: u32) -> Result<Step, NoMemory>
     requires some { 1 ≤ side }
     requires few { side ≤ GREATEST_SIDE }
@@ -49,12 +98,14 @@ pub fn next_step(alloc: Global, looked: &[Looked], zone: Rect, side: u32) -> Res
     if rows.is_empty() && has_several(zone, Axis::Y) {
         return Ok(Step::Repeat(Axis::Y));
     }
-    if rows.len() < columns.len() {
-        return Ok(Step::Halve(Axis::X, columns[columns.len() / 2]));
-    }
-    if rows.is_empty() {
+    if columns.is_empty() && rows.is_empty() {
         // Then there are no changes at all, and the zone is one cell.
         unreachable!();
+    }
+    if rows.is_empty()
+        || !columns.is_empty() && prefers_columns(looked, zone, side, columns.len(), rows.len())
+    {
+        return Ok(Step::Halve(Axis::X, columns[columns.len() / 2]));
     }
     Ok(Step::Halve(Axis::Y, rows[rows.len() / 2]))
 }
