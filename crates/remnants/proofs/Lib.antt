@@ -9,3 +9,5 @@ pub mod MeetingLaws
 pub mod PieceLaws
 pub mod KeepLaws
 pub mod PlaceLaws
+pub mod ThinLaws
+pub mod SpreadLaws

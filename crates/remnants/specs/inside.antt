@@ -3,3 +3,4 @@ pub mod Joining
 pub mod Marking
 pub mod IslandBoxes
 pub mod Keeping
+pub mod Thinning

@@ -11,6 +11,7 @@ mod marking;
 mod numbers;
 pub mod parts;
 pub mod remnant;
+mod thinning;
 mod unjoined;
 
 pub use parts::{Fixed, Loose, Mark};

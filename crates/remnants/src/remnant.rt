@@ -4,6 +4,7 @@ use super::joining::{join, moved_to};
 use super::keeping::{kept_at, places_of};
 use super::marking::are_unmarked;
 use super::parts::{Fixed, Loose, Mark};
+use super::thinning::{marks_without, needless_terminals, terminals_without};
 use super::unjoined::Unjoined;
 use fault_model::Island;
 use half_boxes::HalfBox;
@@ -101,7 +102,25 @@ impl Remnant {
             cut = cut_into(cut, *loose, inner, outer)?;
         }
         let joined = join(alloc, cut)?;
-        joined.keep(alloc, outer)
+        let thinned = joined.thin(alloc)?;
+        thinned.keep(alloc, outer)
+    }
+
+    /// Without the terminals that others stand for: of those that have nothing but a mark, one stays at each leader.
+    fn thin(self, alloc: Global) -> Result<Remnant, NoMemory>
+        ensures same { IfOk result (λ thinned. (removed : AnyBox) → IsSplit thinned removed ↔ IsSplit self removed) }
+        ensures loose { IfOk result (λ thinned. thinned.loose ≡ self.loose) }
+    {
+        let Remnant {
+            fixed,
+            loose,
+            marks,
+            terminals,
+        } = self;
+        let gone = needless_terminals(alloc, fixed.len(), &loose, &marks, &terminals)?;
+        let marks = marks_without(alloc, &marks, &gone)?;
+        let terminals = terminals_without(alloc, &terminals, &gone)?;
+        Ok(Remnant::new(fixed, loose, marks, terminals))
     }
 
     /// Without the fixed boxes that neither touch `outer`, in which all that is loose lies, nor lead others.

@@ -31,25 +31,26 @@ loop-loose-preserved c =
     (drop_more items k c.loose-item.result c.loop-loose-test.true ∙ ap (λ (x : Loose). x ∷ drop (k + 1) items) (sym c.loose-item.is))
     c.loop-loose.invariant c.in_ok-cut-2.ensures.cut c.in_ok-cut-2.ensures.within
 
--- all that is loose of what was joined
+-- all that is loose of what was joined and thinned
 pub keep-requires : goal.keep-requires
-keep-requires c = subst (All (λ (one : Loose). LiesWithin one.part c.args.outer)) (sym c.in_ok-joined.ensures.loose) c.loop-loose.invariant.within
+keep-requires c = subst (All (λ (one : Loose). LiesWithin one.part c.args.outer)) (sym (c.in_ok-thinned.ensures.loose ∙ c.in_ok-joined.ensures.loose)) c.loop-loose.invariant.within
 
 pub returns-clause-same : goal.returns-clause-same
 returns-clause-same c =
     let items = c.deref-loose-items.result.now in
     let k = c.loop-loose.loose-index in
-    IfOk-weaker c.keep.result (λ (narrowed : RemnantLists). (removed : HalfBox) → IsSplit narrowed removed ↔ IsSplit c.in_ok-joined.joined removed)
+    IfOk-weaker c.keep.result (λ (narrowed : RemnantLists). (removed : HalfBox) → IsSplit narrowed removed ↔ IsSplit c.in_ok-thinned.thinned removed)
     (λ (narrowed : RemnantLists). (removed : HalfBox) → ((h : Half) → HasHalfIn c.args.inner h → HasHalf removed h) → LiesWithin removed c.args.outer
     → IsSplit narrowed removed ↔ IsSplit c.args.self.now removed)
     (λ (narrowed : RemnantLists) same removed has_inner within.
     let cut = all_cut c.args.inner c.args.outer c.args.self.now (drop k items) c.loop-loose.cut (drop_all k items c.loop-loose-test.false) c.loop-loose.invariant removed
     (record { has_inner = has_inner; within = within }) in
     let joined = c.in_ok-joined.ensures.same removed in
+    let thinned = c.in_ok-thinned.ensures.same removed in
     let kept = same removed in
-    (λ s. cut.1 (joined.0 (kept.0 s)), λ s. kept.1 (joined.1 (cut.0 s)))) c.keep.ensures.same
+    (λ s. cut.1 (joined.0 (thinned.0 (kept.0 s))), λ s. kept.1 (thinned.1 (joined.1 (cut.0 s))))) c.keep.ensures.same
 
 pub returns-clause-within : goal.returns-clause-within
 returns-clause-within c =
-    IfOk-weaker c.keep.result (λ (narrowed : RemnantLists). narrowed.loose ≡ c.in_ok-joined.joined.loose) (λ (narrowed : RemnantLists). IsLooseWithin narrowed c.args.outer)
-    (λ (narrowed : RemnantLists) same. subst (All (λ (one : Loose). LiesWithin one.part c.args.outer)) (sym (same ∙ c.in_ok-joined.ensures.loose)) c.loop-loose.invariant.within) c.keep.ensures.loose
+    IfOk-weaker c.keep.result (λ (narrowed : RemnantLists). narrowed.loose ≡ c.in_ok-thinned.thinned.loose) (λ (narrowed : RemnantLists). IsLooseWithin narrowed c.args.outer)
+    (λ (narrowed : RemnantLists) same. subst (All (λ (one : Loose). LiesWithin one.part c.args.outer)) (sym (same ∙ c.in_ok-thinned.ensures.loose ∙ c.in_ok-joined.ensures.loose)) c.loop-loose.invariant.within) c.keep.ensures.loose
