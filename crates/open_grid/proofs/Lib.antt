@@ -1,7 +1,7 @@
 pub mod ZoneLaws
 pub mod ToldLaws
 pub mod LeftLaws
-pub mod CountLaws
+pub mod CellLaws
 pub mod ChangeLaws
 pub mod BoxLaws
 pub mod PartingLaws

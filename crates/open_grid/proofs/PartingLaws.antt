@@ -1,7 +1,6 @@
 -- defects at one cell, and what they part of an island
-use Rattle.std.proofs.Common.{ℕ, pos, ◌+ℤ◌, ◌+◌, List, ◌↔◌, All, Contains, arith, Result, Ok, Err, IfOk}
+use Rattle.std.proofs.Common.{ℕ, pos, ◌+ℤ◌, ◌+◌, List, ◌↔◌, All, Contains, arith}
 use Rattle.lists.proofs.Words.{ints, All-contains}
-use Rattle.lists.specs.declared.memory.NoMemory.{NoMemory}
 use Rattle.lists.proofs.Containing.{Contains-slice_get}
 use Rattle.paths.proofs.PathLaws.{within}
 use Rattle.geo_core.specs.Bounds.{IsRadius}
@@ -11,10 +10,11 @@ use Rattle.geo_core.specs.declared.plane.Half.{Half}
 use Rattle.geo_core.specs.declared.plane.Rect.{Rect}
 use Rattle.fault_model.specs.FaultNames.{IsInFootprint, IsOn, IslandLists, Tally, cells_of}
 use Rattle.fault_model.specs.Faults.{IsCellsOpen}
+use Rattle.fault_model.proofs.CellLaws.{Contains-cells_of}
 use Rattle.fault_model.proofs.TallyLaws.{Tally-same}
 use Rattle.fault_model.specs.IslandLists.{IsAnchoredIsland}
 use Rattle.severing.specs.Severing.{IsSevered, IsSomeOpen}
-use Rattle.open_grid.specs.inside.ZoneNeeds.{IsCountIn}
+use Rattle.open_grid.specs.inside.ZoneNeeds.{HaveOpenCells}
 use Rattle.open_grid.specs.inside.ZoneSteps.{IsToldOf}
 use Rattle.open_grid.specs.declared.looked.Told.TheVariants.{Never, Always}
 
@@ -59,10 +59,16 @@ module _ (law : DefectsSeverIslands) where
     always_open always = (law island side cell sound).1 (always cell has)
 
   -- the cells at which defects part anchors of islands, by both definitions
-  pub tally_of : (islands : List IslandLists) (window : Rect) (side : ℕ) (result : Result ℕ NoMemory) → All IsAnchoredIsland islands → IfOk result (IsCountIn islands side window)
-      → IfOk result (λ n. Tally (IsSomeOpen islands side) (cells_of window) n)
-  tally_of islands window side (Err e) sound count = tt
-  tally_of islands window side (Ok n) sound count = Tally-same (cells_of window) n (λ c at. (
-    λ s. record { island = s.island; among = s.among; is_open = (law s.island side c (All-contains IsAnchoredIsland islands s.island sound s.among)).1 s.severed },
-    λ o. record { island = o.island; among = o.among; severed = (law o.island side c (All-contains IsAnchoredIsland islands o.island sound o.among)).0 o.is_open },
-  )) count.tally
+  pub cells_of_both : (islands : List IslandLists) (window : Rect) (side : ℕ) (rects : List Rect) → All IsAnchoredIsland islands → HaveOpenCells islands side window rects
+      → (c : Cell) → IsInUnion rects c ↔ (Has window c × IsSomeOpen islands side c)
+  cells_of_both islands window side rects sound are c = (
+    λ u. let h = (are c).0 u in let s = h.1 in
+        (h.0, record { island = s.island; among = s.among; is_open = (law s.island side c (All-contains IsAnchoredIsland islands s.island sound s.among)).1 s.severed }),
+    λ h. let o = h.1 in
+        (are c).1 (h.0, record { island = o.island; among = o.among; severed = (law o.island side c (All-contains IsAnchoredIsland islands o.island sound o.among)).0 o.is_open }),
+  )
+
+-- rectangles with those cells of a window count them
+pub area_of : (P : Cell → Type 0) (window : Rect) (rects : List Rect) → ((c : Cell) → IsInUnion rects c ↔ (Has window c × P c)) → (n : ℕ) → Tally (IsInUnion rects) (cells_of window) n
+    → Tally P (cells_of window) n
+area_of P window rects are n = Tally-same (cells_of window) n (λ c at. let has = (Contains-cells_of window c).0 at in (λ u. ((are c).0 u).1, λ p. (are c).1 (has, p)))

@@ -1,4 +1,4 @@
-//! Which defects part two anchors of an island, and at how many cells of a window a defect does.
+//! Which defects part two anchors of an island, at which cells of a window a defect does, and at how many.
 //!
 //! The window is halved into zones. Where the removal of all that some defect of a zone has parts no two anchors, no defect of
 //! the zone does; where the removal of what each of them has parts two, each does. What neither decides is halved where
@@ -11,7 +11,8 @@ mod changes;
 mod looked;
 mod parting;
 mod steps;
+mod stretching;
 mod zones;
 
-pub use areas::open_area;
+pub use areas::{open_area, open_cells};
 pub use parting::parted;

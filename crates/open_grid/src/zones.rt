@@ -1,17 +1,17 @@
-ghost use Rattle.std.specs.Prelude.{List, ◌≤◌, IfOk, length};
-ghost use Rattle.fault_model.specs.Areas.{cells_of};
+ghost use Rattle.std.specs.Prelude.{List, ◌≤◌, IfOk};
 ghost use Rattle.fault_model.specs.IslandLists.{IslandLists};
 ghost use Rattle.half_boxes.specs.declared.footprints.TheConstants.{GREATEST_SIDE};
-ghost use Rattle.open_grid.specs.inside.ZoneNeeds.{IsCountIn, StandForAll};
+ghost use Rattle.open_grid.specs.inside.ZoneNeeds.{HaveOpenCells, StandForAll};
 ghost use Rattle.open_grid.specs.inside.ZoneSteps.{IsDoneAtOnce, IsLeftOf};
 
 use super::looked::{Looked, Told, look_at};
 use super::steps::{Step, next_step};
+use super::stretching::stretched;
 use geo_core::{NoMemory, Rect};
 use lists::Items;
 use severing::{steady_columns_sever_alike, steady_rows_sever_alike};
 use std::alloc::Global;
-use window_parts::{count_of, first_line, parts_at, places_along};
+use window_parts::{first_line, parts_at};
 
 /// What is left of islands in a zone.
 #[derive(Debug, Drop)]
@@ -41,34 +41,43 @@ fn look_closer(alloc: Global, looked: &[Looked], zone: Rect, side: u32) -> Resul
     Ok(Left::Of(Items::from_vec(left)))
 }
 
-/// How many cells of the zone are the centre of a defect that parts two anchors of one of the islands, for which these are
+/// The cells of the zone that are the centre of a defect that parts two anchors of one of the islands, for which these are
 /// looked at. The only error is that no memory is left.
-pub fn count(alloc: Global, looked: &[Looked], zone: Rect, side: u32) -> Result<u64, NoMemory>
+pub fn open_parts(
+    alloc: Global,
+    looked: &[Looked],
+    zone: Rect,
+    side: u32,
+) -> Result<Vec<Rect>, NoMemory>
     requires some { 1 ≤ side }
     requires few { side ≤ GREATEST_SIDE }
-    ensures count { (islands : List IslandLists) → StandForAll zone side looked.now islands →
-        IfOk result (IsCountIn islands side zone) }
-    ensures few { IfOk result (λ n. n ≤ length (cells_of zone)) }
+    ensures { (islands : List IslandLists) → StandForAll zone side looked.now islands →
+        IfOk result (λ rects. HaveOpenCells islands side zone rects.items) }
 {
+    let mut rects = Vec::new(alloc);
     let left = match look_closer(alloc, looked, zone, side)? {
-        Left::Everywhere => return Ok(count_of(zone)),
+        Left::Everywhere => {
+            rects.push(zone)?;
+            return Ok(rects);
+        }
         Left::Of(left) => left,
     };
     if left.as_slice().is_empty() {
-        return Ok(0);
+        return Ok(rects);
     }
     match next_step(alloc, left.as_slice(), zone, side)? {
         Step::Repeat(axis) => {
             steady_columns_sever_alike();
             steady_rows_sever_alike();
-            let one = count(alloc, left.as_slice(), first_line(zone, axis), side)?;
-            Ok(places_along(zone, axis) * one)
+            let lines = open_parts(alloc, left.as_slice(), first_line(zone, axis), side)?;
+            stretched(alloc, &lines, zone, axis)
         }
         Step::Halve(axis, place) => {
             let (first, second) = parts_at(zone, axis, place);
-            let one = count(alloc, left.as_slice(), first, side)?;
-            let other = count(alloc, left.as_slice(), second, side)?;
-            Ok(one + other)
+            let mut both = open_parts(alloc, left.as_slice(), first, side)?;
+            let others = open_parts(alloc, left.as_slice(), second, side)?;
+            both.extend_from_slice(&others)?;
+            Ok(both)
         }
     }
 }

@@ -1,11 +1,11 @@
 -- what a zone of centres needs of islands, and which of its defects part anchors of them
-use Rattle.std.specs.Prelude.{ℕ, List, Contains, ◌<◌, ◌^◌, ◌↔◌}
+use Rattle.std.specs.Prelude.{ℕ, List, Contains, ◌↔◌}
 use Rattle.lists.specs.Words.{AllZip}
-use Rattle.geo_core.specs.Plane.{Has}
+use Rattle.geo_core.specs.Plane.{Has, IsInUnion}
 use Rattle.geo_core.specs.declared.plane.Cell.{Cell}
 use Rattle.geo_core.specs.declared.plane.Half.{Half}
 use Rattle.geo_core.specs.declared.plane.Rect.{Rect}
-use Rattle.fault_model.specs.FaultNames.{IslandLists, IsInFootprint, Tally, cells_of}
+use Rattle.fault_model.specs.FaultNames.{IslandLists, IsInFootprint}
 use Rattle.half_boxes.specs.Footprints.{IsReached, IsAlwaysHit}
 use Rattle.half_boxes.specs.HalfBoxes.{HasHalf}
 use Rattle.half_boxes.specs.declared.boxes.HalfBox.{HalfBox}
@@ -35,10 +35,9 @@ pub record SeversSome (islands : List IslandLists) (side : ℕ) (c : Cell) : Typ
   pub among : Contains islands island
   pub severed : IsSevered island (IsInFootprint c side)
 
--- so many cells of the zone are the centres of such defects
-pub record IsCountIn (islands : List IslandLists) (side : ℕ) (zone : Rect) (n : ℕ) : Type 0 where
-  pub tally : Tally (SeversSome islands side) (cells_of zone) n
-  pub small : n < 2 ^ 63
+-- the rectangles have the cells of the zone that are the centres of such defects
+abbrev pub HaveOpenCells : List IslandLists → ℕ → Rect → List Rect → Type 0
+HaveOpenCells islands side zone rects = (c : Cell) → IsInUnion rects c ↔ (Has zone c × SeversSome islands side c)
 
 -- each defect of the zone parts two anchors of some island
 abbrev pub AllSever : List IslandLists → ℕ → Rect → Type 0

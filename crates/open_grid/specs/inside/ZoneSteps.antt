@@ -1,8 +1,8 @@
 -- what becomes of a zone when islands are looked at
 use Rattle.std.specs.Prelude.{ℤ, pos, ℕ, List, [], Contains, All, Option, Some, None, ◌≡◌, ◌≢◌, ◌⊎◌, ◌↔◌, ◌+ℤ◌, ◌<ℤ◌, ⊤}
-use Rattle.geo_core.specs.Plane.{Has, low_along, high_along}
+use Rattle.geo_core.specs.Plane.{Has, IsInUnion, low_along, high_along}
 use Rattle.geo_core.specs.declared.axis.Axis.{Axis}
-use Rattle.geo_core.specs.Intervals.{IsWithin}
+use Rattle.geo_core.specs.Intervals.{IsIn, IsWithin}
 use Rattle.geo_core.specs.declared.plane.Cell.{Cell}
 use Rattle.geo_core.specs.declared.plane.Half.{Half}
 use Rattle.geo_core.specs.declared.plane.Rect.{Rect}
@@ -12,7 +12,7 @@ use Rattle.half_boxes.specs.declared.boxes.HalfBox.{HalfBox}
 use Rattle.remnants.specs.Remnants.{RemnantLists, IsSplit}
 use Rattle.severing.specs.Changes.{ChangesAt, IsSteady}
 use Rattle.severing.specs.Severing.{IsSevered}
-use Rattle.window_parts.specs.WindowParts.{IsBetween}
+use Rattle.window_parts.specs.WindowParts.{AreInLine, IsBetween, place_along}
 use Rattle.open_grid.specs.inside.ZoneNeeds.{StandsFor, StandForAll, AllSever, SeverAlike}
 use Rattle.open_grid.specs.declared.looked.Looked.{Looked}
 use Rattle.open_grid.specs.declared.looked.Told.{Told}
@@ -121,3 +121,13 @@ pub record AreChanges (axis : Axis) (zone : Rect) (side : ℕ) (looked : List Lo
 abbrev pub IsStepOf : Rect → ℕ → List Looked → Step → Type 0
 IsStepOf zone side looked (Repeat axis) = HasSeveral axis zone × ((seen : Looked) → Contains looked seen → IsSteady axis zone side seen.near)
 IsStepOf zone side looked (Halve axis place) = IsInsideAlong axis zone place
+
+-- the rectangle has all places of the zone along the axis, in the lines in which the other one has cells
+pub record IsStretched (axis : Axis) (zone line rect : Rect) : Type 0 where
+  pub cells : (c : Cell) → Has rect c
+      ↔ (IsIn (low_along axis zone) (high_along axis zone) (place_along axis c) × ((d : Cell) × AreInLine axis c d × Has line d))
+
+-- so do many
+abbrev pub AreStretched : Axis → Rect → List Rect → List Rect → Type 0
+AreStretched axis zone lines rects = (c : Cell) → IsInUnion rects c
+    ↔ (IsIn (low_along axis zone) (high_along axis zone) (place_along axis c) × ((d : Cell) × AreInLine axis c d × IsInUnion lines d))

@@ -1,0 +1,51 @@
+use Rattle.std.proofs.Common.{Vec, arith}
+use Rattle.lists.proofs.Words.{Global, IfOk-weaker}
+use Rattle.geo_core.specs.declared.plane.Rect.{Rect}
+use Rattle.window_parts.proofs.LineLaws.{fewer_in_line}
+use Rattle.window_parts.proofs.PartLaws.{fewer_cells}
+use Rattle.open_grid.specs.inside.ZoneNeeds.{HaveOpenCells}
+use Rattle.open_grid.specs.inside.ZoneSteps.{AreStretched}
+use Rattle.open_grid.proofs.CellLaws.{by_axis, no_items, open_everywhere, open_in_halves, open_in_lines, open_nowhere, some_items}
+use Rattle.open_grid.proofs.zones.+open_parts.Goals as goal
+
+pub returns-in-Everywhere : goal.returns-in-Everywhere
+returns-in-Everywhere t c = λ islands stand. rw (c.in_ok-push-in-Everywhere.ensures.items, c.new-rects.ensures.items)
+    (open_everywhere c.args.zone c.args.side islands (rw c.in-Everywhere.is at (c.in_ok-look_closer.ensures.left islands stand)))
+
+pub returns-then-is_empty : goal.returns-then-is_empty
+returns-then-is_empty t c = λ islands stand.
+    let none = rw c.as_slice.ensures at (no_items _ c.if-is_empty.ensures) in
+    rw c.new-rects.ensures.items (open_nowhere c.args.zone c.args.side islands c.in-Of.left none (rw c.in-Of.is at (c.in_ok-look_closer.ensures.left islands stand)))
+
+pub next_step-requires-clause-several : goal.next_step-requires-clause-several
+next_step-requires-clause-several t c =
+    let some = rw c.as_slice.ensures at (some_items _ c.if-is_empty.ensures) in
+    (rw c.in-Of.is at c.in_ok-look_closer.ensures.at_once) some
+
+pub returns-in-Repeat : goal.returns-in-Repeat
+returns-in-Repeat t c = λ islands stand.
+    IfOk-weaker c.stretched.result (λ (rects : Vec Rect Global). AreStretched c.in-Repeat.axis c.args.zone c.in_ok-lines-in-Repeat.lines.items rects.items)
+    (λ (rects : Vec Rect Global). HaveOpenCells islands c.args.side c.args.zone rects.items)
+    (λ (rects : Vec Rect Global) are.
+        open_in_lines c.args.zone c.args.side islands c.in-Of.left c.in-Repeat.axis _ c.in_ok-lines-in-Repeat.lines.items rects.items
+        (rw c.in-Of.is at (c.in_ok-look_closer.ensures.left islands stand))
+        (by_axis c.args.zone c.args.side c.in-Repeat.axis c.requires.some c.steady_columns_sever_alike.ensures c.steady_rows_sever_alike.ensures)
+        (rw (c.in-Repeat.is, c.as_slice-2.ensures) at c.in_ok-axis.ensures).1 c.first_line.ensures (rw c.as_slice-in-Repeat.ensures at c.in_ok-lines-in-Repeat.ensures) are)
+    (rw c.deref.ensures.value at c.stretched.ensures)
+
+pub open_parts-requires : goal.open_parts-requires
+open_parts-requires t c =
+    let fewer = fewer_in_line c.in-Repeat.axis c.args.zone _ c.first_line.ensures (rw c.in-Repeat.is at c.in_ok-axis.ensures).0 in
+    (omega (arith, fewer), (c.requires.some, c.requires.few))
+
+pub open_parts-requires-in-Halve : goal.open_parts-requires-in-Halve
+open_parts-requires-in-Halve t c = let fewer = fewer_cells c.args.zone _ _ c.parts_at.ensures in (omega (arith, fewer.0), (c.requires.some, c.requires.few))
+
+pub open_parts-requires-in-Halve-2 : goal.open_parts-requires-in-Halve-2
+open_parts-requires-in-Halve-2 t c = let fewer = fewer_cells c.args.zone _ _ c.parts_at.ensures in (omega (arith, fewer.1), (c.requires.some, c.requires.few))
+
+pub returns : goal.returns
+returns t c = λ islands stand. rw (c.in_ok-extend_from_slice-in-Halve.ensures.items, c.deref-in-Halve.ensures.value)
+    (open_in_halves c.args.zone c.args.side islands c.in-Of.left _ _ c.in_ok-both-in-Halve.both.items c.in_ok-others-in-Halve.others.items
+    (rw c.in-Of.is at (c.in_ok-look_closer.ensures.left islands stand)) c.parts_at.ensures (rw c.as_slice-in-Halve.ensures at c.in_ok-both-in-Halve.ensures)
+    (rw c.as_slice-in-Halve-2.ensures at c.in_ok-others-in-Halve.ensures))
