@@ -1,0 +1,2 @@
+pub mod GainedTexts
+pub mod ToldGauges
