@@ -1,5 +1,5 @@
 -- bytes that gain the texts of gauges, one after the other
-use Rattle.std.proofs.Common.{ℕ, ◌≡◌, ◌<◌, ◌+◌, List, [], ◌∷◌, ◌++◌, length, get_or, take, drop, map, sym, ap, ◌∙◌, append_assoc}
+use Rattle.std.proofs.Common.{ℕ, ◌≡◌, ◌<◌, ◌+◌, List, ◌∷◌, ◌++◌, length, get_or, take, drop, map, sym, ap, ◌∙◌, append_assoc}
 use Rattle.std.proofs.lemmas.List.{drop_more, take-append-drop, map-append}
 use Rattle.std.proofs.Math.Seq.{take-append_seam}
 use Rattle.lists.proofs.Words.{flat_map, flat_map-append}
@@ -12,10 +12,11 @@ prefix_behind old mid new front text rest all gained some whole =
     let part : List ℕ = take some.0 text in
     let left : List ℕ = drop some.0 text ++ rest in
     let parted : (front ++ part) ++ left ≡ all =
-        append_assoc front part left ∙ ap (λ l. front ++ l) (sym (append_assoc part (drop some.0 text) rest) ∙ ap (λ l. l ++ rest) (take-append-drop some.0 text)) ∙ whole in
-    (length (front ++ part),
+    append_assoc front part left ∙ ap (λ l. front ++ l) (sym (append_assoc part (drop some.0 text) rest) ∙ ap (λ l. l ++ rest) (take-append-drop some.0 text)) ∙ whole in (
+      length (front ++ part),
       some.1 ∙ ap (λ l. l ++ part) gained ∙ append_assoc old front part
-      ∙ ap (λ l. old ++ l) (sym (take-append_seam (front ++ part) left) ∙ ap (take (length (front ++ part))) parted))
+          ∙ ap (λ l. old ++ l) (sym (take-append_seam (front ++ part) left) ∙ ap (take (length (front ++ part))) parted),
+    )
 
 -- the texts of all gauges: of those before one, its own, and of those behind it
 pub texts_parted : {Gauge : Type 0} (view : Gauge → GaugeView) (gauges : List Gauge) (i : ℕ) (x : Gauge) → i < length gauges → x ≡ get_or gauges i x

@@ -4,7 +4,7 @@ use Rattle.std.proofs.lemmas.List.{take_more_set, drop-set-lt, take_all, drop_al
 use Rattle.std.proofs.Math.Seq.{take-length}
 use Rattle.lists.proofs.Pairing.{AllZip-append, AllZip-push}
 use Rattle.questions.specs.declared.row.Row.{Row}
-use Rattle.gauges.specs.GaugeViews.{GaugeView, IsTold, IsToldPrefix, AreTold, AreToldPrefixes}
+use Rattle.gauges.specs.GaugeViews.{GaugeView, IsTold, IsToldPrefix, AreTold, AreToldPrefixes, texts_of, texts_after}
 
 -- the gauges below a number have been told the rows, and the others are as they were
 pub record AreToldBelow {Gauge : Type 0} (view : Gauge → GaugeView) (rows : List Row) (old new : List Gauge) (count : ℕ) : Type 0 where
@@ -27,6 +27,15 @@ told_prefixes rows (x ∷ xs) (y ∷ ys) told = (told_prefix rows x y told.0, to
 pub untold_prefixes : (rows : List Row) (gauges : List GaugeView) → AreToldPrefixes rows gauges gauges
 untold_prefixes rows [] = tt
 untold_prefixes rows (x ∷ xs) = ((0, record { seen = sym (append-nil x.seen); text = refl }), untold_prefixes rows xs)
+
+-- what they print then follows from what was known of them before
+pub texts_of-told : (rows : List Row) (old new : List GaugeView) → AreTold rows old new → texts_of new ≡ texts_after rows old
+texts_of-told rows [] [] told = refl
+texts_of-told rows [] (y ∷ ys) told = absurd told
+texts_of-told rows (x ∷ xs) [] told = absurd told
+texts_of-told rows (x ∷ xs) (y ∷ ys) told =
+    ap (λ text. text y.seen ++ texts_of ys) told.0.text ∙ ap (λ seen. x.text seen ++ texts_of ys) told.0.seen
+    ∙ ap (λ texts. x.text (x.seen ++ rows) ++ texts) (texts_of-told rows xs ys told.1)
 
 module _ {A : Type 0} where
   -- the item at a number, and the items behind it
@@ -66,12 +75,13 @@ module _ {Gauge : Type 0} (view : Gauge → GaugeView) (rows : List Row) where
       let item : Gauge = get_or new i x in
       let left : drop i old ≡ item ∷ drop (i + 1) new = left_over old new i x more below.others in
       let olds : map view (take (i + 1) old) ≡ map view (take i old) ++ view item ∷ [] =
-          rw add-one (ap (map view) (take_next old (drop (i + 1) new) i item left) ∙ map-append view (take i old) (item ∷ [])) in
+      rw add-one (ap (map view) (take_next old (drop (i + 1) new) i item left) ∙ map-append view (take i old) (item ∷ [])) in
       let news : map view (take (i + 1) (set new i y)) ≡ map view (take i new) ++ view y ∷ [] =
-          ap (map view) (take_more_set new i y more) ∙ map-append view (take i new) (y ∷ []) in
+      ap (map view) (take_more_set new i y more) ∙ map-append view (take i new) (y ∷ []) in
       record {
         told = rw (olds, news) (AllZip-push (IsTold rows) (map view (take i old)) (map view (take i new)) (view item) (view y) below.told told);
-        others = drop-set-lt (i + 1) new i y (omega arith) ∙ sym (ap (λ n. drop n old) (add-one i) ∙ drop_next old (drop (i + 1) new) i item left) }
+        others = drop-set-lt (i + 1) new i y (omega arith) ∙ sym (ap (λ n. drop n old) (add-one i) ∙ drop_next old (drop (i + 1) new) i item left);
+      }
 
   -- the next gauge is told some of the rows, and those behind it none
   pub told_until : (old new : List Gauge) (i : ℕ) (x y : Gauge) → i < length new → IsToldPrefix rows (view (get_or new i x)) (view y)
@@ -80,15 +90,15 @@ module _ {Gauge : Type 0} (view : Gauge → GaugeView) (rows : List Row) where
       let item : Gauge = get_or new i x in
       let rest : List Gauge = drop (i + 1) new in
       let olds : map view old ≡ map view (take i old) ++ view item ∷ map view rest =
-          ap (map view) (sym (take-append-drop i old) ∙ ap (λ l. take i old ++ l) (left_over old new i x more below.others)) ∙ map-append view (take i old) (item ∷ rest) in
+      ap (map view) (sym (take-append-drop i old) ∙ ap (λ l. take i old ++ l) (left_over old new i x more below.others)) ∙ map-append view (take i old) (item ∷ rest) in
       let news : map view (set new i y) ≡ map view (take i new) ++ view y ∷ map view rest =
-          ap (map view) (sym (take-append-drop i (set new i y)) ∙ ap (λ l. l ++ drop i (set new i y)) (take-set new i y) ∙ ap (λ l. take i new ++ l) (drop-set new i y more))
-          ∙ map-append view (take i new) (y ∷ rest) in
+      ap (map view) (sym (take-append-drop i (set new i y)) ∙ ap (λ l. l ++ drop i (set new i y)) (take-set new i y) ∙ ap (λ l. take i new ++ l) (drop-set new i y more))
+      ∙ map-append view (take i new) (y ∷ rest) in
       subst (λ l. AreToldPrefixes rows l (map view (set new i y))) (sym olds)
       (subst (λ l. AreToldPrefixes rows (map view (take i old) ++ view item ∷ map view rest) l) (sym news)
       (AllZip-append (IsToldPrefix rows) (map view (take i old)) (view item ∷ map view rest) (map view (take i new)) (view y ∷ map view rest)
-        (told_prefixes rows (map view (take i old)) (map view (take i new)) below.told)
-        (told, untold_prefixes rows (map view rest))))
+      (told_prefixes rows (map view (take i old)) (map view (take i new)) below.told)
+      (told, untold_prefixes rows (map view rest))))
 
 -- where there is an error, and anyway
 pub on_err : {T E P : Type 0} (r : Result T E) → P → OnErr r P

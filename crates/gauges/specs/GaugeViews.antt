@@ -16,6 +16,10 @@ text_of gauge = gauge.text gauge.seen
 abbrev pub texts_of : List GaugeView → List ℕ
 texts_of gauges = flat_map text_of gauges
 
+-- what they print once each of them is told these rows: its text for all that it had seen before, followed by these
+abbrev pub texts_after : List Row → List GaugeView → List ℕ
+texts_after rows gauges = flat_map (λ gauge. gauge.text (gauge.seen ++ rows)) gauges
+
 -- the gauge has seen these rows after what it had seen, and prints for each list what it printed
 pub record IsTold (rows : List Row) (old new : GaugeView) : Type 0 where
   pub seen : new.seen ≡ old.seen ++ rows

@@ -45,15 +45,14 @@ impl Gauge for Nonzero {
     }
 
     fn line(&self, into: &mut Vec<u8>) -> Result<(), NoMemory> {
-        let rows = self.rows.as_slice();
-        let text = nonzero_line(*into.allocator(), rows)?;
+        let text = text_of(*into.allocator(), self.rows.as_slice())?;
         into.extend_from_slice(text.as_bytes())?;
         Ok(())
     }
 }
 
 /// The text for these rows.
-fn nonzero_line(alloc: Global, rows: &[Row]) -> Result<String, NoMemory>
+fn text_of(alloc: Global, rows: &[Row]) -> Result<String, NoMemory>
     ensures { IfOk result (λ text. string_bytes text ≡ nonzero_text rows.now) }
 {
     let with_area = count_with_area(rows);

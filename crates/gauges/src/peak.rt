@@ -1,4 +1,4 @@
-ghost use Rattle.std.specs.Prelude.{◌≡◌, ◌≤◌, ◌↔◌, [], All, Any, IfOk, IfSome, IsNone, string_bytes};
+ghost use Rattle.std.specs.Prelude.{◌≡◌, ◌≤◌, ◌↔◌, ◌==◌, [], All, Contains, IfOk, IfSome, IsNone, find, map, string_bytes};
 ghost use Rattle.gauges.specs.PeakText.{peak_of, peak_line, peak_text};
 ghost use Rattle.report.specs.Report.{product_of};
 
@@ -47,25 +47,24 @@ impl Gauge for Peak {
     }
 
     fn line(&self, into: &mut Vec<u8>) -> Result<(), NoMemory> {
-        let rows = self.rows.as_slice();
-        let text = peak_words(*into.allocator(), rows)?;
+        let text = text_of(*into.allocator(), self.rows.as_slice())?;
         into.extend_from_slice(text.as_bytes())?;
         Ok(())
     }
 }
 
 /// The text for these rows.
-fn peak_words(alloc: Global, rows: &[Row]) -> Result<String, NoMemory>
+fn text_of(alloc: Global, rows: &[Row]) -> Result<String, NoMemory>
     ensures { IfOk result (λ text. string_bytes text ≡ peak_text rows.now) }
 {
     match peak_row(rows) {
-        Some(row) => words_of(alloc, &row),
+        Some(row) => line_of(alloc, &row),
         None => Ok(String::from_str(alloc, "peak none\n")?),
     }
 }
 
 /// The line of a peak.
-fn words_of(alloc: Global, row: &Row) -> Result<String, NoMemory>
+fn line_of(alloc: Global, row: &Row) -> Result<String, NoMemory>
     ensures { IfOk result (λ text. string_bytes text ≡ peak_line row.now) }
 {
     let layer = row.layer.as_str();
@@ -82,14 +81,21 @@ fn peak_row(rows: &[Row]) -> Option<Row>
     ensures { result ≡ peak_of rows.now }
 {
     let greatest = greatest_product(rows)?;
-    rows.iter().find(|row| product(row) == greatest).copied()
+    first_with_product(rows, greatest)
 }
 
-/// The greatest product of a row.
+/// The greatest product.
 fn greatest_product(rows: &[Row]) -> Option<u128>
     ensures none { IsNone result ↔ (rows.now ≡ []) }
-    ensures reached { IfSome result (λ greatest. Any (λ row. product_of row ≡ greatest) rows.now) }
+    ensures reached { IfSome result (Contains (map product_of rows.now)) }
     ensures bound { IfSome result (λ greatest. All (λ row. product_of row ≤ greatest) rows.now) }
 {
     rows.iter().map(|row| product(row)).max()
+}
+
+/// The first row with this product.
+fn first_with_product(rows: &[Row], wanted: u128) -> Option<Row>
+    ensures { result ≡ find (λ row. product_of row == wanted) rows.now }
+{
+    rows.iter().copied().find(|row| product(row) == wanted)
 }

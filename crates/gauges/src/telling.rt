@@ -6,8 +6,8 @@ use super::gauge::Gauge;
 use lists::NoMemory;
 use questions::Row;
 
-/// Tells each gauge all rows in order, one gauge after the other, and stops at the first that refuses a row. The gauges
-/// before it have then seen all rows, it has seen those before the refused one, and those behind it have seen none.
+/// Tells each gauge all rows in order, one gauge after the other, and stops where a gauge refuses a row. Each has then seen
+/// the first of the rows, perhaps none or all, behind what it had seen.
 pub fn tell(gauges: &mut Vec<Box<dyn Gauge>>, rows: &[Row]) -> Result<(), NoMemory>
     ensures told { OnOk result
         (AreTold rows.now (views_of seen text gauges.old.items) (views_of seen text gauges.new.items)) }
@@ -31,7 +31,7 @@ fn tell_gauge(gauge: &mut Box<dyn Gauge>, rows: &[Row]) -> Result<(), NoMemory>
     Ok(())
 }
 
-/// Tells a gauge a row.
+/// Tells a gauge a row. The loop over rows needs no more than this of the object in the box.
 fn tell_row(gauge: &mut Box<dyn Gauge>, row: &Row) -> Result<(), NoMemory>
     ensures told { OnOk result (IsTold (row.now ∷ []) (view_of seen text gauge.old) (view_of seen text gauge.new)) }
     ensures untold { OnErr result (IsTold [] (view_of seen text gauge.old) (view_of seen text gauge.new)) }
@@ -39,8 +39,8 @@ fn tell_row(gauge: &mut Box<dyn Gauge>, row: &Row) -> Result<(), NoMemory>
     gauge.note(row)
 }
 
-/// Appends the text of each gauge of all that it has seen to `into`, in order. Where a gauge refuses, `into` has gained the
-/// first part of these texts, perhaps none of it.
+/// Appends what each gauge prints of all that it has seen to `into`, in the order of the gauges. Where a gauge refuses,
+/// `into` has gained the first part of these texts, perhaps none of it.
 pub fn append_texts(gauges: &[Box<dyn Gauge>], into: &mut Vec<u8>) -> Result<(), NoMemory>
     ensures written { OnOk result
         (Gains into.old.items into.new.items (texts_of (views_of seen text gauges.now))) }
@@ -53,7 +53,7 @@ pub fn append_texts(gauges: &[Box<dyn Gauge>], into: &mut Vec<u8>) -> Result<(),
     Ok(())
 }
 
-/// Appends the text of a gauge.
+/// Appends what a gauge prints. The loop over gauges needs no more than this of the object in the box.
 fn append_text(gauge: &Box<dyn Gauge>, into: &mut Vec<u8>) -> Result<(), NoMemory>
     ensures written { OnOk result
         (Gains into.old.items into.new.items (text_of (view_of seen text gauge.now))) }

@@ -1,5 +1,4 @@
-use Rattle.std.proofs.Common.{take, map, drop, ◌+◌, arith}
-use Rattle.gauges.specs.GaugeViews.{text_of, texts_of}
+use Rattle.std.proofs.Common.{arith}
 use Rattle.gauges.proofs.GainedTexts.{prefix_behind, texts_parted}
 use Rattle.gauges.proofs.ToldGauges.{on_err}
 use Rattle.gauges.proofs.telling.append_texts.Goals as goal

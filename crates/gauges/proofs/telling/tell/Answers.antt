@@ -1,4 +1,4 @@
-use Rattle.std.proofs.Common.{List, set, length, ◌<◌, ◌≤◌, ◌≡◌, ◌∙◌, length-set, sym, subst, arith, rules}
+use Rattle.std.proofs.Common.{List, set, length, ◌≤◌, ◌≡◌, length-set, arith}
 use Rattle.lists.proofs.Reading.{put_back}
 use Rattle.gauges.proofs.ToldGauges.{on_err, told_all, told_more, told_none, told_until}
 use Rattle.gauges.proofs.telling.tell.Goals as goal

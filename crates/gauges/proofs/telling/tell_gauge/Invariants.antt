@@ -6,8 +6,10 @@ abbrev pub invariant-loop-row : goal.invariant-loop-row
 invariant-loop-row g l =
     let old : GaugeView = record {
       seen = (goal.Gauge-dyn g (l.initial.gauge.vtable, l.initial.gauge.value)).seen l.initial.gauge.value;
-      text = (goal.Gauge-dyn g (l.initial.gauge.vtable, l.initial.gauge.value)).text l.initial.gauge.value } in
+      text = (goal.Gauge-dyn g (l.initial.gauge.vtable, l.initial.gauge.value)).text l.initial.gauge.value;
+    } in
     let new : GaugeView = record {
       seen = (goal.Gauge-dyn g (l.gauge.vtable, l.gauge.value)).seen l.gauge.value;
-      text = (goal.Gauge-dyn g (l.gauge.vtable, l.gauge.value)).text l.gauge.value } in
+      text = (goal.Gauge-dyn g (l.gauge.vtable, l.gauge.value)).text l.gauge.value;
+    } in
     IsTold (take l.row-index l.rows) old new
