@@ -1,4 +1,4 @@
-ghost use Rattle.std.specs.Prelude.{◌≡◌, [], OnOk, string_bytes};
+ghost use Rattle.std.specs.Prelude.{◌≡◌, [], IfOk, OnOk, string_bytes};
 ghost use Rattle.std.specs.List.{flat_map};
 ghost use Rattle.report.specs.Gains.{Gains};
 ghost use Rattle.gauge_rows.specs.CsvText.{csv_line, csv_text};
@@ -37,12 +37,19 @@ impl Gauge for Csv {
     }
 
     fn line(&self, into: &mut Vec<u8>) -> Result<(), NoMemory> {
-        let mut text = String::new(*into.allocator());
-        text.push_str("kind,layer,measure,size,area,weight\n")?;
-        write_lines(&mut text, self.rows.as_slice())?;
+        let text = text_of(*into.allocator(), self.rows.as_slice())?;
         into.extend_from_slice(text.as_bytes())?;
         Ok(())
     }
+}
+
+/// The text of these rows.
+fn text_of(alloc: Global, rows: &[Row]) -> Result<String, NoMemory>
+    ensures { IfOk result (λ text. string_bytes text ≡ csv_text rows.now) }
+{
+    let mut text = String::from_str(alloc, "kind,layer,measure,size,area,weight\n")?;
+    write_lines(&mut text, rows)?;
+    Ok(text)
 }
 
 /// Appends the line of each row.
