@@ -6,6 +6,10 @@ use Rattle.lists.proofs.Pairing.{AllZip-append, AllZip-push}
 use Rattle.questions.specs.declared.row.Row.{Row}
 use Rattle.gauges.specs.GaugeViews.{GaugeView, IsTold, IsToldPrefix, AreTold, AreToldPrefixes, texts_of, texts_after}
 
+-- a gauge has been told the first of the rows, so many of them
+abbrev pub IsToldSome : {Gauge : Type 0} → (Gauge → GaugeView) → List Row → ℕ → Gauge → Gauge → Type 0
+IsToldSome view rows count old new = IsTold (take count rows) (view old) (view new)
+
 -- the gauges below a number have been told the rows, and the others are as they were
 pub record AreToldBelow {Gauge : Type 0} (view : Gauge → GaugeView) (rows : List Row) (old new : List Gauge) (count : ℕ) : Type 0 where
   pub told : AreTold rows (map view (take count old)) (map view (take count new))
@@ -36,6 +40,12 @@ texts_of-told rows (x ∷ xs) [] told = absurd told
 texts_of-told rows (x ∷ xs) (y ∷ ys) told =
     ap (λ text. text y.seen ++ texts_of ys) told.0.text ∙ ap (λ seen. x.text seen ++ texts_of ys) told.0.seen
     ∙ ap (λ texts. x.text (x.seen ++ rows) ++ texts) (texts_of-told rows xs ys told.1)
+
+-- and bytes that gained what they print now, gained that
+pub texts_gained : {Gauge : Type 0} (view : Gauge → GaugeView) (rows : List Row) (old new printed : List Gauge) (before after : List ℕ)
+    → AreTold rows (map view old) (map view new) → printed ≡ new → after ≡ before ++ texts_of (map view printed) → after ≡ before ++ texts_after rows (map view old)
+texts_gained view rows old new printed before after told same gained =
+    gained ∙ ap (λ gauges. before ++ texts_of (map view gauges)) same ∙ ap (λ text. before ++ text) (texts_of-told rows (map view old) (map view new) told)
 
 module _ {A : Type 0} where
   -- the item at a number, and the items behind it

@@ -16,7 +16,7 @@ text_of gauge = gauge.text gauge.seen
 abbrev pub texts_of : List GaugeView → List ℕ
 texts_of gauges = flat_map text_of gauges
 
--- what they print once each of them is told these rows: its text for all that it had seen before, followed by these
+-- what they print once each is told these rows: its text for the rows that it had seen before, followed by these
 abbrev pub texts_after : List Row → List GaugeView → List ℕ
 texts_after rows gauges = flat_map (λ gauge. gauge.text (gauge.seen ++ rows)) gauges
 
@@ -37,7 +37,7 @@ AreTold rows old new = AllZip (IsTold rows) old new
 abbrev pub AreToldPrefixes : List Row → List GaugeView → List GaugeView → Type 0
 AreToldPrefixes rows old new = AllZip (IsToldPrefix rows) old new
 
--- what is known of a gauge of a type of gauges, by what that type says of it
+-- what is known of a gauge, read by the two meanings of its trait
 abbrev pub view_of : {Gauge : Type 0} → (Gauge → List Row) → (Gauge → List Row → List ℕ) → Gauge → GaugeView
 view_of seen text gauge = record { seen = seen gauge; text = text gauge }
 

@@ -31,7 +31,7 @@ fn tell_gauge(gauge: &mut Box<dyn Gauge>, rows: &[Row]) -> Result<(), NoMemory>
     Ok(())
 }
 
-/// Tells a gauge a row. The loop over rows needs no more than this of the object in the box.
+/// Tells a gauge a row: all that the loop over rows has to know of the object in the box.
 fn tell_row(gauge: &mut Box<dyn Gauge>, row: &Row) -> Result<(), NoMemory>
     ensures told { OnOk result (IsTold (row.now ∷ []) (view_of seen text gauge.old) (view_of seen text gauge.new)) }
     ensures untold { OnErr result (IsTold [] (view_of seen text gauge.old) (view_of seen text gauge.new)) }
@@ -53,7 +53,7 @@ pub fn append_texts(gauges: &[Box<dyn Gauge>], into: &mut Vec<u8>) -> Result<(),
     Ok(())
 }
 
-/// Appends what a gauge prints. The loop over gauges needs no more than this of the object in the box.
+/// Appends what a gauge prints: all that the loop over gauges has to know of the object in the box.
 fn append_text(gauge: &Box<dyn Gauge>, into: &mut Vec<u8>) -> Result<(), NoMemory>
     ensures written { OnOk result
         (Gains into.old.items into.new.items (text_of (view_of seen text gauge.now))) }
