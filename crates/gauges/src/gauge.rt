@@ -5,14 +5,14 @@ ghost use Rattle.questions.specs.declared.row.Row.{Row};
 use lists::NoMemory;
 use questions::Row;
 
-/// What is told the rows of reports, one after the other, and prints a text of all that it has seen, which may go on from
-/// one report to the next. A caller writes gauges of its own by this trait: its clauses are all that the printing of a
-/// report needs of them.
+/// An object that is told the rows of a report, one after the other, and prints a text of all that it has seen. It may be
+/// told the rows of several reports. A caller may write gauges of its own: whoever prints a report knows no more of a gauge
+/// than these clauses.
 pub trait Gauge: Drop {
     /// The rows that it has seen, in their order.
     ghost seen: { Self → List Row };
 
-    /// What it prints where it has seen these rows. No call changes it.
+    /// What it prints once it has seen these rows and no others. No call changes it.
     ghost text: { Self → List Row → List ℕ };
 
     /// Tells it a row, which it has seen from then on. Where it refuses, as for want of memory, it has not seen the row.
