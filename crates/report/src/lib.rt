@@ -5,5 +5,5 @@ mod text;
 mod totals;
 
 pub use questions::{Kind, MOST_ROWS, Row};
-pub use text::write_report;
+pub use text::{letter, write_report};
 pub use totals::product;

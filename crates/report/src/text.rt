@@ -52,8 +52,8 @@ fn write_line(text: &mut String, row: &Row) -> Result<(), NoMemory>
     Ok(())
 }
 
-/// The letter that stands before the size.
-fn letter(measure: Measure) -> &'static str
+/// The letter that stands before a size: `r` before a radius.
+pub fn letter(measure: Measure) -> &'static str
     ensures { result.now ≡ letter_of measure }
 {
     match measure {

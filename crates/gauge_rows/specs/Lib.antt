@@ -1,0 +1,2 @@
+pub mod CsvText
+pub mod HostileTexts

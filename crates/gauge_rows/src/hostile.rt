@@ -1,0 +1,86 @@
+ghost use Rattle.std.specs.Prelude.{◌≡◌, [], IfOk, codes, string_bytes};
+ghost use Rattle.gauge_rows.specs.HostileTexts.{room_line, room_text};
+
+use gauges::Gauge;
+use lists::NoMemory;
+use report::Row;
+use std::alloc::Global;
+
+/// Refuses each row once it has seen as many as it has room for.
+#[derive(Drop)]
+pub struct Tight {
+    pub rows: Vec<Row>,
+    pub room: usize,
+}
+
+impl Gauge for Tight {
+    ghost seen = { λ gauge. gauge.rows.items };
+
+    ghost text = { λ gauge. room_text gauge.room };
+
+    fn note(&mut self, row: &Row) -> Result<(), NoMemory> {
+        if self.rows.len() >= self.room {
+            return Err(NoMemory);
+        }
+        self.rows.push(*row)?;
+        Ok(())
+    }
+
+    fn line(&self, into: &mut Vec<u8>) -> Result<(), NoMemory> {
+        let text = text_of(*into.allocator(), self.rows.len(), self.room)?;
+        into.extend_from_slice(text.as_bytes())?;
+        Ok(())
+    }
+}
+
+/// The text of a gauge with so much room that has seen so many rows.
+fn text_of(alloc: Global, seen: usize, room: usize) -> Result<String, NoMemory>
+    ensures { IfOk result (λ text. string_bytes text ≡ room_line seen room) }
+{
+    let mut text = String::new(alloc);
+    writeln!(text, "seen {seen} of {room}")?;
+    Ok(text)
+}
+
+/// Prints nothing, whatever it has seen.
+#[derive(Drop)]
+pub struct Silent {
+    pub rows: Vec<Row>,
+}
+
+impl Gauge for Silent {
+    ghost seen = { λ gauge. gauge.rows.items };
+
+    ghost text = { λ _ _. [] };
+
+    fn note(&mut self, row: &Row) -> Result<(), NoMemory> {
+        self.rows.push(*row)?;
+        Ok(())
+    }
+
+    fn line(&self, _into: &mut Vec<u8>) -> Result<(), NoMemory> {
+        Ok(())
+    }
+}
+
+/// Has a text, `mute` and a newline, and refuses after its first two letters.
+#[derive(Drop)]
+pub struct Mute {
+    pub rows: Vec<Row>,
+}
+
+impl Gauge for Mute {
+    ghost seen = { λ gauge. gauge.rows.items };
+
+    ghost text = { λ _ _. codes "mute\n" };
+
+    fn note(&mut self, row: &Row) -> Result<(), NoMemory> {
+        self.rows.push(*row)?;
+        Ok(())
+    }
+
+    fn line(&self, into: &mut Vec<u8>) -> Result<(), NoMemory> {
+        into.extend_from_slice(b"mu")?;
+        Err(NoMemory)
+    }
+}

@@ -1,0 +1,3 @@
+pub mod GainedTexts
+pub mod PeakLaws
+pub mod ToldGauges

@@ -1,0 +1,3 @@
+pub mod GaugeViews
+pub mod NonzeroText
+pub mod PeakText
