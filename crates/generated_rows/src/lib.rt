@@ -1,0 +1,2 @@
+//! Worked rows on generated layouts. The crate has tests alone.
+#![tactic(auto)]

@@ -1,0 +1,145 @@
+//! The cell that is generated, and the array of it.
+
+ghost use Rattle.std.specs.Prelude.{◌≡◌, ◌≤◌, ◌∷◌, [], IfOk, IsTrue};
+ghost use Rattle.layout_gen.specs.Cells.{are_small};
+ghost use Rattle.layout_gen.specs.Generated as generated;
+
+use geo_core::{Items, Name, NoMemory, Point, Turn};
+use library_model::{Element, Lattice, Library, Reference, Shape, ShapeKind, Structure};
+use std::alloc::Global;
+
+/// The layer of the wires of one metal, that of the cut, and that of the other metal.
+const LOWER: u16 = 1;
+
+const CUT: u16 = 2;
+
+const UPPER: u16 = 3;
+
+/// How far the columns and the rows are apart.
+const PITCH: i64 = 20;
+
+/// 1 as an eight-byte real, for the database unit in user units, and again for that in metres.
+const UNITS: [u8; 16] = [0x41, 0x10, 0, 0, 0, 0, 0, 0, 0x41, 0x10, 0, 0, 0, 0, 0, 0];
+
+/// The library with so many columns and rows.
+pub fn library_of(alloc: Global, columns: u16) -> Result<Library, NoMemory>
+    requires some { 1 ≤ columns }
+    requires few { columns ≤ 500 }
+    ensures { IfOk result (λ library. library ≡ generated.generated_library columns) }
+{
+    let mut structures = Vec::new(alloc);
+    structures.push(cell(alloc)?)?;
+    structures.push(top(alloc, columns)?)?;
+    Ok(Library {
+        name: name(alloc, b"GEN")?,
+        units: UNITS,
+        structures: Items::from_vec(structures),
+    })
+}
+
+/// The name that has these bytes.
+fn name(alloc: Global, bytes: &[u8]) -> Result<Name, NoMemory>
+    ensures { IfOk result (λ name. name ≡ bytes.now) }
+{
+    Ok(Name::from_vec(Vec::from_slice(alloc, bytes)?))
+}
+
+/// The structure that is placed again and again.
+fn cell(alloc: Global) -> Result<Structure, NoMemory>
+    ensures { IfOk result (λ structure. structure ≡ generated.cell) }
+{
+    let mut elements = Vec::new(alloc);
+    elements.push(boundary(alloc, LOWER, 12, 0, 4)?)?;
+    elements.push(boundary(alloc, LOWER, 12, 8, 12)?)?;
+    elements.push(boundary(alloc, CUT, 2, 0, 2)?)?;
+    elements.push(boundary(alloc, UPPER, 4, 0, 12)?)?;
+    Ok(Structure {
+        at: 0,
+        name: name(alloc, b"CELL")?,
+        elements: Items::from_vec(elements),
+    })
+}
+
+/// The boundary of `[0,right)x[bottom,top)` on this layer, counterclockwise from its lower left corner.
+fn boundary(
+    alloc: Global,
+    layer: u16,
+    right: u16,
+    bottom: u16,
+    top: u16,
+) -> Result<Element, NoMemory>
+    ensures { (small : IsTrue (are_small (layer ∷ right ∷ bottom ∷ top ∷ []))) →
+        IfOk result (λ element. element ≡ generated.boundary layer right bottom top small) }
+{
+    let points = [
+        corner(0, bottom),
+        corner(right, bottom),
+        corner(right, top),
+        corner(0, top),
+        corner(0, bottom),
+    ];
+    Ok(Element::Shape(Shape {
+        at: 0,
+        kind: ShapeKind::Boundary,
+        layer,
+        datatype: 0,
+        points: Items::from_vec(Vec::from_slice(alloc, &points)?),
+    }))
+}
+
+/// The point so far to the right of the origin, and so far above it.
+fn corner(x: u16, y: u16) -> Point
+    ensures { result ≡ generated.corner x y }
+{
+    Point {
+        x: i32::from(x),
+        y: i32::from(y),
+    }
+}
+
+/// The structure that has the cells, in so many columns and rows.
+fn top(alloc: Global, columns: u16) -> Result<Structure, NoMemory>
+    requires some { 1 ≤ columns }
+    requires few { columns ≤ 500 }
+    ensures { IfOk result (λ structure. structure ≡ generated.top columns) }
+{
+    let mut elements = Vec::new(alloc);
+    elements.push(Element::Reference(cells(alloc, columns)?))?;
+    Ok(Structure {
+        at: 0,
+        name: name(alloc, b"TOP")?,
+        elements: Items::from_vec(elements),
+    })
+}
+
+/// The array of the cell.
+fn cells(alloc: Global, columns: u16) -> Result<Reference, NoMemory>
+    requires some { 1 ≤ columns }
+    requires few { columns ≤ 500 }
+    ensures { IfOk result (λ reference. reference ≡ generated.cells columns) }
+{
+    Ok(Reference {
+        at: 0,
+        target: name(alloc, b"CELL")?,
+        turn: Turn {
+            reflect: false,
+            quarters: 0,
+        },
+        origin: corner(0, 0),
+        lattice: Some(lattice(columns)),
+    })
+}
+
+/// Columns to the right and rows upwards, as many of each.
+fn lattice(columns: u16) -> Lattice
+    requires some { 1 ≤ columns }
+    requires few { columns ≤ 500 }
+    ensures { result ≡ generated.lattice columns }
+{
+    Lattice {
+        columns,
+        rows: columns,
+        column_step: (PITCH, 0),
+        row_step: (0, PITCH),
+    }
+}
