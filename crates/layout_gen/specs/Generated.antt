@@ -5,19 +5,19 @@ use Rattle.std.proofs.Math.Facts.{sfits_lit}
 use Rattle.std.proofs.Math.Nat.{le-max_left}
 use Rattle.gds_records.specs.RecordSpelling.{spellings}
 use Rattle.gds_write.specs.Written.{written}
-use Rattle.library_model.specs.declared.element.Element.{Element}
 use Rattle.library_model.specs.declared.element.Element.TheVariants.{Shape as shape_element, Reference as reference_element}
 use Rattle.library_model.specs.declared.element.Lattice.{Lattice}
 use Rattle.library_model.specs.declared.element.Reference.{Reference}
+use Rattle.library_model.specs.declared.element.Shape.{Shape}
 use Rattle.library_model.specs.declared.element.ShapeKind.TheVariants.{Boundary}
 use Rattle.library_model.specs.declared.library.Library.{Library}
 use Rattle.library_model.specs.declared.library.Structure.{Structure}
-use Rattle.layout_gen.specs.Cells.{corner, outline, are_small}
+use Rattle.layout_gen.specs.Outlines.{corner, outline, are_small}
 use Rattle.layout_gen.specs.inside.Fitting.{are_bytes, small_layer, small_outline, few_columns}
 
 -- the boundary of [0,right)x[bottom,top) on this layer, with the datatype 0
-abbrev pub boundary : (layer right bottom top : ℕ) → IsTrue (are_small (layer ∷ right ∷ bottom ∷ top ∷ [])) → Element
-boundary layer right bottom top small = shape_element (record {
+abbrev pub boundary : (layer right bottom top : ℕ) → IsTrue (are_small (layer ∷ right ∷ bottom ∷ top ∷ [])) → Shape
+boundary layer right bottom top small = record {
   at = 0;
   kind = Boundary;
   layer = layer;
@@ -27,7 +27,7 @@ boundary layer right bottom top small = shape_element (record {
   layer_fits = small_layer layer right bottom top small;
   datatype_fits = lit< tt;
   points_fit = small_outline layer right bottom top small;
-})
+}
 
 -- the cell: on layer 1 two wires, one above the other, and on layer 3 a third that goes up on their left. A piece on layer 2
 -- joins this to the lower wire.
@@ -35,7 +35,9 @@ abbrev pub cell : Structure
 cell = record {
   at = 0;
   name = codes "CELL";
-  elements = boundary 1 12 0 4 refl ∷ boundary 1 12 8 12 refl ∷ boundary 2 2 0 2 refl ∷ boundary 3 4 0 12 refl ∷ [];
+  elements =
+      shape_element (boundary 1 12 0 4 refl) ∷ shape_element (boundary 1 12 8 12 refl)
+      ∷ shape_element (boundary 2 2 0 2 refl) ∷ shape_element (boundary 3 4 0 12 refl) ∷ [];
   name_fits = are_bytes (codes "CELL") refl;
 }
 

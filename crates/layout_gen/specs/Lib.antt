@@ -1,3 +1,3 @@
-pub mod Cells
 pub mod inside
+pub mod Outlines
 pub mod Generated

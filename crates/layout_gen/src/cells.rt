@@ -1,8 +1,9 @@
 //! The cell that is generated, and the array of it.
 
 ghost use Rattle.std.specs.Prelude.{◌≡◌, ◌≤◌, ◌∷◌, [], IfOk, IsTrue};
-ghost use Rattle.layout_gen.specs.Cells.{are_small};
 ghost use Rattle.layout_gen.specs.Generated as generated;
+ghost use Rattle.layout_gen.specs.Outlines as outlines;
+ghost use Rattle.layout_gen.specs.Outlines.{are_small};
 
 use geo_core::{Items, Name, NoMemory, Point, Turn};
 use library_model::{Element, Lattice, Library, Reference, Shape, ShapeKind, Structure};
@@ -27,9 +28,7 @@ pub fn library_of(alloc: Global, columns: u16) -> Result<Library, NoMemory>
     requires few { columns ≤ 500 }
     ensures { IfOk result (λ library. library ≡ generated.generated_library columns) }
 {
-    let mut structures = Vec::new(alloc);
-    structures.push(cell(alloc)?)?;
-    structures.push(top(alloc, columns)?)?;
+    let structures = vec![in alloc; cell(alloc)?, top(alloc, columns)?]?;
     Ok(Library {
         name: name(alloc, b"GEN")?,
         units: UNITS,
@@ -48,11 +47,12 @@ fn name(alloc: Global, bytes: &[u8]) -> Result<Name, NoMemory>
 fn cell(alloc: Global) -> Result<Structure, NoMemory>
     ensures { IfOk result (λ structure. structure ≡ generated.cell) }
 {
-    let mut elements = Vec::new(alloc);
-    elements.push(boundary(alloc, LOWER, 12, 0, 4)?)?;
-    elements.push(boundary(alloc, LOWER, 12, 8, 12)?)?;
-    elements.push(boundary(alloc, CUT, 2, 0, 2)?)?;
-    elements.push(boundary(alloc, UPPER, 4, 0, 12)?)?;
+    let elements = vec![in alloc;
+        Element::Shape(boundary(alloc, LOWER, 12, 0, 4)?),
+        Element::Shape(boundary(alloc, LOWER, 12, 8, 12)?),
+        Element::Shape(boundary(alloc, CUT, 2, 0, 2)?),
+        Element::Shape(boundary(alloc, UPPER, 4, 0, 12)?),
+    ]?;
     Ok(Structure {
         at: 0,
         name: name(alloc, b"CELL")?,
@@ -61,35 +61,29 @@ fn cell(alloc: Global) -> Result<Structure, NoMemory>
 }
 
 /// The boundary of `[0,right)x[bottom,top)` on this layer, counterclockwise from its lower left corner.
-fn boundary(
-    alloc: Global,
-    layer: u16,
-    right: u16,
-    bottom: u16,
-    top: u16,
-) -> Result<Element, NoMemory>
+fn boundary(alloc: Global, layer: u16, right: u16, bottom: u16, top: u16) -> Result<Shape, NoMemory>
     ensures { (small : IsTrue (are_small (layer ∷ right ∷ bottom ∷ top ∷ []))) →
-        IfOk result (λ element. element ≡ generated.boundary layer right bottom top small) }
+        IfOk result (λ shape. shape ≡ generated.boundary layer right bottom top small) }
 {
-    let points = [
+    let points = vec![in alloc;
         corner(0, bottom),
         corner(right, bottom),
         corner(right, top),
         corner(0, top),
         corner(0, bottom),
-    ];
-    Ok(Element::Shape(Shape {
+    ]?;
+    Ok(Shape {
         at: 0,
         kind: ShapeKind::Boundary,
         layer,
         datatype: 0,
-        points: Items::from_vec(Vec::from_slice(alloc, &points)?),
-    }))
+        points: Items::from_vec(points),
+    })
 }
 
 /// The point so far to the right of the origin, and so far above it.
 fn corner(x: u16, y: u16) -> Point
-    ensures { result ≡ generated.corner x y }
+    ensures { result ≡ outlines.corner x y }
 {
     Point {
         x: i32::from(x),
@@ -103,8 +97,7 @@ fn top(alloc: Global, columns: u16) -> Result<Structure, NoMemory>
     requires few { columns ≤ 500 }
     ensures { IfOk result (λ structure. structure ≡ generated.top columns) }
 {
-    let mut elements = Vec::new(alloc);
-    elements.push(Element::Reference(cells(alloc, columns)?))?;
+    let elements = vec![in alloc; Element::Reference(cells(alloc, columns)?)]?;
     Ok(Structure {
         at: 0,
         name: name(alloc, b"TOP")?,

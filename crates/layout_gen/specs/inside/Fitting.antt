@@ -5,7 +5,7 @@ use Rattle.lists.proofs.Words.{AllPass-from_list_all, All-weaker, All-cons, All-
 use Rattle.lists.specs.ByteLists.{IsByte, AreBytes}
 use Rattle.library_model.specs.Ranges.{IsPoint, ArePoints}
 use Rattle.geo_core.specs.declared.plane.Point.{Point}
-use Rattle.layout_gen.specs.Cells.{corner, outline, are_small}
+use Rattle.layout_gen.specs.Outlines.{corner, outline, are_small}
 
 -- numbers that are small by the test are so
 small_numbers : (bound : ℕ) (numbers : List ℕ) → IsTrue (list_all (λ n. nat_lt n bound) numbers) → All (λ n. n < bound) numbers
