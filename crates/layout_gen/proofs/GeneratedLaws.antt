@@ -1,5 +1,5 @@
 -- The library that is generated can be written, so that its bytes read back.
-use Rattle.std.proofs.Common.{◌≡◌, ◌≢◌, ℕ, pos, ◌+ℤ◌, ◌*ℤ◌, ◌<◌, ◌≤◌, ◌^◌, List, [], ◌∷◌, ◌++◌, length, All, IsTrue, nat_lt, codes, refl, true, ap, subst, arith, lit≤, get_or, FitsSigned, w32}
+use Rattle.std.proofs.Common.{◌≡◌, ◌≢◌, ℕ, pos, ◌+ℤ◌, ◌*ℤ◌, ◌<◌, ◌≤◌, ◌^◌, List, [], ◌∷◌, ◌++◌, length, All, IsTrue, nat_lt, codes, refl, true, ap, subst, arith, lit≤, get_or, FitsSigned, w32, IfOk, Result, Ok, Err, ◌∙◌}
 use Rattle.std.proofs.Math.Facts.{sfits_lit}
 use Rattle.lists.proofs.Containing.{All-back}
 use Rattle.lists.proofs.Words.{All-cons, All-nil, All-head, AllPairs-cons, AllPass-from_list_all, All-weaker, ints, list_all, ltb-true}
@@ -7,14 +7,28 @@ use Rattle.geo_core.specs.Plane.{IsOutline}
 use Rattle.library_grammar.specs.GrammarNames.{AreDifferent, names_of, IsPoint, ArePoints}
 use Rattle.gds_write.specs.WellFormed.{IsWritableName, IsWritableShape, IsWritableReference, IsWritableElement, IsWritableStructure, IsWellFormed}
 use Rattle.gds_write.specs.Written.{array_points, moved_by}
+use Rattle.library_model.specs.declared.element.Element.{Element}
 use Rattle.library_model.specs.declared.element.Element.TheVariants.{Shape as shape_element, Reference as reference_element}
+use Rattle.library_model.specs.declared.library.Structure.{Structure}
+use Rattle.library_model.proofs.SameParts.{same_structure}
+use Rattle.lists.specs.declared.memory.NoMemory.{NoMemory}
 use Rattle.layout_gen.specs.Outlines.{corner, outline, are_small}
 use Rattle.layout_gen.specs.inside.Fitting.{few_columns}
-use Rattle.layout_gen.specs.Generated.{boundary, cell, cells, columns_of, lattice, top, generated_library}
+use Rattle.layout_gen.specs.Generated.{boundary, cell, cell_array, columns_of, lattice, top, generated_library, generated_layout}
 
 -- lists are the same where their first items and the rests are
 pub same_cons : {A : Type 0} {x y : A} {xs ys : List A} → x ≡ y → xs ≡ ys → (x ∷ xs) ≡ (y ∷ ys)
 same_cons first rest = cc
+
+-- a structure that was made with the parts of another is that one
+pub with_its_parts : (wanted : Structure) (elements : List Element) (made : Result Structure NoMemory) → IfOk made (λ s. s.at ≡ wanted.at)
+    → IfOk made (λ s. s.name ≡ wanted.name) → IfOk made (λ s. s.elements ≡ elements) → elements ≡ wanted.elements → IfOk made (λ s. s ≡ wanted)
+with_its_parts wanted elements (Ok made) at name has same = same_structure made wanted at name (has ∙ same)
+with_its_parts wanted elements (Err fault) at name has same = tt
+
+-- there are as many columns as are asked for
+pub as_many : (asked : ℕ) → 1 ≤ asked → asked ≤ 500 → asked ≡ columns_of asked
+as_many asked some few = omega arith
 
 -- ---- names
 
@@ -60,8 +74,8 @@ array_fits asked =
     (All-cons IsPoint (moved_by count (pos 20, pos 0) (corner 0 0)) (moved_by count (pos 0, pos 20) (corner 0 0) ∷ []) right
     (All-cons IsPoint (moved_by count (pos 0, pos 20) (corner 0 0)) [] above (All-nil IsPoint)))
 
-cells_are_writable : (asked : ℕ) → IsWritableReference (cells asked)
-cells_are_writable asked = record { target = writable_name (codes "CELL") (lit≤ tt) refl; lattice = array_fits asked }
+array_is_writable : (asked : ℕ) → IsWritableReference (cell_array asked)
+array_is_writable asked = record { target = writable_name (codes "CELL") (lit≤ tt) refl; lattice = array_fits asked }
 
 -- ---- structures and the library
 
@@ -83,7 +97,7 @@ top_is_writable : (asked : ℕ) → IsWritableStructure (top asked)
 top_is_writable asked =
     record {
       name = writable_name (codes "TOP") (lit≤ tt) refl;
-      elements = All-cons IsWritableElement (reference_element (cells asked)) [] (cells_are_writable asked) (All-nil IsWritableElement);
+      elements = All-cons IsWritableElement (reference_element (cell_array asked)) [] (array_is_writable asked) (All-nil IsWritableElement);
     }
 
 names_differ : AreDifferent (codes "CELL" ∷ codes "TOP" ∷ [])
@@ -101,3 +115,8 @@ is_well_formed asked =
           All-cons IsWritableStructure cell (top asked ∷ []) cell_is_writable
           (All-cons IsWritableStructure (top asked) [] (top_is_writable asked) (All-nil IsWritableStructure));
     }
+
+-- its bytes are as many whatever is asked for
+pub length-generated_layout : (asked : ℕ) → length (generated_layout asked) ≡ 454
+unfolding generated_layout
+length-generated_layout asked = refl

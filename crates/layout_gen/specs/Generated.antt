@@ -12,6 +12,7 @@ use Rattle.library_model.specs.declared.element.Shape.{Shape}
 use Rattle.library_model.specs.declared.element.ShapeKind.TheVariants.{Boundary}
 use Rattle.library_model.specs.declared.library.Library.{Library}
 use Rattle.library_model.specs.declared.library.Structure.{Structure}
+use Rattle.layout_gen.specs.declared.maps.TheConstants.{LAYER_MAP}
 use Rattle.layout_gen.specs.Outlines.{corner, outline, are_small}
 use Rattle.layout_gen.specs.inside.Fitting.{are_bytes, small_layer, small_outline, few_columns}
 
@@ -29,8 +30,8 @@ boundary layer right bottom top small = record {
   points_fit = small_outline layer right bottom top small;
 }
 
--- the cell: on layer 1 two wires, one above the other, and on layer 3 a third that goes up on their left. A piece on layer 2
--- joins this to the lower wire.
+-- the cell: two wires on layer 1, one above the other, and one on layer 3 that crosses their left ends. A cut on layer 2 joins
+-- this one to the lower of the two.
 abbrev pub cell : Structure
 cell = record {
   at = 0;
@@ -60,9 +61,9 @@ lattice asked = record {
   row_step_fits = record { across = lit≤ tt; up = lit≤ tt };
 }
 
--- the cells, as they are drawn, from the origin on
-abbrev pub cells : ℕ → Reference
-cells asked = record {
+-- the array of the cell, which begins at the origin
+abbrev pub cell_array : ℕ → Reference
+cell_array asked = record {
   at = 0;
   target = codes "CELL";
   turn = record { reflect = false; quarters = 0; whole = lit< tt };
@@ -72,9 +73,9 @@ cells asked = record {
   origin_fits = record { across = sfits_lit tt; up = sfits_lit tt };
 }
 
--- the structure that has them, and nothing else
+-- the structure that has the array, and nothing else
 abbrev pub top : ℕ → Structure
-top asked = record { at = 0; name = codes "TOP"; elements = reference_element (cells asked) ∷ []; name_fits = are_bytes (codes "TOP") refl }
+top asked = record { at = 0; name = codes "TOP"; elements = reference_element (cell_array asked) ∷ []; name_fits = are_bytes (codes "TOP") refl }
 
 -- 1 as an eight-byte real
 abbrev pub real_one : List ℕ
@@ -96,5 +97,9 @@ generated_library asked = record {
 }
 
 -- the bytes that it is written as
-abbrev pub generated_layout : ℕ → List ℕ
+unfoldable pub generated_layout : ℕ → List ℕ
 generated_layout asked = spellings (written (generated_library asked))
+
+-- the text of the layer map that goes with each of them
+unfoldable pub generated_map : List ℕ
+generated_map = LAYER_MAP.now

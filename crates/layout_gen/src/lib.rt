@@ -1,11 +1,12 @@
-//! A layout of any size that needs no file: cells of two wires and a strap over them, in columns and rows, with the text of
-//! a layer map that goes with it.
+//! A layout of any size up to a million shapes, with its layer map, for trying things out where no files are at hand. Both
+//! are bytes as files have them, and nothing else: whoever reads them sees no difference.
 #![tactic(auto)]
 
-mod cells;
 pub mod laws;
 mod layouts;
+mod library;
 mod maps;
 
-pub use layouts::{Generated, MOST_COLUMNS, generate};
-pub use maps::MAP;
+pub use layouts::{Generated, generate};
+pub use library::MOST_COLUMNS;
+pub use maps::LAYER_MAP;

@@ -1,6 +1,6 @@
 /// The text of the layer map that goes with each generated layout: two metals, a cut between them, two radii, and two
 /// terminals on the lower wire of the cell at the origin.
-pub const MAP: &str = "\
+pub const LAYER_MAP: &str = "\
 version = 1
 radii = [2, 5]
 weights = [10, 1]

@@ -2,7 +2,7 @@ use Rattle.std.proofs.Common.{refl, ◌∙◌}
 use Rattle.library_model.proofs.SameParts.{same_shape}
 use Rattle.layout_gen.proofs.GeneratedLaws.{same_cons}
 use Rattle.layout_gen.specs.Generated as generated
-use Rattle.layout_gen.proofs.cells.boundary.Goals as goal
+use Rattle.layout_gen.proofs.library.boundary.Goals as goal
 
 pub returns : goal.returns
 returns c small =

@@ -1,9 +1,8 @@
 use Rattle.std.proofs.Common.{refl, ap, ◌∙◌}
-use Rattle.library_model.proofs.SameParts.{same_structure}
 use Rattle.library_model.specs.declared.element.Element.TheVariants.{Shape as shape_element}
-use Rattle.layout_gen.proofs.GeneratedLaws.{same_cons}
+use Rattle.layout_gen.proofs.GeneratedLaws.{same_cons, with_its_parts}
 use Rattle.layout_gen.specs.Generated as generated
-use Rattle.layout_gen.proofs.cells.cell.Goals as goal
+use Rattle.layout_gen.proofs.library.cell.Goals as goal
 
 pub returns : goal.returns
 returns c =
@@ -11,5 +10,5 @@ returns c =
     let upper_wire = ap shape_element (c.in_ok-boundary-2.ensures refl) in
     let cut = ap shape_element (c.in_ok-boundary-3.ensures refl) in
     let strap = ap shape_element (c.in_ok-boundary-4.ensures refl) in
-    same_structure _ generated.cell refl c.in_ok-name.ensures
-    (c.from_vec.ensures ∙ c.in_ok-elements.ensures.items ∙ same_cons lower_wire (same_cons upper_wire (same_cons cut (same_cons strap refl))))
+    let elements = c.in_ok-elements.ensures.items ∙ same_cons lower_wire (same_cons upper_wire (same_cons cut (same_cons strap refl))) in
+    with_its_parts generated.cell _ c.structure.result c.structure.ensures.at c.structure.ensures.name c.structure.ensures.elements elements

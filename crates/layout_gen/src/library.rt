@@ -1,4 +1,4 @@
-//! The cell that is generated, and the array of it.
+//! The library that is generated: a cell, and a structure that has an array of it.
 
 ghost use Rattle.std.specs.Prelude.{◌≡◌, ◌≤◌, ◌∷◌, [], IfOk, IsTrue};
 ghost use Rattle.layout_gen.specs.Generated as generated;
@@ -9,23 +9,28 @@ use geo_core::{Items, Name, NoMemory, Point, Turn};
 use library_model::{Element, Lattice, Library, Reference, Shape, ShapeKind, Structure};
 use std::alloc::Global;
 
-/// The layer of the wires of one metal, that of the cut, and that of the other metal.
-const LOWER: u16 = 1;
+/// The most columns that a generated layout may have, and the most rows.
+pub const MOST_COLUMNS: u32 = 500;
 
-const CUT: u16 = 2;
-
-const UPPER: u16 = 3;
-
-/// How far the columns and the rows are apart.
+/// How far each column is from the one before, and each row, in database units.
 const PITCH: i64 = 20;
 
-/// 1 as an eight-byte real, for the database unit in user units, and again for that in metres.
+/// The layer of the lower metal.
+const LOWER: u16 = 1;
+
+/// The layer of the cut between the metals.
+const CUT: u16 = 2;
+
+/// The layer of the upper metal.
+const UPPER: u16 = 3;
+
+/// The database unit in user units, and the same in metres: each is 1 as an eight-byte real.
 const UNITS: [u8; 16] = [0x41, 0x10, 0, 0, 0, 0, 0, 0, 0x41, 0x10, 0, 0, 0, 0, 0, 0];
 
 /// The library with so many columns and rows.
 pub fn library_of(alloc: Global, columns: u16) -> Result<Library, NoMemory>
     requires some { 1 ≤ columns }
-    requires few { columns ≤ 500 }
+    requires few { columns ≤ MOST_COLUMNS }
     ensures { IfOk result (λ library. library ≡ generated.generated_library columns) }
 {
     let structures = vec![in alloc; cell(alloc)?, top(alloc, columns)?]?;
@@ -36,14 +41,27 @@ pub fn library_of(alloc: Global, columns: u16) -> Result<Library, NoMemory>
     })
 }
 
-/// The name that has these bytes.
+/// The name with these bytes.
 fn name(alloc: Global, bytes: &[u8]) -> Result<Name, NoMemory>
     ensures { IfOk result (λ name. name ≡ bytes.now) }
 {
     Ok(Name::from_vec(Vec::from_slice(alloc, bytes)?))
 }
 
-/// The structure that is placed again and again.
+/// The structure with this name and these elements.
+fn structure(alloc: Global, bytes: &[u8], elements: Vec<Element>) -> Result<Structure, NoMemory>
+    ensures at { IfOk result (λ structure. structure.at ≡ 0) }
+    ensures name { IfOk result (λ structure. structure.name ≡ bytes.now) }
+    ensures elements { IfOk result (λ structure. structure.elements ≡ elements.items) }
+{
+    Ok(Structure {
+        at: 0,
+        name: name(alloc, bytes)?,
+        elements: Items::from_vec(elements),
+    })
+}
+
+/// The cell: two wires of the lower metal, a cut, and a wire of the upper metal.
 fn cell(alloc: Global) -> Result<Structure, NoMemory>
     ensures { IfOk result (λ structure. structure ≡ generated.cell) }
 {
@@ -53,11 +71,7 @@ fn cell(alloc: Global) -> Result<Structure, NoMemory>
         Element::Shape(boundary(alloc, CUT, 2, 0, 2)?),
         Element::Shape(boundary(alloc, UPPER, 4, 0, 12)?),
     ]?;
-    Ok(Structure {
-        at: 0,
-        name: name(alloc, b"CELL")?,
-        elements: Items::from_vec(elements),
-    })
+    structure(alloc, b"CELL", elements)
 }
 
 /// The boundary of `[0,right)x[bottom,top)` on this layer, counterclockwise from its lower left corner.
@@ -91,25 +105,21 @@ fn corner(x: u16, y: u16) -> Point
     }
 }
 
-/// The structure that has the cells, in so many columns and rows.
+/// The structure that has the array, and nothing else.
 fn top(alloc: Global, columns: u16) -> Result<Structure, NoMemory>
     requires some { 1 ≤ columns }
-    requires few { columns ≤ 500 }
+    requires few { columns ≤ MOST_COLUMNS }
     ensures { IfOk result (λ structure. structure ≡ generated.top columns) }
 {
-    let elements = vec![in alloc; Element::Reference(cells(alloc, columns)?)]?;
-    Ok(Structure {
-        at: 0,
-        name: name(alloc, b"TOP")?,
-        elements: Items::from_vec(elements),
-    })
+    let elements = vec![in alloc; Element::Reference(cell_array(alloc, columns)?)]?;
+    structure(alloc, b"TOP", elements)
 }
 
-/// The array of the cell.
-fn cells(alloc: Global, columns: u16) -> Result<Reference, NoMemory>
+/// The array of the cell, which begins at the origin.
+fn cell_array(alloc: Global, columns: u16) -> Result<Reference, NoMemory>
     requires some { 1 ≤ columns }
-    requires few { columns ≤ 500 }
-    ensures { IfOk result (λ reference. reference ≡ generated.cells columns) }
+    requires few { columns ≤ MOST_COLUMNS }
+    ensures { IfOk result (λ reference. reference ≡ generated.cell_array columns) }
 {
     Ok(Reference {
         at: 0,
@@ -123,10 +133,10 @@ fn cells(alloc: Global, columns: u16) -> Result<Reference, NoMemory>
     })
 }
 
-/// Columns to the right and rows upwards, as many of each.
+/// So many columns, to the right, and as many rows, upwards.
 fn lattice(columns: u16) -> Lattice
     requires some { 1 ≤ columns }
-    requires few { columns ≤ 500 }
+    requires few { columns ≤ MOST_COLUMNS }
     ensures { result ≡ generated.lattice columns }
 {
     Lattice {
