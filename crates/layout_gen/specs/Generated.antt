@@ -75,7 +75,12 @@ cell_array asked = record {
 
 -- the structure that has the array, and nothing else
 abbrev pub top : ℕ → Structure
-top asked = record { at = 0; name = codes "TOP"; elements = reference_element (cell_array asked) ∷ []; name_fits = are_bytes (codes "TOP") refl }
+top asked = record {
+  at = 0;
+  name = codes "TOP";
+  elements = reference_element (cell_array asked) ∷ [];
+  name_fits = are_bytes (codes "TOP") refl;
+}
 
 -- 1 as an eight-byte real
 abbrev pub real_one : List ℕ

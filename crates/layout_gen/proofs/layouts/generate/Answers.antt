@@ -1,4 +1,4 @@
-use Rattle.std.proofs.Common.{◌≡◌, ◌∙◌, ap, length, List, sym, subst}
+use Rattle.std.proofs.Common.{◌∙◌, ap, length, sym, subst}
 use Rattle.gds_records.specs.RecordSpelling.{spellings}
 use Rattle.gds_write.specs.WellFormed.{IsWellFormed}
 use Rattle.gds_write.specs.Written.{written}
