@@ -1,3 +1,3 @@
 pub mod inside
-pub mod Outlines
+pub mod Corners
 pub mod Generated
