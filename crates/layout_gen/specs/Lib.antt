@@ -1,0 +1,3 @@
+pub mod inside
+pub mod Corners
+pub mod Generated

@@ -1,0 +1,12 @@
+//! A layout of any size up to a million shapes, with its layer map, for trying things out where no files are at hand. Both
+//! are bytes as files have them, and nothing else: whoever reads them sees no difference.
+#![tactic(auto)]
+
+pub mod laws;
+mod layouts;
+mod library;
+mod maps;
+
+pub use layouts::{Generated, generate};
+pub use library::MOST_COLUMNS;
+pub use maps::LAYER_MAP;
