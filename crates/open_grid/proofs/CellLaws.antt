@@ -58,10 +58,14 @@ module _ (zone line rect : Rect) where
     cells = λ c. (
       λ h. (
         same_span rect.x0 rect.x1 zone.x0 zone.x1 c.i left right h.across,
-        (record { i = line.x0; j = c.j }, refl, record {
-          across = let some = line.across.some in record { from = omega (arith, ints); before = some };
-          up = same_span rect.y0 rect.y1 line.y0 line.y1 c.j bottom top h.up;
-        }),
+        (
+          record { i = line.x0; j = c.j },
+          refl,
+          record {
+            across = let some = line.across.some in record { from = omega (arith, ints); before = some };
+            up = same_span rect.y0 rect.y1 line.y0 line.y1 c.j bottom top h.up;
+          },
+        ),
       ),
       λ h. record {
         across = same_span zone.x0 zone.x1 rect.x0 rect.x1 c.i (sym left) (sym right) h.0;
@@ -75,10 +79,14 @@ module _ (zone line rect : Rect) where
     cells = λ c. (
       λ h. (
         same_span rect.y0 rect.y1 zone.y0 zone.y1 c.j bottom top h.up,
-        (record { i = c.i; j = line.y0 }, refl, record {
-          across = same_span rect.x0 rect.x1 line.x0 line.x1 c.i left right h.across;
-          up = let some = line.up.some in record { from = omega (arith, ints); before = some };
-        }),
+        (
+          record { i = c.i; j = line.y0 },
+          refl,
+          record {
+            across = same_span rect.x0 rect.x1 line.x0 line.x1 c.i left right h.across;
+            up = let some = line.up.some in record { from = omega (arith, ints); before = some };
+          },
+        ),
       ),
       λ h. record {
         across = same_span line.x0 line.x1 rect.x0 rect.x1 c.i (sym left) (sym right) (subst (IsIn line.x0 line.x1) (sym h.1.1) h.1.2.across);

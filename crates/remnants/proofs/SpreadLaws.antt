@@ -52,8 +52,8 @@ module _ (sorted : List Mark) (k : ℕ) (d : Mark) (small : k < length sorted) (
     ]
     | inr c ↦ elim (Contains-take_cases sorted k d other small b) [
       | inl e ↦
-        let back = sym same ∙ ap (λ (m : Mark). m.terminal) (sym c) in
-        elim (cross other e back) [ inl f ↦ inl (ap (λ (m : Mark). m.leader) (sym c) ∙ sym f) | inr h ↦ inr (subst (Contains grown) (sym back) h) ]
+          let back = sym same ∙ ap (λ (m : Mark). m.terminal) (sym c) in
+          elim (cross other e back) [ inl f ↦ inl (ap (λ (m : Mark). m.leader) (sym c) ∙ sym f) | inr h ↦ inr (subst (Contains grown) (sym back) h) ]
       | inr e ↦ inl (ap (λ (m : Mark). m.leader) (sym c ∙ e))
     ]
   ]
@@ -137,12 +137,12 @@ pub outdone_more : (marks : List Mark) (heads : List (Option ℕ)) (k : ℕ) (d 
 outdone_more marks heads k d head outdone small at other so_far terminal among = elim (Contains-push_cases outdone (get_or marks k d).terminal terminal among) [
   | inl before ↦ so_far terminal before
   | inr last ↦ subst (IsOutdone marks heads) last (record {
-      leader = (get_or marks k d).leader;
-      marked = record { mark = get_or marks k d; among = Contains-get_or marks k d small; of_terminal = refl; at_leader = refl };
-      head = head;
-      at_leader = at;
-      different = other;
-    })
+    leader = (get_or marks k d).leader;
+    marked = record { mark = get_or marks k d; among = Contains-get_or marks k d small; of_terminal = refl; at_leader = refl };
+    head = head;
+    at_leader = at;
+    different = other;
+  })
 ]
 
 -- a terminal that is outdone has one that stands for it, the head of its leader

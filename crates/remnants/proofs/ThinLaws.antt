@@ -111,13 +111,15 @@ module _ (old : RemnantLists) (gone : List ℕ) (marks : List Mark) (terminals :
     somewhere joined leader other alone =
         let m = alone.marked in
         let is = joined.leaders.marked m.mark m.among in
-        let h = some_half_of is.fixed.part in
-        (h.0, inl (record {
-          mark = m.mark;
-          among = m.among;
-          of_terminal = m.of_terminal;
-          has = record { fixed = is.fixed; among = Contains-slice_get old.fixed m.mark.leader is.fixed is.at; led = is.itself; has = h.1 };
-        }))
+        let h = some_half_of is.fixed.part in (
+          h.0,
+          inl (record {
+            mark = m.mark;
+            among = m.among;
+            of_terminal = m.of_terminal;
+            has = record { fixed = is.fixed; among = Contains-slice_get old.fixed m.mark.leader is.fixed is.at; led = is.itself; has = h.1 };
+          }),
+        )
 
     -- ---- the same is parted
 
@@ -126,13 +128,13 @@ module _ (old : RemnantLists) (gone : List ℕ) (marks : List Mark) (terminals :
       for_one terminal listed = elim (listed_or_not gone terminal) [
         | inr here ↦ record { other = terminal; listed = (terminals_are terminal).1 (listed, here); at = at_old terminal; same = inl refl }
         | inl went ↦
-          let s = stood terminal went in
-          record {
-            other = s.other;
-            listed = (terminals_are s.other).1 (s.other_alone.listed, s.stays);
-            at = λ h is. one_place s.leader terminal s.other s.alone s.other_alone h (at_old s.other h is);
-            same = inr (s.leader, s.alone, s.other_alone);
-          }
+            let s = stood terminal went in
+            record {
+              other = s.other;
+              listed = (terminals_are s.other).1 (s.other_alone.listed, s.stays);
+              at = λ h is. one_place s.leader terminal s.other s.alone s.other_alone h (at_old s.other h is);
+              same = inr (s.leader, s.alone, s.other_alone);
+            }
       ]
 
       -- terminals for which the same one stays are not parted

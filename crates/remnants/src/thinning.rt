@@ -155,11 +155,7 @@ pub fn terminals_without(
 }
 
 /// The marks of terminals that are not in the set.
-pub fn marks_without(
-    alloc: Global,
-    marks: &[Mark],
-    gone: &Numbers,
-) -> Result<Vec<Mark>, NoMemory>
+pub fn marks_without(alloc: Global, marks: &[Mark], gone: &Numbers) -> Result<Vec<Mark>, NoMemory>
     ensures { IfOk result (λ stay. (mark : AnyMark) →
         Contains stay.items mark ↔ (Contains marks.now mark × (Contains gone.now mark.terminal → ⊥))) }
 {

@@ -31,5 +31,5 @@ returns c =
     IfOk-weaker c.open_parts.result (λ (rects : Vec Rect Global). HaveOpenCells islands side c.args.window rects.items)
     (λ (rects : Vec Rect Global). (cell : Cell) → IsInUnion rects.items cell ↔ (Has c.args.window cell × IsSomeOpen islands side cell))
     (λ (rects : Vec Rect Global) are.
-        cells_of_both c.defects_sever_islands.ensures islands c.args.window side rects.items (All-read_all IsAnchoredIsland islands i (omega arith) c.loop-island.invariant.1) are)
+    cells_of_both c.defects_sever_islands.ensures islands c.args.window side rects.items (All-read_all IsAnchoredIsland islands i (omega arith) c.loop-island.invariant.1) are)
     ((rw c.as_slice.ensures.value at c.open_parts.ensures) islands stand)

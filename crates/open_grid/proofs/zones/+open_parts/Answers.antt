@@ -27,10 +27,10 @@ returns-in-Repeat t c = λ islands stand.
     IfOk-weaker c.stretched.result (λ (rects : Vec Rect Global). AreStretched c.in-Repeat.axis c.args.zone c.in_ok-lines-in-Repeat.lines.items rects.items)
     (λ (rects : Vec Rect Global). HaveOpenCells islands c.args.side c.args.zone rects.items)
     (λ (rects : Vec Rect Global) are.
-        open_in_lines c.args.zone c.args.side islands c.in-Of.left c.in-Repeat.axis _ c.in_ok-lines-in-Repeat.lines.items rects.items
-        (rw c.in-Of.is at (c.in_ok-look_closer.ensures.left islands stand))
-        (by_axis c.args.zone c.args.side c.in-Repeat.axis c.requires.some c.steady_columns_sever_alike.ensures c.steady_rows_sever_alike.ensures)
-        (rw (c.in-Repeat.is, c.as_slice-2.ensures) at c.in_ok-axis.ensures).1 c.first_line.ensures (rw c.as_slice-in-Repeat.ensures at c.in_ok-lines-in-Repeat.ensures) are)
+    open_in_lines c.args.zone c.args.side islands c.in-Of.left c.in-Repeat.axis _ c.in_ok-lines-in-Repeat.lines.items rects.items
+    (rw c.in-Of.is at (c.in_ok-look_closer.ensures.left islands stand))
+    (by_axis c.args.zone c.args.side c.in-Repeat.axis c.requires.some c.steady_columns_sever_alike.ensures c.steady_rows_sever_alike.ensures)
+    (rw (c.in-Repeat.is, c.as_slice-2.ensures) at c.in_ok-axis.ensures).1 c.first_line.ensures (rw c.as_slice-in-Repeat.ensures at c.in_ok-lines-in-Repeat.ensures) are)
     (rw c.deref.ensures.value at c.stretched.ensures)
 
 pub open_parts-requires : goal.open_parts-requires

@@ -19,15 +19,15 @@ loop-mark-preserved c =
       | in-Some+then-before-mark+then-before-mark-2+in_ok-push w ↦ rw (w.more-is, w.in_ok-push.ensures.items)
           (mark_divided sorted listed k mark more c.requires c.loop-mark-test.true is c.loop-mark.last c.loop-mark.invariant)
       | in-Some+else-before-mark w ↦
-        let at = subst (λ (last : Option Mark). AreOneLeadersTo sorted listed k last more) w.in-Some.is c.loop-mark.invariant in
-        rw w.more-is (mark_alike sorted listed k mark more c.requires c.loop-mark-test.true is w.in-Some.before at
-        (λ same. elim w.else-before-mark.branch [
-          | else-before-mark-via-then-before-mark+else-before-mark-2 v ↦ v.if-before-mark-2.false
-          | else-before-mark-via-else-before-mark v ↦ absurd (v.if-before-mark.false same)
-        ]))
+          let at = subst (λ (last : Option Mark). AreOneLeadersTo sorted listed k last more) w.in-Some.is c.loop-mark.invariant in
+          rw w.more-is (mark_alike sorted listed k mark more c.requires c.loop-mark-test.true is w.in-Some.before at
+          (λ same. elim w.else-before-mark.branch [
+            | else-before-mark-via-then-before-mark+else-before-mark-2 v ↦ v.if-before-mark-2.false
+            | else-before-mark-via-else-before-mark v ↦ absurd (v.if-before-mark.false same)
+          ]))
       | in_default w ↦
-        rw w.more-is (first_mark sorted listed k mark more c.requires c.loop-mark-test.true is
-        (subst (λ (last : Option Mark). AreOneLeadersTo sorted listed k last more) w.in_default.is c.loop-mark.invariant))
+          rw w.more-is (first_mark sorted listed k mark more c.requires c.loop-mark-test.true is
+          (subst (λ (last : Option Mark). AreOneLeadersTo sorted listed k last more) w.in_default.is c.loop-mark.invariant))
     ]
 
 pub returns-clause-divided : goal.returns-clause-divided

@@ -26,8 +26,8 @@ returns-clause-same c =
     let old : RemnantLists = record { fixed = inside.fixed.items; loose = inside.loose.items; marks = inside.marks.items; terminals = inside.terminals.items } in
     let new : RemnantLists = record { fixed = inside.fixed.items; loose = inside.loose.items; marks = c.in_ok-marks.marks.items; terminals = c.in_ok-terminals.terminals.items } in
     let alike : (removed : HalfBox) → IsSplit new removed ↔ IsSplit old removed = λ removed.
-        thinned_alike old c.in_ok-gone.gone c.in_ok-marks.marks.items c.in_ok-terminals.terminals.items (rw c.deref-4.ensures.value at c.in_ok-marks.ensures)
-        (rw c.deref-5.ensures.value at c.in_ok-terminals.ensures) removed c.self.invariant
-        (rw (c.deref.ensures.value, c.deref-2.ensures.value, c.deref-3.ensures.value) at c.in_ok-gone.ensures) in
+    thinned_alike old c.in_ok-gone.gone c.in_ok-marks.marks.items c.in_ok-terminals.terminals.items (rw c.deref-4.ensures.value at c.in_ok-marks.ensures)
+    (rw c.deref-5.ensures.value at c.in_ok-terminals.ensures) removed c.self.invariant
+    (rw (c.deref.ensures.value, c.deref-2.ensures.value, c.deref-3.ensures.value) at c.in_ok-gone.ensures) in
     subst (λ (r : RemnantLists). (removed : HalfBox) → IsSplit r removed ↔ IsSplit c.args.self removed) (sym c.new.ensures)
     (subst (λ (r : RemnantLists). (removed : HalfBox) → IsSplit new removed ↔ IsSplit r removed) c.self.view_is alike)
