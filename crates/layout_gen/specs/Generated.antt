@@ -13,7 +13,7 @@ use Rattle.library_model.specs.declared.element.ShapeKind.TheVariants.{Boundary}
 use Rattle.library_model.specs.declared.library.Library.{Library}
 use Rattle.library_model.specs.declared.library.Structure.{Structure}
 use Rattle.layout_gen.specs.declared.maps.TheConstants.{LAYER_MAP}
-use Rattle.layout_gen.specs.Corners.{corner, outline, are_small}
+use Rattle.layout_gen.specs.SmallOutlines.{corner, outline, are_small}
 use Rattle.layout_gen.specs.inside.Fitting.{are_bytes, small_layer, small_outline, few_columns}
 
 -- the boundary of [0,right)x[bottom,top) on this layer, with the datatype 0

@@ -1,3 +1,3 @@
 pub mod inside
-pub mod Corners
+pub mod SmallOutlines
 pub mod Generated

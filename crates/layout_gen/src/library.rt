@@ -2,8 +2,8 @@
 
 ghost use Rattle.std.specs.Prelude.{◌≡◌, ◌≤◌, ◌∷◌, [], IfOk, IsTrue};
 ghost use Rattle.layout_gen.specs.Generated as generated;
-ghost use Rattle.layout_gen.specs.Corners as corners;
-ghost use Rattle.layout_gen.specs.Corners.{are_small};
+ghost use Rattle.layout_gen.specs.SmallOutlines as outlines;
+ghost use Rattle.layout_gen.specs.SmallOutlines.{are_small};
 
 use geo_core::{Items, Name, NoMemory, Point, Turn};
 use library_model::{Element, Lattice, Library, Reference, Shape, ShapeKind, Structure};
@@ -97,7 +97,7 @@ fn boundary(alloc: Global, layer: u16, right: u16, bottom: u16, top: u16) -> Res
 
 /// The point so far to the right of the origin, and so far above it.
 fn corner(x: u16, y: u16) -> Point
-    ensures { result ≡ corners.corner x y }
+    ensures { result ≡ outlines.corner x y }
 {
     Point {
         x: i32::from(x),

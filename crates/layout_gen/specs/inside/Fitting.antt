@@ -6,7 +6,7 @@ use Rattle.lists.proofs.Words.{AllPass-from_list_all, All-weaker, All-cons, All-
 use Rattle.lists.specs.ByteLists.{AreBytes}
 use Rattle.library_model.specs.Ranges.{IsPoint, ArePoints}
 use Rattle.geo_core.specs.declared.plane.Point.{Point}
-use Rattle.layout_gen.specs.Corners.{corner, outline, are_small}
+use Rattle.layout_gen.specs.SmallOutlines.{corner, outline, are_small}
 
 -- what a test tells of each number holds of all that pass it
 pub by_test : (P : ℕ → Type 0) (test : ℕ → Bool) → ((n : ℕ) → test n ≡ true → P n) → (numbers : List ℕ)
