@@ -3,6 +3,7 @@ use Rattle.std.specs.Prelude.{ℕ, pos, false, codes, List, [], ◌∷◌, ◌++
 use Rattle.std.proofs.Common.{lit<, lit≤}
 use Rattle.std.proofs.Math.Facts.{sfits_lit}
 use Rattle.std.proofs.Math.Nat.{le-max_left}
+use Rattle.lists.specs.Words.{concat}
 use Rattle.gds_records.specs.RecordSpelling.{spellings}
 use Rattle.gds_write.specs.Written.{written}
 use Rattle.library_model.specs.declared.element.Element.TheVariants.{Shape as shape_element, Reference as reference_element}
@@ -12,7 +13,6 @@ use Rattle.library_model.specs.declared.element.Shape.{Shape}
 use Rattle.library_model.specs.declared.element.ShapeKind.TheVariants.{Boundary}
 use Rattle.library_model.specs.declared.library.Library.{Library}
 use Rattle.library_model.specs.declared.library.Structure.{Structure}
-use Rattle.layout_gen.specs.declared.maps.TheConstants.{LAYER_MAP}
 use Rattle.layout_gen.specs.SmallOutlines.{corner, outline, are_small}
 use Rattle.layout_gen.specs.inside.Fitting.{are_bytes, small_layer, small_outline, few_columns}
 
@@ -107,4 +107,10 @@ generated_layout asked = spellings (written (generated_library asked))
 
 -- the text of the layer map that goes with each of them
 unfoldable pub generated_map : List ℕ
-generated_map = LAYER_MAP.now
+generated_map = concat (
+    codes "version = 1\n" ∷ codes "radii = [2, 5]\n" ∷ codes "weights = [10, 1]\n"
+    ∷ codes "[[metal]]\n" ∷ codes "name = \"m1\"\n" ∷ codes "pairs = [[1, 0]]\n"
+    ∷ codes "[[metal]]\n" ∷ codes "name = \"m2\"\n" ∷ codes "pairs = [[3, 0]]\n"
+    ∷ codes "[[cut]]\n" ∷ codes "name = \"v1\"\n" ∷ codes "pairs = [[2, 0]]\n" ∷ codes "lower = \"m1\"\n" ∷ codes "upper = \"m2\"\n"
+    ∷ codes "[[terminal]]\n" ∷ codes "metal = \"m1\"\n" ∷ codes "x = 0\n" ∷ codes "y = 0\n"
+    ∷ codes "[[terminal]]\n" ∷ codes "metal = \"m1\"\n" ∷ codes "x = 11\n" ∷ codes "y = 3\n" ∷ [])
