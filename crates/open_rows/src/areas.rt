@@ -1,5 +1,4 @@
-use super::drawn::{CORNER, Drawn, FRAME, NECK, Sides, WIRE, islands_of, rect_of};
-use fault_model::Island;
+use super::drawn::{AROUND, BESIDE, CORNER, Drawn, FRAME, NECK, Sides, WIRE, all_islands, rect_of};
 use geo_core::Rect;
 use open_grid::open_area;
 use std::alloc::Global;
@@ -7,17 +6,8 @@ use std::alloc::Global;
 /// What is drawn, one metal after the other, a radius, a window, and from how many of its cells a defect parts two terminals.
 type Row = (&'static [Drawn], u32, Sides, u64);
 
-/// A window round all defects that come near.
-const AROUND: Sides = (-10, -10, 40, 40);
-
 /// A window round all defects of the greatest radius that come near.
 const VAST: Sides = (-1_000_010, -1_000_010, 1_000_010, 1_000_010);
-
-/// A wire of its own beside the wire, with a row between the two.
-const BESIDE: Drawn = Drawn {
-    rects: &[(0, 3, 20, 5)],
-    terminals: &[(0, 3), (19, 4)],
-};
 
 /// The wire with one terminal, which is no island to be looked at.
 const ONE_TERMINAL: Drawn = Drawn {
@@ -65,17 +55,6 @@ const ROWS: &[Row] = &[
     // from a square of 1,999,999 for each terminal, one column apart
     (&[PAIR], 1_000_000, VAST, 3_999_998_000_000),
 ];
-
-/// The islands of all that is drawn.
-fn all_islands(alloc: Global, table: &[Drawn]) -> Option<Vec<Island>> {
-    let mut islands = Vec::new(alloc);
-    for drawn in table {
-        for island in islands_of(alloc, drawn)? {
-            islands.push(island).ok()?;
-        }
-    }
-    Some(islands)
-}
 
 /// Whether the islands of what is drawn have this area.
 fn have_area(alloc: Global, table: &[Drawn], radius: u32, window: Rect, area: u64) -> bool {

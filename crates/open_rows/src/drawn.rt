@@ -30,10 +30,19 @@ pub struct Drawn {
 const ONE_METAL: &str =
     "version=1\nradii=[1]\nweights=[1]\nmetal=[{name=\"m\",pairs=[[1,0]]}]\nterminal=[";
 
+/// A window round all defects that come near.
+pub const AROUND: Sides = (-10, -10, 40, 40);
+
 /// A wire of 20 by 2 cells with a terminal at either end.
 pub const WIRE: Drawn = Drawn {
     rects: &[(0, 0, 20, 2)],
     terminals: &[(0, 0), (19, 1)],
+};
+
+/// A wire of its own beside the wire, with a row between the two.
+pub const BESIDE: Drawn = Drawn {
+    rects: &[(0, 3, 20, 5)],
+    terminals: &[(0, 3), (19, 4)],
 };
 
 /// A frame with a side of 20 that is 2 cells wide, with a terminal on the left and one on the right.
@@ -153,9 +162,25 @@ fn islands_on(alloc: Global, map: &Map, rects: Vec<Rect>) -> Option<Vec<Island>>
     }
 }
 
+/// The islands of a metal of these rectangles that have two of the terminals or more.
+pub fn islands_with(alloc: Global, table: &[Sides], terminals: &[Spot]) -> Option<Vec<Island>> {
+    let map = map_of(alloc, terminals)?;
+    let rects = rects_of(alloc, table)?;
+    islands_on(alloc, &map, rects)
+}
+
 /// The islands of what is drawn that have two terminals or more.
 pub fn islands_of(alloc: Global, drawn: &Drawn) -> Option<Vec<Island>> {
-    let map = map_of(alloc, drawn.terminals)?;
-    let rects = rects_of(alloc, drawn.rects)?;
-    islands_on(alloc, &map, rects)
+    islands_with(alloc, drawn.rects, drawn.terminals)
+}
+
+/// The islands of all that is drawn.
+pub fn all_islands(alloc: Global, table: &[Drawn]) -> Option<Vec<Island>> {
+    let mut islands = Vec::new(alloc);
+    for drawn in table {
+        for island in islands_of(alloc, drawn)? {
+            islands.push(island).ok()?;
+        }
+    }
+    Some(islands)
 }

@@ -5,6 +5,8 @@
 #[cfg(test)]
 mod areas;
 #[cfg(test)]
+mod cells;
+#[cfg(test)]
 mod drawn;
 #[cfg(test)]
 mod links;
