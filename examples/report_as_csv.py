@@ -2,7 +2,7 @@
 """Makes a table of a report: `./critarea WORDS | examples/report_as_csv.py WORDS > rows.csv`, with the same words.
 
 Each line has the layout, the map and the top as they were named, the database unit in metres by the layout's record
-UNITS, what `critarea --version` says, and then one row of the report. The totals are left out: they are sums of the rows.
+UNITS, what `critarea --version` says, and then one row of the report. The totals and the lines behind them are left out: they follow from the rows.
 Where the map or the top is not named, its column is empty. Areas are numbers of cells, each of which is a square of one
 unit. It needs Python 3.8.
 """
@@ -44,7 +44,7 @@ def words_of(arguments):
 def rows_of(report):
     for line in report:
         words = line.split()
-        if words and words[0] != "total":
+        if words and words[0] in ("short", "open", "via"):
             yield words[:2] + [word.split("=", 1)[1] for word in words[2:]]
 
 

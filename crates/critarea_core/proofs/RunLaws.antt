@@ -1,5 +1,5 @@
 -- what a run found of the words and the files, and what it printed
-use Rattle.std.proofs.Common.{ℕ, ◌≡◌, ◌⊎◌, List, [], ◌∷◌, ◌++◌, refl, sym, ap, subst, ◌∙◌, inl, inr, append_assoc, Option, Some, None, Contains, Result, Ok, Err, Vec, unwrap_or}
+use Rattle.std.proofs.Common.{ℕ, ◌≡◌, ◌⊎◌, List, [], ◌∷◌, ◌++◌, refl, sym, ap, subst, ◌∙◌, inl, inr, append_assoc, Option, Some, None, Contains, Result, Ok, Err, Vec, map, unwrap_or}
 use Rattle.lists.proofs.Words.{append-nil, Global, Contains-append_left, Contains-append_right}
 use Rattle.first_refusal.specs.Answers.{gives, refuses, no_memory}
 use Rattle.first_refusal.specs.Outcomes.{Outcome, value, refused, reads, lacks, goes_on, stops}
@@ -8,13 +8,16 @@ use Rattle.command_line.specs.Requests.{Ask}
 use Rattle.command_line.specs.declared.request.Request.{Request}
 use Rattle.map_model.specs.MapNames.{LayerMap, layer_map_of}
 use Rattle.map_model.specs.declared.map.Map.{Map}
-use Rattle.report.specs.Report.{report_text}
 use Rattle.questions.specs.declared.row.Row.{Row}
+use Rattle.gauges.specs.GaugeViews.{GaugeView, AreTold, AreToldPrefixes, texts_after, texts_of}
+use Rattle.gauges.proofs.ToldGauges.{texts_gained}
+use Rattle.report.specs.Report.{report_text}
 use Rattle.critarea_core.specs.Contents.{file, names_in, map_names, file_names, bytes_from, layout_source, wanted_top}
 use Rattle.critarea_core.specs.inside.Finding.{AreFew, Finds, FindsInFiles, files_serve, files_fail, gives_thing, gives_refusal, HasRows, IsFound, IsMapOf, IsOneOf, IsPrinted, LayoutMayCome, MapMayCome, report_out, report_cut, no_report, line_out, line_cut, no_line}
 use Rattle.critarea_core.specs.Layout.{Subject}
 use Rattle.critarea_core.specs.Refusals.{usage}
-use Rattle.critarea_core.specs.Run.{Change, change, Surroundings, HasRisen, IsCalm, MayComeTo, MustComeTo, IsReportFor, IsComplete, EndsWith, StartsNamed, no_file, map_file, both_files}
+use Rattle.critarea_core.specs.Verdict.{whole_report}
+use Rattle.critarea_core.specs.Run.{AreUntold, Change, change, KeepTheirTexts, Surroundings, HasRisen, IsCalm, MayComeTo, MustComeTo, AreRowsFor, IsComplete, EndsWith, RunsTo, StartsNamed, no_file, map_file, both_files}
 use Rattle.critarea_core.specs.Run as run
 use Rattle.critarea_core.specs.declared.refusal.Refusal.{Refusal}
 use Rattle.critarea_core.specs.declared.unreported.Unreported.{Unreported}
@@ -123,33 +126,54 @@ told_alike told other layer_map wanted name failures result same (files_serve ca
       moved : (outcome : Outcome Subject Refusal) → LayoutMayCome other layer_map wanted name outcome → LayoutMayCome told layer_map wanted name outcome
       moved outcome l = record { bytes = l.bytes; may_be = rw same at l.may_be; comes = l.comes }
 
+-- ---- gauges
+
+module _ (rows : List Row) where
+  told_texts : (old new : List GaugeView) → AreTold rows old new → KeepTheirTexts (change old new)
+  told_texts [] [] told = refl
+  told_texts [] (n ∷ new) told = absurd told
+  told_texts (o ∷ old) [] told = absurd told
+  told_texts (o ∷ old) (n ∷ new) (first, rest) = ap (λ text. text ∷ map (λ (g : GaugeView). g.text) new) first.text ∙ ap (λ texts. o.text ∷ texts) (told_texts old new rest)
+
+  partly_told_texts : (old new : List GaugeView) → AreToldPrefixes rows old new → KeepTheirTexts (change old new)
+  partly_told_texts [] [] told = refl
+  partly_told_texts [] (n ∷ new) told = absurd told
+  partly_told_texts (o ∷ old) [] told = absurd told
+  partly_told_texts (o ∷ old) (n ∷ new) (first, rest) =
+      ap (λ text. text ∷ map (λ (g : GaugeView). g.text) new) first.1.text ∙ ap (λ texts. o.text ∷ texts) (partly_told_texts old new rest)
+
+-- the text that was written, with what the gauges print once they are told
+pub whole_text : {Gauge : Type 0} (view : Gauge → GaugeView) (rows : List Row) (old new lent : List Gauge) (none written all : List ℕ) → none ≡ [] → written ≡ none ++ report_text rows
+    → AreTold rows (map view old) (map view new) → lent ≡ new → all ≡ written ++ texts_of (map view lent) → all ≡ whole_report rows (map view old)
+whole_text view rows old new lent none written all empty is told same gained =
+    texts_gained view rows old new lent written all told same gained ∙ ap (λ text. text ++ texts_after rows (map view old)) (is ∙ ap (λ text. text ++ report_text rows) empty)
+
+untold_texts : (gauges : Change (List GaugeView)) → AreUntold gauges → KeepTheirTexts gauges
+untold_texts gauges untold = ap (map (λ (g : GaugeView). g.text)) untold
+
 -- ---- what is printed
 
 module _ (words : List (List ℕ)) (met : Surroundings) where
   abbrev told : List ℕ → Option (List ℕ)
   told = met.files.holds.before
 
-  report_of : (subject : Subject) (rows : Vec Row Global) → MayComeTo words told (value subject) → HasRows subject rows
-      → IsReportFor words told (report_text rows.items)
-  report_of subject rows comes has = record {
-    subject = subject;
-    comes = comes;
-    report = record { rows = rows.items; are_rows = has.are_rows; is_text = refl };
-  }
+  rows_for : (subject : Subject) (rows : Vec Row Global) → MayComeTo words told (value subject) → HasRows subject rows → AreRowsFor words told rows.items
+  rows_for subject rows comes has = record { subject = subject; comes = comes; are_rows = has.are_rows }
 
   never_failed : {T V : Type 0} (Stage : Outcome V Refusal → Type 0) (IsFor : V → T → Type 0) → Finds Stage IsFor (Err FilesFailed) → ⊥
   never_failed Stage IsFor (refuses h) = elim h [ ]
 
-  pub ends : (found : Result (Vec Row Global) Unreported) (status : ℕ) → IsFound words told met.files.failures found → IsPrinted found met.out met.err status → EndsWith words met status
-  ends (Ok rows) status (files_serve calm (gives (gives_thing {v = subject} comes has))) (report_out takes, idle) = run.reported (report_of subject rows comes has) calm takes idle
-  ends (Ok rows) status (files_serve calm (gives (gives_thing {v = subject} comes has))) (report_cut fails, idle) = run.report_cut_short (report_of subject rows comes has) calm fails idle
-  ends (Ok rows) status (files_serve calm answer) (no_report also, idle) = run.out_of_memory calm also idle
-  ends (Err (Refused refusal)) status (files_serve calm (refuses (gives_refusal comes))) (line_out takes, idle) = run.refused_input comes calm idle takes
-  ends (Err (Refused refusal)) status (files_serve calm (refuses (gives_refusal comes))) (line_cut fails, idle) = run.refusal_cut_short comes calm idle fails
-  ends (Err (Refused refusal)) status (files_serve calm answer) (no_line also, idle) = run.out_of_memory calm idle also
+  pub ends : (found : Result (Vec Row Global) Unreported) (status : ℕ) → IsFound words told met.files.failures found → IsPrinted found met.gauges met.out met.err status → EndsWith words met status
+  ends (Ok rows) status (files_serve calm (gives (gives_thing {v = subject} comes has))) (report_out takes told, idle) = run.reported (rows_for subject rows comes has) calm takes idle told
+  ends (Ok rows) status (files_serve calm (gives (gives_thing {v = subject} comes has))) (report_cut fails told, idle) = run.report_cut_short (rows_for subject rows comes has) calm fails idle told
+  ends (Ok rows) status (files_serve calm (gives (gives_thing {v = subject} comes has))) (no_report also some, idle) =
+      run.out_of_memory_behind (rows_for subject rows comes has) calm also idle some
+  ends (Err (Refused refusal)) status (files_serve calm (refuses (gives_refusal comes))) (line_out takes, idle, untold) = run.refused_input comes calm idle takes untold
+  ends (Err (Refused refusal)) status (files_serve calm (refuses (gives_refusal comes))) (line_cut fails, idle, untold) = run.refusal_cut_short comes calm idle fails untold
+  ends (Err (Refused refusal)) status (files_serve calm answer) (no_line also, idle, untold) = run.out_of_memory calm idle also untold
   ends (Err FilesFailed) status (files_serve calm answer) printed = absurd (never_failed (MayComeTo words told) HasRows answer)
-  ends (Err FilesFailed) status (files_fail risen some) (e, idle, also) = subst (EndsWith words met) (sym e) (run.files_failed some risen idle also)
-  ends (Err Memory) status (files_serve calm answer) (e, idle, also) = subst (EndsWith words met) (sym e) (run.out_of_memory calm idle also)
+  ends (Err FilesFailed) status (files_fail risen some) (e, idle, also, untold) = subst (EndsWith words met) (sym e) (run.files_failed some risen idle also untold)
+  ends (Err Memory) status (files_serve calm answer) (e, idle, also, untold) = subst (EndsWith words met) (sym e) (run.out_of_memory calm idle also untold)
 
   -- ---- what is due comes out
 
@@ -158,25 +182,44 @@ module _ (words : List (List ℕ)) (met : Surroundings) where
 
   report_comes : (status : ℕ) → EndsWith words met status → (subject : Subject) → MustComeTo words told (value subject)
       → (HasRisen met.files.failures → ⊥) → (HasRisen met.out.failures → ⊥) → (status ≡ 0) ⊎ (status ≡ 6)
-  report_comes status (run.reported is calm takes idle) subject due f o = inl refl
-  report_comes status (run.refused_input {refusal = r} is calm idle takes) subject due f o = absurd (cc (one_outcome (value subject) (refused r) due is))
-  report_comes status (run.files_failed names risen idle also) subject due f o = absurd (f risen)
-  report_comes status (run.report_cut_short is calm fails idle) subject due f o = absurd (o fails.0)
-  report_comes status (run.refusal_cut_short {refusal = r} is calm idle fails) subject due f o = absurd (cc (one_outcome (value subject) (refused r) due is))
-  report_comes status (run.out_of_memory calm idle also) subject due f o = inr refl
+  report_comes status (run.reported is calm takes idle told_all) subject due f o = inl refl
+  report_comes status (run.refused_input {refusal = r} is calm idle takes untold) subject due f o = absurd (cc (one_outcome (value subject) (refused r) due is))
+  report_comes status (run.files_failed names risen idle also untold) subject due f o = absurd (f risen)
+  report_comes status (run.report_cut_short is calm fails idle told_all) subject due f o = absurd (o fails.0)
+  report_comes status (run.refusal_cut_short {refusal = r} is calm idle fails untold) subject due f o = absurd (cc (one_outcome (value subject) (refused r) due is))
+  report_comes status (run.out_of_memory calm idle also untold) subject due f o = inr refl
+  report_comes status (run.out_of_memory_behind is calm idle also some) subject due f o = inr refl
 
-  not_reported : (refusal : Refusal) (text : List ℕ) → MustComeTo words told (refused refusal) → IsReportFor words told text → ⊥
-  not_reported refusal text due is = cc (one_outcome (refused refusal) (value is.subject) due is.comes)
+  not_reported : (refusal : Refusal) (rows : List Row) → MustComeTo words told (refused refusal) → AreRowsFor words told rows → ⊥
+  not_reported refusal rows due is = cc (one_outcome (refused refusal) (value is.subject) due is.comes)
 
   refusal_comes : (status : ℕ) → EndsWith words met status → (refusal : Refusal) → MustComeTo words told (refused refusal)
       → (HasRisen met.files.failures → ⊥) → (HasRisen met.err.failures → ⊥) → (status ≡ refusal.status) ⊎ (status ≡ 6)
-  refusal_comes status (run.reported {text = text} is calm takes idle) refusal due f e = absurd (not_reported refusal text due is)
-  refusal_comes status (run.refused_input {refusal = r} is calm idle takes) refusal due f e =
+  refusal_comes status (run.reported {rows = rows} is calm takes idle told_all) refusal due f e = absurd (not_reported refusal rows due is)
+  refusal_comes status (run.refused_input {refusal = r} is calm idle takes untold) refusal due f e =
       let same : r ≡ refusal = let outcomes = one_outcome (refused refusal) (refused r) due is in cc outcomes in inl (ap (λ (x : Refusal). x.status) same)
-  refusal_comes status (run.files_failed names risen idle also) refusal due f e = absurd (f risen)
-  refusal_comes status (run.report_cut_short {text = text} is calm fails idle) refusal due f e = absurd (not_reported refusal text due is)
-  refusal_comes status (run.refusal_cut_short is calm idle fails) refusal due f e = absurd (e fails.0)
-  refusal_comes status (run.out_of_memory calm idle also) refusal due f e = inr refl
+  refusal_comes status (run.files_failed names risen idle also untold) refusal due f e = absurd (f risen)
+  refusal_comes status (run.report_cut_short {rows = rows} is calm fails idle told_all) refusal due f e = absurd (not_reported refusal rows due is)
+  refusal_comes status (run.refusal_cut_short is calm idle fails untold) refusal due f e = absurd (e fails.0)
+  refusal_comes status (run.out_of_memory calm idle also untold) refusal due f e = inr refl
+  refusal_comes status (run.out_of_memory_behind is calm idle also some) refusal due f e = inr refl
 
-  pub complete : (status : ℕ) → EndsWith words met status → IsComplete words met status
+  complete : (status : ℕ) → EndsWith words met status → IsComplete words met status
   complete status e = record { report = report_comes status e; refusal = refusal_comes status e }
+
+  -- ---- what gauges print
+
+  texts : (status : ℕ) → EndsWith words met status → KeepTheirTexts met.gauges
+  texts status (run.reported {rows = rows} is calm takes idle told_all) = told_texts rows met.gauges.before met.gauges.after told_all
+  texts status (run.refused_input is calm idle takes untold) = untold_texts met.gauges untold
+  texts status (run.files_failed names risen idle also untold) = untold_texts met.gauges untold
+  texts status (run.report_cut_short {rows = rows} is calm fails idle told_all) = told_texts rows met.gauges.before met.gauges.after told_all
+  texts status (run.refusal_cut_short is calm idle fails untold) = untold_texts met.gauges untold
+  texts status (run.out_of_memory calm idle also untold) = untold_texts met.gauges untold
+  texts status (run.out_of_memory_behind {rows = rows} is calm idle also some) = partly_told_texts rows met.gauges.before met.gauges.after some
+
+  -- ---- all that is promised of a run
+
+  pub runs_to : (status : ℕ) → EndsWith words met status → StartsNamed words told met.files.starts → ((name : List ℕ) → met.files.holds.after name ≡ met.files.holds.before name)
+      → RunsTo words met status
+  runs_to status e started holds = record { ends = e; complete = complete status e; texts = texts status e; started = started; holds = holds }

@@ -14,13 +14,13 @@ use Rattle.map_model.specs.MapNames.{LayerMap, one_metal_map}
 use Rattle.layer_map.proofs.ExistLaws.{maps_cannot_lack}
 use Rattle.layer_map.proofs.UniqueLaws.{maps_agree}
 use Rattle.critarea_core.specs.Contents.{Contents, bytes_from, layout_source, wanted_top}
-use Rattle.report.specs.Report.{report_text}
+use Rattle.gauges.specs.GaugeViews.{GaugeView}
 use Rattle.critical_areas.proofs.UniqueLaws.{rows_agree}
 use Rattle.critarea_core.specs.Coverage.{IsCoveredOn}
 use Rattle.critarea_core.specs.inside.Finding.{IsRadiusOf}
 use Rattle.critarea_core.specs.Refusals.{usage, map_limit, map_too_long, of_map_fault, layout_limit, layout_too_long, of_syntax_fault}
 use Rattle.critarea_core.specs.Layout.{Subject, ShapesComeTo, ShortLayoutComesTo, TerminalsComeTo}
-use Rattle.critarea_core.specs.Verdict.{IsShortEnough, IsReportOn, ShortMapComesTo, MapTextComesTo, MapComesTo, WordsComeTo, LayoutComesTo, IsVerdict}
+use Rattle.critarea_core.specs.Verdict.{whole_report, IsShortEnough, IsReportOn, ShortMapComesTo, MapTextComesTo, MapComesTo, WordsComeTo, LayoutComesTo, IsVerdict}
 use Rattle.critarea_core.specs.declared.refusal.Refusal.{Refusal}
 use Rattle.library_grammar.specs.FirstFault.{BytesComeTo}
 use Rattle.library_grammar.proofs.FaultsAgree.{libraries_agree}
@@ -112,11 +112,11 @@ short_map bytes outcome short comes = goes_on {v = bytes} (reads (record { is_te
 
 -- ---- reports, and radii
 
--- a subject has one report
-pub reports_agree : (subject : Subject) → IsUnique (IsReportOn subject)
-reports_agree subject text other a b =
+-- a subject has one report with these gauges
+pub reports_agree : (subject : Subject) (gauges : List GaugeView) → IsUnique (IsReportOn subject gauges)
+reports_agree subject gauges text other a b =
     let rows = rows_agree subject.layer_map (IsCoveredOn subject.layer_map subject.routes) a.rows b.rows a.are_rows b.are_rows in
-    a.is_text ∙ ap report_text rows ∙ sym b.is_text
+    a.is_text ∙ ap (λ rows. whole_report rows gauges) rows ∙ sym b.is_text
 
 -- the radius that words ask for is one
 pub radius_of : (words : List (List ℕ)) (request : Request) → Ask words request → IsRadiusOf request.task

@@ -1,15 +1,17 @@
 -- what a run comes to
-use Rattle.std.specs.Prelude.{ℕ, List, [], ◌≡◌, ◌⊎◌, Contains, Option}
+use Rattle.std.specs.Prelude.{ℕ, List, [], ◌≡◌, ◌⊎◌, Contains, Option, map}
 use Rattle.first_refusal.specs.Outcomes.{Outcome, value, refused}
 use Rattle.edge_io.specs.Bytes.{Appends, AppendsPrefix}
 use Rattle.edge_io.specs.FailureCounts.{Rose}
 use Rattle.command_line.specs.Requests.{Ask}
 use Rattle.command_line.specs.declared.request.Request.{Request}
 use Rattle.map_model.specs.MapNames.{LayerMap}
+use Rattle.questions.specs.declared.row.Row.{Row}
+use Rattle.gauges.specs.GaugeViews.{GaugeView, AreTold, AreToldPrefixes}
 use Rattle.critarea_core.specs.Contents.{Contents, AgreeWith, MayContain, map_names, file_names}
 use Rattle.critarea_core.specs.Refusals.{refusal_text}
 use Rattle.critarea_core.specs.Layout.{Subject}
-use Rattle.critarea_core.specs.Verdict.{MapComesTo, IsVerdict, IsReportOn}
+use Rattle.critarea_core.specs.Verdict.{AreRowsOn, MapComesTo, IsVerdict, whole_report}
 use Rattle.critarea_core.specs.declared.refusal.Refusal.{Refusal}
 
 -- ---- the words, and what files tell
@@ -55,11 +57,12 @@ pub record Output : Type 0 where
   pub taken : Change (Option (List ℕ))
   pub failures : Change ℕ
 
--- the files, the output of the report, and that of the refusal's line
+-- the files, the output of the report, that of the refusal's line, and the gauges in their order
 pub record Surroundings : Type 0 where
   pub files : Files
   pub out : Output
   pub err : Output
+  pub gauges : Change (List GaugeView)
 
 -- the count rose, or stands at its last value, where it cannot rise
 abbrev pub HasRisen : Change ℕ → Type 0
@@ -81,17 +84,33 @@ Takes out text = Appends out.taken.before out.taken.after text × IsCalm out.fai
 abbrev pub FailsWithin : Output → List ℕ → Type 0
 FailsWithin out text = HasRisen out.failures × AppendsPrefix out.taken.before out.taken.after text
 
+-- the gauges have seen what they had seen, and no more
+abbrev pub AreUntold : Change (List GaugeView) → Type 0
+AreUntold gauges = gauges.after ≡ gauges.before
+
+-- they have seen all of these rows, too
+abbrev pub AreToldAll : Change (List GaugeView) → List Row → Type 0
+AreToldAll gauges rows = AreTold rows gauges.before gauges.after
+
+-- each has seen the first of these rows, too, perhaps none or all
+abbrev pub AreToldSome : Change (List GaugeView) → List Row → Type 0
+AreToldSome gauges rows = AreToldPrefixes rows gauges.before gauges.after
+
+-- there are as many gauges as before, and the one at each place prints for a list of rows what it printed
+abbrev pub KeepTheirTexts : Change (List GaugeView) → Type 0
+KeepTheirTexts gauges = map (λ gauge. gauge.text) gauges.after ≡ map (λ gauge. gauge.text) gauges.before
+
 -- ---- the run
 
 -- the words name some file
 abbrev pub NameSomeFile : List (List ℕ) → Type 0
 NameSomeFile words = (request : Request) × (name : List ℕ) × Ask words request × Contains (file_names request.task) name
 
--- the text is the report on a subject to which the words may come
-pub record IsReportFor (words : List (List ℕ)) (told : List ℕ → Option (List ℕ)) (text : List ℕ) : Type 0 where
+-- the rows are those on a subject to which the words may come
+pub record AreRowsFor (words : List (List ℕ)) (told : List ℕ → Option (List ℕ)) (rows : List Row) : Type 0 where
   pub subject : Subject
   pub comes : MayComeTo words told (value subject)
-  pub report : IsReportOn subject text
+  pub are_rows : AreRowsOn subject rows
 
 -- the words may come to this refusal
 abbrev pub IsRefusalFor : List (List ℕ) → (List ℕ → Option (List ℕ)) → Refusal → Type 0
@@ -100,22 +119,29 @@ IsRefusalFor words told refusal = MayComeTo words told (refused refusal)
 -- The run ends with this status. Its cases are the table of statuses; refusals of words, map and layout are one case.
 pub data EndsWith (words : List (List ℕ)) (met : Surroundings) : ℕ → Type 0 where
   -- the report went out
-  reported : {text : List ℕ} → IsReportFor words met.files.holds.before text
-      → IsCalm met.files.failures → Takes met.out text → IsIdle met.err → EndsWith words met 0
+  reported : {rows : List Row} → AreRowsFor words met.files.holds.before rows
+      → IsCalm met.files.failures → Takes met.out (whole_report rows met.gauges.before) → IsIdle met.err
+      → AreToldAll met.gauges rows → EndsWith words met 0
   -- the input is refused, and the line of its first refusal went out
   refused_input : {refusal : Refusal} → IsRefusalFor words met.files.holds.before refusal
-      → IsCalm met.files.failures → IsIdle met.out → Takes met.err (refusal_text refusal) → EndsWith words met refusal.status
+      → IsCalm met.files.failures → IsIdle met.out → Takes met.err (refusal_text refusal)
+      → AreUntold met.gauges → EndsWith words met refusal.status
   -- the files failed
   files_failed : NameSomeFile words
-      → HasRisen met.files.failures → IsIdle met.out → IsIdle met.err → EndsWith words met 5
+      → HasRisen met.files.failures → IsIdle met.out → IsIdle met.err → AreUntold met.gauges → EndsWith words met 5
   -- the output of the report failed
-  report_cut_short : {text : List ℕ} → IsReportFor words met.files.holds.before text
-      → IsCalm met.files.failures → FailsWithin met.out text → IsIdle met.err → EndsWith words met 5
+  report_cut_short : {rows : List Row} → AreRowsFor words met.files.holds.before rows
+      → IsCalm met.files.failures → FailsWithin met.out (whole_report rows met.gauges.before) → IsIdle met.err
+      → AreToldAll met.gauges rows → EndsWith words met 5
   -- the output of the refusal failed
   refusal_cut_short : {refusal : Refusal} → IsRefusalFor words met.files.holds.before refusal
-      → IsCalm met.files.failures → IsIdle met.out → FailsWithin met.err (refusal_text refusal) → EndsWith words met 5
-  -- out of memory
-  out_of_memory : IsCalm met.files.failures → IsIdle met.out → IsIdle met.err → EndsWith words met 6
+      → IsCalm met.files.failures → IsIdle met.out → FailsWithin met.err (refusal_text refusal)
+      → AreUntold met.gauges → EndsWith words met 5
+  -- out of memory before there were rows
+  out_of_memory : IsCalm met.files.failures → IsIdle met.out → IsIdle met.err → AreUntold met.gauges → EndsWith words met 6
+  -- out of memory once there were rows, as where a gauge refuses one or its text
+  out_of_memory_behind : {rows : List Row} → AreRowsFor words met.files.holds.before rows
+      → IsCalm met.files.failures → IsIdle met.out → IsIdle met.err → AreToldSome met.gauges rows → EndsWith words met 6
 
 -- what the words must come to comes out, or the run is out of memory, unless the files or the output failed on the way
 pub record IsComplete (words : List (List ℕ)) (met : Surroundings) (status : ℕ) : Type 0 where
@@ -139,10 +165,12 @@ pub record StartsNamed (words : List (List ℕ)) (told : List ℕ → Option (Li
 
 -- the run of these words met and left behind this, with this status
 pub record RunsTo (words : List (List ℕ)) (met : Surroundings) (status : ℕ) : Type 0 where
-  -- the status, what each output took, and which counts of failures moved
+  -- the status, what each output took, what each gauge was told, and which counts of failures moved
   pub ends : EndsWith words met status
   -- what is due comes out, unless something failed or the run is out of memory: this follows from the status
   pub complete : IsComplete words met status
+  -- what the gauges print for rows: this follows from the status, too
+  pub texts : KeepTheirTexts met.gauges
   -- what becomes of the files
   pub started : StartsNamed words met.files.holds.before met.files.starts
   pub holds : (name : List ℕ) → met.files.holds.after name ≡ met.files.holds.before name

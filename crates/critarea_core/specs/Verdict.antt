@@ -1,5 +1,5 @@
 -- the verdict on words and on what files contain: the first refusal, or what a report is on
-use Rattle.std.specs.Prelude.{ℕ, List, ◌≡◌, ◌≤◌, length, Option}
+use Rattle.std.specs.Prelude.{ℕ, List, ◌++◌, ◌≡◌, ◌≤◌, length, Option}
 use Rattle.first_refusal.specs.Outcomes.{Outcome, value, Reads, Retold, Then}
 use Rattle.command_line.specs.Requests.{Ask}
 use Rattle.command_line.specs.declared.request.Request.{Request}
@@ -9,6 +9,7 @@ use Rattle.layer_map.specs.Documents as document
 use Rattle.map_model.specs.MapNames.{LayerMap, one_metal_map}
 use Rattle.critical_areas.specs.Rows.{AreRows}
 use Rattle.report.specs.Report.{report_text}
+use Rattle.gauges.specs.GaugeViews.{GaugeView, texts_after}
 use Rattle.questions.specs.declared.row.Row.{Row}
 use Rattle.critarea_core.specs.Coverage.{IsCoveredOn}
 use Rattle.critarea_core.specs.Contents.{Contents, bytes_from, layout_source, wanted_top}
@@ -54,8 +55,13 @@ IsVerdict words contents =
 abbrev pub AreRowsOn : Subject → List Row → Type 0
 AreRowsOn subject = AreRows subject.layer_map (IsCoveredOn subject.layer_map subject.routes)
 
--- the text is the report on the subject: that of its rows
-pub record IsReportOn (subject : Subject) (text : List ℕ) : Type 0 where
+-- the text of a report with these rows: their lines and totals, and then what each gauge prints for the rows that it had seen
+-- before, followed by these
+abbrev pub whole_report : List Row → List GaugeView → List ℕ
+whole_report rows gauges = report_text rows ++ texts_after rows gauges
+
+-- the text is the report on the subject with these gauges: that of its rows
+pub record IsReportOn (subject : Subject) (gauges : List GaugeView) (text : List ℕ) : Type 0 where
   pub rows : List Row
   pub are_rows : AreRowsOn subject rows
-  pub is_text : text ≡ report_text rows
+  pub is_text : text ≡ whole_report rows gauges

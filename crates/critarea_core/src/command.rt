@@ -1,6 +1,7 @@
 ghost use Rattle.std.specs.Prelude.{◌≡◌, ◌≤◌, ◌+◌, ℕ, List, [], ◌∷◌, length, All, option_copied};
 ghost use Rattle.edge_io.specs.Bytes.{Appends};
 ghost use Rattle.command_line.specs.Requests.{Ask};
+ghost use Rattle.gauges.specs.GaugeViews.{views_of};
 ghost use Rattle.geo_core.specs.Cells.{IsInLayout};
 ghost use Rattle.map_model.specs.MapView.{layer_map_of};
 ghost use Rattle.critarea_core.specs.Contents.{file, layout_source, wanted_top};
@@ -18,6 +19,7 @@ use super::unreported::Unreported;
 use command_line::{Request, Task, Word, WordsFault, read_words};
 use critical_areas::critical_areas;
 use edge_io::{Files, Sink, read_whole};
+use gauges::Gauge;
 use lists::Name;
 use map_model::{Layers, Map};
 use questions::Row;
@@ -138,11 +140,13 @@ fn find<F: Files>(
 /// The words are the arguments of the program, in any order: a layout's file, and either the options `layer`, `datatype`
 /// and `radius` or the option `map` with the file of a layer map. Both may have `top`, the name of the structure that is
 /// analysed with all that it places, in place of the one that no reference names, and `tile` and `workers`, which change
-/// nothing yet. `files` gives the map and the layout, `out` gets the report, and `err` the line of a refusal.
+/// nothing yet. `files` gives the map and the layout, `out` gets the report, and `err` the line of a refusal. The gauges are
+/// told the rows of the report, and print at its end, in their order, for all rows that they have seen. A run drops none of
+/// them, and a run that is refused tells them nothing.
 ///
 /// | why it ended | status | printed to `out` | printed to `err` |
 /// |---|---|---|---|
-/// | the report went out | 0 | the report | |
+/// | the report went out | 0 | the report, with the gauges' texts | |
 /// | the words fit no form of the command | 2 | | `error 2 at 0` |
 /// | the map is refused | 3 | | `error`, the number, `at`, the place |
 /// | the layout is refused | 4 | | `error`, the number, `at`, the place |
@@ -150,7 +154,8 @@ fn find<F: Files>(
 /// | an output failed | 5 | the first part of the report, if it was `out` | the first part of the line, if it was `err` |
 /// | out of memory | 6 | | |
 ///
-/// Nothing goes out before the report is complete, so a refused map or layout leaves `out` as it was. Where what the files
+/// Where no memory is left once there are rows, as where a gauge finds none, each gauge may have been told the first of them
+/// alone. Nothing goes out before the report is complete, so a refused map or layout leaves `out` as it was. Where what the files
 /// tell of the map is refused, the layout's file is not started. A map's refusal has number 39 at 1048576 where the map
 /// has more bytes than that, and one of 40 to 47 at a path of its document. A layout's refusal has number 9 at 268435456
 /// where the layout has more bytes than that, one of 10 to 23 at an offset where its bytes are no library, one of 24 to 30
@@ -164,6 +169,7 @@ pub fn run<F: Files, O: Sink, E: Sink>(
     files: &mut F,
     out: &mut O,
     err: &mut E,
+    gauges: &mut Vec<Box<dyn Gauge>>,
 ) -> u8
     ensures { RunsTo words.now (record {
       files = record {
@@ -179,8 +185,9 @@ pub fn run<F: Files, O: Sink, E: Sink>(
         taken = change (E.written err.old) (E.written err.new);
         failures = change (E.faults err.old) (E.faults err.new);
       };
+      gauges = change (views_of seen text gauges.old.items) (views_of seen text gauges.new.items);
     }) result }
 {
     let found = find(rt, alloc, words, files);
-    print(alloc, found, out, err)
+    print(alloc, found, gauges, out, err)
 }

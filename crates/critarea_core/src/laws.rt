@@ -6,6 +6,7 @@ ghost use Rattle.first_refusal.specs.Outcomes.{value};
 ghost use Rattle.critarea_core.specs.Contents.{Contents, bytes_from, layout_source};
 ghost use Rattle.command_line.specs.Requests.{Ask};
 ghost use Rattle.command_line.specs.declared.request.Request.{Request};
+ghost use Rattle.gauges.specs.GaugeViews.{GaugeView};
 ghost use Rattle.lists.specs.ByteLists.{AreBytes};
 ghost use Rattle.critarea_core.specs.Layout.{Subject};
 ghost use Rattle.critarea_core.specs.Verdict.{IsReportOn, IsVerdict, LayoutComesTo, MapComesTo};
@@ -31,7 +32,7 @@ pub fn contents_have_verdicts()
         CannotLack (IsVerdict words contents) }
 {}
 
-/// A subject has one report at most.
+/// A subject has one report at most with gauges of which this is known.
 pub fn reports_agree()
-    ensures { (subject : Subject) → IsUnique (IsReportOn subject) }
+    ensures { (subject : Subject) (gauges : List GaugeView) → IsUnique (IsReportOn subject gauges) }
 {}

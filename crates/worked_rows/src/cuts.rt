@@ -27,7 +27,9 @@ const CUTS: &[(&[Plate], &[u8], Want)] = &[
              total short 120\n\
              total open 0\n\
              total via 64\n\
-             total 184\n",
+             total 184\n\
+             peak short m1 r=5 sum=120\n\
+             nonzero 2 of 5\n",
         ),
     ),
     // A contact on each bar: the bars are one net, and there are two clusters, 8 cells apart.
@@ -50,7 +52,9 @@ const CUTS: &[(&[Plate], &[u8], Want)] = &[
              total short 0\n\
              total open 0\n\
              total via 128\n\
-             total 128\n",
+             total 128\n\
+             peak via v1 r=5 sum=128\n\
+             nonzero 1 of 5\n",
         ),
     ),
     // One contact of 2 by 2 cells.
@@ -76,7 +80,9 @@ const CUTS: &[(&[Plate], &[u8], Want)] = &[
              total short 0\n\
              total open 0\n\
              total via 4\n\
-             total 4\n",
+             total 4\n\
+             peak via v1 r=2 sum=4\n\
+             nonzero 1 of 10\n",
         ),
     ),
     // Two contacts between the same two bars are one cluster of 6 by 2 cells.
@@ -103,7 +109,9 @@ const CUTS: &[(&[Plate], &[u8], Want)] = &[
              total short 0\n\
              total open 0\n\
              total via 12\n\
-             total 12\n",
+             total 12\n\
+             peak via v1 r=4 sum=12\n\
+             nonzero 1 of 10\n",
         ),
     ),
     // Each under a square of its own they are two clusters. At the radius 3 each is covered from 4 by 4
@@ -132,7 +140,9 @@ const CUTS: &[(&[Plate], &[u8], Want)] = &[
              total short 0\n\
              total open 0\n\
              total via 92\n\
-             total 92\n",
+             total 92\n\
+             peak via v1 r=4 sum=60\n\
+             nonzero 2 of 10\n",
         ),
     ),
     // Without the upper metal a cut has no contact.
@@ -154,7 +164,9 @@ const CUTS: &[(&[Plate], &[u8], Want)] = &[
              total short 0\n\
              total open 0\n\
              total via 0\n\
-             total 0\n",
+             total 0\n\
+             peak short m1 r=1 sum=0\n\
+             nonzero 0 of 10\n",
         ),
     ),
     // A cut over both bars with no upper metal joins nothing: the bars are still two nets, and no via is there.
@@ -175,7 +187,9 @@ const CUTS: &[(&[Plate], &[u8], Want)] = &[
              total short 120\n\
              total open 0\n\
              total via 0\n\
-             total 120\n",
+             total 120\n\
+             peak short m1 r=5 sum=120\n\
+             nonzero 1 of 5\n",
         ),
     ),
     // Three metals and three cuts, which have their rows in the order of the map. The contact of v3 is 4 by 2 cells,
@@ -206,7 +220,9 @@ const CUTS: &[(&[Plate], &[u8], Want)] = &[
              total short 0\n\
              total open 0\n\
              total via 24\n\
-             total 24\n",
+             total 24\n\
+             peak via v1 r=3 sum=16\n\
+             nonzero 2 of 9\n",
         ),
     ),
 ];

@@ -8,14 +8,14 @@ const MAP: &[u8] =
 const MAPPED: &str = "a --map m";
 
 /// Words and the bytes of the layout, what fails, and the answer. A file is started, read, and read again to see its end,
-/// the map's before the layout's. The lines of the report have 36, 33, 15, 13, 12 and 9 bytes, 118 in all.
+/// the map's before the layout's. The lines of the report have 36, 33, 15, 13, 12, 9, 24 and 15 bytes, 157 in all.
 const FAILURES: &[(&str, &[u8], Failing, Want)] = &[
     (RADIUS_3, TWO_BARS, Failing::Files(&[0]), Want::Fault),
     (RADIUS_3, TWO_BARS, Failing::Files(&[1]), Want::Fault),
     (RADIUS_3, TWO_BARS, Failing::Files(&[2]), Want::Fault),
     (RADIUS_3, TWO_BARS, Failing::Out, Want::Fault),
-    (RADIUS_3, TWO_BARS, Failing::OutPast(117), Want::Fault),
-    (RADIUS_3, TWO_BARS, Failing::OutPast(118), SHORT_32),
+    (RADIUS_3, TWO_BARS, Failing::OutPast(156), Want::Fault),
+    (RADIUS_3, TWO_BARS, Failing::OutPast(157), SHORT_32),
     (RADIUS_3, &[], Failing::ErrorOut, Want::Fault),
     ("", TWO_BARS, Failing::ErrorOut, Want::Fault),
     (MAPPED, TWO_BARS, Failing::Files(&[0]), Want::Fault),

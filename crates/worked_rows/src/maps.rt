@@ -49,7 +49,9 @@ const REPORTS: &[(&[Plate], &[u8], Want)] = &[
              total short 32\n\
              total open 0\n\
              total via 0\n\
-             total 32\n",
+             total 32\n\
+             peak short m1 r=3 sum=32\n\
+             nonzero 1 of 4\n",
         ),
     ),
     // For the second metal column 51 of rows -2 to 11 is near both squares at radius 2, and columns 50 to 52 of rows -3
@@ -70,7 +72,9 @@ const REPORTS: &[(&[Plate], &[u8], Want)] = &[
              total short 220\n\
              total open 0\n\
              total via 0\n\
-             total 220\n",
+             total 220\n\
+             peak short m2 r=2 sum=140\n\
+             nonzero 3 of 8\n",
         ),
     ),
     // All pairs of a metal are one metal: the bar between the two joins them. The names are those of the map, and a weight
@@ -84,7 +88,9 @@ const REPORTS: &[(&[Plate], &[u8], Want)] = &[
              total short 0\n\
              total open 0\n\
              total via 0\n\
-             total 0\n",
+             total 0\n\
+             peak short Metal_1 r=3 sum=0\n\
+             nonzero 0 of 2\n",
         ),
     ),
 ];

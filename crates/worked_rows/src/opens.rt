@@ -53,7 +53,9 @@ const NO_OPEN: Want = Want::Report(
      total short 0\n\
      total open 0\n\
      total via 0\n\
-     total 0\n",
+     total 0\n\
+     peak short m1 r=2 sum=0\n\
+     nonzero 0 of 5\n",
 );
 
 /// Rectangles, a map with terminals, and the report.
@@ -71,7 +73,9 @@ const OPENS: &[(&[Plate], &[u8], Want)] = &[
              total short 0\n\
              total open 2\n\
              total via 0\n\
-             total 2\n",
+             total 2\n\
+             peak open m1 r=1 sum=2\n\
+             nonzero 1 of 5\n",
         ),
     ),
     // A defect of 4 by 4 cells cuts the wire from rows 0 and 1: in columns 0 to 19 these are 40 cells. Each terminal is
@@ -88,7 +92,9 @@ const OPENS: &[(&[Plate], &[u8], Want)] = &[
              total short 0\n\
              total open 50\n\
              total via 0\n\
-             total 50\n",
+             total 50\n\
+             peak open m1 r=2 sum=50\n\
+             nonzero 1 of 5\n",
         ),
     ),
     // One terminal is parted from no other.
@@ -111,7 +117,9 @@ const OPENS: &[(&[Plate], &[u8], Want)] = &[
              total short 0\n\
              total open 18\n\
              total via 0\n\
-             total 18\n",
+             total 18\n\
+             peak open m1 r=2 sum=18\n\
+             nonzero 1 of 5\n",
         ),
     ),
     // Each metal has terminals of its own: each of the four is covered from its own cell alone.
@@ -126,7 +134,9 @@ const OPENS: &[(&[Plate], &[u8], Want)] = &[
              total short 0\n\
              total open 4\n\
              total via 0\n\
-             total 4\n",
+             total 4\n\
+             peak open m1 r=1 sum=2\n\
+             nonzero 2 of 4\n",
         ),
     ),
     // Terminals of two islands are not joined to begin with: nothing is parted.

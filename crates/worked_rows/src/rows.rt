@@ -10,7 +10,9 @@ pub const EMPTY_REPORT: Want = Want::Report(
      total short 0\n\
      total open 0\n\
      total via 0\n\
-     total 0\n",
+     total 0\n\
+     peak short m r=3 sum=0\n\
+     nonzero 0 of 2\n",
 );
 
 /// Whether a layout without a shape has 102 bytes and this report.
@@ -36,7 +38,9 @@ const BARS_REPORT: Want = Want::Report(
      total short 32\n\
      total open 0\n\
      total via 0\n\
-     total 32\n",
+     total 32\n\
+     peak short m r=3 sum=32\n\
+     nonzero 1 of 2\n",
 );
 
 #[test]

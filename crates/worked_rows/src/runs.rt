@@ -1,5 +1,6 @@
 use critarea_core::{Word, run};
 use edge_io::{Files, MemFiles, MemSink};
+use gauges::{Gauge, Nonzero, Peak};
 use lists::{Name, NoMemory};
 use std::alloc::{AllocError, Global};
 use std::fmt;
@@ -98,12 +99,15 @@ impl Answer {
     }
 }
 
-/// The report of this area of shorts of the metal `m` at this radius of defects, with the weight 1.
+/// The report of this area of shorts of the metal `m` at this radius of defects, with the weight 1. Of equal products the
+/// peak is the first, which is the row of shorts.
 fn report_of(alloc: Global, radius: u32, area: u64) -> Result<String, AllocError> {
+    let nonzero = if area > 0 { 1 } else { 0 };
     format!(in alloc;
         "short m r={radius} area={area} weight=1 sum={area}\n\
          open m r={radius} area=0 weight=1 sum=0\n\
-         total short {area}\ntotal open 0\ntotal via 0\ntotal {area}\n"
+         total short {area}\ntotal open 0\ntotal via 0\ntotal {area}\n\
+         peak short m r={radius} sum={area}\nnonzero {nonzero} of 2\n"
     )
 }
 
@@ -201,7 +205,7 @@ fn sink(alloc: Global, room: usize, fails: &[u64]) -> Result<MemSink, NoMemory> 
     MemSink::with(alloc, room, Vec::from_slice(alloc, fails)?)
 }
 
-/// What a run of these words on these files answers.
+/// What a run of these words on these files answers, with the gauges that the program has.
 pub fn run_with<F: Files>(
     rt: &(impl Threads + Sync),
     alloc: Global,
@@ -212,7 +216,11 @@ pub fn run_with<F: Files>(
     let words = words_of(alloc, words)?;
     let mut out = sink(alloc, failing.room(), failing.calls_of_out())?;
     let mut err = sink(alloc, 1000, failing.calls_of_error_out())?;
-    let status = run(rt, alloc, words.as_slice(), files, &mut out, &mut err);
+    let mut gauges: Vec<Box<dyn Gauge>> = Vec::new(alloc);
+    gauges.push(Box::new(alloc, Peak::new(alloc))?)?;
+    gauges.push(Box::new(alloc, Nonzero::new(alloc))?)?;
+    let words = words.as_slice();
+    let status = run(rt, alloc, words, files, &mut out, &mut err, &mut gauges);
     Ok(Answer {
         status,
         out: out.written,

@@ -10,14 +10,14 @@ use Rattle.command_line.specs.declared.task.Task.TheVariants.{OneMetal, Mapped}
 use Rattle.geo_core.specs.Plane.{IsRadius}
 use Rattle.map_model.specs.MapNames.{LayerMap, layer_map_of}
 use Rattle.map_model.specs.declared.map.Map.{Map}
-use Rattle.report.specs.Report.{report_text}
+use Rattle.gauges.specs.GaugeViews.{GaugeView}
 use Rattle.questions.specs.declared.row.Row.{Row}
 use Rattle.questions.specs.declared.row.TheConstants.{MOST_ROWS}
 use Rattle.critarea_core.specs.Contents.{MayContain, MayHave}
 use Rattle.critarea_core.specs.Refusals.{refusal_text}
-use Rattle.critarea_core.specs.Run.{Change, HasRisen, IsCalm, IsIdle, MayComeTo, NameSomeFile, Output, Takes, FailsWithin}
+use Rattle.critarea_core.specs.Run.{AreToldAll, AreToldSome, AreUntold, Change, HasRisen, IsCalm, IsIdle, MayComeTo, NameSomeFile, Output, Takes, FailsWithin}
 use Rattle.critarea_core.specs.Layout.{Subject}
-use Rattle.critarea_core.specs.Verdict.{LayoutComesTo, MapComesTo, AreRowsOn}
+use Rattle.critarea_core.specs.Verdict.{LayoutComesTo, MapComesTo, AreRowsOn, whole_report}
 use Rattle.critarea_core.specs.declared.refusal.Refusal.{Refusal}
 use Rattle.critarea_core.specs.declared.unreported.Unreported.{Unreported}
 use Rattle.critarea_core.specs.declared.unreported.Unreported.TheVariants.{Refused, FilesFailed, Memory}
@@ -99,10 +99,10 @@ AreFew found = IfOk found (λ rows. length rows.items ≤ MOST_ROWS)
 -- ---- the printing
 
 -- how the printing of a report ends, with this status
-pub data ReportEnds (rows : List Row) (out : Output) : ℕ → Type 0 where
-  report_out : Takes out (report_text rows) → ReportEnds rows out 0
-  report_cut : FailsWithin out (report_text rows) → ReportEnds rows out 5
-  no_report : IsIdle out → ReportEnds rows out 6
+pub data ReportEnds (rows : List Row) (gauges : Change (List GaugeView)) (out : Output) : ℕ → Type 0 where
+  report_out : Takes out (whole_report rows gauges.before) → AreToldAll gauges rows → ReportEnds rows gauges out 0
+  report_cut : FailsWithin out (whole_report rows gauges.before) → AreToldAll gauges rows → ReportEnds rows gauges out 5
+  no_report : IsIdle out → AreToldSome gauges rows → ReportEnds rows gauges out 6
 
 -- how the printing of a refusal's line ends, with this status
 pub data LineEnds (refusal : Refusal) (err : Output) : ℕ → Type 0 where
@@ -111,8 +111,8 @@ pub data LineEnds (refusal : Refusal) (err : Output) : ℕ → Type 0 where
   no_line : IsIdle err → LineEnds refusal err 6
 
 -- what was found is printed, with this status
-abbrev pub IsPrinted : Result (Vec Row Global) Unreported → Output → Output → ℕ → Type 0
-IsPrinted (Ok rows) out err status = ReportEnds rows.items out status × IsIdle err
-IsPrinted (Err (Refused refusal)) out err status = LineEnds refusal err status × IsIdle out
-IsPrinted (Err FilesFailed) out err status = (status ≡ 5) × IsIdle out × IsIdle err
-IsPrinted (Err Memory) out err status = (status ≡ 6) × IsIdle out × IsIdle err
+abbrev pub IsPrinted : Result (Vec Row Global) Unreported → Change (List GaugeView) → Output → Output → ℕ → Type 0
+IsPrinted (Ok rows) gauges out err status = ReportEnds rows.items gauges out status × IsIdle err
+IsPrinted (Err (Refused refusal)) gauges out err status = LineEnds refusal err status × IsIdle out × AreUntold gauges
+IsPrinted (Err FilesFailed) gauges out err status = (status ≡ 5) × IsIdle out × IsIdle err × AreUntold gauges
+IsPrinted (Err Memory) gauges out err status = (status ≡ 6) × IsIdle out × IsIdle err × AreUntold gauges

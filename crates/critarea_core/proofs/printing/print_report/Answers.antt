@@ -3,10 +3,12 @@ use Rattle.critarea_core.specs.inside.Finding.{no_report, report_out, report_cut
 use Rattle.critarea_core.proofs.printing.print_report.Goals as goal
 
 pub returns-in_default : goal.returns-in_default
-returns-in_default g c = no_report (refl, refl)
+returns-in_default g c = no_report (refl, refl) c.in_default.ensures.prefixes
 
 pub returns-in-Ok-write_all : goal.returns-in-Ok-write_all
-returns-in-Ok-write_all g c = report_out (rw (c.as_slice.ensures.value ∙ c.in-Ok.ensures) at c.in-Ok-write_all.ensures.written, c.in-Ok-write_all.ensures.calm)
+returns-in-Ok-write_all g c =
+    report_out (rw (c.as_slice.ensures.value ∙ c.in-Ok.ensures.printed) at c.in-Ok-write_all.ensures.written, c.in-Ok-write_all.ensures.calm) c.in-Ok.ensures.told
 
 pub returns : goal.returns
-returns g c = report_cut (c.in-Err.ensures.rose, rw (c.as_slice.ensures.value ∙ c.in-Ok.ensures) at c.in-Err.ensures.prefix)
+returns g c =
+    report_cut (c.in-Err.ensures.rose, rw (c.as_slice.ensures.value ∙ c.in-Ok.ensures.printed) at c.in-Err.ensures.prefix) c.in-Ok.ensures.told
