@@ -3,32 +3,28 @@
 #![tactic(auto)]
 
 use critarea_core::{Word, run, system_words};
-use edge_io::{OsFiles, OsSink};
+use edge_io::{Files, OsFiles, OsSink, Sink};
 use gauges::{Gauge, Nonzero, Peak};
-use std::alloc::AllocError;
+use std::alloc::{AllocError, Global};
 use std::process::ExitCode;
+use std::thread::Threads;
 
 /// The status where the boxes of the gauges find no memory.
 const NO_MEMORY: u8 = 6;
 
-/// Runs these words, and gives the status.
-fn run_words(rt: &HostRuntime, words: &[Word]) -> Result<u8, AllocError> {
-    let alloc = rt.alloc();
+/// Runs these words with the gauges, and gives the status.
+fn run_gauged<F: Files, O: Sink, E: Sink>(
+    rt: &(impl Threads + Sync),
+    alloc: Global,
+    words: &[Word],
+    files: &mut F,
+    out: &mut O,
+    err: &mut E,
+) -> Result<u8, AllocError> {
     let mut gauges: Vec<Box<dyn Gauge>> = Vec::new(alloc);
     gauges.push(Box::new(alloc, Peak::new(alloc))?)?;
     gauges.push(Box::new(alloc, Nonzero::new(alloc))?)?;
-    let mut files = OsFiles::new(rt);
-    let mut out = OsSink::new(rt.stdout());
-    let mut err = OsSink::new(rt.stderr());
-    Ok(run(
-        rt,
-        alloc,
-        words,
-        &mut files,
-        &mut out,
-        &mut err,
-        &mut gauges,
-    ))
+    Ok(run(rt, alloc, words, files, out, err, &mut gauges))
 }
 
 fn main(rt: HostRuntime) -> ExitCode {
@@ -36,7 +32,11 @@ fn main(rt: HostRuntime) -> ExitCode {
         Ok(words) => words,
         Err(status) => return ExitCode::from(status),
     };
-    match run_words(&rt, words.as_slice()) {
+    let mut files = OsFiles::new(&rt);
+    let mut out = OsSink::new(rt.stdout());
+    let mut err = OsSink::new(rt.stderr());
+    let words = words.as_slice();
+    match run_gauged(&rt, rt.alloc(), words, &mut files, &mut out, &mut err) {
         Ok(status) => ExitCode::from(status),
         Err(AllocError) => ExitCode::from(NO_MEMORY),
     }

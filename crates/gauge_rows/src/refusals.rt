@@ -1,6 +1,6 @@
-use super::hostile::{Mute, Silent, Tight};
 use super::rows::{TWO_METALS, rows_of};
 use gauges::{Gauge, Nonzero, Peak, append_texts, tell};
+use hostile_gauges::{Mute, Silent, Tight};
 use lists::NoMemory;
 use std::alloc::Global;
 
@@ -21,13 +21,9 @@ const ROOMS: &[(usize, bool, &str)] = &[
 
 /// Whether the rows are told so, and this text is printed then.
 fn are_told(alloc: Global, room: usize, all: bool, text: &str) -> Result<bool, NoMemory> {
-    let tight = Tight {
-        rows: Vec::new(alloc),
-        room,
-    };
     let mut gauges: Vec<Box<dyn Gauge>> = Vec::new(alloc);
     gauges.push(Box::new(alloc, Nonzero::new(alloc))?)?;
-    gauges.push(Box::new(alloc, tight)?)?;
+    gauges.push(Box::new(alloc, Tight::new(alloc, room))?)?;
     gauges.push(Box::new(alloc, Peak::new(alloc))?)?;
     let rows = rows_of(alloc, TWO_METALS)?;
     let told = tell(&mut gauges, rows.as_slice());
@@ -38,12 +34,9 @@ fn are_told(alloc: Global, room: usize, all: bool, text: &str) -> Result<bool, N
 
 /// Whether nothing is printed of a gauge that is silent, and the others print their texts.
 fn is_left_out(alloc: Global) -> Result<bool, NoMemory> {
-    let silent = Silent {
-        rows: Vec::new(alloc),
-    };
     let mut gauges: Vec<Box<dyn Gauge>> = Vec::new(alloc);
     gauges.push(Box::new(alloc, Peak::new(alloc))?)?;
-    gauges.push(Box::new(alloc, silent)?)?;
+    gauges.push(Box::new(alloc, Silent::new(alloc))?)?;
     gauges.push(Box::new(alloc, Nonzero::new(alloc))?)?;
     tell(&mut gauges, rows_of(alloc, TWO_METALS)?.as_slice())?;
     let mut into = Vec::new(alloc);
@@ -53,12 +46,9 @@ fn is_left_out(alloc: Global) -> Result<bool, NoMemory> {
 
 /// Whether the text ends where a gauge refuses to print.
 fn is_cut_short(alloc: Global) -> Result<bool, NoMemory> {
-    let mute = Mute {
-        rows: Vec::new(alloc),
-    };
     let mut gauges: Vec<Box<dyn Gauge>> = Vec::new(alloc);
     gauges.push(Box::new(alloc, Peak::new(alloc))?)?;
-    gauges.push(Box::new(alloc, mute)?)?;
+    gauges.push(Box::new(alloc, Mute::new(alloc))?)?;
     gauges.push(Box::new(alloc, Nonzero::new(alloc))?)?;
     tell(&mut gauges, rows_of(alloc, TWO_METALS)?.as_slice())?;
     let mut into = Vec::new(alloc);

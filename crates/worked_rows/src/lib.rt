@@ -8,6 +8,8 @@ mod cuts;
 #[cfg(test)]
 mod failures;
 #[cfg(test)]
+mod gauged;
+#[cfg(test)]
 mod grammar;
 #[cfg(test)]
 mod large;

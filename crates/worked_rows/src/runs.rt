@@ -192,7 +192,7 @@ fn file(alloc: Global, letter: u8, bytes: &[u8]) -> Result<(Name, Vec<u8>), Allo
 }
 
 /// The files of the run.
-fn files_of(alloc: Global, given: &Given<'_>) -> Result<MemFiles, AllocError> {
+pub fn files_of(alloc: Global, given: &Given<'_>) -> Result<MemFiles, AllocError> {
     let mut files = Vec::new(alloc);
     files.push(file(alloc, b'a', given.layout)?)?;
     files.push(file(alloc, b'm', given.map)?)?;
@@ -205,6 +205,27 @@ fn sink(alloc: Global, room: usize, fails: &[u64]) -> Result<MemSink, NoMemory> 
     MemSink::with(alloc, room, Vec::from_slice(alloc, fails)?)
 }
 
+/// What a run of these words on these files answers, with these gauges.
+pub fn run_with_gauges<F: Files>(
+    rt: &(impl Threads + Sync),
+    alloc: Global,
+    words: &str,
+    files: &mut F,
+    failing: Failing,
+    gauges: &mut Vec<Box<dyn Gauge>>,
+) -> Result<Answer, NoMemory> {
+    let words = words_of(alloc, words)?;
+    let words = words.as_slice();
+    let mut out = sink(alloc, failing.room(), failing.calls_of_out())?;
+    let mut err = sink(alloc, 1000, failing.calls_of_error_out())?;
+    let status = run(rt, alloc, words, files, &mut out, &mut err, gauges);
+    Ok(Answer {
+        status,
+        out: out.written,
+        err: err.written,
+    })
+}
+
 /// What a run of these words on these files answers, with the gauges that the program has.
 pub fn run_with<F: Files>(
     rt: &(impl Threads + Sync),
@@ -213,19 +234,10 @@ pub fn run_with<F: Files>(
     files: &mut F,
     failing: Failing,
 ) -> Result<Answer, NoMemory> {
-    let words = words_of(alloc, words)?;
-    let mut out = sink(alloc, failing.room(), failing.calls_of_out())?;
-    let mut err = sink(alloc, 1000, failing.calls_of_error_out())?;
     let mut gauges: Vec<Box<dyn Gauge>> = Vec::new(alloc);
     gauges.push(Box::new(alloc, Peak::new(alloc))?)?;
     gauges.push(Box::new(alloc, Nonzero::new(alloc))?)?;
-    let words = words.as_slice();
-    let status = run(rt, alloc, words, files, &mut out, &mut err, &mut gauges);
-    Ok(Answer {
-        status,
-        out: out.written,
-        err: err.written,
-    })
+    run_with_gauges(rt, alloc, words, files, failing, &mut gauges)
 }
 
 /// What a run answers.

@@ -1,5 +1,5 @@
 ghost use Rattle.std.specs.Prelude.{◌≡◌, [], IfOk, codes, string_bytes};
-ghost use Rattle.gauge_rows.specs.HostileTexts.{room_line, room_text};
+ghost use Rattle.hostile_gauges.specs.HostileTexts.{room_line, room_text};
 
 use gauges::Gauge;
 use lists::NoMemory;
@@ -9,8 +9,18 @@ use std::alloc::Global;
 /// Refuses each row once it has seen as many as it has room for.
 #[derive(Drop)]
 pub struct Tight {
-    pub rows: Vec<Row>,
-    pub room: usize,
+    rows: Vec<Row>,
+    room: usize,
+}
+
+impl Tight {
+    /// A gauge with room for so many rows, which has seen nothing.
+    pub fn new(alloc: Global, room: usize) -> Tight {
+        Tight {
+            rows: Vec::new(alloc),
+            room,
+        }
+    }
 }
 
 impl Gauge for Tight {
@@ -45,7 +55,16 @@ fn text_of(alloc: Global, seen: usize, room: usize) -> Result<String, NoMemory>
 /// Prints nothing, whatever it has seen.
 #[derive(Drop)]
 pub struct Silent {
-    pub rows: Vec<Row>,
+    rows: Vec<Row>,
+}
+
+impl Silent {
+    /// A gauge that has seen nothing.
+    pub fn new(alloc: Global) -> Silent {
+        Silent {
+            rows: Vec::new(alloc),
+        }
+    }
 }
 
 impl Gauge for Silent {
@@ -66,7 +85,16 @@ impl Gauge for Silent {
 /// Has a text, `mute` and a newline, and refuses after its first two letters.
 #[derive(Drop)]
 pub struct Mute {
-    pub rows: Vec<Row>,
+    rows: Vec<Row>,
+}
+
+impl Mute {
+    /// A gauge that has seen nothing.
+    pub fn new(alloc: Global) -> Mute {
+        Mute {
+            rows: Vec::new(alloc),
+        }
+    }
 }
 
 impl Gauge for Mute {

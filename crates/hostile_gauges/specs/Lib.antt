@@ -1,2 +1,1 @@
-pub mod CsvText
 pub mod HostileTexts

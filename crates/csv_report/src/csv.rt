@@ -1,10 +1,9 @@
 ghost use Rattle.std.specs.Prelude.{◌≡◌, [], IfOk, OnOk, string_bytes};
 ghost use Rattle.std.specs.List.{flat_map};
 ghost use Rattle.report.specs.Gains.{Gains};
-ghost use Rattle.gauge_rows.specs.CsvText.{csv_line, csv_text};
+ghost use Rattle.csv_report.specs.CsvText.{csv_line, csv_text};
 
-use super::rows::{TWO_METALS, rows_of};
-use gauges::{Gauge, Nonzero, append_texts, tell};
+use gauges::Gauge;
 use lists::NoMemory;
 use report::{Row, letter};
 use std::alloc::Global;
@@ -12,12 +11,13 @@ use std::alloc::Global;
 /// A gauge of one's own: it prints the rows once more, as CSV with the names of the columns at its head. It has to keep the
 /// rows that it has seen, to say what it prints of any list of rows (`text`), and to print just that (`line`).
 #[derive(Drop)]
-struct Csv {
+pub struct Csv {
     rows: Vec<Row>,
 }
 
 impl Csv {
-    fn new(alloc: Global) -> Csv
+    /// A gauge that has seen nothing. It takes no memory.
+    pub fn new(alloc: Global) -> Csv
         ensures { result.rows.items ≡ [] }
     {
         Csv {
@@ -75,38 +75,4 @@ fn write_line(text: &mut String, row: &Row) -> Result<(), NoMemory>
         row.kind, row.area, row.weight
     )?;
     Ok(())
-}
-
-/// What it prints of the rows of two metals, between the texts of two other gauges.
-const PRINTED: &str = "\
-nonzero 6 of 10
-kind,layer,measure,size,area,weight
-short,m1,r,2,0,10
-short,m1,r,5,72788,1
-short,m2,r,2,0,10
-short,m2,r,5,10640,1
-open,m1,r,2,18,10
-open,m1,r,5,174,1
-open,m2,r,2,0,10
-open,m2,r,5,0,1
-via,v1,r,2,1600,10
-via,v1,r,5,25600,1
-nonzero 6 of 10
-";
-
-/// Whether it prints that.
-fn is_printed(alloc: Global) -> Result<bool, NoMemory> {
-    let mut gauges: Vec<Box<dyn Gauge>> = Vec::new(alloc);
-    gauges.push(Box::new(alloc, Nonzero::new(alloc))?)?;
-    gauges.push(Box::new(alloc, Csv::new(alloc))?)?;
-    gauges.push(Box::new(alloc, Nonzero::new(alloc))?)?;
-    tell(&mut gauges, rows_of(alloc, TWO_METALS)?.as_slice())?;
-    let mut into = Vec::new(alloc);
-    append_texts(gauges.as_slice(), &mut into)?;
-    Ok(into.as_slice() == PRINTED.as_bytes())
-}
-
-#[test]
-fn rows_are_printed_as_csv(rt: HostRuntime) {
-    assert!(rt; is_printed(rt.alloc()) == Ok(true));
 }

@@ -1,4 +1,4 @@
-use Rattle.gauge_rows.proofs.hostile.MuteGauge.line.Goals as goal
+use Rattle.hostile_gauges.proofs.hostile.MuteGauge.line.Goals as goal
 
 -- two letters went out
 pub returns-clause-prefix : goal.returns-clause-prefix
