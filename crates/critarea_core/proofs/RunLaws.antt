@@ -167,7 +167,7 @@ module _ (words : List (List ℕ)) (met : Surroundings) where
   ends (Ok rows) status (files_serve calm (gives (gives_thing {v = subject} comes has))) (report_out takes told, idle) = run.reported (rows_for subject rows comes has) calm takes idle told
   ends (Ok rows) status (files_serve calm (gives (gives_thing {v = subject} comes has))) (report_cut fails told, idle) = run.report_cut_short (rows_for subject rows comes has) calm fails idle told
   ends (Ok rows) status (files_serve calm (gives (gives_thing {v = subject} comes has))) (no_report also some, idle) =
-      run.out_of_memory_behind (rows_for subject rows comes has) calm also idle some
+      run.out_of_memory_with_rows (rows_for subject rows comes has) calm also idle some
   ends (Err (Refused refusal)) status (files_serve calm (refuses (gives_refusal comes))) (line_out takes, idle, untold) = run.refused_input comes calm idle takes untold
   ends (Err (Refused refusal)) status (files_serve calm (refuses (gives_refusal comes))) (line_cut fails, idle, untold) = run.refusal_cut_short comes calm idle fails untold
   ends (Err (Refused refusal)) status (files_serve calm answer) (no_line also, idle, untold) = run.out_of_memory calm idle also untold
@@ -188,7 +188,7 @@ module _ (words : List (List ℕ)) (met : Surroundings) where
   report_comes status (run.report_cut_short is calm fails idle told_all) subject due f o = absurd (o fails.0)
   report_comes status (run.refusal_cut_short {refusal = r} is calm idle fails untold) subject due f o = absurd (cc (one_outcome (value subject) (refused r) due is))
   report_comes status (run.out_of_memory calm idle also untold) subject due f o = inr refl
-  report_comes status (run.out_of_memory_behind is calm idle also some) subject due f o = inr refl
+  report_comes status (run.out_of_memory_with_rows is calm idle also some) subject due f o = inr refl
 
   not_reported : (refusal : Refusal) (rows : List Row) → MustComeTo words told (refused refusal) → AreRowsFor words told rows → ⊥
   not_reported refusal rows due is = cc (one_outcome (refused refusal) (value is.subject) due is.comes)
@@ -202,7 +202,7 @@ module _ (words : List (List ℕ)) (met : Surroundings) where
   refusal_comes status (run.report_cut_short {rows = rows} is calm fails idle told_all) refusal due f e = absurd (not_reported refusal rows due is)
   refusal_comes status (run.refusal_cut_short is calm idle fails untold) refusal due f e = absurd (e fails.0)
   refusal_comes status (run.out_of_memory calm idle also untold) refusal due f e = inr refl
-  refusal_comes status (run.out_of_memory_behind is calm idle also some) refusal due f e = inr refl
+  refusal_comes status (run.out_of_memory_with_rows is calm idle also some) refusal due f e = inr refl
 
   complete : (status : ℕ) → EndsWith words met status → IsComplete words met status
   complete status e = record { report = report_comes status e; refusal = refusal_comes status e }
@@ -216,7 +216,7 @@ module _ (words : List (List ℕ)) (met : Surroundings) where
   texts status (run.report_cut_short {rows = rows} is calm fails idle told_all) = told_texts rows met.gauges.before met.gauges.after told_all
   texts status (run.refusal_cut_short is calm idle fails untold) = untold_texts met.gauges untold
   texts status (run.out_of_memory calm idle also untold) = untold_texts met.gauges untold
-  texts status (run.out_of_memory_behind {rows = rows} is calm idle also some) = partly_told_texts rows met.gauges.before met.gauges.after some
+  texts status (run.out_of_memory_with_rows {rows = rows} is calm idle also some) = partly_told_texts rows met.gauges.before met.gauges.after some
 
   -- ---- all that is promised of a run
 

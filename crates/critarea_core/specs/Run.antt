@@ -92,7 +92,7 @@ AreUntold gauges = gauges.after ≡ gauges.before
 abbrev pub AreToldAll : Change (List GaugeView) → List Row → Type 0
 AreToldAll gauges rows = AreTold rows gauges.before gauges.after
 
--- each has seen the first of these rows, too, perhaps none or all
+-- each has seen the first few of these rows, too, perhaps none or all
 abbrev pub AreToldSome : Change (List GaugeView) → List Row → Type 0
 AreToldSome gauges rows = AreToldPrefixes rows gauges.before gauges.after
 
@@ -137,10 +137,10 @@ pub data EndsWith (words : List (List ℕ)) (met : Surroundings) : ℕ → Type 
   refusal_cut_short : {refusal : Refusal} → IsRefusalFor words met.files.holds.before refusal
       → IsCalm met.files.failures → IsIdle met.out → FailsWithin met.err (refusal_text refusal)
       → AreUntold met.gauges → EndsWith words met 5
-  -- out of memory before there were rows
+  -- out of memory, and the gauges were told nothing
   out_of_memory : IsCalm met.files.failures → IsIdle met.out → IsIdle met.err → AreUntold met.gauges → EndsWith words met 6
-  -- out of memory once there were rows, as where a gauge refuses one or its text
-  out_of_memory_behind : {rows : List Row} → AreRowsFor words met.files.holds.before rows
+  -- out of memory once there were rows, as where a gauge refuses one of them, or to print
+  out_of_memory_with_rows : {rows : List Row} → AreRowsFor words met.files.holds.before rows
       → IsCalm met.files.failures → IsIdle met.out → IsIdle met.err → AreToldSome met.gauges rows → EndsWith words met 6
 
 -- what the words must come to comes out, or the run is out of memory, unless the files or the output failed on the way

@@ -154,9 +154,9 @@ fn find<F: Files>(
 /// | an output failed | 5 | the first part of the report, if it was `out` | the first part of the line, if it was `err` |
 /// | out of memory | 6 | | |
 ///
-/// Where no memory is left once there are rows, as where a gauge finds none, each gauge may have been told the first of them
-/// alone. Nothing goes out before the report is complete, so a refused map or layout leaves `out` as it was. Where what the files
-/// tell of the map is refused, the layout's file is not started. A map's refusal has number 39 at 1048576 where the map
+/// Where no memory is left once there are rows, as where a gauge finds no memory, each gauge may have been told the first few
+/// of them alone, or none. Nothing goes out before the report is complete, so a refused map or layout leaves `out` as it was.
+/// Where what the files tell of the map is refused, the layout's file is not started. A map's refusal has number 39 at 1048576 where the map
 /// has more bytes than that, and one of 40 to 47 at a path of its document. A layout's refusal has number 9 at 268435456
 /// where the layout has more bytes than that, one of 10 to 23 at an offset where its bytes are no library, one of 24 to 30
 /// where its shapes are not placed, then one of 30 to 36 at the offset of the first placed shape, in the order of the

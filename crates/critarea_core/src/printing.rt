@@ -38,7 +38,7 @@ fn print_refusal<E: Sink>(alloc: Global, refusal: Refusal, err: &mut E) -> u8
 }
 
 /// The text of the report that has these rows, with what the gauges print at its end. They are told the rows first. Where
-/// memory runs out, each may have been told the first of the rows alone.
+/// memory runs out, each may have been told the first few of the rows alone, or none.
 fn text_with_gauges(
     alloc: Global,
     rows: &[Row],

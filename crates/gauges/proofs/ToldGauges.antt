@@ -6,7 +6,7 @@ use Rattle.lists.proofs.Pairing.{AllZip-append, AllZip-push}
 use Rattle.questions.specs.declared.row.Row.{Row}
 use Rattle.gauges.specs.GaugeViews.{GaugeView, IsTold, IsToldPrefix, AreTold, AreToldPrefixes, texts_of, texts_after}
 
--- a gauge has been told the first of the rows, so many of them
+-- a gauge has been told so many of the rows, from the first one on
 abbrev pub IsToldSome : {Gauge : Type 0} → (Gauge → GaugeView) → List Row → ℕ → Gauge → Gauge → Type 0
 IsToldSome view rows count old new = IsTold (take count rows) (view old) (view new)
 
@@ -15,7 +15,7 @@ pub record AreToldBelow {Gauge : Type 0} (view : Gauge → GaugeView) (rows : Li
   pub told : AreTold rows (map view (take count old)) (map view (take count new))
   pub others : drop count new ≡ drop count old
 
--- a gauge that was told all of the rows was told the first of them
+-- a gauge that was told all of the rows was told the first few of them
 told_prefix : (rows : List Row) (old new : GaugeView) → IsTold rows old new → IsToldPrefix rows old new
 told_prefix rows old new told =
     (length rows, record { seen = told.seen ∙ ap (λ some. old.seen ++ some) (sym (take-length rows)); text = told.text })

@@ -25,7 +25,7 @@ pub record IsTold (rows : List Row) (old new : GaugeView) : Type 0 where
   pub seen : new.seen ≡ old.seen ++ rows
   pub text : new.text ≡ old.text
 
--- it has seen the first of these rows, perhaps none or all
+-- it has seen the first few of these rows, perhaps none or all
 abbrev pub IsToldPrefix : List Row → GaugeView → GaugeView → Type 0
 IsToldPrefix rows old new = (count : ℕ) × IsTold (take count rows) old new
 
@@ -33,7 +33,7 @@ IsToldPrefix rows old new = (count : ℕ) × IsTold (take count rows) old new
 abbrev pub AreTold : List Row → List GaugeView → List GaugeView → Type 0
 AreTold rows old new = AllZip (IsTold rows) old new
 
--- the gauges are as many as before, and each has seen the first of these rows, perhaps none or all
+-- the gauges are as many as before, and each has seen the first few of these rows, perhaps none or all
 abbrev pub AreToldPrefixes : List Row → List GaugeView → List GaugeView → Type 0
 AreToldPrefixes rows old new = AllZip (IsToldPrefix rows) old new
 

@@ -7,7 +7,7 @@ use lists::NoMemory;
 use questions::Row;
 
 /// Tells each gauge all rows in order, one gauge after the other, and stops where a gauge refuses a row. Each has then seen
-/// the first of the rows, perhaps none or all, behind what it had seen.
+/// the first few of the rows, perhaps none or all, after what it had seen.
 pub fn tell(gauges: &mut Vec<Box<dyn Gauge>>, rows: &[Row]) -> Result<(), NoMemory>
     ensures told { OnOk result
         (AreTold rows.now (views_of seen text gauges.old.items) (views_of seen text gauges.new.items)) }

@@ -14,7 +14,7 @@ use Rattle.library_model.specs.declared.library.Structure.{Structure}
 use Rattle.library_model.proofs.SameParts.{same_structure}
 use Rattle.lists.specs.declared.memory.NoMemory.{NoMemory}
 use Rattle.layout_gen.specs.SmallOutlines.{corner, outline, are_small}
-use Rattle.layout_gen.specs.inside.Fitting.{by_test, few_columns}
+use Rattle.layout_gen.specs.Fitting.{by_test, few_columns}
 use Rattle.layout_gen.specs.Generated.{boundary, cell, cell_array, columns_of, lattice, top, generated_library, generated_layout}
 
 -- lists are the same where their first items and the rests are

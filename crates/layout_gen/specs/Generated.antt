@@ -14,7 +14,7 @@ use Rattle.library_model.specs.declared.element.ShapeKind.TheVariants.{Boundary}
 use Rattle.library_model.specs.declared.library.Library.{Library}
 use Rattle.library_model.specs.declared.library.Structure.{Structure}
 use Rattle.layout_gen.specs.SmallOutlines.{corner, outline, are_small}
-use Rattle.layout_gen.specs.inside.Fitting.{are_bytes, small_layer, small_outline, few_columns}
+use Rattle.layout_gen.specs.Fitting.{are_bytes, small_layer, small_outline, few_columns}
 
 -- the boundary of [0,right)x[bottom,top) on this layer, with the datatype 0
 abbrev pub boundary : (layer right bottom top : ℕ) → IsTrue (are_small (layer ∷ right ∷ bottom ∷ top ∷ [])) → Shape

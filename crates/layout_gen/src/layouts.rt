@@ -18,8 +18,8 @@ pub struct Generated {
 
 /// A layout of so many columns and as many rows of one cell, and its layer map.
 ///
-/// `columns` is 1 to 500. The library is `GEN`, and its structure `TOP` places four shapes of `CELL` for each column and each
-/// row: 4 to 1,000,000 shapes. Columns and rows are 20 database units apart. By the law `generated_layouts_read` the bytes
+/// `columns` is 1 to 500. The library is `GEN`, and its structure `TOP` places four shapes of `CELL` for each column
+/// of each row: 4 to 1,000,000 shapes. Columns and rows are 20 database units apart. By the law `generated_layouts_read` the bytes
 /// read as this library.
 ///
 /// The only error is that no memory is left.

@@ -3,9 +3,11 @@
 use super::layouts::TWO_BARS;
 use super::runs::{Answer, Failing, Given, RADIUS_3, calm, files_of, run_with_gauges};
 use gauges::{Gauge, Nonzero, Peak, append_texts};
-use hostile_gauges::{Mute, Silent, Tight};
+use hostile_gauges::{Counted, Mute, Silent, Tight};
 use lists::NoMemory;
 use std::alloc::Global;
+use std::sync::Arc;
+use std::sync::atomic::{AtomicU64, Ordering};
 use std::thread::Threads;
 
 /// The gauge that stands between `Nonzero` and `Peak`.
@@ -208,4 +210,31 @@ fn go_on(rt: &(impl Threads + Sync), alloc: Global) -> Result<bool, NoMemory> {
 #[test]
 fn gauges_go_on_from_run_to_run(rt: HostRuntime) {
     assert!(rt; go_on(&rt, rt.alloc()) == Ok(true));
+}
+
+/// How many of two gauges were dropped after a run, and how many after their list was dropped.
+fn drops(rt: &(impl Threads + Sync), alloc: Global) -> Result<(u64, u64), NoMemory> {
+    let drops = Arc::new(alloc, AtomicU64::new(0))?;
+    let mut gauges: Vec<Box<dyn Gauge>> = Vec::new(alloc);
+    for _ in 0..2 {
+        let counted = Counted::new(alloc, Arc::try_clone(&drops)?);
+        gauges.push(Box::new(alloc, counted)?)?;
+    }
+    let mut files = files_of(alloc, &calm(RADIUS_3, TWO_BARS))?;
+    run_with_gauges(
+        rt,
+        alloc,
+        RADIUS_3,
+        &mut files,
+        Failing::Nothing,
+        &mut gauges,
+    )?;
+    let before = drops.load(Ordering::SeqCst);
+    drop(gauges);
+    Ok((before, drops.load(Ordering::SeqCst)))
+}
+
+#[test]
+fn a_run_drops_no_gauge(rt: HostRuntime) {
+    assert!(rt; drops(&rt, rt.alloc()) == Ok((0, 2)));
 }

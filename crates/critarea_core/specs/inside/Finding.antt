@@ -46,7 +46,7 @@ pub data Gives {T V : Type 0} (Stage : Outcome V Refusal → Type 0) (IsFor : V 
 abbrev pub Finds : {T V : Type 0} → (Outcome V Refusal → Type 0) → (V → T → Type 0) → Result T Unreported → Type 0
 Finds Stage IsFor = Answers Memory (Gives Stage IsFor)
 
--- where files are read for it: none failed and the answer is so; or they failed, of which there is one then
+-- where files are read for it: none failed and the answer is so; or they failed, and then there is some file
 pub data FindsInFiles {T V : Type 0} (failures : Change ℕ) (SomeFile : Type 0) (Stage : Outcome V Refusal → Type 0) (IsFor : V → T → Type 0)
     : Result T Unreported → Type 0 where
   files_serve : {answer : Result T Unreported} → IsCalm failures → Finds Stage IsFor answer
