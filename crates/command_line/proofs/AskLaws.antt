@@ -1,12 +1,12 @@
 -- what words ask for, by what they give
 use Rattle.std.proofs.Common.{ℕ, ◌≤◌, List, refl, [], ◌∷◌, ◌≡◌, ◌∙◌, sym, ap, arith, length, subst, Option, Some, None}
 use Rattle.command_line.specs.declared.option_name.OptionName.{OptionName}
-use Rattle.command_line.specs.declared.option_name.OptionName.TheVariants.{Map, Top, Tile, Workers, Layer, Datatype, Radius}
+use Rattle.command_line.specs.declared.option_name.OptionName.TheVariants.{Map, Top, Tile, Workers, Layer, Datatype, Radius, Generate}
 use Rattle.command_line.specs.declared.request.Request.{Request}
 use Rattle.command_line.specs.declared.task.Task.{Task}
 use Rattle.command_line.specs.inside.Arguments.{AreSingle}
 use Rattle.command_line.specs.OptionNames.{Text}
-use Rattle.command_line.specs.Requests.{Ask, GiveNoOther, HasNoEmptyText, IsNumberOnce, IsNumberOrDefault, IsTextIfGiven, as_given, left_out, IsTask, of_one_metal, of_map, options_for, IsRequestOf, values_of}
+use Rattle.command_line.specs.Requests.{Ask, GiveNoOther, HasNoEmptyText, IsNumberOnce, IsNumberOrDefault, IsTextIfGiven, as_given, left_out, IsTask, of_one_metal, of_map, of_generator, options_for, IsRequestOf, values_of}
 use Rattle.command_line.specs.Spelling.{Given, AreSpelled}
 use Rattle.command_line.proofs.SpellingLaws.{spellings_agree}
 
@@ -23,6 +23,7 @@ module _ (v w : OptionName → List Text) (p q : List Text) (same : (name : Opti
   task_moved task (of_one_metal {layer = a} {datatype = b} {radius = c} layout layer datatype radius top) =
       of_one_metal (sym at ∙ layout) (once_moved Layer 0 65535 a layer) (once_moved Datatype 0 65535 b datatype) (once_moved Radius 1 1000000 c radius) (sym (same Top) ∙ top)
   task_moved task (of_map layout map top) = of_map (sym at ∙ layout) (sym (same Map) ∙ map) (sym (same Top) ∙ top)
+  task_moved task (of_generator {columns = n} none columns) = of_generator (sym at ∙ none) (once_moved Generate 1 500 n columns)
 
   pub request_moved : (request : Request) → IsRequestOf v p request → IsRequestOf w q request
   request_moved request asked = record {
@@ -56,6 +57,7 @@ module _ (values : OptionName → List Text) (positions : List Text) where
   positions_few : (task : Task) → IsTask values positions task → length positions ≤ 1
   positions_few task (of_one_metal {layout = l} at _ _ _ _) = one_is_few positions l at
   positions_few task (of_map {layout = l} at _ _) = one_is_few positions l at
+  positions_few task (of_generator none _) = none_is_few positions none
 
   values_few : (request : Request) → IsRequestOf values positions request → (task : Task) → IsTask values positions task → GiveNoOther values (options_for task)
       → (name : OptionName) → length (values name) ≤ 1
@@ -69,6 +71,14 @@ module _ (values : OptionName → List Text) (positions : List Text) where
   values_few request asked task (of_map _ _ _) others Radius = none_is_few (values Radius) (others Radius refl)
   values_few request asked task (of_one_metal {top = t} _ _ _ _ top) others Top = given_is_few (values Top) t top
   values_few request asked task (of_map {top = t} _ _ top) others Top = given_is_few (values Top) t top
+  values_few request asked task (of_one_metal _ _ _ _ _) others Generate = none_is_few (values Generate) (others Generate refl)
+  values_few request asked task (of_map _ _ _) others Generate = none_is_few (values Generate) (others Generate refl)
+  values_few request asked task (of_generator {columns = n} _ columns) others Generate = once_is_few 1 500 (values Generate) n columns
+  values_few request asked task (of_generator _ _) others Map = none_is_few (values Map) (others Map refl)
+  values_few request asked task (of_generator _ _) others Top = none_is_few (values Top) (others Top refl)
+  values_few request asked task (of_generator _ _) others Layer = none_is_few (values Layer) (others Layer refl)
+  values_few request asked task (of_generator _ _) others Datatype = none_is_few (values Datatype) (others Datatype refl)
+  values_few request asked task (of_generator _ _) others Radius = none_is_few (values Radius) (others Radius refl)
   values_few request asked task _ others Tile = default_is_few 1 1000000000 (values Tile) request.edge 65536 asked.edge
   values_few request asked task _ others Workers = default_is_few 1 64 (values Workers) request.workers 4 asked.workers
 

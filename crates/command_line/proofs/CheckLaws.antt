@@ -6,7 +6,7 @@ use Rattle.std.specs.Bool.{Decides}
 use Rattle.std.proofs.lemmas.Bool.Decides.{Decides-by_and}
 use Rattle.std.proofs.lemmas.List.Folds.{fold-map, list_all-map}
 use Rattle.command_line.specs.declared.option_name.OptionName.{OptionName}
-use Rattle.command_line.specs.declared.option_name.OptionName.TheVariants.{Map, Top, Tile, Workers, Layer, Datatype, Radius}
+use Rattle.command_line.specs.declared.option_name.OptionName.TheVariants.{Map, Top, Tile, Workers, Layer, Datatype, Radius, Generate}
 use Rattle.command_line.specs.declared.option_name.TheConstants.{OPTIONS}
 use Rattle.command_line.specs.OptionNames.{Text, name_of}
 use Rattle.command_line.specs.Requests.{IsNotEmpty, values_of}
@@ -58,6 +58,7 @@ each_listed P all Workers = all 3 Map (omega arith)
 each_listed P all Layer = all 4 Map (omega arith)
 each_listed P all Datatype = all 5 Map (omega arith)
 each_listed P all Radius = all 6 Map (omega arith)
+each_listed P all Generate = all 7 Map (omega arith)
 
 pub options_single : (options : Found) → Decides (list_all (λ name. nat_le (count_by (λ option. bytes_eq (name_of option.0) (name_of name)) options) 1) OPTIONS) ((name : OptionName)
     → length (values_of (map view options) name) ≤ 1)

@@ -12,7 +12,7 @@ use Rattle.clap.specs.declared.builder.value_parser.Reading.TheVariants.{AsWritt
 use Rattle.clap.specs.declared.parser.matches.ValueSource.TheVariants.{CommandLine}
 use Rattle.clap.proofs.OnLiterals.{clap_on_literals}
 use Rattle.command_line.specs.declared.option_name.OptionName.{OptionName}
-use Rattle.command_line.specs.declared.option_name.OptionName.TheVariants.{Map, Top, Tile, Workers, Layer, Datatype, Radius}
+use Rattle.command_line.specs.declared.option_name.OptionName.TheVariants.{Map, Top, Tile, Workers, Layer, Datatype, Radius, Generate}
 use Rattle.command_line.specs.OptionNames.{Text, name_of}
 use Rattle.command_line.specs.Requests.{values_of}
 use Rattle.command_line.specs.Spelling.{Given, whole_word}
@@ -80,6 +80,7 @@ met Workers value rows = refl
 met Layer value rows = refl
 met Datatype value rows = refl
 met Radius value rows = refl
+met Generate value rows = refl
 
 passes : (name : OptionName) (value : Text) (rows : List Row) → has_row (name_of name) rows ≡ false → turn_passes top [] (walk_with rows) (whole_word name value) ≡ true
 unfolding clap_on_literals
@@ -90,6 +91,7 @@ passes Workers value rows h = rw h refl
 passes Layer value rows h = rw h refl
 passes Datatype value rows h = rw h refl
 passes Radius value rows h = rw h refl
+passes Generate value rows h = rw h refl
 
 -- ---- an option that is given once
 
@@ -167,6 +169,7 @@ not_layout Workers = refl
 not_layout Layer = refl
 not_layout Datatype = refl
 not_layout Radius = refl
+not_layout Generate = refl
 
 -- no option has the row of the positional word
 no_layout : (options : Options) → has_row (codes "layout") (rows_of_options options) ≡ false
@@ -200,7 +203,7 @@ pub record EndsWith (w : Walk) (rows : List Row) : Type 0 where
   pub finished_rows : finished rules w.held ≡ rows
 
 rules_have_no_defaults : HaveNoDefaults rules
-rules_have_no_defaults = (refl, (refl, (refl, (refl, (refl, (refl, (refl, (refl, (refl, tt)))))))))
+rules_have_no_defaults = (refl, (refl, (refl, (refl, (refl, (refl, (refl, (refl, (refl, (refl, tt))))))))))
 
 module _ (rows : List Row) (fresh : has_row (codes "layout") rows ≡ false) where
   ends : (positions : List Text) → length positions ≤ 1 → EndsWith (fold (walked rules []) (walk_with rows) (position_words positions)) (rows ++ layout_rows positions)
@@ -267,6 +270,7 @@ not_option Workers = refl
 not_option Layer = refl
 not_option Datatype = refl
 not_option Radius = refl
+not_option Generate = refl
 
 -- the texts that the matches have under this id: one or none
 abbrev found : Text → List Row → List Text

@@ -7,7 +7,7 @@ use Rattle.command_line.specs.declared.option_name.OptionName.TheVariants.{Map, 
 use Rattle.command_line.specs.declared.task.Task.{Task}
 use Rattle.command_line.specs.OptionNames.{Text}
 use Rattle.command_line.specs.Spelling.{Given}
-use Rattle.command_line.specs.Requests.{Ask, GiveNoOther, IsNumberOnce, IsNumberOrDefault, IsTextIfGiven, as_given, left_out, IsTask, of_one_metal, of_map, options_for, IsRequestOf, values_of}
+use Rattle.command_line.specs.Requests.{Ask, GiveNoOther, IsNumberOnce, IsNumberOrDefault, IsTextIfGiven, as_given, left_out, IsTask, of_one_metal, of_map, of_generator, options_for, IsRequestOf, values_of}
 use Rattle.command_line.proofs.SpellingLaws.{spellings_agree}
 use Rattle.command_line.proofs.LimitLaws.{same_request}
 
@@ -44,6 +44,11 @@ module _ (values : OptionName → List Text) (positions : List Text) where
       cc (named, la, da, ra, ta)
   task_is one other (of_one_metal p layer datatype radius top) (of_map q map also_top) g h = let s = sym (g Map refl) ∙ map in cc s
   task_is one other (of_map q map also_top) (of_one_metal p layer datatype radius top) g h = let s = sym (h Map refl) ∙ map in cc s
+  task_is one other (of_one_metal p layer datatype radius top) (of_generator q columns) g h = let s = sym p ∙ q in cc s
+  task_is one other (of_generator q columns) (of_one_metal p layer datatype radius top) g h = let s = sym p ∙ q in cc s
+  task_is one other (of_map p map top) (of_generator q columns) g h = let s = sym p ∙ q in cc s
+  task_is one other (of_generator q columns) (of_map p map top) g h = let s = sym p ∙ q in cc s
+  task_is one other (of_generator {columns = m} p columns) (of_generator {columns = n} q others) g h = let same : m ≡ n = number_is columns others in cc same
   task_is one other (of_map {layout = l} {map = a} {top = x} p map top) (of_map {layout = m} {map = b} {top = y} q also_map also_top) g h =
       let named : l ≡ m = let s = sym p ∙ q in cc s in
       let mapped : a ≡ b = let s = sym map ∙ also_map in cc s in

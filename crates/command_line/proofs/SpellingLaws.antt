@@ -4,7 +4,7 @@ use Rattle.lists.proofs.Words.{flat_map, list_any, bytes_eq, append-nil, All-hea
 use Rattle.std.specs.List.{before_first, after_first}
 use Rattle.first_refusal.specs.Laws.{IsUnique}
 use Rattle.command_line.specs.declared.option_name.OptionName.{OptionName}
-use Rattle.command_line.specs.declared.option_name.OptionName.TheVariants.{Map, Top, Tile, Workers, Layer, Datatype, Radius}
+use Rattle.command_line.specs.declared.option_name.OptionName.TheVariants.{Map, Top, Tile, Workers, Layer, Datatype, Radius, Generate}
 use Rattle.command_line.specs.OptionNames.{Text, name_of}
 use Rattle.command_line.specs.Spelling.{Argument, in_one_word, in_two_words, positional, name_word, whole_word, words_of, IsPlain, IsClearlySpelled, given_of, last_words, AreSpelled}
 
@@ -15,7 +15,7 @@ abbrev option_named : Text → Option OptionName
 option_named text =
     if bytes_eq text (codes "map") then Some Map else (if bytes_eq text (codes "top") then Some Top else (if bytes_eq text (codes "tile") then Some Tile
     else (if bytes_eq text (codes "workers") then Some Workers else (if bytes_eq text (codes "layer") then Some Layer
-    else (if bytes_eq text (codes "datatype") then Some Datatype else (if bytes_eq text (codes "radius") then Some Radius else None))))))
+    else (if bytes_eq text (codes "datatype") then Some Datatype else (if bytes_eq text (codes "radius") then Some Radius else (if bytes_eq text (codes "generate") then Some Generate else None)))))))
 
 named : (name : OptionName) → option_named (name_of name) ≡ Some name
 named Map = refl
@@ -25,6 +25,7 @@ named Workers = refl
 named Layer = refl
 named Datatype = refl
 named Radius = refl
+named Generate = refl
 
 pub same_name : (n m : OptionName) → name_of n ≡ name_of m → n ≡ m
 same_name n m e = let s : Some n ≡ Some m = sym (named n) ∙ ap option_named e ∙ named m in cc s
@@ -46,6 +47,7 @@ name_is_in Workers v = refl
 name_is_in Layer v = refl
 name_is_in Datatype v = refl
 name_is_in Radius v = refl
+name_is_in Generate v = refl
 
 value_is_in : (n : OptionName) (v : Text) → value_in (whole_word n v) ≡ v
 value_is_in Map v = refl
@@ -55,6 +57,7 @@ value_is_in Workers v = refl
 value_is_in Layer v = refl
 value_is_in Datatype v = refl
 value_is_in Radius v = refl
+value_is_in Generate v = refl
 
 has_equals : (n : OptionName) (v : Text) → list_any is_equals (whole_word n v) ≡ true
 has_equals Map v = refl
@@ -64,6 +67,7 @@ has_equals Workers v = refl
 has_equals Layer v = refl
 has_equals Datatype v = refl
 has_equals Radius v = refl
+has_equals Generate v = refl
 
 has_no_equals : (n : OptionName) → list_any is_equals (name_word n) ≡ false
 has_no_equals Map = refl
@@ -73,6 +77,7 @@ has_no_equals Workers = refl
 has_no_equals Layer = refl
 has_no_equals Datatype = refl
 has_no_equals Radius = refl
+has_no_equals Generate = refl
 
 no_nameless : (n : OptionName) → name_of n ≡ [] → ⊥
 no_nameless n e = let s : Some n ≡ None = sym (named n) ∙ ap option_named e in cc s

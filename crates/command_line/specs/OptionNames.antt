@@ -1,7 +1,7 @@
 -- the options of the command, and their names
 use Rattle.std.specs.Prelude.{ℕ, List, codes}
 use Rattle.command_line.specs.declared.option_name.OptionName.{OptionName}
-use Rattle.command_line.specs.declared.option_name.OptionName.TheVariants.{Map, Top, Tile, Workers, Layer, Datatype, Radius}
+use Rattle.command_line.specs.declared.option_name.OptionName.TheVariants.{Map, Top, Tile, Workers, Layer, Datatype, Radius, Generate}
 
 -- a text, as its bytes
 abbrev pub Text : Type 0
@@ -16,3 +16,4 @@ name_of Workers = codes "workers"
 name_of Layer = codes "layer"
 name_of Datatype = codes "datatype"
 name_of Radius = codes "radius"
+name_of Generate = codes "generate"

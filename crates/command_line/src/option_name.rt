@@ -15,10 +15,12 @@ pub enum OptionName {
     Datatype,
     /// `radius`: the radius of the defects.
     Radius,
+    /// `generate`: how many columns a generated layout has.
+    Generate,
 }
 
 /// All options.
-pub const OPTIONS: [OptionName; 7] = [
+pub const OPTIONS: [OptionName; 8] = [
     OptionName::Map,
     OptionName::Top,
     OptionName::Tile,
@@ -26,6 +28,7 @@ pub const OPTIONS: [OptionName; 7] = [
     OptionName::Layer,
     OptionName::Datatype,
     OptionName::Radius,
+    OptionName::Generate,
 ];
 
 impl OptionName {
@@ -45,6 +48,7 @@ impl OptionName {
             OptionName::Layer => "layer",
             OptionName::Datatype => "datatype",
             OptionName::Radius => "radius",
+            OptionName::Generate => "generate",
         }
     }
 
@@ -61,6 +65,7 @@ impl OptionName {
             "layer" => Some(OptionName::Layer),
             "datatype" => Some(OptionName::Datatype),
             "radius" => Some(OptionName::Radius),
+            "generate" => Some(OptionName::Generate),
             _ => None,
         }
     }

@@ -25,4 +25,9 @@ pub enum Task {
         /// The name of the structure that is analysed, where one is wanted.
         top: Option<Name>,
     },
+    /// The areas of a generated layout, which needs no file, for the sizes of its own layer map.
+    Generated {
+        /// How many columns the layout has, and how many rows: from 1 to 500.
+        columns: u32,
+    },
 }

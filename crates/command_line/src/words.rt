@@ -1,4 +1,4 @@
-ghost use Rattle.std.specs.Prelude.{◌≡◌, ◌↔◌, ℕ, Err, IfOk, IfSome, IfNone, IsTrue, map, option_map, option_to_list};
+ghost use Rattle.std.specs.Prelude.{◌≡◌, ◌≢◌, ◌↔◌, [], ◌∷◌, ℕ, Err, MatchBool, IfOk, IfSome, IfNone, IsTrue, map, option_map, option_to_list};
 ghost use Rattle.command_line.specs.inside.Arguments.{AreSingle, given_by};
 ghost use Rattle.command_line.specs.inside.Command.{positions_found, values_found};
 ghost use Rattle.command_line.specs.inside.Readings.{AreNumbers, AreNumbersLeftOut, texts_of};
@@ -23,6 +23,9 @@ const GREATEST_LAYER: u32 = 65_535;
 
 /// The greatest radius, in database units.
 const GREATEST_RADIUS: u32 = 1_000_000;
+
+/// The most columns of a generated layout.
+const MOST_COLUMNS: u32 = 500;
 
 /// The greatest edge of a tile, in database units.
 const GREATEST_EDGE: u32 = 1_000_000_000;
@@ -100,17 +103,49 @@ fn has_number(matches: &ArgMatches<'_>) -> bool
         || text_of(matches, OptionName::Radius).is_some()
 }
 
-/// The task of these matches.
-fn task_of(alloc: Global, matches: &ArgMatches<'_>) -> Result<Task, WordsFault>
+/// Whether the option is given.
+fn is_given(matches: &ArgMatches<'_>, name: OptionName) -> bool
+    ensures { MatchBool result (values_found matches.now name ≢ []) (values_found matches.now name ≡ []) }
+{
+    text_of(matches, name).is_some()
+}
+
+/// The task of these matches, in which no layout is named.
+fn generated_task(matches: &ArgMatches<'_>) -> Result<Task, WordsFault>
+    requires { positions_found matches.now ≡ [] }
     ensures task { IfOk result (IsTask (values_found matches.now) (positions_found matches.now)) }
     ensures no_other { IfOk result (λ task. GiveNoOther (values_found matches.now) (options_for task)) }
     ensures usage { result ≡ Err WordsFault.Usage → (task : Task) →
         IsTask (values_found matches.now) (positions_found matches.now) task →
         GiveNoOther (values_found matches.now) (options_for task) → ⊥ }
 {
-    let Some(layout) = matches.get_str(LAYOUT) else {
+    if is_given(matches, OptionName::Map) {
+        return Err(WordsFault::Usage);
+    }
+    if is_given(matches, OptionName::Top) {
+        return Err(WordsFault::Usage);
+    }
+    if has_number(matches) {
+        return Err(WordsFault::Usage);
+    }
+    let Some(columns) = number_given(matches, OptionName::Generate, 1, MOST_COLUMNS) else {
         return Err(WordsFault::Usage);
     };
+    Ok(Task::Generated { columns })
+}
+
+/// The task of these matches, in which the layout of this name is named.
+fn task_on(alloc: Global, matches: &ArgMatches<'_>, layout: &str) -> Result<Task, WordsFault>
+    requires { positions_found matches.now ≡ layout.now ∷ [] }
+    ensures task { IfOk result (IsTask (values_found matches.now) (positions_found matches.now)) }
+    ensures no_other { IfOk result (λ task. GiveNoOther (values_found matches.now) (options_for task)) }
+    ensures usage { result ≡ Err WordsFault.Usage → (task : Task) →
+        IsTask (values_found matches.now) (positions_found matches.now) task →
+        GiveNoOther (values_found matches.now) (options_for task) → ⊥ }
+{
+    if is_given(matches, OptionName::Generate) {
+        return Err(WordsFault::Usage);
+    }
     let wanted = text_of(matches, OptionName::Top);
     let top = name_if_given(alloc, wanted)?;
     let Some(map) = text_of(matches, OptionName::Map) else {
@@ -133,6 +168,20 @@ fn task_of(alloc: Global, matches: &ArgMatches<'_>) -> Result<Task, WordsFault>
         map: name(alloc, map)?,
         top,
     })
+}
+
+/// The task of these matches.
+fn task_of(alloc: Global, matches: &ArgMatches<'_>) -> Result<Task, WordsFault>
+    ensures task { IfOk result (IsTask (values_found matches.now) (positions_found matches.now)) }
+    ensures no_other { IfOk result (λ task. GiveNoOther (values_found matches.now) (options_for task)) }
+    ensures usage { result ≡ Err WordsFault.Usage → (task : Task) →
+        IsTask (values_found matches.now) (positions_found matches.now) task →
+        GiveNoOther (values_found matches.now) (options_for task) → ⊥ }
+{
+    match matches.get_str(LAYOUT) {
+        Some(layout) => task_on(alloc, matches, layout),
+        None => generated_task(matches),
+    }
 }
 
 /// What these matches ask for.
@@ -173,16 +222,17 @@ fn request_given(alloc: Global, arguments: &Arguments<'_>) -> Result<Request, Wo
 /// What the words of a command ask for. `Usage` comes exactly where they ask for nothing.
 ///
 /// Options come in any order, as `--name value` or as `--name=value`, each once at most, and with them one name of a
-/// layout's file. After a lone `--` each word is such a name. A value in a word of its own, and a name before the `--`,
+/// layout's file, but for a generated layout. After a lone `--` each word is such a name. A value in a word of its own, and a name before the `--`,
 /// may begin with a dash only where it is the dash alone. A number is 1 to 10 decimal digits.
 ///
 /// | form | options that it must have | options that it may have |
 /// |---|---|---|
 /// | one metal | `layer`, `datatype`, `radius` | `top`, `tile`, `workers` |
 /// | layer map | `map` | `top`, `tile`, `workers` |
+/// | generated | `generate`, and no layout | `tile`, `workers` |
 ///
 /// No value is empty. `top` is the name of a structure. `layer` and `datatype` are at most 65,535, and `radius` is from 1 to 1,000,000. `tile` is from 1 to 1,000,000,000,
-/// or 65,536 where it is left out, and `workers` from 1 to 64, or 4.
+/// or 65,536 where it is left out, and `workers` from 1 to 64, or 4. `generate` is from 1 to 500.
 pub fn read_words(alloc: Global, words: &[Word]) -> Result<Request, WordsFault>
     ensures request { IfOk result (Ask words.now) }
     ensures usage { result ≡ Err WordsFault.Usage → (request : Request) → Ask words.now request → ⊥ }

@@ -8,9 +8,10 @@ use Rattle.lists.proofs.Containing.{Contains-head}
 use Rattle.edge_io.specs.ReadAnswers.{ReadsWhole, is_whole, is_too_long, has_no_memory, has_failed}
 use Rattle.edge_io.specs.declared.whole.ReadError.{ReadError}
 use Rattle.edge_io.specs.declared.whole.ReadError.TheVariants as read
+use Rattle.layout_gen.specs.Generated.{generated_map}
 use Rattle.critarea_core.specs.Contents.{MayContain, MayHave}
 use Rattle.command_line.specs.declared.task.Task.{Task}
-use Rattle.command_line.specs.declared.task.Task.TheVariants.{OneMetal, Mapped}
+use Rattle.command_line.specs.declared.task.Task.TheVariants.{OneMetal, Mapped, Generated}
 use Rattle.map_model.specs.MapNames.{LayerMap, one_metal_map, layer_map_of}
 use Rattle.map_model.specs.declared.map.Map.{Map}
 use Rattle.critarea_core.specs.inside.Finding.{IsMapOf, MapMayCome, IsToldAs, as_memory, as_refusal, of_unread, Finds, gives_thing, gives_refusal, FindsInFiles, files_serve, files_fail, IsOneOf}
@@ -121,6 +122,10 @@ module _ (told : List ℕ → Option (List ℕ)) where
     may_be = with_text_may_be told name text may;
     comes = rw (text_is_there told name text) comes;
   }
+
+  -- the text of the map of a generated layout
+  pub generated_map_may_come : (columns : ℕ) (outcome : Outcome LayerMap Refusal) → MapTextComesTo generated_map outcome → MapMayCome told (Generated columns) outcome
+  generated_map_may_come columns outcome comes = record { bytes = λ name. unwrap_or (told name) []; may_be = λ name. may_have_some (told name); comes = comes }
 
   -- the map of one metal
   pub one_metal_found : (task : Task) (layout : List ℕ) (layer datatype radius : ℕ) (top : Option (List ℕ)) (made : Map)

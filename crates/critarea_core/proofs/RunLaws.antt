@@ -12,11 +12,11 @@ use Rattle.questions.specs.declared.row.Row.{Row}
 use Rattle.gauges.specs.GaugeViews.{GaugeView, AreTold, AreToldPrefixes, texts_after, texts_of}
 use Rattle.gauges.proofs.ToldGauges.{texts_gained}
 use Rattle.report.specs.Report.{report_text}
-use Rattle.critarea_core.specs.Contents.{file, names_in, map_names, file_names, bytes_from, layout_source, wanted_top}
+use Rattle.critarea_core.specs.Contents.{file, made as made_of, names_in, map_names, file_names, bytes_from, layout_source, wanted_top}
 use Rattle.critarea_core.specs.inside.Finding.{AreFew, Finds, FindsInFiles, files_serve, files_fail, gives_thing, gives_refusal, HasRows, IsFound, IsMapOf, IsOneOf, IsPrinted, LayoutMayCome, MapMayCome, report_out, report_cut, no_report, line_out, line_cut, no_line}
 use Rattle.critarea_core.specs.Layout.{Subject}
 use Rattle.critarea_core.specs.Refusals.{usage}
-use Rattle.critarea_core.specs.Verdict.{whole_report}
+use Rattle.critarea_core.specs.Verdict.{LayoutComesTo, whole_report}
 use Rattle.critarea_core.specs.Run.{AreUntold, Change, change, KeepTheirTexts, Surroundings, HasRisen, IsCalm, MayComeTo, MustComeTo, AreRowsFor, IsComplete, EndsWith, RunsTo, StartsNamed, no_file, map_file, both_files}
 use Rattle.critarea_core.specs.Run as run
 use Rattle.critarea_core.specs.declared.refusal.Refusal.{Refusal}
@@ -104,6 +104,26 @@ module _ (words : List (List ℕ)) (told : List ℕ → Option (List ℕ)) where
         started = appends_both before middle after (map_names request.task) (names_in (layout_source request.task)) first
             (subst (λ source. Appends middle after (names_in source)) (sym named) second);
       }
+
+    -- a good map, and what was found of a layout that the request itself makes
+    pub on_made : (layer_map : LayerMap) → MapMayCome told request.task (value layer_map) → (bytes : List ℕ) → layout_source request.task ≡ made_of bytes
+        → (failures : Change ℕ) (result : Result (Vec Row Global) Unreported) → IsCalm failures
+        → Finds (LayoutComesTo layer_map (wanted_top request.task) bytes) HasRows result → IsFound words told failures result
+    on_made layer_map good bytes is failures result calm answer =
+        files_serve calm (restaged (LayoutComesTo layer_map (wanted_top request.task) bytes) HasRows (MayComeTo words told) comes result answer)
+      where
+        layouts : List ℕ → List ℕ
+        layouts name = unwrap_or (told name) []
+
+        there : bytes_from layouts (layout_source request.task) ≡ bytes
+        there = ap (bytes_from layouts) is
+
+        comes : (outcome : Outcome Subject Refusal) → LayoutComesTo layer_map (wanted_top request.task) bytes outcome → MayComeTo words told outcome
+        comes outcome l = record {
+          contents = record { map = good.bytes; layout = layouts };
+          agree = (good.may_be, λ name. may_have_some (told name));
+          verdict = goes_on (reads asked) (goes_on good.comes (rw there l));
+        }
 
     -- the map's file alone
     pub starts_map : {before after : Option (List (List ℕ))} → Appends before after (map_names request.task) → StartsNamed words told (change before after)

@@ -4,10 +4,10 @@ use Rattle.lists.proofs.Words.{ints}
 use Rattle.first_refusal.specs.Outcomes.{Outcome, value, refused, Reads, reads, lacks, stops, goes_on}
 use Rattle.first_refusal.specs.Laws.{IsUnique, CannotLack}
 use Rattle.first_refusal.proofs.StageLaws.{readings_agree, reading_cannot_lack, retold_agree, retold_cannot_lack, stages_agree, stages_cannot_lack}
-use Rattle.command_line.specs.Requests.{Ask, IsTask, of_one_metal, of_map, values_of}
+use Rattle.command_line.specs.Requests.{Ask, IsTask, of_one_metal, of_map, of_generator, values_of}
 use Rattle.command_line.specs.declared.request.Request.{Request}
 use Rattle.command_line.specs.declared.task.Task.{Task}
-use Rattle.command_line.specs.declared.task.Task.TheVariants.{OneMetal, Mapped}
+use Rattle.command_line.specs.declared.task.Task.TheVariants.{OneMetal, Mapped, Generated}
 use Rattle.command_line.proofs.RequestLaws.{requests_agree}
 use Rattle.layer_map.specs.Documents as document
 use Rattle.map_model.specs.MapNames.{LayerMap, one_metal_map}
@@ -15,9 +15,10 @@ use Rattle.layer_map.proofs.ExistLaws.{maps_cannot_lack}
 use Rattle.layer_map.proofs.UniqueLaws.{maps_agree}
 use Rattle.critarea_core.specs.Contents.{Contents, bytes_from, layout_source, wanted_top}
 use Rattle.gauges.specs.GaugeViews.{GaugeView}
+use Rattle.layout_gen.specs.Generated.{generated_map}
 use Rattle.critical_areas.proofs.UniqueLaws.{rows_agree}
 use Rattle.critarea_core.specs.Coverage.{IsCoveredOn}
-use Rattle.critarea_core.specs.inside.Finding.{IsRadiusOf}
+use Rattle.critarea_core.specs.inside.Finding.{HasFittingNumbers}
 use Rattle.critarea_core.specs.Refusals.{usage, map_limit, map_too_long, of_map_fault, layout_limit, layout_too_long, of_syntax_fault}
 use Rattle.critarea_core.specs.Layout.{Subject, ShapesComeTo, ShortLayoutComesTo, TerminalsComeTo}
 use Rattle.critarea_core.specs.Verdict.{whole_report, IsShortEnough, IsReportOn, ShortMapComesTo, MapTextComesTo, MapComesTo, WordsComeTo, LayoutComesTo, IsVerdict}
@@ -45,6 +46,7 @@ map_texts_agree bytes = stages_agree _ _ (readings_agree (IsShortEnough map_limi
 map_outcomes_agree : (task : Task) (bytes : List ℕ → List ℕ) → IsUnique (MapComesTo task bytes)
 map_outcomes_agree (OneMetal layout layer datatype radius top) bytes one other a b = a ∙ sym b
 map_outcomes_agree (Mapped layout map top) bytes one other a b = map_texts_agree (bytes map) one other a b
+map_outcomes_agree (Generated columns) bytes one other a b = map_texts_agree generated_map one other a b
 
 short_layouts_agree : (layer_map : LayerMap) (wanted : Option (List ℕ)) (layout : List ℕ) → IsUnique (ShortLayoutComesTo layer_map wanted layout)
 short_layouts_agree layer_map wanted layout =
@@ -69,6 +71,7 @@ map_text_cannot_lack bytes = stages_cannot_lack _ _ (reading_cannot_lack (IsShor
 map_cannot_lack : (task : Task) (bytes : List ℕ → List ℕ) → CannotLack (MapComesTo task bytes)
 map_cannot_lack (OneMetal layout layer datatype radius top) bytes none = none (value (one_metal_map layer datatype radius)) refl
 map_cannot_lack (Mapped layout map top) bytes none = map_text_cannot_lack (bytes map) none
+map_cannot_lack (Generated columns) bytes none = map_text_cannot_lack generated_map none
 
 -- the text of a layout that is short enough is the layout
 text_of : (layout text : List ℕ) → Reads (IsShortEnough layout_limit layout) layout_too_long (value text) → text ≡ layout
@@ -119,8 +122,9 @@ reports_agree subject gauges text other a b =
     a.is_text ∙ ap (λ rows. whole_report rows gauges) rows ∙ sym b.is_text
 
 -- the radius that words ask for is one
-pub radius_of : (words : List (List ℕ)) (request : Request) → Ask words request → IsRadiusOf request.task
-radius_of words request asks = go request.task asks.asked.task where
-  go : (task : Task) → IsTask (values_of asks.given.options) asks.given.positions task → IsRadiusOf task
+pub fitting_numbers : (words : List (List ℕ)) (request : Request) → Ask words request → HasFittingNumbers request.task
+fitting_numbers words request asks = go request.task asks.asked.task where
+  go : (task : Task) → IsTask (values_of asks.given.options) asks.given.positions task → HasFittingNumbers task
   go task (of_one_metal at layer datatype radius top) = record { least = radius.number.least; most = let most = radius.number.most in omega (arith, ints) }
   go task (of_map at map top) = tt
+  go task (of_generator none columns) = (columns.number.least, columns.number.most)

@@ -1,8 +1,9 @@
 -- what files contain, and where a request has its map and its layout from
 use Rattle.std.specs.Prelude.{ℕ, List, [], ◌∷◌, ◌++◌, ◌≡◌, Option, Some, None}
 use Rattle.lists.specs.ByteLists.{AreBytes}
+use Rattle.layout_gen.specs.Generated.{generated_layout}
 use Rattle.command_line.specs.declared.task.Task.{Task}
-use Rattle.command_line.specs.declared.task.Task.TheVariants.{OneMetal, Mapped}
+use Rattle.command_line.specs.declared.task.Task.TheVariants.{OneMetal, Mapped, Generated}
 
 -- the bytes of the file of each name, where it is read as a map, and where it is read as a layout: a file of which nothing is
 -- told may change from the one reading to the other
@@ -23,7 +24,7 @@ MayContain told bytes = (name : List ℕ) → MayHave (told name) (bytes name)
 abbrev pub AgreeWith : (List ℕ → Option (List ℕ)) → Contents → Type 0
 AgreeWith told contents = MayContain told contents.map × MayContain told contents.layout
 
--- where a layout comes from: the file of this name, or the request itself makes these bytes, as none does yet
+-- where a layout comes from: the file of this name, or the request itself makes these bytes
 pub data Source : Type 0 where
   file : List ℕ → Source
   made : List ℕ → Source
@@ -32,6 +33,7 @@ pub data Source : Type 0 where
 abbrev pub layout_source : Task → Source
 layout_source (OneMetal layout layer datatype radius top) = file layout
 layout_source (Mapped layout map top) = file layout
+layout_source (Generated columns) = made (generated_layout columns)
 
 -- the bytes from there
 abbrev pub bytes_from : (List ℕ → List ℕ) → Source → List ℕ
@@ -42,11 +44,13 @@ bytes_from contents (made bytes) = bytes
 abbrev pub wanted_top : Task → Option (List ℕ)
 wanted_top (OneMetal layout layer datatype radius top) = top
 wanted_top (Mapped layout map top) = top
+wanted_top (Generated columns) = None
 
--- the name of the map's file, where there is one: for one metal there is none
+-- the name of the map's file, where there is one: for one metal, and for a generated layout, there is none
 abbrev pub map_names : Task → List (List ℕ)
 map_names (OneMetal layout layer datatype radius top) = []
 map_names (Mapped layout map top) = map ∷ []
+map_names (Generated columns) = []
 
 -- the name of the file, where the source is one
 abbrev pub names_in : Source → List (List ℕ)

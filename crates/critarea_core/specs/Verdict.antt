@@ -4,8 +4,9 @@ use Rattle.first_refusal.specs.Outcomes.{Outcome, value, Reads, Retold, Then}
 use Rattle.command_line.specs.Requests.{Ask}
 use Rattle.command_line.specs.declared.request.Request.{Request}
 use Rattle.command_line.specs.declared.task.Task.{Task}
-use Rattle.command_line.specs.declared.task.Task.TheVariants.{OneMetal, Mapped}
+use Rattle.command_line.specs.declared.task.Task.TheVariants.{OneMetal, Mapped, Generated}
 use Rattle.layer_map.specs.Documents as document
+use Rattle.layout_gen.specs.Generated.{generated_map}
 use Rattle.map_model.specs.MapNames.{LayerMap, one_metal_map}
 use Rattle.critical_areas.specs.Rows.{AreRows}
 use Rattle.report.specs.Report.{report_text}
@@ -30,10 +31,12 @@ ShortMapComesTo text = Retold of_map_fault (document.MapComesTo text)
 abbrev pub MapTextComesTo : List ℕ → Outcome LayerMap Refusal → Type 0
 MapTextComesTo bytes = Then (Reads (IsShortEnough map_limit bytes) map_too_long) ShortMapComesTo
 
--- the layer map of a task, where files that are read as maps contain this: that of one metal needs no file
+-- the layer map of a task, where files that are read as maps contain this: that of one metal needs no file, and that of a
+-- generated layout is read from a text that needs none
 abbrev pub MapComesTo : Task → (List ℕ → List ℕ) → Outcome LayerMap Refusal → Type 0
 MapComesTo (OneMetal layout layer datatype radius top) bytes outcome = outcome ≡ value (one_metal_map layer datatype radius)
 MapComesTo (Mapped layout map top) bytes outcome = MapTextComesTo (bytes map) outcome
+MapComesTo (Generated columns) bytes outcome = MapTextComesTo generated_map outcome
 
 -- the words: a request, or they fit no form of the command
 abbrev pub WordsComeTo : List (List ℕ) → Outcome Request Refusal → Type 0

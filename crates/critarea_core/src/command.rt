@@ -1,14 +1,16 @@
-ghost use Rattle.std.specs.Prelude.{◌≡◌, ◌≤◌, ◌+◌, ℕ, List, [], ◌∷◌, length, All, option_copied};
+ghost use Rattle.std.specs.Prelude.{◌≡◌, ◌≤◌, ◌+◌, ℕ, List, [], ◌∷◌, None, length, All, option_copied};
 ghost use Rattle.edge_io.specs.Bytes.{Appends};
 ghost use Rattle.command_line.specs.Requests.{Ask};
 ghost use Rattle.gauges.specs.GaugeViews.{views_of};
 ghost use Rattle.geo_core.specs.Cells.{IsInLayout};
 ghost use Rattle.map_model.specs.MapView.{layer_map_of};
-ghost use Rattle.critarea_core.specs.Contents.{file, layout_source, wanted_top};
-ghost use Rattle.critarea_core.specs.inside.Finding.{AreFew, Finds, FindsInFiles, HasRows, IsFound, IsOneOf, IsRadiusOf, LayoutMayCome};
+ghost use Rattle.critarea_core.specs.Contents.{wanted_top};
+ghost use Rattle.critarea_core.specs.inside.Finding.{AreFew, Finds, FindsInFiles, HasRows, IsFound, IsOneOf, HasFittingNumbers, LayoutMayCome};
 ghost use Rattle.critarea_core.specs.Layout.{ShortLayoutComesTo, Subject, TerminalsComeTo};
 ghost use Rattle.critarea_core.specs.inside.LayoutReaders.{AreLayersFor};
 ghost use Rattle.critarea_core.specs.Refusals.{layout_limit};
+ghost use Rattle.critarea_core.specs.Verdict.{LayoutComesTo};
+ghost use Rattle.layout_gen.specs.Generated.{generated_layout};
 ghost use Rattle.critarea_core.specs.Run.{RunsTo, StartsNamed, change};
 
 use super::layout::read_layout;
@@ -20,6 +22,7 @@ use command_line::{Request, Task, Word, WordsFault, read_words};
 use critical_areas::critical_areas;
 use edge_io::{Files, Sink, read_whole};
 use gauges::Gauge;
+use layout_gen::{MOST_COLUMNS, generate};
 use lists::Name;
 use map_model::{Layers, Map};
 use questions::Row;
@@ -75,13 +78,19 @@ fn rows_of_file<F: Files>(
     rows_of_bytes(rt, alloc, map, top, bytes)
 }
 
-/// The name of the layout's file.
-fn layout_of(task: &Task) -> &Name
-    ensures { layout_source task.now ≡ file result.now }
+/// The rows of the map on the generated layout of so many columns.
+fn rows_of_generated(
+    rt: &(impl Threads + Sync),
+    alloc: Global,
+    map: &Map,
+    columns: u32,
+) -> Result<Vec<Row>, Unreported>
+    requires some { 1 ≤ columns }
+    requires few { columns ≤ MOST_COLUMNS }
+    ensures { Finds (LayoutComesTo (layer_map_of map.now) None (generated_layout columns)) HasRows result }
 {
-    match task {
-        Task::OneMetal { layout, .. } | Task::Mapped { layout, .. } => layout,
-    }
+    let made = generate(alloc, columns)?;
+    rows_of_bytes(rt, alloc, map, None, made.layout)
 }
 
 /// The name of the structure that is wanted as the top, where one is.
@@ -90,6 +99,7 @@ fn top_of(task: &Task) -> Option<&[u8]>
 {
     match task {
         Task::OneMetal { top, .. } | Task::Mapped { top, .. } => top.as_ref().map(Name::as_slice),
+        Task::Generated { .. } => None,
     }
 }
 
@@ -100,7 +110,7 @@ fn rows_of_request<F: Files>(
     request: &Request,
     files: &mut F,
 ) -> Result<Vec<Row>, Unreported>
-    requires { IsRadiusOf request.now.task }
+    requires { HasFittingNumbers request.now.task }
     ensures found { (words : List (List ℕ)) → Ask words request.now →
         IsFound words (F.holds files.old) (change (F.faults files.old) (F.faults files.new)) result }
     ensures started { (words : List (List ℕ)) → Ask words request.now →
@@ -112,8 +122,12 @@ fn rows_of_request<F: Files>(
         Err(why) => return Err(why),
     };
     let top = top_of(&request.task);
-    let layout = layout_of(&request.task).as_slice();
-    rows_of_file(rt, alloc, &map, top, files, layout)
+    match &request.task {
+        Task::OneMetal { layout, .. } | Task::Mapped { layout, .. } => {
+            rows_of_file(rt, alloc, &map, top, files, layout.as_slice())
+        }
+        Task::Generated { columns } => rows_of_generated(rt, alloc, &map, *columns),
+    }
 }
 
 /// The rows that the words ask for, or why there are none.

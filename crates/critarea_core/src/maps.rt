@@ -2,7 +2,7 @@ ghost use Rattle.std.specs.Prelude.{◌≡◌, ◌≤◌, ℕ, List, [], ◌∷�
 ghost use Rattle.edge_io.specs.Bytes.{Appends};
 ghost use Rattle.command_line.specs.declared.task.Task.TheVariants.{Mapped};
 ghost use Rattle.critarea_core.specs.Contents.{map_names};
-ghost use Rattle.critarea_core.specs.inside.Finding.{Finds, FindsInFiles, IsMapOf, IsOneOf, IsRadiusOf, MapMayCome};
+ghost use Rattle.critarea_core.specs.inside.Finding.{Finds, FindsInFiles, IsMapOf, IsOneOf, HasFittingNumbers, MapMayCome};
 ghost use Rattle.critarea_core.specs.Run.{change};
 ghost use Rattle.critarea_core.specs.Verdict.{ShortMapComesTo};
 
@@ -11,6 +11,7 @@ use super::unreported::Unreported;
 use command_line::{Request, Task};
 use edge_io::{Files, read_whole};
 use layer_map::read_map;
+use layout_gen::layer_map;
 use map_model::{Map, one_metal};
 use std::alloc::Global;
 
@@ -38,10 +39,10 @@ fn map_in<F: Files>(alloc: Global, files: &mut F, name: &[u8]) -> Result<Map, Un
     map_of_bytes(alloc, bytes.as_slice())
 }
 
-/// The map that is asked for, or why there is none: that of one metal is made, and any other is in the file that is
-/// named.
+/// The map that is asked for, or why there is none: that of one metal is made, that of a generated layout goes with it, and
+/// any other is in the file that is named.
 pub fn map_for<F: Files>(alloc: Global, request: &Request, files: &mut F) -> Result<Map, Unreported>
-    requires { IsRadiusOf request.now.task }
+    requires { HasFittingNumbers request.now.task }
     ensures found { FindsInFiles (change (F.faults files.old) (F.faults files.new)) (IsOneOf (map_names request.now.task))
         (MapMayCome (F.holds files.old) request.now.task) IsMapOf result }
     ensures starts { Appends (F.starts files.old) (F.starts files.new) (map_names request.now.task) }
@@ -55,5 +56,6 @@ pub fn map_for<F: Files>(alloc: Global, request: &Request, files: &mut F) -> Res
             ..
         } => Ok(one_metal(alloc, *layer, *datatype, *radius)?),
         Task::Mapped { map, .. } => map_in(alloc, files, map.as_slice()),
+        Task::Generated { .. } => map_of_bytes(alloc, layer_map().as_bytes()),
     }
 }

@@ -16,7 +16,7 @@ const ROWS: &[(&str, &str)] = &[
     ),
     (
         "a|--maps|m",
-        "arguments: there is no option '--maps'; options are --map, --top, --layer, --datatype, --radius, --tile and --workers",
+        "arguments: there is no option '--maps'; options are --map, --top, --layer, --datatype, --radius, --tile, --workers and --generate",
     ),
     (
         "a|--map|m|--help",
@@ -65,16 +65,24 @@ const ROWS: &[(&str, &str)] = &[
         "a|--layer|1|--radius|3",
         "arguments: --datatype is missing; --layer, --datatype and --radius go together",
     ),
+    (
+        "a|--generate|3",
+        "arguments: the layout 'a' is named beside --generate, which makes one",
+    ),
+    (
+        "--generate|3|--top|T",
+        "arguments: --top stands beside --generate, which makes its layout and its map itself",
+    ),
     // a name that would move a cursor, and one that is no ASCII
     (
         "a|--\x1B[2J",
-        "arguments: there is no option '--\\x1b[2J'; options are --map, --top, --layer, --datatype, --radius, --tile and --workers",
+        "arguments: there is no option '--\\x1b[2J'; options are --map, --top, --layer, --datatype, --radius, --tile, --workers and --generate",
     ),
 ];
 
 /// The forms of the command.
 const FORMS: &str =
-    "\n  critarea LAYOUT --map MAP\n  critarea LAYOUT --layer L --datatype D --radius R\n";
+    "\n  critarea LAYOUT --map MAP\n  critarea LAYOUT --layer L --datatype D --radius R\n  critarea --generate N\n";
 
 #[test]
 fn words_are_told(rt: HostRuntime) {

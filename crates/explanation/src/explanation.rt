@@ -1,5 +1,7 @@
 //! The explanation of a run, from its words down.
 
+ghost use Rattle.std.specs.Prelude.{◌≤◌};
+
 use crate::inputs::{Input, LONGEST_LAYOUT, read_again};
 use crate::layouts::{Layout, tell_layout};
 use crate::maps::tell_map_fault;
@@ -11,6 +13,7 @@ use crate::words::find_misfit;
 use command_line::{Request, Task, Word, WordsFault, read_words};
 use edge_io::Files;
 use layer_map::read_map;
+use layout_gen::{MOST_COLUMNS, generate, layer_map};
 use lists::{Name, NoMemory};
 use map_model::{Map, one_metal};
 use std::alloc::Global;
@@ -29,7 +32,7 @@ fn tell_words(alloc: Global, told: &mut Telling, words: &[Word]) -> Result<(), N
     told.refuse(2, 2, 0);
     tell_misfit(&mut told.text, find_misfit(alloc, words)?);
     told.text.say(
-        "\n  critarea LAYOUT --map MAP\n  critarea LAYOUT --layer L --datatype D --radius R\n",
+        "\n  critarea LAYOUT --map MAP\n  critarea LAYOUT --layer L --datatype D --radius R\n  critarea --generate N\n",
     );
     Ok(())
 }
@@ -56,6 +59,7 @@ fn map_for<F: Files, P: Paths>(
                 None => Ok(None),
             }
         }
+        Task::Generated { .. } => map_of(alloc, told, b"", layer_map().as_bytes()),
     }
 }
 
@@ -75,17 +79,8 @@ fn map_of(
     }
 }
 
-/// The names of the layout's file and of the structure that is wanted, where one is.
-fn layout_of(task: &Task) -> (&[u8], Option<&[u8]>) {
-    match task {
-        Task::OneMetal { layout, top, .. } | Task::Mapped { layout, top, .. } => {
-            (layout.as_slice(), top.as_ref().map(Name::as_slice))
-        }
-    }
-}
-
-/// Tells of the files that are asked for.
-fn tell_files<F: Files, P: Paths>(
+/// Tells of the layout that is asked for.
+fn tell_request<F: Files, P: Paths>(
     alloc: Global,
     told: &mut Telling,
     request: &Request,
@@ -95,7 +90,44 @@ fn tell_files<F: Files, P: Paths>(
     let Some(map) = map_for(alloc, told, request, files, paths)? else {
         return Ok(());
     };
-    let (name, top) = layout_of(&request.task);
+    match &request.task {
+        Task::OneMetal { layout, top, .. } | Task::Mapped { layout, top, .. } => {
+            let top = top.as_ref().map(Name::as_slice);
+            tell_file(alloc, told, &map, layout.as_slice(), top, files, paths)
+        }
+        Task::Generated { columns } => tell_generated(alloc, told, &map, *columns),
+    }
+}
+
+/// Tells of the generated layout of so many columns.
+fn tell_generated(
+    alloc: Global,
+    told: &mut Telling,
+    map: &Map,
+    columns: u32,
+) -> Result<(), NoMemory>
+    requires some { 1 ≤ columns }
+    requires few { columns ≤ MOST_COLUMNS }
+{
+    let made = generate(alloc, columns)?;
+    let layout = Layout {
+        name: b"",
+        bytes: made.layout.as_slice(),
+        top: None,
+    };
+    tell_layout(alloc, told, map, &layout)
+}
+
+/// Tells of the layout in the file of this name, of which this top is wanted, or any.
+fn tell_file<F: Files, P: Paths>(
+    alloc: Global,
+    told: &mut Telling,
+    map: &Map,
+    name: &[u8],
+    top: Option<&[u8]>,
+    files: &mut F,
+    paths: &P,
+) -> Result<(), NoMemory> {
     let Some(bytes) = read_again(alloc, told, files, paths, Input::Layout, name)? else {
         return Ok(());
     };
@@ -107,7 +139,7 @@ fn tell_files<F: Files, P: Paths>(
         bytes: bytes.as_slice(),
         top,
     };
-    tell_layout(alloc, told, &map, &layout)
+    tell_layout(alloc, told, map, &layout)
 }
 
 /// What is to be said of the run of these words on these files.
@@ -122,7 +154,7 @@ pub fn explain<F: Files, P: Paths>(
         text: Text::new(alloc),
     };
     match read_words(alloc, words) {
-        Ok(request) => tell_files(alloc, &mut told, &request, files, paths)?,
+        Ok(request) => tell_request(alloc, &mut told, &request, files, paths)?,
         Err(WordsFault::Usage) => tell_words(alloc, &mut told, words)?,
         Err(WordsFault::Memory) => return Err(NoMemory),
     }

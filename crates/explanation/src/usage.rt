@@ -59,7 +59,9 @@ fn tell_unknown(text: &mut Text, word: &str) {
             "--help and --version are answered alone, and --explain in front of all other words",
         );
     } else {
-        text.say("options are --map, --top, --layer, --datatype, --radius, --tile and --workers");
+        text.say(
+            "options are --map, --top, --layer, --datatype, --radius, --tile, --workers and --generate",
+        );
     }
 }
 
@@ -101,6 +103,16 @@ pub fn tell_misfit(text: &mut Text, misfit: Misfit<'_>) {
         Misfit::TwoLayouts(one, other) => tell_two_layouts(text, one, other),
         Misfit::NoLayout => text.say("arguments: no layout is named"),
         Misfit::NoTask => text.say("arguments: it is not said which layers are metals"),
+        Misfit::LayoutBesideGenerated(layout) => {
+            text.say("arguments: the layout ");
+            text.name(layout.as_bytes());
+            text.say(" is named beside --generate, which makes one");
+        }
+        Misfit::BesideGenerated(name) => {
+            text.say("arguments: --");
+            text.say(name);
+            text.say(" stands beside --generate, which makes its layout and its map itself");
+        }
         Misfit::BesideMap(name) => {
             text.say("arguments: --");
             text.say(name);

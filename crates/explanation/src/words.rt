@@ -14,7 +14,7 @@ pub struct OptionRule {
 }
 
 /// All options.
-const OPTIONS: [OptionRule; 7] = [
+const OPTIONS: [OptionRule; 8] = [
     OptionRule {
         name: "map",
         least: 0,
@@ -50,7 +50,15 @@ const OPTIONS: [OptionRule; 7] = [
         least: 1,
         most: 64,
     },
+    OptionRule {
+        name: "generate",
+        least: 1,
+        most: 500,
+    },
 ];
+
+/// The options that do not stand beside a generated layout.
+const OF_FILES: [&str; 5] = ["map", "top", "layer", "datatype", "radius"];
 
 /// The options of one metal.
 const OF_ONE_METAL: [&str; 3] = ["layer", "datatype", "radius"];
@@ -82,6 +90,10 @@ pub enum Misfit<'a> {
     NoLayout,
     /// Neither a map nor an option of one metal stands there.
     NoTask,
+    /// A layout is named beside a generated one.
+    LayoutBesideGenerated(&'a str),
+    /// An option of files stands beside a generated layout.
+    BesideGenerated(&'static str),
     /// An option of one metal stands beside a map.
     BesideMap(&'static str),
     /// An option of one metal stands there, and this one does not.
@@ -228,6 +240,19 @@ fn form_misfit<'a>(options: &[(OptionRule, &'a str)]) -> Option<Misfit<'a>> {
     }
 }
 
+/// Why what stands beside a generated layout does not fit, where it does not.
+fn generated_misfit<'a>(given: &Given<'a>) -> Option<Misfit<'a>> {
+    if let Some(layout) = given.positions.first() {
+        return Some(Misfit::LayoutBesideGenerated(layout));
+    }
+    for name in OF_FILES {
+        if has_option(given.options.as_slice(), name) {
+            return Some(Misfit::BesideGenerated(name));
+        }
+    }
+    None
+}
+
 /// Why what the words give fits no form.
 fn misfit_of<'a>(given: &Given<'a>) -> Misfit<'a> {
     if let Some(rule) = given.pending {
@@ -235,6 +260,12 @@ fn misfit_of<'a>(given: &Given<'a>) -> Misfit<'a> {
     }
     if let Some(misfit) = option_misfit(given.options.as_slice()) {
         return misfit;
+    }
+    if has_option(given.options.as_slice(), "generate") {
+        return match generated_misfit(given) {
+            Some(misfit) => misfit,
+            None => Misfit::Other,
+        };
     }
     if let Some(misfit) = layout_misfit(given.positions.as_slice()) {
         return misfit;

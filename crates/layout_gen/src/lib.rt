@@ -9,4 +9,4 @@ mod maps;
 
 pub use layouts::{Generated, generate};
 pub use library::MOST_COLUMNS;
-pub use maps::LAYER_MAP;
+pub use maps::{LAYER_MAP, layer_map};

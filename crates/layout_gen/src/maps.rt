@@ -1,3 +1,6 @@
+ghost use Rattle.std.specs.Prelude.{◌≡◌, length};
+ghost use Rattle.layout_gen.specs.Generated.{generated_map};
+
 /// The text of the layer map that goes with each generated layout: two metals, a cut between them, two radii, and two
 /// terminals on the lower wire of the cell at the origin.
 pub const LAYER_MAP: &str = "\
@@ -24,3 +27,11 @@ metal = \"m1\"
 x = 11
 y = 3
 ";
+
+/// The text of the layer map that goes with each generated layout.
+pub fn layer_map() -> &'static str
+    ensures text { result.now ≡ generated_map }
+    ensures size { length result.now ≡ 263 }
+{
+    LAYER_MAP
+}

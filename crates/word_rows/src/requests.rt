@@ -56,6 +56,19 @@ const METAL_ROWS: &[Row] = &[
     ),
 ];
 
+/// Words of the form of a generated layout.
+const GENERATED_ROWS: &[Row] = &[
+    ("--generate|1", Asked::Generated(1), 65_536, 4),
+    ("--generate=500", Asked::Generated(500), 65_536, 4),
+    (
+        "--tile|7|--generate|0000000020|--workers=2",
+        Asked::Generated(20),
+        7,
+        2,
+    ),
+    ("--generate|3|--", Asked::Generated(3), 65_536, 4),
+];
+
 /// Words of the form of a layer map.
 const MAP_ROWS: &[Row] = &[
     ("a|--map|m", Asked::Map("a", "m"), 65_536, 4),
@@ -153,6 +166,13 @@ const ORDERS: &[&str] = &[
 #[test]
 fn one_metal_is_asked_for(rt: HostRuntime) {
     for (line, asked, edge, workers) in METAL_ROWS {
+        assert!(rt; ask_for(rt.alloc(), line, asked, *edge, *workers), "{line}");
+    }
+}
+
+#[test]
+fn a_generated_layout_is_asked_for(rt: HostRuntime) {
+    for (line, asked, edge, workers) in GENERATED_ROWS {
         assert!(rt; ask_for(rt.alloc(), line, asked, *edge, *workers), "{line}");
     }
 }

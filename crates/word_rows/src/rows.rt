@@ -8,6 +8,8 @@ pub enum Asked {
     Metal(&'static str, (u16, u16, u32)),
     /// A map: the layout and the map.
     Map(&'static str, &'static str),
+    /// A generated layout of so many columns.
+    Generated(u32),
 }
 
 /// A line of words, and what they ask for: the task, the tile and the workers. They want no structure.
@@ -44,17 +46,25 @@ fn is_metal(task: &Task, name: &str, numbers: (u16, u16, u32)) -> bool {
             radius,
             ..
         } => layout.as_slice() == name.as_bytes() && (*layer, *datatype, *radius) == numbers,
-        Task::Mapped { .. } => false,
+        Task::Mapped { .. } | Task::Generated { .. } => false,
     }
 }
 
 /// Whether the task is that of this layout and this map.
 fn is_mapped(task: &Task, name: &str, map_name: &str) -> bool {
     match task {
-        Task::OneMetal { .. } => false,
+        Task::OneMetal { .. } | Task::Generated { .. } => false,
         Task::Mapped { layout, map, .. } => {
             layout.as_slice() == name.as_bytes() && map.as_slice() == map_name.as_bytes()
         }
+    }
+}
+
+/// Whether the task is a generated layout of so many columns.
+fn is_generated(task: &Task, count: u32) -> bool {
+    match task {
+        Task::OneMetal { .. } | Task::Mapped { .. } => false,
+        Task::Generated { columns } => *columns == count,
     }
 }
 
@@ -63,6 +73,7 @@ fn is_task(task: &Task, asked: &Asked) -> bool {
     match asked {
         Asked::Metal(layout, numbers) => is_metal(task, layout, *numbers),
         Asked::Map(layout, map) => is_mapped(task, layout, map),
+        Asked::Generated(columns) => is_generated(task, *columns),
     }
 }
 

@@ -10,6 +10,8 @@ mod failures;
 #[cfg(test)]
 mod gauged;
 #[cfg(test)]
+mod generated;
+#[cfg(test)]
 mod grammar;
 #[cfg(test)]
 mod large;

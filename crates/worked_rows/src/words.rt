@@ -20,7 +20,10 @@ const OTHER_WORDS: &[&str] = &[
     "a --layer 65536 --datatype 0 --radius 3",
     "a --layer 1 --datatype 0 --radius 3 --top",
     "a --layer 1 --datatype 0 --radius 3 --top T --top T",
-    "--generate 1",
+    "--generate 0",
+    "--generate 501",
+    "a --generate 1",
+    "--generate 1 --map m",
 ];
 
 #[test]

@@ -6,7 +6,7 @@ use Rattle.first_refusal.specs.Outcomes.{Outcome, value, refused}
 use Rattle.edge_io.specs.declared.whole.ReadError.{ReadError}
 use Rattle.edge_io.specs.declared.whole.ReadError.TheVariants as read
 use Rattle.command_line.specs.declared.task.Task.{Task}
-use Rattle.command_line.specs.declared.task.Task.TheVariants.{OneMetal, Mapped}
+use Rattle.command_line.specs.declared.task.Task.TheVariants.{OneMetal, Mapped, Generated}
 use Rattle.geo_core.specs.Plane.{IsRadius}
 use Rattle.map_model.specs.MapNames.{LayerMap, layer_map_of}
 use Rattle.map_model.specs.declared.map.Map.{Map}
@@ -69,10 +69,11 @@ pub record MapMayCome (told : List ℕ → Option (List ℕ)) (task : Task) (out
 abbrev pub IsOneOf : List (List ℕ) → Type 0
 IsOneOf names = (name : List ℕ) × Contains names name
 
--- the radius of the task is one of defects, where it has one
-abbrev pub IsRadiusOf : Task → Type 0
-IsRadiusOf (OneMetal layout layer datatype radius top) = IsRadius radius
-IsRadiusOf (Mapped layout map top) = Unit {0}
+-- the radius of the task is one of defects, where it has one, and the columns are as many as may be generated
+abbrev pub HasFittingNumbers : Task → Type 0
+HasFittingNumbers (OneMetal layout layer datatype radius top) = IsRadius radius
+HasFittingNumbers (Mapped layout map top) = Unit {0}
+HasFittingNumbers (Generated columns) = (1 ≤ columns) × (columns ≤ 500)
 
 -- ---- layouts
 

@@ -2,11 +2,11 @@ use Rattle.std.proofs.Common.{refl, ap, Err}
 use Rattle.first_refusal.specs.Answers.{no_memory, refuses}
 use Rattle.critarea_core.specs.inside.Finding.{files_serve, gives_refusal}
 use Rattle.critarea_core.proofs.RunLaws.{rows_are_few, starts_none, words_refused}
-use Rattle.critarea_core.proofs.VerdictLaws.{radius_of}
+use Rattle.critarea_core.proofs.VerdictLaws.{fitting_numbers}
 use Rattle.critarea_core.proofs.command.find.Goals as goal
 
 pub rows_of_request-requires : goal.rows_of_request-requires
-rows_of_request-requires g c = (c.type_bounds.sync-typeof-rt, radius_of c.args.words.now c.in-Ok.request c.in-Ok.ensures.request)
+rows_of_request-requires g c = (c.type_bounds.sync-typeof-rt, fitting_numbers c.args.words.now c.in-Ok.request c.in-Ok.ensures.request)
 
 pub returns-in-Ok-clause-few : goal.returns-in-Ok-clause-few
 returns-in-Ok-clause-few g c =
