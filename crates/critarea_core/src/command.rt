@@ -152,8 +152,9 @@ fn find<F: Files>(
 /// Does what the words ask for, and answers the exit status.
 ///
 /// The words are the arguments of the program, in any order: a layout's file, and either the options `layer`, `datatype`
-/// and `radius` or the option `map` with the file of a layer map. Both may have `top`, the name of the structure that is
-/// analysed with all that it places, in place of the one that no reference names, and `tile` and `workers`, which change
+/// and `radius` or the option `map` with the file of a layer map, or else `generate` with a number of columns, which asks for a
+/// layout that is made here and needs no file. The first two may have `top`, the name of the structure that is analysed with all
+/// that it places, in place of the one that no reference names, and all three may have `tile` and `workers`, which change
 /// nothing yet. `files` gives the map and the layout, `out` gets the report, and `err` the line of a refusal. The gauges are
 /// told the rows of the report, and print at its end, in their order, for all rows that they have seen. A run drops none of
 /// them, and a run that is refused tells them nothing.
