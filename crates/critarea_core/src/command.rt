@@ -1,46 +1,32 @@
-ghost use Rattle.std.specs.Prelude.{◌≡◌, ◌≤◌, ◌+◌, ℕ, List, [], ◌∷◌, None, length, All, option_copied};
+ghost use Rattle.std.specs.Prelude.{◌≡◌, ◌≤◌, ℕ, List, [], ◌∷◌, None, length, option_copied};
 ghost use Rattle.edge_io.specs.Bytes.{Appends};
 ghost use Rattle.command_line.specs.Requests.{Ask};
 ghost use Rattle.gauges.specs.GaugeViews.{views_of};
-ghost use Rattle.geo_core.specs.Cells.{IsInLayout};
 ghost use Rattle.map_model.specs.MapView.{layer_map_of};
 ghost use Rattle.critarea_core.specs.Contents.{wanted_top};
 ghost use Rattle.critarea_core.specs.inside.Finding.{AreFew, Finds, FindsInFiles, HasRows, IsFound, IsOneOf, HasFittingNumbers, LayoutMayCome};
-ghost use Rattle.critarea_core.specs.Layout.{ShortLayoutComesTo, Subject, TerminalsComeTo};
-ghost use Rattle.critarea_core.specs.inside.LayoutReaders.{AreLayersFor};
 ghost use Rattle.critarea_core.specs.Refusals.{layout_limit};
 ghost use Rattle.critarea_core.specs.Verdict.{LayoutComesTo};
 ghost use Rattle.layout_gen.specs.Generated.{generated_layout};
 ghost use Rattle.critarea_core.specs.Run.{RunsTo, StartsNamed, change};
 
-use super::layout::read_layout;
+use super::analysis::rows_of_bytes;
 use super::maps::map_for;
 use super::printing::print;
 use super::refusal::{LAYOUT_LIMIT, LAYOUT_TOO_LONG, Refusal, USAGE};
 use super::unreported::Unreported;
 use command_line::{Request, Task, Word, WordsFault, read_words};
-use critical_areas::critical_areas;
 use edge_io::{Files, Sink, read_whole};
 use gauges::Gauge;
 use layout_gen::{MOST_COLUMNS, generate};
 use lists::Name;
-use map_model::{Layers, Map};
+use map_model::Map;
 use questions::Row;
 use std::alloc::Global;
 use std::thread::Threads;
 
-/// The rows on the subject whose layers these are, or the refusal of the first terminal that is not on its metal.
-fn rows_on(alloc: Global, map: &Map, layers: &Layers) -> Result<Vec<Row>, Unreported>
-    requires one_each { length layers.now.lists.items ≡ length map.now.metals + length map.now.cuts }
-    requires within { All (All IsInLayout) layers.now.lists.items }
-    ensures { (subject : Subject) → AreLayersFor (layer_map_of map.now) subject layers.now →
-        Finds (TerminalsComeTo subject) HasRows result }
-{
-    Ok(critical_areas(alloc, map, layers)?)
-}
-
 /// The rows of the map on the layout with these bytes, of which this top is wanted, or any.
-fn rows_of_bytes(
+fn rows_of_layout(
     rt: &(impl Threads + Sync),
     alloc: Global,
     map: &Map,
@@ -48,10 +34,9 @@ fn rows_of_bytes(
     bytes: Vec<u8>,
 ) -> Result<Vec<Row>, Unreported>
     requires { length bytes.items ≤ layout_limit }
-    ensures { Finds (ShortLayoutComesTo (layer_map_of map.now) (option_copied top.entry) bytes.items) HasRows result }
+    ensures { Finds (LayoutComesTo (layer_map_of map.now) (option_copied top.entry) bytes.items) HasRows result }
 {
-    let layers = read_layout(rt, alloc, map, top, bytes)?;
-    rows_on(alloc, map, &layers)
+    Ok(rows_of_bytes(rt, alloc, map, top, bytes)?)
 }
 
 /// The rows of the map on the layout in the file of this name, of which this top is wanted, or any; or why there are none.
@@ -75,7 +60,7 @@ fn rows_of_file<F: Files>(
             return Err(Unreported::of_unread(error, too_long));
         }
     };
-    rows_of_bytes(rt, alloc, map, top, bytes)
+    rows_of_layout(rt, alloc, map, top, bytes)
 }
 
 /// The rows of the map on the generated layout of so many columns.
@@ -90,7 +75,7 @@ fn rows_of_generated(
     ensures { Finds (LayoutComesTo (layer_map_of map.now) None (generated_layout columns)) HasRows result }
 {
     let made = generate(alloc, columns)?;
-    rows_of_bytes(rt, alloc, map, None, made.layout)
+    rows_of_layout(rt, alloc, map, None, made.layout)
 }
 
 /// The name of the structure that is wanted as the top, where one is.
@@ -170,9 +155,9 @@ fn find<F: Files>(
 /// | out of memory | 6 | | |
 ///
 /// Where no memory is left once there are rows, as where a gauge finds no memory, each gauge may have been told the first few
-/// of them alone, or none. Nothing goes out before the report is complete, so a refused map or layout leaves `out` as it was.
-/// Where what the files tell of the map is refused, the layout's file is not started. A map's refusal has number 39 at 1048576 where the map
-/// has more bytes than that, and one of 40 to 47 at a path of its document. A layout's refusal has number 9 at 268435456
+/// of them alone, perhaps none or all. Nothing goes out before the report is complete, so a refused map or layout leaves `out` as it was.
+/// Where what the files tell of the map is refused, the layout's file is not started. A map's refusal has number 39 at 1048576
+/// where the map has more bytes than that, and one of 40 to 47 at a path of its document. A layout's refusal has number 9 at 268435456
 /// where the layout has more bytes than that, one of 10 to 23 at an offset where its bytes are no library, one of 24 to 30
 /// where its shapes are not placed, then one of 30 to 36 at the offset of the first placed shape, in the order of the
 /// routes, that has no cover, and at last 50 at the number of the first terminal of the map, counted from 0, whose cell the
