@@ -1,0 +1,4 @@
+pub mod AlongLaws
+pub mod TileLaws
+pub mod TallyingLaws
+pub mod DoublingLaws

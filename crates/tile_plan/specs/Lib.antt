@@ -1,0 +1,5 @@
+-- what contracts of other crates cite
+pub mod TilesAlong
+pub mod Tiles
+pub mod TileTallies
+pub mod Kept
