@@ -52,13 +52,15 @@ fn layers_of_library(
 }
 
 /// The rows on the subject whose layers these are, or the first terminal that is not on its metal.
-fn rows_on(alloc: Global, map: &Map, layers: &Layers) -> Result<Vec<Row>, LayoutFault>
+fn rows_on(alloc: Global, map: &Map, layers: &Layers, edge: u32) -> Result<Vec<Row>, LayoutFault>
+    requires some { 1 ≤ edge }
+    requires short { edge ≤ 1000000000 }
     requires one_each { length layers.now.lists.items ≡ length map.now.metals + length map.now.cuts }
     requires within { All (All IsInLayout) layers.now.lists.items }
     ensures { (subject : Subject) → AreLayersFor (layer_map_of map.now) subject layers.now →
         Analyses (TerminalsComeTo subject) HasRows result }
 {
-    Ok(critical_areas(alloc, map, layers)?)
+    Ok(critical_areas(alloc, map, layers, edge)?)
 }
 
 /// The rows of the map on a library, of which this top is wanted, or any.
@@ -68,13 +70,16 @@ fn rows_of_library(
     map: &Map,
     top: Option<&[u8]>,
     library: Library,
+    edge: u32,
 ) -> Result<Vec<Row>, LayoutFault>
+    requires some { 1 ≤ edge }
+    requires short { edge ≤ 1000000000 }
     requires differ { AreDifferent (names_of library.structures) }
     requires pointed { AreWellPointed library.structures }
     ensures { Analyses (Then (LibraryComesTo (layer_map_of map.now) (option_copied top.entry) library) TerminalsComeTo) HasRows result }
 {
     let layers = layers_of_library(rt, alloc, map, top, library)?;
-    rows_on(alloc, map, &layers)
+    rows_on(alloc, map, &layers, edge)
 }
 
 /// The rows of the map on the layout with these bytes, of which this top is wanted, or any. The bytes are let go once the
@@ -85,33 +90,41 @@ pub fn rows_of_bytes(
     map: &Map,
     top: Option<&[u8]>,
     bytes: Vec<u8>,
+    edge: u32,
 ) -> Result<Vec<Row>, LayoutFault>
-    requires { length bytes.items ≤ layout_limit }
+    requires some { 1 ≤ edge }
+    requires short { edge ≤ 1000000000 }
+    requires within { length bytes.items ≤ layout_limit }
     ensures { Analyses (ShortLayoutComesTo (layer_map_of map.now) (option_copied top.entry) bytes.items) HasRows result }
 {
     let library = read_library(alloc, bytes.as_slice())?;
     drop(bytes);
-    rows_of_library(rt, alloc, map, top, library)
+    rows_of_library(rt, alloc, map, top, library, edge)
 }
 
 /// The rows of a report of the map on a layout: shorts of each metal, then opens of each, and then via blocks of each cut,
 /// for each size in order.
 ///
 /// The layout is at most 268,435,456 bytes of a GDSII stream. `top` is the name of the structure that is analysed with all
-/// that it places; where it is left out it is the one that no reference names. The error is the layout's first fault: of its
-/// bytes, then of the placement of its shapes, then of the cover of each placed shape, and at last the first terminal of the
-/// map whose cell its metal does not cover; or that no memory is left.
+/// that it places; where it is left out it is the one that no reference names. `edge` is that of the tiles over which areas
+/// are counted, 1 to 1,000,000,000 database units, and changes no row.
+///
+/// The error is the layout's first fault: of its bytes, then of the placement of its shapes, then of the cover of each placed
+/// shape, and at last the first terminal of the map whose cell its metal does not cover; or that no memory is left.
 pub fn analyse(
     rt: &(impl Threads + Sync),
     alloc: Global,
     map: &Map,
     layout: &[u8],
     top: Option<&[u8]>,
+    edge: u32,
 ) -> Result<Vec<Row>, LayoutFault>
-    requires { length layout.now ≤ layout_limit }
+    requires some { 1 ≤ edge }
+    requires short { edge ≤ 1000000000 }
+    requires within { length layout.now ≤ layout_limit }
     ensures rows { Answers LayoutFault.Memory (AnalysisComesTo (layer_map_of map.now) (option_copied top.entry) layout.now) result }
     ensures few { IfOk result (λ rows. length rows.items ≤ MOST_ROWS) }
 {
     let library = read_library(alloc, layout)?;
-    rows_of_library(rt, alloc, map, top, library)
+    rows_of_library(rt, alloc, map, top, library, edge)
 }

@@ -32,11 +32,14 @@ fn rows_of_layout(
     map: &Map,
     top: Option<&[u8]>,
     bytes: Vec<u8>,
+    edge: u32,
 ) -> Result<Vec<Row>, Unreported>
-    requires { length bytes.items ≤ layout_limit }
+    requires some { 1 ≤ edge }
+    requires short { edge ≤ 1000000000 }
+    requires within { length bytes.items ≤ layout_limit }
     ensures { Finds (LayoutComesTo (layer_map_of map.now) (option_copied top.entry) bytes.items) HasRows result }
 {
-    Ok(rows_of_bytes(rt, alloc, map, top, bytes)?)
+    Ok(rows_of_bytes(rt, alloc, map, top, bytes, edge)?)
 }
 
 /// The rows of the map on the layout in the file of this name, of which this top is wanted, or any; or why there are none.
@@ -47,7 +50,10 @@ fn rows_of_file<F: Files>(
     top: Option<&[u8]>,
     files: &mut F,
     name: &[u8],
+    edge: u32,
 ) -> Result<Vec<Row>, Unreported>
+    requires some { 1 ≤ edge }
+    requires short { edge ≤ 1000000000 }
     ensures found { FindsInFiles (change (F.faults files.old) (F.faults files.new)) (IsOneOf (name.now ∷ []))
         (LayoutMayCome (F.holds files.old) (layer_map_of map.now) (option_copied top.entry) name.now) HasRows result }
     ensures starts { Appends (F.starts files.old) (F.starts files.new) (name.now ∷ []) }
@@ -60,7 +66,7 @@ fn rows_of_file<F: Files>(
             return Err(Unreported::of_unread(error, too_long));
         }
     };
-    rows_of_layout(rt, alloc, map, top, bytes)
+    rows_of_layout(rt, alloc, map, top, bytes, edge)
 }
 
 /// The rows of the map on the generated layout of so many columns.
@@ -69,13 +75,16 @@ fn rows_of_generated(
     alloc: Global,
     map: &Map,
     columns: u32,
+    edge: u32,
 ) -> Result<Vec<Row>, Unreported>
-    requires some { 1 ≤ columns }
-    requires few { columns ≤ MOST_COLUMNS }
+    requires some_columns { 1 ≤ columns }
+    requires few_columns { columns ≤ MOST_COLUMNS }
+    requires some { 1 ≤ edge }
+    requires short { edge ≤ 1000000000 }
     ensures { Finds (LayoutComesTo (layer_map_of map.now) None (generated_layout columns)) HasRows result }
 {
     let made = generate(alloc, columns)?;
-    rows_of_layout(rt, alloc, map, None, made.layout)
+    rows_of_layout(rt, alloc, map, None, made.layout, edge)
 }
 
 /// The name of the structure that is wanted as the top, where one is.
@@ -109,9 +118,9 @@ fn rows_of_request<F: Files>(
     let top = top_of(&request.task);
     match &request.task {
         Task::OneMetal { layout, .. } | Task::Mapped { layout, .. } => {
-            rows_of_file(rt, alloc, &map, top, files, layout.as_slice())
+            rows_of_file(rt, alloc, &map, top, files, layout.as_slice(), request.edge)
         }
-        Task::Generated { columns } => rows_of_generated(rt, alloc, &map, *columns),
+        Task::Generated { columns } => rows_of_generated(rt, alloc, &map, *columns, request.edge),
     }
 }
 
@@ -139,8 +148,8 @@ fn find<F: Files>(
 /// The words are the arguments of the program, in any order: a layout's file, and either the options `layer`, `datatype`
 /// and `radius` or the option `map` with the file of a layer map, or else `generate` with a number of columns, which asks for a
 /// layout that is made here and needs no file. The first two may have `top`, the name of the structure that is analysed with all
-/// that it places, in place of the one that no reference names, and all three may have `tile` and `workers`, which change
-/// nothing yet. `files` gives the map and the layout, `out` gets the report, and `err` the line of a refusal. The gauges are
+/// that it places, in place of the one that no reference names, and all three may have `tile`, the edge of the tiles over which areas are
+/// counted, and `workers`, which is used for nothing yet; neither changes what is printed. `files` gives the map and the layout, `out` gets the report, and `err` the line of a refusal. The gauges are
 /// told the rows of the report, and print at its end, in their order, for all rows that they have seen. A run drops none of
 /// them, and a run that is refused tells them nothing.
 ///

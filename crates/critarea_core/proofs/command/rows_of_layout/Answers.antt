@@ -19,7 +19,7 @@ returns-in_err-rows_of_bytes g c =
     let bytes = c.args.bytes.items in
     let why = c.in_err-rows_of_bytes.field-0.0 in
     not_read _ (λ refusal. Refused refusal) (LayoutComesTo layer_map wanted bytes) HasRows fault.Memory of_layout_fault why c.from_residual.result c.from_residual.ensures.1
-    (λ known. short_layout layer_map wanted bytes (refused (of_layout_fault why)) c.requires
+    (λ known. short_layout layer_map wanted bytes (refused (of_layout_fault why)) c.requires.within
     (retold (fault_found (ShortLayoutComesTo layer_map wanted bytes) HasRows why c.in_err-rows_of_bytes.ensures known)))
 
 pub returns : goal.returns
@@ -28,4 +28,4 @@ returns g c =
     let wanted = option_copied c.args.top in
     let bytes = c.args.bytes.items in
     let found = found_for _ _ _ _ c.in_ok-rows_of_bytes.field-0 c.in_ok-rows_of_bytes.ensures in
-    gives (gives_thing {v = found.0} (short_layout layer_map wanted bytes (value found.0) c.requires (kept found.1)) found.2)
+    gives (gives_thing {v = found.0} (short_layout layer_map wanted bytes (value found.0) c.requires.within (kept found.1)) found.2)
