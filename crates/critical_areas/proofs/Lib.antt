@@ -9,3 +9,4 @@ pub mod CutLaws
 pub mod OpenLaws
 pub mod NearLaws
 pub mod SharingLaws
+pub mod CountingLaws

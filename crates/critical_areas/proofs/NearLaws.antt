@@ -1,5 +1,5 @@
 -- of what tells what a defect does at a cell, the list that matters is what is near
-use Rattle.std.proofs.Common.{ℕ, ◌+◌, ◌/◌, ◌≤◌, ◌≡◌, List, ◌↔◌, Contains, arith, refl, subst}
+use Rattle.std.proofs.Common.{ℕ, ◌+◌, List, ◌↔◌, Contains, arith}
 use Rattle.lists.proofs.Words.{ints}
 use Rattle.geo_core.specs.Plane.{Has, IsRadius}
 use Rattle.geo_core.specs.declared.plane.Cell.{Cell}

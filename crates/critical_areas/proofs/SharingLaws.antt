@@ -1,10 +1,11 @@
 -- what is shared stands for the parts: what is counted for a question over all of the window are the cells of its fault
-use Rattle.std.proofs.Common.{ℕ, zero, suc, ◌+◌, ◌-◌, ◌/◌, ◌<◌, ◌≤◌, ◌≡◌, ◌≢◌, refl, sym, ap, ◌∙◌, subst, List, [], ◌∷◌, length, map, get_or, slice_index_or, ◌↔◌, Contains, All, arith, pos, ◌≤ℤ◌}
-use Rattle.lists.proofs.Words.{AllZip, AllZip-long, Contains-permutation, IsPermutation, IsPermutation-sym}
+use Rattle.std.proofs.Common.{ℕ, zero, suc, ◌+◌, ◌-◌, ◌/◌, ◌<◌, ◌≡◌, refl, sym, ap, ◌∙◌, subst, List, [], ◌∷◌, length, map, get_or, slice_index_or, ◌↔◌, Contains, All, arith}
+use Rattle.std.proofs.Math.ListN.{get_or-map}
+use Rattle.lists.proofs.Words.{AllZip, AllZip-long, length-map, Contains-permutation, IsPermutation, IsPermutation-sym}
 use Rattle.lists.proofs.Pairing.{AllZip-weaker}
 use Rattle.std.proofs.lemmas.List.Elements.{recursion_from_All}
 use Rattle.std.proofs.lemmas.List.Sorted.{IsPermutation-refl}
-use Rattle.geo_core.specs.Plane.{Has, IsCoveredIn, IsInUnion, IsRadius}
+use Rattle.geo_core.specs.Plane.{IsCoveredIn, IsInUnion}
 use Rattle.geo_core.specs.declared.plane.Cell.{Cell}
 use Rattle.geo_core.specs.declared.plane.Labelled.{Labelled}
 use Rattle.geo_core.specs.declared.plane.Rect.{Rect}
@@ -18,15 +19,14 @@ use Rattle.questions.specs.declared.kind.Kind.{Kind}
 use Rattle.questions.specs.declared.kind.Kind.TheVariants.{Short, Open, Via}
 use Rattle.questions.specs.declared.question.Question.{Question}
 use Rattle.short_area.specs.Labels.{TouchesTwoLabels}
-use Rattle.severing.specs.Severing.{IsSomeOpen}
 use Rattle.via_clusters.specs.Blocks.{CoversSomeBox}
 use Rattle.critical_areas.specs.AreaParts.{ArePartsOf}
 use Rattle.critical_areas.specs.FaultKinds.{IsFault}
 use Rattle.critical_areas.specs.Rows.{AreAmounts, IsAmount}
 use Rattle.critical_areas.specs.inside.Sharing.{AreOpensIn, HasItsOpens, IsCounted, IsCountedAs, IsShareOf}
 use Rattle.critical_areas.specs.declared.parts.Parts.{Parts}
-use Rattle.critical_areas.specs.declared.sharing.Asked.{Asked}
-use Rattle.critical_areas.specs.declared.sharing.Shared.{Shared}
+use Rattle.critical_areas.specs.declared.shared.Asked.{Asked}
+use Rattle.critical_areas.specs.declared.shared.Shared.{Shared}
 use Rattle.critical_areas.proofs.CutLaws.{blocks_are}
 use Rattle.critical_areas.proofs.NearLaws.{covers_by, touches_by}
 use Rattle.critical_areas.proofs.OpenLaws.{open_is}
@@ -133,3 +133,18 @@ module _ (layer_map : LayerMap) (lists : List (List Rect)) (parts : Parts) (wind
       let by_asked = AllZip-weaker IsAsked (λ (asked : Asked). asked.question) (λ (asked : Asked). Tally (IsCounted shared asked) (cells_of window)) Amount
       (λ asked n known c. counted_is_amount asked known n c) shared.asked.items amounts each counted in
       subst (λ qs. AllZip Amount qs amounts) (is.questions ∙ are.asked) by_asked
+
+-- ---- the questions that are asked of what is shared
+
+-- where the items come from others, each has what theirs have
+unmapped : {X Y : Type 0} (P : Y → Type 0) (f : X → Y) (xs : List X) (ys : List Y) → map f xs ≡ ys → All P ys → All (λ x. P (f x)) xs
+unmapped P f xs ys is all k d small =
+    subst P (get_or-map f xs k d) (subst (λ zs. P (get_or zs k (f d))) (sym is) (all k (f d) (subst (λ n. k < n) (sym (length-map xs f) ∙ ap length is) small)))
+
+pub all_askable : (parts : Parts) (asked : List Asked) (metals : List (List Labelled)) (cuts : List (List Rect)) → map (λ (one : Asked). one.question) asked ≡ parts.questions
+    → AllZip IsPermutation parts.metals metals → AllZip IsPermutation parts.cuts cuts → All (λ (one : Asked). IsAskable (length metals) (length cuts) one.question) asked
+all_askable parts asked metals cuts is of_metals of_cuts =
+    let many = AllZip-long IsPermutation parts.metals metals of_metals in
+    let some = AllZip-long IsPermutation parts.cuts cuts of_cuts in
+    unmapped (IsAskable (length metals) (length cuts)) (λ (one : Asked). one.question) asked parts.questions is
+    (subst (λ m. All (IsAskable m (length cuts)) parts.questions) (sym many) (subst (λ n. All (IsAskable (length parts.metals) n) parts.questions) (sym some) parts.askable))

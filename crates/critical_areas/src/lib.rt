@@ -9,6 +9,7 @@ pub mod laws;
 mod opens;
 mod parts;
 mod preparing;
+mod shared;
 mod sharing;
 mod shorts;
 mod tiles;

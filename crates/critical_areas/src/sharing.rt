@@ -6,48 +6,26 @@ ghost use Rattle.questions.specs.declared.kind.Kind.TheVariants.{Open};
 ghost use Rattle.critical_areas.specs.inside.Sharing.{AreOpensIn, HasItsOpens, IsShareOf};
 
 use super::parts::Parts;
-use geo_core::{Labelled, Rect};
+use super::shared::{Asked, Shared};
+use geo_core::Rect;
 use lists::{Items, NoMemory};
 use open_grid::open_cells;
 use questions::{Kind, Question};
 use std::alloc::Global;
 use tile_plan::{NearIndex, Rectangular};
 
-/// A question, and what only it is counted from.
-#[derive(Drop)]
-pub struct Asked {
-    pub question: Question,
-    /// The cells of the window at which there is an open, where the question asks for opens, and else none.
-    pub opens: NearIndex<Rect>,
-}
-
-/// What the tiles of a window are counted from. It is made once, and asked for what is near each tile, so that a tile costs
-/// what is near it and not the layout.
-#[derive(Drop)]
-pub struct Shared {
-    /// What is asked, in the order of the report.
-    pub asked: Vec<Asked>,
-    /// The pieces of each metal, labelled by their nets.
-    pub metals: Vec<NearIndex<Labelled>>,
-    /// The boxes of each cut's via clusters.
-    pub cuts: Vec<NearIndex<Rect>>,
-    pub ghost askable: { All (λ asked. IsAskable (length metals.items) (length cuts.items) asked.question) asked.items },
-}
-
-impl Shared {
-    /// What the tiles of this window are counted from.
-    pub fn new(alloc: Global, parts: &Parts, window: Rect) -> Result<Shared, NoMemory>
-        ensures { IfOk result (λ shared. IsShareOf parts.now window shared) }
-    {
-        let asked = asked_of(alloc, parts, window)?;
-        let metals = indexes_of(alloc, parts.metals.as_slice())?;
-        let cuts = indexes_of(alloc, parts.cuts.as_slice())?;
-        Ok(Shared {
-            asked,
-            metals,
-            cuts,
-        })
-    }
+/// What the tiles of this window are counted from.
+pub fn share(alloc: Global, parts: &Parts, window: Rect) -> Result<Shared, NoMemory>
+    ensures { IfOk result (λ shared. IsShareOf parts.now window shared) }
+{
+    let asked = asked_of(alloc, parts, window)?;
+    let metals = indexes_of(alloc, parts.metals.as_slice())?;
+    let cuts = indexes_of(alloc, parts.cuts.as_slice())?;
+    Ok(Shared {
+        asked,
+        metals,
+        cuts,
+    })
 }
 
 /// The questions of the parts, each with what only it is counted from.

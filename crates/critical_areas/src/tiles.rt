@@ -16,7 +16,8 @@ ghost use Rattle.critical_areas.specs.inside.Sharing.{AreCountedFirst, IsCounted
 
 use super::counting::amounts;
 use super::parts::Parts;
-use super::sharing::{Asked, Shared};
+use super::shared::{Asked, Shared};
+use super::sharing::share;
 use geo_core::{Labelled, Rect};
 use lists::NoMemory;
 use map_model::Measure;
@@ -59,7 +60,7 @@ fn amounts_by_tiles(alloc: Global, parts: &Parts, plan: &TilePlan) -> Result<Vec
     ensures one_each { IfOk result (λ amounts. length amounts.items ≡ length parts.now.questions) }
     ensures small { IfOk result (λ amounts. All (λ amount. amount < 2 ^ 63) amounts.items) }
 {
-    let shared = Shared::new(alloc, parts, plan.window)?;
+    let shared = share(alloc, parts, plan.window)?;
     let mut amounts = none_counted(alloc, &shared)?;
     for k in 0..plan.count() {
         amounts = with_tile(alloc, &shared, plan, k, amounts.as_slice())?;

@@ -1,5 +1,5 @@
 -- what the tiles of a window are counted from
-use Rattle.std.specs.Prelude.{ℕ, List, [], All, map, length, slice_index_or, slice_get, Some, ◌≡◌, ◌<◌, ◌+◌, ◌-◌, ◌/◌, ◌↔◌}
+use Rattle.std.specs.Prelude.{ℕ, List, [], All, map, length, take, slice_index_or, ◌≡◌, ◌-◌, ◌/◌, ◌↔◌}
 use Rattle.std.specs.List.{AllZip}
 use Rattle.std.specs.List.Sorted.{IsPermutation}
 use Rattle.geo_core.specs.Plane.{Has, IsInUnion}
@@ -15,8 +15,8 @@ use Rattle.tile_plan.specs.TileTallies.{IsTallyOfFirst}
 use Rattle.tile_plan.specs.declared.tiles.TilePlan.{TilePlan}
 use Rattle.via_clusters.specs.Blocks.{CoversSomeBox}
 use Rattle.critical_areas.specs.declared.parts.Parts.{Parts}
-use Rattle.critical_areas.specs.declared.sharing.Asked.{Asked}
-use Rattle.critical_areas.specs.declared.sharing.Shared.{Shared}
+use Rattle.critical_areas.specs.declared.shared.Asked.{Asked}
+use Rattle.critical_areas.specs.declared.shared.Shared.{Shared}
 
 -- the rectangles have exactly the cells of the window at which the defect of the question parts two anchors of an island of its metal
 abbrev pub AreOpensIn : Parts → Rect → Question → List Rect → Type 0
@@ -48,3 +48,7 @@ IsCounted shared asked = IsCountedAs asked.question.kind shared asked
 -- one number for each question, in order: how many cells of the first `k` tiles are counted for it
 abbrev pub AreCountedFirst : Shared → TilePlan → ℕ → List ℕ → Type 0
 AreCountedFirst shared plan k = AllZip (λ asked. IsTallyOfFirst (IsCounted shared asked) plan k) shared.asked.items
+
+-- the same for the first so many questions
+abbrev pub AreCountedForFirst : Shared → TilePlan → ℕ → ℕ → List ℕ → Type 0
+AreCountedForFirst shared plan k count = AllZip (λ asked. IsTallyOfFirst (IsCounted shared asked) plan k) (take count shared.asked.items)
