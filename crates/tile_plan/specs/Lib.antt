@@ -3,3 +3,6 @@ pub mod TilesAlong
 pub mod Tiles
 pub mod TileTallies
 pub mod Kept
+pub mod Near
+-- what only this crate's proofs and private contracts cite
+pub mod inside
