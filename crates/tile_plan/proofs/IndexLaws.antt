@@ -1,5 +1,5 @@
 -- pieces in leaves and bands: what they hold together, and the rectangles round them
-use Rattle.std.proofs.Common.{ℕ, ◌+◌, ◌<◌, ◌≤◌, ◌≡◌, refl, sym, ap, ◌∙◌, subst, List, [], ◌∷◌, ◌++◌, length, take, take_all, drop, get_or, append_assoc, All}
+use Rattle.std.proofs.Common.{ℕ, ◌+◌, ◌<◌, ◌≤◌, ◌≡◌, refl, sym, ap, ◌∙◌, subst, List, [], ◌∷◌, ◌++◌, length, take, take_all, drop, get_or, append_assoc, arith}
 use Rattle.lists.proofs.Words.{flat_map, flat_map-append, append-nil, take-append-drop, All-weaker, IsPermutation}
 use Rattle.std.proofs.lemmas.List.Sorted.{All-permutation, IsPermutation-append_left, IsPermutation-append_right, IsPermutation-trans}
 use Rattle.lists.proofs.Reading.{All-read, All-read_all, taken_more}
@@ -37,11 +37,15 @@ module _ {T : Type 0} (parts new : List (List T)) (part rest front behind pieces
       subst (IsPermutation pieces) (sym gathered) (IsPermutation-trans pieces (all_of parts ++ (front ++ behind)) (all_of parts ++ (part ++ behind)) left turned)
 
 -- no items are left
-pub same_at_end : {T : Type 0} (parts : List (List T)) (rest pieces : List T) → rest ≡ [] → all_of parts ++ rest ≡ pieces → all_of parts ≡ pieces
-same_at_end parts rest pieces none so_far = sym (append-nil (all_of parts)) ∙ ap (λ xs. all_of parts ++ xs) (sym none) ∙ so_far
+no_items : {T : Type 0} (rest : List T) → length rest ≡ 0 → rest ≡ []
+no_items [] none = refl
+no_items (x ∷ rest) none = absurd (omega arith)
 
-pub permuted_at_end : {T : Type 0} (parts : List (List T)) (rest pieces : List T) → rest ≡ [] → IsPermutation pieces (all_of parts ++ rest) → IsPermutation pieces (all_of parts)
-permuted_at_end parts rest pieces none so_far = subst (IsPermutation pieces) (ap (λ xs. all_of parts ++ xs) none ∙ append-nil (all_of parts)) so_far
+pub same_at_end : {T : Type 0} (parts : List (List T)) (rest pieces : List T) → length rest ≡ 0 → all_of parts ++ rest ≡ pieces → all_of parts ≡ pieces
+same_at_end parts rest pieces none so_far = sym (append-nil (all_of parts)) ∙ ap (λ xs. all_of parts ++ xs) (sym (no_items rest none)) ∙ so_far
+
+pub permuted_at_end : {T : Type 0} (parts : List (List T)) (rest pieces : List T) → length rest ≡ 0 → IsPermutation pieces (all_of parts ++ rest) → IsPermutation pieces (all_of parts)
+permuted_at_end parts rest pieces none so_far = subst (IsPermutation pieces) (ap (λ xs. all_of parts ++ xs) (no_items rest none) ∙ append-nil (all_of parts)) so_far
 
 -- ---- hulls
 

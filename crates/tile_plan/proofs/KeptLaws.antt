@@ -1,8 +1,7 @@
 -- what is kept of lists, one after the other, and what the kept lists contain
-use Rattle.std.proofs.Common.{ℕ, ◌+◌, ◌<◌, ◌≤◌, ◌≡◌, refl, sym, ap, ◌∙◌, subst, List, [], ◌∷◌, ◌++◌, length, take, take_all, get_or, inl, inr, ◌↔◌, Contains, All, append_assoc}
-use Rattle.lists.proofs.Words.{All-head, All-tail, append-nil, Contains-permutation, IsPermutation-sym, IsPermutation}
+use Rattle.std.proofs.Common.{sym, subst, List, [], ◌∷◌, ◌++◌, inl, inr, Contains, All}
+use Rattle.lists.proofs.Words.{All-head, All-tail, append-nil}
 use Rattle.lists.proofs.Containing.{Contains-cons_cases, Contains-head, Contains-none, Contains-tail}
-use Rattle.lists.proofs.Reading.{taken_more}
 use Rattle.tile_plan.specs.Kept.{AreKept, all_seen, kept, dropped}
 
 module _ {X : Type 0} {P : X → Type 0} where

@@ -1,17 +1,16 @@
 -- what is near a tile, and that it decides what defects do there
-use Rattle.std.proofs.Common.{ℕ, ◌+◌, ◌/◌, ◌<◌, ◌≤◌, ◌≡◌, ◌≢◌, refl, sym, ap, ◌∙◌, subst, arith, List, [], ◌∷◌, ◌++◌, length, take, take_all, get_or, inl, inr, ◌⊎◌, ◌↔◌, ℤ, pos, ◌+ℤ◌, ◌-ℤ◌, ◌≤ℤ◌, ◌<ℤ◌, Contains, All, append_assoc}
+use Rattle.std.proofs.Common.{ℕ, ◌+◌, ◌/◌, ◌<◌, ◌≤◌, ◌≡◌, sym, ap, ◌∙◌, subst, arith, List, [], ◌∷◌, ◌++◌, length, take, get_or, ◌↔◌, ℤ, pos, ◌+ℤ◌, ◌-ℤ◌, ◌≤ℤ◌, ◌<ℤ◌, append_assoc}
 use Rattle.lists.proofs.Words.{ints, by_lt_z, All-weaker, append-nil, Contains-permutation, IsPermutation-sym, IsPermutation}
-use Rattle.lists.proofs.Containing.{number_of}
 use Rattle.lists.proofs.Reading.{taken_more}
-use Rattle.geo_core.specs.Plane.{Has, ComesNear, IntervalsOverlap, IsInUnion}
+use Rattle.geo_core.specs.Plane.{Has, IntervalsOverlap, IsInUnion}
 use Rattle.geo_core.specs.declared.plane.Cell.{Cell}
 use Rattle.geo_core.specs.declared.plane.Labelled.{Labelled}
 use Rattle.geo_core.specs.declared.plane.Rect.{Rect}
 use Rattle.geo_core.proofs.IntervalLaws.{overlapping}
 use Rattle.geo_core.proofs.RectLaws.{comes_near}
-use Rattle.fault_model.proofs.SizeLaws.{footprint_near, footprint_grows}
+use Rattle.fault_model.proofs.SizeLaws.{footprint_near}
 use Rattle.fault_model.proofs.UnionLaws.{among_union, in_union}
-use Rattle.tile_plan.specs.Kept.{AreKept, all_seen, kept, dropped}
+use Rattle.tile_plan.specs.Kept.{all_seen}
 use Rattle.tile_plan.specs.Near.{AreNear, HasExactlyNear, HitsLabel, HitsTwoLabels, IsHit, IsNearTile}
 use Rattle.tile_plan.specs.inside.Gaining.{GainsNear}
 use Rattle.tile_plan.specs.inside.Hulls.{IsHullOf, IsRound}

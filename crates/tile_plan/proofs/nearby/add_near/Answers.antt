@@ -1,6 +1,4 @@
-use Rattle.std.proofs.Common.{subst, ◌≡◌, true}
-use Rattle.geo_core.specs.declared.plane.Rect.{Rect}
-use Rattle.tile_plan.specs.Near.{IsNearTile}
+use Rattle.std.proofs.Common.{◌≡◌, true}
 use Rattle.tile_plan.proofs.NearLaws.{gains_one, gains_other, gains_start}
 use Rattle.tile_plan.proofs.nearby.add_near.Goals as goal
 use Rattle.tile_plan.proofs.nearby.add_near.Goals.{then-is_near+in_ok-push, else-is_near}

@@ -1,5 +1,5 @@
 use Rattle.std.proofs.Common.{◌≡◌, true}
-use Rattle.tile_plan.proofs.IndexLaws.{all_of, gains_part}
+use Rattle.tile_plan.proofs.IndexLaws.{all_of, gains_part, gains_parts}
 use Rattle.tile_plan.proofs.NearLaws.{gains_none, gains_start}
 use Rattle.tile_plan.proofs.index.Band.add_near.Goals as goal
 
@@ -15,3 +15,9 @@ pub loop-leaf-preserved : goal.loop-leaf-preserved
 loop-leaf-preserved g c =
     gains_part g.T.Rectangular.rect_of c.args.tile c.args.reach c.as_slice-leaf-items.result.now c.loop-leaf.leaf-index c.leaf-item.result c.args.found.now.items c.loop-leaf.found.items
     c.add_near.new.found.items c.loop-leaf-test.true c.leaf-item.is c.loop-leaf.invariant c.in_ok-add_near.ensures
+
+pub returns : goal.returns
+returns g c =
+    rw (← c.self.view_is, ← c.as_slice-leaf-items.ensures.value)
+    (gains_parts g.T.Rectangular.rect_of c.args.tile c.args.reach c.as_slice-leaf-items.result.now c.loop-leaf.leaf-index c.args.found.now.items c.loop-leaf.found.items c.loop-leaf-test.false
+    c.loop-leaf.invariant)
