@@ -1,0 +1,4 @@
+pub mod CountLaws
+pub mod StepLaws
+pub mod JoinLaws
+pub mod RunLaws

@@ -1,0 +1,77 @@
+-- the board as a machine: its states, its events, which of them are allowed, and what each changes
+use Rattle.std.specs.Prelude.{ℕ, ◌+◌, ◌-◌, ◌<◌, ◌≤◌, ◌≡◌, ◌≢◌, List, [], ◌∷◌, ◌++◌, length, replicate, nat_lt, slice_index, slice_index_or, slice_set, if◌then◌else◌, ⊤}
+use Rattle.tile_board.specs.Counts.{Drew, times_credited}
+use Rattle.tile_board.specs.declared.views.Credit.{Credit}
+use Rattle.tile_board.specs.declared.views.Limits.{Limits}
+use Rattle.tile_board.specs.declared.views.View.{View}
+
+-- the number that is drawn next, a total for each slot, and a view for each hand that was made
+pub record BoardState : Type 0 where
+  pub next : ℕ
+  pub totals : List ℕ
+  pub views : List View
+
+-- what happens, one at a time. Hands go by the numbers of their views
+pub data Event : Type 0 where
+  draw : (by : ℕ) → Event
+  credit : (by : ℕ) → (of : Credit) → Event
+  split : (from draws : ℕ) → Event
+  join : (into other : ℕ) → Event
+
+-- the view of a hand that has done nothing and may draw so often. At 0 it is that of a spent hand, which stands for all others, too
+abbrev pub fresh : ℕ → View
+fresh draws = record { tickets = []; credits = []; made = 0; left = draws }
+
+abbrev pub view_at : BoardState → ℕ → View
+view_at state hand = slice_index_or state.views hand (fresh 0)
+
+-- at the start nothing is drawn or added, and there is one hand, with all draws
+abbrev pub opening : Limits → BoardState
+opening limits = record { next = 0; totals = replicate limits.slots 0; views = fresh limits.draws ∷ [] }
+
+-- what a hand's view becomes as it draws a number: it is a ticket where it is one of the first so many
+abbrev pub with_draw : ℕ → ℕ → View → View
+with_draw tickets number view = record { tickets = view.tickets ++ (if nat_lt number tickets then number ∷ [] else []); credits = view.credits; made = view.made + 1; left = view.left - 1 }
+
+-- as it makes a credit
+abbrev pub with_credit : Credit → View → View
+with_credit c view = record { tickets = view.tickets; credits = view.credits ++ c ∷ []; made = view.made; left = view.left }
+
+-- as it gives draws away
+abbrev pub without_draws : ℕ → View → View
+without_draws draws view = record { tickets = view.tickets; credits = view.credits; made = view.made; left = view.left - draws }
+
+-- as it takes in all that another hand has
+abbrev pub with_all_of : View → View → View
+with_all_of other view = record { tickets = view.tickets ++ other.tickets; credits = view.credits ++ other.credits; made = view.made + other.made; left = view.left + other.left }
+
+-- the hand drew the ticket and has no credit to the slot for it, and slot and amount are within limits
+pub record MayCredit (limits : Limits) (view : View) (c : Credit) : Type 0 where
+  pub drawn : Drew view c.ticket
+  pub first : times_credited view c.ticket c.slot ≡ 0
+  pub slot : c.slot < limits.slots
+  pub amount : c.amount ≤ limits.cap
+
+-- the event may happen in the state
+abbrev pub IsAllowed : Limits → BoardState → Event → Type 0
+IsAllowed limits s (draw h) = (h < length s.views) × (0 < (view_at s h).left)
+IsAllowed limits s (credit h c) = (h < length s.views) × MayCredit limits (view_at s h) c
+IsAllowed limits s (split h draws) = (h < length s.views) × (draws ≤ (view_at s h).left)
+IsAllowed limits s (join h g) = (h < length s.views) × (g < length s.views) × (h ≢ g)
+
+-- what the event leaves
+abbrev pub after_event : Limits → BoardState → Event → BoardState
+after_event limits s (draw h) = record { next = s.next + 1; totals = s.totals; views = slice_set s.views h (with_draw limits.tickets s.next (view_at s h)) }
+after_event limits s (credit h c) = record { next = s.next; totals = slice_set s.totals c.slot (slice_index s.totals c.slot + c.amount); views = slice_set s.views h (with_credit c (view_at s h)) }
+after_event limits s (split h draws) = record { next = s.next; totals = s.totals; views = slice_set s.views h (without_draws draws (view_at s h)) ++ fresh draws ∷ [] }
+after_event limits s (join h g) = record { next = s.next; totals = s.totals; views = slice_set (slice_set s.views h (with_all_of (view_at s g) (view_at s h))) g (fresh 0) }
+
+-- the events may happen one after another from the state on
+abbrev pub AreAllowed : Limits → BoardState → List Event → Type 0
+AreAllowed limits s [] = ⊤
+AreAllowed limits s (e ∷ es) = IsAllowed limits s e × AreAllowed limits (after_event limits s e) es
+
+-- what they leave
+abbrev pub after_events : Limits → BoardState → List Event → BoardState
+after_events limits s [] = s
+after_events limits s (e ∷ es) = after_events limits (after_event limits s e) es
