@@ -27,7 +27,7 @@ two_within f views h g h_in g_in apart spent =
     let other = ap f (get_or-set_other views h g (fresh 0) (fresh 0) (λ same. apart (sym same))) in
     omega (arith, sum_by-set f views h (fresh 0) (fresh 0) h_in, get_or-le-sum_by f (set views h (fresh 0)) g (fresh 0) g_in', other, spent)
 
-once_at_most : (bound number : ℕ) → once_below bound number ≤ 1
+pub once_at_most : (bound number : ℕ) → once_below bound number ≤ 1
 once_at_most bound number = grind (arith, nat_tests)
 
 -- no ticket is with two hands, so the credits of both are for different tickets

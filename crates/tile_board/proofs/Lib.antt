@@ -2,3 +2,4 @@ pub mod CountLaws
 pub mod StepLaws
 pub mod JoinLaws
 pub mod RunLaws
+pub mod BoundLaws
