@@ -3,3 +3,4 @@ pub mod StepLaws
 pub mod JoinLaws
 pub mod RunLaws
 pub mod BoundLaws
+pub mod RunningLaws

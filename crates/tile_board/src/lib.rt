@@ -4,7 +4,10 @@
 //! `specs/Machine.antt` says what a board has and what changes it, and `specs/Sound.antt` what holds of it at any time.
 #![tactic(auto)]
 
+pub mod board;
 pub mod laws;
+mod rule;
 pub mod views;
 
-pub use views::{Credit, Limits, View};
+pub use board::{Board, Hand};
+pub use views::{Credit, Limits, MOST_DRAWS, MOST_SLOTS, View};

@@ -1,5 +1,11 @@
 use std::collections::LinkedList;
 
+/// The most slots that a board may have.
+pub const MOST_SLOTS: u32 = 2_000;
+
+/// The most draws that a board may have.
+pub const MOST_DRAWS: u64 = 1 << 62;
+
 /// What a board is made for.
 #[derive(Clone, Copy, Debug, PartialEq, Eq)]
 pub struct Limits {
