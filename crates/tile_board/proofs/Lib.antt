@@ -4,3 +4,4 @@ pub mod JoinLaws
 pub mod RunLaws
 pub mod BoundLaws
 pub mod RunningLaws
+pub mod HandLaws

@@ -5,3 +5,4 @@ pub mod Running
 pub mod Ranges
 pub mod HandFacts
 pub mod Hands
+pub mod Closing

@@ -1,12 +1,13 @@
-ghost use Rattle.std.specs.Prelude.{ℕ, ◌≡◌, ◌≤◌, ◌<◌, ◌+◌, ◌*◌, ◌^◌, [], ◌∷◌, IfOk, IfSome, IfNone};
+ghost use Rattle.std.specs.Prelude.{ℕ, ◌≡◌, ◌≤◌, ◌<◌, ◌+◌, ◌*◌, ◌^◌, [], ◌∷◌, IfOk, IfSome, IfNone, length, drop};
+ghost use Rattle.tile_board.specs.Closing.{HasAllDraws, AreAtLeast, AreSums, DrewAll};
+ghost use Rattle.tile_board.specs.Counts.{Drew, times_credited};
 ghost use Rattle.tile_board.specs.HandFacts.{IsHandView};
+ghost use Rattle.tile_board.specs.Machine.{fresh, with_draw, with_credit, without_draws, with_all_of, MayCredit};
 ghost use Rattle.tile_board.specs.Ranges.{AreInRange};
-ghost use Rattle.tile_board.specs.Machine.{fresh, with_draw};
-ghost use Rattle.tile_board.specs.declared.views.TheConstants.{MOST_DRAWS, MOST_SLOTS};
 
-use super::rule::{Drawing, Draws, SoundBoard};
-use super::views::{Limits, MOST_DRAWS, MOST_SLOTS, View};
-use atomic_table::{Seat, Table};
+use super::rule::{Credits, Crediting, Cuts, Cutting, Drawing, Draws, Joins, Looks, SoundBoard};
+use super::views::{Credit, Limits, MOST_DRAWS, MOST_SLOTS, View};
+use atomic_table::{Closed, Seat, Table};
 use lists::NoMemory;
 use std::alloc::Global;
 use std::marker::Brand;
@@ -65,6 +66,50 @@ impl Board {
         }
     }
 
+    /// Adds the amount to the slot's total on account of the ticket, at one atomic step.
+    pub fn credit(&self, hand: &mut Hand, ticket: u64, slot: u32, amount: u64)
+        requires belongs { BelongsTo self.now hand.old }
+        requires drawn { Drew (view_of hand.old) ticket }
+        requires first { times_credited (view_of hand.old) ticket slot ≡ 0 }
+        requires slot { slot < (limits_of self.now).slots }
+        requires amount { amount ≤ (limits_of self.now).cap }
+        ensures belongs { BelongsTo self.now hand.new }
+        ensures credited { view_of hand.new ≡ with_credit (record { ticket = ticket; slot = slot; amount = amount }) (view_of hand.old) }
+    {
+        let credit = Credit {
+            ticket,
+            slot,
+            amount,
+        };
+        self.add::<Brand>(&mut hand.seat, credit);
+    }
+
+    /// Moves so many draws to a new hand, which has nothing else.
+    pub fn split(&self, hand: &mut Hand, draws: u64) -> Hand
+        requires belongs { BelongsTo self.now hand.old }
+        requires enough { draws ≤ (view_of hand.old).left }
+        ensures belongs { BelongsTo self.now hand.new }
+        ensures new_belongs { BelongsTo self.now result }
+        ensures kept { view_of hand.new ≡ without_draws draws (view_of hand.old) }
+        ensures given { view_of result ≡ fresh draws }
+    {
+        let seat = self.cut::<Brand>(&mut hand.seat, draws);
+        hand.left -= draws;
+        Hand { seat, left: draws }
+    }
+
+    /// Gives all that the other hand has to the first.
+    pub fn join(&self, hand: &mut Hand, other: Hand)
+        requires belongs { BelongsTo self.now hand.old }
+        requires other_belongs { BelongsTo self.now other }
+        ensures belongs { BelongsTo self.now hand.new }
+        ensures joined { view_of hand.new ≡ with_all_of (view_of other) (view_of hand.old) }
+    {
+        let Hand { seat, left } = other;
+        self.merge(&mut hand.seat, seat);
+        hand.left += left;
+    }
+
     // The one step of a draw.
     fn draw_number<D: Drawing>(&self, seat: &mut Seat<u64, View>) -> u64
         requires tickets { D.tickets ≡ self.now.table.shared.key.tickets }
@@ -75,5 +120,45 @@ impl Board {
         ensures facts { IsHandView seat.new.me.0 }
     {
         self.table.shared.fetch_add::<Draws<D>>(seat, 0, 1)
+    }
+
+    // The one step of a credit.
+    fn add<C: Crediting>(&self, seat: &mut Seat<u64, View>, credit: Credit)
+        requires picked { C.credit ≡ credit }
+        requires belongs { seat.old.table_id ≡ self.now.table.shared.table_id }
+        requires may { MayCredit self.now.limits seat.old.me.0 credit }
+        ensures belongs { seat.new.table_id ≡ seat.old.table_id }
+        ensures view { seat.new.me ≡ (with_credit C.credit seat.old.me.0, seat.old.me.1) }
+        ensures facts { IsHandView seat.new.me.0 }
+    {
+        let word = credit.slot as usize + 1;
+        self.table.shared.fetch_add::<Credits<C>>(seat, word, credit.amount);
+    }
+
+    // The one step of a split.
+    fn cut<C: Cutting>(&self, seat: &mut Seat<u64, View>, draws: u64) -> Seat<u64, View>
+        requires picked { C.draws ≡ draws }
+        requires belongs { seat.old.table_id ≡ self.now.table.shared.table_id }
+        requires enough { draws ≤ seat.old.me.0.left }
+        ensures belongs { seat.new.table_id ≡ seat.old.table_id }
+        ensures new_belongs { result.table_id ≡ seat.old.table_id }
+        ensures kept { seat.new.me ≡ (without_draws C.draws seat.old.me.0, seat.old.me.1) }
+        ensures given { result.me ≡ (fresh C.draws, []) }
+    {
+        self.table.shared.split_seat::<Cuts<C>>(seat)
+    }
+
+    // The step of a join, and a look that tells that the tickets of both differ.
+    fn merge(&self, seat: &mut Seat<u64, View>, other: Seat<u64, View>)
+        requires belongs { seat.old.table_id ≡ self.now.table.shared.table_id }
+        requires other_belongs { other.table_id ≡ self.now.table.shared.table_id }
+        requires no_places { other.me.1 ≡ [] }
+        ensures belongs { seat.new.table_id ≡ seat.old.table_id }
+        ensures view { seat.new.me ≡ (with_all_of other.me.0 seat.old.me.0, seat.old.me.1) }
+        ensures facts { IsHandView seat.new.me.0 }
+        ensures few_left { seat.new.me.0.left ≤ MOST_DRAWS }
+    {
+        self.table.shared.join_seat::<Joins>(seat, other);
+        self.table.shared.load::<Looks>(seat, 0);
     }
 }
