@@ -23,7 +23,7 @@ module _ {X : Type 0} where
       omega (arith, here, sum_by-within f g xs (All-tail (λ y. f y ≤ g y) x xs all), sum_by-cons f x xs, sum_by-cons g x xs)
 
   -- a sum of sums
-  sum_by-both : (f g h : X → ℕ) → ((x : X) → h x ≡ f x + g x) → (xs : List X) → sum_by h xs ≡ sum_by f xs + sum_by g xs
+  pub sum_by-both : (f g h : X → ℕ) → ((x : X) → h x ≡ f x + g x) → (xs : List X) → sum_by h xs ≡ sum_by f xs + sum_by g xs
   sum_by-both f g h each [] = refl
   sum_by-both f g h each (x ∷ xs) = omega (arith, each x, sum_by-both f g h each xs, sum_by-cons f x xs, sum_by-cons g x xs, sum_by-cons h x xs)
 
@@ -31,7 +31,7 @@ module _ {X : Type 0} where
   sum_by-scaled f k [] = omega arith
   sum_by-scaled f k (x ∷ xs) = rw (sum_by-cons f x xs) (omega (arith, sum_by-cons (λ y. f y * k) x xs, sum_by-scaled f k xs, add-mul (f x) (sum_by f xs) k))
 
-  sum_by-none : (f : X → ℕ) → ((x : X) → f x ≡ 0) → (xs : List X) → sum_by f xs ≡ 0
+  pub sum_by-none : (f : X → ℕ) → ((x : X) → f x ≡ 0) → (xs : List X) → sum_by f xs ≡ 0
   sum_by-none f none [] = refl
   sum_by-none f none (x ∷ xs) = omega (arith, sum_by-cons f x xs, none x, sum_by-none f none xs)
 

@@ -5,3 +5,4 @@ pub mod RunLaws
 pub mod BoundLaws
 pub mod RunningLaws
 pub mod HandLaws
+pub mod ClosingLaws

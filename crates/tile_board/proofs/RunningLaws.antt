@@ -22,7 +22,7 @@ use Rattle.tile_board.proofs.JoinLaws.{once_at_most, join_keeps}
 use Rattle.tile_board.proofs.BoundLaws.{sum_by-within, total_at_most}
 
 -- a view that a seat has stands among the views
-seen : (views : List View) (id : ℕ) (v : View) → get_elem? views id ≡ some v → (id < length views) × (get_or views id (fresh 0) ≡ v)
+pub seen : (views : List View) (id : ℕ) (v : View) → get_elem? views id ≡ some v → (id < length views) × (get_or views id (fresh 0) ≡ v)
 seen [] id v e = absurd (cc e)
 seen (u ∷ us) zero v e = (omega arith, cc e)
 seen (u ∷ us) (suc id) v e = let rest = seen us id v e in (omega (arith, rest.0), rest.1)

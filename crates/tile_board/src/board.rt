@@ -1,4 +1,5 @@
-ghost use Rattle.std.specs.Prelude.{ℕ, ◌≡◌, ◌≤◌, ◌<◌, ◌+◌, ◌*◌, ◌^◌, [], ◌∷◌, IfOk, IfSome, IfNone, length, drop};
+ghost use Rattle.std.specs.Prelude.{ℕ, ◌≡◌, ◌≤◌, ◌<◌, ◌+◌, ◌*◌, ◌^◌, [], ◌∷◌, IfOk, IfSome, IfNone, length, slice_index};
+ghost use Rattle.std.specs.Slots.{slots_items, slots_len, IsFull};
 ghost use Rattle.tile_board.specs.Closing.{HasAllDraws, AreAtLeast, AreSums, DrewAll};
 ghost use Rattle.tile_board.specs.Counts.{Drew, times_credited};
 ghost use Rattle.tile_board.specs.HandFacts.{IsHandView};
@@ -46,6 +47,35 @@ impl Hand {
 
 impl Board {
     ghost use Rattle.tile_board.specs.Hands.{limits_of, view_of, BelongsTo};
+
+    /// A board of so many tickets and slots, whose credits are at most `cap` and whose hands draw at most so often, and
+    /// its first hand, which has all draws. All totals are 0. The only error is that no memory is left.
+    pub fn new(
+        alloc: Global,
+        tickets: u64,
+        slots: u32,
+        cap: u64,
+        draws: u64,
+    ) -> Result<(Board, Hand), NoMemory>
+        requires some_slots { 1 ≤ slots }
+        requires few_slots { slots ≤ MOST_SLOTS }
+        requires totals_fit { tickets * cap < 2 ^ 63 }
+        requires some_draws { 1 ≤ draws }
+        requires few_draws { draws ≤ MOST_DRAWS }
+        ensures limits { IfOk result (λ made. limits_of made.0 ≡ record { tickets = tickets; slots = slots; cap = cap; draws = draws }) }
+        ensures belongs { IfOk result (λ made. BelongsTo made.0 made.1) }
+        ensures opening { IfOk result (λ made. view_of made.1 ≡ fresh draws) }
+    {
+        let limits = Limits {
+            tickets,
+            slots,
+            cap,
+            draws,
+        };
+        let words = vec![in alloc; 0; slots as usize + 1]?;
+        let (table, seat) = Table::of_words(alloc, words.as_slice(), &limits)?;
+        Ok((Board { table, limits }, Hand { seat, left: draws }))
+    }
 
     /// Draws the next number, at one atomic step.
     pub fn draw(&self, hand: &mut Hand) -> Option<u64>
@@ -110,6 +140,29 @@ impl Board {
         hand.left += left;
     }
 
+    /// The totals, one for each slot. The board and the hand are gone also where no memory is left.
+    ///
+    /// A total is the sum of the credits of all hands to the slot, so it is at least what this hand added. Where this hand
+    /// has all draws of the board, no other hand has credited, and the total is exactly what this hand added.
+    pub fn close(self, alloc: Global, hand: Hand) -> Result<Vec<u64>, NoMemory>
+        requires belongs { BelongsTo self hand }
+        ensures one_each { IfOk result (λ totals. length totals.items ≡ (limits_of self).slots) }
+        ensures at_least { IfOk result (λ totals. AreAtLeast (limits_of self) (view_of hand) totals.items) }
+        ensures exact { IfOk result (λ totals. HasAllDraws (limits_of self) (view_of hand) →
+            AreSums (limits_of self) (view_of hand) totals.items) }
+        // More draws than tickets: the hand was told that none are left.
+        ensures all_tickets { IfOk result (λ totals. HasAllDraws (limits_of self) (view_of hand) →
+            length (view_of hand).tickets < (view_of hand).made → DrewAll (limits_of self) (view_of hand)) }
+    {
+        let mut totals = vec![in alloc; 0; self.limits.slots as usize]?;
+        let Board { table, limits: _ } = self;
+        let Hand { seat, left: _ } = hand;
+        let closed = table.close_with(seat);
+        read_totals(&closed, totals.as_mut_slice());
+        closed.free();
+        Ok(totals)
+    }
+
     // The one step of a draw.
     fn draw_number<D: Drawing>(&self, seat: &mut Seat<u64, View>) -> u64
         requires tickets { D.tickets ≡ self.now.table.shared.key.tickets }
@@ -160,5 +213,16 @@ impl Board {
     {
         self.table.shared.join_seat::<Joins>(seat, other);
         self.table.shared.load::<Looks>(seat, 0);
+    }
+}
+
+// Copies the words behind the first.
+fn read_totals(closed: &Closed<u64, Global>, totals: &mut [u64])
+    requires words { slots_len closed.now.words ≡ length totals.old + 1 }
+    requires full { IsFull closed.now.words }
+    ensures { (slot : ℕ) → slot < length totals.new → slice_index totals.new slot ≡ slice_index (slots_items closed.now.words) (slot + 1) }
+{
+    for slot in 0..totals.len() {
+        totals[slot] = closed.word(slot + 1);
     }
 }
