@@ -1,4 +1,4 @@
-ghost use Rattle.std.specs.Prelude.{ℕ, ◌≡◌, ◌≤◌, ◌<◌, ◌+◌, ◌*◌, ◌^◌, [], ◌∷◌, IfOk, IfSome, IfNone, length, slice_index};
+ghost use Rattle.std.specs.Prelude.{ℕ, ◌≡◌, ◌≤◌, ◌<◌, ◌+◌, ◌*◌, ◌^◌, ◌==◌, ◌&&◌, if◌then◌else◌, [], ◌∷◌, IfOk, IfSome, IfNone, length, slice_index};
 ghost use Rattle.std.specs.Slots.{slots_items, slots_len, IsFull};
 ghost use Rattle.tile_board.specs.Closing.{HasAllDraws, AreAtLeast, AreSums, DrewAll};
 ghost use Rattle.tile_board.specs.Counts.{Drew, times_credited};
@@ -86,6 +86,8 @@ impl Board {
             × (view_of hand.new ≡ with_draw (limits_of self.now).tickets ticket (view_of hand.old))) }
         ensures none { IfNone result ((number : ℕ) × ((limits_of self.now).tickets ≤ number)
             × (view_of hand.new ≡ with_draw (limits_of self.now).tickets number (view_of hand.old))) }
+        ensures drawn { IfSome result (Drew (view_of hand.new)) }
+        ensures uncredited { IfSome result (λ ticket. (slot : ℕ) → times_credited (view_of hand.new) ticket slot ≡ 0) }
     {
         let number = self.draw_number::<Brand>(&mut hand.seat);
         hand.left -= 1;
@@ -105,6 +107,9 @@ impl Board {
         requires amount { amount ≤ (limits_of self.now).cap }
         ensures belongs { BelongsTo self.now hand.new }
         ensures credited { view_of hand.new ≡ with_credit (record { ticket = ticket; slot = slot; amount = amount }) (view_of hand.old) }
+        // It counts at its own ticket and slot alone.
+        ensures counted { (t s : ℕ) → times_credited (view_of hand.new) t s ≡ times_credited (view_of hand.old) t s
+            + (if (ticket == t) && (slot == s) then 1 else 0) }
     {
         let credit = Credit {
             ticket,
