@@ -31,12 +31,7 @@ fn two_hands(alloc: Global) -> Result<bool, NoMemory> {
     board.join(&mut hand, other);
     let left = hand.left();
     let totals = board.close(alloc, hand)?;
-    Ok(
-        first == Some(0)
-            && second == Some(1)
-            && left == 2
-            && totals.as_slice() == [8].as_slice(),
-    )
+    Ok(first == Some(0) && second == Some(1) && left == 2 && totals.as_slice() == [8].as_slice())
 }
 
 /// A hand is dropped before it draws. The other's credit stands.
@@ -67,6 +62,7 @@ fn tickets_and_totals(rt: HostRuntime) {
 
 #[test]
 fn hands_are_dropped(rt: HostRuntime) {
-    let rows = idle_hand_dropped(rt.alloc()) == Ok(true) && busy_hand_dropped(rt.alloc()) == Ok(true);
+    let rows = idle_hand_dropped(rt.alloc()) == Ok(true)
+        && busy_hand_dropped(rt.alloc()) == Ok(true);
     assert!(rt; rows);
 }

@@ -53,8 +53,12 @@ count_below-suc slot bound credits =
 counted_at_most : (slot : ℕ) (views : List View) → ((ticket : ℕ) → sum_by (λ v. times_credited v ticket slot) views ≤ 1) → (bound : ℕ) → sum_by (λ v. count_below slot bound v.credits) views ≤ bound
 counted_at_most slot views once zero = omega (arith, sum_by-none (λ v. count_below slot 0 v.credits) (λ v. count_below-zero slot v.credits) views)
 counted_at_most slot views once (suc bound) =
-    omega (arith, counted_at_most slot views once bound, once bound,
-    sum_by-both (λ v. count_below slot bound v.credits) (λ v. times_credited v bound slot) (λ v. count_below slot (suc bound) v.credits) (λ v. count_below-suc slot bound v.credits) views)
+    omega (
+      arith,
+      counted_at_most slot views once bound,
+      once bound,
+      sum_by-both (λ v. count_below slot bound v.credits) (λ v. times_credited v bound slot) (λ v. count_below slot (suc bound) v.credits) (λ v. count_below-suc slot bound v.credits) views,
+    )
 
 -- so many credits, none of which is over the cap
 amount_at_most : (cap bound slot : ℕ) (credits : List Credit) → All (λ c. c.amount ≤ cap) credits → All (λ c. c.ticket < bound) credits →
@@ -70,8 +74,12 @@ amount_at_most cap bound slot credits amounts tickets =
 -- no ticket and slot is credited twice, over all hands
 pub credited_once : (limits : Limits) (s : BoardState) → IsSound limits s → (ticket slot : ℕ) → sum_by (λ v. times_credited v ticket slot) s.views ≤ 1
 credited_once limits s sound ticket slot =
-    omega (arith, sum_by-within (λ v. times_credited v ticket slot) (λ v. times v.tickets ticket) s.views (λ k d small. credited_within limits (get_or s.views k d) (sound.credits k d small) ticket slot),
-    sound.tickets ticket, once_at_most (min s.next limits.tickets) ticket)
+    omega (
+      arith,
+      sum_by-within (λ v. times_credited v ticket slot) (λ v. times v.tickets ticket) s.views (λ k d small. credited_within limits (get_or s.views k d) (sound.credits k d small) ticket slot),
+      sound.tickets ticket,
+      once_at_most (min s.next limits.tickets) ticket,
+    )
 
 below_both : (next tickets number : ℕ) → 0 < once_below (min next tickets) number → number < tickets
 below_both next tickets number some = grind (arith, nat_tests)

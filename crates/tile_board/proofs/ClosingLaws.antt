@@ -89,13 +89,13 @@ module _ (limits : Limits) (s : BoardState) (h : ℕ) (within : h < length s.vie
   adds_all : HasAllDraws limits (view_at s h) → (slot : ℕ) → slot < limits.slots → get_or s.totals slot 0 ≡ credited (view_at s h) slot
   adds_all has slot small =
       let idle : All (λ u. u.made + u.left ≡ 0 → credited u slot ≡ 0) s.views =
-          λ k d inside none. let u : View = get_or s.views k d in none_credited u.tickets slot u.credits (omega (arith, sound.draws.few k d inside, none)) (sound.credits k d inside).drawn in
+      λ k d inside none. let u : View = get_or s.views k d in none_credited u.tickets slot u.credits (omega (arith, sound.draws.few k d inside, none)) (sound.credits k d inside).drawn in
       sound.totals.sums slot small ∙ only_hand (λ u. credited u slot) refl idle has
 
   has_each : HasAllDraws limits (view_at s h) → (number : ℕ) → times (view_at s h).tickets number ≡ once_below (min s.next limits.tickets) number
   has_each has number =
       let idle : All (λ u. u.made + u.left ≡ 0 → times u.tickets number ≡ 0) s.views =
-          λ k d inside none. omega (arith, sound.draws.few k d inside, none, count_by-le-length (λ x. x == number) (get_or s.views k d).tickets) in
+      λ k d inside none. omega (arith, sound.draws.few k d inside, none, count_by-le-length (λ x. x == number) (get_or s.views k d).tickets) in
       sym (only_hand (λ u. times u.tickets number) refl idle has) ∙ sound.tickets number
 
   made_all : HasAllDraws limits (view_at s h) → (view_at s h).made ≡ s.next
@@ -135,7 +135,7 @@ closing limits id view words slots totals final one_each read =
     let sound : IsSound limits s = final.1.0 in
     let here = seen last.views id view final.1.1 in
     let total : (slot : ℕ) → slot < limits.slots → get_or totals slot 0 ≡ get_or s.totals slot 0 =
-        λ slot small. read slot (omega (arith, one_each)) ∙ ap (λ ws. get_or ws (slot + 1) 0) (sym final.2) ∙ ap (λ k. get_or last.words k 0) (let turned : slot + 1 ≡ 1 + slot = omega arith in turned) ∙ sym (get_or-drop 1 last.words slot 0) in
+    λ slot small. read slot (omega (arith, one_each)) ∙ ap (λ ws. get_or ws (slot + 1) 0) (sym final.2) ∙ ap (λ k. get_or last.words k 0) (let turned : slot + 1 ≡ 1 + slot = omega arith in turned) ∙ sym (get_or-drop 1 last.words slot 0) in
     let has_all : HasAllDraws limits view → HasAllDraws limits (view_at s id) = λ has. subst (HasAllDraws limits) (sym here.1) has in
     record {
       at_least = λ slot small. let least : credited view slot ≤ get_or s.totals slot 0 = subst (λ u. credited u slot ≤ get_or s.totals slot 0) here.1 (adds_at_least limits s id here.0 sound slot small) in

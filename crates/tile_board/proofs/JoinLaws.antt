@@ -53,7 +53,7 @@ join_keeps limits s h g h_in g_in apart sound =
     let few = All-get_or (λ u. length u.tickets ≤ u.made) s.views h (fresh 0) h_in sound.draws.few in
     let few' = All-get_or (λ u. length u.tickets ≤ u.made) s.views g (fresh 0) g_in sound.draws.few in
     let once : (t : ℕ) → times v.tickets t + times other.tickets t ≤ 1 =
-        λ t. omega (arith, two_within (λ u. times u.tickets t) s.views h g h_in g_in apart refl, sound.tickets t, once_at_most (min s.next limits.tickets) t) in
+    λ t. omega (arith, two_within (λ u. times u.tickets t) s.views h g h_in g_in apart refl, sound.tickets t, once_at_most (min s.next limits.tickets) t) in
     record {
       draws = record {
         made = joined_sum (λ u. u.made) s.views h g w h_in g_in apart refl refl ∙ sound.draws.made;

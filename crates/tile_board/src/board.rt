@@ -6,7 +6,7 @@ ghost use Rattle.tile_board.specs.HandFacts.{IsHandView};
 ghost use Rattle.tile_board.specs.Machine.{fresh, with_draw, with_credit, without_draws, with_all_of, MayCredit};
 ghost use Rattle.tile_board.specs.Ranges.{AreInRange};
 
-use super::rule::{Credits, Crediting, Cuts, Cutting, Drawing, Draws, Joins, Looks, SoundBoard};
+use super::rule::{Crediting, Credits, Cuts, Cutting, Drawing, Draws, Joins, Looks, SoundBoard};
 use super::views::{Credit, Limits, MOST_DRAWS, MOST_SLOTS, View};
 use atomic_table::{Closed, Seat, Table};
 use lists::NoMemory;
@@ -190,7 +190,9 @@ impl Board {
         ensures facts { IsHandView seat.new.me.0 }
     {
         let word = credit.slot as usize + 1;
-        self.table.shared.fetch_add::<Credits<C>>(seat, word, credit.amount);
+        self.table
+            .shared
+            .fetch_add::<Credits<C>>(seat, word, credit.amount);
     }
 
     // The one step of a split.
