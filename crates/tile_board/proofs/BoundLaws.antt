@@ -1,16 +1,16 @@
 -- how large totals can become
-use Rattle.std.proofs.Common.{inl, inr, ℕ, zero, suc, ◌+◌, ◌-◌, ◌*◌, ◌≤◌, ◌<◌, ◌≡◌, ◌≢◌, refl, sym, ap, ◌∙◌, List, [], ◌∷◌, length, arith, get_or, min, All}
+use Rattle.std.proofs.Common.{ℕ, zero, suc, ◌+◌, ◌*◌, ◌≤◌, ◌<◌, ◌≡◌, refl, List, [], ◌∷◌, length, arith, get_or, min, All}
 use Rattle.std.specs.Prelude.{sum_by, count_by, ◌==◌, ◌&&◌, nat_lt, if◌then◌else◌}
 use Rattle.std.proofs.Math.Nat.{add-mul, mul-le-mul_right}
-use Rattle.std.proofs.lemmas.Bool.Decides.{nat_tests, eqb_tells}
+use Rattle.std.proofs.lemmas.Bool.Decides.{nat_tests}
 use Rattle.std.proofs.lemmas.List.Elements.{All-head, All-tail, All-from_get_or}
 use Rattle.std.proofs.lemmas.List.Sums.{sum_by-cons, get_or-le-sum_by}
 use Rattle.tile_board.specs.declared.views.Credit.{Credit}
 use Rattle.tile_board.specs.declared.views.Limits.{Limits}
 use Rattle.tile_board.specs.declared.views.View.{View}
 use Rattle.tile_board.specs.Counts.{times, times_credited, credited}
-use Rattle.tile_board.specs.Machine.{BoardState, fresh}
-use Rattle.tile_board.specs.Sound.{IsSound, CreditsFit, once_below}
+use Rattle.tile_board.specs.Machine.{BoardState}
+use Rattle.tile_board.specs.Sound.{IsSound, once_below}
 use Rattle.tile_board.proofs.CountLaws.{credited_within}
 use Rattle.tile_board.proofs.JoinLaws.{once_at_most}
 

@@ -1,21 +1,21 @@
 -- what the hand that closes a board knows of the totals
-use Rattle.std.proofs.Common.{ℕ, zero, suc, ◌+◌, ◌-◌, ◌*◌, ◌≤◌, ◌<◌, ◌≡◌, ◌≢◌, refl, sym, ap, subst, ◌∙◌, List, [], ◌∷◌, inl, inr, length, arith, get_or, set, drop, min, All, ◌↔◌, add-one}
-use Rattle.std.specs.Prelude.{sum_by, count_by, ◌==◌, nat_lt, if◌then◌else◌}
+use Rattle.std.proofs.Common.{ℕ, zero, suc, ◌+◌, ◌≤◌, ◌<◌, ◌≡◌, refl, sym, ap, subst, ◌∙◌, List, [], ◌∷◌, inl, inr, length, arith, get_or, set, min, All}
+use Rattle.std.specs.Prelude.{sum_by, ◌==◌, if◌then◌else◌}
 use Rattle.std.proofs.Math.ListN.{get_elem?}
 use mathlib.Core.Option.{some}
 use Rattle.std.proofs.lemmas.Bool.Decides.{nat_tests, eqb_tells}
-use Rattle.std.proofs.lemmas.List.{length-set, get_or-drop, get_or-set_same, get_or-set_other}
-use Rattle.std.proofs.lemmas.List.Elements.{All-head, All-tail, All-get_or, All-set}
+use Rattle.std.proofs.lemmas.List.{get_or-drop, get_or-set_same, get_or-set_other}
+use Rattle.std.proofs.lemmas.List.Elements.{All-head, All-tail, All-set}
 use Rattle.std.proofs.lemmas.List.Sums.{sum_by-cons, sum_by-set, get_or-le-sum_by, count_by-le-length}
 use Rattle.atomic_table.specs.Table.{State, Final, Seen}
 use Rattle.tile_board.specs.declared.views.Credit.{Credit}
 use Rattle.tile_board.specs.declared.views.Limits.{Limits}
 use Rattle.tile_board.specs.declared.views.View.{View}
 use Rattle.tile_board.specs.Closing.{HasAllDraws, AreAtLeast, AreSums, DrewAll}
-use Rattle.tile_board.specs.Counts.{times, Drew, credited}
+use Rattle.tile_board.specs.Counts.{times, credited}
 use Rattle.tile_board.specs.Machine.{BoardState, fresh, view_at}
 use Rattle.tile_board.specs.Running.{state_of}
-use Rattle.tile_board.specs.Sound.{IsSound, CreditsFit, once_below}
+use Rattle.tile_board.specs.Sound.{IsSound, once_below}
 use Rattle.tile_board.proofs.BoundLaws.{sum_by-none, sum_by-both}
 use Rattle.tile_board.proofs.RunningLaws.{seen}
 

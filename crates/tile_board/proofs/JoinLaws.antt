@@ -1,15 +1,15 @@
 -- a join leaves a sound state
-use Rattle.std.proofs.Common.{ℕ, zero, suc, ◌+◌, ◌-◌, ◌*◌, ◌≤◌, ◌<◌, ◌≡◌, ◌≢◌, refl, sym, ap, subst, ◌∙◌, List, [], ◌∷◌, ◌++◌, length, length-append, arith, get_or, set, min, All}
-use Rattle.std.specs.Prelude.{sum_by, nat_lt, if◌then◌else◌}
+use Rattle.std.proofs.Common.{ℕ, ◌+◌, ◌≤◌, ◌<◌, ◌≡◌, ◌≢◌, refl, sym, ap, ◌∙◌, List, length, length-append, arith, get_or, set, min}
+use Rattle.std.specs.Prelude.{sum_by}
 use Rattle.std.proofs.lemmas.Bool.Decides.{nat_tests}
 use Rattle.std.proofs.lemmas.List.{length-set, get_or-set_other}
 use Rattle.std.proofs.lemmas.List.Elements.{All-set, All-get_or, All-append, All-weaker}
 use Rattle.std.proofs.lemmas.List.Sums.{sum_by-set, get_or-le-sum_by}
 use Rattle.tile_board.specs.declared.views.Limits.{Limits}
 use Rattle.tile_board.specs.declared.views.View.{View}
-use Rattle.tile_board.specs.Counts.{times, Drew, times_credited, credited}
-use Rattle.tile_board.specs.Machine.{BoardState, Event, join, fresh, view_at, with_all_of, after_event}
-use Rattle.tile_board.specs.Sound.{IsSound, DrawsAddUp, CreditsFit, TotalsAddUp, once_below}
+use Rattle.tile_board.specs.Counts.{times, Drew, credited}
+use Rattle.tile_board.specs.Machine.{BoardState, join, fresh, view_at, with_all_of, after_event}
+use Rattle.tile_board.specs.Sound.{IsSound, CreditsFit, once_below}
 use Rattle.tile_board.proofs.CountLaws.{times-append, times_credited-join, credited-join, credited_within}
 use Rattle.tile_board.proofs.StepLaws.{fresh_fits}
 

@@ -1,6 +1,6 @@
 -- draws, credits and splits leave a sound state
-use Rattle.std.proofs.Common.{inl, inr, ℕ, zero, suc, ◌+◌, ◌-◌, ◌*◌, ◌≤◌, ◌<◌, ◌≡◌, ◌≢◌, refl, sym, ap, subst, ◌∙◌, List, [], ◌∷◌, ◌++◌, length, length-append, arith, get_or, set, min, All}
-use Rattle.std.specs.Prelude.{sum_by, count_by, ◌==◌, ◌&&◌, nat_lt, if◌then◌else◌}
+use Rattle.std.proofs.Common.{inl, inr, ℕ, ◌+◌, ◌≤◌, ◌<◌, ◌≡◌, refl, sym, ap, ◌∙◌, List, [], ◌∷◌, length, length-append, arith, get_or, set}
+use Rattle.std.specs.Prelude.{◌==◌, ◌&&◌, nat_lt, if◌then◌else◌}
 use Rattle.std.proofs.lemmas.Bool.Decides.{nat_tests, eqb_tells}
 use Rattle.std.proofs.lemmas.List.{length-set, get_or-set_same, get_or-set_other}
 use Rattle.std.proofs.lemmas.List.Elements.{All-nil, All-set, All-get_or, All-push}
@@ -9,8 +9,8 @@ use Rattle.tile_board.specs.declared.views.Credit.{Credit}
 use Rattle.tile_board.specs.declared.views.Limits.{Limits}
 use Rattle.tile_board.specs.declared.views.View.{View}
 use Rattle.tile_board.specs.Counts.{times, Drew, times_credited, credited}
-use Rattle.tile_board.specs.Machine.{BoardState, Event, draw, credit, split, fresh, view_at, with_draw, with_credit, without_draws, MayCredit, after_event}
-use Rattle.tile_board.specs.Sound.{IsSound, DrawsAddUp, CreditsFit, TotalsAddUp, once_below}
+use Rattle.tile_board.specs.Machine.{BoardState, draw, credit, split, fresh, view_at, with_draw, with_credit, without_draws, MayCredit, after_event}
+use Rattle.tile_board.specs.Sound.{IsSound, CreditsFit}
 use Rattle.tile_board.proofs.CountLaws.{times-append, times-drawn, fit_more_tickets, times_credited-push, credited-push}
 
 ticket_list : (tickets number : ℕ) → length (if nat_lt number tickets then number ∷ [] else []) ≤ 1

@@ -1,5 +1,5 @@
 -- what the totals of a closed board are
-use Rattle.std.specs.Prelude.{ℕ, ◌+◌, ◌<◌, ◌≤◌, ◌≡◌, ◌↔◌, List, length, slice_index}
+use Rattle.std.specs.Prelude.{ℕ, ◌+◌, ◌<◌, ◌≤◌, ◌≡◌, ◌↔◌, List, slice_index}
 use Rattle.tile_board.specs.Counts.{Drew, credited}
 use Rattle.tile_board.specs.declared.views.Limits.{Limits}
 use Rattle.tile_board.specs.declared.views.View.{View}

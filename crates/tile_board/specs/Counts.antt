@@ -1,6 +1,5 @@
 -- what a hand has drawn and credited, in numbers
 use Rattle.std.specs.Prelude.{ℕ, ◌<◌, ◌==◌, ◌&&◌, List, count_by, sum_by, if◌then◌else◌}
-use Rattle.tile_board.specs.declared.views.Credit.{Credit}
 use Rattle.tile_board.specs.declared.views.View.{View}
 
 -- how often the number stands in the list

@@ -1,5 +1,5 @@
 -- what holds of each hand by itself
-use Rattle.std.specs.Prelude.{ℕ, ◌≤◌, List, length, All}
+use Rattle.std.specs.Prelude.{ℕ, ◌≤◌, length, All}
 use Rattle.tile_board.specs.Counts.{times, Drew, times_credited}
 use Rattle.tile_board.specs.declared.views.View.{View}
 

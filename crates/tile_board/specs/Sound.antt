@@ -1,5 +1,5 @@
 -- what holds of a board at any time
-use Rattle.std.specs.Prelude.{ℕ, ◌+◌, ◌<◌, ◌≤◌, ◌≡◌, List, length, All, min, nat_lt, slice_index, sum_by, if◌then◌else◌}
+use Rattle.std.specs.Prelude.{ℕ, ◌+◌, ◌<◌, ◌≤◌, ◌≡◌, length, All, min, nat_lt, slice_index, sum_by, if◌then◌else◌}
 use Rattle.tile_board.specs.Counts.{times, Drew, times_credited, credited}
 use Rattle.tile_board.specs.Machine.{BoardState}
 use Rattle.tile_board.specs.declared.views.Limits.{Limits}

@@ -1,4 +1,4 @@
-use Rattle.std.proofs.Common.{ℕ, ◌+◌, ◌*◌}
+use Rattle.std.proofs.Common.{◌+◌, ◌*◌}
 use Rattle.board_rows.proofs.threads.+fn-work_in_parts-join+arg2+fn-work_in_parts-join+arg3+work_in_parts.Given as goal
 
 -- a part has one halving less, and its closure comes between

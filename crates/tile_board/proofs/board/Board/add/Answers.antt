@@ -1,4 +1,4 @@
-use Rattle.std.proofs.Common.{refl, subst, arith, ap}
+use Rattle.std.proofs.Common.{refl, subst, arith}
 use Rattle.atomic_table.specs.Table.{keeps}
 use Rattle.tile_board.specs.declared.views.Limits.{Limits}
 use Rattle.tile_board.specs.Machine.{with_credit, MayCredit}
