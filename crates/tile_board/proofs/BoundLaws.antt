@@ -27,7 +27,7 @@ module _ {X : Type 0} where
   sum_by-both f g h each [] = refl
   sum_by-both f g h each (x ∷ xs) = omega (arith, each x, sum_by-both f g h each xs, sum_by-cons f x xs, sum_by-cons g x xs, sum_by-cons h x xs)
 
-  sum_by-scaled : (f : X → ℕ) (k : ℕ) (xs : List X) → sum_by (λ x. f x * k) xs ≡ sum_by f xs * k
+  pub sum_by-scaled : (f : X → ℕ) (k : ℕ) (xs : List X) → sum_by (λ x. f x * k) xs ≡ sum_by f xs * k
   sum_by-scaled f k [] = omega arith
   sum_by-scaled f k (x ∷ xs) = rw (sum_by-cons f x xs) (omega (arith, sum_by-cons (λ y. f y * k) x xs, sum_by-scaled f k xs, add-mul (f x) (sum_by f xs) k))
 

@@ -6,3 +6,4 @@ pub mod BoundLaws
 pub mod RunningLaws
 pub mod HandLaws
 pub mod ClosingLaws
+pub mod SumLaws

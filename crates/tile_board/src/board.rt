@@ -1,4 +1,5 @@
-ghost use Rattle.std.specs.Prelude.{ℕ, ◌≡◌, ◌≤◌, ◌<◌, ◌+◌, ◌*◌, ◌^◌, ◌==◌, ◌&&◌, if◌then◌else◌, [], ◌∷◌, IfOk, IfSome, IfNone, length, slice_index};
+ghost use Rattle.std.specs.Prelude.{ℕ, ◌≡◌, ◌≤◌, ◌<◌, ◌+◌, ◌*◌, ◌^◌, ◌==◌, ◌&&◌, if◌then◌else◌, [], ◌∷◌};
+ghost use Rattle.std.specs.Prelude.{IfOk, IfSome, IfNone, length, slice_index};
 ghost use Rattle.std.specs.Slots.{slots_items, slots_len, IsFull};
 ghost use Rattle.tile_board.specs.Closing.{HasAllDraws, AreAtLeast, AreSums, DrewAll};
 ghost use Rattle.tile_board.specs.Counts.{Drew, times_credited};
@@ -13,7 +14,8 @@ use lists::NoMemory;
 use std::alloc::Global;
 use std::marker::Brand;
 
-/// Tickets and totals that threads share.
+/// Tickets and totals that threads share. Contracts see what it is made for (`limits_of`) and which hands are its own
+/// (`BelongsTo`). It takes its memory as it is made, and no call but `close` takes more.
 #[derive(Drop)]
 pub struct Board {
     table: Table<u64, View, Limits, SoundBoard, Global>,
@@ -24,7 +26,10 @@ pub struct Board {
     ghost ranges: { AreInRange limits },
 }
 
-/// What one thread draws and credits with.
+/// What one thread draws and credits with. Contracts see what it has done and may still do (`view_of`): its tickets, its
+/// credits, and how many draws it has made and has left. At run time it is the last number alone.
+///
+/// A hand that is dropped keeps what it has, so no other hand has all draws any more, unless it had none.
 #[derive(Drop)]
 pub struct Hand {
     seat: Seat<u64, View>,
@@ -62,7 +67,8 @@ impl Board {
         requires totals_fit { tickets * cap < 2 ^ 63 }
         requires some_draws { 1 ≤ draws }
         requires few_draws { draws ≤ MOST_DRAWS }
-        ensures limits { IfOk result (λ made. limits_of made.0 ≡ record { tickets = tickets; slots = slots; cap = cap; draws = draws }) }
+        ensures limits { IfOk result (λ made. limits_of made.0 ≡
+            record { tickets = tickets; slots = slots; cap = cap; draws = draws }) }
         ensures belongs { IfOk result (λ made. BelongsTo made.0 made.1) }
         ensures opening { IfOk result (λ made. view_of made.1 ≡ fresh draws) }
     {
@@ -77,7 +83,8 @@ impl Board {
         Ok((Board { table, limits }, Hand { seat, left: draws }))
     }
 
-    /// Draws the next number, at one atomic step.
+    /// Draws the next number, at one atomic step, and uses one of the hand's draws up. A number below the count of tickets
+    /// is a ticket, which no other hand has. `None` comes where the number is none, so that all tickets were drawn.
     pub fn draw(&self, hand: &mut Hand) -> Option<u64>
         requires belongs { BelongsTo self.now hand.old }
         requires draw_left { 0 < (view_of hand.old).left }
@@ -98,7 +105,8 @@ impl Board {
         }
     }
 
-    /// Adds the amount to the slot's total on account of the ticket, at one atomic step.
+    /// Adds the amount to the slot's total on account of the ticket, at one atomic step. The hand drew the ticket and has
+    /// not credited it to this slot before.
     pub fn credit(&self, hand: &mut Hand, ticket: u64, slot: u32, amount: u64)
         requires belongs { BelongsTo self.now hand.old }
         requires drawn { Drew (view_of hand.old) ticket }
@@ -106,7 +114,8 @@ impl Board {
         requires slot { slot < (limits_of self.now).slots }
         requires amount { amount ≤ (limits_of self.now).cap }
         ensures belongs { BelongsTo self.now hand.new }
-        ensures credited { view_of hand.new ≡ with_credit (record { ticket = ticket; slot = slot; amount = amount }) (view_of hand.old) }
+        ensures credited { view_of hand.new ≡
+            with_credit (record { ticket = ticket; slot = slot; amount = amount }) (view_of hand.old) }
         // It counts at its own ticket and slot alone.
         ensures counted { (t s : ℕ) → times_credited (view_of hand.new) t s ≡ times_credited (view_of hand.old) t s
             + (if (ticket == t) && (slot == s) then 1 else 0) }
@@ -119,7 +128,7 @@ impl Board {
         self.add::<Brand>(&mut hand.seat, credit);
     }
 
-    /// Moves so many draws to a new hand, which has nothing else.
+    /// Moves so many of the hand's draws to a new hand, which has nothing else.
     pub fn split(&self, hand: &mut Hand, draws: u64) -> Hand
         requires belongs { BelongsTo self.now hand.old }
         requires enough { draws ≤ (view_of hand.old).left }
@@ -133,7 +142,7 @@ impl Board {
         Hand { seat, left: draws }
     }
 
-    /// Gives all that the other hand has to the first.
+    /// Gives all that the other hand has to the first: tickets, credits, and draws made and left.
     pub fn join(&self, hand: &mut Hand, other: Hand)
         requires belongs { BelongsTo self.now hand.old }
         requires other_belongs { BelongsTo self.now other }
@@ -227,7 +236,8 @@ impl Board {
 fn read_totals(closed: &Closed<u64, Global>, totals: &mut [u64])
     requires words { slots_len closed.now.words ≡ length totals.old + 1 }
     requires full { IsFull closed.now.words }
-    ensures { (slot : ℕ) → slot < length totals.new → slice_index totals.new slot ≡ slice_index (slots_items closed.now.words) (slot + 1) }
+    ensures { (slot : ℕ) → slot < length totals.new →
+        slice_index totals.new slot ≡ slice_index (slots_items closed.now.words) (slot + 1) }
 {
     for slot in 0..totals.len() {
         totals[slot] = closed.word(slot + 1);

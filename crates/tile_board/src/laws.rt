@@ -1,8 +1,11 @@
 //! Laws of the machine.
 
-ghost use Rattle.std.specs.Prelude.{ℕ, List, All, sum_by, ◌*◌, ◌≤◌};
+ghost use Rattle.std.specs.Prelude.{ℕ, List, All, sum_by, ◌*◌, ◌≤◌, ◌≡◌};
 ghost use Rattle.tile_board.specs.declared.views.Limits.{Limits};
-ghost use Rattle.tile_board.specs.Counts.{times_credited};
+ghost use Rattle.tile_board.specs.declared.views.View.{View};
+ghost use Rattle.tile_board.specs.Closing.{DrewAll, CreditsEach, sum_below};
+ghost use Rattle.tile_board.specs.Counts.{times_credited, credited};
+ghost use Rattle.tile_board.specs.HandFacts.{IsHandView};
 ghost use Rattle.tile_board.specs.Machine.{BoardState, Event, AreAllowed, opening, after_events};
 ghost use Rattle.tile_board.specs.Sound.{IsSound};
 
@@ -22,4 +25,10 @@ pub fn credits_are_single()
 pub fn totals_are_bounded()
     ensures { (limits : Limits) (s : BoardState) → IsSound limits s →
         All (λ total. total ≤ limits.tickets * limits.cap) s.totals }
+{}
+
+/// What a hand added to a slot that drew all tickets and credited each of them once: the sum over all tickets.
+pub fn all_tickets_are_summed()
+    ensures { (limits : Limits) (v : View) (slot : ℕ) (amount : ℕ → ℕ) → IsHandView v → DrewAll limits v →
+        CreditsEach v slot amount → credited v slot ≡ sum_below limits.tickets amount }
 {}
