@@ -1,0 +1,9 @@
+pub mod CountLaws
+pub mod StepLaws
+pub mod JoinLaws
+pub mod RunLaws
+pub mod BoundLaws
+pub mod RunningLaws
+pub mod HandLaws
+pub mod ClosingLaws
+pub mod SumLaws
