@@ -147,11 +147,13 @@ fn find<F: Files>(
 ///
 /// The words are the arguments of the program, in any order: a layout's file, and either the options `layer`, `datatype`
 /// and `radius` or the option `map` with the file of a layer map, or else `generate` with a number of columns, which asks for a
-/// layout that is made here and needs no file. The first two may have `top`, the name of the structure that is analysed with all
-/// that it places, in place of the one that no reference names, and all three may have `tile`, the edge of the tiles over which areas are
-/// counted, and `workers`, which is used for nothing yet; neither changes what is printed. `files` gives the map and the layout, `out` gets the report, and `err` the line of a refusal. The gauges are
-/// told the rows of the report, and print at its end, in their order, for all rows that they have seen. A run drops none of
-/// them, and a run that is refused tells them nothing.
+/// layout that is made here and needs no file. The first two may have `top`, the name of the structure that is analysed with
+/// all that it places, in place of the one that no reference names. All three may have `tile`, the edge of the tiles over which
+/// areas are counted, and `workers`, which is used for nothing yet; neither changes what is printed.
+///
+/// `files` gives the map and the layout, `out` gets the report, and `err` the line of a refusal. The gauges are told the rows
+/// of the report, and print at its end, in their order, for all rows that they have seen. A run drops none of them, and a run
+/// that is refused tells them nothing.
 ///
 /// | why it ended | status | printed to `out` | printed to `err` |
 /// |---|---|---|---|
