@@ -1,0 +1,3 @@
+pub mod Crediting
+-- what only this crate's proofs and private contracts cite
+pub mod inside

@@ -1,0 +1,31 @@
+-- what a worker has done at each moment
+use Rattle.std.specs.Prelude.{ℕ, ◌+◌, ◌<◌, ◌≤◌, ◌≡◌, ◌≢◌, All, length}
+use Rattle.tile_board.specs.Counts.{Drew, times_credited}
+use Rattle.tile_board.specs.declared.views.View.{View}
+use Rattle.tile_work.specs.Crediting.{HasCredits}
+
+-- each draw has given a ticket so far, and one draw more is left than the tickets that may still come
+pub record DrewTickets (tickets : ℕ) (view : View) : Type 0 where
+  pub made : view.made ≡ length view.tickets
+  pub draws : view.made + view.left ≡ tickets + 1
+  pub below : All (λ ticket. ticket < tickets) view.tickets
+
+-- between two tickets: all that were drawn are credited
+pub record IsWorking (tickets slots : ℕ) (amount : ℕ → ℕ → ℕ) (view : View) : Type 0 where
+  pub drew : DrewTickets tickets view
+  pub credits : HasCredits slots amount view
+
+-- while a ticket is credited: it is at the slots below a bound, and the tickets before it are at all of them
+pub record IsCrediting (tickets slots : ℕ) (amount : ℕ → ℕ → ℕ) (ticket bound : ℕ) (view : View) : Type 0 where
+  pub drew : DrewTickets tickets view
+  pub here : Drew view ticket
+  pub others : (t slot : ℕ) → Drew view t → t ≢ ticket → slot < slots → times_credited view t slot ≡ 1
+  pub credited : (slot : ℕ) → slot < bound → times_credited view ticket slot ≡ 1
+  pub open_still : (slot : ℕ) → bound ≤ slot → times_credited view ticket slot ≡ 0
+  pub within : All (λ c. c.slot < slots) view.credits
+  pub amounts : All (λ c. c.amount ≡ amount c.ticket c.slot) view.credits
+
+-- a hand that was told that no ticket is left, and has credited all of its own
+pub record HasWorked (slots : ℕ) (amount : ℕ → ℕ → ℕ) (view : View) : Type 0 where
+  pub none_left : length view.tickets < view.made
+  pub credits : HasCredits slots amount view

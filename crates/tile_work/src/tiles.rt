@@ -1,0 +1,108 @@
+ghost use Rattle.std.specs.Prelude.{◌+◌, ◌*◌, ◌≡◌, ◌≤◌, ◌<◌, OnOk, length};
+ghost use Rattle.std.specs.Thread.{IsSync};
+ghost use Rattle.tile_board.specs.Closing.{HasAllDraws};
+ghost use Rattle.tile_board.specs.Hands.{limits_of, view_of, BelongsTo};
+ghost use Rattle.tile_board.specs.Machine.{fresh};
+ghost use Rattle.tile_work.specs.Crediting.{HasCredits, IsMadeFor};
+ghost use Rattle.tile_work.specs.inside.Working.{HasWorked};
+
+use super::gate::Gate;
+use super::job::TileJob;
+use super::working::work;
+use lists::NoMemory;
+use std::alloc::Global;
+use std::thread;
+use std::thread::Threads;
+use tile_board::{Board, Hand};
+
+/// The most workers that may share a board's tickets.
+pub const MOST_WORKERS: u32 = 64;
+
+/// Draws all tickets of the board and credits the amounts of the job, by so many workers at once, each in a thread of its
+/// own. All of them have ended when it answers, and the hand has all that they drew and credited. A worker draws until it
+/// is told that no ticket is left, and lets each ticket pass the gate before it asks for its amounts. Where a thread cannot
+/// be started the caller does that worker's part itself.
+///
+/// The only error is that no memory is left. The worker that finds none stops, and the others go on to their end. Then
+/// some tickets may be without credits.
+pub fn run_tiles<R: Threads + Sync, J: TileJob + Sync, G: Gate + Sync>(
+    rt: &R,
+    alloc: Global,
+    job: &J,
+    gate: &G,
+    board: &Board,
+    hand: &mut Hand,
+    workers: u32,
+) -> Result<(), NoMemory>
+    requires some_workers { 1 ≤ workers }
+    requires few_workers { workers ≤ MOST_WORKERS }
+    requires made_for { IsMadeFor (limits_of board.now) (J.tickets job.now) (J.slots job.now) (J.amount job.now) }
+    requires all_draws { (limits_of board.now).draws ≡ workers * (J.tickets job.now + 1) }
+    requires belongs { BelongsTo board.now hand.old }
+    requires none_made { (view_of hand.old).made ≡ 0 }
+    requires all_left { (view_of hand.old).left ≡ (limits_of board.now).draws }
+    ensures belongs { BelongsTo board.now hand.new }
+    ensures draws { HasAllDraws (limits_of board.now) (view_of hand.new) }
+    // More draws than tickets: a worker was told that none are left.
+    ensures none_left { OnOk result (length (view_of hand.new).tickets < (view_of hand.new).made) }
+    ensures credits { OnOk result (HasCredits (J.slots job.now) (J.amount job.now) (view_of hand.new)) }
+{
+    let draws = hand.left();
+    let own = board.split(hand, draws);
+    let (own, outcome) = work_in_halves(rt, alloc, job, gate, board, own, workers);
+    board.join(hand, own);
+    outcome
+}
+
+// Halves the workers until there is one, and lets both halves work at once, each with draws for its own.
+fn work_in_halves<R: Threads + Sync, J: TileJob + Sync, G: Gate + Sync>(
+    rt: &R,
+    alloc: Global,
+    job: &J,
+    gate: &G,
+    board: &Board,
+    mut hand: Hand,
+    workers: u32,
+) -> (Hand, Result<(), NoMemory>)
+    requires some_workers { 1 ≤ workers }
+    requires made_for { IsMadeFor (limits_of board.now) (J.tickets job.now) (J.slots job.now) (J.amount job.now) }
+    requires belongs { BelongsTo board.now hand }
+    requires unused { view_of hand ≡ fresh (workers * (J.tickets job.now + 1)) }
+    ensures belongs { BelongsTo board.now result.0 }
+    ensures draws { (view_of result.0).made + (view_of result.0).left ≡ workers * (J.tickets job.now + 1) }
+    ensures worked { OnOk result.1 (HasWorked (J.slots job.now) (J.amount job.now) (view_of result.0)) }
+{
+    if workers == 1 {
+        let outcome = work(alloc, job, gate, board, &mut hand);
+        return (hand, outcome);
+    }
+    let half = workers / 2;
+    let rest = workers - half;
+    let draws = hand.left() / u64::from(workers) * u64::from(half);
+    let other = board.split(&mut hand, draws);
+    let ((mut hand, outcome), (other, other_outcome)) = thread::join(
+        rt,
+        || -> (Hand, Result<(), NoMemory>)
+            requires sync { IsSync R.row × IsSync J.row × IsSync G.row }
+            requires some_workers { 1 ≤ rest }
+            requires made_for { IsMadeFor (limits_of board.now) (J.tickets job.now) (J.slots job.now) (J.amount job.now) }
+            requires belongs { BelongsTo board.now hand }
+            requires unused { view_of hand ≡ fresh (rest * (J.tickets job.now + 1)) }
+            ensures belongs { BelongsTo board.entry.now result.0 }
+            ensures draws { (view_of result.0).made + (view_of result.0).left ≡ rest * (J.tickets job.entry.now + 1) }
+            ensures worked { OnOk result.1 (HasWorked (J.slots job.entry.now) (J.amount job.entry.now) (view_of result.0)) }
+        { work_in_halves(rt, alloc, job, gate, board, hand, rest) },
+        || -> (Hand, Result<(), NoMemory>)
+            requires sync { IsSync R.row × IsSync J.row × IsSync G.row }
+            requires some_workers { 1 ≤ half }
+            requires made_for { IsMadeFor (limits_of board.now) (J.tickets job.now) (J.slots job.now) (J.amount job.now) }
+            requires belongs { BelongsTo board.now other }
+            requires unused { view_of other ≡ fresh (half * (J.tickets job.now + 1)) }
+            ensures belongs { BelongsTo board.entry.now result.0 }
+            ensures draws { (view_of result.0).made + (view_of result.0).left ≡ half * (J.tickets job.entry.now + 1) }
+            ensures worked { OnOk result.1 (HasWorked (J.slots job.entry.now) (J.amount job.entry.now) (view_of result.0)) }
+        { work_in_halves(rt, alloc, job, gate, board, other, half) },
+    );
+    board.join(&mut hand, other);
+    (hand, outcome.and(other_outcome))
+}
