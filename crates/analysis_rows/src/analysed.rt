@@ -1,4 +1,4 @@
-use critarea_core::{LayoutFault, analyse};
+use critarea_core::{LayoutFault, NoGate, analyse};
 use layer_map::read_map;
 use map_model::{Map, one_metal};
 use std::alloc::Global;
@@ -50,19 +50,23 @@ fn stage_of(fault: LayoutFault) -> &'static str {
     }
 }
 
-/// Whether the analysis of these bytes answers so, for tiles with this edge.
+/// Whether the analysis of these bytes answers so, for tiles with this edge and so many workers.
 fn answers(
     rt: &(impl Threads + Sync),
     alloc: Global,
     map: &Map,
     layout: &[u8],
     top: Option<&[u8]>,
-    edge: u32,
+    (edge, workers): (u32, u32),
     want: Want,
 ) -> bool {
     let edge = edge.clamp(1, 1_000_000_000);
+    let workers = workers.clamp(1, 64);
     let layout = &layout[..layout.len().min(230)];
-    match (analyse(rt, alloc, map, layout, top, edge), want) {
+    match (
+        analyse(rt, alloc, map, layout, top, edge, workers, &NoGate),
+        want,
+    ) {
         (Ok(rows), Want::Areas(shorts, opens)) => {
             rows.len() == 2 && rows[0].area == shorts && rows[1].area == opens
         }
@@ -90,11 +94,19 @@ const ROWS: &[(usize, u8, Option<&[u8]>, Want)] = &[
     (193, 0x01, None, Want::Fault("cover", 31, 158)),
 ];
 
-/// Edges of tiles: the window is 30 by 16 cells.
-const EDGES: &[u32] = &[1, 3, 7, 16, 30, 65_536, 1_000_000_000];
+/// Edges of tiles, and numbers of workers: the window is 30 by 16 cells.
+const TILES: &[(u32, u32)] = &[
+    (1, 2),
+    (3, 64),
+    (7, 4),
+    (16, 2),
+    (30, 1),
+    (65_536, 4),
+    (1_000_000_000, 64),
+];
 
-/// Whether the analysis answers so for tiles of all of the edges.
-fn each_edge_answers(
+/// Whether the analysis answers so for all of these tiles and workers.
+fn each_of_tiles_answers(
     rt: &(impl Threads + Sync),
     alloc: Global,
     map: &Map,
@@ -102,8 +114,8 @@ fn each_edge_answers(
     top: Option<&[u8]>,
     want: Want,
 ) -> bool {
-    for edge in EDGES {
-        if !answers(rt, alloc, map, layout, top, *edge, want) {
+    for tiles in TILES {
+        if !answers(rt, alloc, map, layout, top, *tiles, want) {
             return false;
         }
     }
@@ -121,7 +133,7 @@ fn row_is_answered(
         layout[*place] = *byte;
     }
     match one_metal(alloc, 1, 0, 3) {
-        Ok(map) => each_edge_answers(rt, alloc, &map, &layout, *top, *want),
+        Ok(map) => each_of_tiles_answers(rt, alloc, &map, &layout, *top, *want),
         Err(_) => false,
     }
 }
@@ -140,7 +152,7 @@ const OFF_METAL: &[u8] = b"version=1\nradii=[3]\nweights=[1]\nmetal=[{name=\"m\"
 /// Whether a terminal beside its metal is told.
 fn terminal_is_told(rt: &(impl Threads + Sync), alloc: Global) -> bool {
     match read_map(alloc, OFF_METAL) {
-        Ok(map) => each_edge_answers(rt, alloc, &map, TWO_BARS, None, Want::Fault("net", 50, 1)),
+        Ok(map) => each_of_tiles_answers(rt, alloc, &map, TWO_BARS, None, Want::Fault("net", 50, 1)),
         Err(_) => false,
     }
 }

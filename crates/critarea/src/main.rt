@@ -1,8 +1,8 @@
 //! The program: the words of the command line, the files of the system, its standard output and error, and the gauges `Peak`
-//! and `Nonzero`, handed to `critarea_core::run`.
+//! and `Nonzero`, handed to `critarea_core::run`, with a gate that holds nothing.
 #![tactic(auto)]
 
-use critarea_core::{Word, run, system_words};
+use critarea_core::{NoGate, Word, run, system_words};
 use edge_io::{Files, OsFiles, OsSink, Sink};
 use gauges::{Gauge, Nonzero, Peak};
 use std::alloc::{AllocError, Global};
@@ -24,7 +24,7 @@ fn run_gauged<F: Files, O: Sink, E: Sink>(
     let mut gauges: Vec<Box<dyn Gauge>> = Vec::new(alloc);
     gauges.push(Box::new(alloc, Peak::new(alloc))?)?;
     gauges.push(Box::new(alloc, Nonzero::new(alloc))?)?;
-    Ok(run(rt, alloc, words, files, out, err, &mut gauges))
+    Ok(run(rt, alloc, words, files, out, err, &mut gauges, &NoGate))
 }
 
 fn main(rt: HostRuntime) -> ExitCode {

@@ -15,7 +15,7 @@ ghost use Rattle.critarea_core.specs.Refusals.{layout_limit};
 
 use super::layers::layers_of;
 use super::layout_fault::LayoutFault;
-use critical_areas::critical_areas;
+use critical_areas::{Gate, critical_areas};
 use flatten::place;
 use gds_syntax::{Library, read_library};
 use map_model::{Layers, Map};
@@ -55,51 +55,61 @@ fn layers_of_library(
 fn rows_on(alloc: Global, map: &Map, layers: &Layers, edge: u32) -> Result<Vec<Row>, LayoutFault>
     requires some { 1 ≤ edge }
     requires short { edge ≤ 1000000000 }
+    requires some_workers { 1 ≤ workers }
+    requires few_workers { workers ≤ 64 }
     requires one_each { length layers.now.lists.items ≡ length map.now.metals + length map.now.cuts }
     requires within { All (All IsInLayout) layers.now.lists.items }
     ensures { (subject : Subject) → AreLayersFor (layer_map_of map.now) subject layers.now →
         Analyses (TerminalsComeTo subject) HasRows result }
 {
-    Ok(critical_areas(alloc, map, layers, edge)?)
+    Ok(critical_areas(rt, alloc, map, layers, edge, workers, gate)?)
 }
 
 /// The rows of the map on a library, of which this top is wanted, or any.
-fn rows_of_library(
+fn rows_of_library<G: Gate + Sync>(
     rt: &(impl Threads + Sync),
     alloc: Global,
     map: &Map,
     top: Option<&[u8]>,
     library: Library,
     edge: u32,
+    workers: u32,
+    gate: &G,
 ) -> Result<Vec<Row>, LayoutFault>
     requires some { 1 ≤ edge }
     requires short { edge ≤ 1000000000 }
+    requires some_workers { 1 ≤ workers }
+    requires few_workers { workers ≤ 64 }
     requires differ { AreDifferent (names_of library.structures) }
     requires pointed { AreWellPointed library.structures }
     ensures { Analyses (Then (LibraryComesTo (layer_map_of map.now) (option_copied top.entry) library) TerminalsComeTo) HasRows result }
 {
     let layers = layers_of_library(rt, alloc, map, top, library)?;
-    rows_on(alloc, map, &layers, edge)
+    rows_on(rt, alloc, map, &layers, edge, workers, gate)
 }
 
 /// The rows of the map on the layout with these bytes, of which this top is wanted, or any. The bytes are let go once the
 /// library is read.
-pub fn rows_of_bytes(
+pub fn rows_of_bytes<G: Gate + Sync>(
     rt: &(impl Threads + Sync),
     alloc: Global,
     map: &Map,
     top: Option<&[u8]>,
     bytes: Vec<u8>,
     edge: u32,
+    workers: u32,
+    gate: &G,
 ) -> Result<Vec<Row>, LayoutFault>
     requires some { 1 ≤ edge }
     requires short { edge ≤ 1000000000 }
+    requires some_workers { 1 ≤ workers }
+    requires few_workers { workers ≤ 64 }
     requires within { length bytes.items ≤ layout_limit }
     ensures { Analyses (ShortLayoutComesTo (layer_map_of map.now) (option_copied top.entry) bytes.items) HasRows result }
 {
     let library = read_library(alloc, bytes.as_slice())?;
     drop(bytes);
-    rows_of_library(rt, alloc, map, top, library, edge)
+    rows_of_library(rt, alloc, map, top, library, edge, workers, gate)
 }
 
 /// The rows of a report of the map on a layout: shorts of each metal, then opens of each, and then via blocks of each cut,
@@ -107,24 +117,29 @@ pub fn rows_of_bytes(
 ///
 /// The layout is at most 268,435,456 bytes of a GDSII stream. `top` is the name of the structure that is analysed with all
 /// that it places; where it is left out it is the one that no reference names. `edge` is that of the tiles over which areas
-/// are counted, 1 to 1,000,000,000 database units, and changes no row.
+/// are counted, 1 to 1,000,000,000 database units, and `workers`, 1 to 64, share them at once, each in a thread of its own; each
+/// tile passes the gate before it is counted. None of these changes a row.
 ///
 /// The error is the layout's first fault: of its bytes, then of the placement of its shapes, then of the cover of each placed
 /// shape, and at last the first terminal of the map whose cell its metal does not cover; or that no memory is left.
-pub fn analyse(
+pub fn analyse<G: Gate + Sync>(
     rt: &(impl Threads + Sync),
     alloc: Global,
     map: &Map,
     layout: &[u8],
     top: Option<&[u8]>,
     edge: u32,
+    workers: u32,
+    gate: &G,
 ) -> Result<Vec<Row>, LayoutFault>
     requires some { 1 ≤ edge }
     requires short { edge ≤ 1000000000 }
+    requires some_workers { 1 ≤ workers }
+    requires few_workers { workers ≤ 64 }
     requires within { length layout.now ≤ layout_limit }
     ensures rows { Answers LayoutFault.Memory (AnalysisComesTo (layer_map_of map.now) (option_copied top.entry) layout.now) result }
     ensures few { IfOk result (λ rows. length rows.items ≤ MOST_ROWS) }
 {
     let library = read_library(alloc, layout)?;
-    rows_of_library(rt, alloc, map, top, library, edge)
+    rows_of_library(rt, alloc, map, top, library, edge, workers, gate)
 }

@@ -16,6 +16,7 @@ use super::printing::print;
 use super::refusal::{LAYOUT_LIMIT, LAYOUT_TOO_LONG, Refusal, USAGE};
 use super::unreported::Unreported;
 use command_line::{Request, Task, Word, WordsFault, read_words};
+use critical_areas::Gate;
 use edge_io::{Files, Sink, read_whole};
 use gauges::Gauge;
 use layout_gen::{MOST_COLUMNS, generate};
@@ -26,24 +27,28 @@ use std::alloc::Global;
 use std::thread::Threads;
 
 /// The rows of the map on the layout with these bytes, of which this top is wanted, or any.
-fn rows_of_layout(
+fn rows_of_layout<G: Gate + Sync>(
     rt: &(impl Threads + Sync),
     alloc: Global,
     map: &Map,
     top: Option<&[u8]>,
     bytes: Vec<u8>,
     edge: u32,
+    workers: u32,
+    gate: &G,
 ) -> Result<Vec<Row>, Unreported>
     requires some { 1 ≤ edge }
     requires short { edge ≤ 1000000000 }
+    requires some_workers { 1 ≤ workers }
+    requires few_workers { workers ≤ 64 }
     requires within { length bytes.items ≤ layout_limit }
     ensures { Finds (LayoutComesTo (layer_map_of map.now) (option_copied top.entry) bytes.items) HasRows result }
 {
-    Ok(rows_of_bytes(rt, alloc, map, top, bytes, edge)?)
+    Ok(rows_of_bytes(rt, alloc, map, top, bytes, edge, workers, gate)?)
 }
 
 /// The rows of the map on the layout in the file of this name, of which this top is wanted, or any; or why there are none.
-fn rows_of_file<F: Files>(
+fn rows_of_file<F: Files, G: Gate + Sync>(
     rt: &(impl Threads + Sync),
     alloc: Global,
     map: &Map,
@@ -51,9 +56,13 @@ fn rows_of_file<F: Files>(
     files: &mut F,
     name: &[u8],
     edge: u32,
+    workers: u32,
+    gate: &G,
 ) -> Result<Vec<Row>, Unreported>
     requires some { 1 ≤ edge }
     requires short { edge ≤ 1000000000 }
+    requires some_workers { 1 ≤ workers }
+    requires few_workers { workers ≤ 64 }
     ensures found { FindsInFiles (change (F.faults files.old) (F.faults files.new)) (IsOneOf (name.now ∷ []))
         (LayoutMayCome (F.holds files.old) (layer_map_of map.now) (option_copied top.entry) name.now) HasRows result }
     ensures starts { Appends (F.starts files.old) (F.starts files.new) (name.now ∷ []) }
@@ -66,25 +75,29 @@ fn rows_of_file<F: Files>(
             return Err(Unreported::of_unread(error, too_long));
         }
     };
-    rows_of_layout(rt, alloc, map, top, bytes, edge)
+    rows_of_layout(rt, alloc, map, top, bytes, edge, workers, gate)
 }
 
 /// The rows of the map on the generated layout of so many columns.
-fn rows_of_generated(
+fn rows_of_generated<G: Gate + Sync>(
     rt: &(impl Threads + Sync),
     alloc: Global,
     map: &Map,
     columns: u32,
     edge: u32,
+    workers: u32,
+    gate: &G,
 ) -> Result<Vec<Row>, Unreported>
     requires some_columns { 1 ≤ columns }
     requires few_columns { columns ≤ MOST_COLUMNS }
     requires some { 1 ≤ edge }
     requires short { edge ≤ 1000000000 }
+    requires some_workers { 1 ≤ workers }
+    requires few_workers { workers ≤ 64 }
     ensures { Finds (LayoutComesTo (layer_map_of map.now) None (generated_layout columns)) HasRows result }
 {
     let made = generate(alloc, columns)?;
-    rows_of_layout(rt, alloc, map, None, made.layout, edge)
+    rows_of_layout(rt, alloc, map, None, made.layout, edge, workers, gate)
 }
 
 /// The name of the structure that is wanted as the top, where one is.
@@ -98,11 +111,12 @@ fn top_of(task: &Task) -> Option<&[u8]>
 }
 
 /// The rows that are asked for, or why there are none. The map is read first, and the layout only where the map is good.
-fn rows_of_request<F: Files>(
+fn rows_of_request<F: Files, G: Gate + Sync>(
     rt: &(impl Threads + Sync),
     alloc: Global,
     request: &Request,
     files: &mut F,
+    gate: &G,
 ) -> Result<Vec<Row>, Unreported>
     requires { HasFittingNumbers request.now.task }
     ensures found { (words : List (List ℕ)) → Ask words request.now →
@@ -116,20 +130,23 @@ fn rows_of_request<F: Files>(
         Err(why) => return Err(why),
     };
     let top = top_of(&request.task);
+    let edge = request.edge;
+    let workers = request.workers;
     match &request.task {
         Task::OneMetal { layout, .. } | Task::Mapped { layout, .. } => {
-            rows_of_file(rt, alloc, &map, top, files, layout.as_slice(), request.edge)
+            rows_of_file(rt, alloc, &map, top, files, layout.as_slice(), edge, workers, gate)
         }
-        Task::Generated { columns } => rows_of_generated(rt, alloc, &map, *columns, request.edge),
+        Task::Generated { columns } => rows_of_generated(rt, alloc, &map, *columns, edge, workers, gate),
     }
 }
 
 /// The rows that the words ask for, or why there are none.
-fn find<F: Files>(
+fn find<F: Files, G: Gate + Sync>(
     rt: &(impl Threads + Sync),
     alloc: Global,
     words: &[Word],
     files: &mut F,
+    gate: &G,
 ) -> Result<Vec<Row>, Unreported>
     ensures found { IsFound words.now (F.holds files.old) (change (F.faults files.old) (F.faults files.new)) result }
     ensures started { StartsNamed words.now (F.holds files.old) (change (F.starts files.old) (F.starts files.new)) }
@@ -137,7 +154,7 @@ fn find<F: Files>(
     ensures few { AreFew result }
 {
     match read_words(alloc, words) {
-        Ok(request) => rows_of_request(rt, alloc, &request, files),
+        Ok(request) => rows_of_request(rt, alloc, &request, files, gate),
         Err(WordsFault::Usage) => Err(Unreported::Refused(Refusal::of_words(USAGE, 0))),
         Err(WordsFault::Memory) => Err(Unreported::Memory),
     }
@@ -149,11 +166,11 @@ fn find<F: Files>(
 /// and `radius` or the option `map` with the file of a layer map, or else `generate` with a number of columns, which asks for a
 /// layout that is made here and needs no file. The first two may have `top`, the name of the structure that is analysed with
 /// all that it places, in place of the one that no reference names. All three may have `tile`, the edge of the tiles over which
-/// areas are counted, and `workers`, which is used for nothing yet; neither changes what is printed.
+/// areas are counted, and `workers`, how many share these at once; neither changes what is printed.
 ///
 /// `files` gives the map and the layout, `out` gets the report, and `err` the line of a refusal. The gauges are told the rows
 /// of the report, and print at its end, in their order, for all rows that they have seen. A run drops none of them, and a run
-/// that is refused tells them nothing.
+/// that is refused tells them nothing. Each tile passes the gate before it is counted, and no gate changes what is printed.
 ///
 /// | why it ended | status | printed to `out` | printed to `err` |
 /// |---|---|---|---|
@@ -173,7 +190,7 @@ fn find<F: Files>(
 /// where its shapes are not placed, then one of 30 to 36 at the offset of the first placed shape, in the order of the
 /// routes, that has no cover, and at last 50 at the number of the first terminal of the map, counted from 0, whose cell the
 /// shapes of its metal do not cover.
-pub fn run<F: Files, O: Sink, E: Sink>(
+pub fn run<F: Files, O: Sink, E: Sink, G: Gate + Sync>(
     rt: &(impl Threads + Sync),
     alloc: Global,
     words: &[Word],
@@ -181,6 +198,7 @@ pub fn run<F: Files, O: Sink, E: Sink>(
     out: &mut O,
     err: &mut E,
     gauges: &mut Vec<Box<dyn Gauge>>,
+    gate: &G,
 ) -> u8
     ensures { RunsTo words.now (record {
       files = record {
@@ -199,6 +217,6 @@ pub fn run<F: Files, O: Sink, E: Sink>(
       gauges = change (views_of seen text gauges.old.items) (views_of seen text gauges.new.items);
     }) result }
 {
-    let found = find(rt, alloc, words, files);
+    let found = find(rt, alloc, words, files, gate);
     print(alloc, found, gauges, out, err)
 }

@@ -15,5 +15,6 @@ mod unreported;
 pub use analysis::analyse;
 pub use command::run;
 pub use command_line::{Request, Task, Word, WordsFault, read_words};
+pub use critical_areas::{Gate, NoGate};
 pub use layout_fault::LayoutFault;
 pub use told::system_words;

@@ -30,6 +30,8 @@ pub use parts::{IslandList, Parts, PieceList};
 pub use preparing::prepare;
 use questions::Row;
 use std::alloc::Global;
+use std::thread::Threads;
+pub use tile_work::{Gate, NoGate};
 use tiles::tiled_amounts;
 use window::{reach, window_of};
 
@@ -38,19 +40,25 @@ use window::{reach, window_of};
 ///
 /// An area is a number of cells of the window: the bounds of what all layers cover, grown by the greatest radius. It is counted
 /// tile by tile: `edge` is the width and the height of a tile, 1 to 1,000,000,000 database units, and is doubled until there
-/// are at most 1,000,000 tiles. The rows are the same for each edge.
+/// are at most 1,000,000 tiles. So many workers, 1 to 64, share the tiles, each in a thread of its own, and each tile passes the
+/// gate before it is counted. The rows are the same for each edge and for any number of workers.
 ///
 /// The error is 50 with the number, counted from 0, of the first terminal whose cell its metal does not cover, or that no
 /// memory is left.
 #[tactic(auto, using(first_refusal::proofs::AnswerLaws::out_of_memory))]
-pub fn critical_areas(
+pub fn critical_areas<G: Gate + Sync>(
+    rt: &(impl Threads + Sync),
     alloc: Global,
     map: &Map,
     layers: &Layers,
     edge: u32,
+    workers: u32,
+    gate: &G,
 ) -> Result<Vec<Row>, NetFault>
     requires some { 1 ≤ edge }
     requires short { edge ≤ 1000000000 }
+    requires some_workers { 1 ≤ workers }
+    requires few_workers { workers ≤ 64 }
     requires one_each { length layers.now.lists.items ≡ length map.now.metals + length map.now.cuts }
     requires within { All (All IsInLayout) layers.now.lists.items }
     ensures rows { Answers NetFault.Memory (ComeToRows (layer_map_of map.now) layers.now.lists.items) result }
@@ -58,6 +66,6 @@ pub fn critical_areas(
 {
     let window = window_of(layers.lists.as_slice(), reach(map));
     let parts = prepare(alloc, map, layers)?;
-    let amounts = tiled_amounts(alloc, &parts, window, edge)?;
+    let amounts = tiled_amounts(rt, alloc, &parts, window, edge, workers, gate)?;
     Ok(rows(alloc, &parts, &amounts)?)
 }

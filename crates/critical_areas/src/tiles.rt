@@ -7,12 +7,11 @@ ghost use Rattle.map_model.specs.LayerMap.{LayerMap};
 ghost use Rattle.map_model.specs.Measures.{side_of};
 ghost use Rattle.questions.specs.Questions.{IsAskable};
 ghost use Rattle.short_area.specs.Labels.{TouchesTwoLabels};
-ghost use Rattle.tile_plan.specs.Tiles.{tile_count};
-ghost use Rattle.tile_plan.specs.declared.tiles.TilePlan.{TilePlan as Plan};
+ghost use Rattle.questions.specs.declared.row.TheConstants.{MOST_ROWS};
 ghost use Rattle.via_clusters.specs.Blocks.{CoversSomeBox};
 ghost use Rattle.critical_areas.specs.AreaParts.{ArePartsOf};
 ghost use Rattle.critical_areas.specs.Rows.{AreAmounts};
-ghost use Rattle.critical_areas.specs.inside.Sharing.{AreCountedFirst, IsCounted};
+ghost use Rattle.critical_areas.specs.inside.Sharing.{AreCounted, IsCounted};
 
 use super::counting::amounts;
 use super::parts::Parts;
@@ -24,20 +23,29 @@ use map_model::Measure;
 use questions::Kind;
 use short_area::short_area;
 use std::alloc::Global;
+use std::thread::Threads;
+use tile_board::Board;
 use tile_plan::{NearIndex, TilePlan, plan};
+use tile_work::{Gate, TileJob, close_sums, run_tiles};
 use union_area::union_area;
 use via_clusters::via_area;
 
 /// For each question of the parts, in order, how many cells of the window, where there is one, have its fault. They are counted
-/// over tiles with this edge. Where one tile is all of the window nothing is made for tiles.
-pub fn tiled_amounts(
+/// over tiles with this edge, by so many workers at once, and each tile passes the gate. Where one tile is all of the window
+/// nothing is made for tiles.
+pub fn tiled_amounts<G: Gate + Sync>(
+    rt: &(impl Threads + Sync),
     alloc: Global,
     parts: &Parts,
     window: Option<Rect>,
     edge: u32,
+    workers: u32,
+    gate: &G,
 ) -> Result<Vec<u64>, NoMemory>
     requires some { 1 ≤ edge }
     requires short { edge ≤ 1000000000 }
+    requires some_workers { 1 ≤ workers }
+    requires few_workers { workers ≤ 64 }
     ensures tallies { (layer_map : LayerMap) (lists : List (List Rectangle)) → ArePartsOf layer_map lists parts.now →
         IfOk result (λ amounts. AreAmounts layer_map (IsCoveredIn lists) (cells_of_window window) amounts.items) }
     ensures one_each { IfOk result (λ amounts. length amounts.items ≡ length parts.now.questions) }
@@ -48,57 +56,82 @@ pub fn tiled_amounts(
     };
     let plan = plan(whole, edge);
     if plan.count() == 1 {
+        gate.pass(0);
         return amounts(alloc, parts, window);
     }
-    amounts_by_tiles(alloc, parts, &plan)
+    amounts_by_tiles(rt, alloc, parts, &plan, workers, gate)
 }
 
-/// The same over the window of a plan, tile by tile.
-fn amounts_by_tiles(alloc: Global, parts: &Parts, plan: &TilePlan) -> Result<Vec<u64>, NoMemory>
+/// The same over the window of a plan, by so many workers who share its tiles.
+fn amounts_by_tiles<G: Gate + Sync>(
+    rt: &(impl Threads + Sync),
+    alloc: Global,
+    parts: &Parts,
+    plan: &TilePlan,
+    workers: u32,
+    gate: &G,
+) -> Result<Vec<u64>, NoMemory>
+    requires some_workers { 1 ≤ workers }
+    requires few_workers { workers ≤ 64 }
     ensures tallies { (layer_map : LayerMap) (lists : List (List Rectangle)) → ArePartsOf layer_map lists parts.now →
         IfOk result (λ amounts. AreAmounts layer_map (IsCoveredIn lists) (cells_of plan.now.window) amounts.items) }
     ensures one_each { IfOk result (λ amounts. length amounts.items ≡ length parts.now.questions) }
     ensures small { IfOk result (λ amounts. All (λ amount. amount < 2 ^ 63) amounts.items) }
 {
     let shared = share(alloc, parts, plan.window)?;
-    let mut amounts = none_counted(alloc, &shared)?;
-    for k in 0..plan.count() {
-        amounts = with_tile(alloc, &shared, plan, k, amounts.as_slice())?;
-    }
-    Ok(amounts)
+    sums_over_tiles(rt, alloc, &shared, plan, workers, gate)
 }
 
-/// A number for each question, of the cells of no tile.
-fn none_counted(alloc: Global, shared: &Shared) -> Result<Vec<u64>, NoMemory>
-    ensures { (plan : Plan) → IfOk result (λ amounts. AreCountedFirst shared.now plan 0 amounts.items) }
-{
-    let mut amounts = Vec::with_capacity(alloc, shared.asked.len())?;
-    for _asked in shared.asked.as_slice() {
-        amounts.push(0)?;
-    }
-    Ok(amounts)
-}
-
-/// For each question, in order, the number of cells of the tiles up to this one that have its fault, where that of the tiles before
-/// it is known.
-fn with_tile(
+/// For each question of what is shared, in order, what is counted for it over all tiles.
+fn sums_over_tiles<G: Gate + Sync>(
+    rt: &(impl Threads + Sync),
     alloc: Global,
     shared: &Shared,
     plan: &TilePlan,
-    k: u64,
-    before: &[u64],
+    workers: u32,
+    gate: &G,
 ) -> Result<Vec<u64>, NoMemory>
-    requires tile { k < tile_count plan.now }
-    requires before { AreCountedFirst shared.now plan.now k before.now }
-    ensures { IfOk result (λ after. AreCountedFirst shared.now plan.now (k + 1) after.items) }
+    requires some_workers { 1 ≤ workers }
+    requires few_workers { workers ≤ 64 }
+    requires few { length shared.now.asked.items ≤ MOST_ROWS }
+    ensures { IfOk result (λ sums. AreCounted shared.now (cells_of plan.now.window) sums.items) }
 {
-    let tile = plan.tile(k);
-    let mut after = Vec::with_capacity(alloc, before.len())?;
-    for (number, asked) in shared.asked.iter().enumerate() {
-        let amount = tile_amount(alloc, shared, asked, tile)?;
-        after.push(before[number] + amount)?;
+    if shared.asked.is_empty() {
+        return Ok(Vec::new(alloc));
     }
-    Ok(after)
+    let tiles = Tiles { shared, plan };
+    let slots = shared.asked.len() as u32;
+    let draws = u64::from(workers) * (plan.count() + 1);
+    let (board, mut hand) = Board::new(alloc, plan.count(), slots, plan.cap(), draws)?;
+    run_tiles(rt, alloc, &tiles, gate, &board, &mut hand, workers)?;
+    close_sums(alloc, &tiles, board, hand)
+}
+
+/// The tiles of a plan as work to share: each is a ticket, and each question has a slot.
+struct Tiles<'a> {
+    shared: &'a Shared,
+    plan: &'a TilePlan,
+}
+
+impl TileJob for Tiles<'_> {
+    ghost use Rattle.std.specs.Prelude.{length};
+    ghost use Rattle.tile_plan.specs.Tiles.{tile_count};
+    ghost use Rattle.critical_areas.specs.inside.Sharing.{IsCountedAmount};
+
+    ghost tickets = { λ tiles. tile_count tiles.plan.now };
+
+    ghost slots = { λ tiles. length tiles.shared.now.asked.items };
+
+    ghost is_amount = { λ tiles ticket slot n. IsCountedAmount tiles.shared.now tiles.plan.now ticket slot n };
+
+    fn amounts(&self, alloc: Global, ticket: u64, into: &mut Vec<u64>) -> Result<(), NoMemory> {
+        into.clear();
+        let tile = self.plan.tile(ticket);
+        for asked in self.shared.asked.as_slice() {
+            into.push(tile_amount(alloc, self.shared, asked, tile)?)?;
+        }
+        Ok(())
+    }
 }
 
 /// How many cells of the tile have the fault of the question.

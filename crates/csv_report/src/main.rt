@@ -4,7 +4,7 @@
 
 mod csv;
 
-use critarea_core::{Word, run, system_words};
+use critarea_core::{NoGate, Word, run, system_words};
 use csv::Csv;
 use edge_io::{Files, OsFiles, OsSink, Sink};
 use gauges::Gauge;
@@ -26,7 +26,7 @@ fn run_gauged<F: Files, O: Sink, E: Sink>(
 ) -> Result<u8, AllocError> {
     let mut gauges: Vec<Box<dyn Gauge>> = Vec::new(alloc);
     gauges.push(Box::new(alloc, Csv::new(alloc))?)?;
-    Ok(run(rt, alloc, words, files, out, err, &mut gauges))
+    Ok(run(rt, alloc, words, files, out, err, &mut gauges, &NoGate))
 }
 
 fn main(rt: HostRuntime) -> ExitCode {

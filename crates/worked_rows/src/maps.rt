@@ -4,16 +4,16 @@ use super::runs::{Failing, Given, Want, answers, expect, mapped};
 use std::alloc::Global;
 use std::thread::Threads;
 
-/// Words that name a layout and its map, without tiles and with tiles of several edges, which change nothing.
+/// Words that name a layout and its map, without tiles, and with tiles of several edges and some workers, which change nothing.
 const MAPPED: &[&str] = &[
     "a --map m",
-    "a --map m --tile 1",
+    "a --map m --tile 1 --workers 1",
     "a --map m --tile 3",
-    "a --map m --tile 7",
-    "a --map m --tile 1000000000",
+    "a --map m --tile 7 --workers 64",
+    "a --map m --tile 1000000000 --workers 2",
 ];
 
-/// Whether runs on the rectangles with this map answer so, whatever the tiles.
+/// Whether runs on the rectangles with this map answer so, whatever the tiles and the workers.
 pub fn map_answers(
     rt: &(impl Threads + Sync),
     alloc: Global,

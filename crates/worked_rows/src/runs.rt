@@ -1,4 +1,4 @@
-use critarea_core::{Word, run};
+use critarea_core::{NoGate, Word, run};
 use edge_io::{Files, MemFiles, MemSink};
 use gauges::{Gauge, Nonzero, Peak};
 use lists::{Name, NoMemory};
@@ -218,7 +218,7 @@ pub fn run_with_gauges<F: Files>(
     let words = words.as_slice();
     let mut out = sink(alloc, failing.room(), failing.calls_of_out())?;
     let mut err = sink(alloc, 1000, failing.calls_of_error_out())?;
-    let status = run(rt, alloc, words, files, &mut out, &mut err, gauges);
+    let status = run(rt, alloc, words, files, &mut out, &mut err, gauges, &NoGate);
     Ok(Answer {
         status,
         out: out.written,

@@ -54,7 +54,7 @@ const WORDS: &[(&str, Want)] = &[
         SHORT_32,
     ),
     (
-        "a --layer 1 --datatype 0 --radius 3 --tile 1000000000",
+        "a --layer 1 --datatype 0 --radius 3 --tile 1000000000 --workers 1",
         SHORT_32,
     ),
     // the one structure is the top, also by its name

@@ -45,10 +45,11 @@ IsCountedAs Via shared asked =
 abbrev pub IsCounted : Shared → Asked → Cell → Type 0
 IsCounted shared asked = IsCountedAs asked.question.kind shared asked
 
--- one number for each question, in order: how many cells of the first `k` tiles are counted for it
-abbrev pub AreCountedFirst : Shared → TilePlan → ℕ → List ℕ → Type 0
-AreCountedFirst shared plan k = AllZip (λ asked. IsTallyOfFirst (IsCounted shared asked) plan k) shared.asked.items
+-- the number is how many cells of the tile with the number `k` are counted for the question of this slot
+abbrev pub IsCountedAmount : Shared → TilePlan → ℕ → ℕ → ℕ → Type 0
+IsCountedAmount shared plan k slot n =
+    (asked : Asked) → slice_get shared.asked.items slot ≡ Some asked → IsTallyOfTile (IsCounted shared asked) plan k n
 
--- the same for the first so many questions
-abbrev pub AreCountedForFirst : Shared → TilePlan → ℕ → ℕ → List ℕ → Type 0
-AreCountedForFirst shared plan k count = AllZip (λ asked. IsTallyOfFirst (IsCounted shared asked) plan k) (take count shared.asked.items)
+-- one number for each question, in order: how many of the cells are counted for it
+abbrev pub AreCounted : Shared → List Cell → List ℕ → Type 0
+AreCounted shared cells = AllZip (λ asked. Tally (IsCounted shared asked) cells) shared.asked.items
