@@ -1,2 +1,3 @@
 mod WorkLaws
+mod ShareLaws
 mod SumLaws

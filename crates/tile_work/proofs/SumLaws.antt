@@ -1,5 +1,5 @@
 -- the sum over all tickets
-use Rattle.std.proofs.Common.{ℕ, zero, suc, ◌+◌, ◌<◌, ◌≡◌, refl, sym, ap, ◌∙◌, arith, get_or}
+use Rattle.std.proofs.Common.{ℕ, zero, suc, ◌+◌, ◌<◌, ◌≡◌, refl, ap, ◌∙◌, arith, get_or}
 use Rattle.std.specs.Prelude.{sum_by, Vec, Result, Ok, Err, IfOk, slice_index}
 use Rattle.lists.specs.Words.{Global}
 use Rattle.lists.proofs.Words.{range_with_len, sum_by-cons}

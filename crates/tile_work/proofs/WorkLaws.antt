@@ -6,7 +6,7 @@ use Rattle.std.proofs.lemmas.Bool.{lt-ltb, le-ltb}
 use Rattle.lists.proofs.Words.{nat_tests, eqb_tells, leb_tells, All-head, All-tail, All-push, All-append, sum_by-cons, sum_by_push, sum_by-append}
 use Rattle.tile_board.specs.declared.views.Credit.{Credit}
 use Rattle.tile_board.specs.declared.views.View.{View}
-use Rattle.tile_board.specs.Counts.{times, Drew, times_credited}
+use Rattle.tile_board.specs.Counts.{times, times_credited}
 use Rattle.tile_board.specs.HandFacts.{IsHandView}
 use Rattle.tile_board.specs.Machine.{fresh, with_draw, with_credit, with_all_of}
 use Rattle.tile_work.specs.Crediting.{HasCredits}

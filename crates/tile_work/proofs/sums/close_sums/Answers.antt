@@ -1,4 +1,4 @@
-use Rattle.std.proofs.Common.{ℕ, ◌<◌, ◌≡◌, ap, sym, ◌∙◌, get_or, arith, subst, length}
+use Rattle.std.proofs.Common.{◌<◌, length}
 use Rattle.lists.proofs.Words.{IfOk-weaker}
 use Rattle.tile_board.specs.Closing.{HasAllDraws, AreSums, DrewAll}
 use Rattle.tile_board.specs.Hands.{limits_of, view_of}

@@ -1,4 +1,4 @@
-use Rattle.std.proofs.Common.{ℕ, ◌+◌, ◌<◌, ◌≡◌, ap, sym, subst, ◌∙◌, arith, get_or}
+use Rattle.std.proofs.Common.{◌+◌, ◌<◌, ◌≡◌, ap, sym, subst, ◌∙◌, arith, get_or}
 use Rattle.tile_board.specs.Hands.{view_of}
 use Rattle.tile_board.specs.Machine.{with_credit}
 use Rattle.tile_board.specs.declared.views.View.{View}

@@ -1,8 +1,7 @@
-use Rattle.std.proofs.Common.{ℕ, ◌+◌, ◌-◌, ◌<◌, ◌≡◌, ap, sym, subst, ◌∙◌, arith}
+use Rattle.std.proofs.Common.{ap, arith}
 use Rattle.tile_board.specs.Hands.{view_of}
 use Rattle.tile_board.specs.declared.views.View.{View}
-use Rattle.tile_work.specs.inside.Working.{HasWorked}
-use Rattle.tile_work.proofs.WorkLaws.{has_draw, starts, drawn, stopped, one_draw}
+use Rattle.tile_work.proofs.WorkLaws.{has_draw, drawn, stopped, one_draw}
 use Rattle.tile_work.proofs.working.work.Goals as goal
 
 pub draw-requires-clause-draw_left : goal.draw-requires-clause-draw_left
