@@ -53,9 +53,9 @@ one_draw tickets limit number v w facts drew is =
 abbrev with_ticket : ℕ → View → View
 with_ticket ticket v = record v { tickets = v.tickets ++ ticket ∷ []; made = v.made + 1; left = v.left - 1 }
 
-module _ (tickets slots : ℕ) (amount : ℕ → ℕ → ℕ) where
+module _ (tickets slots : ℕ) (IsAmount : ℕ → ℕ → ℕ → Type 0) where
   -- a hand that has done nothing
-  pub starts : IsWorking tickets slots amount (fresh (tickets + 1))
+  pub starts : IsWorking tickets slots IsAmount (fresh (tickets + 1))
   starts = record {
     drew = record { made = refl; draws = omega arith; below = λ k d small. absurd (omega arith) };
     credits = record { each = λ t s drew small. absurd (omega arith); within = λ k d small. absurd (omega arith); amounts = λ k d small. absurd (omega arith) };
@@ -69,7 +69,7 @@ module _ (tickets slots : ℕ) (amount : ℕ → ℕ → ℕ) where
   }
 
   -- between tickets a draw gives one more: nothing is credited for it yet
-  pub begins : (v : View) (ticket : ℕ) → ticket < tickets → 0 < v.left → IsWorking tickets slots amount v → ((slot : ℕ) → times_credited v ticket slot ≡ 0) → IsCrediting tickets slots amount ticket 0 (with_draw tickets ticket v)
+  pub begins : (v : View) (ticket : ℕ) → ticket < tickets → 0 < v.left → IsWorking tickets slots IsAmount v → ((slot : ℕ) → times_credited v ticket slot ≡ 0) → IsCrediting tickets slots IsAmount ticket 0 (with_draw tickets ticket v)
   begins v ticket small some working none = rw (lt-ltb ticket tickets small) (record {
     drew = drew_ticket v ticket small some working.drew;
     here = omega (arith, counted ticket, itself ticket);
@@ -90,8 +90,8 @@ module _ (tickets slots : ℕ) (amount : ℕ → ℕ → ℕ) where
       another t differs = grind (arith, nat_tests)
 
   -- one slot more is credited
-  pub steps : (v : View) (ticket slot : ℕ) → slot < slots → IsCrediting tickets slots amount ticket slot v → IsCrediting tickets slots amount ticket (slot + 1) (with_credit (record { ticket = ticket; slot = slot; amount = amount ticket slot }) v)
-  steps v ticket slot small at = record {
+  pub steps : (v : View) (ticket slot n : ℕ) → slot < slots → IsAmount ticket slot n → IsCrediting tickets slots IsAmount ticket slot v → IsCrediting tickets slots IsAmount ticket (slot + 1) (with_credit (record { ticket = ticket; slot = slot; amount = n }) v)
+  steps v ticket slot n small its_amount at = record {
     drew = record { made = at.drew.made; draws = at.drew.draws; below = at.drew.below };
     here = at.here;
     others = λ t s drew differs within. omega (arith, counted t s, at.others t s drew differs within, not_its t s differs);
@@ -101,11 +101,11 @@ module _ (tickets slots : ℕ) (amount : ℕ → ℕ → ℕ) where
     ];
     open_still = λ s above. let differs : s ≢ slot = omega arith in omega (arith, counted ticket s, at.open_still s (omega arith), not_there s differs);
     within = All-push (λ d. d.slot < slots) v.credits c at.within small;
-    amounts = All-push (λ d. d.amount ≡ amount d.ticket d.slot) v.credits c at.amounts refl;
+    amounts = All-push (λ d. IsAmount d.ticket d.slot d.amount) v.credits c at.amounts its_amount;
   }
     where
       c : Credit
-      c = record { ticket = ticket; slot = slot; amount = amount ticket slot }
+      c = record { ticket = ticket; slot = slot; amount = n }
 
       counted : (t s : ℕ) → times_credited (with_credit c v) t s ≡ times_credited v t s + (if (ticket == t) && (slot == s) then 1 else 0)
       counted t s = sum_by_push (λ d. if (d.ticket == t) && (d.slot == s) then 1 else 0) v.credits c
@@ -120,7 +120,7 @@ module _ (tickets slots : ℕ) (amount : ℕ → ℕ → ℕ) where
       not_there s differs = grind (arith, nat_tests)
 
   -- all slots are credited
-  pub ends : (v : View) (ticket : ℕ) → IsCrediting tickets slots amount ticket slots v → IsWorking tickets slots amount v
+  pub ends : (v : View) (ticket : ℕ) → IsCrediting tickets slots IsAmount ticket slots v → IsWorking tickets slots IsAmount v
   ends v ticket at = record {
     drew = at.drew;
     credits = record {
@@ -134,7 +134,7 @@ module _ (tickets slots : ℕ) (amount : ℕ → ℕ → ℕ) where
   }
 
   -- a draw that gives no ticket
-  pub stops : (v : View) (number : ℕ) → tickets ≤ number → IsWorking tickets slots amount v → HasWorked slots amount (with_draw tickets number v)
+  pub stops : (v : View) (number : ℕ) → tickets ≤ number → IsWorking tickets slots IsAmount v → HasWorked slots IsAmount (with_draw tickets number v)
   stops v number large working = rw (le-ltb number tickets large) (record {
     none_left = omega (arith, working.drew.made, length-append v.tickets []);
     credits = record {
@@ -145,21 +145,21 @@ module _ (tickets slots : ℕ) (amount : ℕ → ℕ → ℕ) where
   })
 
   -- the same of the views before and after, on a board with as many tickets
-  pub drawn : (limit ticket : ℕ) (v w : View) → limit ≡ tickets → IsHandView v → IsWorking tickets slots amount v → ticket < limit → w ≡ with_draw limit ticket v →
-      ((slot : ℕ) → times_credited w ticket slot ≡ 0) → IsCrediting tickets slots amount ticket 0 w
+  pub drawn : (limit ticket : ℕ) (v w : View) → limit ≡ tickets → IsHandView v → IsWorking tickets slots IsAmount v → ticket < limit → w ≡ with_draw limit ticket v →
+      ((slot : ℕ) → times_credited w ticket slot ≡ 0) → IsCrediting tickets slots IsAmount ticket 0 w
   drawn limit ticket v w same facts working small is none =
       let is' : w ≡ with_draw tickets ticket v = is ∙ ap (λ n. with_draw n ticket v) same in
-      subst (IsCrediting tickets slots amount ticket 0) (sym is')
+      subst (IsCrediting tickets slots IsAmount ticket 0) (sym is')
       (begins v ticket (omega arith) (has_draw tickets v facts working.drew) working (λ slot. subst (λ (u : View). times_credited u ticket slot ≡ 0) is' (none slot)))
 
-  pub stopped : (limit number : ℕ) (v w : View) → limit ≡ tickets → IsWorking tickets slots amount v → limit ≤ number → w ≡ with_draw limit number v → HasWorked slots amount w
+  pub stopped : (limit number : ℕ) (v w : View) → limit ≡ tickets → IsWorking tickets slots IsAmount v → limit ≤ number → w ≡ with_draw limit number v → HasWorked slots IsAmount w
   stopped limit number v w same working large is =
       let is' : w ≡ with_draw tickets number v = is ∙ ap (λ n. with_draw n number v) same in
-      subst (HasWorked slots amount) (sym is') (stops v number (omega arith) working)
+      subst (HasWorked slots IsAmount) (sym is') (stops v number (omega arith) working)
 
-module _ (slots : ℕ) (amount : ℕ → ℕ → ℕ) where
+module _ (slots : ℕ) (IsAmount : ℕ → ℕ → ℕ → Type 0) where
   -- a hand that has made no draw has no ticket and no credit
-  pub unused : (v : View) → IsHandView v → v.made ≡ 0 → HasCredits slots amount v
+  pub unused : (v : View) → IsHandView v → v.made ≡ 0 → HasCredits slots IsAmount v
   unused v facts none = record {
     each = λ t slot drew small. absurd (omega (arith, facts.few, count_by-le-length (λ x. x == t) v.tickets, drew));
     within = λ k d small. let drew = facts.drawn k d small in absurd (omega (arith, facts.few, count_by-le-length (λ x. x == (get_or v.credits k d).ticket) v.tickets, drew));
@@ -167,20 +167,20 @@ module _ (slots : ℕ) (amount : ℕ → ℕ → ℕ) where
   }
 
   -- two hands together: no ticket is in both, since no ticket and slot is credited twice
-  pub joins : (v other : View) → IsHandView (with_all_of other v) → HasCredits slots amount v → HasCredits slots amount other → HasCredits slots amount (with_all_of other v)
+  pub joins : (v other : View) → IsHandView (with_all_of other v) → HasCredits slots IsAmount v → HasCredits slots IsAmount other → HasCredits slots IsAmount (with_all_of other v)
   joins v other facts has others = record {
     each = λ t slot drew small. elim (leb_tells 1 (times v.tickets t)) [
       | inl h ↦ omega (arith, counted t slot, facts.once t slot, has.each t slot h.1 small)
       | inr h ↦ let few = h.1 in omega (arith, counted t slot, facts.once t slot, others.each t slot (omega (arith, sum_by-append (λ x. if x == t then 1 else 0) v.tickets other.tickets, drew, few)) small)
     ];
     within = All-append (λ c. c.slot < slots) v.credits other.credits has.within others.within;
-    amounts = All-append (λ c. c.amount ≡ amount c.ticket c.slot) v.credits other.credits has.amounts others.amounts;
+    amounts = All-append (λ c. IsAmount c.ticket c.slot c.amount) v.credits other.credits has.amounts others.amounts;
   }
     where
       counted : (t s : ℕ) → times_credited (with_all_of other v) t s ≡ times_credited v t s + times_credited other t s
       counted t s = sum_by-append (λ d. if (d.ticket == t) && (d.slot == s) then 1 else 0) v.credits other.credits
 
-  pub joined_work : (v other : View) → IsHandView (with_all_of other v) → HasWorked slots amount v → HasWorked slots amount other → HasWorked slots amount (with_all_of other v)
+  pub joined_work : (v other : View) → IsHandView (with_all_of other v) → HasWorked slots IsAmount v → HasWorked slots IsAmount other → HasWorked slots IsAmount (with_all_of other v)
   joined_work v other facts worked others = record {
     none_left = omega (arith, length-append v.tickets other.tickets, worked.none_left, others.none_left);
     credits = joins v other facts worked.credits others.credits;

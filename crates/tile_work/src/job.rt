@@ -11,8 +11,8 @@ pub trait TileJob {
     /// How many slots there are: the numbers below this.
     ghost slots: { Self → ℕ };
 
-    /// The amount of a ticket, which comes first, and a slot.
-    ghost amount: { Self → ℕ → ℕ → ℕ };
+    /// The number, which comes last, is the amount of a ticket, which comes first, and a slot.
+    ghost is_amount: { Self → ℕ → ℕ → ℕ → Type 0 };
 
     /// Writes the amounts of all slots for the ticket, in order, into the list, whatever it held before. Where it refuses,
     /// as for want of memory, the list may hold anything.
@@ -20,5 +20,5 @@ pub trait TileJob {
         requires { ticket < tickets self.now }
         ensures one_each { OnOk result (length into.new.items ≡ slots self.now) }
         ensures in_order { OnOk result ((slot : ℕ) → slot < slots self.now →
-            slice_index into.new.items slot ≡ amount self.now ticket slot) };
+            is_amount self.now ticket slot (slice_index into.new.items slot)) };
 }

@@ -1,7 +1,7 @@
 ghost use Rattle.std.specs.Prelude.{ℕ, ◌≡◌, ◌<◌, IfOk, length, slice_index};
 ghost use Rattle.tile_board.specs.Closing.{HasAllDraws};
 ghost use Rattle.tile_board.specs.Hands.{limits_of, view_of, BelongsTo};
-ghost use Rattle.tile_work.specs.Crediting.{HasCredits, IsMadeFor, sum_of_tickets};
+ghost use Rattle.tile_work.specs.Crediting.{HasCredits, IsMadeFor, IsSumOfAmounts};
 
 use super::job::TileJob;
 use lists::NoMemory;
@@ -17,14 +17,14 @@ pub fn close_sums<J: TileJob>(
     board: Board,
     hand: Hand,
 ) -> Result<Vec<u64>, NoMemory>
-    requires made_for { IsMadeFor (limits_of board) (J.tickets job.now) (J.slots job.now) (J.amount job.now) }
+    requires made_for { IsMadeFor (limits_of board) (J.tickets job.now) (J.slots job.now) (J.is_amount job.now) }
     requires belongs { BelongsTo board hand }
     requires draws { HasAllDraws (limits_of board) (view_of hand) }
     requires none_left { length (view_of hand).tickets < (view_of hand).made }
-    requires credits { HasCredits (J.slots job.now) (J.amount job.now) (view_of hand) }
+    requires credits { HasCredits (J.slots job.now) (J.is_amount job.now) (view_of hand) }
     ensures one_each { IfOk result (λ totals. length totals.items ≡ J.slots job.now) }
     ensures sums { IfOk result (λ totals. (slot : ℕ) → slot < J.slots job.now →
-        slice_index totals.items slot ≡ sum_of_tickets (J.tickets job.now) (λ ticket. J.amount job.now ticket slot)) }
+        IsSumOfAmounts (J.tickets job.now) (J.is_amount job.now) slot (slice_index totals.items slot)) }
 {
     all_tickets_are_summed();
     board.close(alloc, hand)

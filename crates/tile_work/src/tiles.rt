@@ -36,7 +36,7 @@ pub fn run_tiles<R: Threads + Sync, J: TileJob + Sync, G: Gate + Sync>(
 ) -> Result<(), NoMemory>
     requires some_workers { 1 ≤ workers }
     requires few_workers { workers ≤ MOST_WORKERS }
-    requires made_for { IsMadeFor (limits_of board.now) (J.tickets job.now) (J.slots job.now) (J.amount job.now) }
+    requires made_for { IsMadeFor (limits_of board.now) (J.tickets job.now) (J.slots job.now) (J.is_amount job.now) }
     requires all_draws { (limits_of board.now).draws ≡ workers * (J.tickets job.now + 1) }
     requires belongs { BelongsTo board.now hand.old }
     requires none_made { (view_of hand.old).made ≡ 0 }
@@ -45,7 +45,7 @@ pub fn run_tiles<R: Threads + Sync, J: TileJob + Sync, G: Gate + Sync>(
     ensures draws { HasAllDraws (limits_of board.now) (view_of hand.new) }
     // More draws than tickets: a worker was told that none are left.
     ensures none_left { OnOk result (length (view_of hand.new).tickets < (view_of hand.new).made) }
-    ensures credits { OnOk result (HasCredits (J.slots job.now) (J.amount job.now) (view_of hand.new)) }
+    ensures credits { OnOk result (HasCredits (J.slots job.now) (J.is_amount job.now) (view_of hand.new)) }
 {
     let draws = hand.left();
     let own = board.split(hand, draws);
@@ -65,12 +65,12 @@ fn work_in_halves<R: Threads + Sync, J: TileJob + Sync, G: Gate + Sync>(
     workers: u32,
 ) -> (Hand, Result<(), NoMemory>)
     requires some_workers { 1 ≤ workers }
-    requires made_for { IsMadeFor (limits_of board.now) (J.tickets job.now) (J.slots job.now) (J.amount job.now) }
+    requires made_for { IsMadeFor (limits_of board.now) (J.tickets job.now) (J.slots job.now) (J.is_amount job.now) }
     requires belongs { BelongsTo board.now hand }
     requires unused { view_of hand ≡ fresh (workers * (J.tickets job.now + 1)) }
     ensures belongs { BelongsTo board.now result.0 }
     ensures draws { (view_of result.0).made + (view_of result.0).left ≡ workers * (J.tickets job.now + 1) }
-    ensures worked { OnOk result.1 (HasWorked (J.slots job.now) (J.amount job.now) (view_of result.0)) }
+    ensures worked { OnOk result.1 (HasWorked (J.slots job.now) (J.is_amount job.now) (view_of result.0)) }
 {
     if workers == 1 {
         let outcome = work(alloc, job, gate, board, &mut hand);
@@ -85,22 +85,22 @@ fn work_in_halves<R: Threads + Sync, J: TileJob + Sync, G: Gate + Sync>(
         || -> (Hand, Result<(), NoMemory>)
             requires sync { IsSync R.row × IsSync J.row × IsSync G.row }
             requires some_workers { 1 ≤ rest }
-            requires made_for { IsMadeFor (limits_of board.now) (J.tickets job.now) (J.slots job.now) (J.amount job.now) }
+            requires made_for { IsMadeFor (limits_of board.now) (J.tickets job.now) (J.slots job.now) (J.is_amount job.now) }
             requires belongs { BelongsTo board.now hand }
             requires unused { view_of hand ≡ fresh (rest * (J.tickets job.now + 1)) }
             ensures belongs { BelongsTo board.entry.now result.0 }
             ensures draws { (view_of result.0).made + (view_of result.0).left ≡ rest * (J.tickets job.entry.now + 1) }
-            ensures worked { OnOk result.1 (HasWorked (J.slots job.entry.now) (J.amount job.entry.now) (view_of result.0)) }
+            ensures worked { OnOk result.1 (HasWorked (J.slots job.entry.now) (J.is_amount job.entry.now) (view_of result.0)) }
         { work_in_halves(rt, alloc, job, gate, board, hand, rest) },
         || -> (Hand, Result<(), NoMemory>)
             requires sync { IsSync R.row × IsSync J.row × IsSync G.row }
             requires some_workers { 1 ≤ half }
-            requires made_for { IsMadeFor (limits_of board.now) (J.tickets job.now) (J.slots job.now) (J.amount job.now) }
+            requires made_for { IsMadeFor (limits_of board.now) (J.tickets job.now) (J.slots job.now) (J.is_amount job.now) }
             requires belongs { BelongsTo board.now other }
             requires unused { view_of other ≡ fresh (half * (J.tickets job.now + 1)) }
             ensures belongs { BelongsTo board.entry.now result.0 }
             ensures draws { (view_of result.0).made + (view_of result.0).left ≡ half * (J.tickets job.entry.now + 1) }
-            ensures worked { OnOk result.1 (HasWorked (J.slots job.entry.now) (J.amount job.entry.now) (view_of result.0)) }
+            ensures worked { OnOk result.1 (HasWorked (J.slots job.entry.now) (J.is_amount job.entry.now) (view_of result.0)) }
         { work_in_halves(rt, alloc, job, gate, board, other, half) },
     );
     board.join(&mut hand, other);

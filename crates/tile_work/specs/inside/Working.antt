@@ -11,21 +11,21 @@ pub record DrewTickets (tickets : ℕ) (view : View) : Type 0 where
   pub below : All (λ ticket. ticket < tickets) view.tickets
 
 -- between two tickets: all that were drawn are credited
-pub record IsWorking (tickets slots : ℕ) (amount : ℕ → ℕ → ℕ) (view : View) : Type 0 where
+pub record IsWorking (tickets slots : ℕ) (IsAmount : ℕ → ℕ → ℕ → Type 0) (view : View) : Type 0 where
   pub drew : DrewTickets tickets view
-  pub credits : HasCredits slots amount view
+  pub credits : HasCredits slots IsAmount view
 
 -- while a ticket is credited: it is at the slots below a bound, and the tickets before it are at all of them
-pub record IsCrediting (tickets slots : ℕ) (amount : ℕ → ℕ → ℕ) (ticket bound : ℕ) (view : View) : Type 0 where
+pub record IsCrediting (tickets slots : ℕ) (IsAmount : ℕ → ℕ → ℕ → Type 0) (ticket bound : ℕ) (view : View) : Type 0 where
   pub drew : DrewTickets tickets view
   pub here : Drew view ticket
   pub others : (t slot : ℕ) → Drew view t → t ≢ ticket → slot < slots → times_credited view t slot ≡ 1
   pub credited : (slot : ℕ) → slot < bound → times_credited view ticket slot ≡ 1
   pub open_still : (slot : ℕ) → bound ≤ slot → times_credited view ticket slot ≡ 0
   pub within : All (λ c. c.slot < slots) view.credits
-  pub amounts : All (λ c. c.amount ≡ amount c.ticket c.slot) view.credits
+  pub amounts : All (λ c. IsAmount c.ticket c.slot c.amount) view.credits
 
 -- a hand that was told that no ticket is left, and has credited all of its own
-pub record HasWorked (slots : ℕ) (amount : ℕ → ℕ → ℕ) (view : View) : Type 0 where
+pub record HasWorked (slots : ℕ) (IsAmount : ℕ → ℕ → ℕ → Type 0) (view : View) : Type 0 where
   pub none_left : length view.tickets < view.made
-  pub credits : HasCredits slots amount view
+  pub credits : HasCredits slots IsAmount view

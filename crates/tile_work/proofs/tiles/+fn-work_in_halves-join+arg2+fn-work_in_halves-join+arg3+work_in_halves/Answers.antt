@@ -32,7 +32,7 @@ returns-clause-draws g t c =
 pub returns-clause-worked : goal.returns-clause-worked
 returns-clause-worked g t c =
     let slots = g.J.TileJob.slots c.args.job.now in
-    let amount = g.J.TileJob.amount c.args.job.now in
+    let amount = g.J.TileJob.is_amount c.args.job.now in
     both_ok _ _ _ c.and.ensures
     (λ first second. subst (HasWorked slots amount) (sym c.join.ensures.joined)
     (joined_work slots amount (view_of c.join-hand.result.0.0) (view_of c.join-hand.result.1.0) (subst IsHandView {x = view_of c.join.new.hand} c.join.ensures.joined c.join.new.hand.facts) first second))

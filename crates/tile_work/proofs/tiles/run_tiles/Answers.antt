@@ -10,7 +10,7 @@ use Rattle.tile_work.proofs.tiles.run_tiles.Goals as goal
 pub returns-clause-credits : goal.returns-clause-credits
 returns-clause-credits g c =
     let slots = g.J.TileJob.slots c.args.job.now in
-    let amount = g.J.TileJob.amount c.args.job.now in
+    let amount = g.J.TileJob.is_amount c.args.job.now in
     let before = c.split-own.new.hand in
     let none = ap (λ (v : View). v.made) c.split-own.ensures.kept ∙ c.requires.none_made in
     let joined = c.join.ensures.joined in

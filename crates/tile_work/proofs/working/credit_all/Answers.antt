@@ -1,6 +1,5 @@
 use Rattle.std.proofs.Common.{◌+◌, ◌<◌, ◌≡◌, ap, sym, subst, ◌∙◌, arith, get_or}
 use Rattle.tile_board.specs.Hands.{view_of}
-use Rattle.tile_board.specs.Machine.{with_credit}
 use Rattle.tile_board.specs.declared.views.View.{View}
 use Rattle.tile_work.specs.inside.Working.{IsCrediting}
 use Rattle.tile_work.proofs.WorkLaws.{steps, ends}
@@ -19,23 +18,24 @@ pub loop-slot-preserved : goal.loop-slot-preserved
 loop-slot-preserved g c =
     let tickets = g.J.TileJob.tickets c.args.job.now in
     let slots = g.J.TileJob.slots c.args.job.now in
-    let amount = g.J.TileJob.amount c.args.job.now in
+    let amount = g.J.TileJob.is_amount c.args.job.now in
     let ticket = c.args.ticket in
     let slot = c.loop-slot.slot in
     let before = view_of c.loop-slot.hand in
     let within : slot < slots = omega (arith, c.requires.one_each, c.loop-slot-test.true) in
-    let here : get_or c.args.amounts.now slot 0 ≡ amount ticket slot = c.requires.in_order slot within in
-    let view = c.credit.ensures.credited ∙ ap (λ a. with_credit (record { ticket = ticket; slot = slot; amount = a }) before) here in record {
+    let n = get_or c.args.amounts.now slot 0 in
+    let here : amount ticket slot n = c.requires.in_order slot within in
+    let view = c.credit.ensures.credited in record {
       belongs = c.credit.ensures.belongs;
       left = ap (λ (v : View). v.left) view ∙ c.loop-slot.invariant.left;
-      at = subst (IsCrediting tickets slots amount ticket (slot + 1)) (sym view) (steps tickets slots amount before ticket slot within c.loop-slot.invariant.at);
+      at = subst (IsCrediting tickets slots amount ticket (slot + 1)) (sym view) (steps tickets slots amount before ticket slot n within here c.loop-slot.invariant.at);
     }
 
 pub returns : goal.returns
 returns g c =
     let tickets = g.J.TileJob.tickets c.args.job.now in
     let slots = g.J.TileJob.slots c.args.job.now in
-    let amount = g.J.TileJob.amount c.args.job.now in
+    let amount = g.J.TileJob.is_amount c.args.job.now in
     let all : c.loop-slot.slot ≡ slots = omega arith in
     let view = view_of c.loop-slot.hand in record {
       belongs = c.loop-slot.invariant.belongs;

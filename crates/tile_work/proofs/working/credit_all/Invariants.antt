@@ -7,5 +7,5 @@ abbrev pub invariant-loop-slot : goal.invariant-loop-slot
 invariant-loop-slot g l = record {
   belongs : BelongsTo l.board l.hand;
   left : (view_of l.hand).left ≡ (view_of l.fn.hand).left;
-  at : IsCrediting (g.J.TileJob.tickets l.job) (g.J.TileJob.slots l.job) (g.J.TileJob.amount l.job) l.ticket l.slot (view_of l.hand);
+  at : IsCrediting (g.J.TileJob.tickets l.job) (g.J.TileJob.slots l.job) (g.J.TileJob.is_amount l.job) l.ticket l.slot (view_of l.hand);
 }

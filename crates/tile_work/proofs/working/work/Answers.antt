@@ -14,7 +14,7 @@ returns-in_err-amounts-clause-draws g c =
 
 pub credit_all-requires-clause-drawn : goal.credit_all-requires-clause-drawn
 credit_all-requires-clause-drawn g c =
-    drawn (g.J.TileJob.tickets c.args.job.now) (g.J.TileJob.slots c.args.job.now) (g.J.TileJob.amount c.args.job.now) _ c.in-Some.ticket (view_of c.loop-ticket.hand) (view_of c.draw.new.hand)
+    drawn (g.J.TileJob.tickets c.args.job.now) (g.J.TileJob.slots c.args.job.now) (g.J.TileJob.is_amount c.args.job.now) _ c.in-Some.ticket (view_of c.loop-ticket.hand) (view_of c.draw.new.hand)
     c.requires.made_for.tickets_are c.loop-ticket.hand.facts c.loop-ticket.invariant.working c.in-Some.ensures.some.0 c.in-Some.ensures.some.1 c.in-Some.ensures.uncredited
 
 pub loop-ticket-smaller : goal.loop-ticket-smaller
@@ -29,5 +29,5 @@ returns-clause-draws g c =
 
 pub returns-clause-worked : goal.returns-clause-worked
 returns-clause-worked g c =
-    stopped (g.J.TileJob.tickets c.args.job.now) (g.J.TileJob.slots c.args.job.now) (g.J.TileJob.amount c.args.job.now) _ c.in_default.ensures.none.0 (view_of c.loop-ticket.hand) (view_of c.draw.new.hand)
+    stopped (g.J.TileJob.tickets c.args.job.now) (g.J.TileJob.slots c.args.job.now) (g.J.TileJob.is_amount c.args.job.now) _ c.in_default.ensures.none.0 (view_of c.loop-ticket.hand) (view_of c.draw.new.hand)
     c.requires.made_for.tickets_are c.loop-ticket.invariant.working c.in_default.ensures.none.1 c.in_default.ensures.none.2
