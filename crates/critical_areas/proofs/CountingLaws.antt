@@ -1,33 +1,33 @@
 -- numbers of cells, question by question and tile by tile
-use Rattle.std.proofs.Common.{ℕ, zero, suc, ◌+◌, ◌<◌, ◌≤◌, ◌≡◌, ◌^◌, sym, ap, ◌∙◌, subst, List, [], ◌∷◌, ◌++◌, length, map, get_or, take_all, arith, All}
-use Rattle.lists.proofs.Words.{All-cons, All-nil, AllZip, AllZip-long, length-map}
-use Rattle.lists.proofs.Pairing.{AllZip-more}
+use Rattle.std.proofs.Common.{ℕ, IfOk, Result, Ok, Err, Vec, refl, zero, suc, ◌+◌, ◌<◌, ◌≤◌, ◌≡◌, ◌^◌, sym, ap, ◌∙◌, subst, List, [], ◌∷◌, ◌++◌, length, map, get_or, arith, All, Some, slice_get, inl, inr}
+use Rattle.lists.proofs.Words.{Global, All-cons, All-nil, AllZip, AllZip-long, cases_lt, get_or_append_left, get_or_push, length-map, slice_get-get_or, slice_get_within}
+use Rattle.lists.proofs.Containing.{some_item}
+use Rattle.lists.specs.declared.memory.NoMemory.{NoMemory}
 use Rattle.geo_core.specs.declared.plane.Rect.{Rect}
 use Rattle.fault_model.specs.FaultNames.{Tally, cells_of}
-use Rattle.tile_plan.specs.TileTallies.{IsTallyOfFirst}
-use Rattle.tile_plan.specs.Tiles.{IsTile, tile_count}
+use Rattle.fault_model.proofs.TallyLaws.{Tally-le-length}
+use Rattle.tile_board.specs.Closing.{sum_below}
+use Rattle.tile_board.specs.declared.views.Limits.{Limits}
+use Rattle.tile_plan.specs.TileTallies.{IsTallyOfFirst, IsTallyOfTile}
+use Rattle.tile_plan.specs.Tiles.{IsGreatestTile, IsTile, tile_count}
 use Rattle.tile_plan.specs.declared.tiles.TilePlan.{TilePlan}
-use Rattle.tile_plan.proofs.TallyingLaws.{all_tiles, next_tile}
+use Rattle.tile_plan.proofs.TallyingLaws.{all_tiles, next_tile, no_tile}
+use Rattle.tile_work.specs.Crediting.{IsMadeFor, IsSumOfAmounts}
 use Rattle.window_parts.proofs.PartLaws.{few_tallied}
-use Rattle.critical_areas.specs.inside.Sharing.{AreCountedFirst, AreCountedForFirst, IsCounted}
+use Rattle.critical_areas.specs.inside.Sharing.{AreCounted, IsCounted, IsCountedAmount}
 use Rattle.critical_areas.specs.declared.shared.Asked.{Asked}
 use Rattle.critical_areas.specs.declared.shared.Shared.{Shared}
 
--- two items of one number of lists that are side by side
-zipped_at : {X Y : Type 0} (R : X → Y → Type 0) (xs : List X) (ys : List Y) (i : ℕ) (x : X) (d : Y) → AllZip R xs ys → i < length xs → x ≡ get_or xs i x → R x (get_or ys i d)
-zipped_at R [] ys i x d h small is = absurd (omega arith)
-zipped_at R (a ∷ xs) [] i x d h small is = absurd h
-zipped_at R (a ∷ xs) (b ∷ ys) zero x d h small is = subst (λ z. R z b) (sym is) h.0
-zipped_at R (a ∷ xs) (b ∷ ys) (suc i) x d h small is = zipped_at R xs ys i x d h.1 (omega arith) is
+-- ---- lists side by side
 
--- what holds of lists that are side by side holds of others, if it does item by item
-pub zipped_weaker : {X Y : Type 0} (R S : X → Y → Type 0) → ((x : X) (y : Y) → R x y → S x y) → (xs : List X) (ys : List Y) → AllZip R xs ys → AllZip S xs ys
-zipped_weaker R S g [] [] h = tt
-zipped_weaker R S g [] (y ∷ ys) h = absurd h
-zipped_weaker R S g (x ∷ xs) [] h = absurd h
-zipped_weaker R S g (x ∷ xs) (y ∷ ys) h = (g x y h.0, zipped_weaker R S g xs ys h.1)
+-- lists are side by side where their items are, number by number
+zipped_by : {X : Type 0} (R : X → ℕ → Type 0) (xs : List X) (ns : List ℕ) → length ns ≡ length xs → ((i : ℕ) (x : X) → slice_get xs i ≡ Some x → R x (get_or ns i 0)) → AllZip R xs ns
+zipped_by R [] [] long each = tt
+zipped_by R [] (n ∷ ns) long each = absurd (omega arith)
+zipped_by R (x ∷ xs) [] long each = absurd (omega arith)
+zipped_by R (x ∷ xs) (n ∷ ns) long each = (each 0 x refl, zipped_by R xs ns (omega arith) (λ i y e. each (suc i) y e))
 
--- and what the items of the second list have is had by each
+-- what the items of the second list have is had by each
 zipped_all : {X Y : Type 0} (R : X → Y → Type 0) (P : Y → Type 0) → ((x : X) (y : Y) → R x y → P y) → (xs : List X) (ys : List Y) → AllZip R xs ys → All P ys
 zipped_all R P g [] [] h = All-nil P
 zipped_all R P g [] (y ∷ ys) h = absurd h
@@ -39,46 +39,84 @@ pub read_of_all : {X : Type 0} (P : X → Type 0) (xs items : List X) (i : ℕ) 
 read_of_all P xs items i x all is small item =
     subst P (sym (item ∙ ap (λ (ys : List _). get_or ys i x) is)) (all i x (subst (λ (ys : List _). i < length ys) is small))
 
-module _ (shared : Shared) (plan : TilePlan) (items : List Asked) (is : items ≡ shared.asked.items) where
-  -- one question more
-  pub one_counted : (k i : ℕ) (asked : Asked) (amounts : List ℕ) (n : ℕ) → i < length items → asked ≡ get_or items i asked → AreCountedForFirst shared plan k i amounts
-      → IsTallyOfFirst (IsCounted shared asked) plan k n → AreCountedForFirst shared plan k (i + 1) (amounts ++ n ∷ [])
-  one_counted k i asked amounts n small item so_far counted =
-      AllZip-more (λ one. IsTallyOfFirst (IsCounted shared one) plan k) shared.asked.items amounts i asked n (subst (λ (xs : List Asked). i < length xs) is small)
-      (subst (λ (xs : List Asked). asked ≡ get_or xs i asked) is item) so_far counted
-
-  -- all questions
-  pub all_counted : (k i : ℕ) (amounts : List ℕ) → length items ≤ i → AreCountedForFirst shared plan k i amounts → AreCountedFirst shared plan k amounts
-  all_counted k i amounts all so_far =
-      subst (λ xs. AllZip (λ asked. IsTallyOfFirst (IsCounted shared asked) plan k) xs amounts) (take_all i shared.asked.items (subst (λ (xs : List Asked). length xs ≤ i) is all)) so_far
-
-  module _ (k : ℕ) (before : List ℕ) (counted : AreCountedFirst shared plan k before) where
-    pub as_many : length before ≡ length items
-    as_many = AllZip-long (λ asked. IsTallyOfFirst (IsCounted shared asked) plan k) shared.asked.items before counted ∙ ap length (sym is)
-
-    -- the number of a question, with the cells of the next tile
-    pub next_counted : (i : ℕ) (asked : Asked) (amount : ℕ) (tile : Rect) → i < length items → asked ≡ get_or items i asked → k < tile_count plan → IsTile plan k tile
-        → Tally (IsCounted shared asked) (cells_of tile) amount → IsTallyOfFirst (IsCounted shared asked) plan (k + 1) (get_or before i 0 + amount)
-    next_counted i asked amount tile small item less next t =
-        let so_far = zipped_at (λ one. IsTallyOfFirst (IsCounted shared one) plan k) shared.asked.items before i asked 0 counted (subst (λ (xs : List Asked). i < length xs) is small)
-        (subst (λ (xs : List Asked). asked ≡ get_or xs i asked) is item) in
-        next_tile {P = IsCounted shared asked} plan k (get_or before i 0) amount tile less next so_far t
-
--- no such number is as large as the number of all cells of a window may be
-pub counted_small : (shared : Shared) (plan : TilePlan) (asked : Asked) (k n : ℕ) → IsTallyOfFirst (IsCounted shared asked) plan k n → n < 2 ^ 63
-counted_small shared plan asked k n first = few_tallied plan.window n first.tally
-
-pub all_counted_small : (shared : Shared) (plan : TilePlan) (k : ℕ) (amounts : List ℕ) → AreCountedFirst shared plan k amounts → All (λ n. n < 2 ^ 63) amounts
-all_counted_small shared plan k amounts =
-    zipped_all (λ asked. IsTallyOfFirst (IsCounted shared asked) plan k) (λ n. n < 2 ^ 63) (λ asked n. counted_small shared plan asked k n) shared.asked.items amounts
-
--- over all tiles they are numbers of cells of the window
-pub all_over_window : (shared : Shared) (plan : TilePlan) (amounts : List ℕ) → AreCountedFirst shared plan (tile_count plan) amounts
-    → AllZip (λ asked. Tally (IsCounted shared asked) (cells_of plan.window)) shared.asked.items amounts
-all_over_window shared plan amounts =
-    zipped_weaker (λ asked. IsTallyOfFirst (IsCounted shared asked) plan (tile_count plan)) (λ asked. Tally (IsCounted shared asked) (cells_of plan.window))
-    (λ asked n. all_tiles {P = IsCounted shared asked} plan n) shared.asked.items amounts
-
 -- a list that is another one, item by item, is as long
 pub mapped_as_many : {X Y : Type 0} (f : X → Y) (xs : List X) (ys : List Y) → map f xs ≡ ys → length xs ≡ length ys
 mapped_as_many f xs ys is = sym (length-map xs f) ∙ ap length is
+
+-- ---- the amounts of a tile
+
+module _ (shared : Shared) (plan : TilePlan) (k : ℕ) where
+  -- the numbers of the first so many questions are those of the tile
+  abbrev pub AreOfTile : ℕ → List ℕ → Type 0
+  AreOfTile count ns = (slot : ℕ) → slot < count → IsCountedAmount shared plan k slot (get_or ns slot 0)
+
+  -- one question more
+  pub one_of_tile : (items : List Asked) → items ≡ shared.asked.items → (i : ℕ) (asked : Asked) (ns : List ℕ) (n : ℕ) (tile : Rect) → length ns ≡ i → i < length items → asked ≡ get_or items i asked
+      → IsTile plan k tile → Tally (IsCounted shared asked) (cells_of tile) n → AreOfTile i ns → AreOfTile (i + 1) (ns ++ n ∷ [])
+  one_of_tile items is i asked ns n tile long small item is_tile counted before slot below = elim (cases_lt slot i) [
+    | inl first ↦ subst (IsCountedAmount shared plan k slot) (sym (get_or_append_left ns (n ∷ []) 0 slot (omega (arith, long)))) (before slot first)
+    | inr last ↦
+        let at : slot ≡ i = omega arith in
+        let here : slice_get shared.asked.items i ≡ Some asked =
+        subst (λ (xs : List Asked). slice_get xs i ≡ Some asked) is (slice_get-get_or items i asked small ∙ ap Some (sym item)) in
+        λ other found.
+        let same : asked ≡ other = cc (here, found, ap (slice_get shared.asked.items) at) in
+        subst (IsTallyOfTile (IsCounted shared other) plan k) (sym (get_or_push ns n 0 slot (long ∙ sym at)))
+        (subst (λ a. IsTallyOfTile (IsCounted shared a) plan k n) same (record { tile = tile; is_tile = is_tile; tally = counted }))
+  ]
+
+-- an amount of a tile is no more than the cells that a tile may have
+pub amount_fits : (shared : Shared) (plan : TilePlan) (cap : ℕ) → IsGreatestTile plan cap → (k slot n : ℕ) → k < tile_count plan → slot < length shared.asked.items
+    → IsCountedAmount shared plan k slot n → n ≤ cap
+amount_fits shared plan cap greatest k slot n less small amount =
+    let found = some_item shared.asked.items slot small in
+    let t = amount found.0 found.1 in
+    let few = Tally-le-length (cells_of t.tile) n t.tally in
+    let most = greatest.most k t.tile less t.is_tile in
+    omega (arith, few, most)
+
+-- a board with a ticket for each tile and a slot for each question is made for the tiles
+pub made_for_tiles : (shared : Shared) (plan : TilePlan) (limits made : Limits) → limits ≡ made → made.tickets ≡ tile_count plan → made.slots ≡ length shared.asked.items → IsGreatestTile plan made.cap
+    → IsMadeFor limits (tile_count plan) (length shared.asked.items) (IsCountedAmount shared plan)
+made_for_tiles shared plan limits made is tickets slots greatest = record {
+  tickets_are = ap (λ (l : Limits). l.tickets) is ∙ tickets;
+  slots_are = ap (λ (l : Limits). l.slots) is ∙ slots;
+  fits = λ ticket slot n less small amount. subst (λ (l : Limits). n ≤ l.cap) (sym is) (amount_fits shared plan made.cap greatest ticket slot n less small amount);
+}
+
+-- ---- the sums of all tiles
+
+module _ (shared : Shared) (plan : TilePlan) where
+  first_tiles : (asked : Asked) (slot : ℕ) → slice_get shared.asked.items slot ≡ Some asked → (amount : ℕ → ℕ)
+      → ((k : ℕ) → k < tile_count plan → IsCountedAmount shared plan k slot (amount k)) → (k : ℕ) → k ≤ tile_count plan → IsTallyOfFirst (IsCounted shared asked) plan k (sum_below k amount)
+  first_tiles asked slot at amount are zero less = no_tile {P = IsCounted shared asked} plan
+  first_tiles asked slot at amount are (suc k) less =
+      let t = are k (omega arith) asked at in
+      let next : k + 1 ≡ suc k = omega arith in
+      subst (λ j. IsTallyOfFirst (IsCounted shared asked) plan j (sum_below k amount + amount k)) next
+      (next_tile {P = IsCounted shared asked} plan k (sum_below k amount) (amount k) t.tile (omega arith) t.is_tile (first_tiles asked slot at amount are k (omega arith)) t.tally)
+
+  -- are what is counted over the window
+  pub sums_are_counted : (sums : List ℕ) → length sums ≡ length shared.asked.items
+      → ((slot : ℕ) → slot < length shared.asked.items → IsSumOfAmounts (tile_count plan) (IsCountedAmount shared plan) slot (get_or sums slot 0))
+      → AreCounted shared (cells_of plan.window) sums
+  sums_are_counted sums long are = zipped_by (λ asked. Tally (IsCounted shared asked) (cells_of plan.window)) shared.asked.items sums long each where
+    each : (slot : ℕ) (asked : Asked) → slice_get shared.asked.items slot ≡ Some asked → Tally (IsCounted shared asked) (cells_of plan.window) (get_or sums slot 0)
+    each slot asked at =
+        let s = are slot (slice_get_within shared.asked.items slot asked at) in
+        subst (Tally (IsCounted shared asked) (cells_of plan.window)) (sym s.is_sum)
+        (all_tiles {P = IsCounted shared asked} plan (sum_below (tile_count plan) s.amount)
+        (first_tiles asked slot at s.amount (λ k less. s.are_amounts k less) (tile_count plan) (omega arith)))
+
+  pub counted_small : (sums : List ℕ) → AreCounted shared (cells_of plan.window) sums → All (λ n. n < 2 ^ 63) sums
+  counted_small sums = zipped_all (λ asked. Tally (IsCounted shared asked) (cells_of plan.window)) (λ n. n < 2 ^ 63) (λ asked n t. few_tallied plan.window n t) shared.asked.items sums
+
+  pub counted_many : (sums : List ℕ) → AreCounted shared (cells_of plan.window) sums → length sums ≡ length shared.asked.items
+  counted_many sums = AllZip-long (λ asked. Tally (IsCounted shared asked) (cells_of plan.window)) shared.asked.items sums
+
+  -- and so where they were found
+  pub found_counted : (found : Result (Vec ℕ Global) NoMemory) → IfOk found (λ sums. length sums.items ≡ length shared.asked.items)
+      → IfOk found (λ sums. (slot : ℕ) → slot < length shared.asked.items → IsSumOfAmounts (tile_count plan) (IsCountedAmount shared plan) slot (get_or sums.items slot 0))
+      → IfOk found (λ sums. AreCounted shared (cells_of plan.window) sums.items)
+  found_counted (Ok sums) long are = sums_are_counted sums.items long are
+  found_counted (Err no_memory) long are = tt

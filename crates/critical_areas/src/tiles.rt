@@ -108,6 +108,7 @@ fn sums_over_tiles<G: Gate + Sync>(
 }
 
 /// The tiles of a plan as work to share: each is a ticket, and each question has a slot.
+#[derive(Clone, Copy)]
 struct Tiles<'a> {
     shared: &'a Shared,
     plan: &'a TilePlan,

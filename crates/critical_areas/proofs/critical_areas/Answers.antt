@@ -16,7 +16,7 @@ use Rattle.critical_areas.proofs.WindowLaws.{Covered}
 use Rattle.critical_areas.proofs.critical_areas.Goals as goal
 
 pub returns-in_err-parts-clause-rows : goal.returns-in_err-parts-clause-rows
-returns-in_err-parts-clause-rows c =
+returns-in_err-parts-clause-rows g c =
     let lists = c.args.layers.now.lists.items in
     let layer_map = layer_map_of c.args.map.now in
     let fault = c.in_err-parts.field-0.0 in
@@ -24,7 +24,7 @@ returns-in_err-parts-clause-rows c =
     (unread (IsOnItsMetal lists) off_metal (ArePartsOf layer_map lists) _ (enumerate_from 0 layer_map.terminals) fault c.in_err-parts.ensures)
 
 pub returns-clause-rows : goal.returns-clause-rows
-returns-clause-rows c =
+returns-clause-rows g c =
     let layer_map = layer_map_of c.args.map.now in
     let lists = c.args.layers.now.lists.items in
     let window = c.window_of-window.result in

@@ -1,5 +1,5 @@
 -- what the tiles of a window are counted from
-use Rattle.std.specs.Prelude.{ℕ, List, [], All, map, length, take, slice_index_or, ◌≡◌, ◌-◌, ◌/◌, ◌↔◌}
+use Rattle.std.specs.Prelude.{ℕ, List, [], All, map, length, slice_get, slice_index_or, Some, ◌≡◌, ◌-◌, ◌/◌, ◌↔◌}
 use Rattle.std.specs.List.{AllZip}
 use Rattle.std.specs.List.Sorted.{IsPermutation}
 use Rattle.geo_core.specs.Plane.{Has, IsInUnion}
@@ -11,7 +11,8 @@ use Rattle.questions.specs.declared.kind.Kind.TheVariants.{Short, Open, Via}
 use Rattle.questions.specs.declared.question.Question.{Question}
 use Rattle.severing.specs.Severing.{IsSomeOpen}
 use Rattle.short_area.specs.Labels.{TouchesTwoLabels}
-use Rattle.tile_plan.specs.TileTallies.{IsTallyOfFirst}
+use Rattle.fault_model.specs.FaultNames.{Tally}
+use Rattle.tile_plan.specs.TileTallies.{IsTallyOfTile}
 use Rattle.tile_plan.specs.declared.tiles.TilePlan.{TilePlan}
 use Rattle.via_clusters.specs.Blocks.{CoversSomeBox}
 use Rattle.critical_areas.specs.declared.parts.Parts.{Parts}

@@ -1,34 +1,33 @@
-use Rattle.std.proofs.Common.{◌≡◌, ◌∙◌, sym, subst, arith}
-use Rattle.tile_plan.specs.Tiles.{tile_count}
-use Rattle.critical_areas.specs.inside.Sharing.{AreCountedFirst}
-use Rattle.critical_areas.specs.declared.shared.Asked.{Asked}
-use Rattle.std.proofs.Common.{refl}
-use Rattle.critical_areas.proofs.CountingLaws.{all_counted_small, all_over_window, as_many, mapped_as_many}
+use Rattle.std.proofs.Common.{◌≡◌, ◌<◌, ◌^◌, ◌∙◌, All, length}
+use Rattle.lists.proofs.Words.{IfOk-weaker}
+use Rattle.geo_core.specs.Plane.{IsCoveredIn}
+use Rattle.fault_model.specs.FaultNames.{cells_of}
+use Rattle.critical_areas.specs.Rows.{AreAmounts}
+use Rattle.critical_areas.specs.inside.Sharing.{AreCounted}
+use Rattle.critical_areas.proofs.CountingLaws.{counted_many, counted_small, mapped_as_many}
 use Rattle.critical_areas.proofs.SharingLaws.{counted_are_amounts}
+use Rattle.critical_areas.specs.declared.shared.Asked.{Asked}
 use Rattle.critical_areas.proofs.tiles.amounts_by_tiles.Goals as goal
 
-pub with_tile-requires-clause-before : goal.with_tile-requires-clause-before
-with_tile-requires-clause-before c = subst (AreCountedFirst c.in_ok-shared.shared c.args.plan.now c.loop-k.k) (sym c.as_slice.ensures.value) c.loop-k.invariant
-
--- all tiles are counted at the end
-counted : (c : goal.After-drop-shared-4) → AreCountedFirst c.in_ok-shared.shared c.args.plan.now (tile_count c.args.plan.now) c.loop-k.amounts.items
-counted c =
-    let end : c.loop-k.k ≡ tile_count c.args.plan.now = omega (arith, c.count-k-end.ensures.count, c.loop-k.auto.k-end, c.loop-k-test.false) in
-    subst (λ k. AreCountedFirst c.in_ok-shared.shared c.args.plan.now k c.loop-k.amounts.items) end c.loop-k.invariant
-
 pub returns-clause-tallies : goal.returns-clause-tallies
-returns-clause-tallies c =
-    λ layer_map lists are.
-    let plan = c.args.plan.now in
+returns-clause-tallies g c =
     let shared = c.in_ok-shared.shared in
-    counted_are_amounts layer_map lists c.args.parts.now plan.window shared are c.in_ok-shared.ensures c.loop-k.amounts.items (all_over_window shared plan c.loop-k.amounts.items (counted c))
+    let window = c.args.plan.now.window in
+    λ layer_map lists are.
+    IfOk-weaker c.sums_over_tiles.result (λ sums. AreCounted shared (cells_of window) sums.items) (λ sums. AreAmounts layer_map (IsCoveredIn lists) (cells_of window) sums.items)
+    (λ sums counted. counted_are_amounts layer_map lists c.args.parts.now window shared are c.in_ok-shared.ensures sums.items counted) c.sums_over_tiles.ensures
 
 pub returns-clause-one_each : goal.returns-clause-one_each
-returns-clause-one_each c =
-    let plan = c.args.plan.now in
+returns-clause-one_each g c =
     let shared = c.in_ok-shared.shared in
-    as_many shared plan shared.asked.items refl (tile_count plan) c.loop-k.amounts.items (counted c)
-    ∙ mapped_as_many (λ (asked : Asked). asked.question) shared.asked.items c.args.parts.now.questions c.in_ok-shared.ensures.questions
+    let plan = c.args.plan.now in
+    let many = mapped_as_many (λ (asked : Asked). asked.question) shared.asked.items c.args.parts.now.questions c.in_ok-shared.ensures.questions in
+    IfOk-weaker c.sums_over_tiles.result (λ sums. AreCounted shared (cells_of plan.window) sums.items) (λ sums. length sums.items ≡ length c.args.parts.now.questions)
+    (λ sums counted. counted_many shared plan sums.items counted ∙ many) c.sums_over_tiles.ensures
 
 pub returns-clause-small : goal.returns-clause-small
-returns-clause-small c = all_counted_small c.in_ok-shared.shared c.args.plan.now (tile_count c.args.plan.now) c.loop-k.amounts.items (counted c)
+returns-clause-small g c =
+    let shared = c.in_ok-shared.shared in
+    let plan = c.args.plan.now in
+    IfOk-weaker c.sums_over_tiles.result (λ sums. AreCounted shared (cells_of plan.window) sums.items) (λ sums. All (λ amount. amount < 2 ^ 63) sums.items)
+    (λ sums counted. counted_small shared plan sums.items counted) c.sums_over_tiles.ensures
