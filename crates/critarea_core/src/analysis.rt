@@ -52,7 +52,15 @@ fn layers_of_library(
 }
 
 /// The rows on the subject whose layers these are, or the first terminal that is not on its metal.
-fn rows_on(alloc: Global, map: &Map, layers: &Layers, edge: u32) -> Result<Vec<Row>, LayoutFault>
+fn rows_on<G: Gate + Sync>(
+    rt: &(impl Threads + Sync),
+    alloc: Global,
+    map: &Map,
+    layers: &Layers,
+    edge: u32,
+    workers: u32,
+    gate: &G,
+) -> Result<Vec<Row>, LayoutFault>
     requires some { 1 ≤ edge }
     requires short { edge ≤ 1000000000 }
     requires some_workers { 1 ≤ workers }

@@ -15,13 +15,13 @@ returns-in_err-layers g c =
     c.from_residual.result c.from_residual.ensures.1 c.in_err-layers.ensures
 
 pub rows_on-requires-clause-one_each : goal.rows_on-requires-clause-one_each
-rows_on-requires-clause-one_each g c =
+rows_on-requires-clause-one_each g c κs within =
     let given = c.args.map.now in
     let laid = (found_for _ _ _ _ c.in_ok-layers.layers c.in_ok-layers.ensures).2 in
     laid.layers.one_each ∙ ap (λ (m : LayerMap). length (layers_of m)) laid.of_map ∙ layer_count given.metals given.cuts
 
 pub rows_on-requires-clause-within : goal.rows_on-requires-clause-within
-rows_on-requires-clause-within g c = (found_for _ _ _ _ c.in_ok-layers.layers c.in_ok-layers.ensures).2.layers.within
+rows_on-requires-clause-within g c κs within = (found_for _ _ _ _ c.in_ok-layers.layers c.in_ok-layers.ensures).2.layers.within
 
 pub returns : goal.returns
 returns g c =

@@ -6,7 +6,7 @@ use Rattle.critarea_core.proofs.VerdictLaws.{fitting_numbers}
 use Rattle.critarea_core.proofs.command.find.Goals as goal
 
 pub rows_of_request-requires : goal.rows_of_request-requires
-rows_of_request-requires g c = (c.type_bounds.sync-typeof-rt, fitting_numbers c.args.words.now c.in-Ok.request c.in-Ok.ensures.request)
+rows_of_request-requires g c = (c.type_bounds.sync-G, (c.type_bounds.sync-typeof-rt, fitting_numbers c.args.words.now c.in-Ok.request c.in-Ok.ensures.request))
 
 pub returns-in-Ok-clause-few : goal.returns-in-Ok-clause-few
 returns-in-Ok-clause-few g c =
