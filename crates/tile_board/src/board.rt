@@ -1,7 +1,7 @@
 ghost use Rattle.std.specs.Prelude.{ℕ, ◌≡◌, ◌≤◌, ◌<◌, ◌+◌, ◌*◌, ◌^◌, ◌==◌, ◌&&◌, if◌then◌else◌, [], ◌∷◌};
 ghost use Rattle.std.specs.Prelude.{IfOk, IfSome, IfNone, length, slice_index};
 ghost use Rattle.std.specs.Slots.{slots_items, slots_len, IsFull};
-ghost use Rattle.tile_board.specs.Closing.{HasAllDraws, AreAtLeast, AreSums, DrewAll};
+ghost use Rattle.tile_board.specs.Closing.{HasAllDraws, AreFinal, AreAtLeast, AreSums, DrewAll};
 ghost use Rattle.tile_board.specs.Counts.{Drew, times_credited};
 ghost use Rattle.tile_board.specs.HandFacts.{IsHandView};
 ghost use Rattle.tile_board.specs.Machine.{fresh, with_draw, with_credit, without_draws, with_all_of, MayCredit};
@@ -161,6 +161,8 @@ impl Board {
     pub fn close(self, alloc: Global, hand: Hand) -> Result<Vec<u64>, NoMemory>
         requires belongs { BelongsTo self hand }
         ensures one_each { IfOk result (λ totals. length totals.items ≡ (limits_of self).slots) }
+        // Each total is the sum of the credits of all hands, of which this one is one.
+        ensures sound { IfOk result (λ totals. AreFinal (limits_of self) (view_of hand) totals.items) }
         ensures at_least { IfOk result (λ totals. AreAtLeast (limits_of self) (view_of hand) totals.items) }
         ensures exact { IfOk result (λ totals. HasAllDraws (limits_of self) (view_of hand) →
             AreSums (limits_of self) (view_of hand) totals.items) }
