@@ -1,17 +1,17 @@
 -- what the hand that closes a board knows of the totals
 use Rattle.std.proofs.Common.{ℕ, zero, suc, ◌+◌, ◌≤◌, ◌<◌, ◌≡◌, refl, sym, ap, subst, ◌∙◌, List, [], ◌∷◌, inl, inr, length, arith, get_or, set, min, All}
-use Rattle.std.specs.Prelude.{sum_by, ◌==◌, if◌then◌else◌}
+use Rattle.std.specs.Prelude.{sum_by, Contains, ◌==◌, if◌then◌else◌}
 use Rattle.std.proofs.Math.ListN.{get_elem?}
 use mathlib.Core.Option.{some}
 use Rattle.std.proofs.lemmas.Bool.Decides.{nat_tests, eqb_tells}
 use Rattle.std.proofs.lemmas.List.{get_or-drop, get_or-set_same, get_or-set_other}
-use Rattle.std.proofs.lemmas.List.Elements.{All-head, All-tail, All-set}
+use Rattle.std.proofs.lemmas.List.Elements.{All-head, All-tail, All-set, Contains-get_or}
 use Rattle.std.proofs.lemmas.List.Sums.{sum_by-cons, sum_by-set, get_or-le-sum_by, count_by-le-length}
 use Rattle.atomic_table.specs.Table.{State, Final, Seen}
 use Rattle.tile_board.specs.declared.views.Credit.{Credit}
 use Rattle.tile_board.specs.declared.views.Limits.{Limits}
 use Rattle.tile_board.specs.declared.views.View.{View}
-use Rattle.tile_board.specs.Closing.{HasAllDraws, AreAtLeast, AreSums, DrewAll}
+use Rattle.tile_board.specs.Closing.{HasAllDraws, AreFinal, AreAtLeast, AreSums, DrewAll}
 use Rattle.tile_board.specs.Counts.{times, credited}
 use Rattle.tile_board.specs.Machine.{BoardState, fresh, view_at}
 use Rattle.tile_board.specs.Running.{state_of}
@@ -123,6 +123,7 @@ one_more totals words slot x small read before k below = elim (eqb_tells k slot)
 ]
 
 pub record IsClosing (limits : Limits) (view : View) (totals : List ℕ) : Type 0 where
+  pub final : AreFinal limits view totals
   pub at_least : AreAtLeast limits view totals
   pub exact : HasAllDraws limits view → AreSums limits view totals
   pub all_tickets : HasAllDraws limits view → length view.tickets < view.made → DrewAll limits view
@@ -138,6 +139,7 @@ closing limits id view words slots totals final one_each read =
     λ slot small. read slot (omega (arith, one_each)) ∙ ap (λ ws. get_or ws (slot + 1) 0) (sym final.2) ∙ ap (λ k. get_or last.words k 0) (let turned : slot + 1 ≡ 1 + slot = omega arith in turned) ∙ sym (get_or-drop 1 last.words slot 0) in
     let has_all : HasAllDraws limits view → HasAllDraws limits (view_at s id) = λ has. subst (HasAllDraws limits) (sym here.1) has in
     record {
+      final = record { state = s; sound = sound; among = subst (Contains s.views) here.1 (Contains-get_or last.views id (fresh 0) here.0); same = total };
       at_least = λ slot small. let least : credited view slot ≤ get_or s.totals slot 0 = subst (λ u. credited u slot ≤ get_or s.totals slot 0) here.1 (adds_at_least limits s id here.0 sound slot small) in
           omega (arith, least, total slot small);
       exact = λ has slot small. total slot small ∙ subst (λ u. get_or s.totals slot 0 ≡ credited u slot) here.1 (adds_all limits s id here.0 sound (has_all has) slot small);

@@ -1,6 +1,7 @@
 -- what holds of each hand by itself
-use Rattle.std.proofs.Common.{ℕ, ◌+◌, ◌<◌, ◌≡◌, List, [], ◌∷◌, ap, ◌∙◌, arith}
-use Rattle.std.specs.Prelude.{nat_lt, if◌then◌else◌}
+use Rattle.std.proofs.Common.{ℕ, ◌+◌, ◌<◌, ◌≤◌, ◌≡◌, refl, List, [], ◌∷◌, ap, ◌∙◌, arith}
+use Rattle.std.specs.Prelude.{nat_lt, if◌then◌else◌, Some, None}
+use Rattle.std.proofs.lemmas.Bool.{lt-ltb, le-ltb}
 use Rattle.std.proofs.lemmas.Bool.Decides.{nat_tests}
 use Rattle.std.proofs.lemmas.List.Elements.{All-nil}
 use Rattle.tile_board.specs.declared.views.Credit.{Credit}
@@ -33,3 +34,10 @@ just_drawn tickets number v w same small before after =
   where
     drawn_once : (number tickets : ℕ) → number < tickets → times (if nat_lt number tickets then number ∷ [] else []) number ≡ 1
     drawn_once number tickets small = grind (arith, nat_tests)
+
+-- the answer to a draw
+pub answers_ticket : (tickets number next : ℕ) → next ≡ number → number < tickets → Some number ≡ (if nat_lt next tickets then Some next else None)
+answers_ticket tickets number next same small = rw (same, lt-ltb number tickets small) refl
+
+pub answers_none : (tickets number next : ℕ) → next ≡ number → tickets ≤ number → None ≡ (if nat_lt next tickets then Some next else None)
+answers_none tickets number next same large = rw (same, le-ltb number tickets large) refl

@@ -1,5 +1,5 @@
 -- the sum over all tickets
-use Rattle.std.proofs.Common.{inl, inr, ap, ℕ, zero, suc, ◌+◌, ◌*◌, ◌≤◌, ◌<◌, ◌≡◌, refl, sym, ◌∙◌, List, [], ◌∷◌, arith, get_or, All}
+use Rattle.std.proofs.Common.{inl, inr, ap, ℕ, zero, suc, ◌+◌, ◌*◌, ◌<◌, ◌≡◌, refl, ◌∙◌, List, [], ◌∷◌, arith, get_or, All}
 use Rattle.std.specs.Prelude.{sum_by, ◌==◌, ◌&&◌, nat_lt, if◌then◌else◌}
 use Rattle.std.proofs.lemmas.Bool.Decides.{nat_tests, eqb_tells}
 use Rattle.std.proofs.lemmas.List.Elements.{All-head, All-tail}
@@ -8,7 +8,7 @@ use Rattle.tile_board.specs.declared.views.Credit.{Credit}
 use Rattle.tile_board.specs.declared.views.Limits.{Limits}
 use Rattle.tile_board.specs.declared.views.View.{View}
 use Rattle.tile_board.specs.Closing.{DrewAll, CreditsEach, sum_below}
-use Rattle.tile_board.specs.Counts.{Drew, times_credited, credited}
+use Rattle.tile_board.specs.Counts.{Drew, credited}
 use Rattle.tile_board.specs.HandFacts.{IsHandView}
 use Rattle.tile_board.proofs.BoundLaws.{sum_by-both, sum_by-none, sum_by-scaled}
 

@@ -1,6 +1,7 @@
 pub mod Counts
 pub mod Machine
 pub mod Sound
+pub mod Steps
 pub mod Running
 pub mod Ranges
 pub mod HandFacts

@@ -1,11 +1,12 @@
 ghost use Rattle.std.specs.Prelude.{ℕ, ◌≡◌, ◌≤◌, ◌<◌, ◌+◌, ◌*◌, ◌^◌, ◌==◌, ◌&&◌, if◌then◌else◌, [], ◌∷◌};
-ghost use Rattle.std.specs.Prelude.{IfOk, IfSome, IfNone, length, slice_index};
+ghost use Rattle.std.specs.Prelude.{IfOk, IfSome, IfNone, Some, None, length, nat_lt, slice_index};
 ghost use Rattle.std.specs.Slots.{slots_items, slots_len, IsFull};
-ghost use Rattle.tile_board.specs.Closing.{HasAllDraws, AreAtLeast, AreSums, DrewAll};
+ghost use Rattle.tile_board.specs.Closing.{HasAllDraws, AreFinal, AreAtLeast, AreSums, DrewAll};
 ghost use Rattle.tile_board.specs.Counts.{Drew, times_credited};
 ghost use Rattle.tile_board.specs.HandFacts.{IsHandView};
 ghost use Rattle.tile_board.specs.Machine.{fresh, with_draw, with_credit, without_draws, with_all_of, MayCredit};
 ghost use Rattle.tile_board.specs.Ranges.{AreInRange};
+ghost use Rattle.tile_board.specs.Steps.{IsDraw, IsCredit};
 
 use super::rule::{Crediting, Credits, Cuts, Cutting, Drawing, Draws, Joins, Looks, SoundBoard};
 use super::views::{Credit, Limits, MOST_DRAWS, MOST_SLOTS, View};
@@ -93,6 +94,9 @@ impl Board {
             × (view_of hand.new ≡ with_draw (limits_of self.now).tickets ticket (view_of hand.old))) }
         ensures none { IfNone result ((number : ℕ) × ((limits_of self.now).tickets ≤ number)
             × (view_of hand.new ≡ with_draw (limits_of self.now).tickets number (view_of hand.old))) }
+        // It is the machine's event, in a sound state, and the number drawn is the next one there.
+        ensures step { (step : IsDraw (limits_of self.now) (view_of hand.old) (view_of hand.new))
+            × (result ≡ (if nat_lt step.state.next (limits_of self.now).tickets then Some step.state.next else None)) }
         ensures drawn { IfSome result (Drew (view_of hand.new)) }
         ensures uncredited { IfSome result (λ ticket. (slot : ℕ) → times_credited (view_of hand.new) ticket slot ≡ 0) }
     {
@@ -116,6 +120,9 @@ impl Board {
         ensures belongs { BelongsTo self.now hand.new }
         ensures credited { view_of hand.new ≡
             with_credit (record { ticket = ticket; slot = slot; amount = amount }) (view_of hand.old) }
+        // It is the machine's event, in a sound state, which adds the amount to the slot's total.
+        ensures step { IsCredit (limits_of self.now) (record { ticket = ticket; slot = slot; amount = amount })
+            (view_of hand.old) (view_of hand.new) }
         // It counts at its own ticket and slot alone.
         ensures counted { (t s : ℕ) → times_credited (view_of hand.new) t s ≡ times_credited (view_of hand.old) t s
             + (if (ticket == t) && (slot == s) then 1 else 0) }
@@ -161,6 +168,8 @@ impl Board {
     pub fn close(self, alloc: Global, hand: Hand) -> Result<Vec<u64>, NoMemory>
         requires belongs { BelongsTo self hand }
         ensures one_each { IfOk result (λ totals. length totals.items ≡ (limits_of self).slots) }
+        // Each total is the sum of the credits of all hands, of which this one is one.
+        ensures sound { IfOk result (λ totals. AreFinal (limits_of self) (view_of hand) totals.items) }
         ensures at_least { IfOk result (λ totals. AreAtLeast (limits_of self) (view_of hand) totals.items) }
         ensures exact { IfOk result (λ totals. HasAllDraws (limits_of self) (view_of hand) →
             AreSums (limits_of self) (view_of hand) totals.items) }
@@ -179,24 +188,27 @@ impl Board {
 
     // The one step of a draw.
     fn draw_number<D: Drawing>(&self, seat: &mut Seat<u64, View>) -> u64
-        requires tickets { D.tickets ≡ self.now.table.shared.key.tickets }
+        requires limits { D.limits ≡ self.now.limits }
         requires belongs { seat.old.table_id ≡ self.now.table.shared.table_id }
         requires left { 0 < seat.old.me.0.left }
         ensures belongs { seat.new.table_id ≡ seat.old.table_id }
-        ensures view { seat.new.me ≡ (with_draw D.tickets result seat.old.me.0, seat.old.me.1) }
+        ensures view { seat.new.me ≡ (with_draw D.limits.tickets result seat.old.me.0, seat.old.me.1) }
         ensures facts { IsHandView seat.new.me.0 }
+        ensures step { (step : IsDraw D.limits seat.old.me.0 seat.new.me.0) × (step.state.next ≡ result) }
     {
         self.table.shared.fetch_add::<Draws<D>>(seat, 0, 1)
     }
 
     // The one step of a credit.
     fn add<C: Crediting>(&self, seat: &mut Seat<u64, View>, credit: Credit)
+        requires limits { C.limits ≡ self.now.limits }
         requires picked { C.credit ≡ credit }
         requires belongs { seat.old.table_id ≡ self.now.table.shared.table_id }
         requires may { MayCredit self.now.limits seat.old.me.0 credit }
         ensures belongs { seat.new.table_id ≡ seat.old.table_id }
         ensures view { seat.new.me ≡ (with_credit C.credit seat.old.me.0, seat.old.me.1) }
         ensures facts { IsHandView seat.new.me.0 }
+        ensures step { IsCredit C.limits C.credit seat.old.me.0 seat.new.me.0 }
     {
         let word = credit.slot as usize + 1;
         self.table

@@ -1,7 +1,7 @@
 //! The rule of the running board, and what its atomic steps do to views.
 //!
-//! A step's play sees the word and the number found there, and knows neither the ticket of a credit nor how many tickets
-//! there are. So each kind of step has a trait with what it does not see, which the proof of a call picks (`Brand`). It is
+//! A step's play sees the word and the number found there, and knows neither the ticket of a credit nor what the board is
+//! made for. So each kind of step has a trait with what it does not see, which the proof of a call picks (`Brand`). It is
 //! no value of the program: a draw and a credit are one instruction each.
 
 ghost use Rattle.std.specs.Prelude.{ℕ, ◌≡◌, ◌≤◌};
@@ -11,6 +11,7 @@ ghost use Rattle.tile_board.specs.HandFacts.{IsHandView};
 ghost use Rattle.tile_board.specs.Machine.{fresh, with_draw, with_credit, without_draws, with_all_of};
 ghost use Rattle.tile_board.specs.Running.{state_of};
 ghost use Rattle.tile_board.specs.Sound.{IsSound};
+ghost use Rattle.tile_board.specs.Steps.{IsDraw, IsCredit};
 
 use super::views::{Credit, Limits, View};
 use atomic_table::{Join, Play, Split, TableRule};
@@ -25,32 +26,40 @@ impl TableRule<u64, View, Limits> for SoundBoard {
     ghost first = { λ limits. fresh limits.draws };
 }
 
-/// How many tickets there are, for a draw.
+/// What the board is made for, for a draw.
 pub trait Drawing {
-    ghost tickets: { ℕ };
+    ghost use Rattle.tile_board.specs.declared.views.Limits.{Limits};
+
+    ghost limits: { Limits };
 }
 
 impl Drawing for Brand {
-    ghost tickets = { 0 };
+    ghost limits = { record { tickets = 0; slots = 0; cap = 0; draws = 0 } };
 }
 
-/// A draw: the number found is drawn.
+/// A draw: the number found is drawn, and it is the next one of a sound state.
 pub struct Draws<D> {
     drawing: PhantomData<D>,
 }
 
 impl<D: Drawing> Play<u64, View> for Draws<D> {
-    ghost then = { λ step me found after. (after ≡ (with_draw D.tickets found me.0, me.1)) × IsHandView after.0 };
+    ghost then = { λ step me found after. (after ≡ (with_draw D.limits.tickets found me.0, me.1)) × IsHandView after.0
+        × ((draws : IsDraw D.limits me.0 after.0) × (draws.state.next ≡ found)) };
 }
 
-/// The credit that a step makes.
+/// What the board is made for, and the credit that a step makes.
 pub trait Crediting {
     ghost use Rattle.tile_board.specs.declared.views.Credit.{Credit};
+    ghost use Rattle.tile_board.specs.declared.views.Limits.{Limits};
+
+    ghost limits: { Limits };
 
     ghost credit: { Credit };
 }
 
 impl Crediting for Brand {
+    ghost limits = { record { tickets = 0; slots = 0; cap = 0; draws = 0 } };
+
     ghost credit = { record { ticket = 0; slot = 0; amount = 0 } };
 }
 
@@ -60,7 +69,8 @@ pub struct Credits<C> {
 }
 
 impl<C: Crediting> Play<u64, View> for Credits<C> {
-    ghost then = { λ step me found after. (after ≡ (with_credit C.credit me.0, me.1)) × IsHandView after.0 };
+    ghost then = { λ step me found after. (after ≡ (with_credit C.credit me.0, me.1)) × IsHandView after.0
+        × IsCredit C.limits C.credit me.0 after.0 };
 }
 
 /// How many draws are given away.

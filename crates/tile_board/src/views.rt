@@ -6,6 +6,10 @@ pub const MOST_SLOTS: u32 = 2_000;
 /// The most draws that a board may have.
 pub const MOST_DRAWS: u64 = 1 << 62;
 
+const _: () = prove!(MOST_SLOTS == 2_000);
+
+const _: () = prove!(MOST_DRAWS == 4_611_686_018_427_387_904);
+
 /// What a board is made for.
 #[derive(Clone, Copy, Debug, PartialEq, Eq)]
 pub struct Limits {

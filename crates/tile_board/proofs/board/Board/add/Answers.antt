@@ -1,9 +1,9 @@
-use Rattle.std.proofs.Common.{refl, subst, arith}
+use Rattle.std.proofs.Common.{refl, subst, arith, ◌∙◌}
 use Rattle.atomic_table.specs.Table.{keeps}
-use Rattle.tile_board.specs.declared.views.Limits.{Limits}
 use Rattle.tile_board.specs.Machine.{with_credit, MayCredit}
 use Rattle.tile_board.specs.Ranges.{AreInRange}
-use Rattle.tile_board.proofs.RunningLaws.{running_credit}
+use Rattle.tile_board.specs.declared.views.Limits.{Limits}
+use Rattle.tile_board.proofs.RunningLaws.{credit_picked}
 use Rattle.tile_board.proofs.board.Board.add.Goals as goal
 
 pub fetch_add-requires : goal.fetch_add-requires
@@ -15,6 +15,6 @@ fetch_add-requires g c =
       c.requires.belongs,
       omega (arith, board.words, c.requires.may.slot),
       λ s sound homes mine word.
-          let kept = running_credit board.table.shared.key c.args.credit g.C.Crediting.credit s.words s.views c.args.seat.now.id v ranges c.requires.picked may mine sound in
-          (with_credit g.C.Crediting.credit v, keeps, tt, kept.0, (refl, kept.1)),
+          let kept = credit_picked board.table.shared.key g.C.Crediting.limits c.args.credit g.C.Crediting.credit s.words s.views c.args.seat.now.id v (c.requires.limits ∙ board.key) c.requires.picked ranges may mine sound in
+          (with_credit g.C.Crediting.credit v, keeps, tt, kept.0, (refl, kept.1.0, kept.1.1)),
     )

@@ -1,5 +1,5 @@
 use Rattle.tile_board.proofs.board.Board.credit.Given as goal
 
--- the credit that is made
+-- what the board is made for, and the credit that is made
 abbrev pub ghosts-add : goal.ghosts-add
-ghosts-add a = record { credit = a.credit }
+ghosts-add a = record { limits = a.self.now.limits; credit = a.credit }

@@ -1,5 +1,5 @@
 use Rattle.tile_board.proofs.board.Board.draw.Given as goal
 
--- how many tickets the board has
+-- what the board is made for
 abbrev pub ghosts-draw_number : goal.ghosts-draw_number
-ghosts-draw_number a = record { tickets = a.self.now.limits.tickets }
+ghosts-draw_number a = record { limits = a.self.now.limits }

@@ -1,8 +1,8 @@
-use Rattle.std.proofs.Common.{refl, subst, arith}
+use Rattle.std.proofs.Common.{refl, subst, arith, ◌∙◌}
 use Rattle.atomic_table.specs.Table.{keeps}
 use Rattle.tile_board.specs.Machine.{with_draw}
 use Rattle.tile_board.specs.Ranges.{AreInRange}
-use Rattle.tile_board.proofs.RunningLaws.{running_draw}
+use Rattle.tile_board.proofs.RunningLaws.{draw_picked}
 use Rattle.tile_board.proofs.board.Board.draw_number.Goals as goal
 
 pub fetch_add-requires : goal.fetch_add-requires
@@ -12,6 +12,6 @@ fetch_add-requires g c =
       c.requires.belongs,
       omega (arith, board.words),
       λ s sound homes mine word.
-          let kept = running_draw board.table.shared.key g.D.Drawing.tickets s.words s.views c.args.seat.now.id c.args.seat.now.me.0 ranges c.requires.tickets c.requires.left mine sound in
-          (with_draw g.D.Drawing.tickets _ c.args.seat.now.me.0, keeps, tt, kept.0, (refl, kept.1)),
+          let kept = draw_picked board.table.shared.key g.D.Drawing.limits s.words s.views c.args.seat.now.id c.args.seat.now.me.0 (c.requires.limits ∙ board.key) ranges c.requires.left mine sound in
+          (with_draw g.D.Drawing.limits.tickets _ c.args.seat.now.me.0, keeps, tt, kept.0, (refl, kept.1.0, kept.1.1)),
     )
