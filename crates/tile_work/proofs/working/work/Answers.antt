@@ -1,4 +1,4 @@
-use Rattle.std.proofs.Common.{ap, arith}
+use Rattle.std.proofs.Common.{ℕ, List, get_or, ◌∙◌, ap, arith}
 use Rattle.tile_board.specs.Hands.{view_of}
 use Rattle.tile_board.specs.declared.views.View.{View}
 use Rattle.tile_work.proofs.WorkLaws.{has_draw, drawn, stopped, one_draw}
@@ -11,6 +11,9 @@ pub returns-in_err-amounts-clause-draws : goal.returns-in_err-amounts-clause-dra
 returns-in_err-amounts-clause-draws g c =
     let tickets = g.J.TileJob.tickets c.args.job.now in
     one_draw tickets _ _ (view_of c.loop-ticket.hand) (view_of c.draw.new.hand) c.loop-ticket.hand.facts c.loop-ticket.invariant.working.drew c.in-Some.ensures.some.1
+
+pub credit_all-requires-clause-in_order : goal.credit_all-requires-clause-in_order
+credit_all-requires-clause-in_order g c slot small = ap (λ (items : List ℕ). get_or items slot 0) c.as_slice.ensures.value ∙ c.in_ok-amounts.ensures.in_order slot small
 
 pub credit_all-requires-clause-drawn : goal.credit_all-requires-clause-drawn
 credit_all-requires-clause-drawn g c =
