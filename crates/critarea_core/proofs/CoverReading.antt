@@ -18,21 +18,21 @@ use Rattle.rect_cover.specs.ShapeChecks.{ShapeHolds, checks_of, shape_fault}
 use Rattle.rect_cover.specs.declared.fault.CoverFault.{CoverFault}
 use Rattle.rect_cover.proofs.PlacedLaws.{placed_shapes_agree}
 use Rattle.critarea_core.specs.Coverage.{route_points}
-use Rattle.critarea_core.specs.Layout.{RouteCheck, RouteHolds, route_checks, route_refusal}
+use Rattle.critarea_core.specs.Layout.{RouteCheck, RouteHolds, route_checks, route_fault}
 use Rattle.critarea_core.specs.inside.LayoutReaders.{Covered}
-use Rattle.critarea_core.specs.Refusals.{of_cover_fault}
-use Rattle.critarea_core.specs.declared.refusal.Refusal.{Refusal}
+use Rattle.critarea_core.specs.declared.layout_fault.LayoutFault.{LayoutFault}
+use Rattle.critarea_core.specs.declared.layout_fault.LayoutFault.TheVariants.{Cover}
 use Rattle.critarea_core.proofs.RouteEnds.{IsPlacedAlong, points_alike}
 
 -- the checks of the shape in which a route ends
 abbrev checks_on : Route → List RouteCheck
 checks_on route = map (λ check. (route, check)) (checks_of route.shape.kind)
 
--- a refusal behind checks that hold
-refused_behind : (before here : List RouteCheck) (refusal : Refusal) → All RouteHolds before → IsRefusalOfFirst RouteHolds here route_refusal refusal
-    → IsRefusalOfFirst RouteHolds (before ++ here) route_refusal refusal
+-- a fault behind checks that hold
+refused_behind : (before here : List RouteCheck) (refusal : LayoutFault) → All RouteHolds before → IsRefusalOfFirst RouteHolds here route_fault refusal
+    → IsRefusalOfFirst RouteHolds (before ++ here) route_fault refusal
 refused_behind before here refusal all first =
-    subst (λ checks. IsRefusalOfFirst RouteHolds (before ++ checks) route_refusal refusal) (append-nil here) (refused_within RouteHolds route_refusal before here [] refusal all first)
+    subst (λ checks. IsRefusalOfFirst RouteHolds (before ++ checks) route_fault refusal) (append-nil here) (refused_within RouteHolds route_fault before here [] refusal all first)
 
 module _ (route : Route) where
   -- a cover, and the checks that hold where there is one
@@ -42,13 +42,13 @@ module _ (route : Route) where
   pub cover_of : (rects : List Rect) → CoverComesTo route.shape.kind (route_points route) route.shape.at (value rects) → IsCover (Covers route.shape.kind (route_points route)) rects
   cover_of rects (all_hold all is) = is
 
-  -- a fault, as the refusal of the first check that fails
+  -- a fault, as that of the first check that fails
   refused_check : (fault : CoverFault) → CoverComesTo route.shape.kind (route_points route) route.shape.at (refused fault)
-      → IsRefusalOfFirst RouteHolds (checks_on route) route_refusal (of_cover_fault fault)
+      → IsRefusalOfFirst RouteHolds (checks_on route) route_fault (Cover fault)
   refused_check fault (one_fails first) =
-      first_said (ShapeHolds (route_points route)) RouteHolds (λ check. (route, check)) (λ check. of_cover_fault (shape_fault route.shape.at check)) route_refusal
-      (λ check h. h) (λ check h. h) (λ check. refl) (checks_of route.shape.kind) (of_cover_fault fault)
-      (record { check = first.check; is_first = first.is_first; is_its_refusal = ap of_cover_fault first.is_its_refusal })
+      first_said (ShapeHolds (route_points route)) RouteHolds (λ check. (route, check)) (λ check. Cover (shape_fault route.shape.at check)) route_fault
+      (λ check h. h) (λ check h. h) (λ check. refl) (checks_of route.shape.kind) (Cover fault)
+      (record { check = first.check; is_first = first.is_first; is_its_refusal = ap (λ f. Cover f) first.is_its_refusal })
 
 -- a placed shape and its cover, at the end of a route
 pub record IsCoveredAlong (layer_map : LayerMap) (route : Route) (one : Covered) : Type 0 where
@@ -85,20 +85,20 @@ module _ (structures : List Structure) (layer_map : LayerMap) where
       → All RouteHolds (route_checks routes)
   all_covered routes placed lists along h = all_coverable routes placed along (listed_coverable placed lists h)
 
-  -- the fault of the first shape that has one is the refusal of the first check that fails
+  -- the fault of the first shape that has one is that of the first check that fails
   first_behind : (routes : List Route) (before : List Placed) (one : Placed) (after : List Placed) (fault : CoverFault) → AllZip (IsPlacedAlong structures layer_map) routes (before ++ one ∷ after)
-      → All (IsCoverable structures) before → PlacedComesTo structures one (refused fault) → IsRefusalOfFirst RouteHolds (route_checks routes) route_refusal (of_cover_fault fault)
+      → All (IsCoverable structures) before → PlacedComesTo structures one (refused fault) → IsRefusalOfFirst RouteHolds (route_checks routes) route_fault (Cover fault)
   first_behind [] [] one after fault along all its = absurd along
   first_behind [] (b ∷ before) one after fault along all its = absurd along
   first_behind (r ∷ rs) [] one after fault along all its =
-      refused_within RouteHolds route_refusal [] (checks_on r) (route_checks rs) (of_cover_fault fault) (All-nil RouteHolds) (refused_check r fault (comes_along r one (refused fault) along.0 its))
+      refused_within RouteHolds route_fault [] (checks_on r) (route_checks rs) (Cover fault) (All-nil RouteHolds) (refused_check r fault (comes_along r one (refused fault) along.0 its))
   first_behind (r ∷ rs) (b ∷ before) one after fault along all its =
       let (rects, comes) = All-head (IsCoverable structures) b before all in
-      refused_behind (checks_on r) (route_checks rs) (of_cover_fault fault) (covered_checks r rects (comes_along r b (value rects) along.0 comes))
+      refused_behind (checks_on r) (route_checks rs) (Cover fault) (covered_checks r rects (comes_along r b (value rects) along.0 comes))
       (first_behind rs before one after fault along.1 (All-tail (IsCoverable structures) b before all) its)
 
   pub first_refused : (routes : List Route) (placed : List Placed) (fault : CoverFault) → AllZip (IsPlacedAlong structures layer_map) routes placed → IsFirstCoverFault structures placed fault
-      → IsRefusalOfFirst RouteHolds (route_checks routes) route_refusal (of_cover_fault fault)
+      → IsRefusalOfFirst RouteHolds (route_checks routes) route_fault (Cover fault)
   first_refused routes placed fault along first =
       first_behind routes first.is_first.before first.one first.is_first.after fault (subst (AllZip (IsPlacedAlong structures layer_map) routes) first.is_first.parts along)
       first.is_first.all_before first.is_its_fault

@@ -5,4 +5,5 @@ pub mod LayoutLaws
 pub mod ReadingLaws
 pub mod VerdictLaws
 pub mod TerminalLaws
+pub mod AnalysisLaws
 pub mod RunLaws

@@ -1,8 +1,8 @@
 -- what readers answer, from what they find
 use Rattle.std.proofs.Common.{ℕ, ◌≡◌, ◌≢◌, ◌<◌, ◌≤◌, List, [], ◌∷◌, length, zero, suc, refl, sym, ap, subst, arith, if◌then◌else◌, Bool, true, false, Option, Some, None, IfSome, IsErrAnd, Result, Ok, Err, Vec, vec_len, unwrap_or}
 use Rattle.lists.proofs.Words.{Global, bytes_eq, All-cons, All-nil, bytes_eq-Decides}
-use Rattle.first_refusal.specs.Answers.{gives, refuses, no_memory}
-use Rattle.first_refusal.specs.Outcomes.{Outcome, value, refused, Then, stops}
+use Rattle.first_refusal.specs.Answers.{Answers, gives, refuses, no_memory}
+use Rattle.first_refusal.specs.Outcomes.{Outcome, value, refused, Then, stops, goes_on}
 use Rattle.lists.specs.ByteLists.{AreBytes, IsByte}
 use Rattle.lists.proofs.Containing.{Contains-head}
 use Rattle.edge_io.specs.ReadAnswers.{ReadsWhole, is_whole, is_too_long, has_no_memory, has_failed}
@@ -14,46 +14,64 @@ use Rattle.command_line.specs.declared.task.Task.{Task}
 use Rattle.command_line.specs.declared.task.Task.TheVariants.{OneMetal, Mapped, Generated}
 use Rattle.map_model.specs.MapNames.{LayerMap, one_metal_map, layer_map_of}
 use Rattle.map_model.specs.declared.map.Map.{Map}
-use Rattle.critarea_core.specs.inside.Finding.{IsMapOf, MapMayCome, IsToldAs, as_memory, as_refusal, of_unread, Finds, gives_thing, gives_refusal, FindsInFiles, files_serve, files_fail, IsOneOf}
+use Rattle.critarea_core.specs.inside.Finding.{IsMapOf, MapMayCome, IsToldAs, as_memory, as_known, of_unread, Analyses, Finds, Gives, gives_thing, gives_refusal, FindsInFiles, files_serve, files_fail, IsOneOf}
 use Rattle.critarea_core.specs.Run.{change}
 use Rattle.critarea_core.specs.Verdict.{MapTextComesTo}
+use Rattle.critarea_core.specs.declared.layout_fault.LayoutFault.{LayoutFault}
+use Rattle.critarea_core.specs.declared.layout_fault.LayoutFault.TheVariants.{Memory as LayoutMemory}
 use Rattle.critarea_core.specs.declared.refusal.Refusal.{Refusal}
-use Rattle.critarea_core.specs.declared.unreported.Unreported.{Unreported}
 
 -- ---- answers
 
-module _ {T V : Type 0} (Stage : Outcome V Refusal → Type 0) (IsFor : V → T → Type 0) where
-  told_so : {F : Type 0} (memory : F) (refusal_of : F → Refusal) (fault : F) (told : Unreported) → IsToldAs memory refusal_of fault told
-      → (fault ≢ memory → Stage (refused (refusal_of fault))) → Finds Stage IsFor (Err told)
-  told_so memory refusal_of fault told (as_memory e) known = no_memory
-  told_so memory refusal_of fault told (as_refusal other) known = refuses (gives_refusal (known other))
+module _ {T V F E : Type 0} (none : E) (as_error : F → E) (Stage : Outcome V F → Type 0) (IsFor : V → T → Type 0) where
+  -- the answer is what the stage comes to, or the error that says that no memory is left
+  abbrev IsAnswer : Result T E → Type 0
+  IsAnswer = Answers none (Gives as_error Stage IsFor)
+
+  told_so : {L : Type 0} (low : L) (said : L → F) (fault : L) (told : E) → IsToldAs low none (λ known. as_error (said known)) fault told
+      → (fault ≢ low → Stage (refused (said fault))) → IsAnswer (Err told)
+  told_so low said fault told (as_memory e) known = no_memory
+  told_so low said fault told (as_known other) known = refuses (gives_refusal (known other))
 
   -- the fault of another reader, where it is the refusal of the stage
-  pub not_read : {F : Type 0} (memory : F) (refusal_of : F → Refusal) (fault : F) (result : Result T Unreported)
-      → IsErrAnd result (IsToldAs memory refusal_of fault) → (fault ≢ memory → Stage (refused (refusal_of fault))) → Finds Stage IsFor result
-  not_read memory refusal_of fault (Ok thing) gave known = absurd gave
-  not_read memory refusal_of fault (Err told) gave known = told_so memory refusal_of fault told gave known
+  pub not_read : {L : Type 0} (low : L) (said : L → F) (fault : L) (result : Result T E)
+      → IsErrAnd result (IsToldAs low none (λ known. as_error (said known)) fault) → (fault ≢ low → Stage (refused (said fault))) → IsAnswer result
+  not_read low said fault (Ok thing) gave known = absurd gave
+  not_read low said fault (Err told) gave known = told_so low said fault told gave known
 
   -- what was found is for some value of the stage
-  pub found_for : (thing : T) → Finds Stage IsFor (Ok thing) → (v : V) × Stage (value v) × IsFor v thing
+  pub found_for : (thing : T) → IsAnswer (Ok thing) → (v : V) × Stage (value v) × IsFor v thing
   found_for thing (gives (gives_thing {v = v} comes is)) = (v, comes, is)
 
   -- the same of another stage that comes to all that this one does
-  pub restaged : (Other : Outcome V Refusal → Type 0) → ((outcome : Outcome V Refusal) → Stage outcome → Other outcome)
-      → (result : Result T Unreported) → Finds Stage IsFor result → Finds Other IsFor result
+  pub restaged : (Other : Outcome V F → Type 0) → ((outcome : Outcome V F) → Stage outcome → Other outcome)
+      → (result : Result T E) → IsAnswer result → Answers none (Gives as_error Other IsFor) result
   restaged Other each result (gives (gives_thing {v = v} comes is)) = gives (gives_thing (each (value v) comes) is)
   restaged Other each result (refuses (gives_refusal {refusal = r} comes)) = refuses (gives_refusal (each (refused r) comes))
   restaged Other each result no_memory = no_memory
 
 -- what the first of two stages did not find
-module _ {T U V W : Type 0} (First : Outcome V Refusal → Type 0) (Second : V → Outcome W Refusal → Type 0) (IsAlso : V → U → Type 0) (IsFor : W → T → Type 0) where
-  stopped_so : (why : Unreported) → Finds First IsAlso (Err why) → Finds (Then First Second) IsFor (Err why)
+module _ {T U V W F E : Type 0} (none : E) (as_error : F → E) (First : Outcome V F → Type 0) (Second : V → Outcome W F → Type 0) (IsAlso : V → U → Type 0) (IsFor : W → T → Type 0) where
+  stopped_so : (why : E) → Answers none (Gives as_error First IsAlso) (Err why) → Answers none (Gives as_error (Then First Second) IsFor) (Err why)
   stopped_so why (refuses (gives_refusal comes)) = refuses (gives_refusal (stops comes))
   stopped_so why no_memory = no_memory
 
-  pub stopped : (why : Unreported) (result : Result T Unreported) → IsErrAnd result (λ same. same ≡ why) → Finds First IsAlso (Err why) → Finds (Then First Second) IsFor result
+  pub stopped : (why : E) (result : Result T E) → IsErrAnd result (λ same. same ≡ why) → Answers none (Gives as_error First IsAlso) (Err why)
+      → Answers none (Gives as_error (Then First Second) IsFor) result
   stopped why (Ok thing) gave found = absurd gave
   stopped why (Err same) gave found = rw gave (stopped_so why found)
+
+-- a stage in front of two others
+pub behind : {U V W F : Type 0} (First : Outcome U F → Type 0) (Second : U → Outcome V F → Type 0) (Third : V → Outcome W F → Type 0) (v : U) → First (value v)
+    → (outcome : Outcome W F) → Then (Second v) Third outcome → Then (Then First Second) Third outcome
+behind First Second Third v first outcome (stops a) = stops (goes_on {v = v} first a)
+behind First Second Third v first outcome (goes_on {v = w} a m) = goes_on {v = w} (goes_on {v = v} first a) m
+
+-- a fault of a layout that was answered is one of the stage, unless it says that no memory is left
+pub fault_found : {T V : Type 0} (Stage : Outcome V LayoutFault → Type 0) (IsFor : V → T → Type 0) (fault : LayoutFault)
+    → Analyses Stage IsFor (Err fault) → fault ≢ LayoutMemory → Stage (refused fault)
+fault_found Stage IsFor fault (refuses (gives_refusal comes)) known = comes
+fault_found Stage IsFor fault no_memory known = absurd (known refl)
 
 -- ---- what a file may have
 

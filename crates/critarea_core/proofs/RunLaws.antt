@@ -91,7 +91,7 @@ module _ (words : List (List ℕ)) (told : List ℕ → Option (List ℕ)) where
           → FindsInFiles (change middle after) (IsOneOf (name ∷ [])) (LayoutMayCome told layer_map (wanted_top request.task) name) HasRows result
           → IsFound words told (change before after) result
       on_good_map before middle after result first (files_serve calm answer) =
-          files_serve (calm_both first calm) (restaged (LayoutMayCome told layer_map (wanted_top request.task) name) HasRows (MayComeTo words told) with_layout result answer)
+          files_serve (calm_both first calm) (restaged _ _ (LayoutMayCome told layer_map (wanted_top request.task) name) HasRows (MayComeTo words told) with_layout result answer)
       on_good_map before middle after result first (files_fail risen (other, among)) =
           files_fail (subst (λ b. HasRisen (change b after)) first risen) (request, other, asked, among_files other among)
 
@@ -110,7 +110,7 @@ module _ (words : List (List ℕ)) (told : List ℕ → Option (List ℕ)) where
         → (failures : Change ℕ) (result : Result (Vec Row Global) Unreported) → IsCalm failures
         → Finds (LayoutComesTo layer_map (wanted_top request.task) bytes) HasRows result → IsFound words told failures result
     on_made layer_map good bytes is failures result calm answer =
-        files_serve calm (restaged (LayoutComesTo layer_map (wanted_top request.task) bytes) HasRows (MayComeTo words told) comes result answer)
+        files_serve calm (restaged _ _ (LayoutComesTo layer_map (wanted_top request.task) bytes) HasRows (MayComeTo words told) comes result answer)
       where
         layouts : List ℕ → List ℕ
         layouts name = unwrap_or (told name) []
@@ -142,7 +142,7 @@ pub told_alike : (told other : List ℕ → Option (List ℕ)) (layer_map : Laye
     → FindsInFiles failures (IsOneOf (name ∷ [])) (LayoutMayCome told layer_map wanted name) HasRows result
 told_alike told other layer_map wanted name failures result same (files_fail risen among) = files_fail risen among
 told_alike told other layer_map wanted name failures result same (files_serve calm answer) =
-    files_serve calm (restaged (LayoutMayCome other layer_map wanted name) HasRows (LayoutMayCome told layer_map wanted name) moved result answer) where
+    files_serve calm (restaged _ _ (LayoutMayCome other layer_map wanted name) HasRows (LayoutMayCome told layer_map wanted name) moved result answer) where
       moved : (outcome : Outcome Subject Refusal) → LayoutMayCome other layer_map wanted name outcome → LayoutMayCome told layer_map wanted name outcome
       moved outcome l = record { bytes = l.bytes; may_be = rw same at l.may_be; comes = l.comes }
 

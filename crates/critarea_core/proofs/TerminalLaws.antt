@@ -17,10 +17,10 @@ use Rattle.questions.specs.declared.row.TheConstants.{MOST_ROWS}
 use Rattle.critical_areas.specs.Rows.{ComeToRows}
 use Rattle.critical_areas.proofs.RowLaws.{rows_follow}
 use Rattle.critarea_core.specs.Coverage.{IsCoveredOn}
-use Rattle.critarea_core.specs.inside.Finding.{Finds, HasRows, gives_thing}
+use Rattle.critarea_core.specs.inside.Finding.{Analyses, HasRows, gives_thing}
 use Rattle.critarea_core.specs.Layout.{Subject, IsTerminalOn, TerminalsComeTo}
 use Rattle.critarea_core.specs.inside.LayoutReaders.{AreLayersFor}
-use Rattle.critarea_core.specs.Refusals.{of_net_fault}
+use Rattle.critarea_core.specs.declared.layout_fault.LayoutFault.TheVariants.{Net}
 
 module _ (layer_map : LayerMap) (layers : Layers) (subject : Subject) (laid : AreLayersFor layer_map subject layers) where
   abbrev lists : List (List Rect)
@@ -33,13 +33,13 @@ module _ (layer_map : LayerMap) (layers : Layers) (subject : Subject) (laid : Ar
   terminals_on : (numbered : List (ℕ × (ℕ × Cell))) → All (IsOnItsMetal lists) numbered → All (IsTerminalOn subject) numbered
   terminals_on numbered all k d small = let one = get_or numbered k d in (laid.layers.covers one.1.0 one.1.1).0 (all k d small)
 
-  by_rows : (rows : Vec Row Global) → Answers Memory (ComeToRows subject.layer_map lists) (Ok rows) → length rows.items ≤ MOST_ROWS → Finds (TerminalsComeTo subject) HasRows (Ok rows)
+  by_rows : (rows : Vec Row Global) → Answers Memory (ComeToRows subject.layer_map lists) (Ok rows) → length rows.items ≤ MOST_ROWS → Analyses (TerminalsComeTo subject) HasRows (Ok rows)
   by_rows rows (gives (all_hold all are)) few = gives (gives_thing {v = subject} (all_hold (terminals_on numbered_terminals all) refl) (record {
     are_rows = rows_follow subject.layer_map (IsCoveredIn lists) (IsCoveredOn subject.layer_map subject.routes) laid.layers.covers rows.items are;
     few = few;
   }))
 
-  by_fault : (fault : NetFault) → Answers Memory (ComeToRows subject.layer_map lists) (Err fault) → fault ≢ Memory → TerminalsComeTo subject (refused (of_net_fault fault))
+  by_fault : (fault : NetFault) → Answers Memory (ComeToRows subject.layer_map lists) (Err fault) → fault ≢ Memory → TerminalsComeTo subject (refused (Net fault))
   by_fault fault (refuses (one_fails q)) known = one_fails (record {
     check = q.check;
     is_first = record {
@@ -49,14 +49,14 @@ module _ (layer_map : LayerMap) (layers : Layers) (subject : Subject) (laid : Ar
       all_before = terminals_on q.is_first.before q.is_first.all_before;
       fails = λ on. q.is_first.fails ((laid.layers.covers q.check.1.0 q.check.1.1).1 on);
     };
-    is_its_refusal = ap of_net_fault q.is_its_refusal;
+    is_its_refusal = ap (λ f. Net f) q.is_its_refusal;
   })
   by_fault fault no_memory known = absurd (known refl)
 
   -- the rows over the lists are those on the subject whose layers these are
-  pub rows_found : (rows : Vec Row Global) → Answers Memory (ComeToRows layer_map lists) (Ok rows) → length rows.items ≤ MOST_ROWS → Finds (TerminalsComeTo subject) HasRows (Ok rows)
+  pub rows_found : (rows : Vec Row Global) → Answers Memory (ComeToRows layer_map lists) (Ok rows) → length rows.items ≤ MOST_ROWS → Analyses (TerminalsComeTo subject) HasRows (Ok rows)
   rows_found rows answer few = by_rows rows (subst (λ m. Answers Memory (ComeToRows m lists) (Ok rows)) (sym laid.of_map) answer) few
 
   -- and the first terminal that is not on its metal is the same
-  pub terminal_off : (fault : NetFault) → Answers Memory (ComeToRows layer_map lists) (Err fault) → fault ≢ Memory → TerminalsComeTo subject (refused (of_net_fault fault))
+  pub terminal_off : (fault : NetFault) → Answers Memory (ComeToRows layer_map lists) (Err fault) → fault ≢ Memory → TerminalsComeTo subject (refused (Net fault))
   terminal_off fault answer known = by_fault fault (subst (λ m. Answers Memory (ComeToRows m lists) (Err fault)) (sym laid.of_map) answer) known

@@ -1,7 +1,7 @@
 -- the verdict, stage by stage: each has one outcome at most, and none can lack one
 use Rattle.std.proofs.Common.{ℕ, ◌≡◌, ◌<◌, ◌≤◌, List, length, refl, sym, ap, subst, ◌∙◌, arith, Option}
 use Rattle.lists.proofs.Words.{ints}
-use Rattle.first_refusal.specs.Outcomes.{Outcome, value, refused, Reads, reads, lacks, stops, goes_on}
+use Rattle.first_refusal.specs.Outcomes.{Outcome, value, refused, Reads, reads, lacks, Retold, Then, stops, goes_on}
 use Rattle.first_refusal.specs.Laws.{IsUnique, CannotLack}
 use Rattle.first_refusal.proofs.StageLaws.{readings_agree, reading_cannot_lack, retold_agree, retold_cannot_lack, stages_agree, stages_cannot_lack}
 use Rattle.command_line.specs.Requests.{Ask, IsTask, of_one_metal, of_map, of_generator, values_of}
@@ -13,15 +13,17 @@ use Rattle.layer_map.specs.Documents as document
 use Rattle.map_model.specs.MapNames.{LayerMap, one_metal_map}
 use Rattle.layer_map.proofs.ExistLaws.{maps_cannot_lack}
 use Rattle.layer_map.proofs.UniqueLaws.{maps_agree}
-use Rattle.critarea_core.specs.Contents.{Contents, bytes_from, layout_source, wanted_top}
+use Rattle.critarea_core.specs.Contents.{Contents, bytes_from, file, layout_source, wanted_top}
 use Rattle.gauges.specs.GaugeViews.{GaugeView}
 use Rattle.layout_gen.specs.Generated.{generated_map}
+use Rattle.layout_gen.proofs.GeneratedLaws.{generated_reads}
 use Rattle.critical_areas.proofs.UniqueLaws.{rows_agree}
 use Rattle.critarea_core.specs.Coverage.{IsCoveredOn}
 use Rattle.critarea_core.specs.inside.Finding.{HasFittingNumbers}
-use Rattle.critarea_core.specs.Refusals.{usage, map_limit, map_too_long, of_map_fault, layout_limit, layout_too_long, of_syntax_fault}
+use Rattle.critarea_core.specs.Refusals.{usage, map_limit, map_too_long, of_map_fault, layout_limit, layout_too_long, of_layout_fault}
 use Rattle.critarea_core.specs.Layout.{Subject, ShapesComeTo, ShortLayoutComesTo, TerminalsComeTo}
-use Rattle.critarea_core.specs.Verdict.{whole_report, IsShortEnough, IsReportOn, ShortMapComesTo, MapTextComesTo, MapComesTo, WordsComeTo, LayoutComesTo, IsVerdict}
+use Rattle.critarea_core.specs.Verdict.{AreRowsOn, whole_report, IsShortEnough, IsReportOn, ShortMapComesTo, MapTextComesTo, MapComesTo, WordsComeTo, LayoutComesTo, IsVerdict}
+use Rattle.critarea_core.specs.declared.layout_fault.LayoutFault.TheVariants.{Syntax}
 use Rattle.critarea_core.specs.declared.refusal.Refusal.{Refusal}
 use Rattle.library_grammar.specs.FirstFault.{BytesComeTo}
 use Rattle.library_grammar.proofs.FaultsAgree.{libraries_agree}
@@ -51,11 +53,11 @@ map_outcomes_agree (Generated columns) bytes one other a b = map_texts_agree gen
 short_layouts_agree : (layer_map : LayerMap) (wanted : Option (List ℕ)) (layout : List ℕ) → IsUnique (ShortLayoutComesTo layer_map wanted layout)
 short_layouts_agree layer_map wanted layout =
     stages_agree (ShapesComeTo layer_map wanted layout) TerminalsComeTo
-    (stages_agree _ _ (retold_agree of_syntax_fault (BytesComeTo layout) (libraries_agree layout)) (libraries_come_to_one layer_map wanted)) terminals_come_to_one
+    (stages_agree _ _ (retold_agree (λ fault. Syntax fault) (BytesComeTo layout) (libraries_agree layout)) (libraries_come_to_one layer_map wanted)) terminals_come_to_one
 
 pub layout_outcomes_agree : (layer_map : LayerMap) (wanted : Option (List ℕ)) (layout : List ℕ) → IsUnique (LayoutComesTo layer_map wanted layout)
 layout_outcomes_agree layer_map wanted layout = stages_agree _ _ (readings_agree (IsShortEnough layout_limit layout) layout_too_long (lengths_agree layout_limit layout))
-    (short_layouts_agree layer_map wanted)
+    (λ same. retold_agree of_layout_fault (ShortLayoutComesTo layer_map wanted same) (short_layouts_agree layer_map wanted same))
 
 pub verdicts_agree : (words : List (List ℕ)) (contents : Contents) → IsUnique (IsVerdict words contents)
 verdicts_agree words contents = stages_agree (WordsComeTo words) _ (words_agree words)
@@ -77,24 +79,44 @@ map_cannot_lack (Generated columns) bytes none = map_text_cannot_lack generated_
 text_of : (layout text : List ℕ) → Reads (IsShortEnough layout_limit layout) layout_too_long (value text) → text ≡ layout
 text_of layout text (reads short) = short.is_text
 
-layout_cannot_lack : (layer_map : LayerMap) (wanted : Option (List ℕ)) (layout : List ℕ) → AreBytes layout → CannotLack (LayoutComesTo layer_map wanted layout)
-layout_cannot_lack layer_map wanted layout are = stages_cannot_lack _ _ (reading_cannot_lack (IsShortEnough layout_limit layout) layout_too_long)
-    (λ text short. stages_cannot_lack (ShapesComeTo layer_map wanted text) TerminalsComeTo
-    (stages_cannot_lack _ _ (retold_cannot_lack of_syntax_fault (BytesComeTo text) (bytes_come_to_something text (subst AreBytes (sym (text_of layout text short)) are)))
+layout_cannot_lack : (layer_map : LayerMap) (wanted : Option (List ℕ)) (layout : List ℕ) → CannotLack (BytesComeTo layout) → CannotLack (LayoutComesTo layer_map wanted layout)
+layout_cannot_lack layer_map wanted layout some = stages_cannot_lack _ _ (reading_cannot_lack (IsShortEnough layout_limit layout) layout_too_long)
+    (λ text short. retold_cannot_lack of_layout_fault (ShortLayoutComesTo layer_map wanted text) (stages_cannot_lack (ShapesComeTo layer_map wanted text) TerminalsComeTo
+    (stages_cannot_lack _ _ (retold_cannot_lack (λ fault. Syntax fault) (BytesComeTo text) (subst (λ bytes. CannotLack (BytesComeTo bytes)) (sym (text_of layout text short)) some))
     (λ library comes. libraries_come_to_something layer_map wanted library))
-    (λ subject shapes. terminals_come_to_something subject))
+    (λ subject shapes. terminals_come_to_something subject)))
 
 asked_for : (words : List (List ℕ)) (request : Request) → WordsComeTo words (value request) → Ask words request
 asked_for words request (reads asked) = asked
 
--- a layout that is a string of bytes
+-- a layout that is a string of bytes, as that of a file is to be, and one that is generated
+layout_there : (task : Task) (contents : Contents) → ((name : List ℕ) → layout_source task ≡ file name → AreBytes (contents.layout name))
+    → CannotLack (BytesComeTo (bytes_from contents.layout (layout_source task)))
+layout_there (OneMetal layout layer datatype radius top) contents are = bytes_come_to_something (contents.layout layout) (are layout refl)
+layout_there (Mapped layout map top) contents are = bytes_come_to_something (contents.layout layout) (are layout refl)
+layout_there (Generated columns) contents are = let read = generated_reads columns in λ none. none (value read.0) read.2
+
 pub contents_have_verdicts : (words : List (List ℕ)) (contents : Contents)
-    → ((request : Request) (layer_map : LayerMap) → Ask words request → MapComesTo request.task contents.map (value layer_map)
-    → AreBytes (bytes_from contents.layout (layout_source request.task))) → CannotLack (IsVerdict words contents)
+    → ((request : Request) (layer_map : LayerMap) (name : List ℕ) → Ask words request → MapComesTo request.task contents.map (value layer_map)
+    → layout_source request.task ≡ file name → AreBytes (contents.layout name)) → CannotLack (IsVerdict words contents)
 contents_have_verdicts words contents are = stages_cannot_lack (WordsComeTo words) _ (reading_cannot_lack (Ask words) usage)
     (λ request asks. stages_cannot_lack (MapComesTo request.task contents.map) _ (map_cannot_lack request.task contents.map)
     (λ layer_map good. layout_cannot_lack layer_map (wanted_top request.task) (bytes_from contents.layout (layout_source request.task))
-    (are request layer_map (asked_for words request asks) good)))
+    (layout_there request.task contents (λ name is. are request layer_map name (asked_for words request asks) good is))))
+
+-- ---- what tiles and workers change: nothing
+
+-- the verdict on the task, where the words ask for it
+abbrev TaskComesTo : Contents → Task → Outcome Subject Refusal → Type 0
+TaskComesTo contents task =
+    Then (MapComesTo task contents.map) (λ layer_map. LayoutComesTo layer_map (wanted_top task) (bytes_from contents.layout (layout_source task)))
+
+pub same_task_same_verdict : (words other : List (List ℕ)) (one same : Request) → Ask words one → Ask other same → one.task ≡ same.task
+    → (contents : Contents) (outcome : Outcome Subject Refusal) → IsVerdict words contents outcome → IsVerdict other contents outcome
+same_task_same_verdict words other one same asks also alike contents outcome (stops (lacks none)) = absurd (none one asks)
+same_task_same_verdict words other one same asks also alike contents outcome (goes_on {v = request} (reads asked) comes) =
+    let is : request ≡ one = requests_agree words request one asked asks in
+    goes_on {v = same} (reads also) (subst (λ task. TaskComesTo contents task outcome) (ap (λ (r : Request). r.task) is ∙ alike) comes)
 
 -- ---- the verdicts that there are
 
@@ -103,7 +125,7 @@ module _ (layer_map : LayerMap) (wanted : Option (List ℕ)) (layout : List ℕ)
   pub refused_length : layout_limit < length layout → LayoutComesTo layer_map wanted layout (refused layout_too_long)
   refused_length long = stops (lacks (λ text t. let s = t.short in absurd (omega arith)))
 
-  pub short_layout : (outcome : Outcome Subject Refusal) → length layout ≤ layout_limit → ShortLayoutComesTo layer_map wanted layout outcome → LayoutComesTo layer_map wanted layout outcome
+  pub short_layout : (outcome : Outcome Subject Refusal) → length layout ≤ layout_limit → Retold of_layout_fault (ShortLayoutComesTo layer_map wanted layout) outcome → LayoutComesTo layer_map wanted layout outcome
   short_layout outcome short comes = goes_on {v = layout} (reads (record { is_text = refl; short = short })) comes
 
 -- the text of a map: too long, or what it comes to where it is not
@@ -115,10 +137,14 @@ short_map bytes outcome short comes = goes_on {v = bytes} (reads (record { is_te
 
 -- ---- reports, and radii
 
--- a subject has one report with these gauges
+-- a subject has one list of rows
+pub rows_on_agree : (subject : Subject) → IsUnique (AreRowsOn subject)
+rows_on_agree subject = rows_agree subject.layer_map (IsCoveredOn subject.layer_map subject.routes)
+
+-- and one report with these gauges
 pub reports_agree : (subject : Subject) (gauges : List GaugeView) → IsUnique (IsReportOn subject gauges)
 reports_agree subject gauges text other a b =
-    let rows = rows_agree subject.layer_map (IsCoveredOn subject.layer_map subject.routes) a.rows b.rows a.are_rows b.are_rows in
+    let rows = rows_on_agree subject a.rows b.rows a.are_rows b.are_rows in
     a.is_text ∙ ap (λ rows. whole_report rows gauges) rows ∙ sym b.is_text
 
 -- the radius that words ask for is one

@@ -1,5 +1,5 @@
 -- what the bytes of a layout come to: the shapes that are placed on layers of the map, with its terminals on their metals, or
--- a refusal
+-- a fault
 use Rattle.std.specs.Prelude.{ℕ, List, map, flat_map, Option, ◌≡◌}
 use Rattle.lists.specs.Words.{enumerate_from}
 use Rattle.first_refusal.specs.Outcomes.{Outcome, Retold, Then}
@@ -13,8 +13,8 @@ use Rattle.flatten.specs.Placements.{Placing}
 use Rattle.flatten.specs.Routes.{Route}
 use Rattle.rect_cover.specs.ShapeChecks.{ShapeCheck, ShapeHolds, checks_of, shape_fault}
 use Rattle.critarea_core.specs.Coverage.{IsCoveredOn, route_points}
-use Rattle.critarea_core.specs.Refusals.{of_cover_fault, of_net_fault, of_place_fault, of_syntax_fault}
-use Rattle.critarea_core.specs.declared.refusal.Refusal.{Refusal}
+use Rattle.critarea_core.specs.declared.layout_fault.LayoutFault.{LayoutFault}
+use Rattle.critarea_core.specs.declared.layout_fault.LayoutFault.TheVariants.{Syntax, Place, Cover, Net}
 
 -- what a report is on: the layer map, and the routes to the shapes that the layout places on its layers
 pub record Subject : Type 0 where
@@ -33,37 +33,37 @@ route_checks = flat_map (λ route. map (λ check. (route, check)) (checks_of rou
 abbrev pub RouteHolds : RouteCheck → Type 0
 RouteHolds of_route = ShapeHolds (route_points of_route.0) of_route.1
 
--- the refusal that each gives where it fails
-abbrev pub route_refusal : RouteCheck → Refusal
-route_refusal of_route = of_cover_fault (shape_fault of_route.0.shape.at of_route.1)
+-- the fault that each gives where it fails
+abbrev pub route_fault : RouteCheck → LayoutFault
+route_fault of_route = Cover (shape_fault of_route.0.shape.at of_route.1)
 
 -- the routes to shapes on layers of the map: whether each shape has a cover, and what a report on them is on
-abbrev pub RoutesComeTo : LayerMap → List Route → Outcome Subject Refusal → Type 0
+abbrev pub RoutesComeTo : LayerMap → List Route → Outcome Subject LayoutFault → Type 0
 RoutesComeTo layer_map routes =
-    Checks RouteHolds (route_checks routes) route_refusal (λ subject. subject ≡ record { layer_map = layer_map; routes = routes })
+    Checks RouteHolds (route_checks routes) route_fault (λ subject. subject ≡ record { layer_map = layer_map; routes = routes })
 
 -- a library, of which the structure of this name is wanted, or any: the routes to what it places, and then those
-abbrev pub LibraryComesTo : LayerMap → Option (List ℕ) → Library → Outcome Subject Refusal → Type 0
+abbrev pub LibraryComesTo : LayerMap → Option (List ℕ) → Library → Outcome Subject LayoutFault → Type 0
 LibraryComesTo layer_map wanted library =
-    Then (Retold of_place_fault (Placing library.structures layer_map wanted)) (RoutesComeTo layer_map)
+    Then (Retold (λ fault. Place fault) (Placing library.structures layer_map wanted)) (RoutesComeTo layer_map)
 
 -- the bytes of a layout: the library that they come to, and then that
-abbrev pub ShapesComeTo : LayerMap → Option (List ℕ) → List ℕ → Outcome Subject Refusal → Type 0
-ShapesComeTo layer_map wanted bytes = Then (Retold of_syntax_fault (BytesComeTo bytes)) (LibraryComesTo layer_map wanted)
+abbrev pub ShapesComeTo : LayerMap → Option (List ℕ) → List ℕ → Outcome Subject LayoutFault → Type 0
+ShapesComeTo layer_map wanted bytes = Then (Retold (λ fault. Syntax fault) (BytesComeTo bytes)) (LibraryComesTo layer_map wanted)
 
 -- a terminal with its number: its metal covers its cell
 abbrev pub IsTerminalOn : Subject → ℕ × (ℕ × Cell) → Type 0
 IsTerminalOn subject numbered = IsCoveredOn subject.layer_map subject.routes numbered.1.0 numbered.1.1
 
--- the refusal of one that is not on its metal
-abbrev pub terminal_refusal : ℕ × (ℕ × Cell) → Refusal
-terminal_refusal numbered = of_net_fault (off_metal numbered)
+-- the fault of one that is not on its metal
+abbrev pub terminal_fault : ℕ × (ℕ × Cell) → LayoutFault
+terminal_fault numbered = Net (off_metal numbered)
 
 -- the terminals of the layer map, in order: whether each is on its metal
-abbrev pub TerminalsComeTo : Subject → Outcome Subject Refusal → Type 0
+abbrev pub TerminalsComeTo : Subject → Outcome Subject LayoutFault → Type 0
 TerminalsComeTo subject =
-    Checks (IsTerminalOn subject) (enumerate_from 0 subject.layer_map.terminals) terminal_refusal (λ same. same ≡ subject)
+    Checks (IsTerminalOn subject) (enumerate_from 0 subject.layer_map.terminals) terminal_fault (λ same. same ≡ subject)
 
 -- the bytes of a layout that is short enough: its shapes, and then the terminals
-abbrev pub ShortLayoutComesTo : LayerMap → Option (List ℕ) → List ℕ → Outcome Subject Refusal → Type 0
+abbrev pub ShortLayoutComesTo : LayerMap → Option (List ℕ) → List ℕ → Outcome Subject LayoutFault → Type 0
 ShortLayoutComesTo layer_map wanted bytes = Then (ShapesComeTo layer_map wanted bytes) TerminalsComeTo

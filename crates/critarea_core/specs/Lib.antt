@@ -6,6 +6,8 @@ pub mod Layout
 -- what words and contents come to, and a run
 pub mod Refusals
 pub mod Verdict
+-- the rows on the bytes of a layout
+pub mod Analysis
 pub mod Run
 -- what the words ask for
 pub use Rattle.command_line.specs.OptionNames

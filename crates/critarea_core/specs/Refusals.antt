@@ -11,6 +11,8 @@ use Rattle.rect_cover.specs.CoverFaults as cover_faults
 use Rattle.rect_cover.specs.declared.fault.CoverFault.{CoverFault}
 use Rattle.library_grammar.specs.SyntaxFaults as syntax_faults
 use Rattle.library_grammar.specs.declared.fault.SyntaxFault.{SyntaxFault}
+use Rattle.critarea_core.specs.declared.layout_fault.LayoutFault.{LayoutFault}
+use Rattle.critarea_core.specs.declared.layout_fault.LayoutFault.TheVariants.{Syntax, Place, Cover, Net, Memory}
 use Rattle.critarea_core.specs.declared.refusal.Refusal.{Refusal}
 
 -- a refusal of the words
@@ -64,6 +66,14 @@ of_cover_fault fault = of_layout (cover_faults.number_of fault) (cover_faults.pl
 -- one of the map's terminals is not on its metal
 abbrev pub of_net_fault : NetFault → Refusal
 of_net_fault fault = of_layout (net_faults.number_of fault) (net_faults.place_of fault)
+
+-- the layout has a fault
+abbrev pub of_layout_fault : LayoutFault → Refusal
+of_layout_fault (Syntax fault) = of_syntax_fault fault
+of_layout_fault (Place fault) = of_place_fault fault
+of_layout_fault (Cover fault) = of_cover_fault fault
+of_layout_fault (Net fault) = of_net_fault fault
+of_layout_fault Memory = of_layout 0 0
 
 -- the line that is printed for a refusal
 abbrev pub refusal_text : Refusal → List ℕ

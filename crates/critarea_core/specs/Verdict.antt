@@ -15,7 +15,7 @@ use Rattle.questions.specs.declared.row.Row.{Row}
 use Rattle.critarea_core.specs.Coverage.{IsCoveredOn}
 use Rattle.critarea_core.specs.Contents.{Contents, bytes_from, layout_source, wanted_top}
 use Rattle.critarea_core.specs.Layout.{Subject, ShortLayoutComesTo}
-use Rattle.critarea_core.specs.Refusals.{usage, map_limit, map_too_long, of_map_fault, layout_limit, layout_too_long}
+use Rattle.critarea_core.specs.Refusals.{usage, map_limit, map_too_long, of_map_fault, layout_limit, layout_too_long, of_layout_fault}
 use Rattle.critarea_core.specs.declared.refusal.Refusal.{Refusal}
 
 -- the same text, where it has at most so many bytes
@@ -45,7 +45,7 @@ WordsComeTo words = Reads (Ask words) usage
 -- the layout, of which a top is wanted: first its length, and then its bytes
 abbrev pub LayoutComesTo : LayerMap → Option (List ℕ) → List ℕ → Outcome Subject Refusal → Type 0
 LayoutComesTo layer_map wanted layout =
-    Then (Reads (IsShortEnough layout_limit layout) layout_too_long) (ShortLayoutComesTo layer_map wanted)
+    Then (Reads (IsShortEnough layout_limit layout) layout_too_long) (λ same. Retold of_layout_fault (ShortLayoutComesTo layer_map wanted same))
 
 -- the verdict on words, where files contain this: first the words, then the map, and then the layout, each of which is looked
 -- at only where what stands before it is good

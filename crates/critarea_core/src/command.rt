@@ -1,57 +1,45 @@
-ghost use Rattle.std.specs.Prelude.{◌≡◌, ◌≤◌, ◌+◌, ℕ, List, [], ◌∷◌, None, length, All, option_copied};
+ghost use Rattle.std.specs.Prelude.{◌≡◌, ◌≤◌, ℕ, List, [], ◌∷◌, None, length, option_copied};
 ghost use Rattle.edge_io.specs.Bytes.{Appends};
 ghost use Rattle.command_line.specs.Requests.{Ask};
 ghost use Rattle.gauges.specs.GaugeViews.{views_of};
-ghost use Rattle.geo_core.specs.Cells.{IsInLayout};
 ghost use Rattle.map_model.specs.MapView.{layer_map_of};
 ghost use Rattle.critarea_core.specs.Contents.{wanted_top};
 ghost use Rattle.critarea_core.specs.inside.Finding.{AreFew, Finds, FindsInFiles, HasRows, IsFound, IsOneOf, HasFittingNumbers, LayoutMayCome};
-ghost use Rattle.critarea_core.specs.Layout.{ShortLayoutComesTo, Subject, TerminalsComeTo};
-ghost use Rattle.critarea_core.specs.inside.LayoutReaders.{AreLayersFor};
 ghost use Rattle.critarea_core.specs.Refusals.{layout_limit};
 ghost use Rattle.critarea_core.specs.Verdict.{LayoutComesTo};
 ghost use Rattle.layout_gen.specs.Generated.{generated_layout};
 ghost use Rattle.critarea_core.specs.Run.{RunsTo, StartsNamed, change};
 
-use super::layout::read_layout;
+use super::analysis::rows_of_bytes;
 use super::maps::map_for;
 use super::printing::print;
 use super::refusal::{LAYOUT_LIMIT, LAYOUT_TOO_LONG, Refusal, USAGE};
 use super::unreported::Unreported;
 use command_line::{Request, Task, Word, WordsFault, read_words};
-use critical_areas::critical_areas;
 use edge_io::{Files, Sink, read_whole};
 use gauges::Gauge;
 use layout_gen::{MOST_COLUMNS, generate};
 use lists::Name;
-use map_model::{Layers, Map};
+use map_model::Map;
 use questions::Row;
 use std::alloc::Global;
 use std::thread::Threads;
 
-/// The rows on the subject whose layers these are, or the refusal of the first terminal that is not on its metal.
-fn rows_on(alloc: Global, map: &Map, layers: &Layers) -> Result<Vec<Row>, Unreported>
-    requires one_each { length layers.now.lists.items ≡ length map.now.metals + length map.now.cuts }
-    requires within { All (All IsInLayout) layers.now.lists.items }
-    ensures { (subject : Subject) → AreLayersFor (layer_map_of map.now) subject layers.now →
-        Finds (TerminalsComeTo subject) HasRows result }
-{
-    Ok(critical_areas(alloc, map, layers)?)
-}
-
 /// The rows of the map on the layout with these bytes, of which this top is wanted, or any.
-fn rows_of_bytes(
+fn rows_of_layout(
     rt: &(impl Threads + Sync),
     alloc: Global,
     map: &Map,
     top: Option<&[u8]>,
     bytes: Vec<u8>,
+    edge: u32,
 ) -> Result<Vec<Row>, Unreported>
-    requires { length bytes.items ≤ layout_limit }
-    ensures { Finds (ShortLayoutComesTo (layer_map_of map.now) (option_copied top.entry) bytes.items) HasRows result }
+    requires some { 1 ≤ edge }
+    requires short { edge ≤ 1000000000 }
+    requires within { length bytes.items ≤ layout_limit }
+    ensures { Finds (LayoutComesTo (layer_map_of map.now) (option_copied top.entry) bytes.items) HasRows result }
 {
-    let layers = read_layout(rt, alloc, map, top, bytes)?;
-    rows_on(alloc, map, &layers)
+    Ok(rows_of_bytes(rt, alloc, map, top, bytes, edge)?)
 }
 
 /// The rows of the map on the layout in the file of this name, of which this top is wanted, or any; or why there are none.
@@ -62,7 +50,10 @@ fn rows_of_file<F: Files>(
     top: Option<&[u8]>,
     files: &mut F,
     name: &[u8],
+    edge: u32,
 ) -> Result<Vec<Row>, Unreported>
+    requires some { 1 ≤ edge }
+    requires short { edge ≤ 1000000000 }
     ensures found { FindsInFiles (change (F.faults files.old) (F.faults files.new)) (IsOneOf (name.now ∷ []))
         (LayoutMayCome (F.holds files.old) (layer_map_of map.now) (option_copied top.entry) name.now) HasRows result }
     ensures starts { Appends (F.starts files.old) (F.starts files.new) (name.now ∷ []) }
@@ -75,7 +66,7 @@ fn rows_of_file<F: Files>(
             return Err(Unreported::of_unread(error, too_long));
         }
     };
-    rows_of_bytes(rt, alloc, map, top, bytes)
+    rows_of_layout(rt, alloc, map, top, bytes, edge)
 }
 
 /// The rows of the map on the generated layout of so many columns.
@@ -84,13 +75,16 @@ fn rows_of_generated(
     alloc: Global,
     map: &Map,
     columns: u32,
+    edge: u32,
 ) -> Result<Vec<Row>, Unreported>
-    requires some { 1 ≤ columns }
-    requires few { columns ≤ MOST_COLUMNS }
+    requires some_columns { 1 ≤ columns }
+    requires few_columns { columns ≤ MOST_COLUMNS }
+    requires some { 1 ≤ edge }
+    requires short { edge ≤ 1000000000 }
     ensures { Finds (LayoutComesTo (layer_map_of map.now) None (generated_layout columns)) HasRows result }
 {
     let made = generate(alloc, columns)?;
-    rows_of_bytes(rt, alloc, map, None, made.layout)
+    rows_of_layout(rt, alloc, map, None, made.layout, edge)
 }
 
 /// The name of the structure that is wanted as the top, where one is.
@@ -124,9 +118,9 @@ fn rows_of_request<F: Files>(
     let top = top_of(&request.task);
     match &request.task {
         Task::OneMetal { layout, .. } | Task::Mapped { layout, .. } => {
-            rows_of_file(rt, alloc, &map, top, files, layout.as_slice())
+            rows_of_file(rt, alloc, &map, top, files, layout.as_slice(), request.edge)
         }
-        Task::Generated { columns } => rows_of_generated(rt, alloc, &map, *columns),
+        Task::Generated { columns } => rows_of_generated(rt, alloc, &map, *columns, request.edge),
     }
 }
 
@@ -153,11 +147,13 @@ fn find<F: Files>(
 ///
 /// The words are the arguments of the program, in any order: a layout's file, and either the options `layer`, `datatype`
 /// and `radius` or the option `map` with the file of a layer map, or else `generate` with a number of columns, which asks for a
-/// layout that is made here and needs no file. The first two may have `top`, the name of the structure that is analysed with all
-/// that it places, in place of the one that no reference names, and all three may have `tile` and `workers`, which change
-/// nothing yet. `files` gives the map and the layout, `out` gets the report, and `err` the line of a refusal. The gauges are
-/// told the rows of the report, and print at its end, in their order, for all rows that they have seen. A run drops none of
-/// them, and a run that is refused tells them nothing.
+/// layout that is made here and needs no file. The first two may have `top`, the name of the structure that is analysed with
+/// all that it places, in place of the one that no reference names. All three may have `tile`, the edge of the tiles over which
+/// areas are counted, and `workers`, which is used for nothing yet; neither changes what is printed.
+///
+/// `files` gives the map and the layout, `out` gets the report, and `err` the line of a refusal. The gauges are told the rows
+/// of the report, and print at its end, in their order, for all rows that they have seen. A run drops none of them, and a run
+/// that is refused tells them nothing.
 ///
 /// | why it ended | status | printed to `out` | printed to `err` |
 /// |---|---|---|---|
@@ -170,9 +166,9 @@ fn find<F: Files>(
 /// | out of memory | 6 | | |
 ///
 /// Where no memory is left once there are rows, as where a gauge finds no memory, each gauge may have been told the first few
-/// of them alone, or none. Nothing goes out before the report is complete, so a refused map or layout leaves `out` as it was.
-/// Where what the files tell of the map is refused, the layout's file is not started. A map's refusal has number 39 at 1048576 where the map
-/// has more bytes than that, and one of 40 to 47 at a path of its document. A layout's refusal has number 9 at 268435456
+/// of them alone, perhaps none or all. Nothing goes out before the report is complete, so a refused map or layout leaves `out` as it was.
+/// Where what the files tell of the map is refused, the layout's file is not started. A map's refusal has number 39 at 1048576
+/// where the map has more bytes than that, and one of 40 to 47 at a path of its document. A layout's refusal has number 9 at 268435456
 /// where the layout has more bytes than that, one of 10 to 23 at an offset where its bytes are no library, one of 24 to 30
 /// where its shapes are not placed, then one of 30 to 36 at the offset of the first placed shape, in the order of the
 /// routes, that has no cover, and at last 50 at the number of the first terminal of the map, counted from 0, whose cell the

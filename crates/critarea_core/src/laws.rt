@@ -2,14 +2,15 @@
 
 ghost use Rattle.std.specs.Prelude.{ℕ, ◌≡◌, List, Option};
 ghost use Rattle.first_refusal.specs.Laws.{IsUnique, CannotLack};
-ghost use Rattle.first_refusal.specs.Outcomes.{value};
-ghost use Rattle.critarea_core.specs.Contents.{Contents, bytes_from, layout_source};
+ghost use Rattle.first_refusal.specs.Outcomes.{Outcome, value};
+ghost use Rattle.critarea_core.specs.Contents.{Contents, file, layout_source};
 ghost use Rattle.command_line.specs.Requests.{Ask};
 ghost use Rattle.command_line.specs.declared.request.Request.{Request};
 ghost use Rattle.gauges.specs.GaugeViews.{GaugeView};
 ghost use Rattle.lists.specs.ByteLists.{AreBytes};
 ghost use Rattle.critarea_core.specs.Layout.{Subject};
-ghost use Rattle.critarea_core.specs.Verdict.{IsReportOn, IsVerdict, LayoutComesTo, MapComesTo};
+ghost use Rattle.critarea_core.specs.Verdict.{AreRowsOn, IsReportOn, IsVerdict, LayoutComesTo, MapComesTo};
+ghost use Rattle.critarea_core.specs.declared.refusal.Refusal.{Refusal};
 ghost use Rattle.map_model.specs.LayerMap.{LayerMap};
 
 /// A layer map, a top that is wanted or not, and the bytes of a layout come to one subject, or to one refusal, at most.
@@ -22,14 +23,25 @@ pub fn verdicts_agree()
     ensures { (words : List (List ℕ)) (contents : Contents) → IsUnique (IsVerdict words contents) }
 {}
 
-/// Words have a verdict where the layout that they ask for is a string of bytes, if it is looked at, as it is where the map
-/// is good: it cannot be that they have none.
+/// Words have a verdict where the file of the layout that they name, if they name one, contains bytes and it is looked at, as it
+/// is where the map is good: it cannot be that they have none.
 pub fn contents_have_verdicts()
     ensures { (words : List (List ℕ)) (contents : Contents) →
-        ((request : Request) (layer_map : LayerMap) → Ask words request →
+        ((request : Request) (layer_map : LayerMap) (name : List ℕ) → Ask words request →
         MapComesTo request.task contents.map (value layer_map) →
-        AreBytes (bytes_from contents.layout (layout_source request.task))) →
+        layout_source request.task ≡ file name → AreBytes (contents.layout name)) →
         CannotLack (IsVerdict words contents) }
+{}
+
+/// Words that ask for the same task have the same verdict, whatever they say of tiles and workers.
+pub fn tiles_and_workers_change_no_verdict()
+    ensures { (words other : List (List ℕ)) (one same : Request) → Ask words one → Ask other same → one.task ≡ same.task →
+        (contents : Contents) (outcome : Outcome Subject Refusal) → IsVerdict words contents outcome → IsVerdict other contents outcome }
+{}
+
+/// The rows on a subject are one list at most.
+pub fn rows_agree()
+    ensures { (subject : Subject) → IsUnique (AreRowsOn subject) }
 {}
 
 /// A subject has one report at most with gauges of which this is known.

@@ -1,16 +1,19 @@
 //! Command words, a layer map and the bytes of a layout to the report of their critical areas.
 #![tactic(auto)]
 
+mod analysis;
 mod command;
 pub mod laws;
 mod layers;
-mod layout;
+mod layout_fault;
 mod maps;
 mod printing;
 mod refusal;
 mod told;
 mod unreported;
 
+pub use analysis::analyse;
 pub use command::run;
 pub use command_line::{Request, Task, Word, WordsFault, read_words};
+pub use layout_fault::LayoutFault;
 pub use told::system_words;

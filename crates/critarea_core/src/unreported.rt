@@ -1,11 +1,8 @@
+use super::layout_fault::LayoutFault;
 use super::refusal::Refusal;
 use edge_io::ReadError;
-use flatten::PlaceFault;
-use gds_syntax::SyntaxFault;
 use layer_map::MapFault;
 use lists::NoMemory;
-use net_extract::NetFault;
-use rect_cover::CoverFault;
 use thiserror::Error;
 
 /// Why no report was made.
@@ -52,9 +49,10 @@ impl From<NoMemory> for Unreported {
 impl From<MapFault> for Unreported {
     ghost use Rattle.critarea_core.specs.inside.Finding.{IsToldAs};
     ghost use Rattle.critarea_core.specs.Refusals.{of_map_fault};
+    ghost use Rattle.critarea_core.specs.declared.unreported.Unreported.TheVariants.{Memory, Refused};
     ghost use Rattle.layer_map.specs.declared.fault.MapFault.TheVariants.{Memory as map_memory};
 
-    ghost from_gives = { λ fault why. IsToldAs map_memory of_map_fault fault why };
+    ghost from_gives = { λ fault why. IsToldAs map_memory Memory (λ known. Refused (of_map_fault known)) fault why };
 
     fn from(fault: MapFault) -> Unreported {
         match fault {
@@ -64,62 +62,18 @@ impl From<MapFault> for Unreported {
     }
 }
 
-impl From<SyntaxFault> for Unreported {
+impl From<LayoutFault> for Unreported {
     ghost use Rattle.critarea_core.specs.inside.Finding.{IsToldAs};
-    ghost use Rattle.critarea_core.specs.Refusals.{of_syntax_fault};
-    ghost use Rattle.library_grammar.specs.declared.fault.SyntaxFault.TheVariants.{Memory as syntax_memory};
+    ghost use Rattle.critarea_core.specs.Refusals.{of_layout_fault};
+    ghost use Rattle.critarea_core.specs.declared.layout_fault.LayoutFault.TheVariants.{Memory as layout_memory};
+    ghost use Rattle.critarea_core.specs.declared.unreported.Unreported.TheVariants.{Memory, Refused};
 
-    ghost from_gives = { λ fault why. IsToldAs syntax_memory of_syntax_fault fault why };
+    ghost from_gives = { λ fault why. IsToldAs layout_memory Memory (λ known. Refused (of_layout_fault known)) fault why };
 
-    fn from(fault: SyntaxFault) -> Unreported {
+    fn from(fault: LayoutFault) -> Unreported {
         match fault {
-            SyntaxFault::Memory => Unreported::Memory,
-            _ => Unreported::Refused(Refusal::of_layout(fault.number(), fault.place())),
-        }
-    }
-}
-
-impl From<PlaceFault> for Unreported {
-    ghost use Rattle.critarea_core.specs.inside.Finding.{IsToldAs};
-    ghost use Rattle.critarea_core.specs.Refusals.{of_place_fault};
-    ghost use Rattle.flatten.specs.declared.fault.PlaceFault.TheVariants.{Memory as place_memory};
-
-    ghost from_gives = { λ fault why. IsToldAs place_memory of_place_fault fault why };
-
-    fn from(fault: PlaceFault) -> Unreported {
-        match fault {
-            PlaceFault::Memory => Unreported::Memory,
-            _ => Unreported::Refused(Refusal::of_layout(fault.number(), fault.place())),
-        }
-    }
-}
-
-impl From<CoverFault> for Unreported {
-    ghost use Rattle.critarea_core.specs.inside.Finding.{IsToldAs};
-    ghost use Rattle.critarea_core.specs.Refusals.{of_cover_fault};
-    ghost use Rattle.rect_cover.specs.declared.fault.CoverFault.TheVariants.{Memory as cover_memory};
-
-    ghost from_gives = { λ fault why. IsToldAs cover_memory of_cover_fault fault why };
-
-    fn from(fault: CoverFault) -> Unreported {
-        match fault {
-            CoverFault::Memory => Unreported::Memory,
-            _ => Unreported::Refused(Refusal::of_layout(fault.number(), fault.place())),
-        }
-    }
-}
-
-impl From<NetFault> for Unreported {
-    ghost use Rattle.critarea_core.specs.inside.Finding.{IsToldAs};
-    ghost use Rattle.critarea_core.specs.Refusals.{of_net_fault};
-    ghost use Rattle.net_extract.specs.declared.fault.NetFault.TheVariants.{Memory as net_memory};
-
-    ghost from_gives = { λ fault why. IsToldAs net_memory of_net_fault fault why };
-
-    fn from(fault: NetFault) -> Unreported {
-        match fault {
-            NetFault::Memory => Unreported::Memory,
-            _ => Unreported::Refused(Refusal::of_layout(fault.number(), fault.place())),
+            LayoutFault::Memory => Unreported::Memory,
+            _ => Unreported::Refused(Refusal::from(fault)),
         }
     }
 }

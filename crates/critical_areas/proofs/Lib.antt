@@ -7,3 +7,6 @@ pub mod RowLaws
 pub mod UniqueLaws
 pub mod CutLaws
 pub mod OpenLaws
+pub mod NearLaws
+pub mod SharingLaws
+pub mod CountingLaws

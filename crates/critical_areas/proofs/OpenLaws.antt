@@ -16,7 +16,7 @@ use Rattle.critical_areas.proofs.FaultLaws.{opens_of_cells}
 use Rattle.critical_areas.proofs.PieceLaws.{even}
 
 -- a defect parts two anchors of one of the islands exactly where it makes the fault of the metal's question
-open_is : (layer_map : LayerMap) (lists : List (List Rect)) (parts : Parts) → ArePartsOf layer_map lists parts → (metal : ℕ) → metal < length layer_map.metals → (side : ℕ) (c : Cell)
+pub open_is : (layer_map : LayerMap) (lists : List (List Rect)) (parts : Parts) → ArePartsOf layer_map lists parts → (metal : ℕ) → metal < length layer_map.metals → (side : ℕ) (c : Cell)
     → IsSomeOpen (slice_index_or parts.islands metal []) side c ↔ IsFault layer_map (IsCoveredIn lists) Open metal side c
 open_is layer_map lists parts are metal small side c =
     let parted = are.islands metal small side c in

@@ -1,2 +1,3 @@
 pub mod LayoutBounds
 pub mod LayerParts
+pub mod Sharing

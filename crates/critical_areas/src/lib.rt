@@ -9,7 +9,10 @@ pub mod laws;
 mod opens;
 mod parts;
 mod preparing;
+mod shared;
+mod sharing;
 mod shorts;
+mod tiles;
 mod window;
 
 ghost use Rattle.std.specs.Prelude.{◌≡◌, ◌≤◌, ◌+◌, IfOk, All, length};
@@ -27,16 +30,27 @@ pub use parts::{IslandList, Parts, PieceList};
 pub use preparing::prepare;
 use questions::Row;
 use std::alloc::Global;
+use tiles::tiled_amounts;
 use window::{reach, window_of};
 
 /// The rows of the report on what the rectangles cover, of which there is one list for each layer of the map: shorts of
 /// each metal, then opens of each, and then via blocks of each cut, for each size in order.
 ///
-/// An area is a number of cells of the window: the bounds of what all layers cover, grown by the greatest radius. The error
-/// is 50 with the number, counted from 0, of the first terminal whose cell its metal does not cover, or that no memory is
-/// left.
+/// An area is a number of cells of the window: the bounds of what all layers cover, grown by the greatest radius. It is counted
+/// tile by tile: `edge` is the width and the height of a tile, 1 to 1,000,000,000 database units, and is doubled until there
+/// are at most 1,000,000 tiles. The rows are the same for each edge.
+///
+/// The error is 50 with the number, counted from 0, of the first terminal whose cell its metal does not cover, or that no
+/// memory is left.
 #[tactic(auto, using(first_refusal::proofs::AnswerLaws::out_of_memory))]
-pub fn critical_areas(alloc: Global, map: &Map, layers: &Layers) -> Result<Vec<Row>, NetFault>
+pub fn critical_areas(
+    alloc: Global,
+    map: &Map,
+    layers: &Layers,
+    edge: u32,
+) -> Result<Vec<Row>, NetFault>
+    requires some { 1 ≤ edge }
+    requires short { edge ≤ 1000000000 }
     requires one_each { length layers.now.lists.items ≡ length map.now.metals + length map.now.cuts }
     requires within { All (All IsInLayout) layers.now.lists.items }
     ensures rows { Answers NetFault.Memory (ComeToRows (layer_map_of map.now) layers.now.lists.items) result }
@@ -44,6 +58,6 @@ pub fn critical_areas(alloc: Global, map: &Map, layers: &Layers) -> Result<Vec<R
 {
     let window = window_of(layers.lists.as_slice(), reach(map));
     let parts = prepare(alloc, map, layers)?;
-    let amounts = amounts(alloc, &parts, window)?;
+    let amounts = tiled_amounts(alloc, &parts, window, edge)?;
     Ok(rows(alloc, &parts, &amounts)?)
 }

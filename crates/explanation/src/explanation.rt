@@ -3,7 +3,7 @@
 ghost use Rattle.std.specs.Prelude.{◌≤◌};
 
 use crate::inputs::{Input, LONGEST_LAYOUT, read_again};
-use crate::layouts::{Layout, tell_layout};
+use crate::layouts::{Layout, Origin, tell_layout};
 use crate::maps::tell_map_fault;
 use crate::path_kinds::Paths;
 use crate::telling::Telling;
@@ -111,7 +111,7 @@ fn tell_generated(
 {
     let made = generate(alloc, columns)?;
     let layout = Layout {
-        name: b"",
+        origin: Origin::Generated,
         bytes: made.layout.as_slice(),
         top: None,
     };
@@ -135,7 +135,7 @@ fn tell_file<F: Files, P: Paths>(
         return Ok(());
     }
     let layout = Layout {
-        name,
+        origin: Origin::File(name),
         bytes: bytes.as_slice(),
         top,
     };

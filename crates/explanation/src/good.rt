@@ -77,8 +77,7 @@ fn tell_library(
     library: &Library,
 ) -> Result<(), NoMemory> {
     let count = library.structures.as_slice().len();
-    text.say("layout ");
-    text.name(layout.name);
+    layout.tell(text);
     text.say(": nothing is wrong, and the run gives its report\n");
     text.say("  library ");
     text.name(library.name.as_slice());

@@ -16,6 +16,7 @@ use crate::spot::{spot_at, spot_before};
 use crate::structures::tell_place_fault;
 use crate::telling::Telling;
 use crate::terminals::{Known, first_off, tell_others, tell_terminal};
+use crate::text::Text;
 use flatten::{Placed, place};
 use gds_records::RecordFault;
 use gds_syntax::{SyntaxFault, read_library};
@@ -27,23 +28,44 @@ use std::alloc::Global;
 /// The status of a run that refuses a layout.
 const REFUSED: u8 = 4;
 
+/// Where a layout comes from.
+#[derive(Clone, Copy)]
+pub enum Origin<'a> {
+    /// The file of this name.
+    File(&'a [u8]),
+    /// The request itself, which has it made.
+    Generated,
+}
+
 /// A layout as it is told of.
 #[derive(Clone, Copy)]
 pub struct Layout<'a> {
-    /// The name of its file.
-    pub name: &'a [u8],
-    /// What the file contains.
+    /// Where it comes from.
+    pub origin: Origin<'a>,
+    /// What it contains.
     pub bytes: &'a [u8],
     /// The name of the structure that is wanted as the top, where one is.
     pub top: Option<&'a [u8]>,
+}
+
+impl Layout<'_> {
+    /// Tells which layout it is.
+    pub fn tell(&self, text: &mut Text) {
+        match self.origin {
+            Origin::File(name) => {
+                text.say("layout ");
+                text.name(name);
+            }
+            Origin::Generated => text.say("the generated layout"),
+        }
+    }
 }
 
 /// Tells what a number means of a place of the layout, in a line.
 pub fn tell_number(told: &mut Telling, layout: &Layout<'_>, number: u8, place: u64) {
     told.refuse(REFUSED, number, place);
     let (what, remedy) = meaning(number);
-    told.text.say("layout ");
-    told.text.name(layout.name);
+    layout.tell(&mut told.text);
     told.text.say(", byte ");
     told.text.number(place);
     told.text.say(": ");
@@ -57,8 +79,7 @@ pub fn tell_number(told: &mut Telling, layout: &Layout<'_>, number: u8, place: u
 fn tell_no_gdsii(told: &mut Telling, layout: &Layout<'_>, number: u8, place: u64) {
     told.refuse(REFUSED, number, place);
     let text = &mut told.text;
-    text.say("layout ");
-    text.name(layout.name);
+    layout.tell(text);
     text.say(": it is no GDSII layout");
     if layout.bytes.is_empty() {
         text.say(", but empty");
@@ -152,8 +173,7 @@ fn tell_off_metal(
     first: Known,
 ) {
     told.refuse(REFUSED, 50, first.index as u64);
-    told.text.say("layout ");
-    told.text.name(layout.name);
+    layout.tell(&mut told.text);
     told.text.say(": no shape of its metal covers ");
     tell_terminal(&mut told.text, map, first);
     told.text.say(

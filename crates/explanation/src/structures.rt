@@ -232,14 +232,12 @@ fn tell_no_top(
     told.refuse(4, 27, 0);
     let text = &mut told.text;
     if structures.is_empty() {
-        text.say("layout ");
-        text.name(layout.name);
+        layout.tell(text);
         text.say(": it has no structure\n");
         return Ok(());
     }
     let top = layout.top.unwrap_or(b"");
-    text.say("layout ");
-    text.name(layout.name);
+    layout.tell(text);
     text.say(": no structure has the name ");
     text.name(top);
     text.say(" that --top gives\n");

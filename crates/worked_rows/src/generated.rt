@@ -52,6 +52,7 @@ const ROWS: &[(&str, Want)] = &[
     ("--generate 1", ONE_CELL),
     ("--generate=1 --tile 3 --workers 64", ONE_CELL),
     ("--generate 20", TWENTY),
+    ("--generate 20 --tile 50", TWENTY),
 ];
 
 #[test]

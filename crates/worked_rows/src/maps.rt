@@ -4,7 +4,16 @@ use super::runs::{Failing, Given, Want, answers, expect, mapped};
 use std::alloc::Global;
 use std::thread::Threads;
 
-/// Whether a run on the rectangles with this map answers so.
+/// Words that name a layout and its map, without tiles and with tiles of several edges, which change nothing.
+const MAPPED: &[&str] = &[
+    "a --map m",
+    "a --map m --tile 1",
+    "a --map m --tile 3",
+    "a --map m --tile 7",
+    "a --map m --tile 1000000000",
+];
+
+/// Whether runs on the rectangles with this map answer so, whatever the tiles.
 pub fn map_answers(
     rt: &(impl Threads + Sync),
     alloc: Global,
@@ -12,10 +21,19 @@ pub fn map_answers(
     map: &[u8],
     want: &Want,
 ) -> bool {
-    match plates(alloc, shapes) {
-        Ok(layout) => answers(rt, alloc, &mapped(layout.as_slice(), map), want),
-        Err(_) => false,
+    let Ok(layout) = plates(alloc, shapes) else {
+        return false;
+    };
+    for words in MAPPED {
+        let given = Given {
+            words,
+            ..mapped(layout.as_slice(), map)
+        };
+        if !answers(rt, alloc, &given, want) {
+            return false;
+        }
     }
+    true
 }
 
 /// Two squares of the second metal, 3 cells apart.

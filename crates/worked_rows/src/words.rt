@@ -53,6 +53,10 @@ const WORDS: &[(&str, Want)] = &[
         "a --workers 64 --layer 1 --datatype 0 --radius 3 --tile=7",
         SHORT_32,
     ),
+    (
+        "a --layer 1 --datatype 0 --radius 3 --tile 1000000000",
+        SHORT_32,
+    ),
     // the one structure is the top, also by its name
     ("a --layer 1 --datatype 0 --radius 3 --top T", SHORT_32),
     // no shape is on the greatest layer, nor on the greatest datatype

@@ -18,16 +18,18 @@ use Rattle.critarea_core.specs.Refusals.{refusal_text}
 use Rattle.critarea_core.specs.Run.{AreToldAll, AreToldSome, AreUntold, Change, HasRisen, IsCalm, IsIdle, MayComeTo, NameSomeFile, Output, Takes, FailsWithin}
 use Rattle.critarea_core.specs.Layout.{Subject}
 use Rattle.critarea_core.specs.Verdict.{LayoutComesTo, MapComesTo, AreRowsOn, whole_report}
+use Rattle.critarea_core.specs.declared.layout_fault.LayoutFault.{LayoutFault}
+use Rattle.critarea_core.specs.declared.layout_fault.LayoutFault.TheVariants.{Memory as LayoutMemory}
 use Rattle.critarea_core.specs.declared.refusal.Refusal.{Refusal}
 use Rattle.critarea_core.specs.declared.unreported.Unreported.{Unreported}
 use Rattle.critarea_core.specs.declared.unreported.Unreported.TheVariants.{Refused, FilesFailed, Memory}
 
 -- ---- faults, as why there is no report
 
--- a fault is told as this: as the refusal that is its own, or as want of memory, if it is that
-pub data IsToldAs {F : Type 0} (memory : F) (refusal_of : F → Refusal) (fault : F) : Unreported → Type 0 where
-  as_memory : fault ≡ memory → IsToldAs memory refusal_of fault Memory
-  as_refusal : fault ≢ memory → IsToldAs memory refusal_of fault (Refused (refusal_of fault))
+-- a fault is told as this of another kind: as its own, or as want of memory, if it is that
+pub data IsToldAs {F E : Type 0} (low : F) (memory : E) (as_error : F → E) (fault : F) : E → Type 0 where
+  as_memory : fault ≡ low → IsToldAs low memory as_error fault memory
+  as_known : fault ≢ low → IsToldAs low memory as_error fault (as_error fault)
 
 -- why there is no map or report where a file was not read; this is the refusal of a file that is too long
 abbrev pub of_unread : Refusal → ReadError → Unreported
@@ -37,14 +39,18 @@ of_unread too_long read.Memory = Memory
 
 -- ---- what stages come to
 
--- the outcome of a stage in the code's words: a thing that is so for the stage's value, or the stage's refusal
-pub data Gives {T V : Type 0} (Stage : Outcome V Refusal → Type 0) (IsFor : V → T → Type 0) : Outcome T Unreported → Type 0 where
-  gives_thing : {v : V} {thing : T} → Stage (value v) → IsFor v thing → Gives Stage IsFor (value thing)
-  gives_refusal : {refusal : Refusal} → Stage (refused refusal) → Gives Stage IsFor (refused (Refused refusal))
+-- the outcome of a stage in the code's words: a thing that is so for the stage's value, or the stage's refusal as this error
+pub data Gives {T V F E : Type 0} (as_error : F → E) (Stage : Outcome V F → Type 0) (IsFor : V → T → Type 0) : Outcome T E → Type 0 where
+  gives_thing : {v : V} {thing : T} → Stage (value v) → IsFor v thing → Gives as_error Stage IsFor (value thing)
+  gives_refusal : {refusal : F} → Stage (refused refusal) → Gives as_error Stage IsFor (refused (as_error refusal))
 
 -- the answer is that, or that no memory is left
 abbrev pub Finds : {T V : Type 0} → (Outcome V Refusal → Type 0) → (V → T → Type 0) → Result T Unreported → Type 0
-Finds Stage IsFor = Answers Memory (Gives Stage IsFor)
+Finds Stage IsFor = Answers Memory (Gives (λ refusal. Refused refusal) Stage IsFor)
+
+-- the same of a layout, whose faults are answered as they are
+abbrev pub Analyses : {T V : Type 0} → (Outcome V LayoutFault → Type 0) → (V → T → Type 0) → Result T LayoutFault → Type 0
+Analyses Stage IsFor = Answers LayoutMemory (Gives (λ fault. fault) Stage IsFor)
 
 -- where files are read for it: none failed and the answer is so; or they failed, and then there is some file
 pub data FindsInFiles {T V : Type 0} (failures : Change ℕ) (SomeFile : Type 0) (Stage : Outcome V Refusal → Type 0) (IsFor : V → T → Type 0)

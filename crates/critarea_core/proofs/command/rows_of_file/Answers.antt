@@ -1,10 +1,10 @@
-use Rattle.std.proofs.Common.{arith, option_copied}
+use Rattle.std.proofs.Common.{option_copied}
 use Rattle.map_model.specs.MapNames.{layer_map_of}
 use Rattle.critarea_core.specs.inside.Finding.{HasRows, LayoutMayCome, files_serve}
-use Rattle.critarea_core.specs.Layout.{ShortLayoutComesTo}
+use Rattle.critarea_core.specs.Verdict.{LayoutComesTo}
 use Rattle.critarea_core.specs.Refusals.{layout_limit}
 use Rattle.critarea_core.proofs.ReadingLaws.{file_read, file_unread, restaged}
-use Rattle.critarea_core.proofs.VerdictLaws.{refused_length, short_layout}
+use Rattle.critarea_core.proofs.VerdictLaws.{refused_length}
 use Rattle.critarea_core.proofs.command.rows_of_file.Goals as goal
 
 pub returns-in-Err-clause-found : goal.returns-in-Err-clause-found
@@ -22,6 +22,6 @@ returns-clause-found g c =
     let wanted = option_copied c.args.top in
     let bytes = c.in-Ok.bytes in
     let read = file_read (told c.args.name.now) layout_limit _ _ _ _ bytes c.in-Ok.ensures.answer in
-    files_serve read.2 (restaged (ShortLayoutComesTo layer_map wanted bytes.items) HasRows (LayoutMayCome told layer_map wanted c.args.name.now)
-    (λ outcome comes. record { bytes = bytes.items; may_be = read.0; comes = short_layout layer_map wanted bytes.items outcome (omega (arith, read.1)) comes })
-    c.rows_of_bytes.result c.rows_of_bytes.ensures)
+    files_serve read.2 (restaged _ _ (LayoutComesTo layer_map wanted bytes.items) HasRows (LayoutMayCome told layer_map wanted c.args.name.now)
+    (λ outcome comes. record { bytes = bytes.items; may_be = read.0; comes = comes })
+    c.rows_of_layout.result c.rows_of_layout.ensures)

@@ -1,12 +1,6 @@
-use Rattle.std.proofs.Common.{None, arith}
 use Rattle.first_refusal.proofs.AnswerLaws.{out_of_memory}
 use Rattle.layout_gen.specs.Generated.{generated_layout}
 use Rattle.map_model.specs.MapNames.{layer_map_of}
-use Rattle.critarea_core.specs.inside.Finding.{HasRows}
-use Rattle.critarea_core.specs.Layout.{ShortLayoutComesTo}
-use Rattle.critarea_core.specs.Verdict.{LayoutComesTo}
-use Rattle.critarea_core.proofs.ReadingLaws.{restaged}
-use Rattle.critarea_core.proofs.VerdictLaws.{short_layout}
 use Rattle.critarea_core.proofs.command.rows_of_generated.Goals as goal
 
 pub returns-in_err-made : goal.returns-in_err-made
@@ -16,6 +10,4 @@ pub returns : goal.returns
 returns g c =
     let layer_map = layer_map_of c.args.map.now in
     let bytes = generated_layout c.args.columns in
-    let size = rw c.in_ok-made.ensures.layout at c.in_ok-made.ensures.size in
-    restaged (ShortLayoutComesTo layer_map None bytes) HasRows (LayoutComesTo layer_map None bytes) (λ outcome comes. short_layout layer_map None bytes outcome (omega (arith, size)) comes)
-    c.rows_of_bytes.result (rw c.in_ok-made.ensures.layout at c.rows_of_bytes.ensures)
+    rw c.in_ok-made.ensures.layout at c.rows_of_layout.ensures

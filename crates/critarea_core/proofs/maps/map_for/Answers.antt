@@ -24,6 +24,6 @@ pub returns-in-Generated-clause-found : goal.returns-in-Generated-clause-found
 returns-in-Generated-clause-found g c =
     let told = g.F.Files.holds c.args.files.now in
     let size : length generated_map ≡ 263 = ap length (sym c.layer_map.ensures.text) ∙ c.layer_map.ensures.size in
-    rw c.in-Generated.is (files_serve refl (restaged (ShortMapComesTo generated_map) IsMapOf (MapMayCome told (Generated c.in-Generated.columns))
+    rw c.in-Generated.is (files_serve refl (restaged _ _ (ShortMapComesTo generated_map) IsMapOf (MapMayCome told (Generated c.in-Generated.columns))
     (λ outcome comes. generated_map_may_come told c.in-Generated.columns outcome (short_map generated_map outcome (omega (arith, size)) comes))
     c.map_of_bytes.result (rw (c.as_bytes.ensures.value ∙ c.layer_map.ensures.text) at c.map_of_bytes.ensures)))

@@ -20,6 +20,6 @@ returns-clause-found g c layout top =
     let name = c.args.name.now in
     let bytes = c.in-Ok.bytes in
     let read = file_read (told name) map_limit _ _ _ _ bytes c.in-Ok.ensures.answer in
-    files_serve read.2 (restaged (ShortMapComesTo bytes.items) IsMapOf (MapMayCome told (Mapped layout name top))
+    files_serve read.2 (restaged _ _ (ShortMapComesTo bytes.items) IsMapOf (MapMayCome told (Mapped layout name top))
     (λ outcome comes. map_of_text told layout name top bytes.items read.0 outcome (short_map bytes.items outcome (omega (arith, read.1)) comes))
     c.map_of_bytes.result (rw c.as_slice.ensures.value at c.map_of_bytes.ensures))

@@ -1,0 +1,130 @@
+ghost use Rattle.std.specs.Prelude.{◌≡◌, ◌≤◌, ◌+◌, IfOk, All, length, option_copied};
+ghost use Rattle.lists.specs.Differing.{AreDifferent};
+ghost use Rattle.first_refusal.specs.Answers.{Answers};
+ghost use Rattle.first_refusal.specs.Outcomes.{Then};
+ghost use Rattle.geo_core.specs.Cells.{IsInLayout};
+ghost use Rattle.library_model.specs.Names.{names_of};
+ghost use Rattle.library_model.specs.Points.{AreWellPointed};
+ghost use Rattle.map_model.specs.MapView.{layer_map_of};
+ghost use Rattle.questions.specs.declared.row.TheConstants.{MOST_ROWS};
+ghost use Rattle.critarea_core.specs.Analysis.{AnalysisComesTo};
+ghost use Rattle.critarea_core.specs.inside.Finding.{Analyses, HasRows};
+ghost use Rattle.critarea_core.specs.inside.LayoutReaders.{AreLayersFor};
+ghost use Rattle.critarea_core.specs.Layout.{LibraryComesTo, ShortLayoutComesTo, Subject, TerminalsComeTo};
+ghost use Rattle.critarea_core.specs.Refusals.{layout_limit};
+
+use super::layers::layers_of;
+use super::layout_fault::LayoutFault;
+use critical_areas::critical_areas;
+use flatten::place;
+use gds_syntax::{Library, read_library};
+use map_model::{Layers, Map};
+use questions::Row;
+use rect_cover::cover_all;
+use std::alloc::Global;
+use std::mem::drop;
+use std::thread::Threads;
+
+/// How many layers the map has: its metals, and then its cuts.
+fn count_of(map: &Map) -> u32
+    ensures { result ≡ length map.now.metals + length map.now.cuts }
+{
+    (map.metals.as_slice().len() + map.cuts.as_slice().len()) as u32
+}
+
+/// Rectangles of all cells that the shapes of a library cover, a list for each layer of the map. The shapes are those that
+/// the top places: the structure of the wanted name, or the one that no reference names. The fault is that of the placement,
+/// or the first of the covers of the placed shapes. The library is let go once this is known.
+fn layers_of_library(
+    rt: &(impl Threads + Sync),
+    alloc: Global,
+    map: &Map,
+    top: Option<&[u8]>,
+    library: Library,
+) -> Result<Layers, LayoutFault>
+    requires differ { AreDifferent (names_of library.structures) }
+    requires pointed { AreWellPointed library.structures }
+    ensures { Analyses (LibraryComesTo (layer_map_of map.now) (option_copied top.entry) library) (AreLayersFor (layer_map_of map.now)) result }
+{
+    let placed = place(alloc, &library, map, top)?;
+    let covers = cover_all(rt, alloc, &library, placed.as_slice())?;
+    Ok(layers_of(alloc, count_of(map), placed.as_slice(), covers.as_slice())?)
+}
+
+/// The rows on the subject whose layers these are, or the first terminal that is not on its metal.
+fn rows_on(alloc: Global, map: &Map, layers: &Layers, edge: u32) -> Result<Vec<Row>, LayoutFault>
+    requires some { 1 ≤ edge }
+    requires short { edge ≤ 1000000000 }
+    requires one_each { length layers.now.lists.items ≡ length map.now.metals + length map.now.cuts }
+    requires within { All (All IsInLayout) layers.now.lists.items }
+    ensures { (subject : Subject) → AreLayersFor (layer_map_of map.now) subject layers.now →
+        Analyses (TerminalsComeTo subject) HasRows result }
+{
+    Ok(critical_areas(alloc, map, layers, edge)?)
+}
+
+/// The rows of the map on a library, of which this top is wanted, or any.
+fn rows_of_library(
+    rt: &(impl Threads + Sync),
+    alloc: Global,
+    map: &Map,
+    top: Option<&[u8]>,
+    library: Library,
+    edge: u32,
+) -> Result<Vec<Row>, LayoutFault>
+    requires some { 1 ≤ edge }
+    requires short { edge ≤ 1000000000 }
+    requires differ { AreDifferent (names_of library.structures) }
+    requires pointed { AreWellPointed library.structures }
+    ensures { Analyses (Then (LibraryComesTo (layer_map_of map.now) (option_copied top.entry) library) TerminalsComeTo) HasRows result }
+{
+    let layers = layers_of_library(rt, alloc, map, top, library)?;
+    rows_on(alloc, map, &layers, edge)
+}
+
+/// The rows of the map on the layout with these bytes, of which this top is wanted, or any. The bytes are let go once the
+/// library is read.
+pub fn rows_of_bytes(
+    rt: &(impl Threads + Sync),
+    alloc: Global,
+    map: &Map,
+    top: Option<&[u8]>,
+    bytes: Vec<u8>,
+    edge: u32,
+) -> Result<Vec<Row>, LayoutFault>
+    requires some { 1 ≤ edge }
+    requires short { edge ≤ 1000000000 }
+    requires within { length bytes.items ≤ layout_limit }
+    ensures { Analyses (ShortLayoutComesTo (layer_map_of map.now) (option_copied top.entry) bytes.items) HasRows result }
+{
+    let library = read_library(alloc, bytes.as_slice())?;
+    drop(bytes);
+    rows_of_library(rt, alloc, map, top, library, edge)
+}
+
+/// The rows of a report of the map on a layout: shorts of each metal, then opens of each, and then via blocks of each cut,
+/// for each size in order.
+///
+/// The layout is at most 268,435,456 bytes of a GDSII stream. `top` is the name of the structure that is analysed with all
+/// that it places; where it is left out it is the one that no reference names. `edge` is that of the tiles over which areas
+/// are counted, 1 to 1,000,000,000 database units, and changes no row.
+///
+/// The error is the layout's first fault: of its bytes, then of the placement of its shapes, then of the cover of each placed
+/// shape, and at last the first terminal of the map whose cell its metal does not cover; or that no memory is left.
+pub fn analyse(
+    rt: &(impl Threads + Sync),
+    alloc: Global,
+    map: &Map,
+    layout: &[u8],
+    top: Option<&[u8]>,
+    edge: u32,
+) -> Result<Vec<Row>, LayoutFault>
+    requires some { 1 ≤ edge }
+    requires short { edge ≤ 1000000000 }
+    requires within { length layout.now ≤ layout_limit }
+    ensures rows { Answers LayoutFault.Memory (AnalysisComesTo (layer_map_of map.now) (option_copied top.entry) layout.now) result }
+    ensures few { IfOk result (λ rows. length rows.items ≤ MOST_ROWS) }
+{
+    let library = read_library(alloc, layout)?;
+    rows_of_library(rt, alloc, map, top, library, edge)
+}

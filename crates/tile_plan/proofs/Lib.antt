@@ -1,0 +1,7 @@
+pub mod AlongLaws
+pub mod TileLaws
+pub mod TallyingLaws
+pub mod DoublingLaws
+pub mod KeptLaws
+pub mod NearLaws
+pub mod IndexLaws

@@ -1,0 +1,5 @@
+use Rattle.tile_plan.proofs.NearLaws.{same_cells}
+use Rattle.tile_plan.proofs.laws.near_rectangles_decide_cells.Goals as goal
+
+pub returns : goal.returns
+returns c = same_cells
