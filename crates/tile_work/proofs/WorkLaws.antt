@@ -69,7 +69,7 @@ module _ (tickets slots : ℕ) (IsAmount : ℕ → ℕ → ℕ → Type 0) where
   }
 
   -- between tickets a draw gives one more: nothing is credited for it yet
-  pub begins : (v : View) (ticket : ℕ) → ticket < tickets → 0 < v.left → IsWorking tickets slots IsAmount v → ((slot : ℕ) → times_credited v ticket slot ≡ 0) → IsCrediting tickets slots IsAmount ticket 0 (with_draw tickets ticket v)
+  begins : (v : View) (ticket : ℕ) → ticket < tickets → 0 < v.left → IsWorking tickets slots IsAmount v → ((slot : ℕ) → times_credited v ticket slot ≡ 0) → IsCrediting tickets slots IsAmount ticket 0 (with_draw tickets ticket v)
   begins v ticket small some working none = rw (lt-ltb ticket tickets small) (record {
     drew = drew_ticket v ticket small some working.drew;
     here = omega (arith, counted ticket, itself ticket);
@@ -134,7 +134,7 @@ module _ (tickets slots : ℕ) (IsAmount : ℕ → ℕ → ℕ → Type 0) where
   }
 
   -- a draw that gives no ticket
-  pub stops : (v : View) (number : ℕ) → tickets ≤ number → IsWorking tickets slots IsAmount v → HasWorked slots IsAmount (with_draw tickets number v)
+  stops : (v : View) (number : ℕ) → tickets ≤ number → IsWorking tickets slots IsAmount v → HasWorked slots IsAmount (with_draw tickets number v)
   stops v number large working = rw (le-ltb number tickets large) (record {
     none_left = omega (arith, working.drew.made, length-append v.tickets []);
     credits = record {
@@ -159,7 +159,7 @@ module _ (tickets slots : ℕ) (IsAmount : ℕ → ℕ → ℕ → Type 0) where
 
 module _ (slots : ℕ) (IsAmount : ℕ → ℕ → ℕ → Type 0) where
   -- a hand that has made no draw has no ticket and no credit
-  pub unused : (v : View) → IsHandView v → v.made ≡ 0 → HasCredits slots IsAmount v
+  unused : (v : View) → IsHandView v → v.made ≡ 0 → HasCredits slots IsAmount v
   unused v facts none = record {
     each = λ t slot drew small. absurd (omega (arith, facts.few, count_by-le-length (λ x. x == t) v.tickets, drew));
     within = λ k d small. let drew = facts.drawn k d small in absurd (omega (arith, facts.few, count_by-le-length (λ x. x == (get_or v.credits k d).ticket) v.tickets, drew));
@@ -167,7 +167,7 @@ module _ (slots : ℕ) (IsAmount : ℕ → ℕ → ℕ → Type 0) where
   }
 
   -- two hands together: no ticket is in both, since no ticket and slot is credited twice
-  pub joins : (v other : View) → IsHandView (with_all_of other v) → HasCredits slots IsAmount v → HasCredits slots IsAmount other → HasCredits slots IsAmount (with_all_of other v)
+  joins : (v other : View) → IsHandView (with_all_of other v) → HasCredits slots IsAmount v → HasCredits slots IsAmount other → HasCredits slots IsAmount (with_all_of other v)
   joins v other facts has others = record {
     each = λ t slot drew small. elim (leb_tells 1 (times v.tickets t)) [
       | inl h ↦ omega (arith, counted t slot, facts.once t slot, has.each t slot h.1 small)
@@ -180,8 +180,12 @@ module _ (slots : ℕ) (IsAmount : ℕ → ℕ → ℕ → Type 0) where
       counted : (t s : ℕ) → times_credited (with_all_of other v) t s ≡ times_credited v t s + times_credited other t s
       counted t s = sum_by-append (λ d. if (d.ticket == t) && (d.slot == s) then 1 else 0) v.credits other.credits
 
-  pub joined_work : (v other : View) → IsHandView (with_all_of other v) → HasWorked slots IsAmount v → HasWorked slots IsAmount other → HasWorked slots IsAmount (with_all_of other v)
-  joined_work v other facts worked others = record {
+  pub joined_work : (v other w : View) → IsHandView w → w ≡ with_all_of other v → HasWorked slots IsAmount v → HasWorked slots IsAmount other → HasWorked slots IsAmount w
+  joined_work v other w facts is worked others = subst (HasWorked slots IsAmount) (sym is) (record {
     none_left = omega (arith, length-append v.tickets other.tickets, worked.none_left, others.none_left);
-    credits = joins v other facts worked.credits others.credits;
-  }
+    credits = joins v other (subst IsHandView is facts) worked.credits others.credits;
+  })
+
+  -- a hand that did nothing, and all that another did
+  pub joined_credits : (v other w : View) → IsHandView v → v.made ≡ 0 → IsHandView w → w ≡ with_all_of other v → HasCredits slots IsAmount other → HasCredits slots IsAmount w
+  joined_credits v other w idle none facts is others = subst (HasCredits slots IsAmount) (sym is) (joins v other (subst IsHandView is facts) (unused v idle none) others)

@@ -1,9 +1,7 @@
-use Rattle.std.proofs.Common.{rules, ◌+◌, ◌*◌, ◌/◌, ◌<◌, ◌≤◌, ◌≡◌, ap, sym, subst, ◌∙◌, arith}
+use Rattle.std.proofs.Common.{rules, ◌+◌, ◌*◌, ◌/◌, ◌<◌, ◌≤◌, ◌≡◌, ap, ◌∙◌, arith}
 use Rattle.tile_board.specs.Hands.{view_of}
-use Rattle.tile_board.specs.HandFacts.{IsHandView}
 use Rattle.tile_board.specs.Machine.{fresh}
 use Rattle.tile_board.specs.declared.views.View.{View}
-use Rattle.tile_work.specs.inside.Working.{HasWorked}
 use Rattle.tile_work.proofs.ShareLaws.{half_draws, kept_draws, joined_draws, both_ok}
 use Rattle.tile_work.proofs.WorkLaws.{joined_work}
 use Rattle.tile_work.proofs.tiles.+fn-work_in_halves-join+arg2+fn-work_in_halves-join+arg3+work_in_halves.Goals as goal
@@ -31,9 +29,7 @@ returns-clause-draws g t c =
 
 pub returns-clause-worked : goal.returns-clause-worked
 returns-clause-worked g t c =
-    let slots = g.J.TileJob.slots c.args.job.now in
-    let amount = g.J.TileJob.is_amount c.args.job.now in
     both_ok _ _ _ c.and.ensures
-    (λ first second. subst (HasWorked slots amount) (sym c.join.ensures.joined)
-    (joined_work slots amount (view_of c.join-hand.result.0.0) (view_of c.join-hand.result.1.0) (subst IsHandView {x = view_of c.join.new.hand} c.join.ensures.joined c.join.new.hand.facts) first second))
+    (joined_work (g.J.TileJob.slots c.args.job.now) (g.J.TileJob.is_amount c.args.job.now) (view_of c.join-hand.result.0.0) (view_of c.join-hand.result.1.0) (view_of c.join.new.hand)
+    c.join.new.hand.facts c.join.ensures.joined)
     c.join-hand.ensures.first.1.1 c.join-hand.ensures.second.1.1

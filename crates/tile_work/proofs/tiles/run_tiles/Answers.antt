@@ -1,11 +1,13 @@
-use Rattle.std.proofs.Common.{ap, sym, subst, ◌∙◌}
+use Rattle.std.proofs.Common.{ap, ◌∙◌}
 use Rattle.lists.proofs.Words.{on_ok_weaker}
 use Rattle.tile_board.specs.Hands.{view_of}
-use Rattle.tile_board.specs.HandFacts.{IsHandView}
+use Rattle.tile_board.specs.Machine.{fresh}
 use Rattle.tile_board.specs.declared.views.View.{View}
-use Rattle.tile_work.specs.Crediting.{HasCredits}
-use Rattle.tile_work.proofs.WorkLaws.{unused, joins}
+use Rattle.tile_work.proofs.WorkLaws.{joined_credits}
 use Rattle.tile_work.proofs.tiles.run_tiles.Goals as goal
+
+pub work_in_halves-own-requires-clause-unused : goal.work_in_halves-own-requires-clause-unused
+work_in_halves-own-requires-clause-unused g c κs within = c.split-own.ensures.given ∙ ap fresh (c.left-draws.ensures ∙ c.requires.all_left ∙ c.requires.all_draws)
 
 pub returns-clause-credits : goal.returns-clause-credits
 returns-clause-credits g c =
@@ -13,7 +15,6 @@ returns-clause-credits g c =
     let amount = g.J.TileJob.is_amount c.args.job.now in
     let before = c.split-own.new.hand in
     let none = ap (λ (v : View). v.made) c.split-own.ensures.kept ∙ c.requires.none_made in
-    let joined = c.join.ensures.joined in
     on_ok_weaker c.work_in_halves-own.result.1
-    (λ worked. subst (HasCredits slots amount) (sym joined) (joins slots amount (view_of before) (view_of c.work_in_halves-own.result.0) (subst IsHandView joined c.join.new.hand.facts) (unused slots amount (view_of before) before.facts none) worked.credits))
+    (λ worked. joined_credits slots amount (view_of before) (view_of c.work_in_halves-own.result.0) (view_of c.join.new.hand) before.facts none c.join.new.hand.facts c.join.ensures.joined worked.credits)
     c.work_in_halves-own.ensures.worked

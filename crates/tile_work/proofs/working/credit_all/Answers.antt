@@ -1,4 +1,4 @@
-use Rattle.std.proofs.Common.{◌+◌, ◌<◌, ◌≡◌, ap, sym, subst, ◌∙◌, arith, get_or}
+use Rattle.std.proofs.Common.{◌+◌, ◌<◌, ◌≡◌, refl, ap, sym, subst, ◌∙◌, arith, get_or}
 use Rattle.tile_board.specs.Hands.{view_of}
 use Rattle.tile_board.specs.declared.views.View.{View}
 use Rattle.tile_work.specs.inside.Working.{IsCrediting}
@@ -13,6 +13,9 @@ credit-requires-clause-drawn g c = c.loop-slot.invariant.at.here
 
 pub credit-requires-clause-first : goal.credit-requires-clause-first
 credit-requires-clause-first g c = c.loop-slot.invariant.at.open_still c.loop-slot.slot (omega arith)
+
+pub loop-slot-init : goal.loop-slot-init
+loop-slot-init g c = record { belongs = c.requires.belongs; left = refl; at = c.requires.drawn }
 
 pub loop-slot-preserved : goal.loop-slot-preserved
 loop-slot-preserved g c =

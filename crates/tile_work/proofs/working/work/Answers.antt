@@ -1,4 +1,4 @@
-use Rattle.std.proofs.Common.{ap, arith}
+use Rattle.std.proofs.Common.{ℕ, List, get_or, ap, sym, subst, arith}
 use Rattle.tile_board.specs.Hands.{view_of}
 use Rattle.tile_board.specs.declared.views.View.{View}
 use Rattle.tile_work.proofs.WorkLaws.{has_draw, drawn, stopped, one_draw}
@@ -11,6 +11,10 @@ pub returns-in_err-amounts-clause-draws : goal.returns-in_err-amounts-clause-dra
 returns-in_err-amounts-clause-draws g c =
     let tickets = g.J.TileJob.tickets c.args.job.now in
     one_draw tickets _ _ (view_of c.loop-ticket.hand) (view_of c.draw.new.hand) c.loop-ticket.hand.facts c.loop-ticket.invariant.working.drew c.in-Some.ensures.some.1
+
+pub credit_all-requires-clause-in_order : goal.credit_all-requires-clause-in_order
+credit_all-requires-clause-in_order g c slot small =
+    subst (λ (items : List ℕ). g.J.TileJob.is_amount c.args.job.now c.in-Some.ticket slot (get_or items slot 0)) (sym c.as_slice.ensures.value) (c.in_ok-amounts.ensures.in_order slot small)
 
 pub credit_all-requires-clause-drawn : goal.credit_all-requires-clause-drawn
 credit_all-requires-clause-drawn g c =

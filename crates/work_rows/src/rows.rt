@@ -1,0 +1,57 @@
+//! Totals for several numbers of workers.
+
+use super::jobs::SumJob;
+use lists::NoMemory;
+use std::alloc::Global;
+use std::thread::Threads;
+use tile_board::Board;
+use tile_work::{NoGate, close_sums, run_tiles};
+
+/// How many tickets there are, the most that one credit may add, how many workers there are, and what the totals of two
+/// slots come to.
+type Row = (u32, u64, u32, [u64; 2]);
+
+const ROWS: &[Row] = &[
+    // 0 and 1 and 2, and one more each
+    (3, 4, 2, [3, 6]),
+    // the same for one worker, and for more workers than tickets
+    (3, 3, 1, [3, 6]),
+    (3, 3, 3, [3, 6]),
+    (3, 3, 64, [3, 6]),
+    // no tickets
+    (0, 4, 1, [0, 0]),
+    (0, 4, 64, [0, 0]),
+    // the numbers below 1000 come to 999 times 500
+    (1000, 1000, 1, [499_500, 500_500]),
+    (1000, 1000, 2, [499_500, 500_500]),
+    (1000, 1000, 3, [499_500, 500_500]),
+    (1000, 1000, 64, [499_500, 500_500]),
+];
+
+/// Whether the totals of a row come out.
+fn is_right(rt: &(impl Threads + Sync), alloc: Global, row: Row) -> Result<bool, NoMemory> {
+    let (tickets, cap, workers, wanted) = row;
+    if workers < 1 || workers > 64 || u64::from(tickets) > cap || cap > 1000 {
+        return Ok(false);
+    }
+    let job = SumJob {
+        tickets,
+        slots: 2,
+        refused: None,
+    };
+    let tickets = u64::from(tickets);
+    let draws = u64::from(workers) * (tickets + 1);
+    let (board, mut hand) = Board::new(alloc, tickets, 2, cap, draws)?;
+    run_tiles(rt, alloc, &job, &NoGate, &board, &mut hand, workers)?;
+    let totals = close_sums(alloc, &job, board, hand)?;
+    Ok(totals.as_slice() == wanted.as_slice())
+}
+
+#[test]
+fn totals_are_the_same_for_any_number_of_workers(rt: HostRuntime) {
+    let mut all = true;
+    for row in ROWS {
+        all = all && is_right(&rt, rt.alloc(), *row) == Ok(true);
+    }
+    assert!(rt; all);
+}
