@@ -56,6 +56,7 @@ doubled_once_more window given edge many doubled = record {
 
 -- a plan with the given edge
 pub plan_is : (window : Rect) (edge : ℕ) (plan : TilePlan) → plan.window ≡ window → plan.edge ≡ edge → IsDoubledEdge window edge plan.edge
-plan_is window edge plan same also = subst (λ n. IsDoubledEdge window n plan.edge) also (subst (λ (r : Rect). IsDoubledEdge r plan.edge plan.edge) same (not_doubled plan.window plan.edge tiles)) where
-  tiles : HasFewTiles plan.window plan.edge
-  tiles = record { columns = plan.columns; rows = plan.rows; across = plan.across; up = plan.up; few = plan.few }
+plan_is window edge plan same also =
+    subst (λ n. IsDoubledEdge window n plan.edge) also (subst (λ (r : Rect). IsDoubledEdge r plan.edge plan.edge) same (not_doubled plan.window plan.edge tiles)) where
+      tiles : HasFewTiles plan.window plan.edge
+      tiles = record { columns = plan.columns; rows = plan.rows; across = plan.across; up = plan.up; few = plan.few }

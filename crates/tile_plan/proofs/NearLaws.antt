@@ -1,8 +1,9 @@
 -- what is near a tile, and that it decides what defects do there
-use Rattle.std.proofs.Common.{ℕ, ◌+◌, ◌/◌, ◌<◌, ◌≤◌, ◌≡◌, sym, ap, ◌∙◌, subst, arith, List, [], ◌∷◌, ◌++◌, length, take, get_or, ◌↔◌, ℤ, pos, ◌+ℤ◌, ◌-ℤ◌, ◌≤ℤ◌, ◌<ℤ◌, append_assoc}
+use Rattle.std.proofs.Common.{ℕ, ◌+◌, ◌/◌, ◌<◌, ◌≤◌, ◌≡◌, sym, ap, ◌∙◌, subst, arith, List, [], ◌∷◌, ◌++◌, length, take, get_or, ◌↔◌, pos, ◌+ℤ◌, ◌-ℤ◌, ◌≤ℤ◌, append_assoc}
 use Rattle.lists.proofs.Words.{ints, by_lt_z, All-weaker, append-nil, Contains-permutation, IsPermutation-sym, IsPermutation}
 use Rattle.lists.proofs.Reading.{taken_more}
 use Rattle.geo_core.specs.Plane.{Has, IntervalsOverlap, IsInUnion}
+use Rattle.geo_core.specs.declared.interval.Interval.{Interval}
 use Rattle.geo_core.specs.declared.plane.Cell.{Cell}
 use Rattle.geo_core.specs.declared.plane.Labelled.{Labelled}
 use Rattle.geo_core.specs.declared.plane.Rect.{Rect}
@@ -19,18 +20,23 @@ use Rattle.tile_plan.proofs.KeptLaws.{AreKept-append, is_kept, kept_is, none_kep
 -- ---- near by axes
 
 -- places are near others where neither lie wholly before the others by more than the reach
-module _ (low high first last : ℤ) (reach : ℕ) (some : low <ℤ high) (also : first <ℤ last) where
-  pub near_places : ((high +ℤ pos reach) ≤ℤ first → ⊥) → ((last +ℤ pos reach) ≤ℤ low → ⊥) → IntervalsOverlap (low -ℤ pos reach) (high +ℤ pos reach) first last
-  near_places p q = by_lt_z first (high +ℤ pos reach)
-      (λ l. by_lt_z low (last +ℤ pos reach)
-      (λ m. (overlapping (low -ℤ pos reach) (high +ℤ pos reach) first last (omega (arith, ints)) also).0 (omega (arith, ints), l))
+module _ (places others : Interval) (reach : ℕ) where
+  abbrev AreNearPlaces : Type 0
+  AreNearPlaces = IntervalsOverlap (places.low -ℤ pos reach) (places.high +ℤ pos reach) others.low others.high
+
+  pub near_places : ((places.high +ℤ pos reach) ≤ℤ others.low → ⊥) → ((others.high +ℤ pos reach) ≤ℤ places.low → ⊥) → AreNearPlaces
+  near_places p q =
+      let some = places.within.some in
+      by_lt_z others.low (places.high +ℤ pos reach)
+      (λ l. by_lt_z places.low (others.high +ℤ pos reach)
+      (λ m. (overlapping (places.low -ℤ pos reach) (places.high +ℤ pos reach) others.low others.high (omega (arith, ints)) others.within.some).0 (omega (arith, ints), l))
       (λ m. absurd (q m)))
       (λ l. absurd (p l))
 
-  pub far_above : (high +ℤ pos reach) ≤ℤ first → IntervalsOverlap (low -ℤ pos reach) (high +ℤ pos reach) first last → ⊥
+  pub far_above : (places.high +ℤ pos reach) ≤ℤ others.low → AreNearPlaces → ⊥
   far_above l o = let a = o.1.before in let b = o.2.from in absurd (omega (arith, ints))
 
-  pub far_below : (last +ℤ pos reach) ≤ℤ low → IntervalsOverlap (low -ℤ pos reach) (high +ℤ pos reach) first last → ⊥
+  pub far_below : (others.high +ℤ pos reach) ≤ℤ places.low → AreNearPlaces → ⊥
   far_below l o = let a = o.1.from in let b = o.2.before in absurd (omega (arith, ints))
 
 -- a rectangle is near a tile where its columns are near the tile's, and its rows
@@ -52,7 +58,8 @@ module _ {T : Type 0} (rect_of : T → Rect) (tile : Rect) (reach : ℕ) where
   -- nothing is near where the hull is not
   pub none_near : (hull : Rect) (things : List T) → IsHullOf rect_of hull things → (IsNearTile tile reach hull → ⊥) → AreNear rect_of tile reach things []
   none_near hull things round far =
-      none_kept things (All-weaker (λ thing. IsRound hull (rect_of thing)) (λ thing. IsNearTile tile reach (rect_of thing) → ⊥) (λ thing r near. far (near_hull tile hull (rect_of thing) reach r near)) things round)
+      let beyond = λ (thing : T) (r : IsRound hull (rect_of thing)) (near : IsNearTile tile reach (rect_of thing)). far (near_hull tile hull (rect_of thing) reach r near) in
+      none_kept things (All-weaker (λ thing. IsRound hull (rect_of thing)) (λ thing. IsNearTile tile reach (rect_of thing) → ⊥) beyond things round)
 
   pub gains_none : (hull : Rect) (things old : List T) → IsHullOf rect_of hull things → (IsNearTile tile reach hull → ⊥) → GainsNear rect_of tile reach things old old
   gains_none hull things old round far = record { gained = []; are_near = none_near hull things round far; new_is = sym (append-nil old) }
@@ -72,11 +79,13 @@ module _ {T : Type 0} (rect_of : T → Rect) (tile : Rect) (reach : ℕ) where
   pub gains_all : (things new : List T) → GainsNear rect_of tile reach things [] new → AreNear rect_of tile reach things new
   gains_all things new g = subst (AreNear rect_of tile reach things) (sym g.new_is) g.are_near
 
-  module _ (things : List T) (i : ℕ) (thing : T) (small : i < length things) (is : thing ≡ get_or things i thing) (old mid : List T) (so_far : GainsNear rect_of tile reach (take i things) old mid) where
+  module _ (things : List T) (i : ℕ) (thing : T) (small : i < length things) (is : thing ≡ get_or things i thing) (old mid : List T)
+      (so_far : GainsNear rect_of tile reach (take i things) old mid) where
     pub gains_one : (new : List T) → IsNearTile tile reach (rect_of thing) → new ≡ mid ++ thing ∷ [] → GainsNear rect_of tile reach (take (i + 1) things) old new
     gains_one new near more = record {
       gained = so_far.gained ++ thing ∷ [];
-      are_near = subst (λ xs. AreNear rect_of tile reach xs (so_far.gained ++ thing ∷ [])) (sym (taken_more things i thing small is)) (one_kept (take i things) so_far.gained thing so_far.are_near near);
+      are_near = subst (λ xs. AreNear rect_of tile reach xs (so_far.gained ++ thing ∷ [])) (sym (taken_more things i thing small is))
+          (one_kept (take i things) so_far.gained thing so_far.are_near near);
       new_is = more ∙ ap (λ zs. zs ++ thing ∷ []) so_far.new_is ∙ append_assoc old so_far.gained (thing ∷ []);
     }
 

@@ -11,8 +11,8 @@ use Rattle.tile_plan.specs.declared.tiles.TilePlan.{TilePlan}
 abbrev pub tile_count : TilePlan → ℕ
 tile_count plan = plan.columns * plan.rows
 
--- the cell of the window lies in the tile with the number `k`: in column `k % columns` and row `k / columns` of the tiles, counted
--- from the window's lower left
+-- the cell of the window lies in the tile with the number `k`: in the column `k % columns` and the row `k / columns` of tiles,
+-- counted from the window's lower left
 pub record IsInTile (plan : TilePlan) (k : ℕ) (c : Cell) : Type 0 where
   pub in_window : Has plan.window c
   pub across : IsInTileAlong plan.window.x0 plan.edge (k % plan.columns) c.i

@@ -3,21 +3,15 @@ use Rattle.tile_plan.proofs.NearLaws.{far_above, far_below, near_places}
 use Rattle.tile_plan.proofs.nearby.come_near.Goals as goal
 
 pub returns-then-end_before : goal.returns-then-end_before
-returns-then-end_before c = (
-  λ t. cc,
-  λ o. absurd (far_above c.args.places.low c.args.places.high c.args.others.low c.args.others.high c.args.reach c.args.places.within.some c.args.others.within.some (c.end_before.ensures.0 c.if-end_before.true) o),
-)
+returns-then-end_before c = (λ t. cc, λ near. absurd (far_above c.args.places c.args.others c.args.reach (c.end_before.ensures.0 c.if-end_before.true) near))
 
 pub returns-then-end_before-2 : goal.returns-then-end_before-2
-returns-then-end_before-2 c = (
-  λ t. cc,
-  λ o. absurd (far_below c.args.places.low c.args.places.high c.args.others.low c.args.others.high c.args.reach c.args.places.within.some c.args.others.within.some (c.end_before-2.ensures.0 c.if-end_before-2.true) o),
-)
+returns-then-end_before-2 c = (λ t. cc, λ near. absurd (far_below c.args.places c.args.others c.args.reach (c.end_before-2.ensures.0 c.if-end_before-2.true) near))
 
 pub returns : goal.returns
 returns c = (
-  λ t. near_places c.args.places.low c.args.places.high c.args.others.low c.args.others.high c.args.reach c.args.places.within.some c.args.others.within.some
+  λ t. near_places c.args.places c.args.others c.args.reach
       (λ l. let h : c.end_before.result ≡ true = c.end_before.ensures.1 l in cc (h, c.if-end_before.false))
       (λ l. let h : c.end_before-2.result ≡ true = c.end_before-2.ensures.1 l in cc (h, c.if-end_before-2.false)),
-  λ o. refl,
+  λ near. refl,
 )

@@ -30,7 +30,8 @@ invariant_of-result c =
     let e = same_start (goal.at.invariant_of-result c).After-from in
     let a = c.args.places.within.least in let b = c.args.places.within.most in let h = c.requires.begins in let m = c.min-high.ensures.value in
     record {
-      within = tile_within c.args.places.low c.args.places.high (c.args.number * c.args.edge) c.args.edge _ _ (omega (arith, ints)) (omega (arith, ints, clamps)) c.args.places.within c.requires.some h;
+      within = tile_within c.args.places.low c.args.places.high (c.args.number * c.args.edge) c.args.edge _ _ (omega (arith, ints)) (omega (arith, ints, clamps))
+          c.args.places.within c.requires.some h;
     }
 
 pub returns : goal.returns

@@ -12,7 +12,8 @@ loop-band-preserved g c =
 
 pub returns : goal.returns
 returns g c =
-    let all = gains_parts g.T.Rectangular.rect_of c.args.tile c.args.reach c.as_slice-band-items.result.now c.loop-band.band-index c.new-found.result.items c.loop-band.found.items c.loop-band-test.false
-    c.loop-band.invariant in
-    rw (← c.self.view_is, ← c.as_slice-band-items.ensures.value) (gains_all g.T.Rectangular.rect_of c.args.tile c.args.reach (all_of c.as_slice-band-items.result.now) c.loop-band.found.items
-    (rw c.new-found.ensures.items at all))
+    let parts = c.as_slice-band-items.result.now in
+    let start = c.new-found.result.items in
+    let all = gains_parts g.T.Rectangular.rect_of c.args.tile c.args.reach parts c.loop-band.band-index start c.loop-band.found.items c.loop-band-test.false c.loop-band.invariant in
+    rw (← c.self.view_is, ← c.as_slice-band-items.ensures.value)
+    (gains_all g.T.Rectangular.rect_of c.args.tile c.args.reach (all_of parts) c.loop-band.found.items (rw c.new-found.ensures.items at all))
