@@ -6,7 +6,7 @@ use std::thread::Threads;
 
 /// A library `L` with one structure `T`, and in it `[0,10)x[0,10)` and `[14,24)x[0,10)` on layer 1. The head and the
 /// structure's first records have 94 bytes, each of the two boundaries has 64, and the two ends have 8.
-const TWO_BARS: &[u8; 230] = b"\
+pub const TWO_BARS: &[u8; 230] = b"\
     \x00\x06\x00\x02\x02\x58\
     \x00\x1C\x01\x02\x00\x00\x00\x00\x00\x00\x00\x00\x00\x00\x00\x00\x00\x00\x00\x00\x00\x00\x00\x00\
     \x00\x00\x00\x00\
