@@ -152,7 +152,14 @@ const OFF_METAL: &[u8] = b"version=1\nradii=[3]\nweights=[1]\nmetal=[{name=\"m\"
 /// Whether a terminal beside its metal is told.
 fn terminal_is_told(rt: &(impl Threads + Sync), alloc: Global) -> bool {
     match read_map(alloc, OFF_METAL) {
-        Ok(map) => each_of_tiles_answers(rt, alloc, &map, TWO_BARS, None, Want::Fault("net", 50, 1)),
+        Ok(map) => each_of_tiles_answers(
+            rt,
+            alloc,
+            &map,
+            TWO_BARS,
+            None,
+            Want::Fault("net", 50, 1),
+        ),
         Err(_) => false,
     }
 }

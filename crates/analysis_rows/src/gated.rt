@@ -11,7 +11,17 @@ use std::thread::Threads;
 
 /// What asks for the areas of layer 1 and datatype 0 at the radius 3. The window is 30 by 16 cells, which are two tiles.
 const WORDS: [&str; 11] = [
-    "a", "--layer", "1", "--datatype", "0", "--radius", "3", "--tile", "16", "--workers", "2",
+    "a",
+    "--layer",
+    "1",
+    "--datatype",
+    "0",
+    "--radius",
+    "3",
+    "--tile",
+    "16",
+    "--workers",
+    "2",
 ];
 
 const REPORT: &str = "\
@@ -37,7 +47,16 @@ fn is_right(rt: &(impl Threads + Sync), alloc: Global) -> Result<bool, NoMemory>
     gauges.push(Box::new(alloc, Nonzero::new(alloc))?)?;
     let gate = HoldFirst::new(2);
     let words = words.as_slice();
-    let status = run(rt, alloc, words, &mut files, &mut out, &mut err, &mut gauges, &gate);
+    let status = run(
+        rt,
+        alloc,
+        words,
+        &mut files,
+        &mut out,
+        &mut err,
+        &mut gauges,
+        &gate,
+    );
     let printed = out.written.as_slice() == REPORT.as_bytes() && err.written.is_empty();
     Ok(gate.is_content() && status == 0 && printed)
 }

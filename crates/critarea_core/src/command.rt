@@ -134,9 +134,21 @@ fn rows_of_request<F: Files, G: Gate + Sync>(
     let workers = request.workers;
     match &request.task {
         Task::OneMetal { layout, .. } | Task::Mapped { layout, .. } => {
-            rows_of_file(rt, alloc, &map, top, files, layout.as_slice(), edge, workers, gate)
+            rows_of_file(
+                rt,
+                alloc,
+                &map,
+                top,
+                files,
+                layout.as_slice(),
+                edge,
+                workers,
+                gate,
+            )
         }
-        Task::Generated { columns } => rows_of_generated(rt, alloc, &map, *columns, edge, workers, gate),
+        Task::Generated { columns } => rows_of_generated(
+            rt, alloc, &map, *columns, edge, workers, gate,
+        ),
     }
 }
 
