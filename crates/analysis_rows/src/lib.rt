@@ -7,3 +7,7 @@
 mod analysed;
 #[cfg(test)]
 mod gated;
+#[cfg(test)]
+mod generated;
+#[cfg(test)]
+mod runs;

@@ -1,6 +1,6 @@
 -- the verdict, stage by stage: each has one outcome at most, and none can lack one
-use Rattle.std.proofs.Common.{ℕ, ◌≡◌, ◌<◌, ◌≤◌, List, length, refl, sym, ap, subst, ◌∙◌, arith, Option}
-use Rattle.lists.proofs.Words.{ints}
+use Rattle.std.proofs.Common.{ℕ, ◌≡◌, ◌<◌, ◌≤◌, List, length, refl, sym, ap, subst, ◌∙◌, arith, Option, Vec}
+use Rattle.lists.proofs.Words.{ints, Global}
 use Rattle.first_refusal.specs.Outcomes.{Outcome, value, refused, Reads, reads, lacks, Retold, Then, stops, goes_on}
 use Rattle.first_refusal.specs.Laws.{IsUnique, CannotLack}
 use Rattle.first_refusal.proofs.StageLaws.{readings_agree, reading_cannot_lack, retold_agree, retold_cannot_lack, stages_agree, stages_cannot_lack}
@@ -18,11 +18,14 @@ use Rattle.gauges.specs.GaugeViews.{GaugeView}
 use Rattle.layout_gen.specs.Generated.{generated_map}
 use Rattle.layout_gen.proofs.GeneratedLaws.{generated_reads}
 use Rattle.critical_areas.proofs.UniqueLaws.{rows_agree}
+use Rattle.questions.specs.declared.row.Row.{Row}
+use Rattle.critarea_core.specs.Analysis.{AnalysisComesTo, has_rows, has_fault}
 use Rattle.critarea_core.specs.Coverage.{IsCoveredOn}
 use Rattle.critarea_core.specs.inside.Finding.{HasFittingNumbers}
 use Rattle.critarea_core.specs.Refusals.{usage, map_limit, map_too_long, of_map_fault, layout_limit, layout_too_long, of_layout_fault}
 use Rattle.critarea_core.specs.Layout.{Subject, ShapesComeTo, ShortLayoutComesTo, TerminalsComeTo}
 use Rattle.critarea_core.specs.Verdict.{AreRowsOn, whole_report, IsShortEnough, IsReportOn, ShortMapComesTo, MapTextComesTo, MapComesTo, WordsComeTo, LayoutComesTo, IsVerdict}
+use Rattle.critarea_core.specs.declared.layout_fault.LayoutFault.{LayoutFault}
 use Rattle.critarea_core.specs.declared.layout_fault.LayoutFault.TheVariants.{Syntax}
 use Rattle.critarea_core.specs.declared.refusal.Refusal.{Refusal}
 use Rattle.library_grammar.specs.FirstFault.{BytesComeTo}
@@ -146,6 +149,32 @@ pub reports_agree : (subject : Subject) (gauges : List GaugeView) → IsUnique (
 reports_agree subject gauges text other a b =
     let rows = rows_on_agree subject a.rows b.rows a.are_rows b.are_rows in
     a.is_text ∙ ap (λ rows. whole_report rows gauges) rows ∙ sym b.is_text
+
+-- so have words that ask for the same task
+pub same_task_same_report : (words other : List (List ℕ)) (one same : Request) → Ask words one → Ask other same → one.task ≡ same.task
+    → (contents : Contents) (subject also : Subject) (gauges : List GaugeView) (text second : List ℕ) → IsVerdict words contents (value subject) → IsReportOn subject gauges text
+    → IsVerdict other contents (value also) → IsReportOn also gauges second → text ≡ second
+same_task_same_report words other one same asks too alike contents subject also gauges text second verdict report verdict_too report_too =
+    let moved = same_task_same_verdict words other one same asks too alike contents (value subject) verdict in
+    let subjects : subject ≡ also = cc (verdicts_agree other contents (value subject) (value also) moved verdict_too) in
+    reports_agree also gauges text second (subst (λ s. IsReportOn s gauges text) subjects report) report_too
+
+-- ---- what is found in the bytes of a layout
+
+module _ (layer_map : LayerMap) (wanted : Option (List ℕ)) (bytes : List ℕ) where
+  abbrev Comes : Outcome (Vec Row Global) LayoutFault → Type 0
+  Comes = AnalysisComesTo layer_map wanted bytes
+
+  pub analysed_rows_agree : (rows others : Vec Row Global) → Comes (value rows) → Comes (value others) → rows.items ≡ others.items
+  analysed_rows_agree rows others (has_rows {subject = s} comes are) (has_rows {subject = t} also these) =
+      let subjects : s ≡ t = cc (short_layouts_agree layer_map wanted bytes (value s) (value t) comes also) in
+      rows_on_agree t rows.items others.items (subst (λ u. AreRowsOn u rows.items) subjects are) these
+
+  pub analysed_faults_agree : (fault other : LayoutFault) → Comes (refused fault) → Comes (refused other) → fault ≡ other
+  analysed_faults_agree fault other (has_fault comes) (has_fault also) = cc (short_layouts_agree layer_map wanted bytes (refused fault) (refused other) comes also)
+
+  pub rows_or_fault : (rows : Vec Row Global) (fault : LayoutFault) → Comes (value rows) → Comes (refused fault) → ⊥
+  rows_or_fault rows fault (has_rows {subject = s} comes are) (has_fault also) = cc (short_layouts_agree layer_map wanted bytes (value s) (refused fault) comes also)
 
 -- the radius that words ask for is one
 pub fitting_numbers : (words : List (List ℕ)) (request : Request) → Ask words request → HasFittingNumbers request.task

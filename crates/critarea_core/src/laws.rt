@@ -1,17 +1,21 @@
 //! Facts about the definitions, each the contract of a function that does nothing else.
 
-ghost use Rattle.std.specs.Prelude.{ℕ, ◌≡◌, List, Option};
+ghost use Rattle.std.specs.Prelude.{ℕ, ◌≡◌, List, Option, Vec};
 ghost use Rattle.first_refusal.specs.Laws.{IsUnique, CannotLack};
-ghost use Rattle.first_refusal.specs.Outcomes.{Outcome, value};
+ghost use Rattle.first_refusal.specs.Outcomes.{Outcome, refused, value};
+ghost use Rattle.critarea_core.specs.Analysis.{AnalysisComesTo};
 ghost use Rattle.critarea_core.specs.Contents.{Contents, file, layout_source};
 ghost use Rattle.command_line.specs.Requests.{Ask};
 ghost use Rattle.command_line.specs.declared.request.Request.{Request};
 ghost use Rattle.gauges.specs.GaugeViews.{GaugeView};
 ghost use Rattle.lists.specs.ByteLists.{AreBytes};
+ghost use Rattle.lists.specs.Words.{Global};
 ghost use Rattle.critarea_core.specs.Layout.{Subject};
 ghost use Rattle.critarea_core.specs.Verdict.{AreRowsOn, IsReportOn, IsVerdict, LayoutComesTo, MapComesTo};
+ghost use Rattle.critarea_core.specs.declared.layout_fault.LayoutFault.{LayoutFault};
 ghost use Rattle.critarea_core.specs.declared.refusal.Refusal.{Refusal};
 ghost use Rattle.map_model.specs.LayerMap.{LayerMap};
+ghost use Rattle.questions.specs.declared.row.Row.{Row};
 
 /// A layer map, a top that is wanted or not, and the bytes of a layout come to one subject, or to one refusal, at most.
 pub fn layouts_agree()
@@ -37,6 +41,27 @@ pub fn contents_have_verdicts()
 pub fn tiles_and_workers_change_no_verdict()
     ensures { (words other : List (List ℕ)) (one same : Request) → Ask words one → Ask other same → one.task ≡ same.task →
         (contents : Contents) (outcome : Outcome Subject Refusal) → IsVerdict words contents outcome → IsVerdict other contents outcome }
+{}
+
+/// Words that ask for the same task have the same report where the same gauges are told of it, byte for byte.
+pub fn tiles_and_workers_change_no_byte()
+    ensures { (words other : List (List ℕ)) (one same : Request) → Ask words one → Ask other same → one.task ≡ same.task →
+        (contents : Contents) (subject also : Subject) (gauges : List GaugeView) (text second : List ℕ) →
+        IsVerdict words contents (value subject) → IsReportOn subject gauges text →
+        IsVerdict other contents (value also) → IsReportOn also gauges second → text ≡ second }
+{}
+
+/// A layer map, a top that is wanted or not, and the bytes of a layout come to one list of rows, or to one fault, and never to
+/// both.
+pub fn analyses_agree()
+    ensures rows { (layer_map : LayerMap) (wanted : Option (List ℕ)) (bytes : List ℕ) (rows others : Vec Row Global) →
+        AnalysisComesTo layer_map wanted bytes (value rows) → AnalysisComesTo layer_map wanted bytes (value others) →
+        rows.items ≡ others.items }
+    ensures fault { (layer_map : LayerMap) (wanted : Option (List ℕ)) (bytes : List ℕ) (fault other : LayoutFault) →
+        AnalysisComesTo layer_map wanted bytes (refused fault) → AnalysisComesTo layer_map wanted bytes (refused other) →
+        fault ≡ other }
+    ensures apart { (layer_map : LayerMap) (wanted : Option (List ℕ)) (bytes : List ℕ) (rows : Vec Row Global) (fault : LayoutFault) →
+        AnalysisComesTo layer_map wanted bytes (value rows) → AnalysisComesTo layer_map wanted bytes (refused fault) → ⊥ }
 {}
 
 /// The rows on a subject are one list at most.

@@ -36,7 +36,7 @@ covered_is_hit box r c covered =
 
 module _ (tile : Rect) (r : ℕ) (is : IsRadius r) (c : Cell) (inside : Has tile c) where
   hit_near : (rect : Rect) → IsHit c (r + r) rect → IsNearTile tile r rect
-  hit_near rect hit = let least = is.least in hit_is_near tile rect r (r + r) c inside (omega arith) (omega arith) hit
+  hit_near rect hit = hit_is_near tile rect r (r + r) c inside (omega arith) hit
 
   -- what is near a tile tells what defects touch at its cells
   pub near_touches : (pieces near : List Labelled) → AreNear (λ (piece : Labelled). piece.rect) tile r pieces near → TouchesTwoLabels near r c ↔ TouchesTwoLabels pieces r c

@@ -1,6 +1,6 @@
 -- pieces labelled by nets, and where a defect touches two of them
 use Rattle.std.proofs.Common.{ℕ, ◌+◌, ◌/◌, ◌<◌, ◌≤◌, ◌≡◌, refl, sym, ap, ◌∙◌, subst, List, [], length, arith, ◌↔◌, ◌≤ℤ◌, pos, slice_index_or}
-use Rattle.geo_core.specs.Plane.{IsRadius, IsCoveredIn}
+use Rattle.geo_core.specs.Plane.{Has, IsRadius, IsCoveredIn}
 use Rattle.geo_core.specs.declared.bounds.TheConstants.{GREATEST_REACH}
 use Rattle.geo_core.specs.declared.plane.Cell.{Cell}
 use Rattle.geo_core.specs.declared.plane.Half.{Half}
@@ -13,47 +13,70 @@ use Rattle.map_model.specs.declared.measure.Measure.{Measure}
 use Rattle.map_model.specs.declared.measure.Measure.TheVariants.{Radius}
 use Rattle.net_extract.specs.Cuts.{cuts_of}
 use Rattle.short_area.specs.Labels.{TouchesLabel, TouchesTwoLabels}
+use Rattle.tile_plan.specs.Near.{HasExactlyNear, HitsLabel, HitsTwoLabels}
+use Rattle.tile_plan.proofs.NearLaws.{same_two_labels}
 use Rattle.critical_areas.specs.AreaParts.{IsInPieces, ArePartsOf, ArePiecesOf}
 use Rattle.critical_areas.specs.declared.parts.Parts.{Parts}
 
-module _ (covers : ℕ → Cell → Type 0) (cuts : List Cut) (m : ℕ) (pieces : List Labelled) (are : ArePiecesOf covers cuts m pieces) (r : ℕ) (c : Cell) where
-  on_metal : (label : ℕ) → (t : TouchesLabel pieces r c label) → IsOn (covers m) t.half
-  on_metal label t = (t.on.0, t.on.1, (are.cover t.on.0).0 (record { piece = t.piece; among = t.among; has = t.on.2 }))
+module _ (covers : ℕ → Cell → Type 0) (cuts : List Cut) (m : ℕ) (pieces : List Labelled) (are : ArePiecesOf covers cuts m pieces) where
+  module _ (s : ℕ) (c : Cell) where
+    on_metal : (label : ℕ) → (t : HitsLabel pieces s c label) → IsOn (covers m) t.hit.0
+    on_metal label t = let on = t.hit.1 in (on.0, on.1, (are.cover on.0).0 (record { piece = t.piece; among = t.among; has = on.2 }))
 
-  in_piece : (h : Half) → (on : IsOn (covers m) h) → IsInPieces pieces on.0
-  in_piece h on = (are.cover on.0).1 on.2
+    in_piece : (h : Half) → (on : IsOn (covers m) h) → IsInPieces pieces on.0
+    in_piece h on = (are.cover on.0).1 on.2
 
-  touched : (h : Half) → (on : IsOn (covers m) h) → IsInFootprint c (r + r) h → TouchesLabel pieces r c (in_piece h on).piece.label
-  touched h on hit =
-      let v = in_piece h on in
-      record { piece = v.piece; among = v.among; labelled = refl; half = h; on = (on.0, on.1, v.has); hit = hit }
+    hits : (h : Half) → (on : IsOn (covers m) h) → IsInFootprint c s h → HitsLabel pieces s c (in_piece h on).piece.label
+    hits h on hit = let v = in_piece h on in record { piece = v.piece; among = v.among; labelled = refl; hit = (h, (on.0, on.1, v.has), hit) }
 
-  -- a defect touches pieces of two labels exactly where it makes a short of the metal
-  pub short_is : TouchesTwoLabels pieces r c ↔ IsShort covers cuts m (r + r) c
-  short_is = (
-    λ t. record {
-      one = t.touches_one.half;
-      other = t.touches_other.half;
-      one_on = on_metal t.one t.touches_one;
-      other_on = on_metal t.other t.touches_other;
-      one_hit = t.touches_one.hit;
-      other_hit = t.touches_other.hit;
-      apart = λ net.
-          let a = t.touches_one in
-          let b = t.touches_other in
-          t.different (sym a.labelled ∙ (are.nets a.piece b.piece a.half b.half a.among b.among a.on b.on).1 net ∙ b.labelled);
-    },
-    λ s.
-        let v = in_piece s.one s.one_on in
-        let w = in_piece s.other s.other_on in
-        record {
-          one = v.piece.label;
-          other = w.piece.label;
-          touches_one = touched s.one s.one_on s.one_hit;
-          touches_other = touched s.other s.other_on s.other_hit;
-          different = λ same. s.apart ((are.nets v.piece w.piece s.one s.other v.among w.among (s.one_on.0, s.one_on.1, v.has) (s.other_on.0, s.other_on.1, w.has)).0 same);
-        },
-  )
+    -- a defect touches pieces of two labels exactly where it makes a short of the metal
+    pub short_is : HitsTwoLabels pieces s c ↔ IsShort covers cuts m s c
+    short_is = (
+      λ t. record {
+        one = t.hits_one.hit.0;
+        other = t.hits_other.hit.0;
+        one_on = on_metal t.one t.hits_one;
+        other_on = on_metal t.other t.hits_other;
+        one_hit = t.hits_one.hit.2;
+        other_hit = t.hits_other.hit.2;
+        apart = λ net.
+            let a = t.hits_one in
+            let b = t.hits_other in
+            t.different (sym a.labelled ∙ (are.nets a.piece b.piece a.hit.0 b.hit.0 a.among b.among a.hit.1 b.hit.1).1 net ∙ b.labelled);
+      },
+      λ short.
+          let v = in_piece short.one short.one_on in
+          let w = in_piece short.other short.other_on in
+          let on_v = (short.one_on.0, short.one_on.1, v.has) in
+          let on_w = (short.other_on.0, short.other_on.1, w.has) in
+          record {
+            one = v.piece.label;
+            other = w.piece.label;
+            hits_one = hits short.one short.one_on short.one_hit;
+            hits_other = hits short.other short.other_on short.other_hit;
+            different = λ same. short.apart ((are.nets v.piece w.piece short.one short.other v.among w.among on_v on_w).0 same);
+          },
+    )
+
+    -- and so do the pieces near a tile, at its cells
+    pub near_short_is : (near : List Labelled) (tile : Rect) (reach : ℕ) → HasExactlyNear (λ (piece : Labelled). piece.rect) tile reach pieces near → Has tile c → s / 2 ≤ reach
+        → HitsTwoLabels near s c ↔ IsShort covers cuts m s c
+    near_short_is near tile reach exact has far =
+        let same = same_two_labels pieces near tile reach s c exact has far in
+        (λ t. short_is.0 (same.0 t), λ short. same.1 (short_is.1 short))
+
+  -- a defect of a radius has the side that is twice the radius
+  touched_is : (r : ℕ) (c : Cell) → TouchesTwoLabels pieces r c ↔ IsShort covers cuts m (r + r) c
+  touched_is r c =
+      let is = short_is (r + r) c in
+      let hit = λ (label : ℕ) (t : TouchesLabel pieces r c label).
+          let h : HitsLabel pieces (r + r) c label = record { piece = t.piece; among = t.among; labelled = t.labelled; hit = (t.half, t.on, t.hit) } in h in
+      let touched = λ (label : ℕ) (h : HitsLabel pieces (r + r) c label).
+          let t : TouchesLabel pieces r c label = record { piece = h.piece; among = h.among; labelled = h.labelled; half = h.hit.0; on = h.hit.1; hit = h.hit.2 } in t in
+      (
+        λ t. is.0 (record { one = t.one; other = t.other; hits_one = hit t.one t.touches_one; hits_other = hit t.other t.touches_other; different = t.different }),
+        λ short. let h = is.1 short in record { one = h.one; other = h.other; touches_one = touched h.one h.hits_one; touches_other = touched h.other h.hits_other; different = h.different },
+      )
 
 -- the side of a radius is even
 pub even : (measure : Measure) → side_of measure / 2 + side_of measure / 2 ≡ side_of measure
@@ -70,4 +93,4 @@ shorts_are layer_map lists parts metal radius measure pieces cells n are small r
     let covers = IsCoveredIn lists in
     let cuts = cuts_of layer_map in
     let pieces_are = subst (ArePiecesOf covers cuts metal) (sym read) (are.pieces metal (omega (arith, are.one_each))) in
-    subst (λ s. Tally (IsShort covers cuts metal s) cells n) (ap (λ r. r + r) reach ∙ even measure) (Tally-same_all cells n (short_is covers cuts metal pieces pieces_are radius) counted)
+    subst (λ s. Tally (IsShort covers cuts metal s) cells n) (ap (λ r. r + r) reach ∙ even measure) (Tally-same_all cells n (touched_is covers cuts metal pieces pieces_are radius) counted)

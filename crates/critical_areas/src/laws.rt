@@ -1,12 +1,30 @@
 //! Facts about the definitions, each the contract of a function that does nothing else.
 
-ghost use Rattle.first_refusal.specs.Laws.{IsUnique};
+ghost use Rattle.std.specs.Prelude.{ℕ, List, ◌/◌, ◌≤◌, ◌↔◌};
+ghost use Rattle.critical_areas.specs.AreaParts.{ArePiecesOf};
 ghost use Rattle.critical_areas.specs.Rows.{AreRows};
+ghost use Rattle.fault_model.specs.Faults.{IsShort};
+ghost use Rattle.fault_model.specs.Nets.{Cut};
+ghost use Rattle.first_refusal.specs.Laws.{IsUnique};
+ghost use Rattle.geo_core.specs.Cells.{Has};
+ghost use Rattle.geo_core.specs.declared.plane.Cell.{Cell};
+ghost use Rattle.geo_core.specs.declared.plane.Labelled.{Labelled};
+ghost use Rattle.geo_core.specs.declared.plane.Rect.{Rect};
 ghost use Rattle.map_model.specs.LayerMap.{LayerMap};
+ghost use Rattle.tile_plan.specs.Near.{HasExactlyNear, HitsTwoLabels};
 
 use fault_model::Layout;
 
 /// The questions of a layer map have one list of rows at most, whatever its metals and cuts cover.
 pub fn rows_agree<L: Layout>()
     ensures { (layer_map : LayerMap) → IsUnique (AreRows layer_map L.covers) }
+{}
+
+/// The law of seams. At a cell of a tile a defect makes a short of a metal exactly where it touches two labels of the metal's
+/// pieces that are near the tile. The labels tell the nets apart, and the reach is no less than the defect's: half of its side,
+/// rounded down, which is the radius where there is one.
+pub fn near_pieces_decide_shorts<L: Layout>()
+    ensures { (cuts : List Cut) (metal : ℕ) (pieces near : List Labelled) (tile : Rect) (reach s : ℕ) (c : Cell) →
+        ArePiecesOf L.covers cuts metal pieces → HasExactlyNear (λ piece. piece.rect) tile reach pieces near → Has tile c →
+        s / 2 ≤ reach → HitsTwoLabels near s c ↔ IsShort L.covers cuts metal s c }
 {}

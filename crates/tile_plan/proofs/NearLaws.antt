@@ -116,9 +116,13 @@ half_of : (s : ℕ) → (s / 2 + s / 2 ≤ s) × (s < s / 2 + s / 2 + 2)
 half_of s = (omega arith, omega arith)
 
 -- a rectangle that a defect at a cell of the tile touches is near the tile
-pub hit_is_near : (tile rect : Rect) (reach s : ℕ) (c : Cell) → Has tile c → 1 ≤ s → s / 2 ≤ reach → IsHit c s rect → IsNearTile tile reach rect
-hit_is_near tile rect reach s c has some far hit =
+pub hit_is_near : (tile rect : Rect) (reach s : ℕ) (c : Cell) → Has tile c → s / 2 ≤ reach → IsHit c s rect → IsNearTile tile reach rect
+hit_is_near tile rect reach s c has far hit =
     let half = half_of s in
+    -- a defect that has a half square has a side
+    let from = hit.2.0.from in
+    let before = hit.2.0.before in
+    let some : 1 ≤ s = omega (arith, ints) in
     let near = (footprint_near rect s (s / 2) some half.0 half.1 c).1 hit in
     (c, has, (near.0, near.1, (omega (arith, ints), omega (arith, ints))))
 
@@ -127,11 +131,11 @@ pub met_is_near : (tile rect : Rect) (reach : ℕ) (c : Cell) → Has tile c →
 met_is_near tile rect reach c has also = (c, has, (c, also, ((omega (arith, ints), omega (arith, ints)), (omega (arith, ints), omega (arith, ints)))))
 
 module _ (pieces near : List Labelled) (tile : Rect) (reach s : ℕ) (c : Cell) (exact : HasExactlyNear (λ (piece : Labelled). piece.rect) tile reach pieces near) (has : Has tile c)
-    (some : 1 ≤ s) (far : s / 2 ≤ reach) where
+    (far : s / 2 ≤ reach) where
   pub same_label : (label : ℕ) → HitsLabel near s c label ↔ HitsLabel pieces s c label
   same_label label = (
     λ h. record { piece = h.piece; among = ((exact.same h.piece).0 h.among).0; labelled = h.labelled; hit = h.hit },
-    λ h. record { piece = h.piece; among = (exact.same h.piece).1 (h.among, hit_is_near tile h.piece.rect reach s c has some far h.hit); labelled = h.labelled; hit = h.hit },
+    λ h. record { piece = h.piece; among = (exact.same h.piece).1 (h.among, hit_is_near tile h.piece.rect reach s c has far h.hit); labelled = h.labelled; hit = h.hit },
   )
 
   pub same_two_labels : HitsTwoLabels near s c ↔ HitsTwoLabels pieces s c

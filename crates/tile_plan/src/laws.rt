@@ -43,7 +43,7 @@ pub fn tallies_of_tiles_add<P: Property>()
 /// defect's: half of its side, rounded down, which is the radius where there is one. It is near, too, where it has a cell of the
 /// tile.
 pub fn what_is_hit_is_near()
-    ensures hit { (tile rect : Rect) (reach s : ℕ) (c : Cell) → Has tile c → 1 ≤ s → s / 2 ≤ reach →
+    ensures hit { (tile rect : Rect) (reach s : ℕ) (c : Cell) → Has tile c → s / 2 ≤ reach →
         IsHit c s rect → IsNearTile tile reach rect }
     ensures met { (tile rect : Rect) (reach : ℕ) (c : Cell) → Has tile c → Has rect c → IsNearTile tile reach rect }
 {}
@@ -60,10 +60,10 @@ pub fn near_things_are_listed<T: Rectangular>()
 /// exactly those that are near the tile, in any order.
 pub fn near_pieces_decide_labels()
     ensures labels { (pieces near : List Labelled) (tile : Rect) (reach s : ℕ) (c : Cell) →
-        HasExactlyNear (λ piece. piece.rect) tile reach pieces near → Has tile c → 1 ≤ s → s / 2 ≤ reach →
+        HasExactlyNear (λ piece. piece.rect) tile reach pieces near → Has tile c → s / 2 ≤ reach →
         (label : ℕ) → HitsLabel near s c label ↔ HitsLabel pieces s c label }
     ensures two_labels { (pieces near : List Labelled) (tile : Rect) (reach s : ℕ) (c : Cell) →
-        HasExactlyNear (λ piece. piece.rect) tile reach pieces near → Has tile c → 1 ≤ s → s / 2 ≤ reach →
+        HasExactlyNear (λ piece. piece.rect) tile reach pieces near → Has tile c → s / 2 ≤ reach →
         HitsTwoLabels near s c ↔ HitsTwoLabels pieces s c }
 {}
 
