@@ -21,7 +21,7 @@ use Rattle.critical_areas.specs.declared.shared.Shared.{Shared}
 -- ---- lists side by side
 
 -- lists are side by side where their items are, number by number
-zipped_by : {X : Type 0} (R : X → ℕ → Type 0) (xs : List X) (ns : List ℕ) → length ns ≡ length xs → ((i : ℕ) (x : X) → slice_get xs i ≡ Some x → R x (get_or ns i 0)) → AllZip R xs ns
+pub zipped_by : {X : Type 0} (R : X → ℕ → Type 0) (xs : List X) (ns : List ℕ) → length ns ≡ length xs → ((i : ℕ) (x : X) → slice_get xs i ≡ Some x → R x (get_or ns i 0)) → AllZip R xs ns
 zipped_by R [] [] long each = tt
 zipped_by R [] (n ∷ ns) long each = absurd (omega arith)
 zipped_by R (x ∷ xs) [] long each = absurd (omega arith)

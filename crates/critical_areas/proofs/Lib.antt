@@ -10,3 +10,4 @@ pub mod OpenLaws
 pub mod NearLaws
 pub mod SharingLaws
 pub mod CountingLaws
+pub mod WholeLaws

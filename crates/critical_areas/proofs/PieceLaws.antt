@@ -47,8 +47,8 @@ module _ (covers : ℕ → Cell → Type 0) (cuts : List Cut) (m : ℕ) (pieces 
       λ short.
           let v = in_piece short.one short.one_on in
           let w = in_piece short.other short.other_on in
-          let on_v = (short.one_on.0, short.one_on.1, v.has) in
-          let on_w = (short.other_on.0, short.other_on.1, w.has) in
+          let on_v : IsOn (Has v.piece.rect) short.one = (short.one_on.0, short.one_on.1, v.has) in
+          let on_w : IsOn (Has w.piece.rect) short.other = (short.other_on.0, short.other_on.1, w.has) in
           record {
             one = v.piece.label;
             other = w.piece.label;
@@ -70,10 +70,9 @@ module _ (covers : ℕ → Cell → Type 0) (cuts : List Cut) (m : ℕ) (pieces 
   touched_is r c =
       let is = short_is (r + r) c in
       let hit = λ (label : ℕ) (t : TouchesLabel pieces r c label).
-          let h : HitsLabel pieces (r + r) c label = record { piece = t.piece; among = t.among; labelled = t.labelled; hit = (t.half, t.on, t.hit) } in h in
+      let h : HitsLabel pieces (r + r) c label = record { piece = t.piece; among = t.among; labelled = t.labelled; hit = (t.half, t.on, t.hit) } in h in
       let touched = λ (label : ℕ) (h : HitsLabel pieces (r + r) c label).
-          let t : TouchesLabel pieces r c label = record { piece = h.piece; among = h.among; labelled = h.labelled; half = h.hit.0; on = h.hit.1; hit = h.hit.2 } in t in
-      (
+      let t : TouchesLabel pieces r c label = record { piece = h.piece; among = h.among; labelled = h.labelled; half = h.hit.0; on = h.hit.1; hit = h.hit.2 } in t in (
         λ t. is.0 (record { one = t.one; other = t.other; hits_one = hit t.one t.touches_one; hits_other = hit t.other t.touches_other; different = t.different }),
         λ short. let h = is.1 short in record { one = h.one; other = h.other; touches_one = touched h.one h.hits_one; touches_other = touched h.other h.hits_other; different = h.different },
       )

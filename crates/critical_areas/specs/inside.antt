@@ -1,3 +1,4 @@
 pub mod LayoutBounds
 pub mod LayerParts
 pub mod Sharing
+pub mod Whole

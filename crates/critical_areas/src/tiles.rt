@@ -17,6 +17,7 @@ use super::counting::amounts;
 use super::parts::Parts;
 use super::shared::{Asked, Shared};
 use super::sharing::share;
+use super::whole::amounts_of_whole;
 use geo_core::{Labelled, Rect};
 use lists::NoMemory;
 use map_model::Measure;
@@ -56,8 +57,7 @@ pub fn tiled_amounts<G: Gate + Sync>(
     };
     let plan = plan(whole, edge);
     if plan.count() == 1 {
-        gate.pass(0);
-        return amounts(alloc, parts, window);
+        return amounts_of_whole(rt, alloc, parts, whole, gate);
     }
     amounts_by_tiles(rt, alloc, parts, &plan, workers, gate)
 }
