@@ -222,8 +222,8 @@ fn request_given(alloc: Global, arguments: &Arguments<'_>) -> Result<Request, Wo
 /// What the words of a command ask for. `Usage` comes exactly where they ask for nothing.
 ///
 /// Options come in any order, as `--name value` or as `--name=value`, each once at most, and with them one name of a
-/// layout's file, but for a generated layout. After a lone `--` each word is such a name. A value in a word of its own, and a name before the `--`,
-/// may begin with a dash only where it is the dash alone. A number is 1 to 10 decimal digits.
+/// layout's file, but for a generated layout. After a lone `--` each word is such a name. A value in a word of its own, and a
+/// name before the `--`, may begin with a dash only where it is the dash alone. A number is 1 to 10 decimal digits.
 ///
 /// | form | options that it must have | options that it may have |
 /// |---|---|---|
@@ -231,8 +231,9 @@ fn request_given(alloc: Global, arguments: &Arguments<'_>) -> Result<Request, Wo
 /// | layer map | `map` | `top`, `tile`, `workers` |
 /// | generated | `generate`, and no layout | `tile`, `workers` |
 ///
-/// No value is empty. `top` is the name of a structure. `layer` and `datatype` are at most 65,535, and `radius` is from 1 to 1,000,000. `tile` is from 1 to 1,000,000,000,
-/// or 65,536 where it is left out, and `workers` from 1 to 64, or 4. `generate` is from 1 to 500.
+/// No value is empty. `top` is the name of a structure. `layer` and `datatype` are at most 65,535, and `radius` is from 1 to
+/// 1,000,000. `tile` is from 1 to 1,000,000,000, or 65,536 where it is left out, and `workers` from 1 to 64, or 4. `generate` is
+/// from 1 to 500.
 pub fn read_words(alloc: Global, words: &[Word]) -> Result<Request, WordsFault>
     ensures request { IfOk result (Ask words.now) }
     ensures usage { result ≡ Err WordsFault.Usage → (request : Request) → Ask words.now request → ⊥ }

@@ -182,7 +182,8 @@ fn find<F: Files, G: Gate + Sync>(
 ///
 /// `files` gives the map and the layout, `out` gets the report, and `err` the line of a refusal. The gauges are told the rows
 /// of the report, and print at its end, in their order, for all rows that they have seen. A run drops none of them, and a run
-/// that is refused tells them nothing. Each tile passes the gate before it is counted, and no gate changes what is printed.
+/// that is refused tells them nothing. Each tile passes the gate before its amounts are asked for, and no gate changes what is
+/// printed.
 ///
 /// | why it ended | status | printed to `out` | printed to `err` |
 /// |---|---|---|---|
@@ -195,13 +196,13 @@ fn find<F: Files, G: Gate + Sync>(
 /// | out of memory | 6 | | |
 ///
 /// Where no memory is left once there are rows, as where a gauge finds no memory, each gauge may have been told the first few
-/// of them alone, perhaps none or all. Nothing goes out before the report is complete, so a refused map or layout leaves `out` as it was.
-/// Where what the files tell of the map is refused, the layout's file is not started. A map's refusal has number 39 at 1048576
-/// where the map has more bytes than that, and one of 40 to 47 at a path of its document. A layout's refusal has number 9 at 268435456
-/// where the layout has more bytes than that, one of 10 to 23 at an offset where its bytes are no library, one of 24 to 30
-/// where its shapes are not placed, then one of 30 to 36 at the offset of the first placed shape, in the order of the
-/// routes, that has no cover, and at last 50 at the number of the first terminal of the map, counted from 0, whose cell the
-/// shapes of its metal do not cover.
+/// of them alone, perhaps none or all. Nothing goes out before the report is complete, so a refused map or layout leaves `out`
+/// as it was. Where what the files tell of the map is refused, the layout's file is not started. A map's refusal has number 39
+/// at 1048576 where the map has more bytes than that, and one of 40 to 47 at a path of its document. A layout's refusal has
+/// number 9 at 268435456 where the layout has more bytes than that, one of 10 to 23 at an offset where its bytes are no library,
+/// one of 24 to 30 where its shapes are not placed, then one of 30 to 36 at the offset of the first placed shape, in the order
+/// of the routes, that has no cover, and at last 50 at the number of the first terminal of the map, counted from 0, whose cell
+/// the shapes of its metal do not cover.
 pub fn run<F: Files, O: Sink, E: Sink, G: Gate + Sync>(
     rt: &(impl Threads + Sync),
     alloc: Global,
