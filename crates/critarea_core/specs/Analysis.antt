@@ -9,7 +9,9 @@ use Rattle.critarea_core.specs.Verdict.{AreRowsOn}
 use Rattle.critarea_core.specs.declared.layout_fault.LayoutFault.{LayoutFault}
 
 -- the rows on the subject to which the bytes come, or their first fault
-pub data AnalysisComesTo (layer_map : LayerMap) (wanted : Option (List ℕ)) (bytes : List ℕ) : Outcome (Vec Row Global) LayoutFault → Type 0 where
+pub data AnalysisComesTo (layer_map : LayerMap) (wanted : Option (List ℕ)) (bytes : List ℕ)
+    : Outcome (Vec Row Global) LayoutFault → Type 0 where
   has_rows : {subject : Subject} {rows : Vec Row Global} → ShortLayoutComesTo layer_map wanted bytes (value subject)
       → AreRowsOn subject rows.items → AnalysisComesTo layer_map wanted bytes (value rows)
-  has_fault : {fault : LayoutFault} → ShortLayoutComesTo layer_map wanted bytes (refused fault) → AnalysisComesTo layer_map wanted bytes (refused fault)
+  has_fault : {fault : LayoutFault} → ShortLayoutComesTo layer_map wanted bytes (refused fault)
+      → AnalysisComesTo layer_map wanted bytes (refused fault)

@@ -12,11 +12,11 @@ use Rattle.tile_board.specs.declared.views.View.{View}
 use Rattle.tile_board.specs.declared.views.TheConstants.{MOST_DRAWS}
 use Rattle.tile_board.specs.Counts.{times}
 use Rattle.tile_board.specs.HandFacts.{IsHandView}
-use Rattle.tile_board.specs.Ranges.{AreInRange}
+use Rattle.tile_board.specs.BoardLimits.{AreInRange}
 use Rattle.tile_board.specs.Machine.{BoardState, fresh, view_at, with_draw, with_credit, without_draws, with_all_of, MayCredit}
 use Rattle.tile_board.specs.Running.{state_of}
 use Rattle.tile_board.specs.Sound.{IsSound, CreditsFit}
-use Rattle.tile_board.specs.Steps.{IsDraw, IsCredit}
+use Rattle.tile_board.specs.BoardSteps.{IsDraw, IsCredit}
 use Rattle.tile_board.proofs.StepLaws.{draw_keeps, credit_keeps, split_keeps}
 use Rattle.tile_board.proofs.JoinLaws.{once_at_most, join_keeps}
 use Rattle.tile_board.proofs.BoundLaws.{sum_by-within, total_at_most}

@@ -1,9 +1,9 @@
 pub mod Counts
 pub mod Machine
 pub mod Sound
-pub mod Steps
+pub mod BoardSteps
 pub mod Running
-pub mod Ranges
+pub mod BoardLimits
 pub mod HandFacts
 pub mod Hands
 pub mod Closing

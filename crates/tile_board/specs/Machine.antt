@@ -48,7 +48,12 @@ without_draws draws v = record v { left = v.left - draws }
 -- a view after a join, which takes in all that another hand has
 abbrev pub with_all_of : View → View → View
 with_all_of other v =
-    record { tickets = v.tickets ++ other.tickets; credits = v.credits ++ other.credits; made = v.made + other.made; left = v.left + other.left }
+    record {
+      tickets = v.tickets ++ other.tickets;
+      credits = v.credits ++ other.credits;
+      made = v.made + other.made;
+      left = v.left + other.left;
+    }
 
 -- the hand drew the ticket and has no credit to the slot for it, and slot and amount are within limits
 pub record MayCredit (limits : Limits) (v : View) (c : Credit) : Type 0 where

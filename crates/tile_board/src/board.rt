@@ -5,8 +5,8 @@ ghost use Rattle.tile_board.specs.Closing.{HasAllDraws, AreFinal, AreAtLeast, Ar
 ghost use Rattle.tile_board.specs.Counts.{Drew, times_credited};
 ghost use Rattle.tile_board.specs.HandFacts.{IsHandView};
 ghost use Rattle.tile_board.specs.Machine.{fresh, with_draw, with_credit, without_draws, with_all_of, MayCredit};
-ghost use Rattle.tile_board.specs.Ranges.{AreInRange};
-ghost use Rattle.tile_board.specs.Steps.{IsDraw, IsCredit};
+ghost use Rattle.tile_board.specs.BoardLimits.{AreInRange};
+ghost use Rattle.tile_board.specs.BoardSteps.{IsDraw, IsCredit};
 
 use super::rule::{Crediting, Credits, Cuts, Cutting, Drawing, Draws, Joins, Looks, SoundBoard};
 use super::views::{Credit, Limits, MOST_DRAWS, MOST_SLOTS, View};

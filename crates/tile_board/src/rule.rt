@@ -11,7 +11,7 @@ ghost use Rattle.tile_board.specs.HandFacts.{IsHandView};
 ghost use Rattle.tile_board.specs.Machine.{fresh, with_draw, with_credit, without_draws, with_all_of};
 ghost use Rattle.tile_board.specs.Running.{state_of};
 ghost use Rattle.tile_board.specs.Sound.{IsSound};
-ghost use Rattle.tile_board.specs.Steps.{IsDraw, IsCredit};
+ghost use Rattle.tile_board.specs.BoardSteps.{IsDraw, IsCredit};
 
 use super::views::{Credit, Limits, View};
 use atomic_table::{Join, Play, Split, TableRule};

@@ -22,7 +22,8 @@ use Rattle.critical_areas.specs.declared.shared.Shared.{Shared}
 -- the rectangles have exactly the cells of the window at which the defect of the question parts two anchors of an island of its metal
 abbrev pub AreOpensIn : Parts → Rect → Question → List Rect → Type 0
 AreOpensIn parts window question rects =
-    (c : Cell) → IsInUnion rects c ↔ (Has window c × IsSomeOpen (slice_index_or parts.islands question.number []) (side_of question.measure) c)
+    (c : Cell) → IsInUnion rects c
+        ↔ (Has window c × IsSomeOpen (slice_index_or parts.islands question.number []) (side_of question.measure) c)
 
 -- a question on opens has them
 abbrev pub HasItsOpens : Parts → Rect → Asked → Type 0
@@ -37,10 +38,12 @@ pub record IsShareOf (parts : Parts) (window : Rect) (shared : Shared) : Type 0 
 
 -- what is counted for a question of this kind
 abbrev pub IsCountedAs : Kind → Shared → Asked → Cell → Type 0
-IsCountedAs Short shared asked = TouchesTwoLabels (slice_index_or shared.metals.items asked.question.number []) (side_of asked.question.measure / 2)
+IsCountedAs Short shared asked =
+    TouchesTwoLabels (slice_index_or shared.metals.items asked.question.number []) (side_of asked.question.measure / 2)
 IsCountedAs Open shared asked = IsInUnion asked.opens
 IsCountedAs Via shared asked =
-    CoversSomeBox (slice_index_or shared.cuts.items (asked.question.number - length shared.metals.items) []) (side_of asked.question.measure / 2)
+    CoversSomeBox (slice_index_or shared.cuts.items (asked.question.number - length shared.metals.items) [])
+        (side_of asked.question.measure / 2)
 
 -- what is counted for the question
 abbrev pub IsCounted : Shared → Asked → Cell → Type 0

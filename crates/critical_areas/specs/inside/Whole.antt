@@ -12,5 +12,6 @@ use Rattle.critical_areas.specs.declared.parts.Parts.{Parts}
 -- the number is how many cells of the window have the fault of the question of this slot, whatever the parts are those of
 pub record IsAmountOfWhole (parts : Parts) (window : Rect) (slot n : ℕ) : Type 0 where
   pub amount : (layer_map : LayerMap) (lists : List (List Rect)) → ArePartsOf layer_map lists parts
-      → (question : Question) → slice_get parts.questions slot ≡ Some question → IsAmount layer_map (IsCoveredIn lists) (cells_of window) question n
+      → (question : Question) → slice_get parts.questions slot ≡ Some question
+      → IsAmount layer_map (IsCoveredIn lists) (cells_of window) question n
   pub small : n < 2 ^ 63

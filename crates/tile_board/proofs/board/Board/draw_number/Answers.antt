@@ -1,7 +1,7 @@
 use Rattle.std.proofs.Common.{refl, subst, arith, ◌∙◌}
 use Rattle.atomic_table.specs.Table.{keeps}
 use Rattle.tile_board.specs.Machine.{with_draw}
-use Rattle.tile_board.specs.Ranges.{AreInRange}
+use Rattle.tile_board.specs.BoardLimits.{AreInRange}
 use Rattle.tile_board.proofs.RunningLaws.{draw_picked}
 use Rattle.tile_board.proofs.board.Board.draw_number.Goals as goal
 

@@ -1,6 +1,6 @@
 use Rattle.std.proofs.Common.{refl, subst, arith, ◌∙◌}
 use Rattle.atomic_table.specs.Table.{keeps}
-use Rattle.tile_board.specs.Ranges.{AreInRange}
+use Rattle.tile_board.specs.BoardLimits.{AreInRange}
 use Rattle.tile_board.proofs.RunningLaws.{running_join, running_look}
 use Rattle.tile_board.proofs.board.Board.merge.Goals as goal
 
