@@ -128,7 +128,8 @@ module _ (layer_map : LayerMap) (wanted : Option (List ℕ)) (layout : List ℕ)
   pub refused_length : layout_limit < length layout → LayoutComesTo layer_map wanted layout (refused layout_too_long)
   refused_length long = stops (lacks (λ text t. let s = t.short in absurd (omega arith)))
 
-  pub short_layout : (outcome : Outcome Subject Refusal) → length layout ≤ layout_limit → Retold of_layout_fault (ShortLayoutComesTo layer_map wanted layout) outcome → LayoutComesTo layer_map wanted layout outcome
+  pub short_layout : (outcome : Outcome Subject Refusal) → length layout ≤ layout_limit → Retold of_layout_fault (ShortLayoutComesTo layer_map wanted layout) outcome
+      → LayoutComesTo layer_map wanted layout outcome
   short_layout outcome short comes = goes_on {v = layout} (reads (record { is_text = refl; short = short })) comes
 
 -- the text of a map: too long, or what it comes to where it is not

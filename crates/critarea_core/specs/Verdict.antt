@@ -46,7 +46,7 @@ WordsComeTo words = Reads (Ask words) usage
 abbrev pub LayoutComesTo : LayerMap → Option (List ℕ) → List ℕ → Outcome Subject Refusal → Type 0
 LayoutComesTo layer_map wanted layout =
     Then (Reads (IsShortEnough layout_limit layout) layout_too_long)
-        (λ same. Retold of_layout_fault (ShortLayoutComesTo layer_map wanted same))
+    (λ same. Retold of_layout_fault (ShortLayoutComesTo layer_map wanted same))
 
 -- the verdict on words, where files contain this: first the words, then the map, and then the layout, each of which is looked
 -- at only where what stands before it is good

@@ -91,7 +91,8 @@ module _ (layer_map : LayerMap) (lists : List (List Rect)) (parts : Parts) (wind
         let pieces = slice_index_or parts.metals question.number [] in
         let small : question.number < length parts.metals = subst (λ m. question.number < m) as_many_metals (known.1.of_metal (λ via. cc (e, via))) in
         shorts_are layer_map lists parts question.number radius question.measure pieces cells n are small refl refl
-        (Tally-same_all cells n (touches_permuted pieces (slice_index_or shared.metals.items question.number []) (permuted_at parts.metals shared.metals.items question.number is.metals) radius) counted)
+        (Tally-same_all cells n (touches_permuted pieces (slice_index_or shared.metals.items question.number [])
+        (permuted_at parts.metals shared.metals.items question.number is.metals) radius) counted)
 
     opens_counted : question.kind ≡ Open → Tally (IsCountedAs Open shared asked) cells n → Tally (IsFault layer_map (IsCoveredIn lists) Open question.number (side_of question.measure)) cells n
     opens_counted e counted =
@@ -116,7 +117,8 @@ module _ (layer_map : LayerMap) (lists : List (List Rect)) (parts : Parts) (wind
         blocks_are layer_map lists parts k question.number radius question.measure boxes cells n are small at refl refl least
         (Tally-same_all cells n (covers_permuted boxes (slice_index_or shared.cuts.items k []) (permuted_at parts.cuts shared.cuts.items k is.cuts) radius) counted)
 
-    by_kind : (kind : Kind) → question.kind ≡ kind → Tally (IsCountedAs kind shared asked) cells n → Tally (IsFault layer_map (IsCoveredIn lists) kind question.number (side_of question.measure)) cells n
+    by_kind : (kind : Kind) → question.kind ≡ kind → Tally (IsCountedAs kind shared asked) cells n
+        → Tally (IsFault layer_map (IsCoveredIn lists) kind question.number (side_of question.measure)) cells n
     by_kind Short e counted = shorts_counted e counted
     by_kind Open e counted = opens_counted e counted
     by_kind Via e counted = blocks_counted e counted

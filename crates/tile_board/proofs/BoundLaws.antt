@@ -66,7 +66,12 @@ amount_at_most : (cap bound slot : ℕ) (credits : List Credit) → All (λ c. c
 unfolding count_below
 amount_at_most cap bound slot credits amounts tickets =
     let one : Credit → ℕ = λ c. if (c.slot == slot) && nat_lt c.ticket bound then 1 else 0 in
-    omega (arith, sum_by-scaled one cap credits, sum_by-within (λ c. if c.slot == slot then c.amount else 0) (λ c. one c * cap) credits (λ k d small. each (get_or credits k d) (amounts k d small) (tickets k d small)))
+    omega (
+      arith,
+      sum_by-scaled one cap credits,
+      sum_by-within (λ c. if c.slot == slot then c.amount else 0) (λ c. one c * cap) credits
+          (λ k d small. each (get_or credits k d) (amounts k d small) (tickets k d small)),
+    )
   where
     each : (c : Credit) → c.amount ≤ cap → c.ticket < bound → (if c.slot == slot then c.amount else 0) ≤ (if (c.slot == slot) && nat_lt c.ticket bound then 1 else 0) * cap
     each c small early = grind (arith, nat_tests)

@@ -20,7 +20,8 @@ use Rattle.tile_board.proofs.BoundLaws.{sum_by-none, sum_by-both}
 use Rattle.tile_board.proofs.RunningLaws.{seen}
 
 -- a hand that made no draw has no ticket and no credit
-none_credited : (tickets : List ℕ) (slot : ℕ) (credits : List Credit) → length tickets ≤ 0 → All (λ c. 0 < times tickets c.ticket) credits → sum_by (λ c. if c.slot == slot then c.amount else 0) credits ≡ 0
+none_credited : (tickets : List ℕ) (slot : ℕ) (credits : List Credit) → length tickets ≤ 0 → All (λ c. 0 < times tickets c.ticket) credits
+    → sum_by (λ c. if c.slot == slot then c.amount else 0) credits ≡ 0
 none_credited tickets slot [] none all = refl
 none_credited tickets slot (c ∷ cs) none all =
     let drawn : 0 < times tickets c.ticket = All-head (λ c. 0 < times tickets c.ticket) c cs all in
@@ -58,7 +59,14 @@ counts_up : (xs : List ℕ) (whole bound : ℕ) → ((x : ℕ) → times xs x �
 counts_up xs whole zero each small = sum_by-none (once_below 0) below_zero xs
 counts_up xs whole (suc bound) each small =
     let less : bound < whole = omega arith in
-    omega (arith, sum_by-both (once_below bound) (λ x. if x == bound then 1 else 0) (once_below (suc bound)) (below_suc bound) xs, counts_up xs whole bound each (omega arith), each bound, is_below whole bound less)
+    omega (
+      arith,
+      sum_by-both (once_below bound) (λ x. if x == bound then 1 else 0) (once_below (suc bound)) (below_suc bound) xs,
+      counts_up xs whole bound each
+          (omega arith),
+      each bound,
+      is_below whole bound less,
+    )
 
 counts_all : (whole : ℕ) (xs : List ℕ) → All (λ x. x < whole) xs → sum_by (once_below whole) xs ≡ length xs
 counts_all whole [] all = refl
@@ -136,11 +144,13 @@ closing limits id view words slots totals final one_each read =
     let sound : IsSound limits s = final.1.0 in
     let here = seen last.views id view final.1.1 in
     let total : (slot : ℕ) → slot < limits.slots → get_or totals slot 0 ≡ get_or s.totals slot 0 =
-    λ slot small. read slot (omega (arith, one_each)) ∙ ap (λ ws. get_or ws (slot + 1) 0) (sym final.2) ∙ ap (λ k. get_or last.words k 0) (let turned : slot + 1 ≡ 1 + slot = omega arith in turned) ∙ sym (get_or-drop 1 last.words slot 0) in
+    λ slot small. read slot (omega (arith, one_each)) ∙ ap (λ ws. get_or ws (slot + 1) 0) (sym final.2) ∙ ap (λ k. get_or last.words k 0)
+    (let turned : slot + 1 ≡ 1 + slot = omega arith in turned) ∙ sym (get_or-drop 1 last.words slot 0) in
     let has_all : HasAllDraws limits view → HasAllDraws limits (view_at s id) = λ has. subst (HasAllDraws limits) (sym here.1) has in
     record {
       final = record { state = s; sound = sound; among = subst (Contains s.views) here.1 (Contains-get_or last.views id (fresh 0) here.0); same = total };
-      at_least = λ slot small. let least : credited view slot ≤ get_or s.totals slot 0 = subst (λ u. credited u slot ≤ get_or s.totals slot 0) here.1 (adds_at_least limits s id here.0 sound slot small) in
+      at_least = λ slot small. let least : credited view slot ≤ get_or s.totals slot 0 = subst (λ u. credited u slot ≤ get_or s.totals slot 0) here.1
+          (adds_at_least limits s id here.0 sound slot small) in
           omega (arith, least, total slot small);
       exact = λ has slot small. total slot small ∙ subst (λ u. get_or s.totals slot 0 ≡ credited u slot) here.1 (adds_all limits s id here.0 sound (has_all has) slot small);
       all_tickets = λ has more. subst (DrewAll limits) here.1 (draws_all limits s id here.0 sound (has_all has) (subst (λ u. length u.tickets < u.made) (sym here.1) more));

@@ -41,7 +41,8 @@ pub credited-join : (v g : View) (s : ℕ) → credited (with_all_of g v) s ≡ 
 credited-join v g s = sum_by-append (λ d. if d.slot == s then d.amount else 0) v.credits g.credits
 
 -- a count of credits is 0 where each of them is for a ticket of the list, and this ticket is not in it
-pub none_counted : (tickets : List ℕ) (t s : ℕ) (credits : List Credit) → All (λ c. 0 < times tickets c.ticket) credits → times tickets t ≡ 0 → count_by (λ c. (c.ticket == t) && (c.slot == s)) credits ≡ 0
+pub none_counted : (tickets : List ℕ) (t s : ℕ) (credits : List Credit) → All (λ c. 0 < times tickets c.ticket) credits → times tickets t ≡ 0
+    → count_by (λ c. (c.ticket == t) && (c.slot == s)) credits ≡ 0
 none_counted tickets t s [] all none = refl
 none_counted tickets t s (c ∷ cs) all none =
     let here : 0 < times tickets c.ticket = All-head (λ c. 0 < times tickets c.ticket) c cs all in

@@ -14,14 +14,16 @@ use Rattle.tile_board.proofs.CountLaws.{times-append, times_credited-join, credi
 use Rattle.tile_board.proofs.StepLaws.{fresh_fits}
 
 -- a sum in which one member has taken in another, which is spent
-joined_sum : (f : View → ℕ) (views : List View) (h g : ℕ) (w : View) → h < length views → g < length views → h ≢ g → f (fresh 0) ≡ 0 → f w ≡ f (get_or views h (fresh 0)) + f (get_or views g (fresh 0)) → sum_by f (set (set views h w) g (fresh 0)) ≡ sum_by f views
+joined_sum : (f : View → ℕ) (views : List View) (h g : ℕ) (w : View) → h < length views → g < length views → h ≢ g → f (fresh 0) ≡ 0
+    → f w ≡ f (get_or views h (fresh 0)) + f (get_or views g (fresh 0)) → sum_by f (set (set views h w) g (fresh 0)) ≡ sum_by f views
 joined_sum f views h g w h_in g_in apart spent both =
     let g_in' : g < length (set views h w) = omega (arith, length-set views h w) in
     let other = ap f (get_or-set_other views h g w (fresh 0) (λ same. apart (sym same))) in
     omega (arith, sum_by-set f views h w (fresh 0) h_in, sum_by-set f (set views h w) g (fresh 0) (fresh 0) g_in', other, both, spent)
 
 -- two members of a sum are no more than the whole
-pub two_within : (f : View → ℕ) (views : List View) (h g : ℕ) → h < length views → g < length views → h ≢ g → f (fresh 0) ≡ 0 → f (get_or views h (fresh 0)) + f (get_or views g (fresh 0)) ≤ sum_by f views
+pub two_within : (f : View → ℕ) (views : List View) (h g : ℕ) → h < length views → g < length views → h ≢ g → f (fresh 0) ≡ 0
+    → f (get_or views h (fresh 0)) + f (get_or views g (fresh 0)) ≤ sum_by f views
 two_within f views h g h_in g_in apart spent =
     let g_in' : g < length (set views h (fresh 0)) = omega (arith, length-set views h (fresh 0)) in
     let other = ap f (get_or-set_other views h g (fresh 0) (fresh 0) (λ same. apart (sym same))) in

@@ -64,7 +64,16 @@ running_draw limits (n ∷ ns) views id v ranges left mine sound =
     let leaves = draw_keeps limits (state_of (n ∷ ns) views) id here.0 left' sound in
     let drawn : IsSound limits (state_of ((n + 1) ∷ ns) (set views id w)) = rw here.1 at leaves in
     let kept : IsSound limits (state_of ((n + 1) % 2 ^ 64 ∷ ns) (set views id w)) = subst (λ m. IsSound limits (state_of (m ∷ ns) (set views id w))) (sym small) drawn in
-    let step : IsDraw limits v w = record { state = state_of (n ∷ ns) views; by = id; sound = sound; allowed = (here.0, left'); leaves = leaves; had = here.1; has = changes views id v (with_draw limits.tickets n) here } in
+    let step : IsDraw limits v w = record {
+      state = state_of (n ∷ ns) views;
+      by = id;
+      sound = sound;
+      allowed = (here.0, left');
+      leaves = leaves;
+      had = here.1;
+      has = changes views id v
+          (with_draw limits.tickets n) here;
+    } in
     (kept, (hand_view_at limits ((n + 1) % 2 ^ 64 ∷ ns) views id w here.0 kept, (step, refl)))
 
 pub running_credit : (limits : Limits) (c : Credit) (words : List ℕ) (views : List View) (id : ℕ) (v : View) → AreInRange limits → MayCredit limits v c → get_elem? views id ≡ some v →
@@ -79,19 +88,31 @@ running_credit limits c (n ∷ ns) views id v ranges may mine sound =
     let leaves = credit_keeps limits (state_of (n ∷ ns) views) id c here.0 may' sound in
     let added : IsSound limits (state_of (n ∷ set ns c.slot sum) (set views id w)) = rw here.1 at leaves in
     let in_totals : c.slot < length ns = omega (arith, sound.totals.one_each, may.slot) in
-    let at_most : get_or (set ns c.slot sum) c.slot 0 ≤ limits.tickets * limits.cap = All-get_or (λ total. total ≤ limits.tickets * limits.cap) (set ns c.slot sum) c.slot 0 (omega (arith, length-set ns c.slot sum, in_totals)) (total_at_most limits (state_of (n ∷ set ns c.slot sum) (set views id w)) added) in
+    let at_most : get_or (set ns c.slot sum) c.slot 0 ≤ limits.tickets * limits.cap = All-get_or (λ total. total ≤ limits.tickets * limits.cap) (set ns c.slot sum) c.slot 0
+    (omega (arith, length-set ns c.slot sum, in_totals)) (total_at_most limits (state_of (n ∷ set ns c.slot sum) (set views id w)) added) in
     let small : sum % 2 ^ 64 ≡ sum = omega (arith, at_most, get_or-set_same ns c.slot sum 0 in_totals, ranges.totals_fit) in
     let kept : IsSound limits (state_of (n ∷ set ns c.slot (sum % 2 ^ 64)) (set views id w)) = subst (λ m. IsSound limits (state_of (n ∷ set ns c.slot m) (set views id w))) (sym small) added in
-    let step : IsCredit limits c v w = record { state = state_of (n ∷ ns) views; by = id; sound = sound; allowed = (here.0, may'); leaves = leaves; had = here.1; has = changes views id v (with_credit c) here } in
+    let step : IsCredit limits c v w = record {
+      state = state_of (n ∷ ns) views;
+      by = id;
+      sound = sound;
+      allowed = (here.0, may');
+      leaves = leaves;
+      had = here.1;
+      has = changes views id v
+          (with_credit c) here;
+    } in
     rw (add-one c.slot) (kept, (hand_view_at limits (n ∷ set ns c.slot (sum % 2 ^ 64)) views id w here.0 kept, step))
 
 -- the same where what the step was picked for is known by an equation
-pub draw_picked : (limits picked : Limits) (words : List ℕ) (views : List View) (id : ℕ) (v : View) → picked ≡ limits → AreInRange limits → 0 < v.left → get_elem? views id ≡ some v → IsSound limits (state_of words views) →
+pub draw_picked : (limits picked : Limits) (words : List ℕ) (views : List View) (id : ℕ) (v : View) → picked ≡ limits → AreInRange limits → 0 < v.left → get_elem? views id ≡ some v
+    → IsSound limits (state_of words views) →
     let w : View = with_draw picked.tickets (get_or words 0 0) v in
     IsSound limits (state_of (set words 0 ((get_or words 0 0 + 1) % 2 ^ 64)) (set views id w)) × (IsHandView w × ((step : IsDraw picked v w) × (step.state.next ≡ get_or words 0 0)))
 draw_picked limits picked words views id v same ranges left mine sound = rw same (running_draw limits words views id v ranges left mine sound)
 
-pub credit_picked : (limits picked : Limits) (c d : Credit) (words : List ℕ) (views : List View) (id : ℕ) (v : View) → picked ≡ limits → d ≡ c → AreInRange limits → MayCredit limits v c → get_elem? views id ≡ some v →
+pub credit_picked : (limits picked : Limits) (c d : Credit) (words : List ℕ) (views : List View) (id : ℕ) (v : View) → picked ≡ limits → d ≡ c → AreInRange limits → MayCredit limits v c
+    → get_elem? views id ≡ some v →
     IsSound limits (state_of words views) → let w : View = with_credit d v in
     IsSound limits (state_of (set words (c.slot + 1) ((get_or words (c.slot + 1) 0 + c.amount) % 2 ^ 64)) (set views id w)) × (IsHandView w × IsCredit picked d v w)
 credit_picked limits picked c d words views id v same same_credit ranges may mine sound = rw (same, same_credit) (running_credit limits c words views id v ranges may mine sound)
@@ -103,7 +124,8 @@ running_split limits draws words views id v enough mine sound =
     let enough' : draws ≤ (get_or views id (fresh 0)).left = rw here.1 enough in
     rw here.1 at (split_keeps limits (state_of words views) id draws here.0 enough' sound)
 
-pub running_join : (limits : Limits) (words : List ℕ) (views : List View) (id other : ℕ) (v u : View) → get_elem? views id ≡ some v → ¬ (other ≡ id) → get_elem? (set views id (with_all_of u v)) other ≡ some u →
+pub running_join : (limits : Limits) (words : List ℕ) (views : List View) (id other : ℕ) (v u : View) → get_elem? views id ≡ some v → ¬ (other ≡ id)
+    → get_elem? (set views id (with_all_of u v)) other ≡ some u →
     IsSound limits (state_of words views) → IsSound limits (state_of words (set (set views id (with_all_of u v)) other (fresh 0)))
 running_join limits words views id other v u mine apart theirs sound =
     let here = seen views id v mine in
@@ -121,5 +143,6 @@ running_look limits words views id v ranges mine sound =
     let same_views : set views id v ≡ views = set_again views id v mine in
     let same_words : set words 0 (get_or words 0 0) ≡ words = set-get_or words 0 0 in
     let own : IsHandView v = subst IsHandView here.1 (hand_view limits (state_of words views) id here.0 sound) in
-    let part : v.made + v.left ≤ limits.draws = subst (λ (u : View). u.made + u.left ≤ limits.draws) here.1 (omega (arith, get_or-le-sum_by (λ (u : View). u.made + u.left) views id (fresh 0) here.0, sound.draws.all)) in
+    let part : v.made + v.left ≤ limits.draws = subst (λ (u : View). u.made + u.left ≤ limits.draws) here.1
+    (omega (arith, get_or-le-sum_by (λ (u : View). u.made + u.left) views id (fresh 0) here.0, sound.draws.all)) in
     (rw (same_views, same_words) sound, (own, omega (arith, part, ranges.few_draws)))

@@ -25,10 +25,24 @@ draw_keeps limits s h within left sound =
       draws = record {
         made = omega (arith, sum_by-set (λ (u : View). u.made) s.views h w (fresh 0) within, sound.draws.made);
         all = omega (arith, sum_by-set (λ (u : View). u.made + u.left) s.views h w (fresh 0) within, sound.draws.all);
-        few = All-set (λ u. length u.tickets ≤ u.made) s.views h w (omega (arith, All-get_or (λ u. length u.tickets ≤ u.made) s.views h (fresh 0) within sound.draws.few, length-append v.tickets drawn, ticket_list limits.tickets s.next)) sound.draws.few;
+        few = All-set (λ u. length u.tickets ≤ u.made) s.views h w (omega (
+          arith,
+          All-get_or (λ u. length u.tickets ≤ u.made) s.views h
+              (fresh 0) within sound.draws.few,
+          length-append v.tickets drawn,
+          ticket_list limits.tickets s.next,
+        )) sound.draws.few;
       };
-      tickets = λ number. omega (arith, sum_by-set (λ (u : View). times u.tickets number) s.views h w (fresh 0) within, sound.tickets number, times-append v.tickets drawn number, times-drawn limits.tickets s.next number);
-      credits = All-set (CreditsFit limits) s.views h w (fit_more_tickets limits v w refl (λ t. omega (arith, times-append v.tickets drawn t)) (All-get_or (CreditsFit limits) s.views h (fresh 0) within sound.credits)) sound.credits;
+      tickets = λ number. omega (
+        arith,
+        sum_by-set (λ (u : View). times u.tickets number) s.views h w
+            (fresh 0) within,
+        sound.tickets number,
+        times-append v.tickets drawn number,
+        times-drawn limits.tickets s.next number,
+      );
+      credits = All-set (CreditsFit limits) s.views h w (fit_more_tickets limits v w refl (λ t. omega (arith, times-append v.tickets drawn t))
+          (All-get_or (CreditsFit limits) s.views h (fresh 0) within sound.credits)) sound.credits;
       totals = record {
         one_each = sound.totals.one_each;
         sums = λ slot small. omega (arith, sum_by-set (λ (u : View). credited u slot) s.views h w (fresh 0) within, sound.totals.sums slot small);
@@ -38,7 +52,8 @@ draw_keeps limits s h within left sound =
 -- a total that one credit has changed
 total_after : (totals : List ℕ) (at amount slot : ℕ) → at < length totals → get_or (set totals at (get_or totals at 0 + amount)) slot 0 ≡ get_or totals slot 0 + (if at == slot then amount else 0)
 total_after totals at amount slot within = elim (eqb_tells at slot) [
-  | inl e ↦ let here = get_or-set_same totals at (get_or totals at 0 + amount) 0 within in let same = ap (λ k. get_or (set totals at (get_or totals at 0 + amount)) k 0) (e.1) in let same' = ap (λ k. get_or totals k 0) e.1 in rw e.0 (omega (arith, here, same, same'))
+  | inl e ↦ let here = get_or-set_same totals at (get_or totals at 0 + amount) 0 within in let same = ap (λ k. get_or (set totals at (get_or totals at 0 + amount)) k 0)
+      (e.1) in let same' = ap (λ k. get_or totals k 0) e.1 in rw e.0 (omega (arith, here, same, same'))
   | inr e ↦ let there = get_or-set_other totals at slot (get_or totals at 0 + amount) 0 (λ same. e.1 (sym same)) in rw e.0 (omega (arith, there))
 ]
 
@@ -63,7 +78,8 @@ credit_fits limits v c may fits = record {
           | inr a ↦ rw a.0 (omega (arith, before))
         ]
 
-pub credit_keeps : (limits : Limits) (s : BoardState) (h : ℕ) (c : Credit) → h < length s.views → MayCredit limits (view_at s h) c → IsSound limits s → IsSound limits (after_event limits s (credit h c))
+pub credit_keeps : (limits : Limits) (s : BoardState) (h : ℕ) (c : Credit) → h < length s.views → MayCredit limits (view_at s h) c → IsSound limits s
+    → IsSound limits (after_event limits s (credit h c))
 credit_keeps limits s h c within may sound =
     let v : View = view_at s h in
     let w : View = with_credit c v in
@@ -78,7 +94,14 @@ credit_keeps limits s h c within may sound =
       credits = All-set (CreditsFit limits) s.views h w (credit_fits limits v c may (All-get_or (CreditsFit limits) s.views h (fresh 0) within sound.credits)) sound.credits;
       totals = record {
         one_each = omega (arith, length-set s.totals c.slot (get_or s.totals c.slot 0 + c.amount), sound.totals.one_each);
-        sums = λ slot small. omega (arith, sum_by-set (λ (u : View). credited u slot) s.views h w (fresh 0) within, sound.totals.sums slot small, credited-push v c slot, total_after s.totals c.slot c.amount slot in_totals);
+        sums = λ slot small. omega (
+          arith,
+          sum_by-set (λ (u : View). credited u slot) s.views h w
+              (fresh 0) within,
+          sound.totals.sums slot small,
+          credited-push v c slot,
+          total_after s.totals c.slot c.amount slot in_totals,
+        );
       };
     }
 
@@ -103,10 +126,23 @@ split_keeps limits s h draws within enough sound =
         few = All-push (λ u. length u.tickets ≤ u.made) views (fresh draws)
             (All-set (λ u. length u.tickets ≤ u.made) s.views h w (All-get_or (λ u. length u.tickets ≤ u.made) s.views h (fresh 0) within sound.draws.few) sound.draws.few) (omega arith);
       };
-      tickets = λ number. omega (arith, sum_by-set (λ (u : View). times u.tickets number) s.views h w (fresh 0) within, sum_by_push (λ (u : View). times u.tickets number) views (fresh draws), sound.tickets number);
-      credits = All-push (CreditsFit limits) views (fresh draws) (All-set (CreditsFit limits) s.views h w (fit_more_tickets limits v w refl (λ t. omega arith) fits) sound.credits) (fresh_fits limits draws);
+      tickets = λ number. omega (
+        arith,
+        sum_by-set (λ (u : View). times u.tickets number) s.views h w (fresh 0) within,
+        sum_by_push (λ (u : View). times u.tickets number) views
+            (fresh draws),
+        sound.tickets number,
+      );
+      credits = All-push (CreditsFit limits) views (fresh draws) (All-set (CreditsFit limits) s.views h w (fit_more_tickets limits v w refl (λ t. omega arith) fits) sound.credits)
+          (fresh_fits limits draws);
       totals = record {
         one_each = sound.totals.one_each;
-        sums = λ slot small. omega (arith, sum_by-set (λ (u : View). credited u slot) s.views h w (fresh 0) within, sum_by_push (λ (u : View). credited u slot) views (fresh draws), sound.totals.sums slot small);
+        sums = λ slot small. omega (
+          arith,
+          sum_by-set (λ (u : View). credited u slot) s.views h w (fresh 0) within,
+          sum_by_push (λ (u : View). credited u slot) views
+              (fresh draws),
+          sound.totals.sums slot small,
+        );
       };
     }

@@ -56,7 +56,8 @@ at_ticket slot ticket amount credits amounts =
       | inr a ↦ rw a.0 (omega arith)
     ]
 
-summed_below : (v : View) (slot : ℕ) (amount : ℕ → ℕ) (bound : ℕ) → CreditsEach v slot amount → ((ticket : ℕ) → ticket < bound → Drew v ticket) → sum_by (added_below slot bound) v.credits ≡ sum_below bound amount
+summed_below : (v : View) (slot : ℕ) (amount : ℕ → ℕ) (bound : ℕ) → CreditsEach v slot amount → ((ticket : ℕ) → ticket < bound → Drew v ticket)
+    → sum_by (added_below slot bound) v.credits ≡ sum_below bound amount
 summed_below v slot amount zero each all = sum_by-none (added_below slot zero) (below_none slot) v.credits
 summed_below v slot amount (suc bound) each all =
     let here = each.each bound (all bound (omega arith)) in

@@ -23,7 +23,7 @@ use Rattle.critical_areas.specs.declared.shared.Shared.{Shared}
 abbrev pub AreOpensIn : Parts → Rect → Question → List Rect → Type 0
 AreOpensIn parts window question rects =
     (c : Cell) → IsInUnion rects c
-        ↔ (Has window c × IsSomeOpen (slice_index_or parts.islands question.number []) (side_of question.measure) c)
+    ↔ (Has window c × IsSomeOpen (slice_index_or parts.islands question.number []) (side_of question.measure) c)
 
 -- a question on opens has them
 abbrev pub HasItsOpens : Parts → Rect → Asked → Type 0
@@ -43,7 +43,7 @@ IsCountedAs Short shared asked =
 IsCountedAs Open shared asked = IsInUnion asked.opens
 IsCountedAs Via shared asked =
     CoversSomeBox (slice_index_or shared.cuts.items (asked.question.number - length shared.metals.items) [])
-        (side_of asked.question.measure / 2)
+    (side_of asked.question.measure / 2)
 
 -- what is counted for the question
 abbrev pub IsCounted : Shared → Asked → Cell → Type 0

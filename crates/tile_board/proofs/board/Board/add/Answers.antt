@@ -15,6 +15,7 @@ fetch_add-requires g c =
       c.requires.belongs,
       omega (arith, board.words, c.requires.may.slot),
       λ s sound homes mine word.
-          let kept = credit_picked board.table.shared.key g.C.Crediting.limits c.args.credit g.C.Crediting.credit s.words s.views c.args.seat.now.id v (c.requires.limits ∙ board.key) c.requires.picked ranges may mine sound in
+          let kept = credit_picked board.table.shared.key g.C.Crediting.limits c.args.credit g.C.Crediting.credit s.words s.views c.args.seat.now.id v
+          (c.requires.limits ∙ board.key) c.requires.picked ranges may mine sound in
           (with_credit g.C.Crediting.credit v, keeps, tt, kept.0, (refl, kept.1.0, kept.1.1)),
     )
