@@ -18,6 +18,8 @@ use tile_board::{Board, Hand};
 /// The most workers that may share a board's tickets.
 pub const MOST_WORKERS: u32 = 64;
 
+const _: () = prove!(MOST_WORKERS == 64);
+
 /// Draws all tickets of the board and credits the amounts of the job, by so many workers at once, each in a thread of its
 /// own. All of them have ended when it answers, and the hand has all that they drew and credited. A worker draws until it
 /// is told that no ticket is left, and lets each ticket pass the gate before it asks for its amounts. Where a thread cannot
