@@ -1,27 +1,32 @@
-//! A gate for tests of workers. It holds the ticket that comes first until all others have come, so that a run passes it only
-//! where another worker draws tickets meanwhile.
+//! A gate for tests of workers. It holds the tickets that come first until all others have come, so that a run passes it only
+//! where enough workers draw tickets at once.
 #![tactic(auto)]
 
 use std::sync::atomic::{AtomicU64, Ordering};
 use tile_work::Gate;
 
-/// How often the first ticket looks for the others.
-const TURNS: u64 = 1_000_000_000;
+/// How often a held ticket looks for the others, where no other number is asked for.
+const USUAL_TURNS: u64 = 1_000_000_000;
 
-/// How many tickets the gate can tell apart.
+/// How many tickets the gate can tell apart: the numbers below this.
 pub const MOST_TICKETS: usize = 4;
 
-/// A gate that holds the ticket that comes first, whichever it is, until all others have come, and counts how often each of
-/// them comes.
+/// A gate that holds the tickets that come first, whichever they are, until all have come, and counts how often each of them
+/// comes. Of more than `MOST_TICKETS` tickets it counts the others together, and cannot see where one of those comes twice in
+/// place of another.
 #[derive(Drop)]
 pub struct HoldFirst {
-    /// How many tickets there are, at most `MOST_TICKETS`.
+    /// How many tickets there are.
     tickets: u64,
+    /// How many of those that come are held: the first so many.
+    held: u64,
+    /// How often a held ticket looks for the others.
+    turns: u64,
     /// How many have come.
     come: AtomicU64,
-    /// How often each has come.
+    /// How often each has come that can be told apart.
     times: [AtomicU64; MOST_TICKETS],
-    /// How often the first ticket looked in vain.
+    /// How many held tickets looked in vain.
     given_up: AtomicU64,
 }
 
@@ -30,23 +35,25 @@ impl Gate for HoldFirst {
         if ticket < MOST_TICKETS as u64 {
             self.times[ticket as usize].fetch_add(1, Ordering::SeqCst);
         }
-        if self.come.fetch_add(1, Ordering::SeqCst) > 0 {
-            return;
+        if self.come.fetch_add(1, Ordering::SeqCst) < self.held {
+            self.hold();
         }
-        for _ in 0..TURNS {
-            if self.come.load(Ordering::SeqCst) >= self.tickets {
-                return;
-            }
-        }
-        self.given_up.fetch_add(1, Ordering::SeqCst);
     }
 }
 
 impl HoldFirst {
-    /// A gate for so many tickets.
+    /// A gate for so many tickets, which holds the one that comes first.
     pub fn new(tickets: u64) -> HoldFirst {
+        HoldFirst::holding(tickets, 1, USUAL_TURNS)
+    }
+
+    /// A gate for so many tickets, which holds the first so many that come, each until all have come. It lets a ticket go that
+    /// has looked so often for the others in vain.
+    pub fn holding(tickets: u64, held: u64, turns: u64) -> HoldFirst {
         HoldFirst {
             tickets,
+            held,
+            turns,
             come: AtomicU64::new(0),
             times: [
                 AtomicU64::new(0),
@@ -58,7 +65,22 @@ impl HoldFirst {
         }
     }
 
-    /// Whether each ticket has come once and nothing else has, and the first one saw the others come.
+    /// Holds a ticket until all have come, or it has looked in vain.
+    fn hold(&self) {
+        for _ in 0..self.turns {
+            if self.come.load(Ordering::SeqCst) >= self.tickets {
+                return;
+            }
+        }
+        self.given_up.fetch_add(1, Ordering::SeqCst);
+    }
+
+    /// Whether the ticket has come. It answers no for one that it cannot tell from others.
+    pub fn has_come(&self, ticket: u64) -> bool {
+        ticket < MOST_TICKETS as u64 && self.times[ticket as usize].load(Ordering::SeqCst) > 0
+    }
+
+    /// Whether each ticket has come once and nothing else has, and each that was held saw the others come.
     pub fn is_content(&self) -> bool {
         let mut once = self.come.load(Ordering::SeqCst) == self.tickets;
         for ticket in 0..MOST_TICKETS {

@@ -121,3 +121,16 @@ closed_sums (Ok totals) limits v slots IsAmount facts same has sums all law = λ
   is_sum = sums slot (omega arith) ∙ law slot (amount_of v slot) all (each_credited slots IsAmount v facts has slot small);
 }
 closed_sums (Err e) limits v slots IsAmount facts same has sums all law = tt
+
+-- ---- one amount at most for each ticket, one sum at most
+
+-- sums of the same numbers are the same
+same_sums : (n : ℕ) (f g : ℕ → ℕ) → ((k : ℕ) → k < n → f k ≡ g k) → sum_below n f ≡ sum_below n g
+same_sums zero f g same = refl
+same_sums (suc n) f g same = omega (arith, same n (omega arith), same_sums n f g (λ k small. same k (omega arith)))
+
+pub one_sum_each : (tickets : ℕ) (IsAmount : ℕ → ℕ → ℕ → Type 0) (slot : ℕ)
+    → ((ticket a b : ℕ) → ticket < tickets → IsAmount ticket slot a → IsAmount ticket slot b → a ≡ b)
+    → (one other : ℕ) → IsSumOfAmounts tickets IsAmount slot one → IsSumOfAmounts tickets IsAmount slot other → one ≡ other
+one_sum_each tickets IsAmount slot agree one other first second =
+    first.is_sum ∙ same_sums tickets first.amount second.amount (λ t small. agree t (first.amount t) (second.amount t) small (first.are_amounts t small) (second.are_amounts t small)) ∙ sym second.is_sum

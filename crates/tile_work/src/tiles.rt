@@ -2,9 +2,8 @@ ghost use Rattle.std.specs.Prelude.{◌+◌, ◌*◌, ◌≡◌, ◌≤◌, ◌<
 ghost use Rattle.std.specs.Thread.{IsSync};
 ghost use Rattle.tile_board.specs.Closing.{HasAllDraws};
 ghost use Rattle.tile_board.specs.Hands.{limits_of, view_of, BelongsTo};
-ghost use Rattle.tile_board.specs.Machine.{fresh};
 ghost use Rattle.tile_work.specs.Crediting.{HasCredits, IsMadeFor};
-ghost use Rattle.tile_work.specs.inside.Working.{HasWorked};
+ghost use Rattle.tile_work.specs.inside.Working.{IsHanded, IsHandedBack};
 
 use super::gate::Gate;
 use super::job::TileJob;
@@ -18,10 +17,12 @@ use tile_board::{Board, Hand};
 /// The most workers that may share a board's tickets.
 pub const MOST_WORKERS: u32 = 64;
 
-/// Draws all tickets of the board and credits the amounts of the job, by so many workers at once, each in a thread of its
-/// own. All of them have ended when it answers, and the hand has all that they drew and credited. A worker draws until it
-/// is told that no ticket is left, and lets each ticket pass the gate before it asks for its amounts. Where a thread cannot
-/// be started the caller does that worker's part itself.
+const _: () = prove!(MOST_WORKERS == 64);
+
+/// Draws all tickets of the board and credits the amounts of the job, by so many workers at once. The caller is one of them,
+/// and the others are in threads of their own where these can be started: where one cannot be, the thread that was to start it
+/// does its part too. All of them have ended when it answers, and the hand has all that they drew and credited. A worker draws
+/// until it is told that no ticket is left, and lets each ticket pass the gate before it asks for its amounts.
 ///
 /// The only error is that no memory is left. The worker that finds none stops, and the others go on to their end. Then
 /// some tickets may be without credits.
@@ -64,13 +65,8 @@ fn work_in_halves<R: Threads + Sync, J: TileJob + Sync, G: Gate + Sync>(
     mut hand: Hand,
     workers: u32,
 ) -> (Hand, Result<(), NoMemory>)
-    requires some_workers { 1 ≤ workers }
-    requires made_for { IsMadeFor (limits_of board.now) (J.tickets job.now) (J.slots job.now) (J.is_amount job.now) }
-    requires belongs { BelongsTo board.now hand }
-    requires unused { view_of hand ≡ fresh (workers * (J.tickets job.now + 1)) }
-    ensures belongs { BelongsTo board.now result.0 }
-    ensures draws { (view_of result.0).made + (view_of result.0).left ≡ workers * (J.tickets job.now + 1) }
-    ensures worked { OnOk result.1 (HasWorked (J.slots job.now) (J.is_amount job.now) (view_of result.0)) }
+    requires { IsHanded (J.tickets job.now) (J.slots job.now) (J.is_amount job.now) workers board.now hand }
+    ensures { IsHandedBack (J.tickets job.now) (J.slots job.now) (J.is_amount job.now) workers board.now result.0 result.1 }
 {
     if workers == 1 {
         let outcome = work(alloc, job, gate, board, &mut hand);
@@ -84,23 +80,15 @@ fn work_in_halves<R: Threads + Sync, J: TileJob + Sync, G: Gate + Sync>(
         rt,
         || -> (Hand, Result<(), NoMemory>)
             requires sync { IsSync R.row × IsSync J.row × IsSync G.row }
-            requires some_workers { 1 ≤ rest }
-            requires made_for { IsMadeFor (limits_of board.now) (J.tickets job.now) (J.slots job.now) (J.is_amount job.now) }
-            requires belongs { BelongsTo board.now hand }
-            requires unused { view_of hand ≡ fresh (rest * (J.tickets job.now + 1)) }
-            ensures belongs { BelongsTo board.entry.now result.0 }
-            ensures draws { (view_of result.0).made + (view_of result.0).left ≡ rest * (J.tickets job.entry.now + 1) }
-            ensures worked { OnOk result.1 (HasWorked (J.slots job.entry.now) (J.is_amount job.entry.now) (view_of result.0)) }
+            requires handed { IsHanded (J.tickets job.now) (J.slots job.now) (J.is_amount job.now) rest board.now hand }
+            ensures { IsHandedBack (J.tickets job.entry.now) (J.slots job.entry.now) (J.is_amount job.entry.now)
+                rest board.entry.now result.0 result.1 }
         { work_in_halves(rt, alloc, job, gate, board, hand, rest) },
         || -> (Hand, Result<(), NoMemory>)
             requires sync { IsSync R.row × IsSync J.row × IsSync G.row }
-            requires some_workers { 1 ≤ half }
-            requires made_for { IsMadeFor (limits_of board.now) (J.tickets job.now) (J.slots job.now) (J.is_amount job.now) }
-            requires belongs { BelongsTo board.now other }
-            requires unused { view_of other ≡ fresh (half * (J.tickets job.now + 1)) }
-            ensures belongs { BelongsTo board.entry.now result.0 }
-            ensures draws { (view_of result.0).made + (view_of result.0).left ≡ half * (J.tickets job.entry.now + 1) }
-            ensures worked { OnOk result.1 (HasWorked (J.slots job.entry.now) (J.is_amount job.entry.now) (view_of result.0)) }
+            requires handed { IsHanded (J.tickets job.now) (J.slots job.now) (J.is_amount job.now) half board.now other }
+            ensures { IsHandedBack (J.tickets job.entry.now) (J.slots job.entry.now) (J.is_amount job.entry.now)
+                half board.entry.now result.0 result.1 }
         { work_in_halves(rt, alloc, job, gate, board, other, half) },
     );
     board.join(&mut hand, other);

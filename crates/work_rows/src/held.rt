@@ -1,4 +1,5 @@
-//! Workers are at work at once: one is held at its first ticket until the others have come.
+//! Workers are at work at once: some are held at their first tickets until the others have come. And each ticket has passed the
+//! gate before its amounts are asked for.
 
 use super::jobs::SumJob;
 use holding_gate::HoldFirst;
@@ -6,24 +7,73 @@ use lists::NoMemory;
 use std::alloc::Global;
 use std::thread::Threads;
 use tile_board::Board;
-use tile_work::{close_sums, run_tiles};
+use tile_work::{TileJob, close_sums, run_tiles};
 
-/// Whether the gate is content with two workers, and the totals of four tickets come out.
-fn is_right(rt: &(impl Threads + Sync), alloc: Global) -> Result<bool, NoMemory> {
-    let job = SumJob {
-        tickets: 4,
+/// A job that finds no memory for the amounts of a ticket that has not passed the gate.
+#[derive(Drop)]
+struct HeldJob<'a> {
+    sums: SumJob,
+    gate: &'a HoldFirst,
+}
+
+impl TileJob for HeldJob<'_> {
+    ghost use Rattle.std.specs.Prelude.{◌+◌, ◌≡◌};
+
+    ghost tickets = { λ job. job.sums.tickets };
+
+    ghost slots = { λ job. job.sums.slots };
+
+    ghost is_amount = { λ job ticket slot n. n ≡ ticket + slot };
+
+    fn amounts(&self, alloc: Global, ticket: u64, into: &mut Vec<u64>) -> Result<(), NoMemory> {
+        if !self.gate.has_come(ticket) {
+            return Err(NoMemory);
+        }
+        self.sums.amounts(alloc, ticket, into)
+    }
+}
+
+/// How many turns hold a ticket for longer than workers take to come.
+const MANY: u64 = 1_000_000_000;
+
+/// How many workers there are, how many tickets, at most four, how many of these the gate holds and for how many turns, whether
+/// it is content, and what the totals of two slots come to.
+type Row = (u32, u32, u64, u64, bool, [u64; 2]);
+
+const ROWS: &[Row] = &[
+    // one worker goes on with three tickets while the other is held
+    (2, 4, 1, MANY, true, [6, 10]),
+    // three are held until the fourth comes, which takes a worker for each
+    (4, 4, 3, MANY, true, [6, 10]),
+    // one worker is held in vain, and then counts as ever
+    (1, 2, 1, 1_000, false, [1, 3]),
+];
+
+/// Whether a row comes out.
+fn is_right(rt: &(impl Threads + Sync), alloc: Global, row: Row) -> Result<bool, NoMemory> {
+    let (workers, tickets, held, turns, content, wanted) = row;
+    if workers < 1 || workers > 64 || tickets > 4 {
+        return Ok(false);
+    }
+    let gate = HoldFirst::holding(u64::from(tickets), held, turns);
+    let sums = SumJob {
+        tickets,
         slots: 2,
         refused: None,
     };
-    let gate = HoldFirst::new(4);
-    let (board, mut hand) = Board::new(alloc, 4, 2, 4, 10)?;
-    run_tiles(rt, alloc, &job, &gate, &board, &mut hand, 2)?;
+    let job = HeldJob { sums, gate: &gate };
+    let draws = u64::from(workers) * (u64::from(tickets) + 1);
+    let (board, mut hand) = Board::new(alloc, u64::from(tickets), 2, 4, draws)?;
+    run_tiles(rt, alloc, &job, &gate, &board, &mut hand, workers)?;
     let totals = close_sums(alloc, &job, board, hand)?;
-    Ok(gate.is_content() && totals.as_slice() == [6, 10].as_slice())
+    Ok(gate.is_content() == content && totals.as_slice() == wanted.as_slice())
 }
 
 #[test]
-fn one_worker_goes_on_while_another_is_held(rt: HostRuntime) {
-    let content = is_right(&rt, rt.alloc()) == Ok(true);
-    assert!(rt; content);
+fn workers_go_on_while_others_are_held(rt: HostRuntime) {
+    let mut all = true;
+    for row in ROWS {
+        all = all && is_right(&rt, rt.alloc(), *row) == Ok(true);
+    }
+    assert!(rt; all);
 }

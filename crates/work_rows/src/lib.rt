@@ -1,5 +1,6 @@
-//! Worked rows on workers that share a board's tickets: the totals for several numbers of workers, want of memory, and that
-//! the workers are at work at once. The crate has tests alone.
+//! Worked rows on workers that share a board's tickets: the totals for several numbers of workers, want of memory, that the
+//! workers are at work at once, and that each ticket passes the gate before its amounts are asked for. The crate has tests
+//! alone.
 #![tactic(auto)]
 
 #[cfg(test)]

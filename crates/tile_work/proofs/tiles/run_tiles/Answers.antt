@@ -6,8 +6,13 @@ use Rattle.tile_board.specs.declared.views.View.{View}
 use Rattle.tile_work.proofs.WorkLaws.{joined_credits}
 use Rattle.tile_work.proofs.tiles.run_tiles.Goals as goal
 
-pub work_in_halves-own-requires-clause-unused : goal.work_in_halves-own-requires-clause-unused
-work_in_halves-own-requires-clause-unused g c κs within = c.split-own.ensures.given ∙ ap fresh (c.left-draws.ensures ∙ c.requires.all_left ∙ c.requires.all_draws)
+pub work_in_halves-own-requires-after_bounds : goal.work_in_halves-own-requires-after_bounds
+work_in_halves-own-requires-after_bounds g c κs within = record {
+  some_workers = c.requires.some_workers;
+  made_for = c.requires.made_for;
+  belongs = c.split-own.ensures.new_belongs;
+  unused = c.split-own.ensures.given ∙ ap fresh (c.left-draws.ensures ∙ c.requires.all_left ∙ c.requires.all_draws);
+}
 
 pub returns-clause-credits : goal.returns-clause-credits
 returns-clause-credits g c =
