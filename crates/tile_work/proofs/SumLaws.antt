@@ -133,4 +133,5 @@ pub one_sum_each : (tickets : ℕ) (IsAmount : ℕ → ℕ → ℕ → Type 0) (
     → ((ticket a b : ℕ) → ticket < tickets → IsAmount ticket slot a → IsAmount ticket slot b → a ≡ b)
     → (one other : ℕ) → IsSumOfAmounts tickets IsAmount slot one → IsSumOfAmounts tickets IsAmount slot other → one ≡ other
 one_sum_each tickets IsAmount slot agree one other first second =
-    first.is_sum ∙ same_sums tickets first.amount second.amount (λ t small. agree t (first.amount t) (second.amount t) small (first.are_amounts t small) (second.are_amounts t small)) ∙ sym second.is_sum
+    first.is_sum ∙ same_sums tickets first.amount second.amount (λ t small. agree t (first.amount t) (second.amount t) small (first.are_amounts t small) (second.are_amounts t small))
+    ∙ sym second.is_sum

@@ -29,7 +29,15 @@ none_below (x ∷ xs) = omega (arith, sum_by-cons (λ y. if nat_lt y 0 then 1 el
 more_below : (bound : ℕ) (xs : List ℕ) → count_by (λ x. nat_lt x (suc bound)) xs ≡ count_by (λ x. nat_lt x bound) xs + times xs bound
 more_below bound [] = refl
 more_below bound (x ∷ xs) =
-    omega (arith, sum_by-cons (λ y. if nat_lt y (suc bound) then 1 else 0) x xs, sum_by-cons (λ y. if nat_lt y bound then 1 else 0) x xs, sum_by-cons (λ y. if y == bound then 1 else 0) x xs, passes x bound, more_below bound xs)
+    omega (
+      arith,
+      sum_by-cons (λ y. if nat_lt y (suc bound) then 1 else 0) x xs,
+      sum_by-cons (λ y. if nat_lt y bound then 1 else 0) x xs,
+      sum_by-cons
+          (λ y. if y == bound then 1 else 0) x xs,
+      passes x bound,
+      more_below bound xs,
+    )
 
 few_below : (xs : List ℕ) → ((x : ℕ) → times xs x ≤ 1) → (bound : ℕ) → count_by (λ x. nat_lt x bound) xs ≤ bound
 few_below xs once zero = omega (arith, none_below xs)
@@ -69,7 +77,8 @@ module _ (tickets slots : ℕ) (IsAmount : ℕ → ℕ → ℕ → Type 0) where
   }
 
   -- between tickets a draw gives one more: nothing is credited for it yet
-  begins : (v : View) (ticket : ℕ) → ticket < tickets → 0 < v.left → IsWorking tickets slots IsAmount v → ((slot : ℕ) → times_credited v ticket slot ≡ 0) → IsCrediting tickets slots IsAmount ticket 0 (with_draw tickets ticket v)
+  begins : (v : View) (ticket : ℕ) → ticket < tickets → 0 < v.left → IsWorking tickets slots IsAmount v → ((slot : ℕ) → times_credited v ticket slot ≡ 0)
+      → IsCrediting tickets slots IsAmount ticket 0 (with_draw tickets ticket v)
   begins v ticket small some working none = rw (lt-ltb ticket tickets small) (record {
     drew = drew_ticket v ticket small some working.drew;
     here = omega (arith, counted ticket, itself ticket);
@@ -90,7 +99,8 @@ module _ (tickets slots : ℕ) (IsAmount : ℕ → ℕ → ℕ → Type 0) where
       another t differs = grind (arith, nat_tests)
 
   -- one slot more is credited
-  pub steps : (v : View) (ticket slot n : ℕ) → slot < slots → IsAmount ticket slot n → IsCrediting tickets slots IsAmount ticket slot v → IsCrediting tickets slots IsAmount ticket (slot + 1) (with_credit (record { ticket = ticket; slot = slot; amount = n }) v)
+  pub steps : (v : View) (ticket slot n : ℕ) → slot < slots → IsAmount ticket slot n → IsCrediting tickets slots IsAmount ticket slot v
+      → IsCrediting tickets slots IsAmount ticket (slot + 1) (with_credit (record { ticket = ticket; slot = slot; amount = n }) v)
   steps v ticket slot n small its_amount at = record {
     drew = record { made = at.drew.made; draws = at.drew.draws; below = at.drew.below };
     here = at.here;
@@ -171,7 +181,13 @@ module _ (slots : ℕ) (IsAmount : ℕ → ℕ → ℕ → Type 0) where
   joins v other facts has others = record {
     each = λ t slot drew small. elim (leb_tells 1 (times v.tickets t)) [
       | inl h ↦ omega (arith, counted t slot, facts.once t slot, has.each t slot h.1 small)
-      | inr h ↦ let few = h.1 in omega (arith, counted t slot, facts.once t slot, others.each t slot (omega (arith, sum_by-append (λ x. if x == t then 1 else 0) v.tickets other.tickets, drew, few)) small)
+      | inr h ↦ let few = h.1 in omega (
+        arith,
+        counted t slot,
+        facts.once t slot,
+        others.each t slot
+            (omega (arith, sum_by-append (λ x. if x == t then 1 else 0) v.tickets other.tickets, drew, few)) small,
+      )
     ];
     within = All-append (λ c. c.slot < slots) v.credits other.credits has.within others.within;
     amounts = All-append (λ c. IsAmount c.ticket c.slot c.amount) v.credits other.credits has.amounts others.amounts;

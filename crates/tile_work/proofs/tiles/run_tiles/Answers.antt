@@ -21,5 +21,6 @@ returns-clause-credits g c =
     let before = c.split-own.new.hand in
     let none = ap (λ (v : View). v.made) c.split-own.ensures.kept ∙ c.requires.none_made in
     on_ok_weaker c.work_in_halves-own.result.1
-    (λ worked. joined_credits slots amount (view_of before) (view_of c.work_in_halves-own.result.0) (view_of c.join.new.hand) before.facts none c.join.new.hand.facts c.join.ensures.joined worked.credits)
+    (λ worked. joined_credits slots amount (view_of before) (view_of c.work_in_halves-own.result.0)
+    (view_of c.join.new.hand) before.facts none c.join.new.hand.facts c.join.ensures.joined worked.credits)
     c.work_in_halves-own.ensures.worked

@@ -33,5 +33,6 @@ returns-clause-draws g c =
 
 pub returns-clause-worked : goal.returns-clause-worked
 returns-clause-worked g c =
-    stopped (g.J.TileJob.tickets c.args.job.now) (g.J.TileJob.slots c.args.job.now) (g.J.TileJob.is_amount c.args.job.now) _ c.in_default.ensures.none.0 (view_of c.loop-ticket.hand) (view_of c.draw.new.hand)
+    stopped (g.J.TileJob.tickets c.args.job.now) (g.J.TileJob.slots c.args.job.now) (g.J.TileJob.is_amount c.args.job.now) _ c.in_default.ensures.none.0 (view_of c.loop-ticket.hand)
+    (view_of c.draw.new.hand)
     c.requires.made_for.tickets_are c.loop-ticket.invariant.working c.in_default.ensures.none.1 c.in_default.ensures.none.2
