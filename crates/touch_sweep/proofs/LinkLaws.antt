@@ -66,6 +66,10 @@ links_both g h one_of_them of_first of_second = record {
   ];
 }
 
+pub links_then : {first second first_may second_may may : ℕ × ℕ → Type 0} {old middle new : List (ℕ × ℕ)} → Links first first_may old middle → Links second second_may middle new
+    → ((p : ℕ × ℕ) → first_may p → may p) → ((p : ℕ × ℕ) → second_may p → may p) → Links (λ p. first p ⊎ second p) may old new
+links_then g h of_first of_second = links_both g h (λ p m. m) of_first of_second
+
 -- fewer that it must join, and more that it may have
 pub links_less : {must may must' may' : ℕ × ℕ → Type 0} {old new : List (ℕ × ℕ)} → Links must may old new → ((p : ℕ × ℕ) → must' p → must p) → ((p : ℕ × ℕ) → may p → may' p) → Links must' may' old new
 links_less g fewer more = record {

@@ -7,8 +7,8 @@ use Rattle.touch_sweep.specs.inside.Chains.{AreInRow, IsMatchAfter, Links}
 use Rattle.touch_sweep.specs.inside.Matches.{IsMatchOf, IsMatchFrom, Gains}
 use Rattle.touch_sweep.specs.inside.Strips.{begins_in, crosses, meets_partly}
 use Rattle.touch_sweep.specs.declared.numbered.Numbered.{Numbered}
-use Rattle.touch_sweep.proofs.LinkLaws.{links_all, links_both, links_less}
-use Rattle.touch_sweep.proofs.SearchSteps.{across_or_partly, in_a_half, nothing_begins, of_more, across_in_spans, in_points, partly_in_spans, split}
+use Rattle.touch_sweep.proofs.LinkLaws.{links_all, links_both, links_less, links_then}
+use Rattle.touch_sweep.proofs.SearchSteps.{across_or_partly, in_a_half, of_more, across_in_spans, in_points, partly_in_spans, split}
 use Rattle.touch_sweep.proofs.TouchLaws.{touch_begins, touch_beside, touch_in_column}
 use Rattle.lists.proofs.Containing.{all_of_each}
 use Rattle.lists.proofs.Filtering.{Contains-from_filter}
@@ -64,11 +64,8 @@ module _ (low high : ℤ) (points spans inner partly : List Numbered) (inner_is 
   pub inner_begin : All (λ e. IsIn low high e.rect.x0) inner
   inner_begin = all_of_each (λ e. IsIn low high e.rect.x0) inner (λ e c. begins_within low high e (passed (begins_in low high) points inner inner_is e c))
 
-  pub inner_among : (e : Numbered) → Contains inner e → Contains points e × IsIn low high e.rect.x0
-  inner_among e c = (in_points low high points spans inner partly inner_is partly_is e c, All-contains (λ e. IsIn low high e.rect.x0) inner e inner_begin c)
-
-  pub nothing_to_link : (pairs : List (ℕ × ℕ)) → length inner ≡ 0 → Links (IsMatchFrom low high points spans) (IsMatchOf points spans) pairs pairs
-  nothing_to_link pairs none = links_all (nothing_begins low high points spans inner partly inner_is partly_is pairs none) (λ p m. m) (λ p m. m)
+  pub inner_among : (from to : ℤ) → All (λ e. IsIn from to e.rect.x0) points → (e : Numbered) → Contains inner e → Contains points e × IsIn from to e.rect.x0
+  inner_among from to within e c = (in_points low high points spans inner partly inner_is partly_is e c, All-contains (λ e. IsIn from to e.rect.x0) points e within (in_points low high points spans inner partly inner_is partly_is e c))
 
   -- spans across all columns first, and then those that meet them in part
   pub link_two_steps : {old middle new : List (ℕ × ℕ)} → Links (IsMatchOf inner (filter (crosses low high) spans)) (IsMatchOf inner (filter (crosses low high) spans)) old middle
@@ -86,12 +83,39 @@ pub link_from_column : (low high : ℤ) (points spans : List Numbered) {old new 
     → Links (IsMatchFrom low high points spans) (IsMatchOf points spans) old new
 link_from_column low high points spans g = links_less g (λ p (m : IsMatchFrom low high points spans p). record { found = m.found; reached = m.reached }) (λ p m. m)
 
-pub link_from_halves : (low high left_low left_high right_low right_high : ℤ) (points spans : List Numbered) {old middle new : List (ℕ × ℕ)} → left_low ≡ low → left_high ≡ right_low
-    → right_high ≡ high
-    → Links (IsMatchFrom left_low left_high points spans) (IsMatchOf points spans) old middle → Links (IsMatchFrom right_low right_high points spans) (IsMatchOf points spans) middle new
-    → Links (IsMatchFrom low high points spans) (IsMatchOf points spans) old new
-link_from_halves low high left_low left_high right_low right_high points spans begins_is meets_is ends_is g h =
-    links_both g h (in_a_half low high left_low left_high right_low right_high points spans begins_is meets_is ends_is) (λ p m. m) (λ p m. m)
+-- first what reaches over all columns of each half, and then what is left in each
+module _ (low high left_low left_high right_low right_high : ℤ) (begins_is : left_low ≡ low) (meets_is : left_high ≡ right_low) (ends_is : right_high ≡ high)
+    (points spans left_points left_spans right_points right_spans : List Numbered)
+    (left_points_are : left_points ≡ filter (begins_in left_low left_high) points) (left_spans_are : left_spans ≡ filter (meets_partly left_low left_high) spans)
+    (right_points_are : right_points ≡ filter (begins_in right_low right_high) points) (right_spans_are : right_spans ≡ filter (meets_partly right_low right_high) spans) where
+  of_left : (e : Numbered) → Contains left_points e → Contains points e
+  of_left = in_points left_low left_high points spans left_points left_spans left_points_are left_spans_are
+
+  of_right : (e : Numbered) → Contains right_points e → Contains points e
+  of_right = in_points right_low right_high points spans right_points right_spans right_points_are right_spans_are
+
+  pub link_from_halves : {old first second third new : List (ℕ × ℕ)}
+      → Links (IsMatchOf left_points (filter (crosses left_low left_high) spans)) (IsMatchOf left_points (filter (crosses left_low left_high) spans)) old first
+      → Links (IsMatchOf right_points (filter (crosses right_low right_high) spans)) (IsMatchOf right_points (filter (crosses right_low right_high) spans)) first second
+      → Links (IsMatchFrom left_low left_high left_points left_spans) (IsMatchOf left_points left_spans) second third
+      → Links (IsMatchFrom right_low right_high right_points right_spans) (IsMatchOf right_points right_spans) third new
+      → Links (IsMatchFrom low high points spans) (IsMatchOf points spans) old new
+  link_from_halves g h k l =
+      let across = links_then {may = IsMatchOf points spans} g h
+          (of_more of_left (Contains-from_filter (crosses left_low left_high) spans)) (of_more of_right (Contains-from_filter (crosses right_low right_high) spans)) in
+      let before = links_then {may = IsMatchOf points spans} across k (λ p m. m) (of_more of_left left_partly) in
+      links_less (links_then {may = IsMatchOf points spans} before l (λ p m. m) (of_more of_right right_partly))
+      (λ p m. elim (in_a_half low high left_low left_high right_low right_high points spans begins_is meets_is ends_is p m) [
+        | inl a ↦ elim (split left_low left_high points spans left_points left_spans left_points_are left_spans_are p a) [ inl b ↦ inl (inl (inl b)) | inr b ↦ inl (inr b) ]
+        | inr a ↦ elim (split right_low right_high points spans right_points right_spans right_points_are right_spans_are p a) [ inl b ↦ inl (inl (inr b)) | inr b ↦ inr b ]
+      ])
+      (λ p m. m)
+    where
+      left_partly : (e : Numbered) → Contains left_spans e → Contains spans e
+      left_partly = partly_in_spans left_low left_high points spans left_points left_spans left_points_are left_spans_are
+
+      right_partly : (e : Numbered) → Contains right_spans e → Contains spans e
+      right_partly = partly_in_spans right_low right_high points spans right_points right_spans right_points_are right_spans_are
 
 -- ---- one column
 

@@ -1,6 +1,6 @@
 -- the splits of a strip, and those of its halves
-use Rattle.std.proofs.Common.{ℕ, ◌+◌, ◌<◌, ◌≤◌, ◌≡◌, ◌∙◌, sym, ap, subst, arith, inl, inr, ◌⊎◌, List, length, get_or, take, drop, ℤ, ◌≤ℤ◌, ◌<ℤ◌, Contains}
-use Rattle.lists.proofs.Words.{ints, cases_lt, Contains-append_cases, take-append-drop, get_or-take, get_or_default, length-take, length-drop}
+use Rattle.std.proofs.Common.{ℕ, ◌+◌, ◌<◌, ◌≤◌, ◌≡◌, ◌∙◌, sym, ap, subst, arith, inl, inr, ◌⊎◌, List, length, get_or, take, drop, ℤ, ◌≤ℤ◌, ◌<ℤ◌, All, Contains}
+use Rattle.lists.proofs.Words.{ints, cases_lt, Contains-append_cases, take-append-drop, get_or-take, get_or_default, length-take, length-drop, All-contains}
 use Rattle.std.proofs.lemmas.List.{get_or-drop}
 use Rattle.std.proofs.lemmas.List.Elements.{Contains-get_or}
 use Rattle.geo_core.specs.Plane.{IsIn}
@@ -74,6 +74,10 @@ module _ (splits : List ℤ) (k : ℕ) (some : k < length splits) where
 
 -- ---- points of a strip
 
+pub begins_of_some : (low high : ℤ) (splits : List ℤ) (points inner : List Numbered) → ((e : Numbered) → Contains inner e → Contains points e)
+    → HaveBegins splits low high points → HaveBegins splits low high inner
+begins_of_some low high splits points inner among h = record { ordered = h.ordered; all = λ e c i. h.all e (among e c) i }
+
 -- the points of a part have their begins among the splits of the part
 pub begins_before : (low high middle : ℤ) (splits before behind : List ℤ) (points inner : List Numbered) → ((e : Numbered) → Contains inner e → Contains points e × IsIn low high e.rect.x0)
     → AreParted low high splits middle before behind → HaveBegins splits low high points → HaveBegins before low middle inner
@@ -90,11 +94,9 @@ begins_behind low high middle splits before behind points inner among parted h =
 }
 
 -- with one split at most they all begin in one column
-pub one_column : (low high : ℤ) (splits : List ℤ) (points inner : List Numbered) → ((e : Numbered) → Contains inner e → Contains points e × IsIn low high e.rect.x0)
-    → HaveBegins splits low high points → length splits ≤ 1 → (a b : Numbered) → Contains inner a → Contains inner b → a.rect.x0 ≡ b.rect.x0
-one_column low high splits points inner among h few a b c d =
-    let f = among a c in let g = among b d in
-    same (h.all a f.0 f.1) (h.all b g.0 g.1)
+pub one_column : (low high : ℤ) (splits : List ℤ) (points : List Numbered) → All (λ e. IsIn low high e.rect.x0) points
+    → HaveBegins splits low high points → length splits ≤ 1 → (a b : Numbered) → Contains points a → Contains points b → a.rect.x0 ≡ b.rect.x0
+one_column low high splits points within h few a b c d = same (h.all a c (All-contains (λ e. IsIn low high e.rect.x0) points a within c)) (h.all b d (All-contains (λ e. IsIn low high e.rect.x0) points b within d))
   where
     same : Contains splits a.rect.x0 → Contains splits b.rect.x0 → a.rect.x0 ≡ b.rect.x0
     same (i, small, e) (j, small', f) =

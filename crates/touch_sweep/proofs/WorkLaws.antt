@@ -81,18 +81,11 @@ module _ (low high : ℤ) where
     ends_halves = filter_two _ _ _ (λ e a b. grind (arith, ints)) (λ e a. grind (arith, ints)) (λ e a. grind (arith, ints))
 
     -- what is to be done in the halves is no more than what was
-    pub work_halves : (points spans : List Numbered)
-        → work_in low middle (filter (begins_in low high) points) (filter (meets_partly low high) spans)
-        + work_in middle high (filter (begins_in low high) points) (filter (meets_partly low high) spans)
-        ≤ work_in low high points spans
-    work_halves points spans =
-        let p = begins_halves (filter (begins_in low high) points) in
-        let b = inside_halves (filter (meets_partly low high) spans) in
-        let e = ends_halves (filter (meets_partly low high) spans) in
-        let p' = filter_again (begins_in low high) (begins_in low high) points in
-        let b' = filter_again (begins_inside low high) (meets_partly low high) spans in
-        let e' = filter_again (ends_inside low high) (meets_partly low high) spans in
-        omega arith
+    work_halves : (points spans : List Numbered) → work_in low middle points spans + work_in middle high points spans ≤ work_in low high points spans
+    work_halves points spans = let p = begins_halves points in let b = inside_halves spans in let e = ends_halves spans in omega arith
+
+    points_halves : (points : List Numbered) → length (filter (begins_in low middle) points) + length (filter (begins_in middle high) points) ≤ length points
+    points_halves points = let h = begins_halves points in let f = filter_few (begins_in low high) points in omega arith
 
 pub work_all : (low high : ℤ) (entries : List Numbered) → work_in low high entries entries ≤ 3 * length entries
 work_all low high entries =
@@ -105,9 +98,25 @@ module _ (low high : ℤ) (points spans inner partly : List Numbered) (inner_is 
       let p = ap (λ (xs : List Numbered). length xs) inner_is in
       let s = ap (λ (xs : List Numbered). length xs) partly_is in let h = partly_few low high spans in omega arith
 
-  pub work_parted : (left_low left_high right_low right_high : ℤ) → left_low ≡ low → left_high ≡ right_low → right_high ≡ high → (low ≤ℤ left_high) × (left_high ≤ℤ high)
-      → work_in left_low left_high inner partly + work_in right_low right_high inner partly ≤ work_in low high points spans
-  work_parted left_low left_high right_low right_high a b c between = rw (a, ← b, c, inner_is, partly_is) (work_halves low high left_high between.0 between.1 points spans)
+  -- what is left to do there
+  pub work_left : work_in low high inner partly ≤ work_in low high points spans
+  work_left = rw (inner_is, partly_is) fewer
+    where
+      fewer : work_in low high (filter (begins_in low high) points) (filter (meets_partly low high) spans) ≤ work_in low high points spans
+      fewer =
+          let p = filter_again (begins_in low high) (begins_in low high) points in
+          let b = filter_again (begins_inside low high) (meets_partly low high) spans in
+          let e = filter_again (ends_inside low high) (meets_partly low high) spans in
+          omega arith
+
+module _ (low high left_low left_high right_low right_high : ℤ) (begins_is : left_low ≡ low) (meets_is : left_high ≡ right_low) (ends_is : right_high ≡ high)
+    (between : (low ≤ℤ left_high) × (left_high ≤ℤ high)) (points : List Numbered) where
+  pub work_parted : (spans : List Numbered) → work_in left_low left_high points spans + work_in right_low right_high points spans ≤ work_in low high points spans
+  work_parted spans = rw (begins_is, ← meets_is, ends_is) (work_halves low high left_high between.0 between.1 points spans)
+
+  pub points_parted : (left right : List Numbered) → left ≡ filter (begins_in left_low left_high) points → right ≡ filter (begins_in right_low right_high) points
+      → length left + length right ≤ length points
+  points_parted left right left_is right_is = rw (left_is, right_is, begins_is, ← meets_is, ends_is) (points_halves low high left_high between.0 between.1 points)
 
 -- columns in which an entry begins
 pub some_column : (low high : ℤ) (entries : List Numbered) → 0 < length entries → All (λ e. IsIn low high e.rect.x0) entries → low ≤ℤ high
@@ -122,44 +131,42 @@ mul_grows : (n a b : ℕ) → a ≤ b → n * a ≤ n * b
 mul_grows zero a b less = omega arith
 mul_grows (suc n) a b less = let h = mul_grows n a b less in omega arith
 
--- with so many splits, and spans that are looked at first, the list has few pairs more, by the work that there is
-abbrev pub AreFew : ℕ → ℕ → ℕ → ℕ → ℕ → Type 0
-AreFew splits spans work old new = (levels : ℕ) → splits ≤ 2 ^ levels → new ≤ old + 3 * spans + 16 * (levels * work + work)
+-- of a strip with so many splits, points and spans the list has few pairs more, by the work that there is
+abbrev pub AreFew : ℕ → ℕ → ℕ → ℕ → ℕ → ℕ → Type 0
+AreFew splits points spans work old new = (levels : ℕ) → splits ≤ 2 ^ levels → new ≤ old + 16 * (levels * work + points + spans)
 
--- of few points, or of points in one column
-pub few_swept : {E : Type 0} (result : Result (Unit {0}) E) (splits points spans partly work old across new : ℕ) → across ≤ old + 7 * points + 3 * spans → points ≤ 16 → points + partly ≤ work
-    → OnOk result (new ≤ across + points * partly) → OnOk result (AreFew splits spans work old new)
-few_swept (Ok u) splits points spans partly work old across new a few own s = λ levels l. let h = mul-le points partly 16 partly few (omega arith) in omega arith
-few_swept (Err e) splits points spans partly work old across new a few own s = tt
-
-pub few_in_column : {E : Type 0} (result : Result (Unit {0}) E) (splits points spans partly work old across new : ℕ) → across ≤ old + 7 * points + 3 * spans → points + partly ≤ work
-    → OnOk result (new ≤ across + 9 * points + 5 * partly) → OnOk result (AreFew splits spans work old new)
-few_in_column (Ok u) splits points spans partly work old across new a own s = λ levels l. omega arith
-few_in_column (Err e) splits points spans partly work old across new a own s = tt
+-- of few points
+pub few_swept : {E : Type 0} (result : Result (Unit {0}) E) (splits points spans work old new : ℕ) → points ≤ 16 → OnOk result (new ≤ old + points * spans) → OnOk result (AreFew splits points spans work old new)
+few_swept (Ok u) splits points spans work old new few s = λ levels l. let h = mul-le points spans 16 spans few (omega arith) in omega arith
+few_swept (Err e) splits points spans work old new few s = tt
 
 -- of two halves, each of which has half of the splits and so a level less
-halves_few : (levels splits before behind points spans partly work left right old across first new : ℕ) → 1 < splits → splits ≤ 2 ^ levels
-    → 2 * before ≤ splits + 1 → 2 * behind ≤ splits + 1 → across ≤ old + 7 * points + 3 * spans
-    → AreFew before partly left across first → AreFew behind partly right first new → left + right ≤ work → points + partly ≤ work → new ≤ old + 3 * spans + 16 * (levels * work + work)
-halves_few zero splits before behind points spans partly work left right old across first new some few b c a f g less own = absurd (omega arith)
-halves_few (suc l) splits before behind points spans partly work left right old across first new some few b c a f g less own =
-    let d : 2 ^ suc l ≡ 2 * 2 ^ l = omega arith in
-    let u = f l (omega arith) in let v = g l (omega arith) in
-    let h = mul_grows l (left + right) work less in
-    let e : l * (left + right) ≡ l * left + l * right = omega arith in
-    let k : suc l * work ≡ work + l * work = omega arith in
-    omega arith
+module _ (splits points spans work before before_points before_spans before_work behind behind_points behind_spans behind_work : ℕ) (some : 1 < splits)
+    (half : 2 * before ≤ splits + 1) (other_half : 2 * behind ≤ splits + 1) (parted : before_points + behind_points ≤ points) (left right : ℕ) (less : left + right ≤ work)
+    (own : before_points + before_spans ≤ left) (other_own : behind_points + behind_spans ≤ right) (smaller : before_work ≤ left) (other_smaller : behind_work ≤ right)
+    (old first second third new : ℕ) (across : first ≤ old + 7 * before_points + 3 * spans) (other_across : second ≤ first + 7 * behind_points + 3 * spans)
+    (f : AreFew before before_points before_spans before_work second third) where
+  halves_few : AreFew behind behind_points behind_spans behind_work third new → AreFew splits points spans work old new
+  halves_few g zero few = absurd (omega arith)
+  halves_few g (suc l) few =
+      let d : 2 ^ suc l ≡ 2 * 2 ^ l = omega arith in
+      let u = f l (omega arith) in let v = g l (omega arith) in
+      let h = mul_grows l (before_work + behind_work) work (omega arith) in
+      let e : l * (before_work + behind_work) ≡ l * before_work + l * behind_work = omega arith in
+      let k : suc l * work ≡ work + l * work = omega arith in
+      omega arith
 
-pub few_in_halves : {E : Type 0} (result : Result (Unit {0}) E) (splits before behind points spans partly work left right old across first new : ℕ) → 1 < splits
-    → 2 * before ≤ splits + 1 → 2 * behind ≤ splits + 1 → across ≤ old + 7 * points + 3 * spans → left + right ≤ work → points + partly ≤ work
-    → AreFew before partly left across first → OnOk result (AreFew behind partly right first new) → OnOk result (AreFew splits spans work old new)
-few_in_halves (Ok u) splits before behind points spans partly work left right old across first new some b c a less own f g =
-    λ levels few. halves_few levels splits before behind points spans partly work left right old across first new some few b c a f g less own
-few_in_halves (Err e) splits before behind points spans partly work left right old across first new some b c a less own f g = tt
+  pub few_in_halves : {E : Type 0} (result : Result (Unit {0}) E) → OnOk result (AreFew behind behind_points behind_spans behind_work third new) → OnOk result (AreFew splits points spans work old new)
+  few_in_halves (Ok u) g = halves_few g
+  few_in_halves (Err e) g = tt
 
 -- of all entries
-pub few_of_all : (levels count work found : ℕ) → found ≤ 3 * count + 16 * (levels * work + work) → work ≤ 3 * count → found ≤ 51 * count * (levels + 1)
-few_of_all levels count work found few less = let h = mul_grows levels work (3 * count) less in omega arith
+pub few_of_all : {E : Type 0} (result : Result (Unit {0}) E) (splits count points spans work old across new : ℕ) → points ≤ count → spans ≤ count → work ≤ 3 * count
+    → across ≤ old + 7 * points + 3 * count → OnOk result (AreFew splits points spans work across new)
+    → OnOk result ((levels : ℕ) → splits ≤ 2 ^ levels → new ≤ old + 51 * count * (levels + 1))
+few_of_all (Ok u) splits count points spans work old across new p s less a f = λ levels few.
+    let g = f levels few in let h = mul_grows levels work (3 * count) less in omega arith
+few_of_all (Err e) splits count points spans work old across new p s less a f = tt
 
 -- ---- sweeps
 

@@ -60,11 +60,10 @@ pub fn touch_links(alloc: Global, rects: &[Rect]) -> Result<Vec<(usize, usize)>,
         length pairs.items ≤ 51 * length rects.now * (levels + 1)) }
 {
     let entries = by_row(alloc, rects)?;
-    let entries = entries.as_slice();
     let columns = beginnings(alloc, rects)?;
-    let strip = Strip::around(entries, columns.as_slice());
+    let strip = Strip::around(entries.as_slice(), columns.as_slice());
     let mut pairs = Vec::new(alloc);
-    link(alloc, rects.len(), entries, entries, strip, &mut pairs)?;
+    link(alloc, rects.len(), entries, strip, &mut pairs)?;
     Ok(pairs)
 }
 

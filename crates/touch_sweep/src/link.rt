@@ -4,7 +4,7 @@ ghost use Rattle.touch_sweep.specs.inside.Entries.{IsByRow};
 ghost use Rattle.touch_sweep.specs.inside.Matches.{IsMatchOf, IsMatchFrom};
 ghost use Rattle.touch_sweep.specs.inside.Chains.{AreInRow, IsMatchAfter, Links};
 ghost use Rattle.touch_sweep.specs.inside.Splits.{HaveBegins, work_in};
-ghost use Rattle.touch_sweep.specs.inside.Strips.{crosses, meets_partly};
+ghost use Rattle.touch_sweep.specs.inside.Strips.{begins_in, crosses, meets_partly};
 
 use super::chain::chain;
 use super::numbered::Numbered;
@@ -19,45 +19,104 @@ const FEW: usize = 16;
 /// Where there are no more than this many pairs for each point, they are all right: a sweep is quicker than chains.
 const ENOUGH: usize = 4;
 
-/// Adds pairs of numbers by which each point and each span that touch are joined, where the point begins in the strip
-/// and the span begins no later than the point. Both lists are in the order of their lowest rows. Where there are many
-/// pairs for so many numbers, pairs are let go that the others make needless.
+/// Adds pairs of numbers by which all entries that touch are joined, where the later one of two begins in the strip. The
+/// entries are in the order of their lowest rows. Where there are many pairs for so many numbers, pairs are let go that
+/// the others make needless.
 pub fn link(
+    alloc: Global,
+    count: usize,
+    entries: Vec<Numbered>,
+    strip: Strip<'_>,
+    pairs: &mut Vec<(usize, usize)>,
+) -> Result<(), AllocError>
+    requires rows { IsByRow entries.items }
+    requires splits { HaveBegins strip.splits.now strip.low strip.high entries.items }
+    ensures joined { OnOk result (Links
+        (IsMatchFrom strip.entry.low strip.entry.high entries.items entries.items) (IsMatchOf entries.items entries.items)
+        pairs.old.items pairs.new.items) }
+    ensures few { OnOk result ((levels : ℕ) → length strip.entry.splits.now ≤ 2 ^ levels →
+        length pairs.new.items ≤ length pairs.old.items + 51 * length entries.items * (levels + 1)) }
+{
+    let all = entries.as_slice();
+    let Part { points, spans } = part_of(alloc, count, all, all, strip, pairs)?;
+    drop(entries);
+    link_strip(alloc, count, points, spans, strip, pairs)
+}
+
+/// Adds pairs of numbers by which each point and each span that touch are joined, where the span begins no later than the
+/// point. All points begin in the strip. Both lists are in the order of their lowest rows.
+///
+/// The lists are let go before the parts are searched. So while parts wait for others, each point waits in one part, and
+/// each span in two at most, one for each of its sides.
+fn link_strip(
+    alloc: Global,
+    count: usize,
+    points: Vec<Numbered>,
+    spans: Vec<Numbered>,
+    strip: Strip<'_>,
+    pairs: &mut Vec<(usize, usize)>,
+) -> Result<(), AllocError>
+    requires points { IsByRow points.items }
+    requires spans { IsByRow spans.items }
+    requires begin { All (λ e. IsIn strip.low strip.high e.rect.x0) points.items }
+    requires splits { HaveBegins strip.splits.now strip.low strip.high points.items }
+    ensures joined { OnOk result (Links
+        (IsMatchFrom strip.entry.low strip.entry.high points.items spans.items) (IsMatchOf points.items spans.items)
+        pairs.old.items pairs.new.items) }
+
+    // A span meets two strips of each level in part at most: one for each of its sides.
+    ensures few { OnOk result ((levels : ℕ) → length strip.entry.splits.now ≤ 2 ^ levels →
+        let work = work_in strip.entry.low strip.entry.high points.items spans.items in
+        length pairs.new.items ≤ length pairs.old.items
+            + 16 * (levels * work + length points.items + length spans.items)) }
+{
+    if points.len() <= FEW {
+        return sweep(points.as_slice(), spans.as_slice(), pairs);
+    }
+    if strip.splits.len() <= 1 {
+        return link_column(alloc, count, points.as_slice(), spans.as_slice(), points[0], pairs);
+    }
+    let (left, right) = strip.halves();
+    let before = part_of(alloc, count, points.as_slice(), spans.as_slice(), left, pairs)?;
+    let behind = part_of(alloc, count, points.as_slice(), spans.as_slice(), right, pairs)?;
+    drop(points);
+    drop(spans);
+    link_strip(alloc, count, before.points, before.spans, left, pairs)?;
+    link_strip(alloc, count, behind.points, behind.spans, right, pairs)
+}
+
+/// What is left to link in a strip: the points that begin in it, and the spans that meet some of its columns only.
+#[derive(Drop)]
+struct Part {
+    points: Vec<Numbered>,
+    spans: Vec<Numbered>,
+}
+
+/// Adds pairs of numbers by which each point that begins in the strip and each span that reaches over all of its columns
+/// are joined where they touch, and gives what is left to link. Both lists are in the order of their lowest rows.
+fn part_of(
     alloc: Global,
     count: usize,
     points: &[Numbered],
     spans: &[Numbered],
     strip: Strip<'_>,
     pairs: &mut Vec<(usize, usize)>,
-) -> Result<(), AllocError>
+) -> Result<Part, AllocError>
     requires points { IsByRow points.now }
     requires spans { IsByRow spans.now }
-    requires splits { HaveBegins strip.splits.now strip.low strip.high points.now }
-    ensures joined { OnOk result (Links
-        (IsMatchFrom strip.entry.low strip.entry.high points.now spans.now) (IsMatchOf points.now spans.now)
-        pairs.old.items pairs.new.items) }
-
-    // A span meets two strips of each level in part at most: one for each of its sides.
-    ensures few { OnOk result ((levels : ℕ) → length strip.entry.splits.now ≤ 2 ^ levels →
-        let work = work_in strip.entry.low strip.entry.high points.now spans.now in
-        length pairs.new.items ≤ length pairs.old.items + 3 * length spans.now + 16 * (levels * work + work)) }
+    ensures across { IfOk result (λ part. let found =
+        IsMatchOf part.points.items (filter (crosses strip.entry.low strip.entry.high) spans.now) in
+        Links found found pairs.old.items pairs.new.items) }
+    ensures few { IfOk result (λ part.
+        length pairs.new.items ≤ length pairs.old.items + 7 * length part.points.items + 3 * length spans.now) }
+    ensures points { IfOk result (λ part.
+        part.points.items ≡ filter (begins_in strip.entry.low strip.entry.high) points.now) }
+    ensures spans { IfOk result (λ part.
+        part.spans.items ≡ filter (meets_partly strip.entry.low strip.entry.high) spans.now) }
 {
     let points = strip.beginning(alloc, points)?;
-    let points = points.as_slice();
-    if points.is_empty() {
-        return Ok(());
-    }
-    let spans = link_across(alloc, count, points, spans, strip, pairs)?;
-    let spans = spans.as_slice();
-    if points.len() <= FEW {
-        return sweep(points, spans, pairs);
-    }
-    if strip.splits.len() <= 1 {
-        return link_column(alloc, count, points, spans, points[0], pairs);
-    }
-    let (left, right) = strip.halves();
-    link(alloc, count, points, spans, left, pairs)?;
-    link(alloc, count, points, spans, right, pairs)
+    let spans = link_across(alloc, count, points.as_slice(), spans, strip, pairs)?;
+    Ok(Part { points, spans })
 }
 
 /// Adds pairs of numbers by which each point and each span that touch are joined, where the span reaches over all columns
