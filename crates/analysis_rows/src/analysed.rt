@@ -1,4 +1,4 @@
-use critarea_core::{LayoutFault, NoGate, analyse};
+use critarea_core::{Gate, LayoutFault, NoGate, analyse};
 use layer_map::read_map;
 use map_model::{Map, one_metal};
 use std::alloc::Global;
@@ -32,7 +32,7 @@ pub const TWO_BARS: &[u8; 230] = b"\
 
 /// What the analysis is to answer.
 #[derive(Clone, Copy)]
-enum Want {
+pub enum Want {
     /// These areas of shorts and of opens.
     Areas(u64, u64),
     /// The fault of this stage, with this number at this place.
@@ -50,21 +50,22 @@ fn stage_of(fault: LayoutFault) -> &'static str {
     }
 }
 
-/// Whether the analysis of these bytes answers so, for tiles with this edge and so many workers.
-fn answers(
+/// Whether the analysis of these bytes answers so, for tiles with this edge, so many workers, and this gate.
+pub fn answers<G: Gate + Sync>(
     rt: &(impl Threads + Sync),
     alloc: Global,
     map: &Map,
     layout: &[u8],
     top: Option<&[u8]>,
     (edge, workers): (u32, u32),
+    gate: &G,
     want: Want,
 ) -> bool {
     let edge = edge.clamp(1, 1_000_000_000);
     let workers = workers.clamp(1, 64);
     let layout = &layout[..layout.len().min(230)];
     match (
-        analyse(rt, alloc, map, layout, top, edge, workers, &NoGate),
+        analyse(rt, alloc, map, layout, top, edge, workers, gate),
         want,
     ) {
         (Ok(rows), Want::Areas(shorts, opens)) => {
@@ -115,7 +116,7 @@ fn each_of_tiles_answers(
     want: Want,
 ) -> bool {
     for tiles in TILES {
-        if !answers(rt, alloc, map, layout, top, *tiles, want) {
+        if !answers(rt, alloc, map, layout, top, *tiles, &NoGate, want) {
             return false;
         }
     }

@@ -4,10 +4,10 @@ use super::runs::prints;
 use critarea_core::NoGate;
 
 /// What asks for the areas of 200 columns and 200 rows.
-const ONE_WORKER: [&str; 4] = ["--generate", "200", "--workers", "1"];
+const ONE_WORKER: &str = "--generate 200 --workers 1";
 
 /// The same by eight workers: the window is 4,002 by 4,002 cells, which are 81 tiles.
-const EIGHT_WORKERS: [&str; 6] = ["--generate", "200", "--workers", "8", "--tile", "500"];
+const EIGHT_WORKERS: &str = "--generate 200 --workers 8 --tile 500";
 
 /// The report. Of n columns and n rows, here 200, a defect of radius 5 touches two wires of the first metal at
 /// (20 n + 2) (2 n - 2) + (18 n + 4) (8 n - 2) cells, and two of the second at 28 n (n - 1). There are n * n contacts of 2 by 2
@@ -33,8 +33,8 @@ const REPORT: &str = "\
 
 #[test]
 fn one_worker_and_eight_print_the_same(rt: HostRuntime) {
-    let one = prints(&rt, rt.alloc(), &ONE_WORKER, &[], &NoGate, REPORT) == Ok(true);
+    let one = prints(&rt, rt.alloc(), ONE_WORKER, &[], &NoGate, REPORT) == Ok(true);
     assert!(rt; one);
-    let eight = prints(&rt, rt.alloc(), &EIGHT_WORKERS, &[], &NoGate, REPORT) == Ok(true);
+    let eight = prints(&rt, rt.alloc(), EIGHT_WORKERS, &[], &NoGate, REPORT) == Ok(true);
     assert!(rt; eight);
 }

@@ -7,13 +7,13 @@ use lists::{Name, NoMemory};
 use std::alloc::Global;
 use std::thread::Threads;
 
-/// Each of the words as the system would give it.
-fn words_of(alloc: Global, words: &[&str]) -> Result<Vec<Word>, NoMemory> {
-    let mut list = Vec::new(alloc);
-    for word in words {
-        list.push(Word::from_string(String::from_str(alloc, word)?))?;
+/// The words of a command line, with one space between two of them, as the system would give them.
+fn words_of(alloc: Global, line: &str) -> Result<Vec<Word>, NoMemory> {
+    let mut words = Vec::new(alloc);
+    for word in line.split(' ') {
+        words.push(Word::from_string(String::from_str(alloc, word)?))?;
     }
-    Ok(list)
+    Ok(words)
 }
 
 /// The gauges of the program.
@@ -24,16 +24,16 @@ fn house_gauges(alloc: Global) -> Result<Vec<Box<dyn Gauge>>, NoMemory> {
     Ok(gauges)
 }
 
-/// Whether a run on these words ends with 0 and prints this report alone, where the file `a` has these bytes.
+/// Whether a run on this command line ends with 0 and prints this report alone, where the file `a` has these bytes.
 pub fn prints<G: Gate + Sync>(
     rt: &(impl Threads + Sync),
     alloc: Global,
-    words: &[&str],
+    line: &str,
     layout: &[u8],
     gate: &G,
     report: &str,
 ) -> Result<bool, NoMemory> {
-    let words = words_of(alloc, words)?;
+    let words = words_of(alloc, line)?;
     let mut layouts = Vec::new(alloc);
     let name = Name::from_vec(Vec::from_slice(alloc, b"a".as_slice())?);
     layouts.push((name, Vec::from_slice(alloc, layout)?))?;
