@@ -68,17 +68,38 @@ fn link_strip(
     ensures few { OnOk result ((levels : ℕ) → length strip.entry.splits.now ≤ 2 ^ levels →
         let work = work_in strip.entry.low strip.entry.high points.items spans.items in
         length pairs.new.items ≤ length pairs.old.items
-            + 16 * (levels * work + length points.items + length spans.items)) }
+        + 16 * (levels * work + length points.items + length spans.items)) }
 {
     if points.len() <= FEW {
         return sweep(points.as_slice(), spans.as_slice(), pairs);
     }
     if strip.splits.len() <= 1 {
-        return link_column(alloc, count, points.as_slice(), spans.as_slice(), points[0], pairs);
+        return link_column(
+            alloc,
+            count,
+            points.as_slice(),
+            spans.as_slice(),
+            points[0],
+            pairs,
+        );
     }
     let (left, right) = strip.halves();
-    let before = part_of(alloc, count, points.as_slice(), spans.as_slice(), left, pairs)?;
-    let behind = part_of(alloc, count, points.as_slice(), spans.as_slice(), right, pairs)?;
+    let before = part_of(
+        alloc,
+        count,
+        points.as_slice(),
+        spans.as_slice(),
+        left,
+        pairs,
+    )?;
+    let behind = part_of(
+        alloc,
+        count,
+        points.as_slice(),
+        spans.as_slice(),
+        right,
+        pairs,
+    )?;
     drop(points);
     drop(spans);
     link_strip(alloc, count, before.points, before.spans, left, pairs)?;
