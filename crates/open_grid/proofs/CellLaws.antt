@@ -21,7 +21,8 @@ use Rattle.open_grid.proofs.ZoneLaws.{IsStoodFor, stand_in_part}
 
 -- the law on the lines of steady zones
 abbrev pub SeverAlikeAlong : Axis → Type 0
-SeverAlikeAlong axis = (island : IslandLists) (side : ℕ) (zone : Rect) (near : List HalfBox) → 1 ≤ side → HasNear island zone side near → IsSteady axis zone side near → (c d : Cell) → Has zone c → Has zone d
+SeverAlikeAlong axis = (island : IslandLists) (side : ℕ) (zone : Rect) (near : List HalfBox) → 1 ≤ side → HasNear island zone side near → IsSteady axis zone side near →
+    (c d : Cell) → Has zone c → Has zone d
     → AreInLine axis c d → IsSevered island (IsInFootprint c side) ↔ IsSevered island (IsInFootprint d side)
 
 -- ---- cells in one line

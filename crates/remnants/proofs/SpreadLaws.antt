@@ -148,7 +148,8 @@ outdone_more marks heads k d head outdone small at other so_far terminal among =
 -- a terminal that is outdone has one that stands for it, the head of its leader
 module _ (terminals : List ℕ) (loose : List Loose) (marks gathered : List Mark) (listed spread gone : List ℕ) (heads : List (Option ℕ)) (outdone : List ℕ) (leaders : ℕ)
     (spread_are : (terminal : ℕ) → (Contains spread terminal → ⊥) → IsGathered loose marks terminal) (listed_are : (terminal : ℕ) → Contains listed terminal → Contains terminals terminal)
-    (gathered_are : AreGathered marks listed spread gathered) (heads_are : AreHeads leaders gathered heads) (outdone_are : (terminal : ℕ) → Contains outdone terminal → IsOutdone gathered heads terminal)
+    (gathered_are : AreGathered marks listed spread gathered) (heads_are : AreHeads leaders gathered heads)
+    (outdone_are : (terminal : ℕ) → Contains outdone terminal → IsOutdone gathered heads terminal)
     (gone_are : (terminal : ℕ) → Contains gone terminal → Contains outdone terminal) where
   alone : (leader terminal : ℕ) → IsMarked gathered terminal leader → IsAlone terminals loose marks leader terminal
   alone leader terminal m =

@@ -17,4 +17,5 @@ pub returns-then-not-touches-2 : goal.returns-then-not-touches-2
 returns-then-not-touches-2 c = inr (far_up c.args.core c.args.reach c.args.one (λ touch. false≢true (sym c.if-not-touches-2.true ∙ c.touches-2.ensures.1 touch)))
 
 pub returns-in-Some : goal.returns-in-Some
-returns-in-Some c = subst (λ core. IsTrue (not c.is_within.result) ⊎ MayNotMatter core c.args.reach c.args.one) (sym c.in-Some.is) (by_test c.is_within.result c.args.one c.in-Some.core c.args.reach c.is_within.ensures)
+returns-in-Some c = subst (λ core. IsTrue (not c.is_within.result) ⊎ MayNotMatter core c.args.reach c.args.one) (sym c.in-Some.is)
+    (by_test c.is_within.result c.args.one c.in-Some.core c.args.reach c.is_within.ensures)

@@ -13,7 +13,8 @@ loop-mark-preserved c =
     let more = take_more items k none c.loop-mark-test.true in
     elim c.if-not-has.branch [
       | then-not-has+in_ok-push w ↦ rw (more, w.stay-is, w.in_ok-push.ensures.items)
-          (stays_more (λ (mark : Mark). mark.terminal) c.args.gone.now (take k items) c.loop-mark.stay.items c.loop-mark.invariant (get_or items k none) (λ h. false≢true (sym w.if-not-has.true ∙ c.has.ensures.1 h)))
+          (stays_more (λ (mark : Mark). mark.terminal) c.args.gone.now (take k items) c.loop-mark.stay.items c.loop-mark.invariant (get_or items k none)
+          (λ h. false≢true (sym w.if-not-has.true ∙ c.has.ensures.1 h)))
       | else-not-has w ↦ rw (more, w.stay-is)
           (goes_more (λ (mark : Mark). mark.terminal) c.args.gone.now (take k items) c.loop-mark.stay.items c.loop-mark.invariant (get_or items k none) (c.has.ensures.0 w.if-not-has.false))
     ]

@@ -16,5 +16,6 @@ pub returns : goal.returns
 returns c =
     stood_for c.args.terminals.now c.args.loose.now c.args.marks.now c.in_ok-gathered.gathered.items c.of-listed.result c.in_ok-spread.spread _
     c.in_ok-heads.heads.items c.in_ok-outdone.outdone.items c.args.leaders c.in_ok-spread.ensures
-    (λ terminal h. subst (λ (ts : List ℕ). Contains ts terminal) c.in_ok-from_slice.ensures.items ((c.of-listed.ensures terminal).0 h)) c.in_ok-gathered.ensures (rw c.deref.ensures.value at c.in_ok-heads.ensures)
+    (λ terminal h. subst (λ (ts : List ℕ). Contains ts terminal) c.in_ok-from_slice.ensures.items ((c.of-listed.ensures terminal).0 h)) c.in_ok-gathered.ensures
+    (rw c.deref.ensures.value at c.in_ok-heads.ensures)
     (rw (c.deref-2.ensures.value, c.deref-3.ensures.value) at c.in_ok-outdone.ensures) (λ terminal. (c.of.ensures terminal).0)

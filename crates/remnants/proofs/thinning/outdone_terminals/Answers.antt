@@ -16,7 +16,8 @@ loop-mark-preserved c =
     elim c.match-heads-mark.branch [
       | in-Some+then-head-mark+in_ok-push w ↦ rw (w.outdone-is, w.in_ok-push.ensures.items)
           (outdone_more marks heads k none w.in-Some.head c.loop-mark.outdone.items c.loop-mark-test.true
-          (slice_get_read heads (length heads) mark.leader (Some w.in-Some.head) refl small (sym w.in-Some.is ∙ get_or_default heads mark.leader _ (Some w.in-Some.head) small)) w.if-head-mark.true c.loop-mark.invariant)
+          (slice_get_read heads (length heads) mark.leader (Some w.in-Some.head) refl small
+          (sym w.in-Some.is ∙ get_or_default heads mark.leader _ (Some w.in-Some.head) small)) w.if-head-mark.true c.loop-mark.invariant)
       | in-Some+else-head-mark w ↦ rw w.outdone-is c.loop-mark.invariant
       | in_default w ↦ rw w.outdone-is c.loop-mark.invariant
     ]

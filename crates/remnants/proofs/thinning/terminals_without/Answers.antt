@@ -11,7 +11,8 @@ loop-terminal-preserved c =
     let more = take_more items k 0 c.loop-terminal-test.true in
     elim c.if-not-has.branch [
       | then-not-has+in_ok-push w ↦ rw (more, w.stay-is, w.in_ok-push.ensures.items)
-          (stays_more (λ (terminal : ℕ). terminal) c.args.gone.now (take k items) c.loop-terminal.stay.items c.loop-terminal.invariant (get_or items k 0) (λ h. false≢true (sym w.if-not-has.true ∙ c.has.ensures.1 h)))
+          (stays_more (λ (terminal : ℕ). terminal) c.args.gone.now (take k items) c.loop-terminal.stay.items c.loop-terminal.invariant (get_or items k 0)
+          (λ h. false≢true (sym w.if-not-has.true ∙ c.has.ensures.1 h)))
       | else-not-has w ↦ rw (more, w.stay-is)
           (goes_more (λ (terminal : ℕ). terminal) c.args.gone.now (take k items) c.loop-terminal.stay.items c.loop-terminal.invariant (get_or items k 0) (c.has.ensures.0 w.if-not-has.false))
     ]

@@ -53,4 +53,5 @@ returns-clause-same c =
 pub returns-clause-within : goal.returns-clause-within
 returns-clause-within c =
     IfOk-weaker c.keep.result (λ (narrowed : RemnantLists). narrowed.loose ≡ c.in_ok-thinned.thinned.loose) (λ (narrowed : RemnantLists). IsLooseWithin narrowed c.args.outer)
-    (λ (narrowed : RemnantLists) same. subst (All (λ (one : Loose). LiesWithin one.part c.args.outer)) (sym (same ∙ c.in_ok-thinned.ensures.loose ∙ c.in_ok-joined.ensures.loose)) c.loop-loose.invariant.within) c.keep.ensures.loose
+    (λ (narrowed : RemnantLists) same. subst (All (λ (one : Loose). LiesWithin one.part c.args.outer))
+    (sym (same ∙ c.in_ok-thinned.ensures.loose ∙ c.in_ok-joined.ensures.loose)) c.loop-loose.invariant.within) c.keep.ensures.loose
