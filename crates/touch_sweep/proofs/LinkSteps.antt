@@ -1,5 +1,5 @@
 -- the steps of the search for links in a strip of columns
-use Rattle.std.proofs.Common.{ℕ, ◌≡◌, refl, subst, List, length, arith, inl, inr, ◌⊎◌, Bool, true, ℤ, pos, ◌+ℤ◌, ◌≤ℤ◌, All, Contains, filter}
+use Rattle.std.proofs.Common.{ℕ, ◌≡◌, refl, subst, List, arith, inl, inr, ◌⊎◌, Bool, true, ℤ, pos, ◌+ℤ◌, ◌≤ℤ◌, All, Contains, filter}
 use Rattle.lists.proofs.Words.{ints, All-contains, filter_passes}
 use Rattle.geo_core.specs.Plane.{IsIn}
 use Rattle.geo_core.proofs.RectLaws.{Touch-sym}
@@ -102,7 +102,7 @@ module _ (low high left_low left_high right_low right_high : ℤ) (begins_is : l
       → Links (IsMatchFrom low high points spans) (IsMatchOf points spans) old new
   link_from_halves g h k l =
       let across = links_then {may = IsMatchOf points spans} g h
-          (of_more of_left (Contains-from_filter (crosses left_low left_high) spans)) (of_more of_right (Contains-from_filter (crosses right_low right_high) spans)) in
+      (of_more of_left (Contains-from_filter (crosses left_low left_high) spans)) (of_more of_right (Contains-from_filter (crosses right_low right_high) spans)) in
       let before = links_then {may = IsMatchOf points spans} across k (λ p m. m) (of_more of_left left_partly) in
       links_less (links_then {may = IsMatchOf points spans} before l (λ p m. m) (of_more of_right right_partly))
       (λ p m. elim (in_a_half low high left_low left_high right_low right_high points spans begins_is meets_is ends_is p m) [
