@@ -1,5 +1,5 @@
 -- the steps of the search for links in a strip of columns
-use Rattle.std.proofs.Common.{ℕ, ◌≡◌, refl, subst, List, length, arith, inl, inr, ◌⊎◌, Bool, true, ℤ, pos, ◌+ℤ◌, ◌≤ℤ◌, All, Contains, filter}
+use Rattle.std.proofs.Common.{ℕ, ◌≡◌, refl, subst, List, arith, inl, inr, ◌⊎◌, Bool, true, ℤ, pos, ◌+ℤ◌, ◌≤ℤ◌, All, Contains, filter}
 use Rattle.lists.proofs.Words.{ints, All-contains, filter_passes}
 use Rattle.geo_core.specs.Plane.{IsIn}
 use Rattle.geo_core.proofs.RectLaws.{Touch-sym}

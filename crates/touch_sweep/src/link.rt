@@ -38,72 +38,9 @@ pub fn link(
         length pairs.new.items ≤ length pairs.old.items + 51 * length entries.items * (levels + 1)) }
 {
     let all = entries.as_slice();
-    let Part { points, spans } = part_of(alloc, count, all, all, strip, pairs)?;
+    let part = part_of(alloc, count, all, all, strip, pairs)?;
     drop(entries);
-    link_strip(alloc, count, points, spans, strip, pairs)
-}
-
-/// Adds pairs of numbers by which each point and each span that touch are joined, where the span begins no later than the
-/// point. All points begin in the strip. Both lists are in the order of their lowest rows.
-///
-/// The lists are let go before the parts are searched. So while parts wait for others, each point waits in one part, and
-/// each span in two at most, one for each of its sides.
-fn link_strip(
-    alloc: Global,
-    count: usize,
-    points: Vec<Numbered>,
-    spans: Vec<Numbered>,
-    strip: Strip<'_>,
-    pairs: &mut Vec<(usize, usize)>,
-) -> Result<(), AllocError>
-    requires points { IsByRow points.items }
-    requires spans { IsByRow spans.items }
-    requires begin { All (λ e. IsIn strip.low strip.high e.rect.x0) points.items }
-    requires splits { HaveBegins strip.splits.now strip.low strip.high points.items }
-    ensures joined { OnOk result (Links
-        (IsMatchFrom strip.entry.low strip.entry.high points.items spans.items) (IsMatchOf points.items spans.items)
-        pairs.old.items pairs.new.items) }
-
-    // A span meets two strips of each level in part at most: one for each of its sides.
-    ensures few { OnOk result ((levels : ℕ) → length strip.entry.splits.now ≤ 2 ^ levels →
-        let work = work_in strip.entry.low strip.entry.high points.items spans.items in
-        length pairs.new.items ≤ length pairs.old.items
-        + 16 * (levels * work + length points.items + length spans.items)) }
-{
-    if points.len() <= FEW {
-        return sweep(points.as_slice(), spans.as_slice(), pairs);
-    }
-    if strip.splits.len() <= 1 {
-        return link_column(
-            alloc,
-            count,
-            points.as_slice(),
-            spans.as_slice(),
-            points[0],
-            pairs,
-        );
-    }
-    let (left, right) = strip.halves();
-    let before = part_of(
-        alloc,
-        count,
-        points.as_slice(),
-        spans.as_slice(),
-        left,
-        pairs,
-    )?;
-    let behind = part_of(
-        alloc,
-        count,
-        points.as_slice(),
-        spans.as_slice(),
-        right,
-        pairs,
-    )?;
-    drop(points);
-    drop(spans);
-    link_strip(alloc, count, before.points, before.spans, left, pairs)?;
-    link_strip(alloc, count, behind.points, behind.spans, right, pairs)
+    link_strip(alloc, count, part, strip, pairs)
 }
 
 /// What is left to link in a strip: the points that begin in it, and the spans that meet some of its columns only.
@@ -111,6 +48,48 @@ fn link_strip(
 struct Part {
     points: Vec<Numbered>,
     spans: Vec<Numbered>,
+}
+
+/// Adds pairs of numbers by which each point and each span of a part that touch are joined, where the span begins no later
+/// than the point. All points begin in the strip. Both lists are in the order of their lowest rows.
+///
+/// The lists are let go before the halves are searched. So of all parts that are still to be searched each point is in one,
+/// and each span in two at most, one for each of its sides.
+fn link_strip(
+    alloc: Global,
+    count: usize,
+    part: Part,
+    strip: Strip<'_>,
+    pairs: &mut Vec<(usize, usize)>,
+) -> Result<(), AllocError>
+    requires points { IsByRow part.points.items }
+    requires spans { IsByRow part.spans.items }
+    requires begin { All (λ e. IsIn strip.low strip.high e.rect.x0) part.points.items }
+    requires splits { HaveBegins strip.splits.now strip.low strip.high part.points.items }
+    ensures joined { OnOk result (Links
+        (IsMatchFrom strip.entry.low strip.entry.high part.points.items part.spans.items)
+        (IsMatchOf part.points.items part.spans.items) pairs.old.items pairs.new.items) }
+
+    // A span meets two strips of each level in part at most: one for each of its sides.
+    ensures few { OnOk result ((levels : ℕ) → length strip.entry.splits.now ≤ 2 ^ levels →
+        let work = work_in strip.entry.low strip.entry.high part.points.items part.spans.items in
+        length pairs.new.items ≤ length pairs.old.items +
+        16 * (levels * work + length part.points.items + length part.spans.items)) }
+{
+    let points = part.points.as_slice();
+    let spans = part.spans.as_slice();
+    if points.len() <= FEW {
+        return sweep(points, spans, pairs);
+    }
+    if strip.splits.len() <= 1 {
+        return link_column(alloc, count, points, spans, points[0], pairs);
+    }
+    let (left, right) = strip.halves();
+    let before = part_of(alloc, count, points, spans, left, pairs)?;
+    let behind = part_of(alloc, count, points, spans, right, pairs)?;
+    drop(part);
+    link_strip(alloc, count, before, left, pairs)?;
+    link_strip(alloc, count, behind, right, pairs)
 }
 
 /// Adds pairs of numbers by which each point that begins in the strip and each span that reaches over all of its columns

@@ -18,8 +18,8 @@ part_of-requires c = record {
 pub link_strip-requires : goal.link_strip-requires
 link_strip-requires c =
     let low = c.args.strip.low in let high = c.args.strip.high in let entries = c.args.entries.items in
-    let part = c.in_ok-points.field-0 in
-    let points_are = rw c.as_slice-all.ensures.value at c.in_ok-points.ensures.points in let spans_are = rw c.as_slice-all.ensures.value at c.in_ok-points.ensures.spans in
+    let part = c.in_ok-part.part in
+    let points_are = rw c.as_slice-all.ensures.value at c.in_ok-part.ensures.points in let spans_are = rw c.as_slice-all.ensures.value at c.in_ok-part.ensures.spans in
     record {
       points = IsByRow-filter (begins_in low high) entries _ points_are c.requires.rows;
       spans = IsByRow-filter (meets_partly low high) entries _ spans_are c.requires.rows;
@@ -30,18 +30,18 @@ link_strip-requires c =
 pub returns-clause-joined : goal.returns-clause-joined
 returns-clause-joined c =
     let low = c.args.strip.low in let high = c.args.strip.high in let entries = c.args.entries.items in
-    let points_are = rw c.as_slice-all.ensures.value at c.in_ok-points.ensures.points in let spans_are = rw c.as_slice-all.ensures.value at c.in_ok-points.ensures.spans in
+    let points_are = rw c.as_slice-all.ensures.value at c.in_ok-part.ensures.points in let spans_are = rw c.as_slice-all.ensures.value at c.in_ok-part.ensures.spans in
     IfOk-weaker _ _ _
-    (λ (u : Unit {0}) rest. link_two_steps low high entries entries _ _ points_are spans_are (rw c.as_slice-all.ensures.value at c.in_ok-points.ensures.across) rest)
+    (λ (u : Unit {0}) rest. link_two_steps low high entries entries _ _ points_are spans_are (rw c.as_slice-all.ensures.value at c.in_ok-part.ensures.across) rest)
     c.link_strip.ensures.joined
 
 pub returns-clause-few : goal.returns-clause-few
 returns-clause-few c =
     let low = c.args.strip.low in let high = c.args.strip.high in let entries = c.args.entries.items in
-    let part = c.in_ok-points.field-0 in
-    let points_are = rw c.as_slice-all.ensures.value at c.in_ok-points.ensures.points in let spans_are = rw c.as_slice-all.ensures.value at c.in_ok-points.ensures.spans in
+    let part = c.in_ok-part.part in
+    let points_are = rw c.as_slice-all.ensures.value at c.in_ok-part.ensures.points in let spans_are = rw c.as_slice-all.ensures.value at c.in_ok-part.ensures.spans in
     let points = ap (λ (xs : List Numbered). length xs) points_are in let spans = ap (λ (xs : List Numbered). length xs) spans_are in
     let fewer_points = filter_few (begins_in low high) entries in let fewer_spans = filter_few (meets_partly low high) entries in
     let all = work_all low high entries in let left = work_left low high entries entries part.points.items part.spans.items points_are spans_are in
     few_of_all c.link_strip.result (length c.args.strip.splits.now) (length entries) (length part.points.items) (length part.spans.items) (work_in low high part.points.items part.spans.items) _ _ _
-    (omega arith) (omega arith) (omega arith) (rw c.as_slice-all.ensures.value at c.in_ok-points.ensures.few) c.link_strip.ensures.few
+    (omega arith) (omega arith) (omega arith) (rw c.as_slice-all.ensures.value at c.in_ok-part.ensures.few) c.link_strip.ensures.few
