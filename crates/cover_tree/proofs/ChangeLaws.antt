@@ -8,7 +8,7 @@ use Rattle.cover_tree.specs.declared.parts.Change.{Change}
 use Rattle.cover_tree.specs.declared.parts.Change.TheVariants.{Put, Take}
 use Rattle.cover_tree.specs.declared.parts.Part.{Part}
 use Rattle.cover_tree.specs.declared.parts.Widths.{Widths}
-use Rattle.cover_tree.proofs.CutLaws.{times_apart}
+use Rattle.cover_tree.proofs.CutLaws.{times_apart, times_under_covered}
 use Rattle.cover_tree.proofs.PartLaws.{AreHalves, number_here, number_elsewhere, number_lower, under_fits, block_under, under_half, left_under, right_under, left_elsewhere, right_elsewhere, left_not_right, right_not_left}
 use Rattle.cover_tree.proofs.WidthLaws.{keeps_carried, keeps_from_widths, row_depth-same}
 use Rattle.cover_tree.proofs.Totals.{deep_width-same}
@@ -40,13 +40,13 @@ module _ (height : ℕ) (places : List ℤ) (change : Change) (low high : ℕ) w
       kept = kept;
     }
 
-    -- a single column has nothing below it
-    pub lower_single : (nodes : List Node) → part.level ≡ 0 → IsLowerChanged part nodes nodes
-    lower_single nodes single = record {
+    -- one that has all of the part's columns changes nothing below its highest node
+    pub lower_covered : (nodes : List Node) → IsKept height places nodes part → low ≤ part.from → part.from + part.size ≤ high → IsLowerChanged part nodes nodes
+    lower_covered nodes kept from before = record {
       length = refl;
       elsewhere = λ level column a b away. refl;
-      counts = λ level column less under. absurd (omega arith);
-      kept = λ level column less under. absurd (omega arith);
+      counts = λ level column less under. changed_none change (times level column) (row_node height nodes level column).count (times_under_covered height low high part p from before level column less under);
+      kept = λ level column less under. kept level column (omega arith) under;
     }
 
     -- the highest node is written last
@@ -101,6 +101,9 @@ module _ (height : ℕ) (places : List ℤ) (change : Change) (low high : ℕ) w
       pub left_may : (nodes : List Node) → MayChangeIn height change low high nodes part → MayChangeIn height change low high nodes left
       left_may nodes may level column low_level under = let l = h.levels.0 in may level column (omega arith) (left_under height part left right h column under)
 
+      pub right_kept_before : (nodes : List Node) → IsKept height places nodes part → IsKept height places nodes right
+      right_kept_before nodes kept level column low_level under = let r = h.levels.1 in kept level column (omega arith) (right_under height part left right h column under)
+
       module _ (old mid : List Node) (l : IsPartChanged height places change low high left old mid) where
         right_stays : (level column : ℕ) → level ≤ right.level → IsUnder right column → row_node height mid level column ≡ row_node height old level column
         right_stays level column low_level under =
@@ -108,11 +111,9 @@ module _ (height : ℕ) (places : List ℤ) (change : Change) (low high : ℕ) w
             l.elsewhere level column (omega arith) (under_fits height right h.right_part column under) (right_not_left height part left right h level column under)
 
         pub right_kept : IsKept height places old part → IsKept height places mid right
-        right_kept kept level column low_level under =
-            let v = h.levels.1 in
-            keeps_carried height places old mid level column (λ j other a from before. right_stays j other (omega arith)
+        right_kept kept level column low_level under = keeps_carried height places old mid level column (λ j other a from before. right_stays j other (omega arith)
             (block_under height right h.right_part level column other low_level under from before))
-            (kept level column (omega arith) (right_under height part left right h column under))
+            (right_kept_before old kept level column low_level under)
 
         pub right_may : MayChangeIn height change low high old part → MayChangeIn height change low high mid right
         right_may may level column low_level under =

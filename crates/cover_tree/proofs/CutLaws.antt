@@ -1,6 +1,7 @@
 -- how often the standard cut of a range has the nodes over a column
-use Rattle.std.proofs.Common.{ℕ, suc, ◌+◌, ◌/◌, ◌^◌, ◌<◌, ◌≤◌, ◌≡◌, ap, ◌∙◌, arith, inl, inr, ◌⊎◌, true, false, cond, ◌||◌, not, nat_le}
-use Rattle.lists.proofs.Words.{le-leb, lt-leb, and_parts, and_right, cases_Bool, shr-shr}
+use Rattle.std.proofs.Common.{ℕ, suc, ◌+◌, ◌/◌, ◌^◌, ◌<◌, ◌≤◌, ◌≡◌, sym, ap, ◌∙◌, arith, inl, inr, ◌⊎◌, ◌↔◌, Bool, true, false, cond, ◌||◌, not, nat_le}
+use Rattle.std.specs.Prelude.{IsTrue}
+use Rattle.lists.proofs.Words.{le-leb, lt-leb, and_parts, and_right, cases_Bool, cases_lt, false≢true, shr-shr}
 use Rattle.std.proofs.lemmas.Bool.{leb-true, leb-false, and_from, and_left, or_left, or_right, false_from_ne_true, not_from_false}
 use Rattle.cover_tree.specs.TreeNodes.{TreeNode, node_over, parent_of, first_of, end_of, lies_in, times_in_cut}
 use Rattle.cover_tree.specs.TreeParts.{IsPart, IsUnder, IsHighest}
@@ -75,6 +76,26 @@ module _ (height low high : ℕ) where
 
     pub times_under_covered : low ≤ part.from → part.from + part.size ≤ high → (level column : ℕ) → level < part.level → IsUnder part column → times_in_cut height low high (node_over level column) ≡ 0
     times_under_covered from before level column less under = let l = p.level in times_lower level column (omega arith) (covered_lies from before (suc level) column (omega arith) under)
+
+    -- one that does not lie in the range
+    pub partly_met : (whole : Bool) → IsTrue whole ↔ ((low ≤ part.from) × (part.from + part.size ≤ high)) → whole ≡ false → (part.from < low) ⊎ (high < part.from + part.size)
+    partly_met whole tells f = elim (cases_lt part.from low) [
+      | inl before ↦ inl before
+      | inr from ↦ elim (cases_lt high (part.from + part.size)) [
+        | inl behind ↦ inr behind
+        | inr within ↦ absurd (false≢true (sym f ∙ tells.1 (from, within)))
+      ]
+    ]
+
+    -- has halves, where the range meets it
+    pub partly_deep : (part.from < low) ⊎ (high < part.from + part.size) → part.from < high → low < part.from + part.size → 0 < part.level
+    partly_deep partly before behind = elim (cases_lt 0 part.level) [
+      | inl more ↦ more
+      | inr none ↦
+          let e : part.level ≡ 0 = omega arith in
+          let one : part.size ≡ 1 = p.size ∙ ap (λ n. 2 ^ n) e in
+          elim partly [ inl less ↦ absurd (omega arith) | inr more ↦ absurd (omega arith) ]
+    ]
 
     -- over one that lies partly in the range
     part_outside : (part.from < low) ⊎ (high < part.from + part.size) → (column : ℕ) → IsUnder part column → lies_in low high (node_over part.level column) ≡ false

@@ -4,6 +4,5 @@ pub mod PartLaws
 pub mod CutLaws
 pub mod WidthLaws
 pub mod ChangeLaws
-pub mod RestLaws
 pub mod RowLaws
 pub mod DepthLaws

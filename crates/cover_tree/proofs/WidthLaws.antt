@@ -4,7 +4,7 @@ use Rattle.lists.proofs.Words.{ints, get_or_from_slice_get}
 use Rattle.geo_core.specs.declared.counts.Node.{Node}
 use Rattle.cover_tree.specs.Columns.{width_of, total, deep_width}
 use Rattle.cover_tree.specs.TreeNodes.{node_over, number_of}
-use Rattle.cover_tree.specs.TreeParts.{IsPart, IsUnder, numbered_node, row_node, row_depth, lower_depth, part_width, lower_width, AreWidths, AreLowerWidths, KeepsWidths, once_by, twice_by}
+use Rattle.cover_tree.specs.TreeParts.{IsPart, IsUnder, numbered_node, row_node, row_depth, lower_depth, part_width, lower_width, AreWidths, AreLowerWidths, KeepsWidths, IsKept, once_by, twice_by}
 use Rattle.cover_tree.specs.declared.parts.Part.{Part}
 use Rattle.cover_tree.specs.declared.parts.Widths.{Widths}
 use Rattle.cover_tree.proofs.Powers.{block_of}
@@ -126,6 +126,14 @@ sum_fits height places nodes least part left right h a b e f small =
 module _ (height : ℕ) (places : List ℤ) (nodes : List Node) (part : Part) (p : IsPart height part) where
   pub node_read : (node : Node) → slice_get nodes part.number ≡ Some node → (column : ℕ) → IsUnder part column → row_node height nodes part.level column ≡ node
   node_read node e column under = ap (numbered_node nodes) (number_here height part p column under) ∙ get_or_from_slice_get nodes part.number node _ e
+
+  -- the widths that a part's highest node keeps are the part's
+  pub widths_read : IsKept height places nodes part → (node : Node) → slice_get nodes part.number ≡ Some node → (widths : Widths) → widths.once ≡ node.once → widths.twice ≡ node.twice
+      → AreWidths height places nodes part widths
+  widths_read kept node read widths once twice =
+      let first = first_under height part p in
+      let e = node_read node read part.from first in
+      widths_kept height places nodes part p (kept part.level part.from (omega arith) first) widths (once ∙ ap (λ (n : Node). n.once) (sym e)) (twice ∙ ap (λ (n : Node). n.twice) (sym e))
 
 -- ---- what is written
 

@@ -1,4 +1,4 @@
-ghost use Rattle.std.specs.Prelude.{◌≡◌, ◌+◌, ◌*◌, ◌^◌, ◌<◌, ◌≤◌, ◌+ℤ◌, ◌⊎◌, ◌↔◌, pos, length, slice_set, if◌then◌else◌, FitsSigned, IsTrue};
+ghost use Rattle.std.specs.Prelude.{◌≡◌, ◌+◌, ◌*◌, ◌^◌, ◌<◌, ◌≤◌, ◌+ℤ◌, ◌⊎◌, ◌↔◌, pos, length, slice_set, FitsSigned, IsTrue};
 ghost use Rattle.std.specs.Int.{w64};
 ghost use Rattle.cover_tree.specs.Columns.{total, width_of};
 ghost use Rattle.cover_tree.specs.TreeParts.{IsPart, IsKept, MayChange, IsChangedBy, MayChangeIn, IsHighest, IsPartChanged, AreWidths, AreLowerWidths, once_by, twice_by};
@@ -30,30 +30,13 @@ impl Edit {
     {
         self.low <= from && end <= self.high
     }
-
-    /// What is left of it for the halves of a part: nothing where the range has all of the part's columns.
-    fn rest(self, whole: bool) -> Edit
-        ensures { result ≡ (if whole then record { low = self.low; high = self.low; change = self.change } else self) }
-    {
-        if !whole {
-            return self;
-        }
-        Edit {
-            low: self.low,
-            high: self.low,
-            change: self.change,
-        }
-    }
 }
 
-/// A node's count after a change: it changes where the range has all of the node's columns.
-fn changed(count: usize, change: Change, whole: bool) -> usize
-    requires { MayChange change (if whole then 1 else 0) count }
-    ensures { IsChangedBy change (if whole then 1 else 0) count result }
+/// The count of a node of the cut after a change.
+fn changed(count: usize, change: Change) -> usize
+    requires { MayChange change 1 count }
+    ensures { IsChangedBy change 1 count result }
 {
-    if !whole {
-        return count;
-    }
     match change {
         Change::Put => count + 1,
         Change::Take => count - 1,
@@ -131,7 +114,90 @@ fn settle<L: Ledger>(
     widths
 }
 
+/// Changes a part that lies in the range: the count of its highest node alone, since the cut has none of those below it.
+fn change_whole<L: Ledger>(
+    row: &mut CountRow,
+    columns: &Columns,
+    part: Part,
+    edit: Edit,
+    steps: &mut Steps<L>,
+) -> Widths
+    requires row { length row.old ≡ 2 * 2 ^ columns.now.height }
+    requires part { IsPart columns.now.height part }
+    requires kept { IsKept columns.now.height columns.now.places.items row.old part }
+    requires may { MayChangeIn columns.now.height edit.change edit.low edit.high row.old part }
+    requires highest { IsHighest columns.now.height edit.low edit.high part }
+    requires begins { edit.low ≤ part.from }
+    requires ends { part.from + part.size ≤ edit.high }
+    ensures changed { IsPartChanged columns.now.height columns.now.places.items edit.change edit.low edit.high part row.old row.new }
+    ensures widths { AreWidths columns.now.height columns.now.places.items row.new part result }
+    ensures some { steps.old < steps.new }
+    ensures few { steps.new ≤ steps.old + 4 }
+{
+    let node = row.get(part.number, steps);
+    let count = changed(node.count, edit.change);
+    let width = columns.width(part.from, part.size);
+    if part.level == 0 {
+        let nothing = Widths { once: 0, twice: 0 };
+        return settle(row, columns, part, count, width, nothing, steps);
+    }
+    let left = part.left();
+    let right = part.right();
+    let left_node = row.get(left.number, steps);
+    let right_node = row.get(right.number, steps);
+    let left_widths = widths_in(left_node);
+    let right_widths = widths_in(right_node);
+    let halves = both(left_widths, right_widths);
+    settle(row, columns, part, count, width, halves, steps)
+}
+
+/// Changes a part that the range meets.
+#[cycle(below)]
+#[inline(never)]
+fn change_part<L: Ledger>(
+    row: &mut CountRow,
+    columns: &Columns,
+    part: Part,
+    edit: Edit,
+    steps: &mut Steps<L>,
+) -> Widths
+    requires row { length row.old ≡ 2 * 2 ^ columns.now.height }
+    requires part { IsPart columns.now.height part }
+    requires kept { IsKept columns.now.height columns.now.places.items row.old part }
+    requires may { MayChangeIn columns.now.height edit.change edit.low edit.high row.old part }
+    requires highest { IsHighest columns.now.height edit.low edit.high part }
+    requires before { part.from < edit.high }
+    requires behind { edit.low < part.from + part.size }
+    ensures changed { IsPartChanged columns.now.height columns.now.places.items edit.change edit.low edit.high part row.old row.new }
+    ensures widths { AreWidths columns.now.height columns.now.places.items row.new part result }
+
+    // The steps are as at `below`.
+    ensures some { steps.old < steps.new }
+    ensures covered { edit.low ≤ part.from → part.from + part.size ≤ edit.high → steps.new ≤ steps.old + 4 }
+    ensures from_left { edit.low ≤ part.from → steps.new ≤ steps.old + 6 * part.level + 4 }
+    ensures to_right { part.from + part.size ≤ edit.high → steps.new ≤ steps.old + 6 * part.level + 4 }
+    ensures any { steps.new ≤ steps.old + 12 * part.level + 4 }
+{
+    let end = part.from + part.size;
+    if edit.covers(part.from, end) {
+        return change_whole(row, columns, part, edit, steps);
+    }
+    let node = row.get(part.number, steps);
+    let left = part.left();
+    let right = part.right();
+    let left_widths = below(row, columns, left, edit, steps);
+    let right_widths = below(row, columns, right, edit, steps);
+    let width = columns.width(part.from, part.size);
+    let halves = both(left_widths, right_widths);
+    settle(row, columns, part, node.count, width, halves, steps)
+}
+
 /// Changes the nodes of a range's cut that belong to the part, and gives the part's widths as they are then.
+///
+/// Of the two halves of a part the range often misses one. So this test stands apart from the work, and is inlined: a half
+/// that is missed costs one look at its node and no call.
+#[cycle(below)]
+#[inline(always)]
 pub fn below<L: Ledger>(
     row: &mut CountRow,
     columns: &Columns,
@@ -157,23 +223,10 @@ pub fn below<L: Ledger>(
     ensures to_right { part.from + part.size ≤ edit.high → steps.new ≤ steps.old + 6 * part.level + 4 }
     ensures any { steps.new ≤ steps.old + 12 * part.level + 4 }
 {
-    let node = row.get(part.number, steps);
     let end = part.from + part.size;
     if edit.misses(part.from, end) {
+        let node = row.get(part.number, steps);
         return widths_in(node);
     }
-    let width = columns.width(part.from, part.size);
-    let whole = edit.covers(part.from, end);
-    let count = changed(node.count, edit.change, whole);
-    if part.level == 0 {
-        let nothing = Widths { once: 0, twice: 0 };
-        return settle(row, columns, part, count, width, nothing, steps);
-    }
-    let rest = edit.rest(whole);
-    let left = part.left();
-    let right = part.right();
-    let left_widths = below(row, columns, left, rest, steps);
-    let right_widths = below(row, columns, right, rest, steps);
-    let halves = both(left_widths, right_widths);
-    settle(row, columns, part, count, width, halves, steps)
+    change_part(row, columns, part, edit, steps)
 }
