@@ -12,8 +12,8 @@ use std::thread::Threads;
 /// How many turns hold a tile for longer than workers take to come.
 const MANY: u64 = 1_000_000_000;
 
-/// As many as other workers would need to come, if there were any.
-const ENOUGH: u64 = 20_000_000;
+/// As many as another worker would mostly need to come, if there were one.
+const ENOUGH: u64 = 100_000_000;
 
 /// The report on the two bars.
 const BARS: &str = "\
