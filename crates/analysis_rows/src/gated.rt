@@ -3,17 +3,11 @@
 
 use super::analysed::{TWO_BARS, Want, answers};
 use super::runs::prints;
-use holding_gate::HoldFirst;
+use holding_gate::{FEW_TURNS, HoldFirst, USUAL_TURNS};
 use lists::NoMemory;
 use map_model::one_metal;
 use std::alloc::Global;
 use std::thread::Threads;
-
-/// How many turns hold a tile for longer than workers take to come.
-const MANY: u64 = 1_000_000_000;
-
-/// As many as another worker would mostly need to come, if there were one.
-const ENOUGH: u64 = 100_000_000;
 
 /// The report on the two bars.
 const BARS: &str = "\
@@ -50,7 +44,7 @@ const ROWS: &[Row] = &[
         BARS,
         2,
         1,
-        MANY,
+        USUAL_TURNS,
         true,
     ),
     // three are held until the fourth comes, which takes a worker for each
@@ -59,7 +53,7 @@ const ROWS: &[Row] = &[
         BARS,
         4,
         3,
-        MANY,
+        USUAL_TURNS,
         true,
     ),
     // one worker is held in vain, and then counts as ever
@@ -68,7 +62,7 @@ const ROWS: &[Row] = &[
         BARS,
         2,
         1,
-        ENOUGH,
+        FEW_TURNS,
         false,
     ),
     // where no edge is asked for there is one tile, which waits for no other
@@ -77,7 +71,7 @@ const ROWS: &[Row] = &[
         BARS,
         1,
         1,
-        MANY,
+        USUAL_TURNS,
         true,
     ),
     // a layout that is made here has its tiles counted by the same workers
@@ -86,7 +80,7 @@ const ROWS: &[Row] = &[
         ONE_CELL,
         4,
         1,
-        MANY,
+        USUAL_TURNS,
         true,
     ),
 ];

@@ -1,6 +1,6 @@
 //! Worked rows on `analyse`: the areas of a layout for tiles of several edges and numbers of workers, and the first fault of
-//! layouts that have one. Each answer was worked out by hand. A run with a gate shows that two workers are at work at once. The
-//! crate has tests alone.
+//! layouts that have one. Each answer was worked out by hand. Runs with gates show that as many workers are at work at once as
+//! were asked for. The crate has tests alone.
 #![tactic(auto)]
 
 #[cfg(test)]

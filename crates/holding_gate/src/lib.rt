@@ -5,8 +5,11 @@
 use std::sync::atomic::{AtomicU64, Ordering};
 use tile_work::Gate;
 
-/// How often a held ticket looks for the others, where no other number is asked for.
-const USUAL_TURNS: u64 = 1_000_000_000;
+/// How often a held ticket looks for the others, where no other number is asked for: for longer than workers take to come.
+pub const USUAL_TURNS: u64 = 1_000_000_000;
+
+/// Mostly enough for another worker to come, if there is one. It is for tickets that are held in vain.
+pub const FEW_TURNS: u64 = 100_000_000;
 
 /// How many tickets the gate can tell apart: the numbers below this.
 pub const MOST_TICKETS: usize = 4;

@@ -2,7 +2,7 @@
 //! gate before its amounts are asked for.
 
 use super::jobs::SumJob;
-use holding_gate::HoldFirst;
+use holding_gate::{FEW_TURNS, HoldFirst, USUAL_TURNS};
 use lists::NoMemory;
 use std::alloc::Global;
 use std::thread::Threads;
@@ -33,23 +33,17 @@ impl TileJob for HeldJob<'_> {
     }
 }
 
-/// How many turns hold a ticket for longer than workers take to come.
-const MANY: u64 = 1_000_000_000;
-
-/// As many as another worker would mostly need to come, if there were one.
-const ENOUGH: u64 = 100_000_000;
-
 /// How many workers there are, how many tickets, at most four, how many of these the gate holds and for how many turns, whether
 /// it is content, and what the totals of two slots come to.
 type Row = (u32, u32, u64, u64, bool, [u64; 2]);
 
 const ROWS: &[Row] = &[
     // one worker goes on with three tickets while the other is held
-    (2, 4, 1, MANY, true, [6, 10]),
+    (2, 4, 1, USUAL_TURNS, true, [6, 10]),
     // three are held until the fourth comes, which takes a worker for each
-    (4, 4, 3, MANY, true, [6, 10]),
+    (4, 4, 3, USUAL_TURNS, true, [6, 10]),
     // one worker is held in vain, and then counts as ever
-    (1, 2, 1, ENOUGH, false, [1, 3]),
+    (1, 2, 1, FEW_TURNS, false, [1, 3]),
 ];
 
 /// Whether a row comes out.
