@@ -5,6 +5,7 @@
 mod answering;
 mod blocks;
 mod counting;
+mod edges;
 pub mod laws;
 mod opens;
 mod parts;

@@ -14,6 +14,7 @@ ghost use Rattle.critical_areas.specs.Rows.{AreAmounts};
 ghost use Rattle.critical_areas.specs.inside.Sharing.{AreCounted, IsCounted};
 
 use super::counting::amounts;
+use super::edges::sensible_edge;
 use super::parts::Parts;
 use super::shared::{Asked, Shared};
 use super::sharing::share;
@@ -32,8 +33,8 @@ use union_area::union_area;
 use via_clusters::via_area;
 
 /// For each question of the parts, in order, how many cells of the window, where there is one, have its fault. They are counted
-/// over tiles with this edge, by so many workers at once, and each tile passes the gate. Where one tile is all of the window
-/// nothing is made for tiles.
+/// over tiles with this edge, or a longer one where pieces are long, by so many workers at once, and each tile passes the gate.
+/// Where one tile is all of the window nothing is made for tiles.
 pub fn tiled_amounts<G: Gate + Sync>(
     rt: &(impl Threads + Sync),
     alloc: Global,
@@ -55,7 +56,7 @@ pub fn tiled_amounts<G: Gate + Sync>(
     let Some(whole) = window else {
         return amounts(alloc, parts, window);
     };
-    let plan = plan(whole, edge);
+    let plan = plan(whole, sensible_edge(parts, edge));
     if plan.count() == 1 {
         return amounts_of_whole(rt, alloc, parts, whole, gate);
     }
