@@ -6,7 +6,7 @@ ghost use Rattle.short_area.specs.inside.Zones.{IsCountOf};
 
 use super::halves::halves;
 use super::steps::Step;
-use super::ways::next_step;
+use super::ways::{NONE_TRIED, next_step};
 use super::zones::zones_of;
 use geo_core::{Labelled, NoMemory, Rect};
 use std::alloc::Global;
@@ -25,7 +25,7 @@ pub fn short_area(alloc: Global, pieces: &[Labelled], window: Rect, r: u32) -> R
     ensures small { IfOk result (λ n. n < 2 ^ 63) }
 {
     let zones = zones_of(alloc, pieces, window, r)?;
-    counted(alloc, zones, window, usize::MAX)
+    counted(alloc, zones, window, NONE_TRIED)
 }
 
 /// How many cells of the window lie in zones of two labels. Of more than an eighth of `hopeless` zones no runs are tried,

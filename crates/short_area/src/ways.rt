@@ -13,6 +13,9 @@ use std::alloc::Global;
 /// Runs are tried again of so many times fewer zones.
 const LESS: usize = 8;
 
+/// How many zones are hopeless before runs were tried of any.
+pub const NONE_TRIED: usize = usize::MAX;
+
 /// What comes next of a window with these zones: its count, or a place at which to halve it.
 pub fn next_step(
     alloc: Global,
@@ -32,7 +35,9 @@ pub fn next_step(
     if spread.is_few() {
         return Ok(Step::Count(counted_of_few(alloc, zones, window)?));
     }
-    if spread.is_parted() || has_leader(zones) {
+    // Runs of one label that has most of the zones, as a mesh, are mostly as many as its holes. They are few where the zones
+    // close the holes, so they are tried once.
+    if spread.is_parted() || (hopeless != NONE_TRIED && has_leader(zones)) {
         return halved(alloc, zones, window, spread, hopeless);
     }
     swept_or_halved(alloc, zones, window, spread, hopeless)
