@@ -45,7 +45,9 @@ module _ (height : ℕ) (places : List ℤ) (change : Change) (low high : ℕ) w
     lower_covered nodes kept from before = record {
       length = refl;
       elsewhere = λ level column a b away. refl;
-      counts = λ level column less under. changed_none change (times level column) (row_node height nodes level column).count (times_under_covered height low high part p from before level column less under);
+      counts = λ level column less under.
+          changed_none change (times level column) (row_node height nodes level column).count
+          (times_under_covered height low high part p from before level column less under);
       kept = λ level column less under. kept level column (omega arith) under;
     }
 

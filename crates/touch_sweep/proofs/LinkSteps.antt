@@ -65,7 +65,9 @@ module _ (low high : ℤ) (points spans inner partly : List Numbered) (inner_is 
   inner_begin = all_of_each (λ e. IsIn low high e.rect.x0) inner (λ e c. begins_within low high e (passed (begins_in low high) points inner inner_is e c))
 
   pub inner_among : (from to : ℤ) → All (λ e. IsIn from to e.rect.x0) points → (e : Numbered) → Contains inner e → Contains points e × IsIn from to e.rect.x0
-  inner_among from to within e c = (in_points low high points spans inner partly inner_is partly_is e c, All-contains (λ e. IsIn from to e.rect.x0) points e within (in_points low high points spans inner partly inner_is partly_is e c))
+  inner_among from to within e c =
+      let among = in_points low high points spans inner partly inner_is partly_is e c in
+      (among, All-contains (λ e. IsIn from to e.rect.x0) points e within among)
 
   -- spans across all columns first, and then those that meet them in part
   pub link_two_steps : {old middle new : List (ℕ × ℕ)} → Links (IsMatchOf inner (filter (crosses low high) spans)) (IsMatchOf inner (filter (crosses low high) spans)) old middle

@@ -96,7 +96,9 @@ begins_behind low high middle splits before behind points inner among parted h =
 -- with one split at most they all begin in one column
 pub one_column : (low high : ℤ) (splits : List ℤ) (points : List Numbered) → All (λ e. IsIn low high e.rect.x0) points
     → HaveBegins splits low high points → length splits ≤ 1 → (a b : Numbered) → Contains points a → Contains points b → a.rect.x0 ≡ b.rect.x0
-one_column low high splits points within h few a b c d = same (h.all a c (All-contains (λ e. IsIn low high e.rect.x0) points a within c)) (h.all b d (All-contains (λ e. IsIn low high e.rect.x0) points b within d))
+one_column low high splits points within h few a b c d =
+    same (h.all a c (All-contains (λ e. IsIn low high e.rect.x0) points a within c))
+    (h.all b d (All-contains (λ e. IsIn low high e.rect.x0) points b within d))
   where
     same : Contains splits a.rect.x0 → Contains splits b.rect.x0 → a.rect.x0 ≡ b.rect.x0
     same (i, small, e) (j, small', f) =

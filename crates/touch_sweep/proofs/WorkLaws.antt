@@ -136,7 +136,8 @@ abbrev pub AreFew : ℕ → ℕ → ℕ → ℕ → ℕ → ℕ → Type 0
 AreFew splits points spans work old new = (levels : ℕ) → splits ≤ 2 ^ levels → new ≤ old + 16 * (levels * work + points + spans)
 
 -- of few points
-pub few_swept : {E : Type 0} (result : Result (Unit {0}) E) (splits points spans work old new : ℕ) → points ≤ 16 → OnOk result (new ≤ old + points * spans) → OnOk result (AreFew splits points spans work old new)
+pub few_swept : {E : Type 0} (result : Result (Unit {0}) E) (splits points spans work old new : ℕ) → points ≤ 16
+    → OnOk result (new ≤ old + points * spans) → OnOk result (AreFew splits points spans work old new)
 few_swept (Ok u) splits points spans work old new few s = λ levels l. let h = mul-le points spans 16 spans few (omega arith) in omega arith
 few_swept (Err e) splits points spans work old new few s = tt
 

@@ -119,7 +119,8 @@ pub record AreChanges (axis : Axis) (zone : Rect) (side : ℕ) (looked : List Lo
 -- what comes next of a zone that is more than one cell: one line of it stands for all, of which there is more than one; or it
 -- is halved at a place inside
 abbrev pub IsStepOf : Rect → ℕ → List Looked → Step → Type 0
-IsStepOf zone side looked (Repeat axis) = HasSeveral axis zone × ((seen : Looked) → Contains looked seen → IsSteady axis zone side seen.near)
+IsStepOf zone side looked (Repeat axis) =
+    HasSeveral axis zone × ((seen : Looked) → Contains looked seen → IsSteady axis zone side seen.near)
 IsStepOf zone side looked (Halve axis place) = IsInsideAlong axis zone place
 
 -- the rectangle has all places of the zone along the axis, in the lines in which the other one has cells

@@ -4,7 +4,10 @@ use Rattle.open_grid.proofs.PartingLaws.{always_open, never_open, not_open}
 use Rattle.open_grid.proofs.parting.parted.Goals as goal
 
 pub returns-in_default : goal.returns-in_default
-returns-in_default c = (λ f. absurd (false≢true f), λ o. absurd (not_open c.args.island.now.pieces c.requires.within c.args.r c.requires.radius c.args.cell c.in_default.ensures.none c.args.island.now.anchors o))
+returns-in_default c = (
+  λ f. absurd (false≢true f),
+  λ o. absurd (not_open c.args.island.now.pieces c.requires.within c.args.r c.requires.radius c.args.cell c.in_default.ensures.none c.args.island.now.anchors o),
+)
 
 pub returns-in-Never : goal.returns-in-Never
 returns-in-Never c = (

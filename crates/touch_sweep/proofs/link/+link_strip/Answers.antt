@@ -17,7 +17,8 @@ link_column-requires t c =
       spans = rw c.as_slice-spans.ensures.value c.requires.spans;
       column = rw c.as_slice-points.ensures.value
           (all_of_each (λ e. e.rect.x0 ≡ first.rect.x0) points
-          (λ e d. one_column c.args.strip.low c.args.strip.high c.args.strip.splits.now points c.requires.begin c.requires.splits (omega arith) e first d (0, omega arith, sym (rw c.as_slice-points.ensures.value at c.index-points-0.is))));
+          (λ e d. one_column c.args.strip.low c.args.strip.high c.args.strip.splits.now points
+          c.requires.begin c.requires.splits (omega arith) e first d (0, omega arith, sym (rw c.as_slice-points.ensures.value at c.index-points-0.is))));
     }
 
 pub link_strip-requires : goal.link_strip-requires
@@ -70,7 +71,8 @@ link_strip-requires-2 t c =
 pub returns-then-points-le-FEW-clause-joined : goal.returns-then-points-le-FEW-clause-joined
 returns-then-points-le-FEW-clause-joined t c =
     IfOk-weaker _ _ _
-    (λ (u : Unit {0}) rest. link_from_sweep c.args.strip.low c.args.strip.high c.args.part.points.items c.args.part.spans.items (rw (c.as_slice-points.ensures.value, c.as_slice-spans.ensures.value) at rest))
+    (λ (u : Unit {0}) rest. link_from_sweep c.args.strip.low c.args.strip.high c.args.part.points.items c.args.part.spans.items
+    (rw (c.as_slice-points.ensures.value, c.as_slice-spans.ensures.value) at rest))
     c.sweep.ensures.found
 
 pub returns-then-strip-le1-clause-joined : goal.returns-then-strip-le1-clause-joined

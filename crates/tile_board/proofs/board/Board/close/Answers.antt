@@ -14,4 +14,5 @@ returns c =
     let slots = one_each ∙ ap (λ (l : Limits). l.slots) board.key in
     let last = closing board.table.shared.key c.args.hand.seat.id view _ _ totals c.close_with-closed.ensures.values.2 slots c.read_totals.ensures in
     let closed = subst (λ (l : Limits). IsClosing l view totals) (sym board.key) last in
-    rw (put_back _ totals c.in_ok-totals.totals.items (sym long)) (record { one_each = one_each; sound = closed.final; at_least = closed.at_least; exact = closed.exact; all_tickets = closed.all_tickets })
+    rw (put_back _ totals c.in_ok-totals.totals.items (sym long))
+    (record { one_each = one_each; sound = closed.final; at_least = closed.at_least; exact = closed.exact; all_tickets = closed.all_tickets })
