@@ -25,16 +25,6 @@ flat_map-flat_map : {X Y Z : Type 0} (g : Y → List Z) (f : X → List Y) (xs :
 flat_map-flat_map g f [] = refl
 flat_map-flat_map g f (x ∷ xs) = flat_map-append g (f x) (flat_map f xs) ∙ ap (λ ys. flat_map g (f x) ++ ys) (flat_map-flat_map g f xs)
 
--- the numbers of rows and columns as items
-pub number_more : (count i : ℕ) → i < count → i < length (range_with_len 0 count)
-number_more count i h = omega (arith, length-range_with_len 0 count)
-
-pub number_is : (count i : ℕ) → i < count → i ≡ get_or (range_with_len 0 count) i i
-number_is count i h = let zero-more : 0 + i ≡ i = omega arith in sym (get_or-range_with_len 0 count i i h ∙ zero-more)
-
-pub numbers_end : (count i : ℕ) → count ≤ i → length (range_with_len 0 count) ≤ i
-numbers_end count i h = omega (arith, length-range_with_len 0 count)
-
 module _ (names : List (List ℕ)) (layer_map : LayerMap) where
   -- a shape that is a part has its layer
   layer_in : (elements : List (ℕ × Element)) (parts : List Part) → AreParts names layer_map elements parts
