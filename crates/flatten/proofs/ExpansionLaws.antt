@@ -1,6 +1,6 @@
 -- the routes that an expansion follows, part by part, row by row and column by column
-use Rattle.std.proofs.Common.{ℕ, suc, ◌≤◌, ◌<◌, ◌+◌, ◌≡◌, inl, inr, List, [], ◌∷◌, ◌++◌, length, get_or, map, Vec, refl, sym, ap, subst, ◌∙◌, arith, Contains}
-use Rattle.lists.proofs.Words.{flat_map, Bor, Global, enumerate_from, range_with_len, length-range_with_len, get_or-range_with_len, flat_map-append}
+use Rattle.std.proofs.Common.{ℕ, suc, ◌+◌, ◌≡◌, inl, inr, List, [], ◌∷◌, ◌++◌, map, Vec, refl, sym, ap, subst, ◌∙◌, Contains}
+use Rattle.lists.proofs.Words.{flat_map, Bor, Global, enumerate_from, range_with_len, flat_map-append}
 use Rattle.std.proofs.lemmas.List.Folds.{flat_map-map}
 use Rattle.library_model.specs.Names.{names_of}
 use Rattle.library_model.specs.declared.library.Structure.{Structure}

@@ -1,5 +1,5 @@
 -- lists of placed shapes that grow
-use Rattle.std.proofs.Common.{ℕ, suc, ◌+◌, ◌≤◌, ◌<◌, ◌≡◌, List, [], ◌∷◌, ◌++◌, length, get_or, map, take, take_all, append_assoc, Result, Ok, Err, refl, sym, ap, subst, ◌∙◌, arith, Contains, All}
+use Rattle.std.proofs.Common.{ℕ, ◌+◌, ◌≤◌, ◌<◌, ◌≡◌, List, [], ◌∷◌, ◌++◌, length, get_or, map, take, take_all, append_assoc, Result, Ok, Err, refl, sym, ap, subst, ◌∙◌, arith, Contains, All}
 use Rattle.std.specs.Prelude.{IsErrAnd}
 use Rattle.lists.proofs.Words.{flat_map, Bor, append-nil, map-append, All-nil, range_with_len, length-range_with_len, get_or-range_with_len}
 use Rattle.first_refusal.specs.Answers.{Answers, gives}

@@ -1,5 +1,5 @@
 -- what each stage of a plan comes to, by the names that the index has
-use Rattle.std.proofs.Common.{ℕ, ◌<◌, ◌≡◌, List, length, Vec, Option, Ok, Err, sym, subst, arith, All}
+use Rattle.std.proofs.Common.{ℕ, ◌≡◌, List, length, Vec, Option, Ok, Err, sym, subst, arith, All}
 use Rattle.lists.proofs.Words.{Global, AllZip-long}
 use Rattle.first_refusal.specs.Answers.{Answers, gives, refuses, no_memory}
 use Rattle.library_model.specs.Names.{names_of}
