@@ -41,7 +41,8 @@ expand_part-returns-then-way-eq0 t c =
     rw k.is (nothing_placed c.args.nodes.now c.args.way.motion (nothing_left c.args.nodes.now c.args.way.left c.args.one k.target k.reference c.if-way-eq0.true))
 
 pub expand_part-returns-in-End : goal.expand_part-returns-in-End
-expand_part-returns-in-End t c steps moves = rw c.in-End.is (end_placed c.args.nodes.now (routes_below c.args.nodes.now c.args.way.left) steps (rw c.in-End.is at c.requires.there) (c.place_shape.ensures steps moves))
+expand_part-returns-in-End t c steps moves =
+    rw c.in-End.is (end_placed c.args.nodes.now (routes_below c.args.nodes.now c.args.way.left) steps (rw c.in-End.is at c.requires.there) (c.place_shape.ensures steps moves))
 
 pub expand_part-returns-else-way-eq0 : goal.expand_part-returns-else-way-eq0
 expand_part-returns-else-way-eq0 t c =
