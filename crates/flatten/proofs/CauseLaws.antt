@@ -1,6 +1,6 @@
 -- a refusal tells its cause
-use Rattle.std.proofs.Common.{ℕ, suc, ◌<◌, ◌≤◌, ◌≡◌, ◌⊎◌, inl, inr, List, [], ◌∷◌, length, map, Option, Some, None, refl, sym, subst, arith, Contains, IsSome}
-use Rattle.lists.proofs.Words.{range_with_len, cases_lt, Contains-append_cases, Contains-append_right}
+use Rattle.std.proofs.Common.{ℕ, suc, ◌<◌, ◌≤◌, ◌≡◌, ◌⊎◌, inl, inr, List, [], ◌∷◌, length, map, Option, Some, None, refl, sym, subst, arith, All, Contains, IsSome}
+use Rattle.lists.proofs.Words.{range_with_len, cases_lt, All-append, All-cons, All-contains, All-map, Contains-append_right}
 use Rattle.first_refusal.specs.Outcomes.{refused, value, stops, goes_on}
 use Rattle.first_refusal.specs.Checks.{IsRefusalOfFirst, all_hold, one_fails}
 use Rattle.library_model.specs.Names.{names_of, place_of}
@@ -14,11 +14,10 @@ use Rattle.flatten.specs.Placements.{LibraryCheck, has_its_target, leads_to_no_c
 use Rattle.flatten.specs.Causes.{IsSecondTop, Tells}
 use Rattle.flatten.specs.declared.fault.PlaceFault.{PlaceFault}
 use Rattle.flatten.specs.declared.fault.PlaceFault.TheVariants.{NoTop}
-use Rattle.flatten.proofs.NumberLaws.{number_below, number_there, one_or_none}
+use Rattle.flatten.proofs.NumberLaws.{all_numbers, number_below, number_there, one_or_none}
 use Rattle.flatten.proofs.ChainLaws.{chain_or_not, no_longer}
 use Rattle.lists.proofs.Comparing.{equal_or_not}
-use Rattle.lists.proofs.Containing.{Contains-cons_cases, Contains-head}
-use Rattle.lists.proofs.Mapping.{Contains-map_from}
+use Rattle.lists.proofs.Containing.{Contains-head, all_of_each}
 
 -- ---- what can be decided
 
@@ -75,17 +74,12 @@ module _ (structures : List Structure) (layer_map : LayerMap) (wanted : Option (
   IsOf has_top = Unit {0}
   IsOf (is_no_other_top one) = one < length structures
 
-  is_of : (check : LibraryCheck) → Contains (library_checks structures) check → IsOf check
-  is_of check there = elim (Contains-append_cases (map has_its_target (all_references structures)) _ check there) [
-    | inl targets ↦ let from = Contains-map_from has_its_target (all_references structures) check targets in subst IsOf from.2 from.1
-    | inr others ↦ elim (Contains-append_cases (map leads_to_no_cycle (numbers_of structures)) (has_top ∷ map is_no_other_top (numbers_of structures)) check others) [
-      | inl cycles ↦ let from = Contains-map_from leads_to_no_cycle (numbers_of structures) check cycles in subst IsOf from.2 (number_below (length structures) from.0 from.1)
-      | inr tops ↦ elim (Contains-cons_cases has_top (map is_no_other_top (numbers_of structures)) check tops) [
-        | inl same ↦ subst IsOf same tt
-        | inr rest ↦ let from = Contains-map_from is_no_other_top (numbers_of structures) check rest in subst IsOf from.2 (number_below (length structures) from.0 from.1)
-      ]
-    ]
-  ]
+  all_of : All IsOf (library_checks structures)
+  all_of =
+      All-append IsOf (map has_its_target (all_references structures)) _ (All-map IsOf has_its_target (all_references structures)
+      (all_of_each (Contains (all_references structures)) (all_references structures) (λ reference there. there)))
+      (All-append IsOf (map leads_to_no_cycle (numbers_of structures)) _ (all_numbers leads_to_no_cycle IsOf (length structures) (λ one within. within))
+      (All-cons IsOf has_top _ tt (all_numbers is_no_other_top IsOf (length structures) (λ one within. within))))
 
   no_top : (wanted : Option (List ℕ)) → (HasTop structures wanted → ⊥) → Tells structures layer_map wanted NoTop
   no_top None fails = by_list structures fails
@@ -109,7 +103,8 @@ module _ (structures : List Structure) (layer_map : LayerMap) (wanted : Option (
   choosing_tells : (fault : PlaceFault) → Choosing structures wanted (refused fault) → Tells structures layer_map wanted fault
   choosing_tells fault (one_fails first) =
       subst (Tells structures layer_map wanted) (sym first.is_its_refusal)
-      (library_tells first.check (is_of first.check (is_among (LibraryHolds structures wanted) (library_checks structures) (library_fault structures) fault first)) first.is_first.fails)
+      (library_tells first.check (All-contains IsOf (library_checks structures) first.check all_of
+      (is_among (LibraryHolds structures wanted) (library_checks structures) (library_fault structures) fault first)) first.is_first.fails)
 
   -- ---- what the checks of the top tell
 
@@ -122,14 +117,9 @@ module _ (structures : List Structure) (layer_map : LayerMap) (wanted : Option (
     IsOfTop is_small = Unit {0}
     IsOfTop (is_in_range route) = Contains placed route
 
-    is_of_top : (check : TopCheck) → Contains (top_checks placed) check → IsOfTop check
-    is_of_top check there = elim (Contains-cons_cases is_shallow (is_small ∷ map is_in_range placed) check there) [
-      | inl same ↦ subst IsOfTop same tt
-      | inr others ↦ elim (Contains-cons_cases is_small (map is_in_range placed) check others) [
-        | inl same ↦ subst IsOfTop same tt
-        | inr rest ↦ let from = Contains-map_from is_in_range placed check rest in subst IsOfTop from.2 from.1
-      ]
-    ]
+    all_of_top : All IsOfTop (top_checks placed)
+    all_of_top = All-cons IsOfTop is_shallow (is_small ∷ map is_in_range placed) tt (All-cons IsOfTop is_small (map is_in_range placed) tt
+        (All-map IsOfTop is_in_range placed (all_of_each (Contains placed) placed (λ route there. there))))
 
     too_many : (IsSmall placed → ⊥) → (1000000 < length placed) ⊎ (8000000 < point_count placed)
     too_many fails = elim (cases_lt 1000000 (length placed)) [
@@ -148,7 +138,8 @@ module _ (structures : List Structure) (layer_map : LayerMap) (wanted : Option (
     from_top_tells : (fault : PlaceFault) → PlacingFrom structures top placed (refused fault) → Tells structures layer_map wanted fault
     from_top_tells fault (one_fails first) =
         subst (Tells structures layer_map wanted) (sym first.is_its_refusal)
-        (top_tells first.check (is_of_top first.check (is_among (TopHolds structures top placed) (top_checks placed) (top_fault structures top) fault first)) first.is_first.fails)
+        (top_tells first.check (All-contains IsOfTop (top_checks placed) first.check all_of_top
+        (is_among (TopHolds structures top placed) (top_checks placed) (top_fault structures top) fault first)) first.is_first.fails)
 
   chosen_is_top : (top : ℕ) → Choosing structures wanted (value top) → IsTop structures wanted top
   chosen_is_top top (all_hold all is) = is

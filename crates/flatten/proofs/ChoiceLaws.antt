@@ -1,20 +1,22 @@
 -- the choice of the top: what it comes to where these checks hold
-use Rattle.std.proofs.Common.{ℕ, ◌<◌, ◌≡◌, List, [], ◌∷◌, length, get_or, map, Option, refl, ap, ◌∙◌, All}
+use Rattle.std.proofs.Common.{ℕ, ◌<◌, ◌≡◌, List, [], ◌∷◌, length, get_or, map, Option, Ok, Err, refl, ap, ◌∙◌, All}
 use Rattle.lists.proofs.Words.{map-append, All-nil, All-cons, All-append, All-map}
-use Rattle.first_refusal.specs.Outcomes.{refused, value}
-use Rattle.first_refusal.specs.Checks.{all_hold, one_fails, IsRefusalOfFirst}
-use Rattle.first_refusal.proofs.CheckLaws.{fails_at_once}
+use Rattle.first_refusal.specs.Answers.{Answers, gives}
+use Rattle.first_refusal.specs.Checks.{IsRefusalOfFirst, all_hold}
+use Rattle.first_refusal.proofs.JudgeLaws.{Judges, fails_first, goes_on, renamed, stops}
 use Rattle.library_model.specs.Names.{names_of}
+use Rattle.library_model.specs.declared.element.Reference.{Reference}
 use Rattle.library_model.specs.declared.library.Structure.{Structure}
 use Rattle.flatten.specs.Structures.{all_references, numbers_of, offset_of}
 use Rattle.flatten.specs.ReferenceChains.{IsEndless}
-use Rattle.flatten.specs.inside.Parts.{IsKnown}
-use Rattle.flatten.specs.Tops.{HasTop, IsNoOtherTop, IsTop}
-use Rattle.flatten.specs.Placements.{LibraryCheck, has_its_target, leads_to_no_cycle, has_top, is_no_other_top, LibraryHolds, library_fault, Choosing}
+use Rattle.flatten.specs.inside.Parts.{IsKnown, MakesParts}
+use Rattle.flatten.specs.inside.Plans.{Chooses, IsChosen}
+use Rattle.flatten.specs.Tops.{HasTop, IsNoOtherTop}
+use Rattle.flatten.specs.Placements.{LibraryCheck, has_its_target, leads_to_no_cycle, has_top, is_no_other_top, LibraryHolds, library_checks, library_fault}
 use Rattle.flatten.specs.declared.fault.PlaceFault.{PlaceFault}
-use Rattle.flatten.specs.declared.fault.PlaceFault.TheVariants.{UnknownStructure, Cycle, NoTop, ManyTops}
+use Rattle.flatten.specs.declared.fault.PlaceFault.TheVariants.{UnknownStructure, Cycle, NoTop, ManyTops, Memory}
 use Rattle.flatten.proofs.NumberLaws.{all_numbers}
-use Rattle.flatten.proofs.FirstLaws.{refused_behind, refused_before, first_number}
+use Rattle.flatten.proofs.FirstLaws.{first_number}
 
 -- the first that fails of a list is the first of the list said in other words
 module _ {A N R : Type 0} (H : A → Type 0) (Holds : N → Type 0) (say : A → N) (of : A → R) (refusal_of : N → R) (to : (a : A) → H a → Holds (say a)) (from : (a : A) → Holds (say a)
@@ -35,7 +37,7 @@ module _ {A N R : Type 0} (H : A → Type 0) (Holds : N → Type 0) (say : A →
     is_its_refusal = first.is_its_refusal ∙ same first.check;
   }
 
-module _ (structures : List Structure) (wanted : Option (List ℕ)) where
+module _ {T : Type 0} (structures : List Structure) (wanted : Option (List ℕ)) (Is : T → Type 0) where
   abbrev Holds : LibraryCheck → Type 0
   Holds = LibraryHolds structures wanted
 
@@ -51,43 +53,50 @@ module _ (structures : List Structure) (wanted : Option (List ℕ)) where
   abbrev tops : List LibraryCheck
   tops = map is_no_other_top (numbers_of structures)
 
+  -- the answer is this fault
+  abbrev pub Refuses : PlaceFault → Type 0
+  Refuses fault = Answers Memory (Chooses structures wanted Is) (Err fault)
+
   -- 24: the first reference that names no structure
-  pub unknown_refused : (fault : PlaceFault) → IsRefusalOfFirst (IsKnown (names_of structures)) (all_references structures) (λ reference. UnknownStructure reference.at) fault
-      → Choosing structures wanted (refused fault)
-  unknown_refused fault first =
-      one_fails (refused_before Holds fault_of targets _ fault
-      (first_said (IsKnown (names_of structures)) Holds has_its_target (λ reference. UnknownStructure reference.at) fault_of (λ r h. h) (λ r h. h) (λ r. refl) (all_references structures) fault first))
+  pub unknown_refused : {P : Type 0} (Made : P → Type 0) (fault : PlaceFault) → Answers Memory (MakesParts (names_of structures) (all_references structures) Made) (Err fault) → Refuses fault
+  unknown_refused Made fault told =
+      stops Holds fault_of Made Is targets _ fault (renamed (IsKnown (names_of structures)) Holds (λ (reference : Reference). UnknownStructure reference.at) fault_of has_its_target (λ r h. h)
+      (λ r h. h) (λ r. refl) Made (all_references structures) (Err fault) told)
 
   module _ (known : All (IsKnown (names_of structures)) (all_references structures)) where
     all_known : All Holds targets
     all_known = All-map Holds has_its_target (all_references structures) known
 
     -- 25: the first structure that leads to a cycle
-    pub cycle_refused : (one : ℕ) → one < length structures → IsEndless structures one → ((other : ℕ) → other < one → IsEndless structures other → ⊥)
-        → Choosing structures wanted (refused (Cycle (offset_of structures one)))
+    pub cycle_refused : (one : ℕ) → one < length structures → IsEndless structures one → ((other : ℕ) → other < one → IsEndless structures other → ⊥) → Refuses (Cycle (offset_of structures one))
     cycle_refused one within endless before =
-        one_fails (refused_behind Holds fault_of targets _ _ all_known (refused_before Holds fault_of cycles _ _
-        (first_number Holds fault_of leads_to_no_cycle (length structures) one within before (λ holds. holds endless))))
+        goes_on Holds fault_of Is targets _ (Err _) all_known (stops Holds fault_of Is Is cycles _ _
+        (first_number Holds fault_of Is leads_to_no_cycle (length structures) one within before (λ holds. holds endless)))
 
     module _ (ends : (one : ℕ) → one < length structures → IsEndless structures one → ⊥) where
       all_end : All Holds cycles
       all_end = all_numbers leads_to_no_cycle Holds (length structures) ends
 
-      top_refused : (fault : PlaceFault) → IsRefusalOfFirst Holds (has_top ∷ tops) fault_of fault → Choosing structures wanted (refused fault)
-      top_refused fault first = one_fails (refused_behind Holds fault_of targets _ fault all_known (refused_behind Holds fault_of cycles _ fault all_end first))
+      top_refused : (fault : PlaceFault) → Judges Memory Holds (has_top ∷ tops) fault_of Is (Err fault) → Refuses fault
+      top_refused fault told = goes_on Holds fault_of Is targets _ (Err fault) all_known (goes_on Holds fault_of Is cycles _ (Err fault) all_end told)
 
       -- 27: there is no top
-      pub none_refused : (HasTop structures wanted → ⊥) → Choosing structures wanted (refused NoTop)
-      none_refused lacks = top_refused NoTop (record { check = has_top; is_first = fails_at_once Holds has_top tops lacks; is_its_refusal = refl })
+      pub none_refused : (HasTop structures wanted → ⊥) → Refuses NoTop
+      none_refused lacks = top_refused NoTop (fails_first Holds fault_of Is has_top tops lacks)
 
       module _ (some : HasTop structures wanted) where
         -- 28: the first structure that is another top
         pub many_refused : (one : ℕ) → one < length structures → ((other : ℕ) → other < one → IsNoOtherTop structures wanted other) → (IsNoOtherTop structures wanted one → ⊥)
-            → Choosing structures wanted (refused (ManyTops (offset_of structures one)))
+            → Refuses (ManyTops (offset_of structures one))
         many_refused one within before fails =
-            top_refused _ (refused_behind Holds fault_of (has_top ∷ []) tops _ (All-cons Holds has_top [] some (All-nil Holds))
-            (first_number Holds fault_of is_no_other_top (length structures) one within before fails))
+            top_refused _ (goes_on Holds fault_of Is (has_top ∷ []) tops (Err _) (All-cons Holds has_top [] some (All-nil Holds))
+            (first_number Holds fault_of Is is_no_other_top (length structures) one within before fails))
 
-        pub top_chosen : (top : ℕ) → IsTop structures wanted top → ((one : ℕ) → one < length structures → IsNoOtherTop structures wanted one) → Choosing structures wanted (value top)
-        top_chosen top is alone =
-            all_hold (All-append Holds targets _ all_known (All-append Holds cycles _ all_end (All-cons Holds has_top tops some (all_numbers is_no_other_top Holds (length structures) alone)))) is
+        pub all_checks : ((one : ℕ) → one < length structures → IsNoOtherTop structures wanted one) → All Holds (library_checks structures)
+        all_checks alone =
+            All-append Holds targets _ all_known (All-append Holds cycles _ all_end (All-cons Holds has_top tops some (all_numbers is_no_other_top Holds (length structures) alone)))
+
+-- a choice that came to a top comes to whatever is made of it
+pub chosen_by : {T : Type 0} (structures : List Structure) (wanted : Option (List ℕ)) {top : ℕ} {Is : T → Type 0} {thing : T} → IsChosen structures wanted top → Is thing
+    → Answers Memory (Chooses structures wanted Is) (Ok thing)
+chosen_by structures wanted (within, all_hold all is_top) is = gives (all_hold all is)

@@ -1,6 +1,6 @@
 -- the routes that an expansion follows, part by part, row by row and column by column
-use Rattle.std.proofs.Common.{ℕ, suc, ◌≤◌, ◌<◌, ◌+◌, ◌≡◌, inl, inr, List, [], ◌∷◌, ◌++◌, length, get_or, map, Vec, refl, sym, ap, subst, ◌∙◌, arith, Contains}
-use Rattle.lists.proofs.Words.{flat_map, Bor, Global, enumerate_from, range_with_len, length-range_with_len, get_or-range_with_len, flat_map-append}
+use Rattle.std.proofs.Common.{ℕ, suc, ◌+◌, ◌≡◌, inl, inr, List, [], ◌∷◌, ◌++◌, map, Vec, refl, sym, ap, subst, ◌∙◌, Contains}
+use Rattle.lists.proofs.Words.{flat_map, Bor, Global, enumerate_from, range_with_len, flat_map-append}
 use Rattle.std.proofs.lemmas.List.Folds.{flat_map-map}
 use Rattle.library_model.specs.Names.{names_of}
 use Rattle.library_model.specs.declared.library.Structure.{Structure}
@@ -24,16 +24,6 @@ use Rattle.lists.proofs.Containing.{Contains-cons_cases, Contains-none}
 flat_map-flat_map : {X Y Z : Type 0} (g : Y → List Z) (f : X → List Y) (xs : List X) → flat_map g (flat_map f xs) ≡ flat_map (λ x. flat_map g (f x)) xs
 flat_map-flat_map g f [] = refl
 flat_map-flat_map g f (x ∷ xs) = flat_map-append g (f x) (flat_map f xs) ∙ ap (λ ys. flat_map g (f x) ++ ys) (flat_map-flat_map g f xs)
-
--- the numbers of rows and columns as items
-pub number_more : (count i : ℕ) → i < count → i < length (range_with_len 0 count)
-number_more count i h = omega (arith, length-range_with_len 0 count)
-
-pub number_is : (count i : ℕ) → i < count → i ≡ get_or (range_with_len 0 count) i i
-number_is count i h = let zero-more : 0 + i ≡ i = omega arith in sym (get_or-range_with_len 0 count i i h ∙ zero-more)
-
-pub numbers_end : (count i : ℕ) → count ≤ i → length (range_with_len 0 count) ≤ i
-numbers_end count i h = omega (arith, length-range_with_len 0 count)
 
 module _ (names : List (List ℕ)) (layer_map : LayerMap) where
   -- a shape that is a part has its layer

@@ -1,8 +1,9 @@
 -- the limits of a top, by what is kept of its weight
-use Rattle.std.proofs.Common.{ℕ, suc, ◌+◌, ◌≤◌, ◌<◌, ◌≡◌, ◌⊎◌, inl, inr, List, [], ◌∷◌, length, get_or, Vec, refl, sym, ap, ◌∙◌, arith, All}
+use Rattle.std.proofs.Common.{ℕ, suc, ◌+◌, ◌≤◌, ◌<◌, ◌≡◌, ◌⊎◌, inl, inr, List, [], ◌∷◌, length, get_or, map, Vec, refl, sym, ap, ◌∙◌, arith, All}
 use Rattle.lists.proofs.Words.{Global, option_map_or, cases_lt, slice_get-get_or, sum_by-cons, All-nil, All-cons}
 use Rattle.std.proofs.Math.ListN.{get_or-eq_default}
 use Rattle.first_refusal.specs.Outcomes.{refused}
+use Rattle.first_refusal.proofs.CheckLaws.{fails_at_once, fails_later}
 use Rattle.first_refusal.specs.Checks.{one_fails}
 use Rattle.library_model.specs.Names.{names_of}
 use Rattle.library_model.specs.declared.library.Structure.{Structure}
@@ -12,7 +13,7 @@ use Rattle.flatten.specs.Routes.{Route}
 use Rattle.flatten.specs.inside.Parts.{AreNodes}
 use Rattle.flatten.specs.inside.Weights.{Weight, Weighs, IsKept}
 use Rattle.flatten.specs.inside.Surveys.{state_of}
-use Rattle.flatten.specs.Placements.{is_shallow, is_small, IsShallow, IsSmall, TopHolds, PlacingFrom, placed_routes}
+use Rattle.flatten.specs.Placements.{is_shallow, is_small, is_in_range, IsShallow, IsSmall, TopHolds, PlacingFrom, placed_routes}
 use Rattle.flatten.specs.inside.Plans.{IsPlanOf}
 use Rattle.flatten.specs.declared.part.Part.{Part}
 use Rattle.flatten.specs.declared.plan.Plan.{Plan}
@@ -93,7 +94,7 @@ module _ (structures : List Structure) (layer_map : LayerMap) (plan : Plan) (of 
     pub deep_refused : (at : ℕ) → at ≡ offset_of structures top → 256 < summary.height → PlacingFrom structures top placed (refused (TooDeep at))
     deep_refused at begins high = one_fails (record {
       check = is_shallow;
-      is_first = record { before = []; after = is_small ∷ _; parts = refl; all_before = All-nil (TopHolds structures top placed); fails = deep high };
+      is_first = fails_at_once (TopHolds structures top placed) is_shallow (is_small ∷ map is_in_range placed) (deep high);
       is_its_refusal = ap TooDeep begins;
     })
 
@@ -101,14 +102,8 @@ module _ (structures : List Structure) (layer_map : LayerMap) (plan : Plan) (of 
         → PlacingFrom structures top placed (refused (TooManyShapes at))
     large_refused at begins low many = one_fails (record {
       check = is_small;
-      is_first = record {
-        before = is_shallow ∷ [];
-        after = _;
-        parts = refl;
-        all_before = All-cons (TopHolds structures top placed) is_shallow [] (shallow low)
-            (All-nil (TopHolds structures top placed));
-        fails = large low many;
-      };
+      is_first = fails_later (TopHolds structures top placed) is_shallow (is_small ∷ map is_in_range placed) is_small (shallow low)
+          (fails_at_once (TopHolds structures top placed) is_small (map is_in_range placed) (large low many));
       is_its_refusal = ap TooManyShapes begins;
     })
 

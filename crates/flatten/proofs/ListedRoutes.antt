@@ -1,5 +1,5 @@
 -- the list of routes has each route with no more steps than its bound, and no other
-use Rattle.std.proofs.Common.{ℕ, zero, suc, ◌+◌, ◌*◌, ◌<◌, ◌≤◌, ◌≡◌, ◌↔◌, inl, inr, List, [], ◌∷◌, get_or, length, map, Option, Some, None, refl, sym, ap, subst, ◌∙◌, arith, Contains, slice_get}
+use Rattle.std.proofs.Common.{ℕ, zero, suc, ◌+◌, ◌*◌, ◌<◌, ◌≤◌, ◌≡◌, ◌↔◌, List, [], ◌∷◌, get_or, length, map, Option, Some, None, refl, sym, ap, subst, ◌∙◌, arith, Contains, slice_get}
 use Rattle.lists.proofs.Words.{enumerate_from, range_with_len, option_map_or, length-enumerate_from, get_or-enumerate_from, slice_get_within, get_or_from_slice_get, slice_get_read}
 use Rattle.library_model.specs.declared.element.Element.{Element}
 use Rattle.library_model.specs.declared.element.Element.TheVariants.{Shape as shape_element, Reference as reference_element}
@@ -13,7 +13,7 @@ use Rattle.flatten.specs.OneRoute.{LeadsOn, LeadAlong, IsRoute}
 use Rattle.flatten.proofs.ArrayLaws.{stands_there}
 use Rattle.flatten.proofs.NumberLaws.{number_below}
 use Rattle.flatten.proofs.RouteLaws.{routes-zero, routes-suc}
-use Rattle.lists.proofs.Containing.{Contains-cons_cases, Contains-head, Contains-none}
+use Rattle.lists.proofs.Containing.{Contains-head, Contains-none, Contains-one}
 use Rattle.lists.proofs.Mapping.{Contains-flat_map, Contains-flat_map_from, Contains-map, Contains-map_from}
 use Rattle.lists.proofs.Numbering.{numbered_there, unnumbered}
 
@@ -49,10 +49,7 @@ reference_among elements n reference there =
 
 is_reference : (element : Element) (reference : Reference) → Contains (references_in element) reference → element ≡ reference_element reference
 is_reference (shape_element shape) reference there = absurd (Contains-none there)
-is_reference (reference_element other) reference there = elim (Contains-cons_cases other [] reference there) [
-  | inl same ↦ ap reference_element same
-  | inr none ↦ absurd (Contains-none none)
-]
+is_reference (reference_element other) reference there = ap reference_element (Contains-one other reference there)
 
 among_elements : (elements : List Element) (reference : Reference) → Contains (references_among elements) reference → (n : ℕ) × Contains (enumerate_from 0 elements) (n, reference_element reference)
 among_elements elements reference there =
@@ -72,10 +69,7 @@ module _ (structures : List Structure) (from : Reference → List Route) (start 
         → behind_step step rest ≡ route → Begins route
 
   begins_at : (route : Route) (n : ℕ) (element : Element) → Contains (enumerate_from 0 elements) (n, element) → Contains (routes_at from start (n, element)) route → Begins route
-  begins_at route n (shape_element shape) there listed = elim (Contains-cons_cases _ [] route listed) [
-    | inl same ↦ ends_here n shape there same
-    | inr none ↦ absurd (Contains-none none)
-  ]
+  begins_at route n (shape_element shape) there listed = ends_here n shape there (Contains-one _ route listed)
   begins_at route n (reference_element reference) there listed =
       let by_step = Contains-flat_map_from (λ step. map (behind_step step) (from reference)) (steps_of reference) route listed in
       let rest = Contains-map_from (behind_step by_step.0) (from reference) route by_step.2 in

@@ -1,6 +1,6 @@
 -- what a placement comes to
-use Rattle.std.proofs.Common.{ℕ, ◌<◌, ◌≡◌, inl, inr, List, ◌∷◌, length, map, Option, Some, None, refl, sym, ◌∙◌, arith, All, Contains, IsSome}
-use Rattle.lists.proofs.Words.{Contains-append_left, Contains-append_right, All-contains, cases_lt}
+use Rattle.std.proofs.Common.{ℕ, ◌<◌, ◌≡◌, inl, inr, List, ◌∷◌, ◌++◌, length, map, Option, Some, None, refl, sym, ◌∙◌, arith, All, Contains, IsSome}
+use Rattle.lists.proofs.Words.{All-contains, All-head, All-tail, cases_lt}
 use Rattle.first_refusal.specs.Laws.{IsUnique, CannotLack}
 use Rattle.first_refusal.proofs.CheckLaws.{checks_agree, checks_cannot_lack}
 use Rattle.first_refusal.proofs.StageLaws.{stages_agree, stages_cannot_lack}
@@ -13,7 +13,7 @@ use Rattle.flatten.specs.Tops.{IsTop, HasTop, IsNoOtherTop, IsUnnamed, IsOnlyUnn
 use Rattle.flatten.specs.Placements.{has_its_target, leads_to_no_cycle, has_top, is_no_other_top, LibraryHolds, library_checks, library_fault, TopHolds, top_checks, top_fault, Choosing, PlacingFrom, Placing, placed_routes}
 use Rattle.flatten.proofs.NumberLaws.{number_there}
 use Rattle.flatten.proofs.ChainLaws.{some_bound, some_unnamed}
-use Rattle.lists.proofs.Containing.{Contains-head, Contains-tail}
+use Rattle.lists.proofs.Containing.{All-back, All-front}
 use Rattle.lists.proofs.Mapping.{Contains-map}
 
 module _ (structures : List Structure) where
@@ -32,24 +32,22 @@ module _ (structures : List Structure) where
 
   -- each check of the library by its place in the list
   module _ (wanted : Option (List ℕ)) (all : All (LibraryHolds structures wanted) (library_checks structures)) where
+    behind_targets : All (LibraryHolds structures wanted) (map leads_to_no_cycle (numbers_of structures) ++ has_top ∷ map is_no_other_top (numbers_of structures))
+    behind_targets = All-back (LibraryHolds structures wanted) (map has_its_target (all_references structures)) _ all
+
+    behind_cycles : All (LibraryHolds structures wanted) (has_top ∷ map is_no_other_top (numbers_of structures))
+    behind_cycles = All-back (LibraryHolds structures wanted) (map leads_to_no_cycle (numbers_of structures)) _ behind_targets
+
     ends_from : (one : ℕ) → Contains (numbers_of structures) one → IsEndless structures one → ⊥
-    ends_from one there = All-contains (LibraryHolds structures wanted) (library_checks structures) (leads_to_no_cycle one) all
-        (Contains-append_right (map has_its_target (all_references structures)) _ (leads_to_no_cycle one)
-        (Contains-append_left (map leads_to_no_cycle (numbers_of structures)) (has_top ∷ map is_no_other_top (numbers_of structures)) (leads_to_no_cycle one)
-        (Contains-map leads_to_no_cycle (numbers_of structures) one there)))
+    ends_from one there = All-contains (LibraryHolds structures wanted) (map leads_to_no_cycle (numbers_of structures)) (leads_to_no_cycle one)
+        (All-front (LibraryHolds structures wanted) (map leads_to_no_cycle (numbers_of structures)) _ behind_targets) (Contains-map leads_to_no_cycle (numbers_of structures) one there)
 
     top_is_there : HasTop structures wanted
-    top_is_there = All-contains (LibraryHolds structures wanted) (library_checks structures) has_top all
-        (Contains-append_right (map has_its_target (all_references structures)) _ has_top
-        (Contains-append_right (map leads_to_no_cycle (numbers_of structures)) (has_top ∷ map is_no_other_top (numbers_of structures)) has_top
-        (Contains-head has_top (map is_no_other_top (numbers_of structures)))))
+    top_is_there = All-head (LibraryHolds structures wanted) has_top _ behind_cycles
 
     no_other_top : (one : ℕ) → one < length structures → IsNoOtherTop structures wanted one
-    no_other_top one within = All-contains (LibraryHolds structures wanted) (library_checks structures) (is_no_other_top one) all
-        (Contains-append_right (map has_its_target (all_references structures)) _ (is_no_other_top one)
-        (Contains-append_right (map leads_to_no_cycle (numbers_of structures)) (has_top ∷ map is_no_other_top (numbers_of structures)) (is_no_other_top one)
-        (Contains-tail has_top (map is_no_other_top (numbers_of structures)) (is_no_other_top one)
-        (Contains-map is_no_other_top (numbers_of structures) one (number_there (length structures) one within)))))
+    no_other_top one within = All-contains (LibraryHolds structures wanted) (map is_no_other_top (numbers_of structures)) (is_no_other_top one)
+        (All-tail (LibraryHolds structures wanted) has_top _ behind_cycles) (Contains-map is_no_other_top (numbers_of structures) one (number_there (length structures) one within))
 
   -- of two structures to which no reference leads one would be another top
   only_unnamed : ((one : ℕ) → one < length structures → IsNoOtherTop structures None one) → (one : ℕ) → one < length structures → IsUnnamed structures one → IsOnlyUnnamed structures one

@@ -1,7 +1,9 @@
 -- the top: the structure of the wanted name, or the one that is not marked, where those are marked to which parts lead
-use Rattle.std.proofs.Common.{ℕ, ◌<◌, ◌≡◌, inl, inr, Bool, List, length, Vec, Some, None, refl, sym, subst, ◌∙◌, arith, All, IsSome}
+use Rattle.std.proofs.Common.{ℕ, ◌<◌, ◌≡◌, Result, Ok, Err, inl, inr, Bool, List, length, Vec, Option, Some, None, refl, sym, subst, ◌∙◌, arith, All, IsSome}
+use Rattle.std.specs.Prelude.{IfOk, IfErr}
 use Rattle.lists.proofs.Words.{Global, AllZip-long}
-use Rattle.first_refusal.specs.Outcomes.{refused}
+use Rattle.first_refusal.specs.Answers.{Answers}
+use Rattle.first_refusal.specs.Checks.{all_hold}
 use Rattle.library_model.specs.Names.{names_of, place_of}
 use Rattle.library_model.specs.declared.library.Structure.{Structure}
 use Rattle.map_model.specs.MapNames.{LayerMap}
@@ -11,14 +13,13 @@ use Rattle.flatten.specs.Tops.{IsUnnamed, IsOnlyUnnamed, IsNoOtherTop, HasTop}
 use Rattle.flatten.specs.inside.Marks.{IsMarked, IsOnlyUnmarked, IsTopFault, all_marked, second_unmarked}
 use Rattle.flatten.specs.inside.Parts.{AreNodes, IsKnown, LeadsTo, parts_at}
 use Rattle.flatten.specs.inside.Weights.{Weight, Weighs}
-use Rattle.flatten.specs.Placements.{Choosing}
-use Rattle.flatten.specs.inside.Plans.{IsChosen}
+use Rattle.flatten.specs.inside.Plans.{Chooses, IsChosen}
 use Rattle.flatten.specs.declared.part.Part.{Part}
 use Rattle.flatten.specs.declared.fault.PlaceFault.{PlaceFault}
-use Rattle.flatten.specs.declared.fault.PlaceFault.TheVariants.{NoTop}
+use Rattle.flatten.specs.declared.fault.PlaceFault.TheVariants.{NoTop, Memory}
 use Rattle.flatten.proofs.NumberLaws.{number_there, number_below}
 use Rattle.flatten.proofs.ChainLaws.{some_bound, some_unnamed}
-use Rattle.flatten.proofs.ChoiceLaws.{none_refused, many_refused, top_chosen}
+use Rattle.flatten.proofs.ChoiceLaws.{none_refused, many_refused, all_checks, chosen_by}
 use Rattle.flatten.proofs.GraphLaws.{named_within, leads, leads_back, chains_end}
 use Rattle.flatten.proofs.MarkLaws.{leads_within}
 use Rattle.lists.proofs.Comparing.{equal_or_not}
@@ -29,12 +30,20 @@ module _ (structures : List Structure) (layer_map : LayerMap) (nodes : List (Vec
   ends : (one : ℕ) → one < length structures → IsEndless structures one → ⊥
   ends one within = let w = weighed one within in chains_end structures layer_map nodes are_nodes one w.0 w.1
 
-  -- a wanted top: the structure of the name, or none
-  pub name_chosen : (name : List ℕ) (top : ℕ) → place_of (names_of structures) name ≡ Some top → IsChosen structures (Some name) top
-  name_chosen name top is = (named_within structures name top is, top_chosen structures (Some name) known ends (subst IsSome (sym is) refl) top is (λ one within. tt))
+  -- the number of the top is chosen
+  abbrev pub Answer : Option (List ℕ) → Result ℕ PlaceFault → Type 0
+  Answer wanted = Answers Memory (Chooses structures wanted (IsChosen structures wanted))
 
-  pub name_refused : (name : List ℕ) → place_of (names_of structures) name ≡ None → Choosing structures (Some name) (refused NoTop)
-  name_refused name none = none_refused structures (Some name) known ends (λ some. let no = subst IsSome none some in cc no)
+  -- a wanted top: the structure of the name, or none
+  pub name_chosen : (name : List ℕ) (top : ℕ) → place_of (names_of structures) name ≡ Some top → Answer (Some name) (Ok top)
+  name_chosen name top is =
+      let chosen : IsChosen structures (Some name) top = (
+        named_within structures name top is,
+        all_hold (all_checks structures (Some name) (IsChosen structures (Some name)) known ends (subst IsSome (sym is) refl) (λ one within. tt)) is,
+      ) in chosen_by structures (Some name) chosen chosen
+
+  pub name_refused : (name : List ℕ) → place_of (names_of structures) name ≡ None → Answer (Some name) (Err NoTop)
+  name_refused name none = none_refused structures (Some name) _ known ends (λ some. let no = subst IsSome none some in cc no)
 
   module _ (marks : List Bool) (marked : (other one : ℕ) → LeadsTo (parts_at nodes other) one → IsMarked marks one) (only : (one : ℕ) → IsMarked marks one → (other : ℕ)
       × LeadsTo (parts_at nodes other) one) where
@@ -61,8 +70,13 @@ module _ (structures : List Structure) (layer_map : LayerMap) (nodes : List (Vec
         ]
 
     -- the only structure that is not marked is the top
-    pub unmarked_chosen : (top : ℕ) → IsOnlyUnmarked (length structures) marks top → IsChosen structures None top
-    unmarked_chosen top is_only = (is_only.below, top_chosen structures None known ends (let h = is_only.below in omega arith) top only_top (alone (length structures) top is_only))
+    unmarked_chosen : (top : ℕ) → IsOnlyUnmarked (length structures) marks top → Answer None (Ok top)
+    unmarked_chosen top is_only =
+        let some : HasTop structures None = let h = is_only.below in omega arith in
+        let chosen : IsChosen structures None top = (
+          is_only.below,
+          all_hold (all_checks structures None (IsChosen structures None) known ends some (alone (length structures) top is_only)) only_top,
+        ) in chosen_by structures None chosen chosen
       where
         only_top : IsOnlyUnnamed structures top
         only_top = record {
@@ -77,8 +91,12 @@ module _ (structures : List Structure) (layer_map : LayerMap) (nodes : List (Vec
         some_bound structures (numbers_of structures) (λ one there. ends one (number_below (length structures) one there))
         (λ most longest. some_unnamed structures most longest (λ one within free. is_named one (all one within) free) 0 some)
 
-    pub marks_refused : (fault : PlaceFault) → IsTopFault structures marks fault → Choosing structures None (refused fault)
-    marks_refused fault (all_marked all) = none_refused structures None known ends (none_there all)
+    marks_refused : (fault : PlaceFault) → IsTopFault structures marks fault → Answer None (Err fault)
+    marks_refused fault (all_marked all) = none_refused structures None _ known ends (none_there all)
     marks_refused fault (second_unmarked {number = number} {first = first} within unmarked is_only) =
-        many_refused structures None known ends (omega arith) number within (λ one h. alone number first is_only one h)
+        many_refused structures None _ known ends (omega arith) number within (λ one h. alone number first is_only one h)
         (λ no_other. no_other (unnamed number unmarked) first is_only.below (unnamed first is_only.unmarked))
+
+    pub marks_tell : (result : Result ℕ PlaceFault) → IfOk result (IsOnlyUnmarked (length structures) marks) → IfErr result (IsTopFault structures marks) → Answer None result
+    marks_tell (Ok top) is_only fault = unmarked_chosen top is_only
+    marks_tell (Err fault) is_only is_fault = marks_refused fault is_fault

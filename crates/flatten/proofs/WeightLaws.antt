@@ -1,5 +1,5 @@
 -- weights of parts
-use Rattle.std.proofs.Common.{ℕ, suc, ◌+◌, ◌≤◌, ◌<◌, ◌≡◌, inl, inr, max, List, [], ◌∷◌, length, get_or, drop, add-one, sym, ap, subst, ◌∙◌, arith, Contains}
+use Rattle.std.proofs.Common.{ℕ, suc, ◌+◌, ◌≤◌, ◌<◌, ◌≡◌, max, List, [], ◌∷◌, length, get_or, drop, add-one, sym, ap, subst, ◌∙◌, arith, Contains}
 use Rattle.lists.proofs.Words.{Bor, drop-cons, drop_all}
 use Rattle.library_model.specs.declared.element.Reference.{Reference}
 use Rattle.flatten.specs.declared.part.Part.{Part}
@@ -8,24 +8,12 @@ use Rattle.flatten.specs.declared.summary.State.{State}
 use Rattle.flatten.specs.inside.Parts.{AreBelow}
 use Rattle.flatten.specs.inside.Weights.{Weight, no_weight, both_weights, weight_of, weight_over}
 use Rattle.flatten.specs.inside.Surveys.{AreWeighed}
-use Rattle.lists.proofs.Containing.{Contains-cons_cases, Contains-none}
+use Rattle.lists.proofs.Containing.{Contains-one}
 
 -- equal numbers, equal weights
 pub same_weights : (h h' s s' p p' : ℕ) → h ≡ h' → s ≡ s' → p ≡ p'
     → let one : Weight = record { height = h; shapes = s; points = p } in let other : Weight = record { height = h'; shapes = s'; points = p' } in one ≡ other
-same_weights h h' s s' p p' e f g = at_height ∙ at_shapes ∙ at_points
-  where
-    weight : ℕ → ℕ → ℕ → Weight
-    weight a b c = record { height = a; shapes = b; points = c }
-
-    at_height : weight h s p ≡ weight h' s p
-    at_height = ap (λ x. weight x s p) e
-
-    at_shapes : weight h' s p ≡ weight h' s' p
-    at_shapes = ap (λ x. weight h' x p) f
-
-    at_points : weight h' s' p ≡ weight h' s' p'
-    at_points = ap (weight h' s') g
+same_weights h h' s s' p p' e f g = cc
 
 pub nothing_first : (weight : Weight) → both_weights no_weight weight ≡ weight
 nothing_first weight = same_weights _ weight.height _ weight.shapes _ weight.points (omega arith) (omega arith) (omega arith)
@@ -57,10 +45,7 @@ module _ (of : ℕ → Weight) (parts : List Part) (i : ℕ) (weight : Weight) (
 -- what is known of parts is known of one
 module _ (parts : List Part) (i : ℕ) (part : Part) (more : i < length parts) (is : part ≡ get_or parts i part) where
   one_there : (reference : Bor Reference) (target : ℕ) → Contains (part ∷ []) (Copies reference target) → Contains parts (Copies reference target)
-  one_there reference target there = elim (Contains-cons_cases part [] (Copies reference target) there) [
-    | inl e ↦ subst (Contains parts) e (i, more, sym is)
-    | inr there_none ↦ absurd (Contains-none there_none)
-  ]
+  one_there reference target there = subst (Contains parts) (Contains-one part (Copies reference target) there) (i, more, sym is)
 
   pub below_one : (count : ℕ) → AreBelow count parts → AreBelow count (part ∷ [])
   below_one count below reference target there = below reference target (one_there reference target there)

@@ -1,13 +1,13 @@
 //! The expansion of structures: from the top, each part in turn, down to each shape.
 
-ghost use Rattle.std.specs.Prelude.{ℕ, [], ◌∷◌, ◌≡◌, ◌≢◌, ◌≤◌, ◌<◌, ◌-◌, ◌^◌, Contains, List, length, IfOk, IfErr};
-ghost use Rattle.map_model.specs.LayerMap.{LayerMap, IsMappedTo};
+ghost use Rattle.std.specs.Prelude.{[], ◌∷◌, ◌≡◌, ◌≤◌, ◌<◌, ◌-◌, ◌^◌, Contains, List, length};
+ghost use Rattle.first_refusal.specs.Answers.{Answers};
+ghost use Rattle.map_model.specs.LayerMap.{IsMappedTo};
 ghost use Rattle.flatten.specs.Steps.{Step, columns_of, rows_of, steps_in_row, steps_of};
 ghost use Rattle.flatten.specs.Motions.{MovesAlong};
-ghost use Rattle.flatten.specs.inside.Parts.{parts_at};
+ghost use Rattle.flatten.specs.inside.Parts.{AreNodesBelow, parts_at};
 ghost use Rattle.flatten.specs.inside.Ends.{node_routes, part_routes, routes_below};
-ghost use Rattle.flatten.specs.inside.Expansions.{Adds, AddsEnds, IsFirstBeyond, IsFollowed, Refuses, copy_routes, route_to};
-ghost use Rattle.flatten.specs.declared.fault.PlaceFault.TheVariants.{Memory};
+ghost use Rattle.flatten.specs.inside.Expansions.{Expands, PlacesEach, copy_routes, route_to};
 
 use super::fault::PlaceFault;
 use super::part::Part;
@@ -17,6 +17,7 @@ use super::way::Way;
 use library_model::{Reference, Shape};
 
 /// Places the shape that is this element of this structure. The way leads to the structure.
+#[tactic(auto, using(first_refusal::proofs::AnswerLaws::out_of_memory))]
 fn place_shape(
     placed: &mut Vec<Placed>,
     way: Way,
@@ -25,11 +26,9 @@ fn place_shape(
     layer: u32,
     shape: &Shape,
 ) -> Result<(), PlaceFault>
-    ensures placed { IfOk result (λ _. (layer_map : LayerMap) (steps : List Step) →
-        IsMappedTo layer_map (shape.now.layer, shape.now.datatype) layer → MovesAlong way.motion steps →
-        AddsEnds layer_map (route_to steps structure element shape.now ∷ []) placed.old.items placed.new.items) }
-    ensures refused { IfErr result (λ fault. (steps : List Step) → MovesAlong way.motion steps → fault ≢ Memory →
-        IsFirstBeyond (route_to steps structure element shape.now ∷ []) fault) }
+    ensures { (steps : List Step) → MovesAlong way.motion steps → Answers PlaceFault.Memory (PlacesEach
+        (λ layer_map. IsMappedTo layer_map (shape.now.layer, shape.now.datatype) layer)
+        (route_to steps structure element shape.now ∷ []) placed.old.items (λ _. placed.new.items)) result }
 {
     if !are_in_range(way.motion, shape.points.as_slice()) {
         return Err(PlaceFault::OutOfRange { at: shape.at });
@@ -78,14 +77,12 @@ fn expand_row(
     target: u32,
     row: u16,
 ) -> Result<(), PlaceFault>
-    requires followed { IsFollowed nodes.now }
+    requires followed { AreNodesBelow (length nodes.now) nodes.now }
     requires there { target < length nodes.now }
     requires more { 1 ≤ way.left }
     requires few { row < 2 ^ 15 }
-    ensures placed { IfOk result (λ _.
-        Adds nodes.now way.motion (copy_routes nodes.now (way.left - 1) target (steps_in_row reference.now row)) placed.old.items placed.new.items) }
-    ensures refused { IfErr result (λ fault.
-        Refuses way.motion (copy_routes nodes.now (way.left - 1) target (steps_in_row reference.now row)) fault) }
+    ensures { (steps : List Step) → MovesAlong way.motion steps → Answers PlaceFault.Memory (Expands nodes.now steps
+        (copy_routes nodes.now (way.left - 1) target (steps_in_row reference.now row)) placed.old.items placed.new.items) result }
 {
     for column in 0..columns(reference) {
         expand(nodes, placed, way.on(reference, column, row), target)?;
@@ -102,13 +99,11 @@ fn expand_copies(
     reference: &Reference,
     target: u32,
 ) -> Result<(), PlaceFault>
-    requires followed { IsFollowed nodes.now }
+    requires followed { AreNodesBelow (length nodes.now) nodes.now }
     requires there { target < length nodes.now }
     requires more { 1 ≤ way.left }
-    ensures placed { IfOk result (λ _.
-        Adds nodes.now way.motion (copy_routes nodes.now (way.left - 1) target (steps_of reference.now)) placed.old.items placed.new.items) }
-    ensures refused { IfErr result (λ fault.
-        Refuses way.motion (copy_routes nodes.now (way.left - 1) target (steps_of reference.now)) fault) }
+    ensures { (steps : List Step) → MovesAlong way.motion steps → Answers PlaceFault.Memory (Expands nodes.now steps
+        (copy_routes nodes.now (way.left - 1) target (steps_of reference.now)) placed.old.items placed.new.items) result }
 {
     for row in 0..rows(reference) {
         expand_row(nodes, placed, way, reference, target, row)?;
@@ -125,11 +120,10 @@ fn expand_part(
     one: u32,
     part: &Part<'_>,
 ) -> Result<(), PlaceFault>
-    requires followed { IsFollowed nodes.now }
+    requires followed { AreNodesBelow (length nodes.now) nodes.now }
     requires there { Contains (parts_at nodes.now one) part.now }
-    ensures placed { IfOk result (λ _.
-        Adds nodes.now way.motion (part_routes (routes_below nodes.now way.left) one part.now) placed.old.items placed.new.items) }
-    ensures refused { IfErr result (λ fault. Refuses way.motion (part_routes (routes_below nodes.now way.left) one part.now) fault) }
+    ensures { (steps : List Step) → MovesAlong way.motion steps → Answers PlaceFault.Memory (Expands nodes.now steps
+        (part_routes (routes_below nodes.now way.left) one part.now) placed.old.items placed.new.items) result }
 {
     match part {
         Part::End {
@@ -156,10 +150,10 @@ pub fn expand(
     way: Way,
     one: u32,
 ) -> Result<(), PlaceFault>
-    requires followed { IsFollowed nodes.now }
+    requires followed { AreNodesBelow (length nodes.now) nodes.now }
     requires there { one < length nodes.now }
-    ensures placed { IfOk result (λ _. Adds nodes.now way.motion (node_routes nodes.now way.left one) placed.old.items placed.new.items) }
-    ensures refused { IfErr result (λ fault. Refuses way.motion (node_routes nodes.now way.left one) fault) }
+    ensures { (steps : List Step) → MovesAlong way.motion steps → Answers PlaceFault.Memory (Expands nodes.now steps
+        (node_routes nodes.now way.left one) placed.old.items placed.new.items) result }
 {
     for part in nodes[one as usize].as_slice() {
         expand_part(nodes, placed, way, one, part)?;

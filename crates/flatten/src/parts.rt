@@ -1,10 +1,11 @@
-ghost use Rattle.std.specs.Prelude.{List, ◌≡◌, ◌≢◌, IfOk, IfErr, All, [], ◌∷◌, ◌++◌, option_to_list};
+ghost use Rattle.std.specs.Prelude.{List, ◌≡◌, IfOk, IfErr, All, [], ◌∷◌, ◌++◌, option_to_list};
 ghost use Rattle.std.specs.List.{enumerate_from};
+ghost use Rattle.first_refusal.specs.Answers.{Answers};
 ghost use Rattle.first_refusal.specs.Checks.{IsRefusalOfFirst};
 ghost use Rattle.map_model.specs.MapView.{layer_map_of};
 ghost use Rattle.flatten.specs.Structures.{all_references, references_among, references_in};
-ghost use Rattle.flatten.specs.inside.Parts.{AreNodes, AreParts, IsKnown};
-ghost use Rattle.flatten.specs.declared.fault.PlaceFault.TheVariants.{UnknownStructure, Memory};
+ghost use Rattle.flatten.specs.inside.Parts.{AreNodes, AreParts, IsKnown, MakesParts};
+ghost use Rattle.flatten.specs.declared.fault.PlaceFault.TheVariants.{UnknownStructure};
 
 use super::fault::PlaceFault;
 use super::part::Part;
@@ -41,6 +42,7 @@ fn part_of<'a>(
 }
 
 /// Puts the part that the element at this place is, if it is one, behind the others.
+#[tactic(auto, using(first_refusal::proofs::AnswerLaws::out_of_memory))]
 fn push_part<'a>(
     parts: &mut Vec<Part<'a>>,
     place: usize,
@@ -48,11 +50,9 @@ fn push_part<'a>(
     map: &Map,
     index: &NameIndex<'_>,
 ) -> Result<(), PlaceFault>
-    ensures part { IfOk result (λ _. (more : List Part) × (parts.new.items ≡ parts.old.items ++ more)
-        × AreParts index.now (layer_map_of map.now) ((place, element.now) ∷ []) more) }
-    ensures known { IfOk result (λ _. All (IsKnown index.now) (references_in element.now)) }
-    ensures unknown { IfErr result (λ fault. fault ≢ Memory →
-        IsRefusalOfFirst (IsKnown index.now) (references_in element.now) (λ reference. UnknownStructure reference.at) fault) }
+    ensures { Answers PlaceFault.Memory (MakesParts index.now (references_in element.now)
+        (λ _. (more : List Part) × (parts.new.items ≡ parts.old.items ++ more)
+        × AreParts index.now (layer_map_of map.now) ((place, element.now) ∷ []) more)) result }
 {
     let Ok(number) = u32::try_from(place) else {
         return Err(PlaceFault::Memory);
@@ -64,17 +64,15 @@ fn push_part<'a>(
 }
 
 /// The parts of a structure.
+#[tactic(auto, using(first_refusal::proofs::AnswerLaws::out_of_memory))]
 pub fn parts_of<'a>(
     alloc: Global,
     structure: &'a Structure,
     map: &Map,
     index: &NameIndex<'_>,
 ) -> Result<Vec<Part<'a>>, PlaceFault>
-    ensures parts { IfOk result (λ parts.
-        AreParts index.now (layer_map_of map.now) (enumerate_from 0 structure.now.elements) parts.items) }
-    ensures known { IfOk result (λ parts. All (IsKnown index.now) (references_among structure.now.elements)) }
-    ensures unknown { IfErr result (λ fault. fault ≢ Memory →
-        IsRefusalOfFirst (IsKnown index.now) (references_among structure.now.elements) (λ reference. UnknownStructure reference.at) fault) }
+    ensures { Answers PlaceFault.Memory (MakesParts index.now (references_among structure.now.elements)
+        (λ parts. AreParts index.now (layer_map_of map.now) (enumerate_from 0 structure.now.elements) parts.items)) result }
 {
     let elements = structure.elements.as_slice();
     let mut parts = Vec::with_capacity(alloc, elements.len())?;
@@ -85,16 +83,15 @@ pub fn parts_of<'a>(
 }
 
 /// The parts of every structure.
+#[tactic(auto, using(first_refusal::proofs::AnswerLaws::out_of_memory))]
 pub fn nodes_of<'a>(
     alloc: Global,
     structures: &'a [Structure],
     map: &Map,
     index: &NameIndex<'_>,
 ) -> Result<Vec<Vec<Part<'a>>>, PlaceFault>
-    ensures nodes { IfOk result (λ nodes. AreNodes index.now (layer_map_of map.now) structures.now nodes.items) }
-    ensures known { IfOk result (λ nodes. All (IsKnown index.now) (all_references structures.now)) }
-    ensures unknown { IfErr result (λ fault. fault ≢ Memory →
-        IsRefusalOfFirst (IsKnown index.now) (all_references structures.now) (λ reference. UnknownStructure reference.at) fault) }
+    ensures { Answers PlaceFault.Memory (MakesParts index.now (all_references structures.now)
+        (λ nodes. AreNodes index.now (layer_map_of map.now) structures.now nodes.items)) result }
 {
     let mut nodes = Vec::new(alloc);
     for structure in structures {

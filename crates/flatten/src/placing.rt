@@ -1,13 +1,13 @@
 ghost use Rattle.std.specs.Prelude.{[], ◌≡◌, ◌≢◌, IfOk, IfErr, option_copied};
+ghost use Rattle.first_refusal.specs.Answers.{Answers};
 ghost use Rattle.first_refusal.specs.Outcomes.{refused};
 ghost use Rattle.lists.specs.Differing.{AreDifferent};
 ghost use Rattle.library_model.specs.Names.{names_of};
-ghost use Rattle.map_model.specs.LayerMap.{LayerMap};
 ghost use Rattle.map_model.specs.MapView.{layer_map_of};
 ghost use Rattle.flatten.specs.Placements.{Placing};
 ghost use Rattle.flatten.specs.Placed.{ArePlaced};
 ghost use Rattle.flatten.specs.inside.Ends.{node_routes};
-ghost use Rattle.flatten.specs.inside.Expansions.{AddsEnds, HasLibrary, HaveLayers, IsFirstBeyond};
+ghost use Rattle.flatten.specs.inside.Expansions.{HasLibrary, HaveLayers, PlacesEach};
 ghost use Rattle.flatten.specs.declared.fault.PlaceFault.TheVariants.{Memory};
 
 use super::expansion::expand;
@@ -34,11 +34,11 @@ fn shape_count(plan: &Plan<'_>) -> usize
 }
 
 /// All that the top places. What places nothing leaves the plan.
+#[tactic(auto, using(first_refusal::proofs::AnswerLaws::out_of_memory))]
 fn expanded(alloc: Global, plan: &mut Plan<'_>) -> Result<Vec<Placed>, PlaceFault>
     requires { HasLibrary plan.old }
-    ensures placed { IfOk result (λ placed. (layer_map : LayerMap) → HaveLayers layer_map plan.old.nodes.items →
-        AddsEnds layer_map (node_routes plan.old.nodes.items 256 plan.old.top) [] placed.items) }
-    ensures refused { IfErr result (λ fault. fault ≢ Memory → IsFirstBeyond (node_routes plan.old.nodes.items 256 plan.old.top) fault) }
+    ensures { Answers PlaceFault.Memory (PlacesEach (λ layer_map. HaveLayers layer_map plan.old.nodes.items)
+        (node_routes plan.old.nodes.items 256 plan.old.top) [] (λ placed. placed.items)) result }
 {
     let mut placed = Vec::with_capacity(alloc, shape_count(plan))?;
     prune(plan.nodes.as_mut_slice(), plan.states.as_slice());

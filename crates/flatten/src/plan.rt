@@ -1,12 +1,10 @@
-ghost use Rattle.std.specs.Prelude.{ℕ, ◌≡◌, ◌≢◌, ◌<◌, ◌^◌, IfOk, IfErr, Option, length, option_copied};
+ghost use Rattle.std.specs.Prelude.{option_copied};
 ghost use Rattle.lists.specs.Differing.{AreDifferent};
 ghost use Rattle.library_model.specs.Names.{names_of};
 ghost use Rattle.map_model.specs.LayerMap.{LayerMap};
 ghost use Rattle.map_model.specs.MapView.{layer_map_of};
-ghost use Rattle.first_refusal.specs.Outcomes.{refused};
-ghost use Rattle.flatten.specs.Placements.{Choosing};
-ghost use Rattle.flatten.specs.inside.Plans.{AreIndexed, AreSurveyed, IsChosen, IsPlan};
-ghost use Rattle.flatten.specs.declared.fault.PlaceFault.TheVariants.{Memory};
+ghost use Rattle.first_refusal.specs.Answers.{Answers};
+ghost use Rattle.flatten.specs.inside.Plans.{AreIndexed, AreSurveyed, Chooses, IsChosen, IsPlan};
 
 use super::fault::PlaceFault;
 use super::marks::marks_of;
@@ -20,6 +18,7 @@ use map_model::Map;
 use std::alloc::Global;
 
 /// The number of the top: the structure of the wanted name, or the only one to which no reference leads.
+#[tactic(auto, using(first_refusal::proofs::AnswerLaws::out_of_memory))]
 fn top_of(
     alloc: Global,
     structures: &[Structure],
@@ -29,8 +28,8 @@ fn top_of(
 ) -> Result<u32, PlaceFault>
     requires indexed { AreIndexed structures.now index.now }
     requires surveyed { (layer_map : LayerMap) × AreSurveyed structures.now layer_map nodes.now }
-    ensures chosen { IfOk result (λ top. IsChosen structures.now (option_copied wanted.entry) top) }
-    ensures refused { IfErr result (λ fault. fault ≢ Memory → Choosing structures.now (option_copied wanted.entry) (refused fault)) }
+    ensures { Answers PlaceFault.Memory (Chooses structures.now (option_copied wanted.entry)
+        (IsChosen structures.now (option_copied wanted.entry))) result }
 {
     match wanted {
         Some(name) => match index.find(name) {
@@ -64,8 +63,8 @@ fn plan_with<'a>(
     wanted: Option<&[u8]>,
 ) -> Result<Plan<'a>, PlaceFault>
     requires { AreIndexed structures.now index.now }
-    ensures planned { IfOk result (λ plan. IsPlan structures.now (layer_map_of map.now) (option_copied wanted.entry) plan) }
-    ensures refused { IfErr result (λ fault. fault ≢ Memory → Choosing structures.now (option_copied wanted.entry) (refused fault)) }
+    ensures { Answers PlaceFault.Memory (Chooses structures.now (option_copied wanted.entry)
+        (IsPlan structures.now (layer_map_of map.now) (option_copied wanted.entry))) result }
 {
     let nodes = nodes_of(alloc, structures, map, index)?;
     let states = survey(alloc, structures, &nodes)?;
@@ -75,6 +74,7 @@ fn plan_with<'a>(
 
 /// The plan of a library. The fault is that of the first check of the library that fails. A library of 2^32 structures,
 /// which no stream can have, is answered as one for which no memory is left.
+#[tactic(auto, using(first_refusal::proofs::AnswerLaws::out_of_memory))]
 pub fn plan_of<'a>(
     alloc: Global,
     library: &'a Library,
@@ -82,9 +82,8 @@ pub fn plan_of<'a>(
     wanted: Option<&[u8]>,
 ) -> Result<Plan<'a>, PlaceFault>
     requires { AreDifferent (names_of library.now.structures) }
-    ensures planned { IfOk result (λ plan. IsPlan library.now.structures (layer_map_of map.now) (option_copied wanted.entry) plan) }
-    ensures refused { IfErr result (λ fault. fault ≢ Memory →
-        Choosing library.now.structures (option_copied wanted.entry) (refused fault)) }
+    ensures { Answers PlaceFault.Memory (Chooses library.now.structures (option_copied wanted.entry)
+        (IsPlan library.now.structures (layer_map_of map.now) (option_copied wanted.entry))) result }
 {
     let structures = library.structures.as_slice();
     if structures.len() > u32::MAX as usize {

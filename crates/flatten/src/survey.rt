@@ -1,10 +1,10 @@
-ghost use Rattle.std.specs.Prelude.{ℕ, ◌≡◌, ◌≢◌, ◌<◌, ◌^◌, length, IfOk, IfErr};
+ghost use Rattle.std.specs.Prelude.{ℕ, ◌≡◌, ◌<◌, ◌^◌, length, IfOk};
 ghost use Rattle.std.specs.Bool.{OnTrue, OnFalse};
+ghost use Rattle.first_refusal.specs.Answers.{Answers};
 ghost use Rattle.flatten.specs.inside.Parts.{AreNodesBelow, Leads};
-ghost use Rattle.flatten.specs.inside.Surveys.{AreSettled, IsFirstEndless, KeepsDone, state_of};
+ghost use Rattle.flatten.specs.inside.Surveys.{AreSettled, KeepsDone, SurveysAll, state_of};
 ghost use Rattle.flatten.specs.declared.summary.Summary.{Summary};
 ghost use Rattle.flatten.specs.declared.summary.State.TheVariants.{Done};
-ghost use Rattle.flatten.specs.declared.fault.PlaceFault.TheVariants.{Memory};
 
 use super::fault::PlaceFault;
 use super::part::Part;
@@ -41,6 +41,7 @@ fn survey_from(
 }
 
 /// Surveys all structures: each is done in the end. The fault is that of the first structure that leads to a cycle.
+#[tactic(auto, using(first_refusal::proofs::AnswerLaws::out_of_memory))]
 pub fn survey(
     alloc: Global,
     structures: &[Structure],
@@ -50,10 +51,7 @@ pub fn survey(
     requires long { length nodes.now ≡ length structures.now }
     requires few { length structures.now < 2 ^ 32 }
     ensures long { IfOk result (λ states. length states.items ≡ length nodes.now) }
-    ensures settled { IfOk result (λ states. AreSettled nodes.now states.items) }
-    ensures done { IfOk result (λ states. (one : ℕ) → one < length nodes.now →
-        (summary : Summary) × (state_of states.items one ≡ Done summary)) }
-    ensures cycle { IfErr result (λ fault. fault ≢ Memory → IsFirstEndless nodes.now structures.now fault) }
+    ensures answers { Answers PlaceFault.Memory (SurveysAll nodes.now structures.now) result }
 {
     let mut states = vec![in alloc; State::New; nodes.len()]?;
     for root in 0..structures.len() {

@@ -1,21 +1,20 @@
 -- what the expansion of structures adds to a list of placed shapes
-use Rattle.std.specs.Prelude.{ℕ, length, List, ◌++◌, ◌≡◌, ◌≢◌, map, flat_map, All, Contains}
+use Rattle.std.specs.Prelude.{ℕ, List, ◌++◌, ◌≡◌, map, flat_map, Contains}
 use Rattle.lists.specs.Words.{Bor, AllZip}
 use Rattle.library_model.specs.declared.element.Shape.{Shape}
 use Rattle.library_model.specs.declared.library.Structure.{Structure}
 use Rattle.map_model.specs.MapNames.{LayerMap, IsMappedTo}
-use Rattle.first_refusal.specs.Checks.{IsRefusalOfFirst}
+use Rattle.first_refusal.specs.Checks.{Checks}
+use Rattle.first_refusal.specs.Outcomes.{Outcome}
 use Rattle.flatten.specs.Steps.{Step}
 use Rattle.flatten.specs.Routes.{Route, behind_step}
-use Rattle.flatten.specs.inside.Parts.{AreNodesBelow, Nodes, parts_at}
+use Rattle.flatten.specs.inside.Parts.{Nodes, parts_at}
 use Rattle.flatten.specs.inside.Ends.{node_routes}
-use Rattle.flatten.specs.Motions.{MovesAlong}
 use Rattle.flatten.specs.Placed.{IsEndOf}
 use Rattle.flatten.specs.Placements.{PlacesInRange}
 use Rattle.flatten.specs.inside.Plans.{IsPlanOf}
 use Rattle.flatten.specs.declared.fault.PlaceFault.{PlaceFault}
-use Rattle.flatten.specs.declared.fault.PlaceFault.TheVariants.{OutOfRange, Memory}
-use Rattle.flatten.specs.declared.motion.Motion.{Motion}
+use Rattle.flatten.specs.declared.fault.PlaceFault.TheVariants.{OutOfRange}
 use Rattle.flatten.specs.declared.part.Part.TheVariants.{End}
 use Rattle.flatten.specs.declared.placed.Placed.{Placed}
 use Rattle.flatten.specs.declared.plan.Plan.{Plan}
@@ -41,29 +40,19 @@ abbrev pub HaveLayers : LayerMap → Nodes → Type 0
 HaveLayers layer_map nodes = (one element layer : ℕ) (shape : Bor Shape) → Contains (parts_at nodes one) (End element layer shape)
     → IsMappedTo layer_map (shape.now.layer, shape.now.datatype) layer
 
--- what can be followed: references lead to structures that are there, and the layers of shapes are those of a map
-pub record IsFollowed (nodes : Nodes) : Type 0 where
-  pub below : AreNodesBelow (length nodes) nodes
-  pub layer_map : LayerMap
-  pub layers : HaveLayers layer_map nodes
-
--- the list grows by one placed shape for each of the routes, in their order, and each is placed in range
+-- the list grows by one placed shape for each of the routes, in their order
 pub record AddsEnds (layer_map : LayerMap) (routes : List Route) (before after : List Placed) : Type 0 where
   pub added : List Placed
   pub grown : after ≡ before ++ added
   pub ends : AllZip (IsEndOf layer_map) routes added
-  pub in_range : All PlacesInRange routes
 
--- the fault is that of the first of the routes that is placed out of range
-abbrev pub IsFirstBeyond : List Route → PlaceFault → Type 0
-IsFirstBeyond routes = IsRefusalOfFirst PlacesInRange routes (λ route. OutOfRange route.shape.at)
+-- What the placement of routes comes to: where each is placed in range, the list has grown by their ends, by each map that fits.
+-- Else the fault is that of the first that is not.
+abbrev pub PlacesEach : {T : Type 0} → (LayerMap → Type 0) → List Route → List Placed → (T → List Placed) → Outcome T PlaceFault → Type 0
+PlacesEach Fits routes before after = Checks PlacesInRange routes (λ route. OutOfRange route.shape.at)
+    (λ thing. (layer_map : LayerMap) → Fits layer_map → AddsEnds layer_map routes before (after thing))
 
--- whatever steps the motion moves along, the list grows by the ends of the routes behind those steps
-pub record Adds (nodes : Nodes) (motion : Motion) (routes : List Route) (before after : List Placed) : Type 0 where
-  pub adds : (layer_map : LayerMap) (steps : List Step) → HaveLayers layer_map nodes → MovesAlong motion steps
-      → AddsEnds layer_map (map (behind_steps steps) routes) before after
-
--- and where the fault is another than want of memory, it is that of the first of these routes that is placed out of range
-abbrev pub Refuses : Motion → List Route → PlaceFault → Type 0
-Refuses motion routes fault = (steps : List Step) → MovesAlong motion steps → fault ≢ Memory
-    → IsFirstBeyond (map (behind_steps steps) routes) fault
+-- what an expansion behind these steps comes to, where these routes are those that go on from there
+abbrev pub Expands : Nodes → List Step → List Route → List Placed → List Placed → Outcome (Unit {0}) PlaceFault → Type 0
+Expands nodes steps routes before after =
+    PlacesEach (λ layer_map. HaveLayers layer_map nodes) (map (behind_steps steps) routes) before (λ done. after)

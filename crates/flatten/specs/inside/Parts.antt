@@ -9,13 +9,21 @@ use Rattle.library_model.specs.declared.element.Shape.{Shape}
 use Rattle.library_model.specs.declared.element.Reference.{Reference}
 use Rattle.library_model.specs.declared.library.Structure.{Structure}
 use Rattle.map_model.specs.MapNames.{LayerMap, IsMappedTo}
+use Rattle.first_refusal.specs.Outcomes.{Outcome}
+use Rattle.first_refusal.specs.Checks.{Checks}
 use Rattle.flatten.specs.Structures.{is_mapped}
+use Rattle.flatten.specs.declared.fault.PlaceFault.{PlaceFault}
+use Rattle.flatten.specs.declared.fault.PlaceFault.TheVariants.{UnknownStructure}
 use Rattle.flatten.specs.declared.part.Part.{Part}
 use Rattle.flatten.specs.declared.part.Part.TheVariants.{End, Copies}
 
 -- the reference names a structure of the library
 abbrev pub IsKnown : List (List ℕ) → Reference → Type 0
 IsKnown names reference = IsSome (place_of names reference.target)
+
+-- what it comes to where parts are made of these references, each of which is to name a structure
+abbrev pub MakesParts : {T : Type 0} → List (List ℕ) → List Reference → (T → Type 0) → Outcome T PlaceFault → Type 0
+MakesParts names references = Checks (IsKnown names) references (λ reference. UnknownStructure reference.at)
 
 -- the parts are those of the elements, in their order: a shape whose layer is not mapped is none
 pub data AreParts (names : List (List ℕ)) (layer_map : LayerMap) : List (ℕ × Element) → List Part → Type 0 where

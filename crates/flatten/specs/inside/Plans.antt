@@ -1,7 +1,8 @@
 -- what is known of a library before its shapes are placed
 use Rattle.std.specs.Prelude.{ℕ, List, ◌≡◌, ◌<◌, ◌^◌, All, length, Option, Vec}
 use Rattle.lists.specs.Words.{Global}
-use Rattle.first_refusal.specs.Outcomes.{value}
+use Rattle.first_refusal.specs.Outcomes.{Outcome, value}
+use Rattle.first_refusal.specs.Checks.{Checks}
 use Rattle.library_model.specs.Names.{names_of}
 use Rattle.library_model.specs.declared.library.Structure.{Structure}
 use Rattle.map_model.specs.MapNames.{LayerMap}
@@ -9,7 +10,8 @@ use Rattle.flatten.specs.Structures.{all_references}
 use Rattle.flatten.specs.inside.Parts.{AreNodes, IsKnown, AreNodesBelow}
 use Rattle.flatten.specs.inside.Weights.{Weight, Weighs}
 use Rattle.flatten.specs.inside.Surveys.{AreSettled, state_of}
-use Rattle.flatten.specs.Placements.{Choosing}
+use Rattle.flatten.specs.Placements.{Choosing, LibraryHolds, library_checks, library_fault}
+use Rattle.flatten.specs.declared.fault.PlaceFault.{PlaceFault}
 use Rattle.flatten.specs.declared.plan.Plan.{Plan}
 use Rattle.flatten.specs.declared.summary.Summary.{Summary}
 use Rattle.flatten.specs.declared.summary.State.TheVariants.{Done}
@@ -30,6 +32,10 @@ pub record AreSurveyed (structures : List Structure) (layer_map : LayerMap) (nod
 -- the structure with this number is the top
 abbrev pub IsChosen : List Structure → Option (List ℕ) → ℕ → Type 0
 IsChosen structures wanted top = (top < length structures) × Choosing structures wanted (value top)
+
+-- what a stage comes to that chooses the top and gives a value of this kind
+abbrev pub Chooses : {T : Type 0} → List Structure → Option (List ℕ) → (T → Type 0) → Outcome T PlaceFault → Type 0
+Chooses structures wanted = Checks (LibraryHolds structures wanted) (library_checks structures) (library_fault structures)
 
 -- what a plan says is true, and its top is the library's
 pub record IsPlan (structures : List Structure) (layer_map : LayerMap) (wanted : Option (List ℕ)) (plan : Plan) : Type 0 where

@@ -2,6 +2,7 @@
 -- then what it weighs.
 use Rattle.std.specs.Prelude.{ℕ, List, ◌≡◌, ◌≢◌, ◌<◌, Contains, length, slice_index_or, Vec}
 use Rattle.lists.specs.Words.{Bor, Global}
+use Rattle.first_refusal.specs.Outcomes.{Outcome, value, refused}
 use Rattle.library_model.specs.declared.element.Reference.{Reference}
 use Rattle.library_model.specs.declared.library.Structure.{Structure}
 use Rattle.flatten.specs.Structures.{offset_of}
@@ -45,3 +46,13 @@ pub record IsFirstEndless (nodes : List (Vec Part Global)) (structures : List St
   pub endless : (n : ℕ) → Leads nodes n root
   pub before : (one : ℕ) → one < root → (weight : Weight) × Weighs nodes one weight
   pub is_its_fault : fault ≡ Cycle (offset_of structures root)
+
+-- all structures are done
+pub record AreAllDone (nodes : List (Vec Part Global)) (states : List State) : Type 0 where
+  pub settled : AreSettled nodes states
+  pub done : (one : ℕ) → one < length nodes → (summary : Summary) × (state_of states one ≡ Done summary)
+
+-- what the survey of all structures comes to
+abbrev pub SurveysAll : List (Vec Part Global) → List Structure → Outcome (Vec State Global) PlaceFault → Type 0
+SurveysAll nodes structures (value states) = AreAllDone nodes states.items
+SurveysAll nodes structures (refused fault) = IsFirstEndless nodes structures fault

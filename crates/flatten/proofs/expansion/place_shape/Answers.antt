@@ -1,6 +1,14 @@
-use Rattle.flatten.proofs.ShapeLaws.{beyond}
+use Rattle.first_refusal.specs.Answers.{gives}
+use Rattle.first_refusal.specs.Checks.{all_hold}
+use Rattle.std.proofs.Common.{rules}
+use Rattle.flatten.proofs.ShapeLaws.{beyond, within}
 use Rattle.flatten.proofs.expansion.place_shape.Goals as goal
 
-pub returns-then-not-are_in_range-clause-refused : goal.returns-then-not-are_in_range-clause-refused
-returns-then-not-are_in_range-clause-refused c steps moves kept =
-    beyond c.args.way.motion steps c.args.structure c.args.element c.args.shape.now moves c.are_in_range.result (rw c.as_slice.ensures at c.are_in_range.ensures) c.if-not-are_in_range.true
+pub returns-then-not-are_in_range : goal.returns-then-not-are_in_range
+returns-then-not-are_in_range c steps moves =
+    beyond c.args.way.motion steps c.args.structure c.args.element c.args.shape.now moves c.are_in_range.result (rw c.as_slice.ensures at c.are_in_range.ensures) _ c.if-not-are_in_range.true
+
+pub returns : goal.returns
+returns c steps moves =
+    let decides = rw c.as_slice.ensures at c.are_in_range.ensures in
+    gives (all_hold (within c.args.way.motion steps c.args.structure c.args.element c.args.shape.now moves c.are_in_range.result decides c.if-not-are_in_range.false) (search rules))

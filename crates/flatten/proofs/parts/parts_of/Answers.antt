@@ -1,5 +1,9 @@
 use Rattle.std.proofs.Common.{take_all, subst, All}
-use Rattle.lists.proofs.Words.{flat_map, enumerate_from, All-nil, err_from_is_err_and, length-enumerate_from}
+use Rattle.lists.proofs.Words.{flat_map, enumerate_from, All-nil, length-enumerate_from}
+use Rattle.first_refusal.specs.Answers.{gives}
+use Rattle.first_refusal.specs.Checks.{all_hold}
+use Rattle.first_refusal.proofs.AnswerLaws.{handed_on}
+use Rattle.first_refusal.proofs.JudgeLaws.{given, passed}
 use Rattle.map_model.specs.MapNames.{layer_map_of}
 use Rattle.flatten.specs.Structures.{references_in}
 use Rattle.flatten.specs.inside.Parts.{IsKnown, AreParts, no_more}
@@ -14,33 +18,31 @@ loop-place-init c = record {
   known = All-nil (IsKnown c.args.index.now);
 }
 
-pub returns-in_err-push_part-clause-unknown : goal.returns-in_err-push_part-clause-unknown
-returns-in_err-push_part-clause-unknown c =
-    let p = err_from_is_err_and c.from_residual-in_err-push_part.result c.from_residual-in_err-push_part.ensures.1 in
-    rw (p.1, p.2) (λ kept.
-    refused_at (IsKnown c.args.index.now) (λ reference. UnknownStructure reference.at) references_in c.args.structure.now.elements c.loop-place.place c.index-elements-place.result
-    (rw c.as_slice-elements.ensures at c.loop-place-test.true) (rw c.as_slice-elements.ensures at c.index-elements-place.is)
-    c.in_err-push_part.field-0.0 c.loop-place.invariant.known (c.in_err-push_part.ensures.unknown kept))
+pub returns-in_err-push_part : goal.returns-in_err-push_part
+returns-in_err-push_part c =
+    let within = rw c.as_slice-elements.ensures at c.loop-place-test.true in
+    let is = rw c.as_slice-elements.ensures at c.index-elements-place.is in
+    handed_on _ _ c.from_residual-in_err-push_part.result _ c.from_residual-in_err-push_part.ensures.1
+    (refused_at references_in c.args.structure.now.elements c.loop-place.place c.index-elements-place.result within is (IsKnown c.args.index.now) c.loop-place.invariant.known
+    (λ reference. UnknownStructure reference.at) _ _ c.in_err-push_part.field-0.0 c.in_err-push_part.ensures)
 
 pub loop-place-preserved : goal.loop-place-preserved
 loop-place-preserved c =
     let within = rw c.as_slice-elements.ensures at c.loop-place-test.true in
     let is = rw c.as_slice-elements.ensures at c.index-elements-place.is in
-    let added = c.in_ok-push_part.ensures.part in
+    let added = given c.in_ok-push_part.ensures in
     record {
       parts = rw added.1 (one_element_more c.args.index.now (layer_map_of c.args.map.now) c.args.structure.now.elements c.loop-place.place c.index-elements-place.result
           c.loop-place.parts.items added.0 within is c.loop-place.invariant.parts added.2);
-      known = hold_at (IsKnown c.args.index.now) (λ reference. UnknownStructure reference.at) references_in c.args.structure.now.elements c.loop-place.place c.index-elements-place.result
-          within is c.loop-place.invariant.known c.in_ok-push_part.ensures.known;
+      known = hold_at references_in c.args.structure.now.elements c.loop-place.place c.index-elements-place.result within is (IsKnown c.args.index.now) c.loop-place.invariant.known
+          (passed c.in_ok-push_part.ensures);
     }
 
-pub returns-clause-parts : goal.returns-clause-parts
-returns-clause-parts c =
-    subst (λ es. AreParts c.args.index.now (layer_map_of c.args.map.now) es c.loop-place.parts.items)
-    (take_all c.loop-place.place (enumerate_from 0 c.args.structure.now.elements) (rw (length-enumerate_from 0 c.args.structure.now.elements, ← c.as_slice-elements.ensures)
-    c.loop-place-test.false)) c.loop-place.invariant.parts
-
-pub returns-clause-known : goal.returns-clause-known
-returns-clause-known c =
-    subst (λ es. All (IsKnown c.args.index.now) (flat_map references_in es)) (take_all c.loop-place.place c.args.structure.now.elements (rw (← c.as_slice-elements.ensures) c.loop-place-test.false))
-    c.loop-place.invariant.known
+pub returns : goal.returns
+returns c =
+    let elements = c.args.structure.now.elements in
+    gives (all_hold
+    (subst (λ es. All (IsKnown c.args.index.now) (flat_map references_in es)) (take_all c.loop-place.place elements (rw (← c.as_slice-elements.ensures) c.loop-place-test.false))
+    c.loop-place.invariant.known)
+    (subst (λ es. AreParts c.args.index.now (layer_map_of c.args.map.now) es c.loop-place.parts.items)
+    (take_all c.loop-place.place (enumerate_from 0 elements) (rw (length-enumerate_from 0 elements, ← c.as_slice-elements.ensures) c.loop-place-test.false)) c.loop-place.invariant.parts))

@@ -1,10 +1,12 @@
 use Rattle.std.proofs.Common.{[], ◌≡◌, ◌∙◌, sym, subst}
-use Rattle.lists.proofs.Words.{err_from_is_err_and}
+use Rattle.first_refusal.specs.Answers.{gives}
+use Rattle.first_refusal.specs.Checks.{all_hold}
+use Rattle.first_refusal.proofs.AnswerLaws.{handed_on}
+use Rattle.first_refusal.proofs.JudgeLaws.{given, passed, unread}
 use Rattle.lists.proofs.Reading.{put_back}
 use Rattle.flatten.specs.inside.Parts.{Nodes}
 use Rattle.flatten.specs.inside.Prunings.{IsPruned}
-use Rattle.flatten.specs.inside.Expansions.{AddsEnds, IsFirstBeyond}
-use Rattle.flatten.proofs.PlacedLaws.{all_done, still_followed, still_there, routes_behind_none}
+use Rattle.flatten.proofs.PlacedLaws.{all_done, still_below, still_there, routes_behind_none}
 use Rattle.flatten.proofs.PruningLaws.{pruned_layers}
 use Rattle.flatten.proofs.placing.expanded.Goals as goal
 
@@ -20,7 +22,7 @@ pruned nodes slice new back read is same = rw same (subst (λ all. IsPruned all 
 
 pub expand-requires-clause-followed : goal.expand-requires-clause-followed
 expand-requires-clause-followed c =
-    still_followed c.args.plan.now c.requires c.as_slice-2.result.now (pruned c.args.plan.now.nodes.items c.as_mut_slice.result.now c.prune.new.nodes c.as_slice-2.result.now
+    still_below c.args.plan.now c.requires c.as_slice-2.result.now (pruned c.args.plan.now.nodes.items c.as_mut_slice.result.now c.prune.new.nodes c.as_slice-2.result.now
     c.as_mut_slice.ensures.value c.prune.ensures (c.as_slice-2.ensures.value ∙ put_back _ c.prune.new.nodes _ (sym (c.prune.auto.nodes ∙ c.as_mut_slice.ensures.len))))
 
 pub expand-requires-clause-there : goal.expand-requires-clause-there
@@ -28,19 +30,17 @@ expand-requires-clause-there c =
     still_there c.args.plan.now c.requires c.as_slice-2.result.now (pruned c.args.plan.now.nodes.items c.as_mut_slice.result.now c.prune.new.nodes c.as_slice-2.result.now
     c.as_mut_slice.ensures.value c.prune.ensures (c.as_slice-2.ensures.value ∙ put_back _ c.prune.new.nodes _ (sym (c.prune.auto.nodes ∙ c.as_mut_slice.ensures.len))))
 
-pub returns-in_err-expand-clause-refused : goal.returns-in_err-expand-clause-refused
-returns-in_err-expand-clause-refused c =
-    let p = err_from_is_err_and c.from_residual-in_err-expand.result c.from_residual-in_err-expand.ensures.1 in
+pub returns-in_err-expand : goal.returns-in_err-expand
+returns-in_err-expand c =
     let is = pruned c.args.plan.now.nodes.items c.as_mut_slice.result.now c.prune.new.nodes c.as_slice-2.result.now c.as_mut_slice.ensures.value c.prune.ensures
     (c.as_slice-2.ensures.value ∙ put_back _ c.prune.new.nodes _ (sym (c.prune.auto.nodes ∙ c.as_mut_slice.ensures.len))) in
-    let told = rw c.at_top.ensures.left at c.in_err-expand.ensures.refused in
-    rw (p.1, p.2) (λ kept. subst (λ rs. IsFirstBeyond rs c.in_err-expand.field-0.0) (routes_behind_none c.args.plan.now c.requires c.as_slice-2.result.now is 256)
-    (told [] c.at_top.ensures.moves kept))
+    let told = rw (c.at_top.ensures.left, routes_behind_none c.args.plan.now c.requires c.as_slice-2.result.now is 256) at (c.in_err-expand.ensures [] c.at_top.ensures.moves) in
+    handed_on _ _ c.from_residual-in_err-expand.result _ c.from_residual-in_err-expand.ensures.1 (unread _ _ _ _ _ c.in_err-expand.field-0.0 told)
 
-pub returns-clause-placed : goal.returns-clause-placed
-returns-clause-placed c layer_map have =
+pub returns : goal.returns
+returns c =
     let is = pruned c.args.plan.now.nodes.items c.as_mut_slice.result.now c.prune.new.nodes c.as_slice-2.result.now c.as_mut_slice.ensures.value c.prune.ensures
     (c.as_slice-2.ensures.value ∙ put_back _ c.prune.new.nodes _ (sym (c.prune.auto.nodes ∙ c.as_mut_slice.ensures.len))) in
-    let told = rw c.at_top.ensures.left at c.in_ok-expand.ensures.placed in
-    subst (λ rs. AddsEnds layer_map rs [] c.expand.new.placed.items) (routes_behind_none c.args.plan.now c.requires c.as_slice-2.result.now is 256)
-    (rw c.in_ok-placed.ensures.items at (told.adds layer_map [] (pruned_layers c.args.plan.now.nodes.items c.as_slice-2.result.now is layer_map have) c.at_top.ensures.moves))
+    let told = rw (c.at_top.ensures.left, routes_behind_none c.args.plan.now c.requires c.as_slice-2.result.now is 256, c.in_ok-placed.ensures.items)
+    at (c.in_ok-expand.ensures [] c.at_top.ensures.moves) in
+    gives (all_hold (passed told) (λ layer_map have. given told layer_map (pruned_layers c.args.plan.now.nodes.items c.as_slice-2.result.now is layer_map have)))

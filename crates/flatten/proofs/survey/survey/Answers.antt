@@ -1,5 +1,6 @@
 use Rattle.std.proofs.Common.{◌≡◌, length, sym, ap, ◌∙◌, inl, inr, arith}
 use Rattle.lists.proofs.Words.{cases_lt, length-replicate}
+use Rattle.first_refusal.specs.Answers.{gives, refuses}
 use Rattle.flatten.specs.inside.Surveys.{state_of}
 use Rattle.flatten.specs.declared.fault.PlaceFault.TheVariants.{Cycle}
 use Rattle.flatten.specs.declared.summary.State.TheVariants.{New}
@@ -8,14 +9,14 @@ use Rattle.flatten.proofs.LimitLaws.{at_offset}
 use Rattle.flatten.proofs.survey.survey.Goals as goal
 use Rattle.lists.proofs.Reading.{put_back}
 
-pub returns-then-not-branch-clause-cycle : goal.returns-then-not-branch-clause-cycle
-returns-then-not-branch-clause-cycle c kept = record {
+pub returns-then-not-branch-clause-answers : goal.returns-then-not-branch-clause-answers
+returns-then-not-branch-clause-answers c = refuses (record {
   root = c.loop-root.root;
   is_there = c.loop-root-test.true;
   endless = rw c.if-not-branch.true at c.in_ok-survey_from.ensures.cycle;
   before = λ one h. let done = c.loop-root.invariant.done one h in let told = c.loop-root.invariant.settled.are_true one done.0 done.1 in (told.0, told.1);
   is_its_fault = ap Cycle (at_offset c.args.structures.now c.loop-root.root c.index-structures-root.result c.loop-root-test.true);
-}
+})
 
 pub loop-root-preserved : goal.loop-root-preserved
 loop-root-preserved c =
@@ -55,8 +56,5 @@ survey_from-requires-clause-settled c = rw c.deref_mut.ensures.value c.loop-root
 pub bounds-structures-root : goal.bounds-structures-root
 bounds-structures-root c = c.loop-root-test.true
 
-pub returns-clause-done : goal.returns-clause-done
-returns-clause-done c one h = c.loop-root.invariant.done one (omega arith)
-
-pub returns-clause-settled : goal.returns-clause-settled
-returns-clause-settled c = c.loop-root.invariant.settled
+pub returns-clause-answers : goal.returns-clause-answers
+returns-clause-answers c = gives (record { settled = c.loop-root.invariant.settled; done = λ one h. c.loop-root.invariant.done one (omega arith) })

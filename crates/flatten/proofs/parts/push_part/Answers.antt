@@ -1,0 +1,14 @@
+use Rattle.std.proofs.Common.{rules}
+use Rattle.first_refusal.specs.Answers.{gives, refuses}
+use Rattle.first_refusal.specs.Checks.{all_hold, one_fails}
+use Rattle.first_refusal.proofs.AnswerLaws.{handed_on}
+use Rattle.flatten.proofs.parts.push_part.Goals as goal
+
+pub returns-in_err-part : goal.returns-in_err-part
+returns-in_err-part c = handed_on _ _ c.from_residual.result _ c.from_residual.ensures.1 (refuses (one_fails c.in_err-part.ensures.unknown))
+
+pub returns-in_ok-push : goal.returns-in_ok-push
+returns-in_ok-push c = gives (all_hold c.in_ok-part.ensures.known (search rules))
+
+pub returns-in_default-2 : goal.returns-in_default-2
+returns-in_default-2 c = gives (all_hold c.in_ok-part.ensures.known (search rules))
