@@ -1,7 +1,7 @@
 -- answers to checks, put together from answers to parts of them
-use Rattle.std.proofs.Common.{◌≡◌, ◌≢◌, refl, sym, subst, ℕ, List, [], ◌∷◌, map, length, Option, Some, None, Result, Ok, Err, All, IsErrAnd}
+use Rattle.std.proofs.Common.{◌≡◌, refl, sym, subst, ℕ, List, [], ◌∷◌, map, length, Option, Some, None, Result, Ok, Err, All, IsErrAnd}
 use Rattle.lists.proofs.Words.{All-nil, All-cons, All-append}
-use Rattle.library_grammar.specs.GrammarNames.{gives, refuses, no_memory, Checks, all_hold, one_fails, IsRefusalOfFirst, Entry, ElementForm, IsCount, outline, array, ElementCheck, has, has_right_count, is_closed, ElementHolds, element_checks, element_fault, checks_of_sort, reference_checks, array_checks, IsElementFault, IsFaultOfFirst, Judges, IsKept, points_of, IsClosed}
+use Rattle.library_grammar.specs.GrammarNames.{gives, refuses, no_memory, refused, Checks, all_hold, one_fails, IsRefusalOfFirst, Entry, ElementForm, IsCount, outline, array, ElementCheck, has, has_right_count, is_closed, ElementHolds, element_checks, element_fault, checks_of_sort, reference_checks, array_checks, IsElementFault, IsFaultOfFirst, Judges, IsKept, points_of, IsClosed}
 use Rattle.first_refusal.proofs.AnswerLaws.{handed_on}
 use Rattle.first_refusal.proofs.CheckLaws.{fails_at_once}
 use Rattle.gds_syntax.specs.inside.ElementKinds.{form_for}
@@ -69,10 +69,9 @@ module _ (at : ℕ) (own : List Entry) where
   sound_where_judged checks Is t (gives (all_hold all is)) = (all, is)
 
   -- and what was found faulty
-  pub faulty_where_judged : {T : Type 0} (checks : List ElementCheck) (Is : T → Type 0) (fault : SyntaxFault) → Judges at own checks Is (Err fault) → fault ≢ Memory
+  pub found_faulty : {T : Type 0} {checks : List ElementCheck} {Is : T → Type 0} {fault : SyntaxFault} → Checks (ElementHolds own) checks (element_fault at) Is (refused fault)
       → IsFaultOfFirst at own checks fault
-  faulty_where_judged checks Is fault (refuses (one_fails f)) known = f
-  faulty_where_judged checks Is fault no_memory known = absurd (known refl)
+  found_faulty (one_fails f) = f
 
 -- ---- what is kept of an element by its kind
 
