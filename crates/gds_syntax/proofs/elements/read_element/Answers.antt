@@ -1,7 +1,7 @@
 use Rattle.std.proofs.Common.{[], ◌∷◌, ◌++◌, arith}
-use Rattle.library_grammar.specs.GrammarNames.{entry_of, element_checks}
-use Rattle.gds_syntax.specs.inside.ElementKinds.{form_for}
-use Rattle.gds_syntax.proofs.JudgedLaws.{found_faulty, sound_where_judged}
+use Rattle.library_grammar.specs.GrammarNames.{entry_of}
+use Rattle.gds_syntax.proofs.JudgedLaws.{found_faulty}
+use Rattle.first_refusal.proofs.JudgeLaws.{given, passed}
 use Rattle.gds_syntax.proofs.ElementReading.{element_stops, plain_element, element_with_properties, opens_properties}
 use Rattle.first_refusal.specs.Answers.{gives, refuses}
 use Rattle.first_refusal.proofs.AnswerLaws.{handed_on}
@@ -28,12 +28,13 @@ returns-in_err-read_properties c =
     handed_on Memory _ c.from_residual-in_err-read_properties.result _ c.from_residual-in_err-read_properties.ensures.1 (refuses (λ earlier names place here.
     stops_later
     (opens_properties c.args.opening.now c.requires.opens (read c.in_ok-closing.ensures) c.if-closing-eq-PROPATTR.true
-    (sound_where_judged c.args.opening.now.at c.read_own.new.own (element_checks (form_for c.args.kind)) _ c.in_ok-kept.kept c.in_ok-kept.ensures).0 names)
+    (passed c.in_ok-kept.ensures) names)
     (c.in_err-read_properties.ensures.faulty names) (earlier ++ entry_of c.args.opening.now ∷ []) here))
 
 pub returns : goal.returns
 returns c =
-    let (sound, keeps) = sound_where_judged c.args.opening.now.at c.read_own.new.own (element_checks (form_for c.args.kind)) _ c.in_ok-kept.kept c.in_ok-kept.ensures in
+    let sound = passed c.in_ok-kept.ensures in
+    let keeps = given c.in_ok-kept.ensures in
     let own = read c.in_ok-closing.ensures in
     elim c.if-closing-eq-PROPATTR.branch [
       | then-closing-eq-PROPATTR+in_ok-read_properties w ↦
