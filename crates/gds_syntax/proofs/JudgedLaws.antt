@@ -23,7 +23,8 @@ module _ (at : ℕ) (own : List Entry) where
     pub wrong_count : (IsCount form.points (length (points_of own)) → ⊥) → Judges at own (element_checks form) Is (Err (PointCount at))
     wrong_count not = behind_required (Err (PointCount at)) (fails_first (ElementHolds own) (element_fault at) Is (has_right_count form.points) (checks_of_sort form.sort) not)
 
-    pub judged_whole : (result : Result T SyntaxFault) → IsCount form.points (length (points_of own)) → Judges at own (checks_of_sort form.sort) Is result → Judges at own (element_checks form) Is result
+    pub judged_whole : (result : Result T SyntaxFault) → IsCount form.points (length (points_of own)) → Judges at own (checks_of_sort form.sort) Is result
+        → Judges at own (element_checks form) Is result
     judged_whole result count judged =
         behind_required result (goes_on (ElementHolds own) (element_fault at) Is (has_right_count form.points ∷ []) (checks_of_sort form.sort) result
         (All-cons (ElementHolds own) (has_right_count form.points) [] count (All-nil (ElementHolds own))) judged)
@@ -59,4 +60,5 @@ module _ (at : ℕ) (own : List Entry) where
   has_fault kind other Is fault result same judged h =
       let checks : List ElementCheck = checks_of_sort (form_for other).sort in
       let Kept : Option Element → Type 0 = IsKept at own (form_for other).opening in
-      subst (λ k. IsAnswer k result) (sym same) (handed_on Memory (Checks (ElementHolds own) checks (element_fault at) Kept) result fault h (unread (ElementHolds own) (element_fault at) Is Kept checks fault judged))
+      subst (λ k. IsAnswer k result) (sym same) (handed_on Memory (Checks (ElementHolds own) checks (element_fault at) Kept) result fault h
+      (unread (ElementHolds own) (element_fault at) Is Kept checks fault judged))
