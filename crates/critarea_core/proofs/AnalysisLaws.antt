@@ -1,9 +1,9 @@
 -- what the analysis of a layout answers
-use Rattle.std.proofs.Common.{ℕ, ◌≤◌, List, length, Option, Result, Ok, Err, Vec}
+use Rattle.std.proofs.Common.{ℕ, ◌≢◌, ◌≤◌, refl, List, length, Option, Result, Ok, Err, Vec}
 use Rattle.std.specs.Prelude.{IfOk}
 use Rattle.lists.proofs.Words.{Global}
 use Rattle.first_refusal.specs.Answers.{Answers, gives, refuses, no_memory}
-use Rattle.first_refusal.specs.Outcomes.{Outcome}
+use Rattle.first_refusal.specs.Outcomes.{Outcome, value, refused}
 use Rattle.map_model.specs.MapNames.{LayerMap}
 use Rattle.questions.specs.declared.row.Row.{Row}
 use Rattle.questions.specs.declared.row.TheConstants.{MOST_ROWS}
@@ -12,6 +12,15 @@ use Rattle.critarea_core.specs.Layout.{Subject, ShortLayoutComesTo}
 use Rattle.critarea_core.specs.declared.layout_fault.LayoutFault.{LayoutFault}
 use Rattle.critarea_core.specs.declared.layout_fault.LayoutFault.TheVariants.{Memory}
 use Rattle.critarea_core.specs.inside.Finding.{Analyses, HasRows, gives_thing, gives_refusal}
+
+-- a library that was read, and a fault that was found in its stead unless it says that no memory is left
+module _ {T F : Type 0} {none : F} {Stage : Outcome T F → Type 0} where
+  pub comes_to_value : {thing : T} → Answers none Stage (Ok thing) → Stage (value thing)
+  comes_to_value (gives comes) = comes
+
+  pub comes_to_fault : {fault : F} → Answers none Stage (Err fault) → fault ≢ none → Stage (refused fault)
+  comes_to_fault (refuses comes) known = comes
+  comes_to_fault no_memory known = absurd (known refl)
 
 -- rows that were found, and a fault that was, are what the bytes come to
 pub analysed : (layer_map : LayerMap) (wanted : Option (List ℕ)) (bytes : List ℕ) (result : Result (Vec Row Global) LayoutFault)

@@ -1,8 +1,9 @@
 -- what the checks of an array come to
-use Rattle.std.proofs.Common.{◌≡◌, refl, subst, ℕ, ℤ, pos, ◌≤ℤ◌, List, [], ◌∷◌, All}
+use Rattle.std.proofs.Common.{◌≡◌, subst, ℕ, ℤ, pos, ◌≤ℤ◌, List, [], ◌∷◌, All}
 use Rattle.lists.proofs.Words.{All-nil, All-cons}
 use Rattle.first_refusal.proofs.CheckLaws.{fails_at_once, fails_later}
 use Rattle.geo_core.specs.declared.plane.Point.{Point}
+use Rattle.gds_syntax.proofs.CheckLaws.{fault_of}
 use Rattle.library_grammar.specs.GrammarNames.{Entry, ElementCheck, ElementHolds, IsFaultOfFirst, array_checks, has_columns_and_rows, has_whole_steps, columns_of, rows_of, Leads, HasSteps}
 use Rattle.library_grammar.specs.declared.fault.SyntaxFault.TheVariants.{EmptyArray, UnevenArray}
 
@@ -21,14 +22,10 @@ module _ (own : List Entry) where
 
   module _ (at : ℕ) where
     pub fault_where_empty : ((pos 1 ≤ℤ columns_of own) × (pos 1 ≤ℤ rows_of own) → ⊥) → IsFaultOfFirst at own array_checks (EmptyArray at)
-    fault_where_empty none =
-        record { check = has_columns_and_rows; is_first = fails_at_once (ElementHolds own) has_columns_and_rows _ none; is_its_refusal = refl }
+    fault_where_empty none = fault_of at own array_checks has_columns_and_rows (fails_at_once (ElementHolds own) has_columns_and_rows _ none)
 
     pub fault_where_uneven : pos 1 ≤ℤ columns_of own → pos 1 ≤ℤ rows_of own → ((column_step row_step : ℤ × ℤ) → HasSteps own column_step row_step → ⊥)
         → IsFaultOfFirst at own array_checks (UnevenArray at)
-    fault_where_uneven columns rows none = record {
-      check = has_whole_steps;
-      is_first = fails_later (ElementHolds own) has_columns_and_rows _ has_whole_steps (columns, rows)
-          (fails_at_once (ElementHolds own) has_whole_steps [] (λ (column_step, row_step, steps). none column_step row_step steps));
-      is_its_refusal = refl;
-    }
+    fault_where_uneven columns rows none =
+        fault_of at own array_checks has_whole_steps (fails_later (ElementHolds own) has_columns_and_rows _ has_whole_steps (columns, rows)
+        (fails_at_once (ElementHolds own) has_whole_steps [] (λ (column_step, row_step, steps). none column_step row_step steps)))

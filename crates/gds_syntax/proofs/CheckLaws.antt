@@ -1,39 +1,14 @@
--- The checks of an element: that they hold, and the fault of the first that fails, put together from parts of their list.
+-- The checks of an element: that they hold, and the fault of the first that fails.
 use Rattle.std.proofs.Common.{◌≡◌, refl, ap, sym, ◌∙◌, subst, ℕ, ◌+◌, ◌<◌, ◌≤◌, List, ◌∷◌, ◌++◌, map, length, get_or, take, drop, append_assoc, All, Contains, take_all}
-use Rattle.lists.proofs.Words.{map-append, take-append-drop, drop_more, All-append, All-map, All-more}
-use Rattle.library_grammar.specs.GrammarNames.{IsRefusalOfFirst, Entry, ElementForm, has, ElementHolds, element_fault, kinds_of}
+use Rattle.lists.proofs.Words.{map-append, take-append-drop, drop_more, All-map, All-more}
+use Rattle.library_grammar.specs.GrammarNames.{IsRefusalOfFirst, IsFaultOfFirst, Entry, ElementCheck, ElementForm, has, ElementHolds, element_fault, kinds_of}
+use Rattle.first_refusal.specs.Checks.{IsFirstFailing}
 use Rattle.library_grammar.specs.declared.fault.SyntaxFault.TheVariants.{Missing}
 
--- ---- parts of a list of checks
-
-module _ {N R : Type 0} (Holds : N → Type 0) (refusal_of : N → R) (front rest : List N) (refusal : R) where
-  -- checks hold, and one behind them is the first that fails
-  pub refusal_behind : All Holds front → IsRefusalOfFirst Holds rest refusal_of refusal → IsRefusalOfFirst Holds (front ++ rest) refusal_of refusal
-  refusal_behind all r = record {
-    check = r.check;
-    is_first = record {
-      before = front ++ r.is_first.before;
-      after = r.is_first.after;
-      parts = ap (λ xs. front ++ xs) r.is_first.parts ∙ sym (append_assoc front r.is_first.before (r.check ∷ r.is_first.after));
-      all_before = All-append Holds front r.is_first.before all r.is_first.all_before;
-      fails = r.is_first.fails;
-    };
-    is_its_refusal = r.is_its_refusal;
-  }
-
-  -- one is the first that fails, whatever stands behind
-  pub refusal_in_front : IsRefusalOfFirst Holds front refusal_of refusal → IsRefusalOfFirst Holds (front ++ rest) refusal_of refusal
-  refusal_in_front r = record {
-    check = r.check;
-    is_first = record {
-      before = r.is_first.before;
-      after = r.is_first.after ++ rest;
-      parts = ap (λ xs. xs ++ rest) r.is_first.parts ∙ append_assoc r.is_first.before (r.check ∷ r.is_first.after) rest;
-      all_before = r.is_first.all_before;
-      fails = r.is_first.fails;
-    };
-    is_its_refusal = r.is_its_refusal;
-  }
+-- the fault of a check that is the first to fail
+pub fault_of : (at : ℕ) (own : List Entry) (checks : List ElementCheck) (check : ElementCheck) → IsFirstFailing (ElementHolds own) checks check
+    → IsFaultOfFirst at own checks (element_fault at check)
+fault_of at own checks check first = record { check = check; is_first = first; is_its_refusal = refl }
 
 -- ---- the records that are needed, looked for one after the other
 

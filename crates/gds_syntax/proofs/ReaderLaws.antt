@@ -1,6 +1,9 @@
 -- How a reader goes on record by record, and where it stops.
 use Rattle.std.proofs.Common.{◌≡◌, ◌≢◌, ℕ, ◌+◌, ◌-◌, ◌<◌, ◌≤◌, List, [], ◌∷◌, ◌++◌, length, refl, sym, ap, subst, ◌∙◌, arith, Bool, true, false, Some, None, Result, Ok, Err, IsTrue, append_assoc, if◌then◌else◌, ◌==◌}
-use Rattle.std.specs.Prelude.{IfErr, IsErrAnd}
+use Rattle.std.specs.Prelude.{IsErrAnd}
+use Rattle.first_refusal.specs.Answers.{Answers, gives, refuses, no_memory}
+use Rattle.first_refusal.specs.Outcomes.{Outcome, value, refused}
+use Rattle.first_refusal.proofs.AnswerLaws.{handed_on, out_of_memory}
 use Rattle.lists.proofs.Words.{append-nil, ne_eqb, add-zero}
 use Rattle.gds_records.specs.declared.kinds.TheConstants as kind
 use Rattle.library_grammar.specs.GrammarNames.{Reading, IsLeft, IsGivenOrLeft, MovesPast, entry_of, Entry, spelling, spellings, End, IsFirstFault, at_record, at_end, Shows, behind, Place, next_place, IsPlain}
@@ -23,11 +26,15 @@ takes_one old new r moved split =
       bytes = moved.bytes;
     }
 
--- the answer that no memory is left tells of no other fault
-pub no_memory_left : {T : Type 0} (result : Result T SyntaxFault) (P : SyntaxFault → Type 0) → IsErrAnd result (λ fault. fault ≡ Memory)
-    → IfErr result (λ fault. fault ≢ Memory → P fault)
-no_memory_left (Ok thing) P gave = tt
-no_memory_left (Err fault) P gave = λ other. absurd (other gave)
+-- what was read, where a reader gave something
+pub read : {T : Type 0} {Stage : Outcome T SyntaxFault → Type 0} {thing : T} → Answers Memory Stage (Ok thing) → Stage (value thing)
+read (gives is) = is
+
+-- a reader stops where one that it called does; want of memory stays what it is
+pub passed_on : {T U : Type 0} {Stage : Outcome T SyntaxFault → Type 0} {Whole : Outcome U SyntaxFault → Type 0} {fault : SyntaxFault} (result : Result U SyntaxFault)
+    → IsErrAnd result (λ same. same ≡ fault) → Answers Memory Stage (Err fault) → (Stage (refused fault) → Whole (refused fault)) → Answers Memory Whole result
+passed_on {Whole = Whole} {fault = fault} result gave (refuses stop) onward = handed_on Memory Whole result fault gave (refuses (onward stop))
+passed_on {Whole = Whole} result gave no_memory onward = out_of_memory Memory Whole result gave
 
 -- what is not true is false
 pub is_false : (b : Bool) → (IsTrue b → ⊥) → b ≡ false

@@ -1,5 +1,5 @@
 -- the steps of an array: whole parts of the ways that they make up
-use Rattle.std.proofs.Common.{◌≡◌, ◌∙◌, refl, sym, ap, ℕ, zero, suc, ℤ, pos, negsuc, ◌+ℤ◌, ◌-ℤ◌, ◌*ℤ◌, ◌≤ℤ◌, neg_ℤ, nat_abs, ◌/◌, ◌%◌, ◌≤◌, Option, Some, None, IfSome, IfNone, SFits, w64, to_z, of_z, arith}
+use Rattle.std.proofs.Common.{◌≡◌, ◌∙◌, refl, sym, ap, ℕ, zero, suc, ℤ, pos, negsuc, ◌+ℤ◌, ◌-ℤ◌, ◌*ℤ◌, ◌≤ℤ◌, neg_ℤ, nat_abs, ◌/◌, ◌%◌, ◌≤◌, Option, Some, None, IfSome, IfNone, SFits, w16, w32, w64, to_z, of_z, arith, ◌↔◌}
 use Rattle.lists.proofs.Words.{ints, unsigned_abs-mul, to_z-of_z, IfSome_then}
 use Rattle.std.specs.Prelude.{int_div, int_rem}
 use Rattle.std.specs.Option.{option_zip}
@@ -78,10 +78,10 @@ module _ (from to count told_count told_way : ℤ) (r : Option ℤ) where
       → IfNone r ((step : ℤ) → (from +ℤ (count *ℤ step)) ≡ to → ⊥)
   no_step_leads none is_count is_way = IfNone_then r none (λ n step e. n step (ap (λ k. k *ℤ step) is_count ∙ way_along from to (count *ℤ step) e ∙ sym is_way))
 
--- a step between the same coordinates
-pub along_alike : (from told_from to told_to count told_count step : ℤ) → told_from ≡ from → told_to ≡ to → told_count ≡ count
-    → (told_from +ℤ (told_count *ℤ step)) ≡ told_to → (from +ℤ (count *ℤ step)) ≡ to
-along_alike from told_from to told_to count told_count step is_from is_to is_count leads = cc
+-- a step is one also where numbers are told as their bits
+pub told_step : (from to count step : ℤ) → SFits w32 from → SFits w32 to → SFits w16 count
+    → ((to_z w32 (of_z w32 from) +ℤ (to_z w16 (of_z w16 count) *ℤ step)) ≡ to_z w32 (of_z w32 to)) ↔ ((from +ℤ (count *ℤ step)) ≡ to)
+told_step from to count step of_from of_to of_count = rw (to_z-of_z w32 from of_from, to_z-of_z w32 to of_to, to_z-of_z w16 count of_count) (λ h. h, λ h. h)
 
 -- ---- two answers as one
 

@@ -7,6 +7,7 @@ use Rattle.first_refusal.proofs.CheckLaws.{fails_at_once, fails_later}
 use Rattle.gds_records.specs.declared.kinds.TheConstants as kind
 use Rattle.library_grammar.specs.GrammarNames.{HasValue, Entry, IsFaultOfFirst, ElementCheck, ElementHolds, reference_checks, is_not_magnified, angle_is_not_absolute, turns_by_quarters, field, unsigned_of, HasQuarters, HasAbsoluteAngle}
 use Rattle.gds_records.proofs.RealLaws.{values_agree}
+use Rattle.gds_syntax.proofs.CheckLaws.{fault_of}
 use Rattle.gds_syntax.specs.inside.Quarters.{AreQuarters, ComesTo, IsAngle}
 use Rattle.library_grammar.specs.declared.fault.SyntaxFault.TheVariants.{Magnified, AbsoluteAngle, BadAngle}
 
@@ -81,25 +82,18 @@ module _ (own : List Entry) (strans : ℕ) (is : strans ≡ unsigned_of kind.STR
 
   module _ (at : ℕ) (large : IfSome (field kind.MAG own) (λ body. HasValue body (pos 1))) where
     pub fault_where_absolute : (bit_and strans 2 ≡ 0 → ⊥) → IsFaultOfFirst at own reference_checks (AbsoluteAngle at)
-    fault_where_absolute set = record {
-      check = angle_is_not_absolute;
-      is_first = fails_later (ElementHolds own) is_not_magnified _ angle_is_not_absolute large
-          (fails_at_once (ElementHolds own) angle_is_not_absolute _ (λ not. not (absolute set)));
-      is_its_refusal = refl;
-    }
+    fault_where_absolute set =
+        fault_of at own reference_checks angle_is_not_absolute (fails_later (ElementHolds own) is_not_magnified _ angle_is_not_absolute large
+        (fails_at_once (ElementHolds own) angle_is_not_absolute _ (λ not. not (absolute set))))
 
     pub fault_where_bad : bit_and strans 2 ≡ 0 → ((degrees quarters : ℤ) → IsAngle own degrees → AreQuarters degrees quarters → ⊥)
         → IsFaultOfFirst at own reference_checks (BadAngle at)
-    fault_where_bad clear none = record {
-      check = turns_by_quarters;
-      is_first = fails_later (ElementHolds own) is_not_magnified _ turns_by_quarters large
-          (fails_later (ElementHolds own) angle_is_not_absolute _ turns_by_quarters (not_absolute clear)
-          (fails_at_once (ElementHolds own) turns_by_quarters [] (λ (quarters, has, back, front).
-          none (pos 90 *ℤ quarters) quarters (angle_of_quarters (field kind.ANGLE own) quarters has) (record { whole = refl; from_back = back; to_front = front }))));
-      is_its_refusal = refl;
-    }
+    fault_where_bad clear none =
+        fault_of at own reference_checks turns_by_quarters (fails_later (ElementHolds own) is_not_magnified _ turns_by_quarters large
+        (fails_later (ElementHolds own) angle_is_not_absolute _ turns_by_quarters (not_absolute clear)
+        (fails_at_once (ElementHolds own) turns_by_quarters [] (λ (quarters, has, back, front).
+        none (pos 90 *ℤ quarters) quarters (angle_of_quarters (field kind.ANGLE own) quarters has) (record { whole = refl; from_back = back; to_front = front })))))
 
 pub fault_where_magnified : (own : List Entry) (at : ℕ) → (IfSome (field kind.MAG own) (λ body. HasValue body (pos 1)) → ⊥)
     → IsFaultOfFirst at own reference_checks (Magnified at)
-fault_where_magnified own at not =
-    record { check = is_not_magnified; is_first = fails_at_once (ElementHolds own) is_not_magnified _ not; is_its_refusal = refl }
+fault_where_magnified own at not = fault_of at own reference_checks is_not_magnified (fails_at_once (ElementHolds own) is_not_magnified _ not)

@@ -2,6 +2,7 @@
 -- they found.
 use Rattle.std.specs.Prelude.{ℕ, List, [], ◌∷◌, ◌++◌, length, All, Contains, Option, Some, None, IfSome, option_to_list, true, false}
 use Rattle.std.specs.Prelude.{IsTrue, if◌then◌else◌, ◌==◌, ◌^◌, ◌<◌, ◌≤◌, ◌≡◌, ◌≢◌, ◌↔◌, ◌⊎◌, flat_map}
+use Rattle.first_refusal.specs.Outcomes.{Outcome, value, refused}
 use Rattle.gds_records.specs.declared.kinds.TheConstants as kind
 use Rattle.library_grammar.specs.GrammarNames.{IsInProfile, Reading, IsLeft, entry_of, Entry, IsEndlib, End, ElementForm, own_kinds}
 use Rattle.library_grammar.specs.GrammarNames.{AreNamesIn, IsFirstFault, NoneShows, IsText, IsKept, kinds_of, head_kinds, IsOfKind}
@@ -72,6 +73,15 @@ IsFirstBehind before reading fault =
 -- behind any records with which a reader stands there, the fault is the first of the stream
 abbrev pub Stops : Reading → Standing → SyntaxFault → Type 0
 Stops reading standing fault = (before : List Entry) → IsAt reading before standing → IsFirstBehind before reading fault
+
+-- the same where a reader stands at this place, whichever names are behind it
+abbrev pub StopsAt : Reading → Place → SyntaxFault → Type 0
+StopsAt reading place fault = (names : List (List ℕ)) → Stops reading (standing place names) fault
+
+-- what a reader comes to: a thing that was read so, or a fault at which it stops so
+abbrev pub ReadsOrStops : {T : Type 0} → (T → Type 0) → (SyntaxFault → Type 0) → Outcome T SyntaxFault → Type 0
+ReadsOrStops IsRead IsStop (value thing) = IsRead thing
+ReadsOrStops IsRead IsStop (refused fault) = IsStop fault
 
 -- a place in the head of a library: records of the head stay there, and the one of this kind leads on
 abbrev pub IsHeadPlace : Place → ℕ → Place → Type 0

@@ -1,12 +1,12 @@
-ghost use Rattle.std.specs.Prelude.{◌≡◌, ◌≢◌, [], ◌∷◌, ◌++◌, ℕ, List, IfOk, IfErr, option_to_list};
+ghost use Rattle.std.specs.Prelude.{◌≡◌, [], ◌∷◌, ◌++◌, ℕ, List, IfOk, IfErr, option_to_list};
+ghost use Rattle.first_refusal.specs.Answers.{Answers};
 ghost use Rattle.gds_records.specs.Reading.{entry_of};
 ghost use Rattle.gds_records.specs.RecordSpelling.{Entry};
 ghost use Rattle.library_grammar.specs.ElementForms.{Opens};
 ghost use Rattle.gds_syntax.specs.inside.ElementKinds.{form_for};
 ghost use Rattle.library_grammar.specs.Libraries.{behind};
 ghost use Rattle.library_grammar.specs.Places.{among_own, behind_attribute, behind_strname};
-ghost use Rattle.gds_syntax.specs.LibraryReaders.{IsAt, IsFirstBehind, IsReady, ReadsElement, ReadsElements, ReadsElementsSoFar, ReadsOwn, ReadsProperties, Stops, standing};
-ghost use Rattle.library_grammar.specs.declared.fault.SyntaxFault.TheVariants.{Memory};
+ghost use Rattle.gds_syntax.specs.LibraryReaders.{IsAt, IsFirstBehind, IsReady, ReadsElement, ReadsElements, ReadsElementsSoFar, ReadsOrStops, ReadsOwn, ReadsProperties, Stops, StopsAt, standing};
 
 use super::element_kind::ElementKind;
 use super::kept::kept_of;
@@ -26,8 +26,8 @@ fn read_own<'a>(
 ) -> Result<Record<'a>, SyntaxFault>
     requires ready { IsReady records.old }
     requires none { own.old ≡ [] }
-    ensures own { IfOk result (ReadsOwn records.old records.new (form_for kind) own.new) }
-    ensures faulty { IfErr result (λ fault. fault ≢ Memory → (names : List (List ℕ)) → Stops records.old (standing (among_own (form_for kind) []) names) fault) }
+    ensures { Answers SyntaxFault.Memory (ReadsOrStops (ReadsOwn records.old records.new (form_for kind) own.new)
+        (StopsAt records.old (among_own (form_for kind) []))) result }
 {
     let mut found = next_record(records)?;
     while kind.owns(found.kind) && !own.has(found.kind) {
@@ -69,10 +69,10 @@ fn read_element<'a>(
 ) -> Result<Option<Element>, SyntaxFault>
     requires ready { IsReady records.old }
     requires opens { Opens opening.now.kind (form_for kind) }
-    ensures element { IfOk result (ReadsElement records.old records.new opening.now (form_for kind)) }
-    ensures faulty { IfErr result (λ fault. fault ≢ Memory → (earlier : List Entry) (names : List (List ℕ)) → opening.now.at ≡ behind 0 earlier
+    ensures { Answers SyntaxFault.Memory (ReadsOrStops (ReadsElement records.old records.new opening.now (form_for kind))
+        (λ fault. (earlier : List Entry) (names : List (List ℕ)) → opening.now.at ≡ behind 0 earlier
         → IsAt records.old (earlier ++ entry_of opening.now ∷ []) (standing (among_own (form_for kind) []) names)
-        → IsFirstBehind (earlier ++ entry_of opening.now ∷ []) records.old fault) }
+        → IsFirstBehind (earlier ++ entry_of opening.now ∷ []) records.old fault)) result }
 {
     own.clear();
     let closing = read_own(records, kind, own)?;
@@ -117,8 +117,8 @@ pub fn read_elements<'a>(
     own: &mut OwnRecords<'a>,
 ) -> Result<Vec<Element>, SyntaxFault>
     requires { IsReady records.old }
-    ensures elements { IfOk result (λ elements. ReadsElements records.old records.new elements.items) }
-    ensures faulty { IfErr result (λ fault. fault ≢ Memory → (names : List (List ℕ)) → Stops records.old (standing behind_strname names) fault) }
+    ensures { Answers SyntaxFault.Memory (ReadsOrStops (λ elements. ReadsElements records.old records.new elements.items)
+        (StopsAt records.old behind_strname)) result }
 {
     let mut elements = Vec::new(alloc);
     let mut found = behind_class(records)?;

@@ -1,9 +1,9 @@
-ghost use Rattle.std.specs.Prelude.{◌≡◌, ◌≢◌, ◌↔◌, [], IsTrue, Contains, IfOk, IfErr, length};
+ghost use Rattle.std.specs.Prelude.{◌≡◌, ◌↔◌, [], IsTrue, Contains, IfOk, IfErr, length};
+ghost use Rattle.first_refusal.specs.Answers.{Answers};
 ghost use Rattle.lists.specs.ByteLists.{AreBytes};
 ghost use Rattle.library_grammar.specs.Places.{Place, before_header};
-ghost use Rattle.gds_syntax.specs.LibraryReaders.{IsHeadPlace, IsReady, ReadsHead, ReadsHeadRecords, Standing, Stops, standing};
+ghost use Rattle.gds_syntax.specs.LibraryReaders.{IsHeadPlace, IsReady, ReadsHead, ReadsHeadRecords, ReadsOrStops, Standing, Stops, standing};
 ghost use Rattle.library_grammar.specs.Grammar.{head_kinds};
-ghost use Rattle.library_grammar.specs.declared.fault.SyntaxFault.TheVariants.{Memory};
 
 use super::records::{expect, next_record, unexpected};
 use gds_records::{Record, Records, kinds, text};
@@ -61,8 +61,8 @@ fn behind_head_records<'a>(records: &mut Records<'a>, kind: u8) -> Result<Record
 /// The head of a library, up to its structures.
 pub fn read_head(alloc: Global, records: &mut Records<'_>) -> Result<Head, SyntaxFault>
     requires { IsReady records.old }
-    ensures head { IfOk result (λ head. ReadsHead records.old records.new head.name head.units) }
-    ensures faulty { IfErr result (λ fault. fault ≢ Memory → Stops records.old (standing before_header []) fault) }
+    ensures { Answers SyntaxFault.Memory (ReadsOrStops (λ head. ReadsHead records.old records.new head.name head.units)
+        (Stops records.old (standing before_header []))) result }
 {
     let _version = expect(records, kinds::HEADER)?;
     let _dates = expect(records, kinds::BGNLIB)?;

@@ -1,11 +1,10 @@
-ghost use Rattle.std.specs.Prelude.{◌≢◌, ◌≤◌, ◌<◌, ◌^◌, length, All, IfOk, IfErr};
-ghost use Rattle.first_refusal.specs.Outcomes.{value, refused};
+ghost use Rattle.std.specs.Prelude.{◌≤◌, ◌<◌, ◌^◌, length, All, IfOk};
+ghost use Rattle.first_refusal.specs.Answers.{Answers};
 ghost use Rattle.library_grammar.specs.FirstFault.{BytesComeTo};
 ghost use Rattle.lists.specs.Differing.{AreDifferent};
 ghost use Rattle.library_model.specs.Names.{names_of};
 ghost use Rattle.library_model.specs.Points.{AreWellPointed};
 ghost use Rattle.gds_syntax.specs.LibraryReaders.{most_bytes};
-ghost use Rattle.library_grammar.specs.declared.fault.SyntaxFault.TheVariants.{Memory};
 
 use super::head::{Head, read_head};
 use super::structures::read_structures;
@@ -22,8 +21,7 @@ use std::alloc::Global;
 /// at its first property, or at its end where it has none. Behind ENDLIB the stream may have any bytes.
 pub fn read_library(alloc: Global, bytes: &[u8]) -> Result<Library, SyntaxFault>
     requires { length bytes.now ≤ most_bytes }
-    ensures library { IfOk result (λ library. BytesComeTo bytes.now (value library)) }
-    ensures faulty { IfErr result (λ fault. fault ≢ Memory → BytesComeTo bytes.now (refused fault)) }
+    ensures answers { Answers SyntaxFault.Memory (BytesComeTo bytes.now) result }
 
     // What the library has besides. This follows from the bytes.
     ensures names_differ { IfOk result (λ library. AreDifferent (names_of library.structures)) }

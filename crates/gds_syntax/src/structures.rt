@@ -1,11 +1,11 @@
-ghost use Rattle.std.specs.Prelude.{◌≡◌, ◌≢◌, ◌≤◌, [], ◌∷◌, length, IfOk, IfErr};
+ghost use Rattle.std.specs.Prelude.{◌≡◌, ◌≤◌, [], ◌∷◌, length};
+ghost use Rattle.first_refusal.specs.Answers.{Answers};
 ghost use Rattle.gds_records.specs.Reading.{entry_of};
 ghost use Rattle.library_grammar.specs.Grammar.{IsOfKind};
 ghost use Rattle.library_grammar.specs.Libraries.{behind};
 ghost use Rattle.gds_records.specs.declared.kinds.TheConstants as kind;
 ghost use Rattle.library_grammar.specs.Places.{before_strname, between_structures};
-ghost use Rattle.gds_syntax.specs.LibraryReaders.{IsReady, ReadsStructure, ReadsStructures, Stops, standing};
-ghost use Rattle.library_grammar.specs.declared.fault.SyntaxFault.TheVariants.{Memory};
+ghost use Rattle.gds_syntax.specs.LibraryReaders.{IsReady, ReadsOrStops, ReadsStructure, ReadsStructures, Stops, standing};
 
 use super::elements::read_elements;
 use super::own_records::OwnRecords;
@@ -29,8 +29,8 @@ fn read_structure<'a>(
     requires opens { IsOfKind kind.BGNSTR (entry_of opening.now) }
     requires place { records.old.at ≡ behind opening.now.at (entry_of opening.now ∷ []) }
     requires few { length names.old ≤ records.old.at }
-    ensures structure { IfOk result (ReadsStructure records.old records.new names.old names.new opening.now) }
-    ensures faulty { IfErr result (λ fault. fault ≢ Memory → Stops records.old (standing before_strname names.old) fault) }
+    ensures { Answers SyntaxFault.Memory (ReadsOrStops (ReadsStructure records.old records.new names.old names.new opening.now)
+        (Stops records.old (standing before_strname names.old))) result }
 {
     let found = expect(records, kinds::STRNAME)?;
     let name = text(&found);
@@ -55,8 +55,8 @@ fn collect_structures<'a>(
 ) -> Result<Vec<Structure>, SyntaxFault>
     requires ready { IsReady records.old }
     requires no_names { names.old ≡ [] }
-    ensures structures { IfOk result (λ structures. ReadsStructures records.old records.new structures.items) }
-    ensures faulty { IfErr result (λ fault. fault ≢ Memory → Stops records.old (standing between_structures []) fault) }
+    ensures { Answers SyntaxFault.Memory (ReadsOrStops (λ structures. ReadsStructures records.old records.new structures.items)
+        (Stops records.old (standing between_structures []))) result }
 {
     let mut found = next_record(records)?;
     let mut structures = Vec::new(alloc);
@@ -77,8 +77,8 @@ pub fn read_structures(
     records: &mut Records<'_>,
 ) -> Result<Vec<Structure>, SyntaxFault>
     requires { IsReady records.old }
-    ensures structures { IfOk result (λ structures. ReadsStructures records.old records.new structures.items) }
-    ensures faulty { IfErr result (λ fault. fault ≢ Memory → Stops records.old (standing between_structures []) fault) }
+    ensures { Answers SyntaxFault.Memory (ReadsOrStops (λ structures. ReadsStructures records.old records.new structures.items)
+        (Stops records.old (standing between_structures []))) result }
 {
     let mut names = NameIndex::new(alloc);
     let mut own = OwnRecords::new(alloc);

@@ -10,6 +10,8 @@ use Rattle.library_model.specs.declared.element.Lattice.{Lattice}
 use Rattle.library_model.specs.declared.element.Reference.{Reference}
 use Rattle.library_model.specs.declared.element.Shape.{Shape}
 use Rattle.library_grammar.specs.declared.fault.SyntaxFault.{SyntaxFault}
+use Rattle.library_grammar.specs.declared.fault.SyntaxFault.TheVariants.{Memory}
+use Rattle.first_refusal.specs.Answers.{Answers, gives}
 use Rattle.library_model.specs.declared.library.Library.{Library}
 use Rattle.library_model.specs.declared.library.Structure.{Structure}
 use Rattle.lists.proofs.Containing.{All-front, All-back}
@@ -152,6 +154,6 @@ come_to_well_formed bytes library comes = of_library bytes library comes comes
         }
 
 -- what a reader answers is a well-formed library, where it is one
-pub read_is_well_formed : (bytes : List ℕ) (result : Result Library SyntaxFault) → IfOk result (λ l. BytesComeTo bytes (value l)) → IfOk result IsWellFormed
-read_is_well_formed bytes (Ok library) comes = come_to_well_formed bytes library comes
-read_is_well_formed bytes (Err fault) comes = tt
+pub read_is_well_formed : (bytes : List ℕ) (result : Result Library SyntaxFault) → Answers Memory (BytesComeTo bytes) result → IfOk result IsWellFormed
+read_is_well_formed bytes (Ok library) (gives comes) = come_to_well_formed bytes library comes
+read_is_well_formed bytes (Err fault) answer = tt

@@ -1,6 +1,6 @@
 -- What a reference's own records say of it, as they are written.
-use Rattle.std.proofs.Common.{◌≡◌, ◌↔◌, ℕ, zero, suc, ◌/◌, ◌%◌, ◌^◌, ◌<◌, ℤ, pos, negsuc, ◌+ℤ◌, ◌*ℤ◌, ◌≤ℤ◌, Bool, true, false, not, ◌||◌, ◌==◌, List, [], ◌∷◌, ◌++◌, length, get_or, All, Contains, Option, Some, None, refl, sym, ap, subst, ◌∙◌, arith, append_assoc, true≢false, unwrap_or, MatchOption, IfSome, IsTrue}
-use Rattle.lists.proofs.Words.{then_some, flat_map, ints, All-from_recursion}
+use Rattle.std.proofs.Common.{◌≡◌, ◌↔◌, ℕ, zero, suc, ◌/◌, ◌%◌, ◌^◌, ◌<◌, ℤ, pos, negsuc, ◌+ℤ◌, ◌*ℤ◌, ◌≤ℤ◌, Bool, true, false, not, ◌||◌, ◌==◌, List, [], ◌∷◌, ◌++◌, length, get_or, All, Contains, Option, Some, None, refl, sym, ap, subst, ◌∙◌, arith, append_assoc, true≢false, unwrap_or, MatchOption, IfSome, IsTrue, if◌then◌else◌}
+use Rattle.lists.proofs.Words.{flat_map, ints, All-from_recursion}
 use Rattle.byteorder.specs.Endian.{big_bytes}
 use Rattle.geo_core.specs.declared.plane.Point.{Point}
 use Rattle.geo_core.specs.declared.plane.Turn.{Turn}
@@ -10,11 +10,11 @@ use Rattle.library_grammar.specs.Elements.{sref as keeps_sref, aref as keeps_are
 use Rattle.library_model.specs.declared.element.Element.TheVariants.{Reference as reference_element}
 use Rattle.library_model.specs.declared.element.Lattice.{Lattice}
 use Rattle.library_model.specs.declared.element.Reference.{Reference}
-use Rattle.gds_write.specs.Bodies.{text_entry, point_bytes, entry_if}
+use Rattle.gds_write.specs.Bodies.{text_entry, point_bytes, points_entry, counts_entry}
 use Rattle.gds_write.specs.WellFormed.{IsWritableReference}
 use Rattle.gds_write.specs.Written.{strans_entry, angle_entry, turn_records, moved_by, array_points, placing_records}
 use Rattle.gds_write.proofs.Every.{more, one, all_of}
-use Rattle.gds_write.proofs.FieldLaws.{past, found_where}
+use Rattle.gds_write.proofs.FieldLaws.{written_of, first_of, field_of}
 use Rattle.gds_write.proofs.NumberLaws.{columns_read, rows_read, point_reads, points_read}
 use Rattle.gds_write.proofs.ProfileLaws.{padded_fills}
 use Rattle.gds_write.proofs.ShapeLaws.{has_found}
@@ -23,13 +23,13 @@ use Rattle.gds_write.proofs.ShapeLaws.{has_found}
 
 -- STRANS, where it is written, has its highest bit set where the turn mirrors
 mirrors_by : (reflect written : Bool) → (reflect ≡ true → written ≡ true)
-    → IsTrue reflect ↔ (item 2 0 (unwrap_or (then_some written (strans_entry reflect).body) []) / 2 ^ 15 ≡ 1)
+    → IsTrue reflect ↔ (item 2 0 (unwrap_or (if written then Some (strans_entry reflect).body else None) []) / 2 ^ 15 ≡ 1)
 mirrors_by true true is = (λ t. refl, λ e. refl)
 mirrors_by true false is = absurd (true≢false (sym (is refl)))
 mirrors_by false true is = (λ t. absurd (cc), λ e. absurd (omega arith))
 mirrors_by false false is = (λ t. absurd (cc), λ e. absurd (omega arith))
 
-not_absolute_by : (reflect written : Bool) → item 2 0 (unwrap_or (then_some written (strans_entry reflect).body) []) / 2 % 2 ≡ 1 → ⊥
+not_absolute_by : (reflect written : Bool) → item 2 0 (unwrap_or (if written then Some (strans_entry reflect).body else None) []) / 2 % 2 ≡ 1 → ⊥
 not_absolute_by true true e = omega arith
 not_absolute_by true false e = omega arith
 not_absolute_by false true e = omega arith
@@ -37,7 +37,7 @@ not_absolute_by false false e = omega arith
 
 -- ANGLE, where it is written, is 90 degrees a quarter
 quarters_by : (quarters : ℕ) → quarters < 4
-    → MatchOption (then_some (not (quarters == 0)) (angle_entry quarters).body) (pos quarters +ℤ (pos 4 *ℤ pos 0) ≡ pos 0)
+    → MatchOption (if not (quarters == 0) then Some (angle_entry quarters).body else None) (pos quarters +ℤ (pos 4 *ℤ pos 0) ≡ pos 0)
     (λ body. HasValue body (pos 90 *ℤ (pos quarters +ℤ (pos 4 *ℤ pos 0))))
 quarters_by zero few = refl
 quarters_by (suc zero) few = record { size = record { scaled = refl }; sign = refl }
@@ -56,75 +56,67 @@ placing_points origin (Some lattice) = array_points origin lattice
 abbrev pub reference_own : List ℕ → Turn → Point → Option Lattice → List Entry
 reference_own target turn origin lattice = text_entry kind.SNAME target ∷ turn_records turn ++ placing_records origin lattice
 
+-- the same, each with whether it is written
+abbrev pub placing_parts : Point → Option Lattice → List (Bool × Entry)
+placing_parts origin None = (true, points_entry (origin ∷ [])) ∷ []
+placing_parts origin (Some lattice) = (true, counts_entry lattice.columns lattice.rows) ∷ (true, points_entry (array_points origin lattice)) ∷ []
+
+abbrev pub reference_parts : List ℕ → Turn → Point → Option Lattice → List (Bool × Entry)
+reference_parts target turn origin lattice =
+    (true, text_entry kind.SNAME target) ∷ (turn.reflect || not (turn.quarters == 0), strans_entry turn.reflect)
+    ∷ (not (turn.quarters == 0), angle_entry turn.quarters) ∷ placing_parts origin lattice
+
+-- what its records have of each kind
+record Fields (target : List ℕ) (turn : Turn) (origin : Point) (lattice : Option Lattice) (own : List Entry) : Type 0 where
+  xy : field kind.XY own ≡ Some (flat_map point_bytes (placing_points origin lattice))
+  strans : field kind.STRANS own ≡ (if turn.reflect || not (turn.quarters == 0) then Some (strans_entry turn.reflect).body else None)
+  angle : field kind.ANGLE own ≡ (if not (turn.quarters == 0) then Some (angle_entry turn.quarters).body else None)
+  mag : field kind.MAG own ≡ None
+
+module _ (target : List ℕ) (turn : Turn) (origin : Point) where
+  pub reference_written : (lattice : Option Lattice) → reference_own target turn origin lattice ≡ written_of (reference_parts target turn origin lattice)
+  reference_written None = simp append_assoc
+  reference_written (Some lattice) = simp append_assoc
+
+  reference_field : (lattice : Option Lattice) (k : ℕ) → field k (reference_own target turn origin lattice) ≡ first_of k (reference_parts target turn origin lattice)
+  reference_field lattice k = ap (field k) (reference_written lattice) ∙ field_of k (reference_parts target turn origin lattice)
+
+  fields : (lattice : Option Lattice) → Fields target turn origin lattice (reference_own target turn origin lattice)
+  fields None = let has = reference_field None in record { xy = has kind.XY; strans = has kind.STRANS; angle = has kind.ANGLE; mag = has kind.MAG }
+  fields (Some lattice) = let has = reference_field (Some lattice) in record { xy = has kind.XY; strans = has kind.STRANS; angle = has kind.ANGLE; mag = has kind.MAG }
+
 module _ (target : List ℕ) (turn : Turn) (origin : Point) (lattice : Option Lattice) where
   abbrev own : List Entry
   own = reference_own target turn origin lattice
 
-  abbrev mirrors : Bool
-  mirrors = turn.reflect || not (turn.quarters == 0)
-
   abbrev turns : Bool
   turns = not (turn.quarters == 0)
 
-  abbrev placing : List Entry
-  placing = placing_records origin lattice
+  abbrev mirrors : Bool
+  mirrors = turn.reflect || turns
 
-  abbrev behind_strans : List Entry
-  behind_strans = entry_if turns (angle_entry turn.quarters) ++ placing
-
-  reference_field : (k : ℕ) (o : Option (List ℕ)) → (kind.SNAME == k) ≡ false → field k (entry_if mirrors (strans_entry turn.reflect) ++ behind_strans) ≡ o → field k own ≡ o
-  reference_field k o no_name has =
-      rw no_name (ap (field k) (append_assoc (entry_if mirrors (strans_entry turn.reflect)) (entry_if turns (angle_entry turn.quarters)) placing) ∙ has)
-
-  past_strans : (k : ℕ) → (kind.STRANS == k) ≡ false → field k (entry_if mirrors (strans_entry turn.reflect) ++ behind_strans) ≡ field k behind_strans
-  past_strans k other = past k mirrors (strans_entry turn.reflect) behind_strans other
-
-  past_angle : (k : ℕ) → (kind.ANGLE == k) ≡ false → field k behind_strans ≡ field k placing
-  past_angle k other = past k turns (angle_entry turn.quarters) placing other
-
-  placing_xy : (l : Option Lattice) → field kind.XY (placing_records origin l) ≡ Some (flat_map point_bytes (placing_points origin l))
-  placing_xy None = refl
-  placing_xy (Some l) = refl
-
-  not_placing : (k : ℕ) → (kind.XY == k) ≡ false → (kind.COLROW == k) ≡ false → (l : Option Lattice) → field k (placing_records origin l) ≡ None
-  not_placing k no_xy no_colrow None = rw no_xy refl
-  not_placing k no_xy no_colrow (Some l) = rw (no_colrow, no_xy) refl
-
-  has_xy : field kind.XY own ≡ Some (flat_map point_bytes (placing_points origin lattice))
-  has_xy = reference_field kind.XY _ refl (past_strans kind.XY refl ∙ past_angle kind.XY refl ∙ placing_xy lattice)
-
-  has_strans : field kind.STRANS own ≡ then_some mirrors (strans_entry turn.reflect).body
-  has_strans =
-      reference_field kind.STRANS _ refl
-      (found_where kind.STRANS mirrors (strans_entry turn.reflect) behind_strans refl (past_angle kind.STRANS refl ∙ not_placing kind.STRANS refl refl lattice))
-
-  has_angle : field kind.ANGLE own ≡ then_some turns (angle_entry turn.quarters).body
-  has_angle =
-      reference_field kind.ANGLE _ refl
-      (past_strans kind.ANGLE refl ∙ found_where kind.ANGLE turns (angle_entry turn.quarters) placing refl (not_placing kind.ANGLE refl refl lattice))
-
-  has_no_mag : field kind.MAG own ≡ None
-  has_no_mag = reference_field kind.MAG _ refl (past_strans kind.MAG refl ∙ past_angle kind.MAG refl ∙ not_placing kind.MAG refl refl lattice)
+  has : Fields target turn origin lattice own
+  has = fields target turn origin lattice
 
   xy_body : body_of kind.XY own ≡ flat_map point_bytes (placing_points origin lattice)
-  xy_body = ap (λ (o : Option (List ℕ)). unwrap_or o []) has_xy
+  xy_body = ap (λ (o : Option (List ℕ)). unwrap_or o []) has.xy
 
   -- ---- the turn as it is read
 
-  word_is : unsigned_of kind.STRANS own ≡ item 2 0 (unwrap_or (then_some mirrors (strans_entry turn.reflect).body) [])
-  word_is = ap (λ (o : Option (List ℕ)). item 2 0 (unwrap_or o [])) has_strans
+  word_is : unsigned_of kind.STRANS own ≡ item 2 0 (unwrap_or (if mirrors then Some (strans_entry turn.reflect).body else None) [])
+  word_is = ap (λ (o : Option (List ℕ)). item 2 0 (unwrap_or o [])) has.strans
 
   is_written : turn.reflect ≡ true → mirrors ≡ true
   is_written e = ap (λ (b : Bool). b || turns) e
 
   has_quarters : HasQuarters own (pos turn.quarters +ℤ (pos 4 *ℤ pos 0))
-  has_quarters = rw has_angle (quarters_by turn.quarters turn.whole)
+  has_quarters = rw has.angle (quarters_by turn.quarters turn.whole)
 
   turn_is_read : IsTurn own turn
   turn_is_read = record { mirrors = rw word_is (mirrors_by turn.reflect mirrors is_written); circles = pos 0; turns = has_quarters }
 
   not_magnified : IfSome (field kind.MAG own) (λ body. HasValue body (pos 1))
-  not_magnified = rw has_no_mag tt
+  not_magnified = rw has.mag tt
 
   not_absolute : unsigned_of kind.STRANS own / 2 % 2 ≡ 1 → ⊥
   not_absolute = rw word_is (not_absolute_by turn.reflect mirrors)
@@ -170,7 +162,7 @@ module _ (at : ℕ) (reference : Reference) (lattice : Option Lattice) (writable
       }
 
   has_points_xy : Contains (kinds_of own_records) kind.XY
-  has_points_xy = has_found kind.XY own_records _ (has_xy reference.target reference.turn reference.origin lattice)
+  has_points_xy = has_found kind.XY own_records _ (has reference.target reference.turn reference.origin lattice).xy
 
 -- a reference that is not repeated
 module _ (at : ℕ) (reference : Reference) (writable : IsWritableReference reference) (is : reference.lattice ≡ None) where
@@ -190,10 +182,7 @@ module _ (at : ℕ) (reference : Reference) (lattice : Lattice) (writable : IsWr
   array_own = reference_own reference.target reference.turn reference.origin (Some lattice)
 
   has_colrow : field kind.COLROW array_own ≡ Some (big_bytes 2 lattice.columns ++ big_bytes 2 lattice.rows)
-  has_colrow =
-      reference_field reference.target reference.turn reference.origin (Some lattice) kind.COLROW _ refl
-      (past_strans reference.target reference.turn reference.origin (Some lattice) kind.COLROW refl
-      ∙ past_angle reference.target reference.turn reference.origin (Some lattice) kind.COLROW refl)
+  has_colrow = reference_field reference.target reference.turn reference.origin (Some lattice) kind.COLROW
 
   columns_are : columns_of array_own ≡ pos lattice.columns
   columns_are = rw has_colrow (columns_read lattice.columns lattice.rows lattice.few_columns)

@@ -1,6 +1,6 @@
 -- What a shape's own records say of it, as they are written.
-use Rattle.std.proofs.Common.{◌≡◌, ℕ, suc, ◌≤◌, ℤ, pos, Bool, true, false, ◌==◌, List, [], ◌∷◌, ◌++◌, length, All, Contains, Option, Some, refl, sym, ap, subst, ◌∙◌, arith, append_assoc, w16, w32, option_map, unwrap_or}
-use Rattle.lists.proofs.Words.{then_some, cast_signed, flat_map, eqb-true}
+use Rattle.std.proofs.Common.{◌≡◌, ℕ, suc, ◌≤◌, ℤ, pos, Bool, true, false, ◌==◌, List, [], ◌∷◌, ◌++◌, length, All, Contains, Option, Some, refl, sym, ap, subst, ◌∙◌, arith, append_assoc, w16, w32, FitsSigned, None, if◌then◌else◌, unwrap_or}
+use Rattle.lists.proofs.Words.{cast_signed, flat_map, eqb-true}
 use Rattle.geo_core.specs.declared.plane.Point.{Point}
 use Rattle.library_grammar.specs.GrammarNames.{unsigned_of, item, Entry, ElementHolds, element_checks, ElementForm, boundary_form, path_form, box_form, path_kind, IsKept, field, points_in, points_of, short_of, long_of, IsClosed, HasItsPoints, ArePoints, IsKind, kinds_of}
 use Rattle.gds_records.specs.declared.kinds.TheConstants as kind
@@ -9,10 +9,10 @@ use Rattle.library_model.specs.declared.element.Element.TheVariants.{Shape as sh
 use Rattle.library_model.specs.declared.element.Shape.{Shape}
 use Rattle.library_model.specs.declared.element.ShapeKind.{ShapeKind}
 use Rattle.library_model.specs.declared.element.ShapeKind.TheVariants.{Boundary, BoxElement, Path}
-use Rattle.gds_write.specs.Bodies.{unsigned_entry, short_entry, long_entry, long_bytes, point_bytes, points_entry, entry_if, is_not_zero}
+use Rattle.gds_write.specs.Bodies.{unsigned_entry, short_entry, long_entry, long_bytes, point_bytes, points_entry, is_not_zero}
 use Rattle.gds_write.specs.Written.{opening_of_shape, datatype_kind, path_records}
 use Rattle.gds_write.proofs.Every.{more, one, all_of}
-use Rattle.gds_write.proofs.FieldLaws.{past, found_where, number_reads_by}
+use Rattle.gds_write.proofs.FieldLaws.{written_of, first_of, field_of, number_reads_by}
 use Rattle.gds_write.proofs.NumberLaws.{two_bytes_read, short_reads, long_reads, points_read}
 
 -- a kind that has a field is among the kinds
@@ -37,92 +37,49 @@ abbrev pub shape_own : ℕ → ℕ → List Point → ShapeKind → List Entry
 shape_own layer datatype points shape_kind =
     unsigned_entry kind.LAYER layer ∷ unsigned_entry (datatype_kind shape_kind) datatype ∷ path_records shape_kind ++ points_entry points ∷ []
 
+-- the same, each with whether it is written
+abbrev pub shape_parts : ℕ → ℕ → List Point → ShapeKind → List (Bool × Entry)
+shape_parts layer datatype points Boundary = (true, unsigned_entry kind.LAYER layer) ∷ (true, unsigned_entry kind.DATATYPE datatype) ∷ (true, points_entry points) ∷ []
+shape_parts layer datatype points BoxElement = (true, unsigned_entry kind.LAYER layer) ∷ (true, unsigned_entry kind.BOXTYPE datatype) ∷ (true, points_entry points) ∷ []
+shape_parts layer datatype points (Path pathtype width begin end) =
+    (true, unsigned_entry kind.LAYER layer) ∷ (true, unsigned_entry kind.DATATYPE datatype) ∷ (is_not_zero pathtype, short_entry kind.PATHTYPE pathtype)
+    ∷ (is_not_zero width, long_entry kind.WIDTH width) ∷ (is_not_zero begin, long_entry kind.BGNEXTN begin) ∷ (is_not_zero end, long_entry kind.ENDEXTN end)
+    ∷ (true, points_entry points) ∷ []
+
+-- a number that is written where it is not 0 reads back
+short_back : (own : List Entry) (k : ℕ) (z : ℤ) → FitsSigned w16 z → field k own ≡ (if is_not_zero z then Some (short_entry k z).body else None) → short_of k own ≡ z
+short_back own k z fits has = rw has (number_reads_by (λ body. cast_signed w16 (item 2 0 body)) (short_entry k z).body z (is_not_zero z) refl (short_reads z fits))
+
+long_back : (own : List Entry) (k : ℕ) (z : ℤ) → FitsSigned w32 z → field k own ≡ (if is_not_zero z then Some (long_bytes z) else None) → long_of k own ≡ z
+long_back own k z fits has = rw has (number_reads_by (λ body. cast_signed w32 (item 4 0 body)) (long_bytes z) z (is_not_zero z) refl (long_reads z fits))
+
 module _ (layer datatype : ℕ) (points : List Point) where
-  module _ (pathtype width begin end : ℤ) where
-    pub nested : shape_own layer datatype points (Path pathtype width begin end)
-        ≡ unsigned_entry kind.LAYER layer ∷ unsigned_entry kind.DATATYPE datatype
-        ∷ (entry_if (is_not_zero pathtype) (short_entry kind.PATHTYPE pathtype) ++ (entry_if (is_not_zero width) (long_entry kind.WIDTH width)
-        ++ (entry_if (is_not_zero begin) (long_entry kind.BGNEXTN begin) ++ (entry_if (is_not_zero end) (long_entry kind.ENDEXTN end) ++ points_entry points ∷ []))))
-    nested = simp append_assoc
+  pub shape_written : (shape_kind : ShapeKind) → shape_own layer datatype points shape_kind ≡ written_of (shape_parts layer datatype points shape_kind)
+  shape_written Boundary = refl
+  shape_written BoxElement = refl
+  shape_written (Path pathtype width begin end) = simp append_assoc
 
-    -- what stands behind each of its own
-    abbrev behind_begin : List Entry
-    behind_begin = entry_if (is_not_zero end) (long_entry kind.ENDEXTN end) ++ points_entry points ∷ []
+  shape_field : (k : ℕ) (shape_kind : ShapeKind) → field k (shape_own layer datatype points shape_kind) ≡ first_of k (shape_parts layer datatype points shape_kind)
+  shape_field k shape_kind = ap (field k) (shape_written shape_kind) ∙ field_of k (shape_parts layer datatype points shape_kind)
 
-    abbrev behind_width : List Entry
-    behind_width = entry_if (is_not_zero begin) (long_entry kind.BGNEXTN begin) ++ behind_begin
-
-    abbrev behind_pathtype : List Entry
-    behind_pathtype = entry_if (is_not_zero width) (long_entry kind.WIDTH width) ++ behind_width
-
-    path_field : (k : ℕ) (o : Option (List ℕ)) → (kind.LAYER == k) ≡ false → (kind.DATATYPE == k) ≡ false
-        → field k (entry_if (is_not_zero pathtype) (short_entry kind.PATHTYPE pathtype) ++ behind_pathtype) ≡ o
-        → field k (shape_own layer datatype points (Path pathtype width begin end)) ≡ o
-    path_field k o no_layer no_datatype has = ap (field k) nested ∙ rw (no_layer, no_datatype) has
-
-    past_pathtype : (k : ℕ) → (kind.PATHTYPE == k) ≡ false
-        → field k (entry_if (is_not_zero pathtype) (short_entry kind.PATHTYPE pathtype) ++ behind_pathtype) ≡ field k behind_pathtype
-    past_pathtype k other = past k (is_not_zero pathtype) (short_entry kind.PATHTYPE pathtype) behind_pathtype other
-
-    past_width : (k : ℕ) → (kind.WIDTH == k) ≡ false → field k behind_pathtype ≡ field k behind_width
-    past_width k other = past k (is_not_zero width) (long_entry kind.WIDTH width) behind_width other
-
-    past_begin : (k : ℕ) → (kind.BGNEXTN == k) ≡ false → field k behind_width ≡ field k behind_begin
-    past_begin k other = past k (is_not_zero begin) (long_entry kind.BGNEXTN begin) behind_begin other
-
-    past_end : (k : ℕ) → (kind.ENDEXTN == k) ≡ false → field k behind_begin ≡ field k (points_entry points ∷ [])
-    past_end k other = past k (is_not_zero end) (long_entry kind.ENDEXTN end) (points_entry points ∷ []) other
-
-    path_xy : field kind.XY (shape_own layer datatype points (Path pathtype width begin end)) ≡ Some (flat_map point_bytes points)
-    path_xy = path_field kind.XY _ refl refl (past_pathtype kind.XY refl ∙ past_width kind.XY refl ∙ past_begin kind.XY refl ∙ past_end kind.XY refl)
-
-    has_pathtype : field kind.PATHTYPE (shape_own layer datatype points (Path pathtype width begin end)) ≡ then_some (is_not_zero pathtype) (short_entry kind.PATHTYPE pathtype).body
-    has_pathtype =
-        path_field kind.PATHTYPE _ refl refl
-        (found_where kind.PATHTYPE (is_not_zero pathtype) (short_entry kind.PATHTYPE pathtype) behind_pathtype refl
-        (past_width kind.PATHTYPE refl ∙ past_begin kind.PATHTYPE refl ∙ past_end kind.PATHTYPE refl))
-
-    has_width : field kind.WIDTH (shape_own layer datatype points (Path pathtype width begin end)) ≡ then_some (is_not_zero width) (long_bytes width)
-    has_width =
-        path_field kind.WIDTH _ refl refl
-        (past_pathtype kind.WIDTH refl ∙ found_where kind.WIDTH (is_not_zero width) (long_entry kind.WIDTH width) behind_width refl
-        (past_begin kind.WIDTH refl ∙ past_end kind.WIDTH refl))
-
-    has_begin : field kind.BGNEXTN (shape_own layer datatype points (Path pathtype width begin end)) ≡ then_some (is_not_zero begin) (long_bytes begin)
-    has_begin =
-        path_field kind.BGNEXTN _ refl refl
-        (past_pathtype kind.BGNEXTN refl ∙ past_width kind.BGNEXTN refl
-        ∙ found_where kind.BGNEXTN (is_not_zero begin) (long_entry kind.BGNEXTN begin) behind_begin refl (past_end kind.BGNEXTN refl))
-
-    has_end : field kind.ENDEXTN (shape_own layer datatype points (Path pathtype width begin end)) ≡ then_some (is_not_zero end) (long_bytes end)
-    has_end =
-        path_field kind.ENDEXTN _ refl refl
-        (past_pathtype kind.ENDEXTN refl ∙ past_width kind.ENDEXTN refl ∙ past_begin kind.ENDEXTN refl
-        ∙ found_where kind.ENDEXTN (is_not_zero end) (long_entry kind.ENDEXTN end) (points_entry points ∷ []) refl refl)
-
-    -- they are read as they were
-    path_reads : IsKind (Path pathtype width begin end) → Path pathtype width begin end ≡ path_kind (shape_own layer datatype points (Path pathtype width begin end))
-    path_reads fit =
-        let own : List Entry = shape_own layer datatype points (Path pathtype width begin end) in
-        let short : List ℕ → ℤ = λ body. cast_signed w16 (item 2 0 body) in
-        let long : List ℕ → ℤ = λ body. cast_signed w32 (item 4 0 body) in
-        let a : short_of kind.PATHTYPE own ≡ pathtype =
-        ap (λ (o : Option (List ℕ)). unwrap_or (option_map short o) (pos 0)) has_pathtype
-        ∙ number_reads_by short (short_entry kind.PATHTYPE pathtype).body pathtype (is_not_zero pathtype) refl (short_reads pathtype fit.0) in
-        let b : long_of kind.WIDTH own ≡ width =
-        ap (λ (o : Option (List ℕ)). unwrap_or (option_map long o) (pos 0)) has_width ∙ number_reads_by long (long_bytes width) width (is_not_zero width) refl (long_reads width fit.1) in
-        let c : long_of kind.BGNEXTN own ≡ begin =
-        ap (λ (o : Option (List ℕ)). unwrap_or (option_map long o) (pos 0)) has_begin ∙ number_reads_by long (long_bytes begin) begin (is_not_zero begin) refl (long_reads begin fit.2) in
-        let d : long_of kind.ENDEXTN own ≡ end =
-        ap (λ (o : Option (List ℕ)). unwrap_or (option_map long o) (pos 0)) has_end ∙ number_reads_by long (long_bytes end) end (is_not_zero end) refl (long_reads end fit.3) in
-        sym (λ i. Path (a i) (b i) (c i) (d i))
+  -- the numbers of a path are read as they were
+  path_reads : (pathtype width begin end : ℤ) → IsKind (Path pathtype width begin end)
+      → Path pathtype width begin end ≡ path_kind (shape_own layer datatype points (Path pathtype width begin end))
+  path_reads pathtype width begin end fit =
+      let own : List Entry = shape_own layer datatype points (Path pathtype width begin end) in
+      let has = λ (k : ℕ). shape_field k (Path pathtype width begin end) in
+      let a = short_back own kind.PATHTYPE pathtype fit.0 (has kind.PATHTYPE) in
+      let b = long_back own kind.WIDTH width fit.1 (has kind.WIDTH) in
+      let c = long_back own kind.BGNEXTN begin fit.2 (has kind.BGNEXTN) in
+      let d = long_back own kind.ENDEXTN end fit.3 (has kind.ENDEXTN) in
+      sym (λ i. Path (a i) (b i) (c i) (d i))
 
   -- ---- a shape's
 
   has_xy : (shape_kind : ShapeKind) → field kind.XY (shape_own layer datatype points shape_kind) ≡ Some (flat_map point_bytes points)
   has_xy Boundary = refl
   has_xy BoxElement = refl
-  has_xy (Path pathtype width begin end) = path_xy pathtype width begin end
+  has_xy (Path pathtype width begin end) = shape_field kind.XY (Path pathtype width begin end)
 
   points_are : (shape_kind : ShapeKind) → ArePoints points → points_of (shape_own layer datatype points shape_kind) ≡ points
   points_are shape_kind fit = ap (λ (o : Option (List ℕ)). points_in (unwrap_or o [])) (has_xy shape_kind) ∙ points_read points fit
@@ -141,7 +98,7 @@ module _ (layer datatype : ℕ) (points : List Point) where
   shape_holds (Path pathtype width begin end) fit some =
       let own : List Entry = shape_own layer datatype points (Path pathtype width begin end) in
       let same = sym (points_are (Path pathtype width begin end) fit) in
-      all_of {P = ElementHolds own} (more (has_found kind.LAYER own _ refl) (more (has_found kind.DATATYPE own _ refl) (more (has_found kind.XY own _ (path_xy pathtype width begin end))
+      all_of {P = ElementHolds own} (more (has_found kind.LAYER own _ refl) (more (has_found kind.DATATYPE own _ refl) (more (has_found kind.XY own _ (has_xy (Path pathtype width begin end)))
       (one (subst (λ (ps : List Point). 1 ≤ length ps) same some)))))
 
 -- a shape that begins at another offset

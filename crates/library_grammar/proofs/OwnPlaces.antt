@@ -1,13 +1,13 @@
 -- Among the own records of an element: the place there says which element it is, and which of its own records stand behind the one
 -- that opens it.
 use Rattle.std.proofs.Common.{ne_eqb, ◌≡◌, ℕ, Bool, true, false, not, ◌&&◌, ◌==◌, if◌then◌else◌, List, [], ◌∷◌, ◌++◌, length, All, Contains, Option, Some, None, option_map, option_and_then, refl, sym, ap, subst, ◌∙◌, arith, append_assoc, length-append}
-use Rattle.lists.proofs.Words.{append-nil, list_all, map-append, length-map, All-head, All-tail, All-contains, All-map, AllPass-from_list_all}
+use Rattle.lists.proofs.Words.{append-nil, list_all, map-append, length-map, All-head, All-tail, All-map}
 use Rattle.std.specs.Prelude.{is_none}
 use Rattle.std.proofs.lemmas.Bool.{true≢false}
 use Rattle.gds_records.specs.declared.kinds.TheConstants as kind
 use Rattle.library_grammar.specs.GrammarNames.{Entry, ElementForm, Opens, element_forms, own_kinds, Place, before_header, before_bgnlib, before_name, before_units, between_structures, before_strname, behind_strname, between_elements, among_own, behind_attribute, behind_property, behind_endlib, has_kind, form_of, into_element, out_of_element, next_place, place_behind, kinds_of, head_kinds}
 use Rattle.library_grammar.proofs.PlaceEndings.{found_form}
-use Rattle.library_grammar.proofs.PlaceRuns.{begins_element, begins_first, each_form, has_contained, own_step, place_behind-append}
+use Rattle.library_grammar.proofs.PlaceRuns.{begins_element, begins_first, each_form, form_test, has_contained, not_true, own_step, place_behind-append}
 use Rattle.library_grammar.proofs.PlainKinds.{own_is_plain}
 
 -- ---- ways in two parts
@@ -90,30 +90,17 @@ behind_of_form (k ∷ kinds) p q good h =
 nothing_more : (o : Option Place) (r : Place) (X : Type 0) → o ≡ None → o ≡ Some r → X
 nothing_more o r X none some = absurd (cc)
 
-not_true : (b : Bool) → not b ≡ true → b ≡ false
-not_true true h = absurd (cc)
-not_true false h = refl
-
 -- no element has the opening record of one as an own record
 opening_is_foreign : (form other : ElementForm) → Contains element_forms form → Contains element_forms other → has_kind (own_kinds form) other.opening ≡ false
 opening_is_foreign form other listed of_other =
-    let foreign : list_all (λ o. not (has_kind (own_kinds form) o.opening)) element_forms ≡ true =
-    All-contains (λ f. list_all (λ o. not (has_kind (own_kinds f) o.opening)) element_forms ≡ true) element_forms form
-    (AllPass-from_list_all (λ f. list_all (λ o. not (has_kind (own_kinds f) o.opening)) element_forms) element_forms refl) listed
-    in
-    not_true (has_kind (own_kinds form) other.opening)
-    (All-contains (λ o. not (has_kind (own_kinds form) o.opening) ≡ true) element_forms other
-    (AllPass-from_list_all (λ o. not (has_kind (own_kinds form) o.opening)) element_forms foreign) of_other)
+    not_true (has_kind (own_kinds form) other.opening) (form_test (λ o. not (has_kind (own_kinds form) o.opening))
+    (form_test (λ f. list_all (λ o. not (has_kind (own_kinds f) o.opening)) element_forms) refl form listed) other of_other)
 
 -- an opening record may not stand at a place that has no next one for any
 no_opening : (p q : Place) (form : ElementForm) → list_all (λ f. is_none (next_place p f.opening)) element_forms ≡ true → Contains element_forms form
     → next_place p form.opening ≡ Some q → q ≡ among_own form []
 no_opening p q form none listed h =
-    let is_none_here : is_none (next_place p form.opening) ≡ true =
-    All-contains (λ f. is_none (next_place p f.opening) ≡ true) element_forms form
-    (AllPass-from_list_all (λ f. is_none (next_place p f.opening)) element_forms none) listed
-    in
-    absurd (true≢false (sym is_none_here ∙ ap is_none h))
+    absurd (true≢false (sym (form_test (λ f. is_none (next_place p f.opening)) none form listed) ∙ ap is_none h))
 
 begins_own : (p q : Place) (form : ElementForm) → next_place p form.opening ≡ Some (among_own form []) → next_place p form.opening ≡ Some q → q ≡ among_own form []
 begins_own p q form leads h = let same : Some (among_own form []) ≡ Some q = sym leads ∙ h in cc

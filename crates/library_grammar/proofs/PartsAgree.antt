@@ -1,10 +1,10 @@
 -- Where each part of a library ends is told by its records, so that records have one way to be the parts of a library.
 use Rattle.std.proofs.Common.{◌≡◌, ◌≢◌, ◌⊎◌, inl, inr, ℕ, Bool, true, false, not, ◌==◌, List, [], ◌∷◌, ◌++◌, All, Contains, Option, Some, None, IfSome, refl, sym, ap, subst, ◌∙◌, arith, append_assoc, option_to_list}
-use Rattle.lists.proofs.Words.{flat_map, list_all, eqb-false, All-head, All-tail, All-contains, AllPass-from_list_all}
+use Rattle.lists.proofs.Words.{flat_map, list_all, eqb-false, All-head, All-tail}
 use Rattle.std.proofs.lemmas.Bool.{true≢false}
 use Rattle.gds_records.specs.declared.kinds.TheConstants as kind
 use Rattle.library_grammar.specs.GrammarNames.{Entry, ElementForm, Opens, element_forms, own_kinds, head_kinds, IsOfKind, Property, property_records, IsProperty, ElementParts, element_records, IsElement, StructureParts, structure_records, IsStructure, LibraryParts, library_records, IsInGrammar, has_kind, form_of}
-use Rattle.library_grammar.proofs.PlaceRuns.{each_form, has_contained}
+use Rattle.library_grammar.proofs.PlaceRuns.{each_form, form_test, has_contained, not_true}
 
 -- ---- parts one after the other, up to a record that begins none
 
@@ -52,15 +52,11 @@ lacked kinds k x lacks has same = true≢false (sym (has_contained kinds x has) 
 
 -- ---- properties
 
-abbrev property_with : Entry × Entry → Property
-property_with a = record { attribute = a.0; text = a.1 }
-
 property_agrees : (a b : Property) (rest also : List Entry) → IsProperty a → IsProperty b → property_records a ++ rest ≡ property_records b ++ also → (a ≡ b) × (rest ≡ also)
 property_agrees a b rest also is is' same =
     let attributes : a.attribute ≡ b.attribute = cc (same) in
     let texts : a.text ≡ b.text = cc (same) in
-    let both : (a.attribute, a.text) ≡ (b.attribute, b.text) = cc (attributes, texts) in
-    (ap property_with both, cc (same))
+    (λ i. record { attribute = attributes i; text = texts i }, cc (same))
 
 property_is_no_end : (a : Property) (rest also : List Entry) (last : Entry) → IsProperty a → IsOfKind kind.ENDEL last → property_records a ++ rest ≡ last ∷ also → ⊥
 property_is_no_end a rest also last is is_last same = other_kind kind.PROPATTR kind.ENDEL a.attribute last (omega arith) is.attribute is_last (cc (same))
@@ -89,17 +85,6 @@ closing_begins (x ∷ properties) last rest are is =
     }
 
 -- ---- elements
-
-abbrev element_with : ElementForm × Entry × List Entry × List Property × Entry → ElementParts
-element_with a = record { form = a.0; opening = a.1; own = a.2; properties = a.3; last = a.4 }
-
--- what is tested of each form
-pub form_test : (test : ElementForm → Bool) → list_all test element_forms ≡ true → (form : ElementForm) → Contains element_forms form → test form ≡ true
-form_test test all form listed = All-contains (λ f. test f ≡ true) element_forms form (AllPass-from_list_all test element_forms all) listed
-
-pub not_true : (b : Bool) → not b ≡ true → b ≡ false
-not_true true h = absurd (cc)
-not_true false h = refl
 
 -- a form is found by its opening record
 pub form_is_found : (form : ElementForm) → Contains element_forms form → form_of form.opening ≡ Some form
@@ -157,8 +142,7 @@ element_agrees a b rest also is is' same =
     parts_agree IsProperty property_records (IsOfKind kind.ENDEL) property_agrees property_is_no_end a.properties b.properties a.last b.last rest also
     is.properties is'.properties is.ends is'.ends closings
     in
-    let parts : (a.form, a.opening, a.own, a.properties, a.last) ≡ (b.form, b.opening, b.own, b.properties, b.last) = cc (forms, openings, owns.0, rests.0, rests.1) in
-    (ap element_with parts, rests.2)
+    (λ i. record { form = forms i; opening = openings i; own = owns.0 i; properties = rests.0 i; last = rests.1 i }, rests.2)
 
 -- no element begins with such a record
 element_begins_not : (k : ℕ) → list_all (λ f. not (f.opening == k)) element_forms ≡ true → (a : ElementParts) (rest also : List Entry) (last : Entry) → IsElement a → IsOfKind k last
@@ -167,9 +151,6 @@ element_begins_not k none a rest also last is is_last same =
     other_kind a.form.opening k a.opening last (eqb-false a.form.opening k (not_true _ (form_test (λ f. not (f.opening == k)) none a.form is.opens.listed))) is.opens.opening is_last (cc (same))
 
 -- ---- structures
-
-abbrev structure_with : Entry × Entry × Option Entry × List ElementParts × Entry → StructureParts
-structure_with a = record { opening = a.0; name = a.1; class = a.2; elements = a.3; last = a.4 }
 
 -- elements, up to the end of their structure
 elements_agree : (elements others : List ElementParts) (last end : Entry) (rest also : List Entry) → All IsElement elements → All IsElement others → IsOfKind kind.ENDSTR last
@@ -212,17 +193,12 @@ structure_agrees s t rest also is is' same =
     let behind_them : elements ≡ elements' = cc (all) in
     let classes = classes_agree s.class t.class s.elements t.elements s.last t.last rest also is.class is'.class is.elements is'.elements is.ends is'.ends behind_them in
     let rests = elements_agree s.elements t.elements s.last t.last rest also is.elements is'.elements is.ends is'.ends classes.1 in
-    let parts : (s.opening, s.name, s.class, s.elements, s.last) ≡ (t.opening, t.name, t.class, t.elements, t.last) = cc (openings, names, classes.0, rests.0, rests.1) in
-    (ap structure_with parts, rests.2)
+    (λ i. record { opening = openings i; name = names i; class = classes.0 i; elements = rests.0 i; last = rests.1 i }, rests.2)
 
 structure_is_no_end : (s : StructureParts) (rest also : List Entry) (last : Entry) → IsStructure s → IsOfKind kind.ENDLIB last → structure_records s ++ rest ≡ last ∷ also → ⊥
 structure_is_no_end s rest also last is is_last same = other_kind kind.BGNSTR kind.ENDLIB s.opening last (omega arith) is.opens is_last (cc (same))
 
 -- ---- the library
-
-abbrev library_with : Entry × Entry × List Entry × Entry × List Entry × Entry × List StructureParts × Entry → LibraryParts
-library_with a =
-    record { version = a.0; opening = a.1; before_name = a.2; name = a.3; before_units = a.4; units = a.5; structures = a.6; last = a.7 }
 
 -- a library as one list that is nested to the right
 library_whole : (l : LibraryParts) → library_records l
@@ -254,8 +230,13 @@ libraries_agree l m is is' same =
     parts_agree IsStructure structure_records (IsOfKind kind.ENDLIB) structure_agrees structure_is_no_end l.structures m.structures l.last m.last [] []
     is.structures is'.structures is.ends is'.ends units.2
     in
-    let parts : (l.version, l.opening, l.before_name, l.name, l.before_units, l.units, l.structures, l.last)
-    ≡ (m.version, m.opening, m.before_name, m.name, m.before_units, m.units, m.structures, m.last) =
-    cc (versions, openings, names.0, names.1, units.0, units.1, structures.0, structures.1)
-    in
-    ap library_with parts
+    λ i. record {
+      version = versions i;
+      opening = openings i;
+      before_name = names.0 i;
+      name = names.1 i;
+      before_units = units.0 i;
+      units = units.1 i;
+      structures = structures.0 i;
+      last = structures.1 i;
+    }

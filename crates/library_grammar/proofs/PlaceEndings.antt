@@ -14,31 +14,25 @@ record Begins (k : ℕ) (Ends : List Entry → Type 0) (entries : List Entry) : 
   ends : Ends after
   parts : entries ≡ first ∷ after
 
--- records of the head, a record of this kind, and what leads to the end behind it
-record EndsHead (k : ℕ) (Ends : List Entry → Type 0) (entries : List Entry) : Type 0 where
-  head : List Entry
-  are_head : All (λ e. Contains head_kinds e.kind) head
+-- parts one after the other, and what leads to the end behind them
+record Many {A : Type 0} (Is : A → Type 0) (records : A → List Entry) (Ends : List Entry → Type 0) (entries : List Entry) : Type 0 where
+  items : List A
+  are : All Is items
   after : List Entry
-  ends : Begins k Ends after
-  parts : entries ≡ head ++ after
+  ends : Ends after
+  parts : entries ≡ flat_map records items ++ after
+
+-- records of the head, a record of this kind, and what leads to the end behind it
+abbrev EndsHead : ℕ → (List Entry → Type 0) → List Entry → Type 0
+EndsHead k Ends = Many (λ e. Contains head_kinds e.kind) (λ e. e ∷ []) (Begins k Ends)
 
 -- structures, and ENDLIB
-record EndsLibrary (entries : List Entry) : Type 0 where
-  structures : List StructureParts
-  are_structures : All IsStructure structures
-  last : Entry
-  is_last : IsOfKind kind.ENDLIB last
-  parts : entries ≡ flat_map structure_records structures ++ last ∷ []
+abbrev EndsLibrary : List Entry → Type 0
+EndsLibrary = Many IsStructure structure_records (Begins kind.ENDLIB (λ after. after ≡ []))
 
 -- elements, ENDSTR, and so on
-record EndsStructure (entries : List Entry) : Type 0 where
-  elements : List ElementParts
-  are_elements : All IsElement elements
-  last : Entry
-  is_last : IsOfKind kind.ENDSTR last
-  after : List Entry
-  ends : EndsLibrary after
-  parts : entries ≡ flat_map element_records elements ++ last ∷ after
+abbrev EndsStructure : List Entry → Type 0
+EndsStructure = Many IsElement element_records (Begins kind.ENDSTR EndsLibrary)
 
 -- a class or none, elements, ENDSTR, and so on
 record EndsNamed (entries : List Entry) : Type 0 where
@@ -49,14 +43,8 @@ record EndsNamed (entries : List Entry) : Type 0 where
   parts : entries ≡ option_to_list class ++ after
 
 -- properties, ENDEL, and so on
-record EndsProperties (entries : List Entry) : Type 0 where
-  properties : List Property
-  are_properties : All IsProperty properties
-  last : Entry
-  is_last : IsOfKind kind.ENDEL last
-  after : List Entry
-  ends : EndsStructure after
-  parts : entries ≡ flat_map property_records properties ++ last ∷ after
+abbrev EndsProperties : List Entry → Type 0
+EndsProperties = Many IsProperty property_records (Begins kind.ENDEL EndsStructure)
 
 -- more records of an element's own, each once and of no kind that the element has, properties, ENDEL, and so on
 record EndsElement (form : ElementForm) (own : List ℕ) (entries : List Entry) : Type 0 where
@@ -142,30 +130,30 @@ only n e p q after h ends =
 begins : {Rest : List Entry → Type 0} (n : ℕ) (e : Entry) (after : List Entry) → IsOfKind n e × Rest after → Begins n Rest (e ∷ after)
 begins n e after h = record { first = e; is_first = h.0; after = after; ends = h.1; parts = refl }
 
+-- no part more, or one more
+module _ {A : Type 0} (Is : A → Type 0) (records : A → List Entry) (Rest : List Entry → Type 0) where
+  no_more : (entries : List Entry) → Rest entries → Many Is records Rest entries
+  no_more entries ends = record { items = []; are = All-nil Is; after = entries; ends = ends; parts = refl }
+
+  one_more : (a : A) (entries after : List Entry) → Is a → entries ≡ records a ++ after → Many Is records Rest after → Many Is records Rest entries
+  one_more a entries after is same rest =
+      record {
+        items = a ∷ rest.items;
+        are = All-cons Is a rest.items is rest.are;
+        after = rest.after;
+        ends = rest.ends;
+        parts = same ∙ ap (λ (es : List Entry). records a ++ es) rest.parts ∙ sym (append_assoc (records a) (flat_map records rest.items) rest.after);
+      }
+
 -- in the head
 head_back : (Rest : List Entry → Type 0) (n : ℕ) (e : Entry) (here there q : Place) (after : List Entry) → (Ends here after → EndsHead n Rest after) → (Ends there after → Rest after)
     → (if e.kind == n then Some there else if has_kind head_kinds e.kind then Some here else None) ≡ Some q → Ends q after → EndsHead n Rest (e ∷ after)
 head_back Rest n e here there q after stays leaves h ends =
     elim (decided (e.kind == n) (Some there) (if has_kind head_kinds e.kind then Some here else None) (Some q) h) [
-      | inl (test, some) ↦
-          record {
-            head = [];
-            are_head = All-nil (λ o. Contains head_kinds o.kind);
-            after = e ∷ after;
-            ends = begins n e after (eqb-true e.kind n test, leaves (arrives there q after some ends));
-            parts = refl;
-          }
+      | inl (test, some) ↦ no_more _ _ _ (e ∷ after) (begins n e after (eqb-true e.kind n test, leaves (arrives there q after some ends)))
       | inr (test, other) ↦
           elim (decided (has_kind head_kinds e.kind) (Some here) None (Some q) other) [
-            | inl (is_head, some) ↦
-                let rest = stays (arrives here q after some ends) in
-                record {
-                  head = e ∷ rest.head;
-                  are_head = All-cons (λ o. Contains head_kinds o.kind) e rest.head (contains_kind head_kinds e.kind is_head) rest.are_head;
-                  after = rest.after;
-                  ends = rest.ends;
-                  parts = ap (λ (x : List Entry). e ∷ x) rest.parts;
-                }
+            | inl (is_head, some) ↦ one_more _ _ _ e (e ∷ after) after (contains_kind head_kinds e.kind is_head) refl (stays (arrives here q after some ends))
             | inr (no_head, none) ↦ absurd (cc)
           ]
     ]
@@ -176,20 +164,9 @@ out_back e q after h ends =
     elim (decided (e.kind == kind.PROPATTR) (Some behind_attribute) (if e.kind == kind.ENDEL then Some between_elements else None) (Some q) h) [
       | inl (test, some) ↦
           let text : Begins kind.PROPVALUE EndsProperties after = arrives behind_attribute q after some ends in
-          let rest : EndsProperties text.after = text.ends in
-          let one : Property = record { attribute = e; text = text.first } in
-          record {
-            properties = one ∷ rest.properties;
-            are_properties = All-cons IsProperty one rest.properties (record { attribute = eqb-true e.kind kind.PROPATTR test; text = text.is_first }) rest.are_properties;
-            last = rest.last;
-            is_last = rest.is_last;
-            after = rest.after;
-            ends = rest.ends;
-            parts = cc (text.parts, rest.parts);
-          }
-      | inr (test, other) ↦
-          let last = only kind.ENDEL e between_elements q after other ends in
-          record { properties = []; are_properties = All-nil IsProperty; last = e; is_last = last.0; after = after; ends = last.1; parts = refl }
+          one_more _ _ _ (record { attribute = e; text = text.first }) (e ∷ after) text.after (record { attribute = eqb-true e.kind kind.PROPATTR test; text = text.is_first })
+          (ap (λ (es : List Entry). e ∷ es) text.parts) text.ends
+      | inr (test, other) ↦ no_more _ _ _ (e ∷ after) (begins kind.ENDEL e after (only kind.ENDEL e between_elements q after other ends))
     ]
 
 -- among an element's own records
@@ -231,37 +208,18 @@ own_back form own e q after h ends =
 element_back : (e : Entry) (form : ElementForm) (after : List Entry) → Contains element_forms form × (e.kind ≡ form.opening) → EndsElement form [] after → EndsStructure (e ∷ after)
 element_back e form after opens x =
     let closing : EndsProperties x.after = x.ends in
-    let others : EndsStructure closing.after = closing.ends in
-    let element : ElementParts = record { form = form; opening = e; own = x.more; properties = closing.properties; last = closing.last } in
+    let last : Begins kind.ENDEL EndsStructure closing.after = closing.ends in
+    let element : ElementParts = record { form = form; opening = e; own = x.more; properties = closing.items; last = last.first } in
     let is : IsElement element =
-    record { opens = record { listed = opens.0; opening = opens.1 }; are_own = x.are_own; once = x.once; properties = closing.are_properties; ends = closing.is_last }
+    record { opens = record { listed = opens.0; opening = opens.1 }; are_own = x.are_own; once = x.once; properties = closing.are; ends = last.is_first }
     in
-    let same : e ∷ after ≡ e ∷ (x.more ++ (flat_map property_records closing.properties ++ closing.last ∷ (flat_map element_records others.elements ++ others.last ∷ others.after))) =
-    cc (x.parts, closing.parts, others.parts)
-    in
-    record {
-      elements = element ∷ others.elements;
-      are_elements = All-cons IsElement element others.elements is others.are_elements;
-      last = others.last;
-      is_last = others.is_last;
-      after = others.after;
-      ends = others.ends;
-      parts = simp append_assoc same;
-    }
+    let same : e ∷ after ≡ e ∷ (x.more ++ (flat_map property_records closing.items ++ last.first ∷ last.after)) = cc (x.parts, closing.parts, last.parts) in
+    one_more _ _ _ element (e ∷ after) last.after is (simp append_assoc same) last.ends
 
 into_back : (e : Entry) (q : Place) (after : List Entry) → into_element e.kind ≡ Some q → Ends q after → EndsStructure (e ∷ after)
 into_back e q after h ends =
     elim (decided (e.kind == kind.ENDSTR) (Some between_structures) (option_map (λ form. among_own form []) (form_of e.kind)) (Some q) h) [
-      | inl (test, some) ↦
-          record {
-            elements = [];
-            are_elements = All-nil IsElement;
-            last = e;
-            is_last = eqb-true e.kind kind.ENDSTR test;
-            after = after;
-            ends = arrives between_structures q after some ends;
-            parts = refl;
-          }
+      | inl (test, some) ↦ no_more _ _ _ (e ∷ after) (begins kind.ENDSTR e after (eqb-true e.kind kind.ENDSTR test, arrives between_structures q after some ends))
       | inr (test, other) ↦ go (form_of e.kind) refl other
     ]
   where
@@ -274,27 +232,19 @@ structure_back : (e : Entry) (after : List Entry) → IsOfKind kind.BGNSTR e →
 structure_back e after opens x =
     let named : EndsNamed x.after = x.ends in
     let rest : EndsStructure named.after = named.ends in
-    let others : EndsLibrary rest.after = rest.ends in
-    let structure : StructureParts = record { opening = e; name = x.first; class = named.class; elements = rest.elements; last = rest.last } in
-    let is : IsStructure structure = record { opens = opens; names = x.is_first; class = named.is_class; elements = rest.are_elements; ends = rest.is_last } in
-    let same : e ∷ after ≡ e ∷ x.first ∷ (option_to_list named.class ++ (flat_map element_records rest.elements ++ rest.last ∷ (flat_map structure_records others.structures ++ others.last ∷ []))) =
-    cc (x.parts, named.parts, rest.parts, others.parts)
+    let last : Begins kind.ENDSTR EndsLibrary rest.after = rest.ends in
+    let structure : StructureParts = record { opening = e; name = x.first; class = named.class; elements = rest.items; last = last.first } in
+    let is : IsStructure structure = record { opens = opens; names = x.is_first; class = named.is_class; elements = rest.are; ends = last.is_first } in
+    let same : e ∷ after ≡ e ∷ x.first ∷ (option_to_list named.class ++ (flat_map element_records rest.items ++ last.first ∷ last.after)) =
+    cc (x.parts, named.parts, rest.parts, last.parts)
     in
-    record {
-      structures = structure ∷ others.structures;
-      are_structures = All-cons IsStructure structure others.structures is others.are_structures;
-      last = others.last;
-      is_last = others.is_last;
-      parts = simp append_assoc same;
-    }
+    one_more _ _ _ structure (e ∷ after) last.after is (simp append_assoc same) last.ends
 
 library_back : (e : Entry) (q : Place) (after : List Entry) → next_place between_structures e.kind ≡ Some q → Ends q after → EndsLibrary (e ∷ after)
 library_back e q after h ends =
     elim (decided (e.kind == kind.BGNSTR) (Some before_strname) (if e.kind == kind.ENDLIB then Some behind_endlib else None) (Some q) h) [
       | inl (test, some) ↦ structure_back e after (eqb-true e.kind kind.BGNSTR test) (arrives before_strname q after some ends)
-      | inr (test, other) ↦
-          let last = only kind.ENDLIB e behind_endlib q after other ends in
-          record { structures = []; are_structures = All-nil IsStructure; last = e; is_last = last.0; parts = ap (λ (es : List Entry). e ∷ es) last.1 }
+      | inr (test, other) ↦ no_more _ _ _ (e ∷ after) (begins kind.ENDLIB e after (only kind.ENDLIB e behind_endlib q after other ends))
     ]
 
 named_back : (e : Entry) (q : Place) (after : List Entry) → next_place behind_strname e.kind ≡ Some q → Ends q after → EndsNamed (e ∷ after)
@@ -330,39 +280,45 @@ ends_of (e ∷ entries) p h = go (next_place p e.kind) refl h (ends_of entries)
     go None is_none h further = absurd (cc)
     go (Some next) is_next h further = back p next e entries is_next (further next h)
 
+-- a list item by item
+one_each : (entries : List Entry) → flat_map (λ e. e ∷ []) entries ≡ entries
+one_each [] = refl
+one_each (e ∷ entries) = ap (λ (es : List Entry). e ∷ es) (one_each entries)
+
 -- records that lead to the end are in shape
 pub in_shape_of_end : (entries : List Entry) → place_behind before_header (kinds_of entries) ≡ Some behind_endlib → IsInShape entries
 in_shape_of_end entries h =
     let version = ends_of entries before_header h in
     let opening = version.ends in
     let to_name = opening.ends in
-    let name = to_name.ends in
+    let name : Begins kind.LIBNAME (EndsHead kind.UNITS EndsLibrary) to_name.after = to_name.ends in
     let to_units = name.ends in
-    let units = to_units.ends in
+    let units : Begins kind.UNITS EndsLibrary to_units.after = to_units.ends in
     let rest : EndsLibrary units.after = units.ends in
-    let same : entries ≡ version.first ∷ opening.first ∷ (to_name.head ++ name.first ∷ (to_units.head ++ units.first ∷ (flat_map structure_records rest.structures ++ rest.last ∷ []))) =
-    cc (version.parts, opening.parts, to_name.parts, name.parts, to_units.parts, units.parts, rest.parts)
+    let last : Begins kind.ENDLIB (λ after. after ≡ []) rest.after = rest.ends in
+    let same : entries ≡ version.first ∷ opening.first ∷ (to_name.items ++ name.first ∷ (to_units.items ++ units.first ∷ (flat_map structure_records rest.items ++ last.first ∷ []))) =
+    cc (version.parts, opening.parts, to_name.parts, name.parts, to_units.parts, units.parts, rest.parts, last.parts, last.ends, one_each to_name.items, one_each to_units.items)
     in
     record {
       library = record {
         version = version.first;
         opening = opening.first;
-        before_name = to_name.head;
+        before_name = to_name.items;
         name = name.first;
-        before_units = to_units.head;
+        before_units = to_units.items;
         units = units.first;
-        structures = rest.structures;
-        last = rest.last;
+        structures = rest.items;
+        last = last.first;
       };
       in_grammar = record {
         version = version.is_first;
         opens = opening.is_first;
-        before_name = to_name.are_head;
+        before_name = to_name.are;
         names = name.is_first;
-        before_units = to_units.are_head;
+        before_units = to_units.are;
         units = units.is_first;
-        structures = rest.are_structures;
-        ends = rest.is_last;
+        structures = rest.are;
+        ends = last.is_first;
       };
       are_its = simp append_assoc same;
     }

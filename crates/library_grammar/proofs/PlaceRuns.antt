@@ -1,6 +1,6 @@
 -- Records in the grammar lead on: each part of a library leads from one place to the next.
-use Rattle.std.proofs.Common.{eq-eqb, ne_eqb, ◌≡◌, ◌≢◌, ℕ, suc, true, false, List, [], ◌∷◌, ◌++◌, get_or, All, AllPairs, Contains, Option, Some, None, option_and_then, IfSome, refl, ap, ◌∙◌, arith, append_assoc, ◌==◌, option_to_list}
-use Rattle.lists.proofs.Words.{append-nil, flat_map, map-append, All-head, All-tail, All-contains, All-from_recursion, All-map, list_any-append}
+use Rattle.std.proofs.Common.{eq-eqb, ne_eqb, ◌≡◌, ◌≢◌, ℕ, suc, Bool, true, false, not, List, [], ◌∷◌, ◌++◌, get_or, All, AllPairs, Contains, Option, Some, None, option_and_then, IfSome, refl, ap, ◌∙◌, arith, append_assoc, ◌==◌, option_to_list}
+use Rattle.lists.proofs.Words.{append-nil, list_all, AllPass-from_list_all, flat_map, map-append, All-head, All-tail, All-contains, All-from_recursion, All-map, list_any-append}
 use Rattle.std.proofs.lemmas.List.Folds.{list_any_at}
 use Rattle.gds_records.specs.declared.kinds.TheConstants as kind
 use Rattle.library_grammar.specs.GrammarNames.{Entry, ElementForm, boundary_form, path_form, sref_form, aref_form, text_form, node_form, box_form, element_forms, own_kinds, kinds_of, head_kinds, IsOfKind, Property, property_records, IsProperty, ElementParts, element_records, IsElement, StructureParts, structure_records, IsStructure, IsInShape, Place, before_header, before_bgnlib, before_name, before_units, between_structures, before_strname, behind_strname, between_elements, among_own, behind_attribute, behind_property, behind_endlib, has_kind, next_place, place_behind}
@@ -63,6 +63,14 @@ pub each_form : (P : ElementForm → Type 0) → P boundary_form → P path_form
     → (form : ElementForm) → Contains element_forms form → P form
 each_form P boundary path sref aref text node box form listed =
     All-contains P element_forms form (All-from_recursion P element_forms (boundary, (path, (sref, (aref, (text, (node, (box, tt)))))))) listed
+
+-- and what is tested of each
+pub form_test : (test : ElementForm → Bool) → list_all test element_forms ≡ true → (form : ElementForm) → Contains element_forms form → test form ≡ true
+form_test test all form listed = All-contains (λ f. test f ≡ true) element_forms form (AllPass-from_list_all test element_forms all) listed
+
+pub not_true : (b : Bool) → not b ≡ true → b ≡ false
+not_true true h = absurd (cc)
+not_true false h = refl
 
 pub begins_element : (form : ElementForm) → Contains element_forms form → next_place between_elements form.opening ≡ Some (among_own form [])
 begins_element = each_form (λ form. next_place between_elements form.opening ≡ Some (among_own form [])) refl refl refl refl refl refl refl

@@ -3,7 +3,7 @@ use Rattle.std.proofs.Common.{◌≡◌, ◌≢◌, ℕ, Bool, true, false, List
 use Rattle.lists.proofs.Words.{list_all, All-contains, AllPass-from_list_all}
 use Rattle.std.proofs.lemmas.Bool.{true≢false}
 use Rattle.gds_records.specs.declared.kinds.TheConstants as kind
-use Rattle.library_grammar.proofs.PlaceRuns.{each_form}
+use Rattle.library_grammar.proofs.PlaceRuns.{form_test}
 use Rattle.library_grammar.specs.GrammarNames.{ElementForm, element_forms, own_kinds, IsPlain, head_kinds}
 
 -- the test of it
@@ -31,12 +31,8 @@ head_is_plain k has = plain_in head_kinds k refl has
 
 -- an own record of an element is plain
 pub own_is_plain : (form : ElementForm) → Contains element_forms form → (k : ℕ) → Contains (own_kinds form) k → IsPlain k
-own_is_plain form listed k has =
-    plain_in (own_kinds form) k
-    (All-contains (λ f. list_all plain_test (own_kinds f) ≡ true) element_forms form
-    (AllPass-from_list_all (λ f. list_all plain_test (own_kinds f)) element_forms refl) listed)
-    has
+own_is_plain form listed k has = plain_in (own_kinds form) k (form_test (λ f. list_all plain_test (own_kinds f)) refl form listed) has
 
 -- so is one that opens an element
 pub opening_is_plain : (form : ElementForm) → Contains element_forms form → IsPlain form.opening
-opening_is_plain = each_form (λ form. IsPlain form.opening) (plain _ refl) (plain _ refl) (plain _ refl) (plain _ refl) (plain _ refl) (plain _ refl) (plain _ refl)
+opening_is_plain form listed = plain form.opening (form_test (λ f. plain_test f.opening) refl form listed)

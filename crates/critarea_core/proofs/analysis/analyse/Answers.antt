@@ -6,7 +6,7 @@ use Rattle.map_model.specs.MapNames.{layer_map_of}
 use Rattle.critarea_core.specs.declared.layout_fault.LayoutFault.TheVariants.{Syntax}
 use Rattle.critarea_core.specs.inside.Finding.{HasRows}
 use Rattle.critarea_core.specs.Layout.{LibraryComesTo, ShortLayoutComesTo, TerminalsComeTo}
-use Rattle.critarea_core.proofs.AnalysisLaws.{analysed, found_few}
+use Rattle.critarea_core.proofs.AnalysisLaws.{analysed, comes_to_fault, comes_to_value, found_few}
 use Rattle.critarea_core.proofs.ReadingLaws.{behind, not_read, restaged}
 use Rattle.critarea_core.proofs.analysis.analyse.Goals as goal
 
@@ -17,7 +17,7 @@ returns-in_err-library-clause-rows g c =
     let bytes = c.args.layout.now in
     analysed layer_map wanted bytes c.from_residual.result
     (not_read _ (λ fault. fault) (ShortLayoutComesTo layer_map wanted bytes) HasRows syntax.Memory (λ fault. Syntax fault) c.in_err-library.field-0.0
-    c.from_residual.result c.from_residual.ensures.1 (λ known. stops (stops (retold (c.in_err-library.ensures.faulty known)))))
+    c.from_residual.result c.from_residual.ensures.1 (λ known. stops (stops (retold (comes_to_fault c.in_err-library.ensures.answers known)))))
 
 pub returns-clause-rows : goal.returns-clause-rows
 returns-clause-rows g c =
@@ -27,7 +27,7 @@ returns-clause-rows g c =
     let library = c.in_ok-library.library in
     analysed layer_map wanted bytes c.rows_of_library.result
     (restaged _ _ (Then (LibraryComesTo layer_map wanted library) TerminalsComeTo) HasRows (ShortLayoutComesTo layer_map wanted bytes)
-    (behind (Retold (λ fault. Syntax fault) (BytesComeTo bytes)) (LibraryComesTo layer_map wanted) TerminalsComeTo library (kept c.in_ok-library.ensures.library))
+    (behind (Retold (λ fault. Syntax fault) (BytesComeTo bytes)) (LibraryComesTo layer_map wanted) TerminalsComeTo library (kept (comes_to_value c.in_ok-library.ensures.answers)))
     c.rows_of_library.result c.rows_of_library.ensures)
 
 pub returns-clause-few : goal.returns-clause-few

@@ -4,20 +4,22 @@ use Rattle.gds_syntax.specs.inside.ElementKinds.{form_for}
 use Rattle.library_grammar.specs.GrammarNames.{among_own}
 use Rattle.gds_syntax.specs.LibraryReaders.{standing}
 use Rattle.gds_syntax.proofs.OwnReading.{own_begins, own_is_ready, own_further, own_goes_on, foreign_stops, repeated_stops}
-use Rattle.first_refusal.proofs.AnswerLaws.{error_handed_on}
-use Rattle.gds_syntax.proofs.ReaderLaws.{no_memory_left, stops_later, one_less_left}
+use Rattle.first_refusal.proofs.AnswerLaws.{handed_on, out_of_memory}
+use Rattle.first_refusal.specs.Answers.{gives, refuses}
+use Rattle.library_grammar.specs.declared.fault.SyntaxFault.TheVariants.{Memory}
+use Rattle.gds_syntax.proofs.ReaderLaws.{stops_later, one_less_left}
 use Rattle.gds_syntax.proofs.elements.read_own.Goals as goal
 use Rattle.gds_syntax.proofs.elements.read_own.Goals.{then-loop-own-test+else-not-has, else-loop-own-test}
 
-pub returns-in_err-found-clause-faulty : goal.returns-in_err-found-clause-faulty
-returns-in_err-found-clause-faulty c =
-    error_handed_on c.from_residual.result c.in_err-found.field-0.0 _ c.from_residual.ensures.1 (λ _ names. c.in_err-found.ensures.faulty (standing (among_own (form_for c.args.kind) []) names))
+pub returns-in_err-found : goal.returns-in_err-found
+returns-in_err-found c =
+    handed_on Memory _ c.from_residual.result _ c.from_residual.ensures.1 (refuses (λ names. c.in_err-found.ensures.faulty (standing (among_own (form_for c.args.kind) []) names)))
 
-pub returns-in_err-found-2-clause-faulty : goal.returns-in_err-found-2-clause-faulty
-returns-in_err-found-2-clause-faulty c =
-    error_handed_on c.from_residual-in_err-found-2.result c.in_err-found-2.field-0.0 _ c.from_residual-in_err-found-2.ensures.1 (λ _ names. stops_later
+pub returns-in_err-found-2 : goal.returns-in_err-found-2
+returns-in_err-found-2 c =
+    handed_on Memory _ c.from_residual-in_err-found-2.result _ c.from_residual-in_err-found-2.ensures.1 (refuses (λ names. stops_later
     (own_further c.args.kind (c.owns.ensures.0 c.loop-own-test.true) (iff_false c.has.ensures c.if-not-has.true) c.loop-own.invariant names)
-    (c.in_err-found-2.ensures.faulty _))
+    (c.in_err-found-2.ensures.faulty _)))
 
 pub loop-own-init : goal.loop-own-init
 loop-own-init c = rw c.requires.none (own_begins (form_for c.args.kind) c.in_ok-found.ensures.found)
@@ -37,17 +39,17 @@ loop-own-preserved c =
     (c.owns.ensures.0 c.loop-own-test.true) (iff_false c.has.ensures c.if-not-has.true) c.loop-own.invariant c.in_ok-found-2.ensures.found in
     rw c.in_ok-push.ensures all
 
-pub returns-then-found-ne-ENDEL-clause-faulty : goal.returns-then-found-ne-ENDEL-clause-faulty
-returns-then-found-ne-ENDEL-clause-faulty c = λ _ names. rw c.unexpected.ensures
-    (elim c.loop-own-test.branch [
+pub returns-then-found-ne-ENDEL : goal.returns-then-found-ne-ENDEL
+returns-then-found-ne-ENDEL c = rw c.unexpected.ensures (refuses (λ names.
+    elim c.loop-own-test.branch [
       | then-loop-own-test+else-not-has w ↦
           repeated_stops (c.owns.ensures.0 w.loop-own-test.true) (w.has.ensures.0 w.if-not-has.false) c.if-found-ne-PROPATTR.true c.if-found-ne-ENDEL.true c.loop-own.invariant names
       | else-loop-own-test w ↦
           foreign_stops (iff_false c.owns.ensures w.loop-own-test.false) c.if-found-ne-PROPATTR.true c.if-found-ne-ENDEL.true c.loop-own.invariant names
-    ])
+    ]))
 
-pub returns-in_err-push-clause-faulty : goal.returns-in_err-push-clause-faulty
-returns-in_err-push-clause-faulty c = no_memory_left c.from_residual-in_err-push.result _ c.from_residual-in_err-push.ensures.1
+pub returns-in_err-push : goal.returns-in_err-push
+returns-in_err-push c = out_of_memory Memory _ c.from_residual-in_err-push.result c.from_residual-in_err-push.ensures.1
 
-pub returns-clause-own : goal.returns-clause-own
-returns-clause-own c = record { so_far = c.loop-own.invariant; ends = elim c.else-found-ne-PROPATTR.either [ inl w ↦ inr w.1 | inr is ↦ inl is ] }
+pub returns : goal.returns
+returns c = gives (record { so_far = c.loop-own.invariant; ends = elim c.else-found-ne-PROPATTR.either [ inl w ↦ inr w.1 | inr is ↦ inl is ] })

@@ -3,4 +3,4 @@ use Rattle.syntax_rows.proofs.streams.read.Goals as goal
 
 pub returns-clause-well_formed : goal.returns-clause-well_formed
 returns-clause-well_formed c =
-    read_is_well_formed c.args.bytes.now _ c.read_library.ensures.library
+    read_is_well_formed c.args.bytes.now _ c.read_library.ensures.answers
