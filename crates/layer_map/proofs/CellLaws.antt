@@ -43,7 +43,8 @@ module _ (d : Data) where
       pub too_high : le_z (pos 1000000000) (to_z w32 (of_z w32 y)) ≡ true → Finds (IsWritten integer IsCellNumber d) None
       too_high high = lacks (λ n is. not_so_high y fits32 high (subst IsCellNumber (number_is n is ∙ sym same) is.is))
 
-      pub cell_number : lt_z (to_z w32 (of_z w32 y)) (negsuc 999999999) ≡ false → le_z (pos 1000000000) (to_z w32 (of_z w32 y)) ≡ false → Finds (IsWritten integer IsCellNumber d) (Some (to_z w32 (of_z w32 y)))
+      pub cell_number : lt_z (to_z w32 (of_z w32 y)) (negsuc 999999999) ≡ false → le_z (pos 1000000000) (to_z w32 (of_z w32 y)) ≡ false
+          → Finds (IsWritten integer IsCellNumber d) (Some (to_z w32 (of_z w32 y)))
       cell_number low high = subst (λ (n : ℤ). Finds (IsWritten integer IsCellNumber d) (Some n)) (sym (to_z-of_z w32 y fits32))
           (finds (record { written = integer_is d z h ∙ ap integer (sym same); is = cell_number_is y fits32 low high }))
 

@@ -1,5 +1,5 @@
 -- the cuts of a document, item by item
-use Rattle.std.proofs.Common.{◌≡◌, ℕ, ◌+◌, ◌<◌, ◌≤◌, List, [], ◌∷◌, ◌++◌, length, take, map, Option, Some, Result, Ok, Err, refl, sym, ap, ◌∙◌, subst, arith, take_all, append_assoc, All, slice_get, IsSome, IsSomeAnd}
+use Rattle.std.proofs.Common.{◌≡◌, ℕ, ◌+◌, ◌<◌, ◌≤◌, List, [], ◌∷◌, ◌++◌, length, take, map, Option, Some, Result, Ok, Err, refl, sym, ap, ◌∙◌, subst, arith, take_all, append_assoc, All, slice_get, IsSome}
 use Rattle.lists.proofs.Words.{append-nil, AllZip, flat_map-append, length-map, map-append, All-from_recursion, All-nil, All-push, slice_get_within, AllZip-long, all_zipped_more}
 use Rattle.toml.specs.Data.{Data, Members, as_table, string}
 use Rattle.layer_map.specs.CutChecks.{CutCheck, CutHolds, as_layer, cut_checks, cut_fault, cut_keys, end_checks}
@@ -161,10 +161,7 @@ module _ (document : Members) (metals : List Metal) where
 
 -- what is known of the metals behind which cuts and terminals are read
 pub have_names : (document : Members) (seen : Seen) (metals : List Metal) → TakesMetals document seen metals → HaveNamesOf (metals_in document) metals
-have_names document seen metals takes = takes.are_seen.names ∙ ap (map written_name) (takes.names ∙ names_fuse metals) ∙ names_written metals where
-  names_written : (ms : List Metal) → map written_name (map (λ metal. metal.name) ms) ≡ map (λ metal. Some (string metal.name)) ms
-  names_written [] = refl
-  names_written (m ∷ ms) = ap (λ (xs : List (Option Data)). Some (string m.name) ∷ xs) (names_written ms)
+have_names document seen metals takes = takes.are_seen.names ∙ ap (map written_name) (takes.names ∙ names_fuse metals)
 
 pub names_are_different : (document : Members) (seen : Seen) (metals : List Metal) → TakesMetals document seen metals → AreDifferent (map (λ metal. metal.name) metals)
 names_are_different document seen metals takes = subst AreDifferent (takes.names ∙ names_fuse metals) takes.are_seen.names_differ

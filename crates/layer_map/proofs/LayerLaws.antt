@@ -1,5 +1,5 @@
 -- an item of metals or cuts, stage by stage
-use Rattle.std.proofs.Common.{◌≡◌, ℕ, List, [], ◌∷◌, ◌++◌, map, Result, Ok, Err, refl, sym, ap, ◌∙◌, subst}
+use Rattle.std.proofs.Common.{ℕ, List, [], ◌∷◌, ◌++◌, map, Result, Ok, Err, refl, sym, ap, ◌∙◌, subst}
 use Rattle.lists.proofs.Words.{map-append, All-append}
 use Rattle.lists.proofs.Differing.{different_more}
 use Rattle.toml.specs.Data.{Data}

@@ -5,7 +5,7 @@ use Rattle.lists.proofs.Words.{length-map}
 use Rattle.toml.specs.Data.{Members}
 use Rattle.layer_map.specs.Documents.{DocumentComesTo, GivesMap, IsDocument, MapComesTo, value_as}
 use Rattle.map_model.specs.MapNames.{LayerMap, mapped_cut, metal_layer, layer_map_of, sizes_of, terminal_of, AreRadii, AreWeights}
-use Rattle.first_refusal.specs.Outcomes.{Outcome, value, refused, Reads, reads, stops as ends, goes_on as goes_further}
+use Rattle.first_refusal.specs.Outcomes.{Outcome, Reads, reads, stops as ends, goes_on as goes_further}
 use Rattle.first_refusal.specs.Checks.{all_hold, one_fails}
 use Rattle.lists.specs.Differing.{AreDifferent}
 use Rattle.layer_map.specs.MapChecks.{MapCheck, Holds, checks_of, checks_of_cuts, checks_of_metals, checks_of_terminals, fault_of, has_known_keys, has_radii, has_version, has_weights, radii_are_array, radii_are_few}
@@ -93,8 +93,8 @@ radii_count document {radii = radii} lent same told =
     ap length same ∙ sym (ap length (ap values_in (given told).written ∙ listed-items_of (map whole_number radii)) ∙ length-map radii whole_number)
 
 -- the map of what was read
-pub gives_map : (document : Members) (seen : Seen) (radii weights : List ℕ) (metals : List Metal) (cuts : List Cut) (terminals : List Terminal) → IsThere whole_numbers AreRadii (radii_in document) radii
-    → IsThere whole_numbers (AreWeights (length radii)) (weights_in document) weights
+pub gives_map : (document : Members) (seen : Seen) (radii weights : List ℕ) (metals : List Metal) (cuts : List Cut) (terminals : List Terminal)
+    → IsThere whole_numbers AreRadii (radii_in document) radii → IsThere whole_numbers (AreWeights (length radii)) (weights_in document) weights
     → TakesMetals document seen metals → TakesCuts document metals cuts → TakesTerminals document metals terminals
     → GivesMap document (record { metals = map metal_layer metals; cuts = map mapped_cut cuts; sizes = sizes_of radii weights; terminals = map terminal_of terminals })
 gives_map document seen radii weights metals cuts terminals radii_there weights_there takes_metals takes_cuts takes_terminals = record {

@@ -62,7 +62,8 @@ module _ (document : Members) where
 
   module _ (number : ℕ) (item : Data) (there : slice_get (metals_in document) number ≡ Some item) where
     -- what is checked of the item is what is checked of the metal with its number
-    one_part : {T : Type 0} (Is : T → Type 0) (result : Result T MapFault) → Judges Memory (LayerHolds metal_keys (take number (metals_in document)) item) layer_checks (layer_fault (metal_path number)) Is result
+    one_part : {T : Type 0} (Is : T → Type 0) (result : Result T MapFault)
+        → Judges Memory (LayerHolds metal_keys (take number (metals_in document)) item) layer_checks (layer_fault (metal_path number)) Is result
         → Judges Memory (Holds document) (checks_of_one number) fault_of Is result
     one_part Is result = renamed (LayerHolds metal_keys (take number (metals_in document)) item) (Holds document) (layer_fault (metal_path number)) fault_of (of_metal number)
         (λ check h. rw there h) (λ check h. rw there at h) (λ check. refl) Is layer_checks result

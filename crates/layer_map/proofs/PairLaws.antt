@@ -6,7 +6,7 @@ use Rattle.toml.specs.View.{items_of, items_view, view}
 use Rattle.toml.specs.declared.value.Value.{Value}
 use Rattle.map_model.specs.MapNames.{IsPair, ArePairs}
 use Rattle.lists.specs.Differing.{AreDifferent}
-use Rattle.layer_map.specs.Values.{array_of, whole_number, pair_value, pairs_value, values_in}
+use Rattle.layer_map.specs.Values.{array_of, whole_number, pair_value, values_in}
 use Rattle.layer_map.specs.inside.ReadValues.{IsThere, IsWholeIn, Finds, finds, lacks, AreWritten, IsThere, IsWritten}
 use Rattle.map_model.specs.declared.limits.TheConstants.{GREATEST_PAIR_NUMBER, MOST_PAIRS}
 use Rattle.layer_map.proofs.SpelledLaws.{written_at, map-take-more}
@@ -40,18 +40,21 @@ module _ (numbers : List Value) where
   two_are pair is = values_of_list numbers (whole_number pair.0 ∷ whole_number pair.1 ∷ []) is.written
 
   module _ (two : length numbers ≡ 2) where
-    pub not_first : (first : Value) → first ≡ get_or numbers 0 first → ((n : ℕ) → IsWholeIn 0 GREATEST_PAIR_NUMBER (view first) n → ⊥) → Finds (IsWritten pair_value IsPair (array (items_view numbers))) None
+    pub not_first : (first : Value) → first ≡ get_or numbers 0 first → ((n : ℕ) → IsWholeIn 0 GREATEST_PAIR_NUMBER (view first) n → ⊥)
+        → Finds (IsWritten pair_value IsPair (array (items_view numbers))) None
     not_first first is_first not = lacks (λ pair is.
         let (room, told) = written_at view whole_number numbers (pair.0 ∷ pair.1 ∷ []) (two_are pair is) 0 first 0 (omega arith) is_first in
         not pair.0 (record { is_whole = told; least = omega arith; most = is.is.layer }))
 
-    pub not_second : (second : Value) → second ≡ get_or numbers 1 second → ((n : ℕ) → IsWholeIn 0 GREATEST_PAIR_NUMBER (view second) n → ⊥) → Finds (IsWritten pair_value IsPair (array (items_view numbers))) None
+    pub not_second : (second : Value) → second ≡ get_or numbers 1 second → ((n : ℕ) → IsWholeIn 0 GREATEST_PAIR_NUMBER (view second) n → ⊥)
+        → Finds (IsWritten pair_value IsPair (array (items_view numbers))) None
     not_second second is_second not = lacks (λ pair is.
         let (room, told) = written_at view whole_number numbers (pair.0 ∷ pair.1 ∷ []) (two_are pair is) 1 second 0 (omega arith) is_second in
         not pair.1 (record { is_whole = told; least = omega arith; most = is.is.datatype }))
 
 pub is_pair : (numbers : List Value) (first second : Value) (layer datatype : ℕ) → length numbers ≡ 2 → first ≡ get_or numbers 0 first → second ≡ get_or numbers 1 second
-    → IsWholeIn 0 GREATEST_PAIR_NUMBER (view first) layer → IsWholeIn 0 GREATEST_PAIR_NUMBER (view second) datatype → Finds (IsWritten pair_value IsPair (array (items_view numbers))) (Some (layer, datatype))
+    → IsWholeIn 0 GREATEST_PAIR_NUMBER (view first) layer → IsWholeIn 0 GREATEST_PAIR_NUMBER (view second) datatype
+    → Finds (IsWritten pair_value IsPair (array (items_view numbers))) (Some (layer, datatype))
 is_pair [] first second layer datatype two f s is also = absurd (omega arith)
 is_pair (a ∷ []) first second layer datatype two f s is also = absurd (omega arith)
 is_pair (a ∷ b ∷ c ∷ more) first second layer datatype two f s is also = absurd (omega arith)
@@ -70,7 +73,8 @@ wrong_count vs not = lacks (λ pairs are.
     let same : length vs ≡ length pairs = sym (length-map vs view) ∙ ap length are.written ∙ length-map pairs pair_value in
     not (omega (arith, are.is.some), omega (arith, are.is.few)))
 
-pub not_all_pairs : (vs : List Value) (i : ℕ) (v : Value) → i < length vs → v ≡ get_or vs i v → ((pair : ℕ × ℕ) → IsWritten pair_value IsPair (view v) pair → ⊥) → Finds (AreWritten pair_value ArePairs (map view vs)) None
+pub not_all_pairs : (vs : List Value) (i : ℕ) (v : Value) → i < length vs → v ≡ get_or vs i v → ((pair : ℕ × ℕ) → IsWritten pair_value IsPair (view v) pair → ⊥)
+    → Finds (AreWritten pair_value ArePairs (map view vs)) None
 not_all_pairs vs i v within is not = lacks (λ pairs are.
     let (room, told) = written_at view pair_value vs pairs are.written i v (0, 0) within is in
     not (get_or pairs i (0, 0)) (record { written = told; is = All-get_or IsPair pairs i (0, 0) room are.is.each }))
@@ -90,7 +94,8 @@ one_pair_more vs i v pairs pair within is far here = record {
   each = All-push IsPair pairs pair far.each here.is;
 }
 
-pub all_pairs : (vs : List Value) (pairs : List (ℕ × ℕ)) → 1 ≤ length vs → length vs ≤ MOST_PAIRS → ArePairsSoFar (map view vs) pairs → Finds (AreWritten pair_value ArePairs (map view vs)) (Some pairs)
+pub all_pairs : (vs : List Value) (pairs : List (ℕ × ℕ)) → 1 ≤ length vs → length vs ≤ MOST_PAIRS → ArePairsSoFar (map view vs) pairs
+    → Finds (AreWritten pair_value ArePairs (map view vs)) (Some pairs)
 all_pairs vs pairs some few far =
     let same : length vs ≡ length pairs = sym (length-map vs view) ∙ ap length far.written ∙ length-map pairs pair_value in
     finds (record { written = far.written; is = record { some = omega arith; few = omega arith; each = far.each } })

@@ -160,9 +160,9 @@ cut_layer_holds =
     let pairs = one_pair 2 0 (omega arith) (omega arith) in
     let differ = written_differ all_pairs [] refl in
     All-from_recursion Sound (map (of_cut 0) (map as_layer layer_checks)) (refl, (keys, (named 118 49 refl refl, (new, (((2, 0) ∷ [], refl, pairs), (differ, tt)))))) where
-  keys : All (Contains cut_keys) (codes "lower" ∷ codes "name" ∷ codes "pairs" ∷ codes "upper" ∷ [])
-  keys = All-from_recursion (Contains cut_keys) (codes "lower" ∷ codes "name" ∷ codes "pairs" ∷ codes "upper" ∷ [])
-      ((2, omega arith, refl), ((0, omega arith, refl), ((1, omega arith, refl), ((3, omega arith, refl), tt))))
+      keys : All (Contains cut_keys) (codes "lower" ∷ codes "name" ∷ codes "pairs" ∷ codes "upper" ∷ [])
+      keys = All-from_recursion (Contains cut_keys) (codes "lower" ∷ codes "name" ∷ codes "pairs" ∷ codes "upper" ∷ [])
+          ((2, omega arith, refl), ((0, omega arith, refl), ((1, omega arith, refl), ((3, omega arith, refl), tt))))
 
 cut_ends_hold : All Sound (map (of_cut 0) end_checks)
 cut_ends_hold =

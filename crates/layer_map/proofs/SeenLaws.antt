@@ -1,8 +1,8 @@
 -- names and pairs that were seen, and those of the next item
-use Rattle.std.proofs.Common.{◌≡◌, ℕ, ◌<◌, List, [], ◌∷◌, ◌++◌, length, map, Option, Some, Ok, Err, sym, ap, ◌∙◌, subst, arith, Contains}
+use Rattle.std.proofs.Common.{◌≡◌, ℕ, List, [], ◌∷◌, ◌++◌, map, Some, Ok, Err, sym, ap, ◌∙◌, subst, Contains}
 use Rattle.layer_map.specs.inside.ReadValues.{IsThere}
 use Rattle.map_model.specs.MapNames.{ArePairs, IsLayerName}
-use Rattle.lists.proofs.Words.{append-nil, flat_map, flat_map-append, length-map, map-append, get_or-map, All-from_recursion}
+use Rattle.lists.proofs.Words.{append-nil, flat_map, flat_map-append, map-append, All-from_recursion}
 use Rattle.toml.specs.Data.{Data, string}
 use Rattle.lists.specs.Differing.{AreDifferent}
 use Rattle.layer_map.specs.LayerChecks.{LayerHolds, has_name, has_new_name, has_pairs, has_new_pairs, layer_fault}
@@ -16,11 +16,14 @@ use Rattle.lists.proofs.Differing.{AreDifferent-map, AreDifferent-unmap}
 use Rattle.lists.proofs.Mapping.{Contains-map, Contains-map_from}
 use Rattle.layer_map.proofs.ValueLaws.{listed-items_of}
 
-pub name_tells : (one other : List ℕ) → written_name one ≡ written_name other → one ≡ other
+name_tells : (one other : List ℕ) → written_name one ≡ written_name other → one ≡ other
 name_tells one other same = cc same
 
 pub pair_tells : (one other : ℕ × ℕ) → pair_value one ≡ pair_value other → one ≡ other
 pair_tells (a, b) (c, d) same = cc same
+
+pub name_among : (names : List (List ℕ)) (name : List ℕ) → Contains (map written_name names) (written_name name) → Contains names name
+name_among names name among = let (other, there, same) = Contains-map_from written_name names (written_name name) among in subst (Contains names) (name_tells other name same) there
 
 -- all pairs up to an item
 pub pairs_up_to : (earlier : List Data) (item : Data) (pairs more : List (ℕ × ℕ)) → flat_map pair_values earlier ≡ map pair_value pairs → pairs_of_item item ≡ Some (pairs_value more)
@@ -46,12 +49,10 @@ module _ (known : List (List ℕ)) (earlier : List Data) (item : Data) (path : �
     pub new_name : (thing : T) → (Contains names name → ⊥) → Is thing → Judges Memory (LayerHolds known earlier item) (has_name ∷ has_new_name ∷ []) (layer_fault path) Is (Ok thing)
     new_name thing new is =
         passes (LayerHolds known earlier item) (layer_fault path) Is (has_name ∷ has_new_name ∷ []) thing
-        (All-from_recursion (LayerHolds known earlier item) (has_name ∷ has_new_name ∷ []) (name_holds, ((λ h. new (written_there (rw (seen, there.written) at h))), tt))) is where
-          written_there : Contains (map written_name names) (written_name name) → Contains names name
-          written_there among = let (other, there, same) = Contains-map_from written_name names (written_name name) among in subst (Contains names) (name_tells other name same) there
+        (All-from_recursion (LayerHolds known earlier item) (has_name ∷ has_new_name ∷ []) (name_holds, ((λ h. new (name_among names name (rw (seen, there.written) at h))), tt))) is
 
-  pub no_pairs : ((pairs : List (ℕ × ℕ)) → IsThere pairs_value ArePairs (pairs_of_item item) pairs → ⊥) → Judges Memory (LayerHolds known earlier item) (has_pairs ∷ has_new_pairs ∷ []) (layer_fault path) Is
-      (Err (BadValue (pairs_at path)))
+  pub no_pairs : ((pairs : List (ℕ × ℕ)) → IsThere pairs_value ArePairs (pairs_of_item item) pairs → ⊥)
+      → Judges Memory (LayerHolds known earlier item) (has_pairs ∷ has_new_pairs ∷ []) (layer_fault path) Is (Err (BadValue (pairs_at path)))
   no_pairs not = fails_first (LayerHolds known earlier item) (layer_fault path) Is has_pairs (has_new_pairs ∷ []) (λ h. not h.0 (record { written = h.1; is = h.2 }))
 
   module _ (pairs : List (ℕ × ℕ)) (seen : flat_map pair_values earlier ≡ map pair_value pairs) (more : List (ℕ × ℕ)) (there : IsThere pairs_value ArePairs (pairs_of_item item) more) where

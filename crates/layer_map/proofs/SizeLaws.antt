@@ -1,7 +1,7 @@
 -- radii and weights, as a document writes them
-use Rattle.std.proofs.Common.{◌≡◌, ℕ, ◌<◌, ◌≤◌, List, [], ◌∷◌, length, map, Option, Some, None, Ok, Err, refl, sym, ap, ◌∙◌, subst, arith, option_and_then}
+use Rattle.std.proofs.Common.{◌≡◌, ℕ, ◌<◌, ◌≤◌, List, [], ◌∷◌, length, map, Some, None, Ok, Err, refl, sym, ap, ◌∙◌, subst, arith}
 use Rattle.lists.proofs.Words.{ints, IsStrictlyIncreasing, length-map, All-from_recursion, same_Some}
-use Rattle.toml.specs.Data.{Data, Members, array, as_array}
+use Rattle.toml.specs.Data.{Data, Members, array}
 use Rattle.toml.specs.View.{items_of, items_view, view}
 use Rattle.toml.specs.declared.value.Value.{Value}
 use Rattle.map_model.specs.MapNames.{AreWeights, AreRadii}
@@ -85,7 +85,8 @@ module _ (document : Members) {T : Type 0} (Is : T → Type 0) where
       are_few : Holds document radii_are_few
       are_few = let n = count in omega (arith, n)
 
-      pub bad_radii : ((radii : List ℕ) → AreWritten whole_number AreRadii (map view vs) radii → ⊥) → Judges Memory (Holds document) (radii_are_array ∷ radii_are_few ∷ has_radii ∷ []) fault_of Is (Err (BadValue 3))
+      pub bad_radii : ((radii : List ℕ) → AreWritten whole_number AreRadii (map view vs) radii → ⊥)
+          → Judges Memory (Holds document) (radii_are_array ∷ radii_are_few ∷ has_radii ∷ []) fault_of Is (Err (BadValue 3))
       bad_radii not =
           goes_on (Holds document) fault_of Is (radii_are_array ∷ radii_are_few ∷ []) (has_radii ∷ []) _
           (All-from_recursion (Holds document) (radii_are_array ∷ radii_are_few ∷ []) (are_array, (are_few, tt)))
@@ -100,10 +101,12 @@ module _ (document : Members) {T : Type 0} (Is : T → Type 0) where
           (are_array, (are_few, ((radii, told ∙ ap (λ (ds : List Data). Some (array (items_of ds))) are.written, are.is), tt)))) is
 
   module _ (count : ℕ) (many : count ≡ length (values_in (radii_in document))) where
-    pub bad_weights : ((weights : List ℕ) → IsThere whole_numbers (AreWeights count) (weights_in document) weights → ⊥) → Judges Memory (Holds document) (has_weights ∷ []) fault_of Is (Err (BadValue 4))
+    pub bad_weights : ((weights : List ℕ) → IsThere whole_numbers (AreWeights count) (weights_in document) weights → ⊥)
+        → Judges Memory (Holds document) (has_weights ∷ []) fault_of Is (Err (BadValue 4))
     bad_weights not = fails_first (Holds document) fault_of Is has_weights [] (λ h. not h.0 (record { written = h.1; is = subst (λ (n : ℕ). AreWeights n h.0) (sym many) h.2 }))
 
-    pub good_weights : (thing : T) (weights : List ℕ) → IsThere whole_numbers (AreWeights count) (weights_in document) weights → Is thing → Judges Memory (Holds document) (has_weights ∷ []) fault_of Is (Ok thing)
+    pub good_weights : (thing : T) (weights : List ℕ) → IsThere whole_numbers (AreWeights count) (weights_in document) weights → Is thing
+        → Judges Memory (Holds document) (has_weights ∷ []) fault_of Is (Ok thing)
     good_weights thing weights are is =
         passes (Holds document) fault_of Is (has_weights ∷ []) thing (All-from_recursion (Holds document) (has_weights ∷ [])
         ((weights, are.written, subst (λ (n : ℕ). AreWeights n weights) many are.is), tt)) is

@@ -1,10 +1,10 @@
 -- the terminals of a document, item by item
-use Rattle.std.proofs.Common.{◌≡◌, ◌≢◌, ℕ, ℤ, zero, suc, ◌+◌, ◌<◌, ◌≤◌, List, [], ◌∷◌, ◌++◌, length, take, map, codes, Option, Some, Result, Ok, Err, refl, sym, ap, ◌∙◌, subst, arith, take_all, All, Contains, slice_get, IsSomeAnd}
+use Rattle.std.proofs.Common.{◌≡◌, ℕ, ℤ, zero, suc, ◌+◌, ◌<◌, ◌≤◌, List, [], ◌∷◌, ◌++◌, length, take, map, Option, Some, Result, Ok, Err, refl, sym, ap, ◌∙◌, subst, arith, take_all, All, Contains, slice_get}
 use Rattle.layer_map.specs.inside.ReadValues.{IsThere}
-use Rattle.lists.proofs.Words.{AllZip, get_or-map, length-map, map-append, All-append, All-from_recursion, All-nil, All-push, Contains-get_or, all_pairs_push, same_Some, slice_get_within, AllZip-long, all_zipped_more}
-use Rattle.toml.specs.Data.{Data, Members, string, integer, table, get_member}
+use Rattle.lists.proofs.Words.{AllZip, length-map, map-append, All-append, All-from_recursion, All-nil, All-push, same_Some, slice_get_within, AllZip-long, all_zipped_more}
+use Rattle.toml.specs.Data.{Data, Members, string, integer}
 use Rattle.layer_map.specs.Documents.{GivesTerminal, NamesMetal}
-use Rattle.layer_map.specs.ItemChecks.{TableHolds, table_checks, table_fault, ReferenceCheck, ReferenceHolds, reference_checks, reference_fault}
+use Rattle.layer_map.specs.ItemChecks.{TableHolds, table_checks, table_fault, ReferenceHolds, reference_checks, reference_fault}
 use Rattle.map_model.specs.MapNames.{MappedLayer, metal_layer, names_of, terminal_of}
 use Rattle.lists.specs.Differing.{AreDifferent}
 use Rattle.layer_map.specs.MapChecks.{MapCheck, Holds, IsArrayOrNone, checks_of_each, checks_of_terminals, fault_of, of_terminal, terminals_are_array, terminals_are_few}
@@ -56,14 +56,17 @@ module _ (items earlier : List Data) (item : Data) (path : ℕ) where
             → Judges Memory (TerminalHolds items earlier item) place_checks (terminal_fault path) Js result
         cell_decides Js result = goes_on _ _ _ (map as_table table_checks ++ map metal_named reference_checks) (has_x ∷ has_y ∷ []) result front_holds
 
-        pub no_x : {U : Type 0} {Js : U → Type 0} → ((n : ℤ) → IsThere integer IsCellNumber (x_of_item item) n → ⊥) → Judges Memory (TerminalHolds items earlier item) place_checks (terminal_fault path) Js (Err (BadValue (x_at path)))
+        pub no_x : {U : Type 0} {Js : U → Type 0} → ((n : ℤ) → IsThere integer IsCellNumber (x_of_item item) n → ⊥)
+            → Judges Memory (TerminalHolds items earlier item) place_checks (terminal_fault path) Js (Err (BadValue (x_at path)))
         no_x not = cell_decides _ _ (fails_first _ _ _ has_x (has_y ∷ []) (λ h. not h.0 (record { written = h.1; is = h.2 })))
 
         module _ {i : ℤ} (x : IsThere integer IsCellNumber (x_of_item item) i) where
-          pub no_y : {U : Type 0} {Js : U → Type 0} → ((n : ℤ) → IsThere integer IsCellNumber (y_of_item item) n → ⊥) → Judges Memory (TerminalHolds items earlier item) place_checks (terminal_fault path) Js (Err (BadValue (y_at path)))
+          pub no_y : {U : Type 0} {Js : U → Type 0} → ((n : ℤ) → IsThere integer IsCellNumber (y_of_item item) n → ⊥)
+              → Judges Memory (TerminalHolds items earlier item) place_checks (terminal_fault path) Js (Err (BadValue (y_at path)))
           no_y not = cell_decides _ _ (fails_second _ _ _ has_x has_y [] (i, x.written, x.is) (λ h. not h.0 (record { written = h.1; is = h.2 })))
 
-          pub place_good : {U : Type 0} {Js : U → Type 0} {j : ℤ} {thing : U} → IsThere integer IsCellNumber (y_of_item item) j → Js thing → Judges Memory (TerminalHolds items earlier item) place_checks (terminal_fault path) Js (Ok thing)
+          pub place_good : {U : Type 0} {Js : U → Type 0} {j : ℤ} {thing : U} → IsThere integer IsCellNumber (y_of_item item) j → Js thing
+              → Judges Memory (TerminalHolds items earlier item) place_checks (terminal_fault path) Js (Ok thing)
           place_good {j = j} y is = cell_decides _ _ (passes _ _ _ (has_x ∷ has_y ∷ []) _
               (All-from_recursion (TerminalHolds items earlier item) (has_x ∷ has_y ∷ []) ((i, x.written, x.is), ((j, y.written, y.is), tt))) is)
 

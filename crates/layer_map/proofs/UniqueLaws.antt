@@ -5,7 +5,7 @@ use Rattle.geo_core.specs.declared.plane.Cell.{Cell}
 use Rattle.first_refusal.specs.Laws.{IsUnique}
 use Rattle.first_refusal.proofs.CheckLaws.{checks_agree}
 use Rattle.first_refusal.proofs.StageLaws.{readings_agree, stages_agree}
-use Rattle.toml.specs.Data.{Data, Members, string, integer}
+use Rattle.toml.specs.Data.{Data, Members}
 use Rattle.layer_map.specs.Documents.{DocumentComesTo, GivesCut, GivesLayer, GivesMap, GivesTerminal, IsDocument, MapComesTo}
 use Rattle.map_model.specs.MapNames.{DefectSize, MappedCut, MappedLayer, names_of, sizes_of}
 use Rattle.lists.specs.Differing.{AreDifferent}

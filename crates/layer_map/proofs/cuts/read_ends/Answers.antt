@@ -21,13 +21,15 @@ pub returns-then-lower-upper-clause-judged : goal.returns-then-lower-upper-claus
 returns-then-lower-upper-clause-judged c items earlier have differ some =
     let lower = c.in_ok-lower-in-Some.ensures items have in
     let upper = c.in_ok-upper-in-Some.ensures items have in
-    rw (table_is _ _ c.in-Some.ensures) (same_ends items earlier (table (table_view c.in-Some.table.now)) c.args.path lower upper (one_end c.args.metals.now (table (table_view c.in-Some.table.now)) (given lower) (given upper) c.if-lower-upper.true))
+    let item = table (table_view c.in-Some.table.now) in
+    rw (table_is _ _ c.in-Some.ensures) (same_ends items earlier item c.args.path lower upper (one_end c.args.metals.now item (given lower) (given upper) c.if-lower-upper.true))
 
 pub returns-else-lower-upper-clause-judged : goal.returns-else-lower-upper-clause-judged
 returns-else-lower-upper-clause-judged c items earlier have differ some =
     let lower = c.in_ok-lower-in-Some.ensures items have in
     let upper = c.in_ok-upper-in-Some.ensures items have in
-    rw (table_is _ _ c.in-Some.ensures) (other_ends items earlier (table (table_view c.in-Some.table.now)) c.args.path lower upper (two_ends c.args.metals.now (table (table_view c.in-Some.table.now)) (given lower) (given upper) differ c.if-lower-upper.false)
+    let item = table (table_view c.in-Some.table.now) in
+    rw (table_is _ _ c.in-Some.ensures) (other_ends items earlier item c.args.path lower upper (two_ends c.args.metals.now item (given lower) (given upper) differ c.if-lower-upper.false)
     (record { lower = given lower; upper = given upper }))
 
 pub returns-in-None-clause-judged : goal.returns-in-None-clause-judged

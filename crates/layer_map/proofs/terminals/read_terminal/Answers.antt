@@ -26,7 +26,8 @@ returns-in-None c items earlier have =
 pub returns-in-None-cell_number_at : goal.returns-in-None-cell_number_at
 returns-in-None-cell_number_at c items earlier have =
     let is = given c.in_ok-table.ensures in
-    rw is (no_y items earlier (table (table_view c.in_ok-table.table.now)) c.args.path (rw is at c.in_ok-table.ensures) (c.in_ok-metal.ensures items have) (found c.in-Some.ensures) (none_found c.in-None-cell_number_at.ensures))
+    rw is (no_y items earlier (table (table_view c.in_ok-table.table.now)) c.args.path (rw is at c.in_ok-table.ensures) (c.in_ok-metal.ensures items have)
+    (found c.in-Some.ensures) (none_found c.in-None-cell_number_at.ensures))
 
 pub returns-in-Some-cell_number_at : goal.returns-in-Some-cell_number_at
 returns-in-Some-cell_number_at c items earlier have =
