@@ -47,14 +47,10 @@ put_last id change missing (r ∷ rs) h = go (bytes_eq r.id id) h (put_last id c
   go true e _ = cc
   go false e ih = ap (λ t. r ∷ t) (ih e)
 
-append_none : (rows : List Row) → rows ++ [] ≡ rows
-append_none [] = refl
-append_none (r ∷ rs) = ap (λ t. r ∷ t) (append_none rs)
-
 -- a new row comes last
 new_row : (id value : Text) (rows : List Row) → has_row id rows ≡ false → with_values id AsWritten CommandLine (value ∷ []) (without id rows) ≡ rows ++ row id value ∷ []
 new_row id value rows h =
-    let same : without id rows ≡ rows = put_last id (λ _. []) [] rows h ∙ append_none rows in
+    let same : without id rows ≡ rows = put_last id (λ _. []) [] rows h ∙ append-nil rows in
     rw same (put_last id (more_values CommandLine (value ∷ [])) (row id value ∷ []) rows h)
 
 -- ---- one word of the walk
@@ -73,14 +69,9 @@ rules = top.rules
 met : (name : OptionName) (value : Text) (rows : List Row) → walked rules [] (walk_with rows) (whole_word name value) ≡ walk_with
     (with_values (name_of name) AsWritten CommandLine (value ∷ []) (without (name_of name) rows))
 unfolding clap_on_literals
-met Map value rows = refl
-met Top value rows = refl
-met Tile value rows = refl
-met Workers value rows = refl
-met Layer value rows = refl
-met Datatype value rows = refl
-met Radius value rows = refl
-met Generate value rows = refl
+met name value rows =
+    elim name as (λ n. walked rules [] (walk_with rows) (whole_word n value) ≡ walk_with (with_values (name_of n) AsWritten CommandLine (value ∷ []) (without (name_of n) rows)))
+    [ Map ↦ refl | Top ↦ refl | Tile ↦ refl | Workers ↦ refl | Layer ↦ refl | Datatype ↦ refl | Radius ↦ refl | Generate ↦ refl ]
 
 passes : (name : OptionName) (value : Text) (rows : List Row) → has_row (name_of name) rows ≡ false → turn_passes top [] (walk_with rows) (whole_word name value) ≡ true
 unfolding clap_on_literals
@@ -162,14 +153,8 @@ passes_options done (o ∷ os) rest once =
 -- ---- the end of the walk
 
 not_layout : (name : OptionName) → bytes_eq (name_of name) (codes "layout") ≡ false
-not_layout Map = refl
-not_layout Top = refl
-not_layout Tile = refl
-not_layout Workers = refl
-not_layout Layer = refl
-not_layout Datatype = refl
-not_layout Radius = refl
-not_layout Generate = refl
+not_layout name =
+    elim name as (λ n. bytes_eq (name_of n) (codes "layout") ≡ false) [ Map ↦ refl | Top ↦ refl | Tile ↦ refl | Workers ↦ refl | Layer ↦ refl | Datatype ↦ refl | Radius ↦ refl | Generate ↦ refl ]
 
 -- no option has the row of the positional word
 no_layout : (options : Options) → has_row (codes "layout") (rows_of_options options) ≡ false
@@ -263,14 +248,8 @@ taken given single =
     ap (pass_with w) (all_pass given single) ∙ passes_with w _ (walk_ends given single)
 
 not_option : (name : OptionName) → bytes_eq (codes "layout") (name_of name) ≡ false
-not_option Map = refl
-not_option Top = refl
-not_option Tile = refl
-not_option Workers = refl
-not_option Layer = refl
-not_option Datatype = refl
-not_option Radius = refl
-not_option Generate = refl
+not_option name =
+    elim name as (λ n. bytes_eq (codes "layout") (name_of n) ≡ false) [ Map ↦ refl | Top ↦ refl | Tile ↦ refl | Workers ↦ refl | Layer ↦ refl | Datatype ↦ refl | Radius ↦ refl | Generate ↦ refl ]
 
 -- the texts that the matches have under this id: one or none
 abbrev found : Text → List Row → List Text

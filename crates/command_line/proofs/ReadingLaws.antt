@@ -15,13 +15,7 @@ pub position_first : (words rest : List Text) (word : Bor Text) → words ≡ wo
 position_first words rest word e plain = record { argument = positional word.now; words_are = e; clear = plain; options = refl; positions = refl }
 
 pub whole_first : (words rest : List Text) (word : Text) (name : OptionName) (value : Bor Text) → words ≡ word ∷ rest → word ≡ whole_word name value.now → BeginWith words (Setting name value) rest
-whole_first words rest word name value e is = record {
-  argument = in_one_word name value.now;
-  words_are = e ∙ ap (λ w. w ∷ rest) is;
-  clear = tt;
-  options = refl;
-  positions = refl;
-}
+whole_first words rest word name value e is = record { argument = in_one_word name value.now; words_are = e ∙ ap (λ w. w ∷ rest) is; clear = tt; options = refl; positions = refl }
 
 pub name_first : (words rest more : List Text) (word : Text) (name : OptionName) (value : Bor Text) → words ≡ word ∷ rest → rest ≡ value.now ∷ more → word ≡ name_word name → IsPlain value.now
     → BeginWith words (Setting name value) more

@@ -18,14 +18,7 @@ option_named text =
     else (if bytes_eq text (codes "datatype") then Some Datatype else (if bytes_eq text (codes "radius") then Some Radius else (if bytes_eq text (codes "generate") then Some Generate else None)))))))
 
 named : (name : OptionName) → option_named (name_of name) ≡ Some name
-named Map = refl
-named Top = refl
-named Tile = refl
-named Workers = refl
-named Layer = refl
-named Datatype = refl
-named Radius = refl
-named Generate = refl
+named name = elim name as (λ n. option_named (name_of n) ≡ Some n) [ Map ↦ refl | Top ↦ refl | Tile ↦ refl | Workers ↦ refl | Layer ↦ refl | Datatype ↦ refl | Radius ↦ refl | Generate ↦ refl ]
 
 pub same_name : (n m : OptionName) → name_of n ≡ name_of m → n ≡ m
 same_name n m e = let s : Some n ≡ Some m = sym (named n) ∙ ap option_named e ∙ named m in cc s
@@ -40,44 +33,19 @@ abbrev value_in : Text → Text
 value_in word = after_first is_equals (drop 2 word)
 
 name_is_in : (n : OptionName) (v : Text) → name_in (whole_word n v) ≡ name_of n
-name_is_in Map v = refl
-name_is_in Top v = refl
-name_is_in Tile v = refl
-name_is_in Workers v = refl
-name_is_in Layer v = refl
-name_is_in Datatype v = refl
-name_is_in Radius v = refl
-name_is_in Generate v = refl
+name_is_in name v =
+    elim name as (λ n. name_in (whole_word n v) ≡ name_of n) [ Map ↦ refl | Top ↦ refl | Tile ↦ refl | Workers ↦ refl | Layer ↦ refl | Datatype ↦ refl | Radius ↦ refl | Generate ↦ refl ]
 
 value_is_in : (n : OptionName) (v : Text) → value_in (whole_word n v) ≡ v
-value_is_in Map v = refl
-value_is_in Top v = refl
-value_is_in Tile v = refl
-value_is_in Workers v = refl
-value_is_in Layer v = refl
-value_is_in Datatype v = refl
-value_is_in Radius v = refl
-value_is_in Generate v = refl
+value_is_in name v = elim name as (λ n. value_in (whole_word n v) ≡ v) [ Map ↦ refl | Top ↦ refl | Tile ↦ refl | Workers ↦ refl | Layer ↦ refl | Datatype ↦ refl | Radius ↦ refl | Generate ↦ refl ]
 
 has_equals : (n : OptionName) (v : Text) → list_any is_equals (whole_word n v) ≡ true
-has_equals Map v = refl
-has_equals Top v = refl
-has_equals Tile v = refl
-has_equals Workers v = refl
-has_equals Layer v = refl
-has_equals Datatype v = refl
-has_equals Radius v = refl
-has_equals Generate v = refl
+has_equals name v =
+    elim name as (λ n. list_any is_equals (whole_word n v) ≡ true) [ Map ↦ refl | Top ↦ refl | Tile ↦ refl | Workers ↦ refl | Layer ↦ refl | Datatype ↦ refl | Radius ↦ refl | Generate ↦ refl ]
 
 has_no_equals : (n : OptionName) → list_any is_equals (name_word n) ≡ false
-has_no_equals Map = refl
-has_no_equals Top = refl
-has_no_equals Tile = refl
-has_no_equals Workers = refl
-has_no_equals Layer = refl
-has_no_equals Datatype = refl
-has_no_equals Radius = refl
-has_no_equals Generate = refl
+has_no_equals name =
+    elim name as (λ n. list_any is_equals (name_word n) ≡ false) [ Map ↦ refl | Top ↦ refl | Tile ↦ refl | Workers ↦ refl | Layer ↦ refl | Datatype ↦ refl | Radius ↦ refl | Generate ↦ refl ]
 
 no_nameless : (n : OptionName) → name_of n ≡ [] → ⊥
 no_nameless n e = let s : Some n ≡ None = sym (named n) ∙ ap option_named e in cc s
@@ -85,20 +53,17 @@ no_nameless n e = let s : Some n ≡ None = sym (named n) ∙ ap option_named e 
 -- ---- first words
 
 whole_is : (n m : OptionName) (v w : Text) → whole_word n v ≡ whole_word m w → (n ≡ m) × (v ≡ w)
-whole_is n m v w e =
-    (same_name n m (sym (name_is_in n v) ∙ ap name_in e ∙ name_is_in m w), sym (value_is_in n v) ∙ ap value_in e ∙ value_is_in m w)
+whole_is n m v w e = (same_name n m (sym (name_is_in n v) ∙ ap name_in e ∙ name_is_in m w), sym (value_is_in n v) ∙ ap value_in e ∙ value_is_in m w)
 
 pub name_word_is : (n m : OptionName) → name_word n ≡ name_word m → n ≡ m
 name_word_is n m e = same_name n m (ap (drop 2) e)
 
 pub whole_is_no_name : (n m : OptionName) (v : Text) → whole_word n v ≢ name_word m
-whole_is_no_name n m v e =
-    let s : true ≡ false = sym (has_equals n v) ∙ ap (list_any is_equals) e ∙ has_no_equals m in cc s
+whole_is_no_name n m v e = let s : true ≡ false = sym (has_equals n v) ∙ ap (list_any is_equals) e ∙ has_no_equals m in cc s
 
 -- a plain word does not begin with two dashes
 pub plain_has_no_dashes : (word rest : Text) → IsPlain word → word ≢ 45 ∷ 45 ∷ rest
-plain_has_no_dashes word rest plain e =
-    let dash : 45 ∷ 45 ∷ rest ≡ codes "-" = sym e ∙ plain (ap (λ t. slice_get t 0) e) in cc dash
+plain_has_no_dashes word rest plain e = let dash : 45 ∷ 45 ∷ rest ≡ codes "-" = sym e ∙ plain (ap (λ t. slice_get t 0) e) in cc dash
 
 -- words that begin with one argument begin with no other
 first_is_one : (a b : Argument) (xs ys : List Text) → IsClearlySpelled a → IsClearlySpelled b → words_of a ++ xs ≡ words_of b ++ ys → (a ≡ b) × (xs ≡ ys)
@@ -107,24 +72,18 @@ first_is_one (in_one_word n v) (in_one_word m w) xs ys p q e =
     let rest : xs ≡ ys = cc e in
     let same = whole_is n m v w word in
     (cc (same.0, same.1), rest)
-first_is_one (in_one_word n v) (in_two_words m w) xs ys p q e =
-    let word : whole_word n v ≡ name_word m = cc e in absurd (whole_is_no_name n m v word)
-first_is_one (in_one_word n v) (positional t) xs ys p q e =
-    let word : t ≡ whole_word n v = cc e in absurd (plain_has_no_dashes t _ q word)
-first_is_one (in_two_words n v) (in_one_word m w) xs ys p q e =
-    let word : whole_word m w ≡ name_word n = cc e in absurd (whole_is_no_name m n w word)
+first_is_one (in_one_word n v) (in_two_words m w) xs ys p q e = let word : whole_word n v ≡ name_word m = cc e in absurd (whole_is_no_name n m v word)
+first_is_one (in_one_word n v) (positional t) xs ys p q e = let word : t ≡ whole_word n v = cc e in absurd (plain_has_no_dashes t _ q word)
+first_is_one (in_two_words n v) (in_one_word m w) xs ys p q e = let word : whole_word m w ≡ name_word n = cc e in absurd (whole_is_no_name m n w word)
 first_is_one (in_two_words n v) (in_two_words m w) xs ys p q e =
     let word : name_word n ≡ name_word m = cc e in
     let value : v ≡ w = cc e in
     let rest : xs ≡ ys = cc e in
     let same = name_word_is n m word in
     (cc (same, value), rest)
-first_is_one (in_two_words n v) (positional t) xs ys p q e =
-    let word : t ≡ name_word n = cc e in absurd (plain_has_no_dashes t _ q word)
-first_is_one (positional t) (in_one_word m w) xs ys p q e =
-    let word : t ≡ whole_word m w = cc e in absurd (plain_has_no_dashes t _ p word)
-first_is_one (positional t) (in_two_words m w) xs ys p q e =
-    let word : t ≡ name_word m = cc e in absurd (plain_has_no_dashes t _ p word)
+first_is_one (in_two_words n v) (positional t) xs ys p q e = let word : t ≡ name_word n = cc e in absurd (plain_has_no_dashes t _ q word)
+first_is_one (positional t) (in_one_word m w) xs ys p q e = let word : t ≡ whole_word m w = cc e in absurd (plain_has_no_dashes t _ p word)
+first_is_one (positional t) (in_two_words m w) xs ys p q e = let word : t ≡ name_word m = cc e in absurd (plain_has_no_dashes t _ p word)
 first_is_one (positional t) (positional u) xs ys p q e =
     let word : t ≡ u = cc e in
     let rest : xs ≡ ys = cc e in
@@ -138,10 +97,8 @@ no_last (positional t) xs None p e = cc e
 no_last (in_one_word n v) xs (Some ws) p e =
     let word : whole_word n v ≡ codes "--" = cc e in
     let s : true ≡ false = sym (has_equals n v) ∙ ap (list_any is_equals) word in cc s
-no_last (in_two_words n v) xs (Some ws) p e =
-    let word : name_word n ≡ codes "--" = cc e in no_nameless n (ap (drop 2) word)
-no_last (positional t) xs (Some ws) p e =
-    let word : t ≡ codes "--" = cc e in plain_has_no_dashes t [] p word
+no_last (in_two_words n v) xs (Some ws) p e = let word : name_word n ≡ codes "--" = cc e in no_nameless n (ap (drop 2) word)
+no_last (positional t) xs (Some ws) p e = let word : t ≡ codes "--" = cc e in plain_has_no_dashes t [] p word
 
 -- ---- whole lists of words
 

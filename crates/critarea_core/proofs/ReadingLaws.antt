@@ -67,6 +67,15 @@ pub behind : {U V W F : Type 0} (First : Outcome U F → Type 0) (Second : U →
 behind First Second Third v first outcome (stops a) = stops (goes_on {v = v} first a)
 behind First Second Third v first outcome (goes_on {v = w} a m) = goes_on {v = w} (goes_on {v = v} first a) m
 
+-- a thing that was answered is one of the stage, and so is a fault, unless it says that no memory is left
+module _ {T F : Type 0} {low : F} {Stage : Outcome T F → Type 0} where
+  pub thing_told : {thing : T} → Answers low Stage (Ok thing) → Stage (value thing)
+  thing_told (gives comes) = comes
+
+  pub fault_told : {fault : F} → Answers low Stage (Err fault) → fault ≢ low → Stage (refused fault)
+  fault_told (refuses comes) known = comes
+  fault_told no_memory known = absurd (known refl)
+
 -- a fault of a layout that was answered is one of the stage, unless it says that no memory is left
 pub fault_found : {T V : Type 0} (Stage : Outcome V LayoutFault → Type 0) (IsFor : V → T → Type 0) (fault : LayoutFault)
     → Analyses Stage IsFor (Err fault) → fault ≢ LayoutMemory → Stage (refused fault)

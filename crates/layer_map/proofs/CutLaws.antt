@@ -1,5 +1,5 @@
 -- the cuts of a document, item by item
-use Rattle.std.proofs.Common.{◌≡◌, ℕ, ◌+◌, ◌<◌, ◌≤◌, List, [], ◌∷◌, ◌++◌, length, take, map, Option, Some, Result, Ok, Err, refl, sym, ap, ◌∙◌, subst, arith, take_all, append_assoc, All, slice_get, IsSome, IsSomeAnd}
+use Rattle.std.proofs.Common.{◌≡◌, ℕ, ◌+◌, ◌<◌, ◌≤◌, List, [], ◌∷◌, ◌++◌, length, take, map, Option, Some, Result, Ok, Err, refl, sym, ap, ◌∙◌, subst, arith, take_all, append_assoc, All, slice_get, IsSome}
 use Rattle.lists.proofs.Words.{append-nil, AllZip, flat_map-append, length-map, map-append, All-from_recursion, All-nil, All-push, slice_get_within, AllZip-long, all_zipped_more}
 use Rattle.toml.specs.Data.{Data, Members, as_table, string}
 use Rattle.layer_map.specs.CutChecks.{CutCheck, CutHolds, as_layer, cut_checks, cut_fault, cut_keys, end_checks}
@@ -21,34 +21,30 @@ use Rattle.map_model.specs.declared.layers.Metal.{Metal}
 use Rattle.map_model.specs.declared.limits.TheConstants.{MOST_CUTS}
 use Rattle.layer_map.specs.declared.seen.Layer.{Layer}
 use Rattle.layer_map.specs.declared.seen.Seen.{Seen}
-use Rattle.first_refusal.proofs.JudgeLaws.{Judges, all_renamed, fails_first, given, goes_on, passed, passes, renamed, stops}
+use Rattle.first_refusal.proofs.JudgeLaws.{Judges, fails_first, given, goes_on, passed, passes, renamed, stops}
 use Rattle.layer_map.proofs.EndLaws.{names_fuse}
 use Rattle.first_refusal.proofs.StepLaws.{HoldsSoFar, all_of_them, further, nothing_yet, part_stops}
-use Rattle.layer_map.proofs.EachLaws.{left, left_more, left_none}
+use Rattle.layer_map.proofs.EachLaws.{fails_second, left, left_more, left_none}
 use Rattle.lists.proofs.Reading.{taken_at}
 
 -- one cut: first as a layer, then its ends
-module _ (items earlier : List Data) (item : Data) (path : ℕ) {T : Type 0} (Is : T → Type 0) where
-  pub layer_stops : {U : Type 0} (Js : U → Type 0) (fault : MapFault) → Judges Memory (LayerHolds cut_keys earlier item) layer_checks (layer_fault path) Is (Err fault)
-      → Judges Memory (CutHolds items earlier item) cut_checks (cut_fault path) Js (Err fault)
-  layer_stops Js fault h =
-      stops (CutHolds items earlier item) (cut_fault path) Is Js (map as_layer layer_checks) end_checks fault
-      (renamed (LayerHolds cut_keys earlier item) (CutHolds items earlier item) (layer_fault path) (cut_fault path) as_layer (λ check holds. holds) (λ check holds. holds) (λ check. refl)
-      Is layer_checks (Err fault) h)
+module _ (items earlier : List Data) (item : Data) (path : ℕ) where
+  layer_part : {T : Type 0} (Is : T → Type 0) (result : Result T MapFault) → Judges Memory (LayerHolds cut_keys earlier item) layer_checks (layer_fault path) Is result
+      → Judges Memory (CutHolds items earlier item) (map as_layer layer_checks) (cut_fault path) Is result
+  layer_part Is result = renamed _ _ _ _ as_layer (λ check h. h) (λ check h. h) (λ check. refl) Is layer_checks result
 
-  module _ (layer : T) (told : Judges Memory (LayerHolds cut_keys earlier item) layer_checks (layer_fault path) Is (Ok layer)) where
-    layer_holds : All (LayerHolds cut_keys earlier item) layer_checks
-    layer_holds = passed told
+  module _ {T : Type 0} {Is : T → Type 0} where
+    pub layer_stops : {U : Type 0} {Js : U → Type 0} {fault : MapFault} → Judges Memory (LayerHolds cut_keys earlier item) layer_checks (layer_fault path) Is (Err fault)
+        → Judges Memory (CutHolds items earlier item) cut_checks (cut_fault path) Js (Err fault)
+    layer_stops told = stops _ _ _ _ (map as_layer layer_checks) end_checks _ (layer_part Is _ told)
 
-    pub layer_is_table : IsSome (as_table item)
-    layer_is_table = layer_holds 0 (layer_as_table is_table) (omega arith)
+    module _ {layer : T} (told : Judges Memory (LayerHolds cut_keys earlier item) layer_checks (layer_fault path) Is (Ok layer)) where
+      pub layer_is_table : IsSome (as_table item)
+      layer_is_table = passed told 0 (layer_as_table is_table) (omega arith)
 
-    pub ends_decide : {U : Type 0} (Js : U → Type 0) (result : Result U MapFault) → Judges Memory (CutHolds items earlier item) end_checks (cut_fault path) Js result
-        → Judges Memory (CutHolds items earlier item) cut_checks (cut_fault path) Js result
-    ends_decide Js result h =
-        goes_on (CutHolds items earlier item) (cut_fault path) Js (map as_layer layer_checks) end_checks result
-        (all_renamed (LayerHolds cut_keys earlier item) (CutHolds items earlier item) (layer_fault path) (cut_fault path) as_layer (λ check holds. holds) (λ check holds. holds) (λ check. refl)
-        layer_checks layer_holds) h
+      pub ends_decide : {U : Type 0} {Js : U → Type 0} {result : Result U MapFault} → Judges Memory (CutHolds items earlier item) end_checks (cut_fault path) Js result
+          → Judges Memory (CutHolds items earlier item) cut_checks (cut_fault path) Js result
+      ends_decide = goes_on _ _ _ (map as_layer layer_checks) end_checks _ (passed (layer_part Is _ told))
 
 pub names_within : (metals : List Metal) (there : Option Data) (number : ℕ) → NamesMetal (map metal_layer metals) there number → number < length metals
 names_within metals there number names = let within = slice_get_within (map metal_layer metals) number names.metal names.numbered in omega (arith, length-map metals metal_layer)
@@ -93,10 +89,7 @@ module _ (document : Members) (metals : List Metal) where
     cuts_no_array not = fails_first (Holds document) fault_of Is cuts_are_array (cuts_are_few ∷ checks_of_each of_cut cut_checks (cuts_in document)) not
 
     pub too_many_cuts : IsArrayOrNone (cut_in document) → MOST_CUTS < length (cuts_in document) → Judges Memory (Holds document) (checks_of_cuts document) fault_of Is (Err (LimitPassed 6))
-    too_many_cuts array many =
-        goes_on (Holds document) fault_of Is (cuts_are_array ∷ []) (cuts_are_few ∷ checks_of_each of_cut cut_checks (cuts_in document)) _
-        (All-from_recursion (Holds document) (cuts_are_array ∷ []) (array, tt))
-        (fails_first (Holds document) fault_of Is cuts_are_few (checks_of_each of_cut cut_checks (cuts_in document)) (λ few. omega (arith, few)))
+    too_many_cuts array many = fails_second (Holds document) fault_of Is cuts_are_array cuts_are_few (checks_of_each of_cut cut_checks (cuts_in document)) array (λ few. omega (arith, few))
 
   pub no_cut_yet : (seen : Seen) → IsArrayOrNone (cut_in document) → length (cuts_in document) ≤ MOST_CUTS → TakesMetals document seen metals → CutsSoFar document metals 0 [] seen
   no_cut_yet seen array few takes = record {
@@ -111,38 +104,33 @@ module _ (document : Members) (metals : List Metal) where
   }
 
   module _ (number : ℕ) (item : Data) (there : slice_get (cuts_in document) number ≡ Some item) where
-    onward : (check : CutCheck) → CutHolds (metals_in document) (metals_in document ++ take number (cuts_in document)) item check → Holds document (of_cut number check)
-    onward check h = subst (λ (o : Option Data). IsSomeAnd o (λ d. CutHolds (metals_in document) (metals_in document ++ take number (cuts_in document)) d check)) (sym there) h
+    abbrev OfItem : CutCheck → Type 0
+    OfItem = CutHolds (metals_in document) (metals_in document ++ take number (cuts_in document)) item
 
-    back : (check : CutCheck) → Holds document (of_cut number check) → CutHolds (metals_in document) (metals_in document ++ take number (cuts_in document)) item check
-    back check h = subst (λ (o : Option Data). IsSomeAnd o (λ d. CutHolds (metals_in document) (metals_in document ++ take number (cuts_in document)) d check)) there h
+    -- what is checked of the item is what is checked of the cut with its number
+    one_part : {T : Type 0} (Is : T → Type 0) (result : Result T MapFault) → Judges Memory OfItem cut_checks (cut_fault (cut_path number)) Is result
+        → Judges Memory (Holds document) (checks_of_one number) fault_of Is result
+    one_part Is result = renamed OfItem (Holds document) (cut_fault (cut_path number)) fault_of (of_cut number) (λ check h. rw there h) (λ check h. rw there at h) (λ check. refl) Is cut_checks result
 
     left_here : (cuts : List Cut) (seen : Seen) → CutsSoFar document metals number cuts seen
         → HoldsSoFar (Holds document) (checks_of_cuts document) (checks_of_one number ++ left checks_of_one (cuts_in document) (number + 1))
-    left_here cuts seen far = subst (HoldsSoFar (Holds document) (checks_of_cuts document)) (left_more checks_of_one (cuts_in document) number (slice_get_within (cuts_in document) number item there))
-        far.holds
+    left_here cuts seen far = rw (← left_more checks_of_one (cuts_in document) number (slice_get_within (cuts_in document) number item there)) far.holds
 
     pub cut_stops : {T U : Type 0} (Is : T → Type 0) (Js : U → Type 0) (cuts : List Cut) (seen : Seen) (fault : MapFault) → CutsSoFar document metals number cuts seen
-        → Judges Memory (CutHolds (metals_in document) (metals_in document ++ take number (cuts_in document)) item) cut_checks (cut_fault (cut_path number)) Is (Err fault)
-        → Judges Memory (Holds document) (checks_of_cuts document) fault_of Js (Err fault)
-    cut_stops Is Js cuts seen fault far told =
-        part_stops (Holds document) fault_of Is Js (checks_of_cuts document) (checks_of_one number) (left checks_of_one (cuts_in document) (number + 1)) fault (left_here cuts seen far)
-        (renamed (CutHolds (metals_in document) (metals_in document ++ take number (cuts_in document)) item) (Holds document) (cut_fault (cut_path number)) fault_of (of_cut number) onward back
-        (λ check. refl) Is cut_checks (Err fault) told)
+        → Judges Memory OfItem cut_checks (cut_fault (cut_path number)) Is (Err fault) → Judges Memory (Holds document) (checks_of_cuts document) fault_of Js (Err fault)
+    cut_stops Is Js cuts seen fault far told = part_stops (Holds document) fault_of Is Js (checks_of_cuts document) (checks_of_one number)
+        (left checks_of_one (cuts_in document) (number + 1)) fault (left_here cuts seen far) (one_part Is (Err fault) told)
 
     pub one_cut_more : (cuts : List Cut) (old new : Seen) (cut : Cut) → CutsSoFar document metals number cuts old
-        → Judges Memory (CutHolds (metals_in document) (metals_in document ++ take number (cuts_in document)) item) cut_checks (cut_fault (cut_path number))
-        (TakesCut metals (metals_in document ++ take number (cuts_in document)) item old new) (Ok cut)
+        → Judges Memory OfItem cut_checks (cut_fault (cut_path number)) (TakesCut metals (metals_in document ++ take number (cuts_in document)) item old new) (Ok cut)
         → CutsSoFar document metals (number + 1) (cuts ++ cut ∷ []) new
     one_cut_more cuts old new cut far told =
         let more = taken_at (cuts_in document) number item there in
-        let holds = CutHolds (metals_in document) (metals_in document ++ take number (cuts_in document)) item in
-        let Takes = TakesCut metals (metals_in document ++ take number (cuts_in document)) item old new in
         let takes = given told in
         record {
           few = far.few;
           holds = further (Holds document) (checks_of_cuts document) (checks_of_one number) (left checks_of_one (cuts_in document) (number + 1)) (left_here cuts old far)
-              (all_renamed holds (Holds document) (cut_fault (cut_path number)) fault_of (of_cut number) onward back (λ check. refl) cut_checks (passed told));
+              (passed (one_part _ _ told));
           gives_them = rw (more, map-append mapped_cut cuts (cut ∷ [])) (all_zipped_more (GivesCut (map metal_layer metals)) (take number (cuts_in document)) (map mapped_cut cuts) item
               (mapped_cut cut) far.gives_them takes.gives_it);
           are_seen = subst (λ (ds : List Data). AreSeen ds new) (append_assoc (metals_in document) (take number (cuts_in document)) (item ∷ [])
@@ -173,10 +161,7 @@ module _ (document : Members) (metals : List Metal) where
 
 -- what is known of the metals behind which cuts and terminals are read
 pub have_names : (document : Members) (seen : Seen) (metals : List Metal) → TakesMetals document seen metals → HaveNamesOf (metals_in document) metals
-have_names document seen metals takes = takes.are_seen.names ∙ ap (map written_name) (takes.names ∙ names_fuse metals) ∙ names_written metals where
-  names_written : (ms : List Metal) → map written_name (map (λ metal. metal.name) ms) ≡ map (λ metal. Some (string metal.name)) ms
-  names_written [] = refl
-  names_written (m ∷ ms) = ap (λ (xs : List (Option Data)). Some (string m.name) ∷ xs) (names_written ms)
+have_names document seen metals takes = takes.are_seen.names ∙ ap (map written_name) (takes.names ∙ names_fuse metals)
 
 pub names_are_different : (document : Members) (seen : Seen) (metals : List Metal) → TakesMetals document seen metals → AreDifferent (map (λ metal. metal.name) metals)
 names_are_different document seen metals takes = subst AreDifferent (takes.names ∙ names_fuse metals) takes.are_seen.names_differ

@@ -1,6 +1,13 @@
 -- checks that are made one after the other, and those that are left
-use Rattle.std.proofs.Common.{◌≡◌, ℕ, suc, ◌+◌, ◌<◌, ◌≤◌, List, [], ◌++◌, length, drop, get_or, map, Some, sym, ap, ◌∙◌, arith, option_map, slice_get}
-use Rattle.lists.proofs.Words.{flat_map, range_with_len, length-drop, slice_get-get_or, slice_get-map}
+use Rattle.std.proofs.Common.{◌≡◌, ℕ, suc, ◌+◌, ◌<◌, ◌≤◌, List, [], ◌∷◌, ◌++◌, Err, length, drop, get_or, map, Some, sym, ap, ◌∙◌, arith, option_map, slice_get}
+use Rattle.lists.proofs.Words.{All-from_recursion, flat_map, range_with_len, length-drop, slice_get-get_or, slice_get-map}
+use Rattle.first_refusal.proofs.JudgeLaws.{Judges, fails_first, goes_on}
+
+-- the first of some checks holds, and the second fails
+pub fails_second : {N T F : Type 0} {memory : F} (Holds : N → Type 0) (fault_of : N → F) (Is : T → Type 0) (first second : N) (checks : List N) → Holds first → (Holds second → ⊥)
+    → Judges memory Holds (first ∷ second ∷ checks) fault_of Is (Err (fault_of second))
+fails_second Holds fault_of Is first second checks holds not =
+    goes_on Holds fault_of Is (first ∷ []) (second ∷ checks) _ (All-from_recursion Holds (first ∷ []) (holds, tt)) (fails_first Holds fault_of Is second checks not)
 
 -- the checks of the items from one number on
 abbrev pub left : {N V : Type 0} → (ℕ → List N) → List V → ℕ → List N

@@ -1,20 +1,21 @@
 -- the checks of a document, part by part, and the map that it gives
-use Rattle.std.proofs.Common.{◌≡◌, ℕ, List, [], ◌∷◌, ◌++◌, length, map, Result, Ok, Err, refl, sym, ap, ◌∙◌, subst, ◌≢◌, IfOk, IsErrAnd}
+use Rattle.std.proofs.Common.{Global, BTreeMap, String, ◌≡◌, ℕ, List, [], ◌∷◌, ◌++◌, length, map, Result, Ok, Err, refl, sym, ap, ◌∙◌, subst}
+use Rattle.layer_map.specs.inside.ReadValues.{IsThere}
 use Rattle.lists.proofs.Words.{length-map}
-use Rattle.std.specs.Prelude.{IfErr}
 use Rattle.toml.specs.Data.{Members}
-use Rattle.layer_map.specs.Documents.{DocumentComesTo, GivesMap, IsDocument, MapComesTo}
-use Rattle.map_model.specs.MapNames.{LayerMap, mapped_cut, metal_layer, layer_map_of, sizes_of, terminal_of}
-use Rattle.first_refusal.specs.Outcomes.{Outcome, value, refused, reads, lacks, stops as ends, goes_on as goes_further}
+use Rattle.layer_map.specs.Documents.{DocumentComesTo, GivesMap, IsDocument, MapComesTo, value_as}
+use Rattle.map_model.specs.MapNames.{LayerMap, mapped_cut, metal_layer, layer_map_of, sizes_of, terminal_of, AreRadii, AreWeights}
+use Rattle.first_refusal.specs.Outcomes.{Outcome, Reads, reads, stops as ends, goes_on as goes_further}
 use Rattle.first_refusal.specs.Checks.{all_hold, one_fails}
 use Rattle.lists.specs.Differing.{AreDifferent}
 use Rattle.layer_map.specs.MapChecks.{MapCheck, Holds, checks_of, checks_of_cuts, checks_of_metals, checks_of_terminals, fault_of, has_known_keys, has_radii, has_version, has_weights, radii_are_array, radii_are_few}
-use Rattle.first_refusal.specs.Answers.{gives, refuses, no_memory}
-use Rattle.layer_map.specs.inside.ReadSizes.{AreRadiiThere, AreWeightsThere}
+use Rattle.first_refusal.specs.Answers.{Answers, gives, refuses, no_memory}
+use Rattle.toml.specs.View.{table_view}
+use Rattle.toml.specs.declared.value.Value.{Value}
 use Rattle.layer_map.specs.inside.ReadMetals.{TakesMetals}
 use Rattle.layer_map.specs.inside.ReadCuts.{TakesCuts}
 use Rattle.layer_map.specs.inside.ReadTerminals.{TakesTerminals}
-use Rattle.layer_map.specs.Values.{radii_in, values_in, weights_in, whole_number}
+use Rattle.layer_map.specs.Values.{radii_in, values_in, weights_in, whole_number, whole_numbers}
 use Rattle.layer_map.specs.declared.fault.MapFault.{MapFault}
 use Rattle.layer_map.specs.declared.fault.MapFault.TheVariants.{Memory, Syntax}
 use Rattle.map_model.specs.declared.layers.Cut.{Cut}
@@ -87,13 +88,13 @@ module _ (document : Members) where
 
 -- how many radii there are, of radii that were read and lent out
 pub radii_count : (document : Members) {radii : List ℕ} (lent : List ℕ) → lent ≡ radii
-    → Judges Memory (Holds document) radii_checks fault_of (AreRadiiThere (radii_in document)) (Ok radii) → length lent ≡ length (values_in (radii_in document))
+    → Judges Memory (Holds document) radii_checks fault_of (IsThere whole_numbers AreRadii (radii_in document)) (Ok radii) → length lent ≡ length (values_in (radii_in document))
 radii_count document {radii = radii} lent same told =
     ap length same ∙ sym (ap length (ap values_in (given told).written ∙ listed-items_of (map whole_number radii)) ∙ length-map radii whole_number)
 
 -- the map of what was read
-pub gives_map : (document : Members) (seen : Seen) (radii weights : List ℕ) (metals : List Metal) (cuts : List Cut) (terminals : List Terminal) → AreRadiiThere (radii_in document) radii
-    → AreWeightsThere (length radii) (weights_in document) weights
+pub gives_map : (document : Members) (seen : Seen) (radii weights : List ℕ) (metals : List Metal) (cuts : List Cut) (terminals : List Terminal)
+    → IsThere whole_numbers AreRadii (radii_in document) radii → IsThere whole_numbers (AreWeights (length radii)) (weights_in document) weights
     → TakesMetals document seen metals → TakesCuts document metals cuts → TakesTerminals document metals terminals
     → GivesMap document (record { metals = map metal_layer metals; cuts = map mapped_cut cuts; sizes = sizes_of radii weights; terminals = map terminal_of terminals })
 gives_map document seen radii weights metals cuts terminals radii_there weights_there takes_metals takes_cuts takes_terminals = record {
@@ -112,23 +113,24 @@ gives_map document seen radii weights metals cuts terminals radii_there weights_
 pub document_decides : (bytes : List ℕ) (document : Members) (outcome : Outcome LayerMap MapFault) → IsDocument bytes document → DocumentComesTo document outcome → MapComesTo bytes outcome
 document_decides bytes document outcome is told = goes_further (reads is) told
 
-pub no_document : (bytes : List ℕ) → ((document : Members) → IsDocument bytes document → ⊥) → MapComesTo bytes (refused Syntax)
-no_document bytes not = ends (lacks not)
+-- a document that lies in memory
+abbrev Table : Type 0
+Table = BTreeMap (String Global) Value
 
-pub map_read : (bytes : List ℕ) (document : Members) (result : Result Map MapFault) → IsDocument bytes document
-    → Judges Memory (Holds document) (checks_of document) fault_of (λ made. GivesMap document (layer_map_of made)) result → IfOk result (λ made. MapComesTo bytes (value (layer_map_of made)))
-map_read bytes document (Ok made) is (gives (all_hold all them)) = document_decides bytes document (value (layer_map_of made)) is (all_hold all them)
-map_read bytes document (Err fault) is told = tt
+-- the answers to what document bytes are and to what they come to
+abbrev AnswersDocument : List ℕ → Result Table MapFault → Type 0
+AnswersDocument bytes = Answers Memory (λ outcome. Reads (IsDocument bytes) Syntax (value_as table_view outcome))
 
-pub map_refused : (bytes : List ℕ) (document : Members) (result : Result Map MapFault) → IsDocument bytes document
-    → Judges Memory (Holds document) (checks_of document) fault_of (λ made. GivesMap document (layer_map_of made)) result → IfErr result (λ fault. fault ≢ Memory → MapComesTo bytes (refused fault))
-map_refused bytes document (Ok made) is told = tt
-map_refused bytes document (Err fault) is (refuses (one_fails f)) = λ _. document_decides bytes document (refused fault) is (one_fails f)
-map_refused bytes document (Err Memory) is no_memory = λ not. absurd (not refl)
+abbrev AnswersMap : List ℕ → Result Map MapFault → Type 0
+AnswersMap bytes = Answers Memory (λ outcome. MapComesTo bytes (value_as layer_map_of outcome))
 
-pub unread_map : (bytes : List ℕ) (result : Result Map MapFault) (fault : MapFault) → IsErrAnd result (λ same. same ≡ fault)
-    → (fault ≢ Memory → (fault ≡ Syntax) × ((document : Members) → IsDocument bytes document → ⊥)) → IfErr result (λ same. same ≢ Memory → MapComesTo bytes (refused same))
-unread_map bytes (Ok made) fault h told = absurd h
-unread_map bytes (Err same) fault h told = λ not.
-    let (syntax, none) = told (λ memory. not (h ∙ memory)) in
-    subst (λ (f : MapFault). MapComesTo bytes (refused f)) (sym (h ∙ syntax)) (no_document bytes none)
+module _ (bytes : List ℕ) where
+  pub no_document : (fault : MapFault) → AnswersDocument bytes (Err fault) → AnswersMap bytes (Err fault)
+  no_document fault (refuses h) = refuses (ends h)
+  no_document _ no_memory = no_memory
+
+  pub map_answered : (table : Table) (result : Result Map MapFault) → AnswersDocument bytes (Ok table)
+      → Judges Memory (Holds (table_view table)) (checks_of (table_view table)) fault_of (λ made. GivesMap (table_view table) (layer_map_of made)) result → AnswersMap bytes result
+  map_answered table (Ok made) (gives is) (gives (all_hold all them)) = gives (goes_further is (all_hold all them))
+  map_answered table (Err fault) (gives is) (refuses (one_fails f)) = refuses (goes_further is (one_fails f))
+  map_answered table (Err _) (gives is) no_memory = no_memory

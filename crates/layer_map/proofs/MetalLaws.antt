@@ -1,9 +1,9 @@
 -- the metals of a document, item by item
-use Rattle.std.proofs.Common.{◌≡◌, ℕ, ◌+◌, ◌<◌, ◌≤◌, List, [], ◌∷◌, ◌++◌, length, take, map, Option, Some, Ok, Err, refl, sym, ap, ◌∙◌, subst, arith, take_all, slice_get, IsSomeAnd}
+use Rattle.std.proofs.Common.{◌≡◌, ℕ, ◌+◌, ◌<◌, ◌≤◌, List, [], ◌∷◌, ◌++◌, length, take, map, Some, Result, Ok, Err, refl, sym, ap, ◌∙◌, subst, arith, take_all, slice_get}
 use Rattle.lists.proofs.Words.{append-nil, AllZip, flat_map-append, length-map, map-append, All-from_recursion, slice_get_within, AllZip-long, all_zipped_more}
 use Rattle.toml.specs.Data.{Data, Members}
 use Rattle.layer_map.specs.Documents.{GivesLayer}
-use Rattle.layer_map.specs.LayerChecks.{LayerCheck, LayerHolds, layer_checks, layer_fault, metal_keys}
+use Rattle.layer_map.specs.LayerChecks.{LayerHolds, layer_checks, layer_fault, metal_keys}
 use Rattle.map_model.specs.MapNames.{MappedLayer, metal_layer, names_of, pairs_of}
 use Rattle.layer_map.specs.MapChecks.{MapCheck, Holds, checks_of_each, checks_of_metals, fault_of, has_metals, metals_are_few, of_metal}
 use Rattle.layer_map.specs.DocumentPaths.{metal_path}
@@ -16,9 +16,9 @@ use Rattle.map_model.specs.declared.layers.Metal.{Metal}
 use Rattle.map_model.specs.declared.limits.TheConstants.{MOST_METALS}
 use Rattle.layer_map.specs.declared.seen.Layer.{Layer}
 use Rattle.layer_map.specs.declared.seen.Seen.{Seen}
-use Rattle.first_refusal.proofs.JudgeLaws.{Judges, all_renamed, fails_first, given, goes_on, passed, passes, renamed}
+use Rattle.first_refusal.proofs.JudgeLaws.{Judges, fails_first, given, passed, passes, renamed}
 use Rattle.first_refusal.proofs.StepLaws.{HoldsSoFar, all_of_them, further, nothing_yet, part_stops}
-use Rattle.layer_map.proofs.EachLaws.{left, left_more, left_none}
+use Rattle.layer_map.proofs.EachLaws.{fails_second, left, left_more, left_none}
 use Rattle.lists.proofs.Reading.{taken_at}
 
 -- the checks of one metal
@@ -45,10 +45,7 @@ module _ (document : Members) where
     no_metals not = fails_first (Holds document) fault_of Is has_metals (metals_are_few ∷ checks_of_each of_metal layer_checks (metals_in document)) not
 
     pub too_many_metals : 1 ≤ length (metals_in document) → MOST_METALS < length (metals_in document) → Judges Memory (Holds document) (checks_of_metals document) fault_of Is (Err (LimitPassed 5))
-    too_many_metals some many =
-        goes_on (Holds document) fault_of Is (has_metals ∷ []) (metals_are_few ∷ checks_of_each of_metal layer_checks (metals_in document)) _
-        (All-from_recursion (Holds document) (has_metals ∷ []) (some, tt))
-        (fails_first (Holds document) fault_of Is metals_are_few (checks_of_each of_metal layer_checks (metals_in document)) (λ few. omega (arith, few)))
+    too_many_metals some many = fails_second (Holds document) fault_of Is has_metals metals_are_few (checks_of_each of_metal layer_checks (metals_in document)) some (λ few. omega (arith, few))
 
   pub no_metal_yet : (seen : Seen) → 1 ≤ length (metals_in document) → length (metals_in document) ≤ MOST_METALS → AreSeen [] seen → MetalsSoFar document 0 [] seen
   no_metal_yet seen some few none = record {
@@ -64,39 +61,37 @@ module _ (document : Members) where
   }
 
   module _ (number : ℕ) (item : Data) (there : slice_get (metals_in document) number ≡ Some item) where
-    onward : (check : LayerCheck) → LayerHolds metal_keys (take number (metals_in document)) item check → Holds document (of_metal number check)
-    onward check h = subst (λ (o : Option Data). IsSomeAnd o (λ d. LayerHolds metal_keys (take number (metals_in document)) d check)) (sym there) h
+    -- what is checked of the item is what is checked of the metal with its number
+    one_part : {T : Type 0} (Is : T → Type 0) (result : Result T MapFault)
+        → Judges Memory (LayerHolds metal_keys (take number (metals_in document)) item) layer_checks (layer_fault (metal_path number)) Is result
+        → Judges Memory (Holds document) (checks_of_one number) fault_of Is result
+    one_part Is result = renamed (LayerHolds metal_keys (take number (metals_in document)) item) (Holds document) (layer_fault (metal_path number)) fault_of (of_metal number)
+        (λ check h. rw there h) (λ check h. rw there at h) (λ check. refl) Is layer_checks result
 
-    back : (check : LayerCheck) → Holds document (of_metal number check) → LayerHolds metal_keys (take number (metals_in document)) item check
-    back check h = subst (λ (o : Option Data). IsSomeAnd o (λ d. LayerHolds metal_keys (take number (metals_in document)) d check)) there h
+    left_here : (metals : List Metal) (seen : Seen) → MetalsSoFar document number metals seen
+        → HoldsSoFar (Holds document) (checks_of_metals document) (checks_of_one number ++ left checks_of_one (metals_in document) (number + 1))
+    left_here metals seen far = rw (← left_more checks_of_one (metals_in document) number (slice_get_within (metals_in document) number item there)) far.holds
 
     pub metal_stops : {T U : Type 0} (Is : T → Type 0) (Js : U → Type 0) (metals : List Metal) (seen : Seen) (fault : MapFault) → MetalsSoFar document number metals seen
         → Judges Memory (LayerHolds metal_keys (take number (metals_in document)) item) layer_checks (layer_fault (metal_path number)) Is (Err fault)
         → Judges Memory (Holds document) (checks_of_metals document) fault_of Js (Err fault)
-    metal_stops Is Js metals seen fault far told =
-        let within = slice_get_within (metals_in document) number item there in
-        part_stops (Holds document) fault_of Is Js (checks_of_metals document) (checks_of_one number) (left checks_of_one (metals_in document) (number + 1)) fault
-        (subst (HoldsSoFar (Holds document) (checks_of_metals document)) (left_more checks_of_one (metals_in document) number within) far.holds)
-        (renamed (LayerHolds metal_keys (take number (metals_in document)) item) (Holds document) (layer_fault (metal_path number)) fault_of (of_metal number) onward back (λ check. refl)
-        Is layer_checks (Err fault) told)
+    metal_stops Is Js metals seen fault far told = part_stops (Holds document) fault_of Is Js (checks_of_metals document) (checks_of_one number)
+        (left checks_of_one (metals_in document) (number + 1)) fault (left_here metals seen far) (one_part Is (Err fault) told)
 
     pub one_metal_more : (metals : List Metal) (old new : Seen) (layer : Layer) (metal : Metal) → metal_layer metal ≡ record { name = layer.name; pairs = layer.pairs }
         → MetalsSoFar document number metals old
         → Judges Memory (LayerHolds metal_keys (take number (metals_in document)) item) layer_checks (layer_fault (metal_path number)) (TakesLayer (take number (metals_in document)) item old new)
         (Ok layer) → MetalsSoFar document (number + 1) (metals ++ metal ∷ []) new
     one_metal_more metals old new layer metal same far told =
-        let within = slice_get_within (metals_in document) number item there in
         let more = taken_at (metals_in document) number item there in
-        let holds = LayerHolds metal_keys (take number (metals_in document)) item in
         let takes = given told in
         let last : map metal_layer (metals ++ metal ∷ []) ≡ map metal_layer metals ++ record { name = layer.name; pairs = layer.pairs } ∷ [] = map-append metal_layer metals (metal ∷ [])
         ∙ ap (λ (l : MappedLayer). map metal_layer metals ++ l ∷ []) same in
         record {
           some = far.some;
           few = far.few;
-          holds = further (Holds document) (checks_of_metals document) (checks_of_one number) (left checks_of_one (metals_in document) (number + 1))
-              (subst (HoldsSoFar (Holds document) (checks_of_metals document)) (left_more checks_of_one (metals_in document) number within) far.holds)
-              (all_renamed holds (Holds document) (layer_fault (metal_path number)) fault_of (of_metal number) onward back (λ check. refl) layer_checks (passed told));
+          holds = further (Holds document) (checks_of_metals document) (checks_of_one number) (left checks_of_one (metals_in document) (number + 1)) (left_here metals old far)
+              (passed (one_part _ _ told));
           gives_them = rw (more, last) (all_zipped_more GivesLayer (take number (metals_in document)) (map metal_layer metals) item (record { name = layer.name; pairs = layer.pairs })
               far.gives_them takes.gives_it);
           are_seen = rw more takes.are_seen;

@@ -1,12 +1,16 @@
 -- what stands at a key, and the metal that it names
 use Rattle.std.proofs.Common.{◌≡◌, ℕ, zero, suc, List, [], ◌∷◌, map, Option, Some, None, refl, sym, ap, ◌∙◌, subst, option_and_then, Contains, slice_get}
-use Rattle.lists.proofs.Words.{slice_get-get_or, slice_get_within, get_or_from_slice_get, same_Some}
+use Rattle.lists.proofs.Words.{same_Some}
+use Rattle.lists.proofs.Containing.{Contains-slice_get, number_of}
+use Rattle.lists.proofs.Mapping.{Contains-map}
 use Rattle.toml.specs.Data.{Data, string, integer, float, boolean, datetime, array, table, as_str}
 use Rattle.layer_map.specs.Documents.{NamesMetal}
 use Rattle.map_model.specs.MapNames.{metal_layer}
 use Rattle.layer_map.specs.Values.{name_of_item}
 use Rattle.layer_map.specs.ItemChecks.{ReferenceHolds, is_text, is_metal}
 use Rattle.layer_map.specs.inside.ReadMetals.{HaveNamesOf}
+use Rattle.layer_map.specs.inside.ReadLayers.{written_name}
+use Rattle.layer_map.proofs.SeenLaws.{name_among}
 use Rattle.map_model.specs.declared.layers.Metal.{Metal}
 
 pub text_is : (there : Option Data) (text : List ℕ) → Some text ≡ option_and_then as_str there → there ≡ Some (string text)
@@ -30,25 +34,15 @@ module _ (items : List Data) (metals : List Metal) (there : Option Data) (text :
   -- a metal has this name, or none
   pub no_metal : ((number : ℕ) → slice_get (map (λ metal. metal.name) metals) number ≡ Some text → ⊥) → ReferenceHolds items there is_metal → ⊥
   no_metal not h =
-      let (k, within, same) = subst (λ (ds : List (Option Data)). Contains ds (Some (string text))) have (subst (Contains (map name_of_item items)) (text_is there text told) h) in
-      let there_is = slice_get-get_or (map (λ (metal : Metal). Some (string metal.name)) metals) k (Some (string text)) within ∙ ap Some same in
-      not k (name_there metals k there_is) where
-        name_there : (ms : List Metal) (k : ℕ) → slice_get (map (λ (metal : Metal). Some (string metal.name)) ms) k ≡ Some (Some (string text)) → slice_get (map (λ metal. metal.name) ms) k ≡ Some text
-        name_there [] k h = cc h
-        name_there (m ∷ ms) zero h = let e : m.name ≡ text = cc h in ap Some e
-        name_there (m ∷ ms) (suc k) h = name_there ms k h
+      let among = subst (λ (ds : List (Option Data)). Contains ds (written_name text)) have (subst (Contains (map name_of_item items)) (text_is there text told) h) in
+      let (number, named) = number_of (map (λ metal. metal.name) metals) text (name_among (map (λ metal. metal.name) metals) text among) in
+      not number named
 
   module _ (number : ℕ) (named : slice_get (map (λ metal. metal.name) metals) number ≡ Some text) where
     pub some_metal : ReferenceHolds items there is_metal
     some_metal =
-        let option_there : slice_get (map (λ (metal : Metal). Some (string metal.name)) metals) number ≡ Some (Some (string text)) = option_names metals number named in
-        subst (Contains (map name_of_item items)) (sym (text_is there text told))
-        (subst (λ (ds : List (Option Data)). Contains ds (Some (string text))) (sym have) (number, slice_get_within _ number _ option_there, get_or_from_slice_get _ number _ _ option_there)) where
-          option_names : (ms : List Metal) (k : ℕ) → slice_get (map (λ metal. metal.name) ms) k ≡ Some text
-              → slice_get (map (λ (metal : Metal). Some (string metal.name)) ms) k ≡ Some (Some (string text))
-          option_names [] k h = cc h
-          option_names (m ∷ ms) zero h = let e : m.name ≡ text = cc h in ap (λ t. Some (Some (string t))) e
-          option_names (m ∷ ms) (suc k) h = option_names ms k h
+        let among = Contains-map written_name (map (λ metal. metal.name) metals) text (Contains-slice_get (map (λ metal. metal.name) metals) number text named) in
+        subst (Contains (map name_of_item items)) (sym (text_is there text told)) (subst (λ (ds : List (Option Data)). Contains ds (written_name text)) (sym have) among)
 
     pub names_metal : NamesMetal (map metal_layer metals) there number
     names_metal = let (metal, numbered, same) = at metals number named in record {

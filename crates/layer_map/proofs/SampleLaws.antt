@@ -9,7 +9,7 @@ use Rattle.geo_core.specs.Plane.{IsRadius}
 use Rattle.toml.specs.Data.{Data, Members, no_members, member, string, table, as_str}
 use Rattle.toml.specs.Parse.{parse_document}
 use Rattle.toml.proofs.OnLiterals.{toml_on_literals}
-use Rattle.layer_map.specs.Documents.{GivesMap, IsDocument, MapComesTo}
+use Rattle.layer_map.specs.Documents.{GivesMap, IsDocument, MapComesTo, NamesMetal}
 use Rattle.map_model.specs.MapNames.{AreRadii, AreWeights, IsPair, ArePairs, IsLayerName, is_name_byte}
 use Rattle.lists.specs.Differing.{AreDifferent}
 use Rattle.layer_map.specs.MapChecks.{MapCheck, Holds, checks_of, checks_of_cuts, checks_of_metals, checks_of_terminals, cuts_are_array, cuts_are_few, first_checks, has_metals, map_keys, metals_are_few, of_cut, of_metal, of_terminal, terminals_are_array, terminals_are_few}
@@ -143,67 +143,31 @@ metal_keys_known : All (Contains metal_keys) (codes "name" ∷ codes "pairs" ∷
 metal_keys_known = All-from_recursion (Contains metal_keys) (codes "name" ∷ codes "pairs" ∷ []) ((0, omega arith, refl), ((1, omega arith, refl), tt))
 
 first_metal_holds : All Sound (map (of_metal 0) layer_checks)
-first_metal_holds = All-from_recursion Sound (map (of_metal 0) layer_checks) (
-  refl,
-  (
-    metal_keys_known,
-    (
-      named 109 49 refl refl,
-      (
-        Contains-none,
-        (
-          ((1, 0) ∷ (1, 20) ∷ [], refl, two_pairs),
-          (written_differ ((1, 0) ∷ (1, 20) ∷ []) ((3, 0) ∷ (2, 0) ∷ []) refl, tt),
-        ),
-      ),
-    ),
-  ),
-)
+first_metal_holds =
+    let differ = written_differ ((1, 0) ∷ (1, 20) ∷ []) ((3, 0) ∷ (2, 0) ∷ []) refl in
+    All-from_recursion Sound (map (of_metal 0) layer_checks) (refl, (metal_keys_known, (named 109 49 refl refl, (Contains-none, (((1, 0) ∷ (1, 20) ∷ [], refl, two_pairs), (differ, tt))))))
 
 second_metal_holds : All Sound (map (of_metal 1) layer_checks)
-second_metal_holds = All-from_recursion Sound (map (of_metal 1) layer_checks) (
-  refl,
-  (
-    metal_keys_known,
-    (
-      named 109 50 refl refl,
-      (
-        not_among code_of (written_name (codes "m2")) (written_name (codes "m1") ∷ []) refl,
-        (
-          ((3, 0) ∷ [], refl, one_pair 3 0 (omega arith) (omega arith)),
-          (written_differ ((1, 0) ∷ (1, 20) ∷ (3, 0) ∷ []) ((2, 0) ∷ []) refl, tt),
-        ),
-      ),
-    ),
-  ),
-)
+second_metal_holds =
+    let new = not_among code_of (written_name (codes "m2")) (written_name (codes "m1") ∷ []) refl in
+    let pairs = one_pair 3 0 (omega arith) (omega arith) in
+    let differ = written_differ ((1, 0) ∷ (1, 20) ∷ (3, 0) ∷ []) ((2, 0) ∷ []) refl in
+    All-from_recursion Sound (map (of_metal 1) layer_checks) (refl, (metal_keys_known, (named 109 50 refl refl, (new, (((3, 0) ∷ [], refl, pairs), (differ, tt))))))
 
 cut_layer_holds : All Sound (map (of_cut 0) (map as_layer layer_checks))
-cut_layer_holds = All-from_recursion Sound (map (of_cut 0) (map as_layer layer_checks)) (
-  refl,
-  (
-    keys,
-    (
-      named 118 49 refl refl,
-      (
-        not_among code_of (written_name (codes "v1")) (written_name (codes "m1") ∷ written_name (codes "m2") ∷ []) refl,
-        (
-          ((2, 0) ∷ [], refl, one_pair 2 0 (omega arith) (omega arith)),
-          (written_differ all_pairs [] refl, tt),
-        ),
-      ),
-    ),
-  ),
-) where
-  keys : All (Contains cut_keys) (codes "lower" ∷ codes "name" ∷ codes "pairs" ∷ codes "upper" ∷ [])
-  keys = All-from_recursion (Contains cut_keys) (codes "lower" ∷ codes "name" ∷ codes "pairs" ∷ codes "upper" ∷ [])
-      ((2, omega arith, refl), ((0, omega arith, refl), ((1, omega arith, refl), ((3, omega arith, refl), tt))))
+cut_layer_holds =
+    let new = not_among code_of (written_name (codes "v1")) (written_name (codes "m1") ∷ written_name (codes "m2") ∷ []) refl in
+    let pairs = one_pair 2 0 (omega arith) (omega arith) in
+    let differ = written_differ all_pairs [] refl in
+    All-from_recursion Sound (map (of_cut 0) (map as_layer layer_checks)) (refl, (keys, (named 118 49 refl refl, (new, (((2, 0) ∷ [], refl, pairs), (differ, tt)))))) where
+      keys : All (Contains cut_keys) (codes "lower" ∷ codes "name" ∷ codes "pairs" ∷ codes "upper" ∷ [])
+      keys = All-from_recursion (Contains cut_keys) (codes "lower" ∷ codes "name" ∷ codes "pairs" ∷ codes "upper" ∷ [])
+          ((2, omega arith, refl), ((0, omega arith, refl), ((1, omega arith, refl), ((3, omega arith, refl), tt))))
 
 cut_ends_hold : All Sound (map (of_cut 0) end_checks)
-cut_ends_hold = All-from_recursion Sound (map (of_cut 0) end_checks) (
-  (codes "m1", refl, tt),
-  ((0, omega arith, refl), ((codes "m2", refl, tt), ((1, omega arith, refl), (apart code_of (written_name (codes "m2")) (written_name (codes "m1")) refl, tt)))),
-)
+cut_ends_hold =
+    let differ = apart code_of (written_name (codes "m2")) (written_name (codes "m1")) refl in
+    All-from_recursion Sound (map (of_cut 0) end_checks) ((codes "m1", refl, tt), ((0, omega arith, refl), ((codes "m2", refl, tt), ((1, omega arith, refl), (differ, tt)))))
 
 terminal_holds : All Sound (map (of_terminal 0) terminal_checks)
 terminal_holds = All-from_recursion Sound (map (of_terminal 0) terminal_checks)
@@ -248,24 +212,14 @@ sample_gives = record {
   sizes = refl;
   metals = (record { name = refl; pairs = refl }, (record { name = refl; pairs = refl }, tt));
   names_differ = are_different name_code (codes "m1" ∷ codes "m2" ∷ []) refl;
-  cuts = (
-    record {
-      layer = record { name = refl; pairs = refl };
-      lower = record { metal = record { name = codes "m1"; pairs = (1, 0) ∷ (1, 20) ∷ [] }; numbered = refl; named = refl };
-      upper = record { metal = record { name = codes "m2"; pairs = (3, 0) ∷ [] }; numbered = refl; named = refl };
-      no_terminals = refl;
-    },
-    tt,
-  );
-  terminals = (
-    record {
-      metal = record { metal = record { name = codes "m1"; pairs = (1, 0) ∷ (1, 20) ∷ [] }; numbered = refl; named = refl };
-      column = refl;
-      row = refl;
-    },
-    tt,
-  );
-}
+  cuts = (record { layer = record { name = refl; pairs = refl }; lower = first; upper = second; no_terminals = refl }, tt);
+  terminals = (record { metal = first; column = refl; row = refl }, tt);
+} where
+  first : NamesMetal sample_map.metals (Some (string (codes "m1"))) 0
+  first = record { metal = record { name = codes "m1"; pairs = (1, 0) ∷ (1, 20) ∷ [] }; numbered = refl; named = refl }
+
+  second : NamesMetal sample_map.metals (Some (string (codes "m2"))) 1
+  second = record { metal = record { name = codes "m2"; pairs = (3, 0) ∷ [] }; numbered = refl; named = refl }
 
 pub sample_comes_to_its_map : MapComesTo sample_text (value sample_map)
 sample_comes_to_its_map = document_decides sample_text sample_document (value sample_map) is_document (all_hold sample_holds sample_gives)

@@ -9,6 +9,14 @@ use Rattle.layer_map.specs.inside.ReadValues.{IsWholeIn, AreWholesIn, Finds, lac
 pub map-take-more : {A B : Type 0} (f : A → B) (xs : List A) (i : ℕ) (x : A) → i < length xs → x ≡ get_or xs i x → map f (take (i + 1) xs) ≡ map f (take i xs) ++ f x ∷ []
 map-take-more f xs i x within is = ap (map f) (take_more xs i x within) ∙ map-append f (take i xs) (get_or xs i x ∷ []) ∙ ap (λ y. map f (take i xs) ++ f y ∷ []) (sym is)
 
+-- a list is told by what is written for it
+pub lists_tell : {A : Type 0} (written : A → Data) → ((one other : A) → written one ≡ written other → one ≡ other) → (xs ys : List A) → map written xs ≡ map written ys → xs ≡ ys
+lists_tell written tells [] [] same = refl
+lists_tell written tells [] (y ∷ ys) same = cc same
+lists_tell written tells (x ∷ xs) [] same = cc same
+lists_tell written tells (x ∷ xs) (y ∷ ys) same =
+    let head : x ≡ y = tells x y (cc same) in let tail : xs ≡ ys = lists_tell written tells xs ys (cc same) in cc
+
 -- what is written at one place
 pub written_at : {A V : Type 0} (view : V → Data) (written : A → Data) (vs : List V) (things : List A) → map view vs ≡ map written things → (i : ℕ) (v : V) (thing : A) → i < length vs
     → v ≡ get_or vs i v → (i < length things) × (view v ≡ written (get_or things i thing))

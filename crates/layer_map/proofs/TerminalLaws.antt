@@ -1,106 +1,79 @@
 -- the terminals of a document, item by item
-use Rattle.std.proofs.Common.{◌≡◌, ◌≢◌, ℕ, ℤ, zero, suc, ◌+◌, ◌<◌, ◌≤◌, List, [], ◌∷◌, ◌++◌, length, take, map, codes, Option, Some, Result, Ok, Err, refl, sym, ap, ◌∙◌, subst, arith, take_all, All, Contains, slice_get, IsSomeAnd}
-use Rattle.lists.proofs.Words.{AllZip, get_or-map, length-map, map-append, All-append, All-from_recursion, All-nil, All-push, Contains-get_or, all_pairs_push, same_Some, slice_get_within, AllZip-long, all_zipped_more}
-use Rattle.toml.specs.Data.{Data, Members, string, integer, table, get_member}
+use Rattle.std.proofs.Common.{◌≡◌, ℕ, ℤ, zero, suc, ◌+◌, ◌<◌, ◌≤◌, List, [], ◌∷◌, ◌++◌, length, take, map, Option, Some, Result, Ok, Err, refl, sym, ap, ◌∙◌, subst, arith, take_all, All, Contains, slice_get}
+use Rattle.layer_map.specs.inside.ReadValues.{IsThere}
+use Rattle.lists.proofs.Words.{AllZip, length-map, map-append, All-append, All-from_recursion, All-nil, All-push, same_Some, slice_get_within, AllZip-long, all_zipped_more}
+use Rattle.toml.specs.Data.{Data, Members, string, integer}
 use Rattle.layer_map.specs.Documents.{GivesTerminal, NamesMetal}
-use Rattle.layer_map.specs.ItemChecks.{TableHolds, table_checks, table_fault, ReferenceCheck, ReferenceHolds, reference_checks, reference_fault}
+use Rattle.layer_map.specs.ItemChecks.{TableHolds, table_checks, table_fault, ReferenceHolds, reference_checks, reference_fault}
 use Rattle.map_model.specs.MapNames.{MappedLayer, metal_layer, names_of, terminal_of}
 use Rattle.lists.specs.Differing.{AreDifferent}
 use Rattle.layer_map.specs.MapChecks.{MapCheck, Holds, IsArrayOrNone, checks_of_each, checks_of_terminals, fault_of, of_terminal, terminals_are_array, terminals_are_few}
 use Rattle.layer_map.specs.DocumentPaths.{metal_of_terminal_at, terminal_path, x_at, y_at}
-use Rattle.layer_map.specs.inside.ReadTerminals.{IsCellNumberThere, TakesTerminal, TakesTerminals, place_of_terminal}
-use Rattle.layer_map.specs.TerminalChecks.{TerminalCheck, TerminalHolds, as_table, has_x, has_y, is_new, metal_named, place_checks, place_in, terminal_checks, terminal_fault, terminal_keys}
+use Rattle.layer_map.specs.inside.ReadTerminals.{TakesTerminal, TakesTerminals, place_of_terminal}
+use Rattle.layer_map.specs.TerminalChecks.{TerminalCheck, TerminalHolds, as_table, has_x, has_y, is_new, metal_named, place_checks, place_in, terminal_checks, terminal_fault, terminal_keys, IsCellNumber}
 use Rattle.layer_map.specs.Values.{metal_of_item, metals_in, terminal_in, terminals_in, x_of_item, y_of_item}
 use Rattle.layer_map.specs.declared.fault.MapFault.{MapFault}
 use Rattle.layer_map.specs.declared.fault.MapFault.TheVariants.{BadValue, LimitPassed, RepeatedTerminal, Memory}
 use Rattle.map_model.specs.declared.layers.Metal.{Metal}
 use Rattle.map_model.specs.declared.layers.Terminal.{Terminal}
 use Rattle.map_model.specs.declared.limits.TheConstants.{MOST_TERMINALS}
-use Rattle.first_refusal.proofs.JudgeLaws.{Judges, all_renamed, fails_first, given, goes_on, passed, passes, renamed, stops}
+use Rattle.first_refusal.proofs.JudgeLaws.{Judges, fails_first, given, goes_on, passed, passes, renamed, stops}
 use Rattle.layer_map.proofs.CutLaws.{names_within}
 use Rattle.first_refusal.proofs.StepLaws.{HoldsSoFar, all_of_them, further, nothing_yet, part_stops}
-use Rattle.layer_map.proofs.EachLaws.{left, left_more, left_none}
+use Rattle.layer_map.proofs.EachLaws.{fails_second, left, left_more, left_none}
+use Rattle.lists.proofs.Differing.{different_more}
+use Rattle.lists.proofs.Mapping.{Contains-map}
 use Rattle.lists.proofs.Reading.{taken_at}
 use Rattle.layer_map.proofs.EndLaws.{one_metal_named}
 
 -- one terminal by itself: its table, its metal, its column and its row
-module _ (items earlier : List Data) (item : Data) (path : ℕ) {U : Type 0} (Js : U → Type 0) where
-  pub table_stops : {T : Type 0} (Is : T → Type 0) (fault : MapFault) → Judges Memory (TableHolds terminal_keys item) table_checks (table_fault path) Is (Err fault)
-      → Judges Memory (TerminalHolds items earlier item) place_checks (terminal_fault path) Js (Err fault)
-  table_stops Is fault told =
-      stops (TerminalHolds items earlier item) (terminal_fault path) Is Js (map as_table table_checks) (map metal_named reference_checks ++ (has_x ∷ has_y ∷ [])) fault
-      (renamed (TableHolds terminal_keys item) (TerminalHolds items earlier item) (table_fault path) (terminal_fault path) as_table (λ check h. h) (λ check h. h) (λ check. refl) Is table_checks
-      (Err fault) told)
+module _ (items earlier : List Data) (item : Data) (path : ℕ) where
+  module _ {T : Type 0} {Is : T → Type 0} {result : Result T MapFault} where
+    table_part : Judges Memory (TableHolds terminal_keys item) table_checks (table_fault path) Is result
+        → Judges Memory (TerminalHolds items earlier item) (map as_table table_checks) (terminal_fault path) Is result
+    table_part = renamed _ _ _ _ as_table (λ check h. h) (λ check h. h) (λ check. refl) Is table_checks result
 
-  module _ (table_good : All (TableHolds terminal_keys item) table_checks) (members : Members) (told : item ≡ table members) where
-    table_holds : All (TerminalHolds items earlier item) (map as_table table_checks)
-    table_holds = all_renamed (TableHolds terminal_keys item) (TerminalHolds items earlier item) (table_fault path) (terminal_fault path) as_table (λ check h. h) (λ check h. h) (λ check. refl)
-        table_checks table_good
+    metal_part : Judges Memory (ReferenceHolds items (metal_of_item item)) reference_checks (reference_fault (metal_of_terminal_at path)) Is result
+        → Judges Memory (TerminalHolds items earlier item) (map metal_named reference_checks) (terminal_fault path) Is result
+    metal_part = renamed _ _ _ _ metal_named (λ check h. h) (λ check h. h) (λ check. refl) Is reference_checks result
 
-    metal_is : get_member (codes "metal") members ≡ metal_of_item item
-    metal_is = sym (ap metal_of_item told)
+  module _ {T : Type 0} {Is : T → Type 0} where
+    pub table_stops : {U : Type 0} {Js : U → Type 0} {fault : MapFault} → Judges Memory (TableHolds terminal_keys item) table_checks (table_fault path) Is (Err fault)
+        → Judges Memory (TerminalHolds items earlier item) place_checks (terminal_fault path) Js (Err fault)
+    table_stops told = stops _ _ _ _ (map as_table table_checks) (map metal_named reference_checks ++ has_x ∷ has_y ∷ []) _ (table_part told)
 
-    x_is : get_member (codes "x") members ≡ x_of_item item
-    x_is = sym (ap x_of_item told)
+    module _ {table : T} (table_told : Judges Memory (TableHolds terminal_keys item) table_checks (table_fault path) Is (Ok table)) where
+      pub metal_stops : {U V : Type 0} {Js : U → Type 0} {Ks : V → Type 0} {fault : MapFault} → Judges Memory (ReferenceHolds items (metal_of_item item)) reference_checks
+          (reference_fault (metal_of_terminal_at path)) Ks (Err fault) → Judges Memory (TerminalHolds items earlier item) place_checks (terminal_fault path) Js (Err fault)
+      metal_stops told = goes_on _ _ _ (map as_table table_checks) (map metal_named reference_checks ++ has_x ∷ has_y ∷ []) _ (passed (table_part table_told))
+          (stops _ _ _ _ (map metal_named reference_checks) (has_x ∷ has_y ∷ []) _ (metal_part told))
 
-    y_is : get_member (codes "y") members ≡ y_of_item item
-    y_is = sym (ap y_of_item told)
+      module _ {metal : ℕ} {Ks : ℕ → Type 0} (metal_told : Judges Memory (ReferenceHolds items (metal_of_item item)) reference_checks (reference_fault (metal_of_terminal_at path)) Ks (Ok metal)) where
+        front_holds : All (TerminalHolds items earlier item) (map as_table table_checks ++ map metal_named reference_checks)
+        front_holds = All-append (TerminalHolds items earlier item) (map as_table table_checks) (map metal_named reference_checks) (passed (table_part table_told)) (passed (metal_part metal_told))
 
-    onward_metal : (check : ReferenceCheck) → ReferenceHolds items (get_member (codes "metal") members) check → TerminalHolds items earlier item (metal_named check)
-    onward_metal check h = subst (λ (there : Option Data). ReferenceHolds items there check) metal_is h
+        cell_decides : {U : Type 0} (Js : U → Type 0) (result : Result U MapFault) → Judges Memory (TerminalHolds items earlier item) (has_x ∷ has_y ∷ []) (terminal_fault path) Js result
+            → Judges Memory (TerminalHolds items earlier item) place_checks (terminal_fault path) Js result
+        cell_decides Js result = goes_on _ _ _ (map as_table table_checks ++ map metal_named reference_checks) (has_x ∷ has_y ∷ []) result front_holds
 
-    back_metal : (check : ReferenceCheck) → TerminalHolds items earlier item (metal_named check) → ReferenceHolds items (get_member (codes "metal") members) check
-    back_metal check h = subst (λ (there : Option Data). ReferenceHolds items there check) (sym metal_is) h
+        pub no_x : {U : Type 0} {Js : U → Type 0} → ((n : ℤ) → IsThere integer IsCellNumber (x_of_item item) n → ⊥)
+            → Judges Memory (TerminalHolds items earlier item) place_checks (terminal_fault path) Js (Err (BadValue (x_at path)))
+        no_x not = cell_decides _ _ (fails_first _ _ _ has_x (has_y ∷ []) (λ h. not h.0 (record { written = h.1; is = h.2 })))
 
-    pub metal_stops : {T : Type 0} (Is : T → Type 0) (fault : MapFault) → Judges Memory (ReferenceHolds items (get_member (codes "metal") members)) reference_checks
-        (reference_fault (metal_of_terminal_at path)) Is (Err fault) → Judges Memory (TerminalHolds items earlier item) place_checks (terminal_fault path) Js (Err fault)
-    metal_stops Is fault h =
-        goes_on (TerminalHolds items earlier item) (terminal_fault path) Js (map as_table table_checks) (map metal_named reference_checks ++ (has_x ∷ has_y ∷ [])) (Err fault) table_holds
-        (stops (TerminalHolds items earlier item) (terminal_fault path) Is Js (map metal_named reference_checks) (has_x ∷ has_y ∷ []) fault
-        (renamed (ReferenceHolds items (get_member (codes "metal") members)) (TerminalHolds items earlier item) (reference_fault (metal_of_terminal_at path)) (terminal_fault path)
-        metal_named onward_metal back_metal (λ check. refl) Is reference_checks (Err fault) h))
+        module _ {i : ℤ} (x : IsThere integer IsCellNumber (x_of_item item) i) where
+          pub no_y : {U : Type 0} {Js : U → Type 0} → ((n : ℤ) → IsThere integer IsCellNumber (y_of_item item) n → ⊥)
+              → Judges Memory (TerminalHolds items earlier item) place_checks (terminal_fault path) Js (Err (BadValue (y_at path)))
+          no_y not = cell_decides _ _ (fails_second _ _ _ has_x has_y [] (i, x.written, x.is) (λ h. not h.0 (record { written = h.1; is = h.2 })))
 
-    module _ (metal_good : All (ReferenceHolds items (get_member (codes "metal") members)) reference_checks) where
-      metal_holds : All (TerminalHolds items earlier item) (map metal_named reference_checks)
-      metal_holds = all_renamed (ReferenceHolds items (get_member (codes "metal") members)) (TerminalHolds items earlier item) (reference_fault (metal_of_terminal_at path)) (terminal_fault path)
-          metal_named onward_metal back_metal (λ check. refl) reference_checks metal_good
+          pub place_good : {U : Type 0} {Js : U → Type 0} {j : ℤ} {thing : U} → IsThere integer IsCellNumber (y_of_item item) j → Js thing
+              → Judges Memory (TerminalHolds items earlier item) place_checks (terminal_fault path) Js (Ok thing)
+          place_good {j = j} y is = cell_decides _ _ (passes _ _ _ (has_x ∷ has_y ∷ []) _
+              (All-from_recursion (TerminalHolds items earlier item) (has_x ∷ has_y ∷ []) ((i, x.written, x.is), ((j, y.written, y.is), tt))) is)
 
-      cell_decides : (result : Result U MapFault) → Judges Memory (TerminalHolds items earlier item) (has_x ∷ has_y ∷ []) (terminal_fault path) Js result
-          → Judges Memory (TerminalHolds items earlier item) place_checks (terminal_fault path) Js result
-      cell_decides result h =
-          goes_on (TerminalHolds items earlier item) (terminal_fault path) Js (map as_table table_checks) (map metal_named reference_checks ++ (has_x ∷ has_y ∷ [])) result table_holds
-          (goes_on (TerminalHolds items earlier item) (terminal_fault path) Js (map metal_named reference_checks) (has_x ∷ has_y ∷ []) result metal_holds h)
-
-      pub no_x : ((n : ℤ) → IsCellNumberThere (get_member (codes "x") members) n → ⊥) → Judges Memory (TerminalHolds items earlier item) place_checks (terminal_fault path) Js
-          (Err (BadValue (x_at path)))
-      no_x not = cell_decides _ (fails_first (TerminalHolds items earlier item) (terminal_fault path) Js has_x (has_y ∷ []) (λ h. not h.0 (record { written = x_is ∙ h.1; is_cell_number = h.2 })))
-
-      module _ (i : ℤ) (x : IsCellNumberThere (get_member (codes "x") members) i) where
-        x_holds : TerminalHolds items earlier item has_x
-        x_holds = (i, sym x_is ∙ x.written, x.is_cell_number)
-
-        pub no_y : ((n : ℤ) → IsCellNumberThere (get_member (codes "y") members) n → ⊥) → Judges Memory (TerminalHolds items earlier item) place_checks (terminal_fault path) Js
-            (Err (BadValue (y_at path)))
-        no_y not = cell_decides _ (goes_on (TerminalHolds items earlier item) (terminal_fault path) Js (has_x ∷ []) (has_y ∷ []) _
-            (All-from_recursion (TerminalHolds items earlier item) (has_x ∷ []) (x_holds, tt))
-            (fails_first (TerminalHolds items earlier item) (terminal_fault path) Js has_y [] (λ h. not h.0 (record { written = y_is ∙ h.1; is_cell_number = h.2 }))))
-
-        pub place_good : (j : ℤ) → IsCellNumberThere (get_member (codes "y") members) j → (thing : U) → Js thing
-            → Judges Memory (TerminalHolds items earlier item) place_checks (terminal_fault path) Js (Ok thing)
-        place_good j y thing is = cell_decides (Ok thing) (passes (TerminalHolds items earlier item) (terminal_fault path) Js (has_x ∷ has_y ∷ []) thing
-            (All-from_recursion (TerminalHolds items earlier item) (has_x ∷ has_y ∷ []) (x_holds, ((j, sym y_is ∙ y.written, y.is_cell_number), tt))) is)
-
-pub takes_terminal : (metals : List Metal) (item : Data) (members : Members) (terminal : Terminal) → item ≡ table members
-    → NamesMetal (map metal_layer metals) (get_member (codes "metal") members) terminal.metal → IsCellNumberThere (get_member (codes "x") members) terminal.cell.i
-    → IsCellNumberThere (get_member (codes "y") members) terminal.cell.j → TakesTerminal metals item terminal
-takes_terminal metals item members terminal told names x y = record {
-  gives_it = record {
-    metal = subst (λ (there : Option Data). NamesMetal (map metal_layer metals) there terminal.metal) (sym (ap metal_of_item told)) names;
-    column = ap x_of_item told ∙ x.written;
-    row = ap y_of_item told ∙ y.written;
-  };
-  on_metal = names_within metals _ terminal.metal names;
-}
+pub takes_terminal : (metals : List Metal) (item : Data) (terminal : Terminal) → NamesMetal (map metal_layer metals) (metal_of_item item) terminal.metal
+    → IsThere integer IsCellNumber (x_of_item item) terminal.cell.i → IsThere integer IsCellNumber (y_of_item item) terminal.cell.j → TakesTerminal metals item terminal
+takes_terminal metals item terminal names x y =
+    record { gives_it = record { metal = names; column = x.written; row = y.written }; on_metal = names_within metals _ terminal.metal names }
 
 -- terminals and the places of their items
 module _ (metals : List MappedLayer) (differ : AreDifferent (names_of metals)) where
@@ -169,10 +142,8 @@ module _ (document : Members) (metals : List Metal) where
 
     pub too_many_terminals : IsArrayOrNone (terminal_in document) → MOST_TERMINALS < length (terminals_in document)
         → Judges Memory (Holds document) (checks_of_terminals document) fault_of Is (Err (LimitPassed 7))
-    too_many_terminals array many =
-        goes_on (Holds document) fault_of Is (terminals_are_array ∷ []) (terminals_are_few ∷ checks_of_each of_terminal terminal_checks (terminals_in document)) _
-        (All-from_recursion (Holds document) (terminals_are_array ∷ []) (array, tt))
-        (fails_first (Holds document) fault_of Is terminals_are_few (checks_of_each of_terminal terminal_checks (terminals_in document)) (λ few. omega (arith, few)))
+    too_many_terminals array many = fails_second (Holds document) fault_of Is terminals_are_array terminals_are_few (checks_of_each of_terminal terminal_checks (terminals_in document)) array
+        (λ few. omega (arith, few))
 
   pub no_terminal_yet : IsArrayOrNone (terminal_in document) → length (terminals_in document) ≤ MOST_TERMINALS → TerminalsSoFar document metals 0 [] []
   no_terminal_yet array few = record {
@@ -187,74 +158,62 @@ module _ (document : Members) (metals : List Metal) where
   }
 
   module _ (number : ℕ) (item : Data) (there : slice_get (terminals_in document) number ≡ Some item) where
-    onward : (check : TerminalCheck) → TerminalHolds (metals_in document) (take number (terminals_in document)) item check → Holds document (of_terminal number check)
-    onward check h = subst (λ (o : Option Data). IsSomeAnd o (λ d. TerminalHolds (metals_in document) (take number (terminals_in document)) d check)) (sym there) h
+    abbrev OfItem : TerminalCheck → Type 0
+    OfItem = TerminalHolds (metals_in document) (take number (terminals_in document)) item
 
-    back : (check : TerminalCheck) → Holds document (of_terminal number check) → TerminalHolds (metals_in document) (take number (terminals_in document)) item check
-    back check h = subst (λ (o : Option Data). IsSomeAnd o (λ d. TerminalHolds (metals_in document) (take number (terminals_in document)) d check)) there h
+    -- what is checked of the item is what is checked of the terminal with its number
+    one_part : {T : Type 0} (Is : T → Type 0) (result : Result T MapFault) → Judges Memory OfItem terminal_checks (terminal_fault (terminal_path number)) Is result
+        → Judges Memory (Holds document) (checks_of_one number) fault_of Is result
+    one_part Is result = renamed OfItem (Holds document) (terminal_fault (terminal_path number)) fault_of (of_terminal number) (λ check h. rw there h) (λ check h. rw there at h) (λ check. refl)
+        Is terminal_checks result
 
     module _ (terminals : List Terminal) (places : List (ℕ × ℤ × ℤ)) (far : TerminalsSoFar document metals number terminals places) where
       left_here : HoldsSoFar (Holds document) (checks_of_terminals document) (checks_of_one number ++ left checks_of_one (terminals_in document) (number + 1))
-      left_here = subst (HoldsSoFar (Holds document) (checks_of_terminals document)) (left_more checks_of_one (terminals_in document) number
-          (slice_get_within (terminals_in document) number item there)) far.holds
+      left_here = rw (← left_more checks_of_one (terminals_in document) number (slice_get_within (terminals_in document) number item there)) far.holds
 
-      item_stops : {T U : Type 0} (Is : T → Type 0) (Js : U → Type 0) (fault : MapFault) → Judges Memory (TerminalHolds (metals_in document) (take number (terminals_in document)) item) terminal_checks
-          (terminal_fault (terminal_path number)) Is (Err fault) → Judges Memory (Holds document) (checks_of_terminals document) fault_of Js (Err fault)
-      item_stops Is Js fault told =
-          part_stops (Holds document) fault_of Is Js (checks_of_terminals document) (checks_of_one number) (left checks_of_one (terminals_in document) (number + 1)) fault left_here
-          (renamed (TerminalHolds (metals_in document) (take number (terminals_in document)) item) (Holds document) (terminal_fault (terminal_path number)) fault_of (of_terminal number) onward back
-          (λ check. refl) Is terminal_checks (Err fault) told)
+      item_stops : {T U : Type 0} (Is : T → Type 0) (Js : U → Type 0) (fault : MapFault) → Judges Memory OfItem terminal_checks (terminal_fault (terminal_path number)) Is (Err fault)
+          → Judges Memory (Holds document) (checks_of_terminals document) fault_of Js (Err fault)
+      item_stops Is Js fault told = part_stops (Holds document) fault_of Is Js (checks_of_terminals document) (checks_of_one number)
+          (left checks_of_one (terminals_in document) (number + 1)) fault left_here (one_part Is (Err fault) told)
 
       -- the item is wrong by itself
-      pub place_stops : {T U : Type 0} (Is : T → Type 0) (Js : U → Type 0) (fault : MapFault)
-          → Judges Memory (TerminalHolds (metals_in document) (take number (terminals_in document)) item) place_checks (terminal_fault (terminal_path number)) Is (Err fault)
+      pub place_stops : {T U : Type 0} (Is : T → Type 0) (Js : U → Type 0) (fault : MapFault) → Judges Memory OfItem place_checks (terminal_fault (terminal_path number)) Is (Err fault)
           → Judges Memory (Holds document) (checks_of_terminals document) fault_of Js (Err fault)
-      place_stops Is Js fault told = item_stops Is Js fault (stops (TerminalHolds (metals_in document) (take number (terminals_in document)) item) (terminal_fault (terminal_path number))
-          Is Is place_checks (is_new ∷ []) fault told)
+      place_stops Is Js fault told = item_stops Is Js fault (stops OfItem (terminal_fault (terminal_path number)) Is Is place_checks (is_new ∷ []) fault told)
 
       module _ (names_differ : AreDifferent (names_of (map metal_layer metals))) (terminal : Terminal)
-          (told : Judges Memory (TerminalHolds (metals_in document) (take number (terminals_in document)) item) place_checks (terminal_fault (terminal_path number)) (TakesTerminal metals item)
-          (Ok terminal)) where
+          (told : Judges Memory OfItem place_checks (terminal_fault (terminal_path number)) (TakesTerminal metals item) (Ok terminal)) where
         takes : TakesTerminal metals item terminal
         takes = given told
-
-        place_holds : All (TerminalHolds (metals_in document) (take number (terminals_in document)) item) place_checks
-        place_holds = passed told
 
         -- the terminal stands earlier
         pub repeated : {U : Type 0} (Js : U → Type 0) → Contains places (place_of_terminal terminal)
             → Judges Memory (Holds document) (checks_of_terminals document) fault_of Js (Err (RepeatedTerminal (terminal_path number)))
         repeated Js among =
             item_stops Js Js (RepeatedTerminal (terminal_path number))
-            (goes_on (TerminalHolds (metals_in document) (take number (terminals_in document)) item) (terminal_fault (terminal_path number)) Js place_checks (is_new ∷ [])
-            (Err (RepeatedTerminal (terminal_path number))) place_holds
-            (fails_first (TerminalHolds (metals_in document) (take number (terminals_in document)) item) (terminal_fault (terminal_path number)) Js is_new []
-            (λ new. new (place_seen (map metal_layer metals) names_differ (take number (terminals_in document)) terminals item terminal far.gives_them takes.gives_it
-            (subst (λ (ps : List (ℕ × ℤ × ℤ)). Contains ps (place_of_terminal terminal)) far.places_are among)))))
+            (goes_on OfItem (terminal_fault (terminal_path number)) Js place_checks (is_new ∷ []) (Err (RepeatedTerminal (terminal_path number))) (passed told)
+            (fails_first OfItem (terminal_fault (terminal_path number)) Js is_new []
+            (λ new. new (place_seen (map metal_layer metals) names_differ (take number (terminals_in document)) terminals item terminal far.gives_them takes.gives_it (rw far.places_are at among)))))
 
         -- it does not
         pub one_terminal_more : (new : List (ℕ × ℤ × ℤ)) → (Contains places (place_of_terminal terminal) → ⊥) → new ≡ places ++ place_of_terminal terminal ∷ []
             → TerminalsSoFar document metals (number + 1) (terminals ++ terminal ∷ []) new
         one_terminal_more new not added =
             let more = taken_at (terminals_in document) number item there in
-            let holds = TerminalHolds (metals_in document) (take number (terminals_in document)) item in
-            let new_place : holds is_new = λ seen. not (subst (λ (ps : List (ℕ × ℤ × ℤ)). Contains ps (place_of_terminal terminal)) (sym far.places_are)
-            (seen_place (map metal_layer metals) names_differ (take number (terminals_in document)) terminals item terminal far.gives_them takes.gives_it seen)) in
+            let fresh : Contains (map place_of_terminal terminals) (place_of_terminal terminal) → ⊥ = rw far.places_are at not in
+            let new_place : OfItem is_new = λ seen. fresh (seen_place (map metal_layer metals) names_differ (take number (terminals_in document)) terminals item terminal
+            far.gives_them takes.gives_it seen) in
             record {
               few = far.few;
               holds = further (Holds document) (checks_of_terminals document) (checks_of_one number) (left checks_of_one (terminals_in document) (number + 1)) left_here
-                  (all_renamed holds (Holds document) (terminal_fault (terminal_path number)) fault_of (of_terminal number) onward back (λ check. refl) terminal_checks
-                  (All-append holds place_checks (is_new ∷ []) place_holds (All-from_recursion holds (is_new ∷ []) (new_place, tt))));
+                  (passed (one_part (TakesTerminal metals item) (Ok terminal) (goes_on _ _ _ place_checks (is_new ∷ []) _ (passed told)
+                  (passes _ _ _ (is_new ∷ []) _ (All-from_recursion OfItem (is_new ∷ []) (new_place, tt)) takes))));
               gives_them = rw (more, map-append terminal_of terminals (terminal ∷ [])) (all_zipped_more (GivesTerminal (map metal_layer metals)) (take number (terminals_in document))
                   (map terminal_of terminals) item (terminal_of terminal) far.gives_them takes.gives_it);
               places_are = added ∙ ap (λ (ps : List (ℕ × ℤ × ℤ)). ps ++ place_of_terminal terminal ∷ []) far.places_are ∙ sym (map-append place_of_terminal terminals (terminal ∷ []));
-              differ = all_pairs_push (λ one other. one ≢ other) terminals terminal far.differ
-                  (λ k d within same. not (subst (λ (ps : List (ℕ × ℤ × ℤ)). Contains ps (place_of_terminal terminal)) (sym far.places_are)
-                  (place_of_one terminals terminal (subst (Contains terminals) same (Contains-get_or terminals k d within)))));
+              differ = different_more terminals terminal far.differ (λ among. fresh (Contains-map place_of_terminal terminals terminal among));
               on_metals = All-push (λ (t : Terminal). t.metal < length metals) terminals terminal far.on_metals takes.on_metal;
-            } where
-              place_of_one : (ts : List Terminal) (t : Terminal) → Contains ts t → Contains (map place_of_terminal ts) (place_of_terminal t)
-              place_of_one ts t (k, within, same) = (k, omega (arith, length-map ts place_of_terminal), get_or-map place_of_terminal ts k t (place_of_terminal t) within ∙ ap place_of_terminal same)
+            }
 
   pub all_terminals : {T : Type 0} (Is : T → Type 0) (number : ℕ) (terminals : List Terminal) (places : List (ℕ × ℤ × ℤ)) (thing : T) → length (terminals_in document) ≤ number
       → TerminalsSoFar document metals number terminals places → (TakesTerminals document metals terminals → Is thing)

@@ -5,7 +5,7 @@ use Rattle.geo_core.specs.declared.plane.Cell.{Cell}
 use Rattle.first_refusal.specs.Laws.{IsUnique}
 use Rattle.first_refusal.proofs.CheckLaws.{checks_agree}
 use Rattle.first_refusal.proofs.StageLaws.{readings_agree, stages_agree}
-use Rattle.toml.specs.Data.{Data, Members, string, integer}
+use Rattle.toml.specs.Data.{Data, Members}
 use Rattle.layer_map.specs.Documents.{DocumentComesTo, GivesCut, GivesLayer, GivesMap, GivesTerminal, IsDocument, MapComesTo}
 use Rattle.map_model.specs.MapNames.{DefectSize, MappedCut, MappedLayer, names_of, sizes_of}
 use Rattle.lists.specs.Differing.{AreDifferent}
@@ -14,6 +14,7 @@ use Rattle.layer_map.specs.Values.{array_of, pair_value, cuts_in, terminals_in, 
 use Rattle.layer_map.specs.declared.fault.MapFault.TheVariants.{Syntax}
 use Rattle.layer_map.proofs.EndLaws.{one_metal_named}
 use Rattle.layer_map.proofs.SeenLaws.{pair_tells}
+use Rattle.layer_map.proofs.SpelledLaws.{lists_tell}
 use Rattle.layer_map.proofs.ValueLaws.{listed-items_of}
 
 -- what is read of each of some things is one list at most
@@ -25,16 +26,6 @@ zip_tells R tells (d ∷ ds) [] ys p q = absurd p
 zip_tells R tells (d ∷ ds) (x ∷ xs) [] p q = absurd q
 zip_tells R tells (d ∷ ds) (x ∷ xs) (y ∷ ys) p q = ap (λ z. z ∷ xs) (tells d x y p.0 q.0) ∙ ap (λ zs. y ∷ zs) (zip_tells R tells ds xs ys p.1 q.1)
 
--- a list is told by what is written for it
-lists_tell : {A : Type 0} (written : A → Data) → ((one other : A) → written one ≡ written other → one ≡ other) → (xs ys : List A) → map written xs ≡ map written ys → xs ≡ ys
-lists_tell written tells [] [] same = refl
-lists_tell written tells [] (y ∷ ys) same = cc same
-lists_tell written tells (x ∷ xs) [] same = cc same
-lists_tell written tells (x ∷ xs) (y ∷ ys) same =
-    let heads : written x ≡ written y = cc same in
-    let tails : map written xs ≡ map written ys = cc same in
-    ap (λ z. z ∷ xs) (tells x y heads) ∙ ap (λ zs. y ∷ zs) (lists_tell written tells xs ys tails)
-
 arrays_tell : {A : Type 0} (written : A → Data) → ((one other : A) → written one ≡ written other → one ≡ other) → (there : Option Data) (xs ys : List A) → there ≡ Some (array_of (map written xs))
     → there ≡ Some (array_of (map written ys)) → xs ≡ ys
 arrays_tell written tells there xs ys one other =
@@ -45,8 +36,7 @@ number_tells m n same = cc same
 
 layers_tell : (item : Data) (one other : MappedLayer) → GivesLayer item one → GivesLayer item other → one ≡ other
 layers_tell item one other p q =
-    let e : Some (string one.name) ≡ Some (string other.name) = sym p.name ∙ q.name in
-    let names : one.name ≡ other.name = cc e in
+    let names : one.name ≡ other.name = cc (p.name, q.name) in
     let pairs : one.pairs ≡ other.pairs = arrays_tell pair_value pair_tells _ one.pairs other.pairs p.pairs q.pairs in
     ap (λ (n : List ℕ). record { name = n; pairs = one.pairs }) names ∙ ap (λ (ps : List (ℕ × ℕ)). record { name = other.name; pairs = ps }) pairs
 
@@ -65,10 +55,8 @@ module _ (metals : List MappedLayer) (differ : AreDifferent (names_of metals)) w
   terminals_tell : (item : Data) (one other : ℕ × Cell) → GivesTerminal metals item one → GivesTerminal metals item other → one ≡ other
   terminals_tell item (m, c) (n, d) p q =
       let number : m ≡ n = one_metal_named metals _ m n differ p.metal q.metal in
-      let e : Some (integer c.i) ≡ Some (integer d.i) = sym p.column ∙ q.column in
-      let f : Some (integer c.j) ≡ Some (integer d.j) = sym p.row ∙ q.row in
-      let columns : c.i ≡ d.i = cc e in
-      let rows : c.j ≡ d.j = cc f in
+      let columns : c.i ≡ d.i = cc (p.column, q.column) in
+      let rows : c.j ≡ d.j = cc (p.row, q.row) in
       let cells : c ≡ d = ap (λ (z : ℤ). record { i = z; j = c.j }) columns ∙ ap (λ (z : ℤ). record { i = d.i; j = z }) rows in
       ap (λ (k : ℕ). (k, c)) number ∙ ap (λ (e : Cell). (n, e)) cells
 

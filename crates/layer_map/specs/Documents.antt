@@ -2,7 +2,7 @@
 use Rattle.std.specs.Prelude.{IsUtf8, ℕ, false, ◌≡◌, List, slice_get, Option, Some}
 use Rattle.lists.specs.Words.{AllZip}
 use Rattle.geo_core.specs.declared.plane.Cell.{Cell}
-use Rattle.first_refusal.specs.Outcomes.{Outcome, Reads, Then}
+use Rattle.first_refusal.specs.Outcomes.{Outcome, value, refused, Reads, Then}
 use Rattle.first_refusal.specs.Checks.{Checks}
 use Rattle.toml.specs.Data.{Data, string, integer, Members}
 use Rattle.toml.specs.Parse.{parse_document}
@@ -63,3 +63,8 @@ DocumentComesTo document = Checks (Holds document) (checks_of document) fault_of
 -- the bytes: what their document comes to, or the refusal `Syntax` where they are none
 abbrev pub MapComesTo : List ℕ → Outcome LayerMap MapFault → Type 0
 MapComesTo bytes = Then (Reads (IsDocument bytes) Syntax) DocumentComesTo
+
+-- the outcome with its value told in other words, as a map that lies in memory by its layer map
+abbrev pub value_as : {V W R : Type 0} → (V → W) → Outcome V R → Outcome W R
+value_as told (value v) = value (told v)
+value_as told (refused refusal) = refused refusal

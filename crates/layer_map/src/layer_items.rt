@@ -19,8 +19,9 @@ ghost use Rattle.std.specs.Prelude.{
   MatchBool,
   Contains,
 };
+ghost use Rattle.map_model.specs.MapNames.{IsLayerName, IsPair};
 ghost use Rattle.first_refusal.specs.Checks.{Checks};
-ghost use Rattle.toml.specs.Data.{Data, array, table as table_value, get_member};
+ghost use Rattle.toml.specs.Data.{Data, array, table as table_value, get_member, string};
 ghost use Rattle.toml.specs.View.{items_view, table_view, view};
 ghost use Rattle.layer_map.specs.LayerChecks.{
   LayerHolds,
@@ -34,9 +35,9 @@ ghost use Rattle.layer_map.specs.LayerChecks.{
 ghost use Rattle.map_model.specs.Limits.{ArePairs};
 ghost use Rattle.lists.specs.Differing.{AreDifferent};
 ghost use Rattle.first_refusal.specs.Answers.{Answers};
-ghost use Rattle.layer_map.specs.inside.ReadValues.{Finds, IsWholeIn, texts_of};
-ghost use Rattle.layer_map.specs.inside.ReadLayers.{AreSeen, ArePairsIn, ArePairsThere, IsNameThere, IsPairIn, TakesLayer, TakesName, TakesPairs, pair_values, written_name};
-ghost use Rattle.layer_map.specs.Values.{name_of_item, pair_value};
+ghost use Rattle.layer_map.specs.inside.ReadValues.{Finds, IsWholeIn, texts_of, AreWritten, IsThere, IsWritten};
+ghost use Rattle.layer_map.specs.inside.ReadLayers.{AreSeen, TakesLayer, TakesName, TakesPairs, pair_values, written_name};
+ghost use Rattle.layer_map.specs.Values.{name_of_item, pair_value, pairs_value};
 ghost use Rattle.map_model.specs.declared.limits.TheConstants.{GREATEST_PAIR_NUMBER};
 
 use super::fault::MapFault;
@@ -94,7 +95,7 @@ fn add_name(names: &mut Vec<LayerName>, item: &Table, path: u32) -> Result<Layer
 
 /// The name that stands at `name`.
 fn name_at(item: &Table) -> Option<LayerName>
-    ensures { Finds (IsNameThere (get_member (codes "name") (table_view item.now))) result }
+    ensures { Finds (IsThere string IsLayerName (get_member (codes "name") (table_view item.now))) result }
 {
     match text_at(item, "name") {
         Some(name) => LayerName::new(name.as_bytes()),
@@ -160,7 +161,7 @@ fn add_different(pairs: &mut Vec<(u16, u16)>, more: &[(u16, u16)]) -> Result<boo
 /// The pairs that stand at `pairs`, 1 to 16.
 fn pairs_at(alloc: Global, item: &Table) -> Result<Option<Vec<(u16, u16)>>, NoMemory>
     ensures { IfOk result (λ found.
-        Finds (ArePairsThere (get_member (codes "pairs") (table_view item.now))) (option_map (λ v. v.items) found)) }
+        Finds (IsThere pairs_value ArePairs (get_member (codes "pairs") (table_view item.now))) (option_map (λ v. v.items) found)) }
 {
     match value_at(item, "pairs") {
         Some(value) => match value.as_array() {
@@ -173,7 +174,7 @@ fn pairs_at(alloc: Global, item: &Table) -> Result<Option<Vec<(u16, u16)>>, NoMe
 
 /// The pairs that the values are, 1 to 16.
 fn pairs_of(alloc: Global, values: &[Value]) -> Result<Option<Vec<(u16, u16)>>, NoMemory>
-    ensures { IfOk result (λ found. Finds (ArePairsIn (map view values.now)) (option_map (λ v. v.items) found)) }
+    ensures { IfOk result (λ found. Finds (AreWritten pair_value ArePairs (map view values.now)) (option_map (λ v. v.items) found)) }
 {
     if values.is_empty() {
         return Ok(None);
@@ -194,7 +195,7 @@ fn pairs_of(alloc: Global, values: &[Value]) -> Result<Option<Vec<(u16, u16)>>, 
 /// The pair that the value is.
 #[tactic(auto, using(crate::proofs::PairLaws::no_array_no_pair))]
 fn pair_of(value: &Value) -> Option<(u16, u16)>
-    ensures { Finds (IsPairIn (view value.now)) result }
+    ensures { Finds (IsWritten pair_value IsPair (view value.now)) result }
 {
     match value.as_array() {
         Some(numbers) => pair_in(numbers.as_slice()),
@@ -204,7 +205,7 @@ fn pair_of(value: &Value) -> Option<(u16, u16)>
 
 /// The pair that the two values are.
 fn pair_in(numbers: &[Value]) -> Option<(u16, u16)>
-    ensures { Finds (IsPairIn (array (items_view numbers.now))) result }
+    ensures { Finds (IsWritten pair_value IsPair (array (items_view numbers.now))) result }
 {
     if numbers.len() != 2 {
         return None;

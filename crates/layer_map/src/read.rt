@@ -1,9 +1,7 @@
-ghost use Rattle.std.specs.Prelude.{◌≡◌, ◌≢◌, IfOk, IfErr};
 ghost use Rattle.first_refusal.specs.Checks.{Checks};
-ghost use Rattle.first_refusal.specs.Outcomes.{value, refused};
-ghost use Rattle.toml.specs.Data.{Members};
+ghost use Rattle.first_refusal.specs.Outcomes.{Reads};
 ghost use Rattle.toml.specs.View.{table_view};
-ghost use Rattle.layer_map.specs.Documents.{GivesMap, IsDocument, MapComesTo};
+ghost use Rattle.layer_map.specs.Documents.{GivesMap, IsDocument, MapComesTo, value_as};
 ghost use Rattle.layer_map.specs.MapChecks.{Holds, checks_of, fault_of};
 ghost use Rattle.map_model.specs.MapView.{layer_map_of};
 ghost use Rattle.first_refusal.specs.Answers.{Answers};
@@ -22,8 +20,7 @@ use toml::Table;
 /// first fault in this order: the document's keys, version, radii, weights, metals, cuts, terminals, and of these one
 /// item after the other.
 pub fn read_map(alloc: Global, bytes: &[u8]) -> Result<Map, MapFault>
-    ensures read { IfOk result (λ made. MapComesTo bytes.now (value (layer_map_of made))) }
-    ensures refused { IfErr result (λ fault. fault ≢ MapFault.Memory → MapComesTo bytes.now (refused fault)) }
+    ensures answers { Answers MapFault.Memory (λ outcome. MapComesTo bytes.now (value_as layer_map_of outcome)) result }
 {
     let document = read_document(alloc, bytes)?;
     map_of(alloc, &document)
@@ -31,9 +28,8 @@ pub fn read_map(alloc: Global, bytes: &[u8]) -> Result<Map, MapFault>
 
 /// The document that the bytes are.
 fn read_document(alloc: Global, bytes: &[u8]) -> Result<Table, MapFault>
-    ensures read { IfOk result (λ document. IsDocument bytes.now (table_view document)) }
-    ensures refused { IfErr result (λ fault. fault ≢ MapFault.Memory →
-        (fault ≡ MapFault.Syntax) × ((document : Members) → IsDocument bytes.now document → ⊥)) }
+    ensures { Answers MapFault.Memory (λ outcome.
+        Reads (IsDocument bytes.now) MapFault.Syntax (value_as table_view outcome)) result }
 {
     match toml::table_from_slice(alloc, bytes) {
         Ok(document) => Ok(document),

@@ -2,6 +2,7 @@
 
 ghost use Rattle.std.specs.Prelude.{◌≡◌, ◌↔◌, ◌≤◌, [], ◌∷◌, map, option_map, Some, length, IsTrue, IfOk};
 ghost use Rattle.std.specs.List.Sorted.{IsStrictlyIncreasing};
+ghost use Rattle.map_model.specs.MapNames.{AreRadii, AreWeights};
 ghost use Rattle.first_refusal.specs.Checks.{Checks};
 ghost use Rattle.toml.specs.View.{table_view, view};
 ghost use Rattle.layer_map.specs.MapChecks.{
@@ -15,9 +16,8 @@ ghost use Rattle.layer_map.specs.MapChecks.{
   radii_are_few,
 };
 ghost use Rattle.first_refusal.specs.Answers.{Answers};
-ghost use Rattle.layer_map.specs.inside.ReadValues.{Finds};
-ghost use Rattle.layer_map.specs.inside.ReadSizes.{AreRadiiIn, AreRadiiThere, AreWeightsIn, AreWeightsThere};
-ghost use Rattle.layer_map.specs.Values.{radii_in, values_in, version_in, weights_in, whole_number};
+ghost use Rattle.layer_map.specs.inside.ReadValues.{Finds, AreWritten, IsThere};
+ghost use Rattle.layer_map.specs.Values.{radii_in, values_in, version_in, weights_in, whole_number, whole_numbers};
 ghost use Rattle.map_model.specs.declared.limits.TheConstants.{MOST_SIZES};
 
 use super::fault::MapFault;
@@ -64,7 +64,7 @@ fn is_version_1(document: &Table) -> bool
 pub fn read_radii(alloc: Global, document: &Table) -> Result<Sizes, MapFault>
     ensures { Answers MapFault.Memory (Checks
         (Holds (table_view document.now)) (radii_are_array ∷ radii_are_few ∷ has_radii ∷ [])
-        fault_of (AreRadiiThere (radii_in (table_view document.now)))) result }
+        fault_of (IsThere whole_numbers AreRadii (radii_in (table_view document.now)))) result }
 {
     let values = array_at(document, "radii", paths::RADII)?;
     if values.len() > MOST_SIZES {
@@ -79,7 +79,7 @@ pub fn read_radii(alloc: Global, document: &Table) -> Result<Sizes, MapFault>
 /// The radii that the values are, which are not too many.
 fn radii_of(alloc: Global, values: &[Value]) -> Result<Option<Vec<u32>>, NoMemory>
     requires { length values.now ≤ MOST_SIZES }
-    ensures { IfOk result (λ found. Finds (AreRadiiIn (map view values.now)) (option_map (λ v. v.items) found)) }
+    ensures { IfOk result (λ found. Finds (AreWritten whole_number AreRadii (map view values.now)) (option_map (λ v. v.items) found)) }
 {
     match wholes_in(alloc, values, 1, GREATEST_REACH as u32)? {
         Some(radii) => {
@@ -111,7 +111,7 @@ fn is_rising(numbers: &[u32]) -> bool
 pub fn read_weights(alloc: Global, document: &Table, count: usize) -> Result<Weights, MapFault>
     ensures { count ≡ length (values_in (radii_in (table_view document.now))) →
         Answers MapFault.Memory (Checks (Holds (table_view document.now)) (has_weights ∷ []) fault_of
-        (AreWeightsThere count (weights_in (table_view document.now)))) result }
+        (IsThere whole_numbers (AreWeights count) (weights_in (table_view document.now)))) result }
 {
     match weights_at(alloc, document, count)? {
         Some(weights) => Ok(Weights::from_vec(weights)),
@@ -124,7 +124,7 @@ pub fn read_weights(alloc: Global, document: &Table, count: usize) -> Result<Wei
 /// The weights that stand at `weights`.
 fn weights_at(alloc: Global, document: &Table, count: usize) -> Result<Option<Vec<u64>>, NoMemory>
     ensures { IfOk result (λ found.
-        Finds (AreWeightsThere count (weights_in (table_view document.now))) (option_map (λ v. v.items) found)) }
+        Finds (IsThere whole_numbers (AreWeights count) (weights_in (table_view document.now))) (option_map (λ v. v.items) found)) }
 {
     match value_at(document, "weights") {
         Some(value) => match value.as_array() {
@@ -137,7 +137,7 @@ fn weights_at(alloc: Global, document: &Table, count: usize) -> Result<Option<Ve
 
 /// The weights that the values are.
 fn weights_of(alloc: Global, values: &[Value], count: usize) -> Result<Option<Vec<u64>>, NoMemory>
-    ensures { IfOk result (λ found. Finds (AreWeightsIn count (map view values.now))
+    ensures { IfOk result (λ found. Finds (AreWritten whole_number (AreWeights count) (map view values.now))
         (option_map (λ v. v.items) found)) }
 {
     if values.len() != count {

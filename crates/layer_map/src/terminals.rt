@@ -2,14 +2,14 @@
 
 ghost use Rattle.std.specs.Prelude.{◌≡◌, ◌≤◌, ◌^◌, ◌<◌, List, [], length, IfOk};
 ghost use Rattle.first_refusal.specs.Checks.{Checks};
-ghost use Rattle.toml.specs.Data.{Data, get_member};
+ghost use Rattle.toml.specs.Data.{Data, get_member, integer};
 ghost use Rattle.toml.specs.View.{table_view, view};
 ghost use Rattle.layer_map.specs.MapChecks.{Holds, checks_of_terminals, fault_of};
 ghost use Rattle.first_refusal.specs.Answers.{Answers};
-ghost use Rattle.layer_map.specs.inside.ReadValues.{Finds};
+ghost use Rattle.layer_map.specs.inside.ReadValues.{Finds, IsThere, IsWritten};
 ghost use Rattle.layer_map.specs.inside.ReadMetals.{HaveNamesOf, TakesMetals};
-ghost use Rattle.layer_map.specs.inside.ReadTerminals.{AddsPlace, IsCellNumberIn, IsCellNumberThere, TakesTerminal, TakesTerminals, place_of_terminal};
-ghost use Rattle.layer_map.specs.TerminalChecks.{TerminalHolds, place_checks, terminal_fault};
+ghost use Rattle.layer_map.specs.inside.ReadTerminals.{AddsPlace, TakesTerminal, TakesTerminals, place_of_terminal};
+ghost use Rattle.layer_map.specs.TerminalChecks.{TerminalHolds, place_checks, terminal_fault, IsCellNumber};
 ghost use Rattle.map_model.specs.declared.limits.TheConstants.{MOST_METALS};
 ghost use Rattle.layer_map.specs.declared.seen.Seen.{Seen};
 
@@ -112,7 +112,7 @@ fn read_terminal(item: &Value, metals: &[Metal], path: u32) -> Result<Terminal, 
 /// The column or row that stands at the key.
 #[tactic(auto, using(crate::proofs::CellLaws::cell_number_there, crate::proofs::CellLaws::nothing_there))]
 fn cell_number_at(table: &Table, key: &str) -> Option<i32>
-    ensures { Finds (IsCellNumberThere (get_member key.now (table_view table.now))) result }
+    ensures { Finds (IsThere integer IsCellNumber (get_member key.now (table_view table.now))) result }
 {
     match value_at(table, key) {
         Some(value) => cell_number_in(value),
@@ -122,7 +122,7 @@ fn cell_number_at(table: &Table, key: &str) -> Option<i32>
 
 /// The column or row that the value is.
 fn cell_number_in(value: &Value) -> Option<i32>
-    ensures { Finds (IsCellNumberIn (view value.now)) result }
+    ensures { Finds (IsWritten integer IsCellNumber (view value.now)) result }
 {
     match value.as_integer() {
         Some(number) => match i32::try_from(number) {

@@ -2,31 +2,10 @@
 use Rattle.std.specs.Prelude.{ℕ, ◌≡◌, List, [], ◌∷◌, ◌++◌, map, flat_map, Option, Some, Contains}
 use Rattle.toml.specs.Data.{Data, string}
 use Rattle.layer_map.specs.Documents.{GivesLayer}
-use Rattle.map_model.specs.MapNames.{IsPair, ArePairs, IsLayerName}
 use Rattle.lists.specs.Differing.{AreDifferent}
 use Rattle.layer_map.specs.Values.{pair_value, pairs_value, values_in, name_of_item, pairs_of_item}
 use Rattle.layer_map.specs.declared.seen.Layer.{Layer}
 use Rattle.layer_map.specs.declared.seen.Seen.{Seen}
-
--- a name of a layer stands there as a text
-pub record IsNameThere (there : Option Data) (name : List ℕ) : Type 0 where
-  pub is_text : there ≡ Some (string name)
-  pub is_name : IsLayerName name
-
--- the value is this pair of a layer and a datatype
-pub record IsPairIn (value : Data) (pair : ℕ × ℕ) : Type 0 where
-  pub written : value ≡ pair_value pair
-  pub is_pair : IsPair pair
-
--- the values are the pairs of a layer
-pub record ArePairsIn (values : List Data) (pairs : List (ℕ × ℕ)) : Type 0 where
-  pub written : values ≡ map pair_value pairs
-  pub are_pairs : ArePairs pairs
-
--- the pairs of a layer stand there
-pub record ArePairsThere (there : Option Data) (pairs : List (ℕ × ℕ)) : Type 0 where
-  pub written : there ≡ Some (pairs_value pairs)
-  pub are_pairs : ArePairs pairs
 
 -- a name as it stands in an item
 abbrev pub written_name : List ℕ → Option Data

@@ -1,25 +1,14 @@
 -- what is read of terminals
-use Rattle.std.specs.Prelude.{ℕ, ℤ, Bool, MatchBool, ◌≡◌, ◌≤◌, ◌<◌, List, [], ◌∷◌, ◌++◌, length, map, Option, Some, All, Contains}
+use Rattle.std.specs.Prelude.{ℕ, ℤ, Bool, MatchBool, ◌≡◌, ◌≤◌, ◌<◌, List, [], ◌∷◌, ◌++◌, length, map, All, Contains}
 use Rattle.lists.specs.Words.{AllZip}
-use Rattle.toml.specs.Data.{Data, Members, integer}
+use Rattle.toml.specs.Data.{Data, Members}
 use Rattle.layer_map.specs.Documents.{GivesTerminal}
 use Rattle.map_model.specs.MapNames.{metal_layer, terminal_of}
 use Rattle.lists.specs.Differing.{AreDifferent}
-use Rattle.layer_map.specs.TerminalChecks.{IsCellNumber}
 use Rattle.layer_map.specs.Values.{terminals_in}
 use Rattle.map_model.specs.declared.limits.TheConstants.{MOST_TERMINALS}
 use Rattle.map_model.specs.declared.layers.Metal.{Metal}
 use Rattle.map_model.specs.declared.layers.Terminal.{Terminal}
-
--- the value is this column or row
-pub record IsCellNumberIn (value : Data) (number : ℤ) : Type 0 where
-  pub written : value ≡ integer number
-  pub is_cell_number : IsCellNumber number
-
--- this column or row stands there
-pub record IsCellNumberThere (there : Option Data) (number : ℤ) : Type 0 where
-  pub written : there ≡ Some (integer number)
-  pub is_cell_number : IsCellNumber number
 
 -- a terminal as the numbers by which it is looked up
 abbrev pub place_of_terminal : Terminal → ℕ × ℤ × ℤ

@@ -9,6 +9,21 @@ pub data Finds {A : Type 0} (Is : A → Type 0) : Option A → Type 0 where
   finds : {thing : A} → Is thing → Finds Is (Some thing)
   lacks : ((thing : A) → Is thing → ⊥) → Finds Is None
 
+-- the value is this thing of the kind, as such things are written
+pub record IsWritten {A : Type 0} (as_value : A → Data) (Kind : A → Type 0) (value : Data) (thing : A) : Type 0 where
+  pub written : value ≡ as_value thing
+  pub is : Kind thing
+
+-- the values are these things, which are together of the kind
+pub record AreWritten {A : Type 0} (as_value : A → Data) (Kind : List A → Type 0) (values : List Data) (things : List A) : Type 0 where
+  pub written : values ≡ map as_value things
+  pub is : Kind things
+
+-- such a thing stands there
+pub record IsThere {A : Type 0} (as_value : A → Data) (Kind : A → Type 0) (there : Option Data) (thing : A) : Type 0 where
+  pub written : there ≡ Some (as_value thing)
+  pub is : Kind thing
+
 -- the value is this whole number, which lies within these bounds
 pub record IsWholeIn (low high : ℕ) (value : Data) (number : ℕ) : Type 0 where
   pub is_whole : value ≡ whole_number number

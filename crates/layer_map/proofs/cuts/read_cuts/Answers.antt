@@ -27,24 +27,23 @@ loop-number-init c takes =
 pub returns-in_err-cut : goal.returns-in_err-cut
 returns-in_err-cut c takes =
     let document = table_view c.args.document.now in
-    let number = c.loop-number.number in
     let far = c.loop-number.invariant takes in
-    let there = shown_at view (cuts_in document) c.in_ok-items.items.now number c.index-items-number.result c.in_ok-items.ensures.items c.loop-number-test.true c.index-items-number.is in
-    let told = c.in_err-cut.ensures (metals_in document) (metals_in document ++ take number (cuts_in document)) (have_names document _ c.args.metals.now takes)
+    let there = shown_at view (cuts_in document) c.in_ok-items.items.now c.loop-number.number c.index-items-number.result c.in_ok-items.ensures.items c.loop-number-test.true c.index-items-number.is in
+    let told = c.in_err-cut.ensures (metals_in document) (metals_in document ++ take c.loop-number.number (cuts_in document)) (have_names document _ c.args.metals.now takes)
     (names_are_different document _ c.args.metals.now takes) far.are_seen in
     handed_on _ _ c.from_residual-in_err-cut.result c.in_err-cut.field-0.0 c.from_residual-in_err-cut.ensures.1
-    (cut_stops document c.args.metals.now number (view c.index-items-number.result) there _ _ c.loop-number.cuts.items c.loop-number.seen c.in_err-cut.field-0.0 far (rw c.cut.ensures at told))
+    (cut_stops document c.args.metals.now c.loop-number.number (view c.index-items-number.result) there _ _ c.loop-number.cuts.items c.loop-number.seen c.in_err-cut.field-0.0 far
+    (rw c.cut.ensures at told))
 
 pub loop-number-preserved : goal.loop-number-preserved
 loop-number-preserved c takes =
     let document = table_view c.args.document.now in
-    let number = c.loop-number.number in
     let far = c.loop-number.invariant takes in
-    let there = shown_at view (cuts_in document) c.in_ok-items.items.now number c.index-items-number.result c.in_ok-items.ensures.items c.loop-number-test.true c.index-items-number.is in
-    let told = c.in_ok-cut.ensures (metals_in document) (metals_in document ++ take number (cuts_in document)) (have_names document _ c.args.metals.now takes)
+    let there = shown_at view (cuts_in document) c.in_ok-items.items.now c.loop-number.number c.index-items-number.result c.in_ok-items.ensures.items c.loop-number-test.true c.index-items-number.is in
+    let told = c.in_ok-cut.ensures (metals_in document) (metals_in document ++ take c.loop-number.number (cuts_in document)) (have_names document _ c.args.metals.now takes)
     (names_are_different document _ c.args.metals.now takes) far.are_seen in
     rw c.in_ok-push.ensures.items
-    (one_cut_more document c.args.metals.now number (view c.index-items-number.result) there c.loop-number.cuts.items c.loop-number.seen c.read_cut.new.seen c.in_ok-cut.cut far
+    (one_cut_more document c.args.metals.now c.loop-number.number (view c.index-items-number.result) there c.loop-number.cuts.items c.loop-number.seen c.read_cut.new.seen c.in_ok-cut.cut far
     (rw c.cut.ensures at told))
 
 pub returns : goal.returns

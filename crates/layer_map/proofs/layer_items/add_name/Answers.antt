@@ -19,7 +19,7 @@ returns-in_ok-push-in-Some c known earlier seen =
     let is_new : Contains c.args.names.now.items c.in-Some.name → ⊥ =
     λ among. cc (c.has_name.ensures.1 (subst (λ (names : List (List ℕ)). Contains names c.in-Some.name) (sym c.deref.ensures.value) among), c.if-has_name.false) in
     new_name known earlier (table (table_view c.args.item.now)) c.args.path _ c.args.names.now.items seen c.in-Some.name (found c.in-Some.ensures) c.in-Some.name is_new
-    (record { there = (found c.in-Some.ensures).is_text; is_new = is_new; added = c.in_ok-push-in-Some.ensures.items })
+    (record { there = (found c.in-Some.ensures).written; is_new = is_new; added = c.in_ok-push-in-Some.ensures.items })
 
 pub returns-in_err-push-in-Some : goal.returns-in_err-push-in-Some
 returns-in_err-push-in-Some c known earlier seen = out_of_memory _ _ c.from_residual.result c.from_residual.ensures.1

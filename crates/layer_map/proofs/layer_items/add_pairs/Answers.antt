@@ -28,7 +28,7 @@ returns-else-not-branch-clause-judged c known earlier seen differ =
     (subst AreDifferent added new.1) (record { there = there.written; differ = new.1; added = added }))
 
 pub returns-else-not-branch-clause-pairs : goal.returns-else-not-branch-clause-pairs
-returns-else-not-branch-clause-pairs c = rw c.from_vec.ensures (found (rw c.in-Some.is at c.in_ok-more.ensures)).are_pairs
+returns-else-not-branch-clause-pairs c = rw c.from_vec.ensures (found (rw c.in-Some.is at c.in_ok-more.ensures)).is
 
 pub returns-in_err-more-clause-judged : goal.returns-in_err-more-clause-judged
 returns-in_err-more-clause-judged c known earlier seen differ = out_of_memory _ _ c.from_residual.result c.from_residual.ensures.1

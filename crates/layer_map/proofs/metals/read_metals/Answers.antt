@@ -39,24 +39,22 @@ loop-number-init c =
 pub returns-in_err-layer : goal.returns-in_err-layer
 returns-in_err-layer c =
     let document = table_view c.args.document.now in
-    let number = c.loop-number.number in
     let same = values_in-array (metal_in document) c.in_ok-items.items.now c.in_ok-items.ensures.array in
-    let there = shown_at view (metals_in document) c.in_ok-items.items.now number c.index-items-number.result same c.loop-number-test.true c.index-items-number.is in
-    let told = c.in_err-layer.ensures (take number (metals_in document)) c.loop-number.invariant.are_seen in
+    let there = shown_at view (metals_in document) c.in_ok-items.items.now c.loop-number.number c.index-items-number.result same c.loop-number-test.true c.index-items-number.is in
+    let told = c.in_err-layer.ensures (take c.loop-number.number (metals_in document)) c.loop-number.invariant.are_seen in
     handed_on _ _ c.from_residual-in_err-layer.result c.in_err-layer.field-0.0 c.from_residual-in_err-layer.ensures.1
-    (metal_stops document number (view c.index-items-number.result) there _ _ c.loop-number.metals.items c.loop-number.seen c.in_err-layer.field-0.0 c.loop-number.invariant
+    (metal_stops document c.loop-number.number (view c.index-items-number.result) there _ _ c.loop-number.metals.items c.loop-number.seen c.in_err-layer.field-0.0 c.loop-number.invariant
     (rw c.metal.ensures at told))
 
 pub loop-number-preserved : goal.loop-number-preserved
 loop-number-preserved c =
     let document = table_view c.args.document.now in
-    let number = c.loop-number.number in
     let same = values_in-array (metal_in document) c.in_ok-items.items.now c.in_ok-items.ensures.array in
-    let there = shown_at view (metals_in document) c.in_ok-items.items.now number c.index-items-number.result same c.loop-number-test.true c.index-items-number.is in
-    let told = c.in_ok-layer.ensures (take number (metals_in document)) c.loop-number.invariant.are_seen in
+    let there = shown_at view (metals_in document) c.in_ok-items.items.now c.loop-number.number c.index-items-number.result same c.loop-number-test.true c.index-items-number.is in
+    let told = c.in_ok-layer.ensures (take c.loop-number.number (metals_in document)) c.loop-number.invariant.are_seen in
     rw c.in_ok-push.ensures.items
-    (one_metal_more document number (view c.index-items-number.result) there c.loop-number.metals.items c.loop-number.seen c.read_layer.new.seen c.in_ok-layer.layer _ refl c.loop-number.invariant
-    (rw c.metal.ensures at told))
+    (one_metal_more document c.loop-number.number (view c.index-items-number.result) there c.loop-number.metals.items c.loop-number.seen c.read_layer.new.seen c.in_ok-layer.layer _ refl
+    c.loop-number.invariant (rw c.metal.ensures at told))
 
 pub returns : goal.returns
 returns c =

@@ -1,11 +1,11 @@
 use Rattle.std.proofs.Common.{List, ℕ, length, subst}
+use Rattle.layer_map.specs.inside.ReadValues.{IsThere}
 use Rattle.toml.specs.View.{table_view}
 use Rattle.layer_map.specs.MapChecks.{Holds, checks_of, checks_of_cuts, checks_of_metals, checks_of_terminals, fault_of}
-use Rattle.layer_map.specs.inside.ReadSizes.{AreWeightsThere}
 use Rattle.layer_map.specs.inside.ReadCuts.{TakesCuts}
 use Rattle.layer_map.specs.inside.ReadTerminals.{TakesTerminals}
 use Rattle.map_model.specs.MapNames.{AreWeights}
-use Rattle.layer_map.specs.Values.{weights_in}
+use Rattle.layer_map.specs.Values.{weights_in, whole_numbers}
 use Rattle.map_model.specs.declared.layers.Metal.{Metal}
 use Rattle.first_refusal.proofs.AnswerLaws.{handed_on}
 use Rattle.first_refusal.proofs.JudgeLaws.{given, passed, passes, unread}
@@ -79,8 +79,8 @@ invariant_of-result c =
       few_metals = takes.few;
       few_cuts = cuts.few;
       few_terminals = terminals.few;
-      are_radii = (given c.in_ok-radii.ensures).are_radii;
-      are_weights = subst (λ (radii : List ℕ). AreWeights (length radii) c.in_ok-weights.weights) c.as_slice.ensures weights.are_weights;
+      are_radii = (given c.in_ok-radii.ensures).is;
+      are_weights = subst (λ (radii : List ℕ). AreWeights (length radii) c.in_ok-weights.weights) c.as_slice.ensures weights.is;
       names_differ = cuts.names_differ;
       pairs_differ = cuts.pairs_differ;
       terminals_differ = terminals.differ;
@@ -98,6 +98,6 @@ returns c =
     rest_decides (Holds document) fault_of _ (checks_of document) (checks_of_terminals document) _ (past_cuts document (past_metals document far c.in_ok-metals.ensures) cuts)
     (passes (Holds document) fault_of _ (checks_of_terminals document) _ (passed terminals)
     (gives_map document c.read_metals.new.seen c.in_ok-radii.radii c.in_ok-weights.weights c.in_ok-metals.metals c.in_ok-cuts.cuts c.in_ok-terminals.terminals (given c.in_ok-radii.ensures)
-    (subst (λ (radii : List ℕ). AreWeightsThere (length radii) (weights_in document) c.in_ok-weights.weights) c.as_slice.ensures (given weights)) (given c.in_ok-metals.ensures)
+    (subst (λ (radii : List ℕ). IsThere whole_numbers (AreWeights (length radii)) (weights_in document) c.in_ok-weights.weights) c.as_slice.ensures (given weights)) (given c.in_ok-metals.ensures)
     (subst (λ (ms : List Metal). TakesCuts document ms c.in_ok-cuts.cuts) c.as_slice-2.ensures (given cuts))
     (subst (λ (ms : List Metal). TakesTerminals document ms c.in_ok-terminals.terminals) c.as_slice-3.ensures (given terminals))))

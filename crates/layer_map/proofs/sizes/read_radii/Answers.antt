@@ -4,7 +4,10 @@ use Rattle.layer_map.specs.inside.ReadValues.{finds}
 use Rattle.layer_map.specs.Values.{radii_in}
 use Rattle.first_refusal.proofs.AnswerLaws.{handed_on, out_of_memory}
 use Rattle.layer_map.proofs.FindLaws.{found, none_found}
-use Rattle.layer_map.proofs.SizeLaws.{bad_radii, good_radii, radii_no_array, radii_there, too_many_radii}
+use Rattle.map_model.specs.MapNames.{AreRadii}
+use Rattle.layer_map.specs.Values.{whole_number}
+use Rattle.layer_map.proofs.PairLaws.{array_there}
+use Rattle.layer_map.proofs.SizeLaws.{bad_radii, good_radii, radii_no_array, too_many_radii}
 use Rattle.layer_map.proofs.sizes.read_radii.Goals as goal
 
 pub returns-in_err-values : goal.returns-in_err-values
@@ -22,7 +25,7 @@ returns-in-None c =
 pub returns-in-Some : goal.returns-in-Some
 returns-in-Some c =
     let are = found (rw c.in-Some.is at c.in_ok-radii.ensures) in
-    let there = found (radii_there (radii_in (table_view c.args.document.now)) c.in_ok-values.values.now (Some c.in-Some.radii.items) c.in_ok-values.ensures.array (finds are)) in
+    let there = found (array_there whole_number AreRadii (radii_in (table_view c.args.document.now)) c.in_ok-values.values.now (Some c.in-Some.radii.items) c.in_ok-values.ensures.array (finds are)) in
     good_radii (table_view c.args.document.now) _ c.in_ok-values.values.now c.in_ok-values.ensures.array c.if-values-gt-MOST_SIZES.false c.from_vec.result c.in-Some.radii.items are
     (rw c.from_vec.ensures there)
 

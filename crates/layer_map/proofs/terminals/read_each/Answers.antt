@@ -28,36 +28,33 @@ loop-number-init c seen takes =
 pub returns-in_err-terminal : goal.returns-in_err-terminal
 returns-in_err-terminal c seen takes =
     let document = table_view c.args.document.now in
-    let number = c.loop-number.number in
     let far = c.loop-number.invariant seen takes in
-    let there = shown_at view (terminals_in document) c.in_ok-items.items.now number c.index-items-number.result c.in_ok-items.ensures.items c.loop-number-test.true c.index-items-number.is in
-    let told = c.in_err-terminal.ensures (metals_in document) (take number (terminals_in document)) (have_names document seen c.args.metals.now takes) in
+    let there = shown_at view (terminals_in document) c.in_ok-items.items.now _ c.index-items-number.result c.in_ok-items.ensures.items c.loop-number-test.true c.index-items-number.is in
+    let told = c.in_err-terminal.ensures (metals_in document) (take c.loop-number.number (terminals_in document)) (have_names document seen c.args.metals.now takes) in
     handed_on _ _ c.from_residual-in_err-terminal.result c.in_err-terminal.field-0.0 c.from_residual-in_err-terminal.ensures.1
-    (place_stops document c.args.metals.now number (view c.index-items-number.result) there c.loop-number.terminals.items c.loop-number.places.keys far _ _ c.in_err-terminal.field-0.0
+    (place_stops document c.args.metals.now c.loop-number.number (view c.index-items-number.result) there c.loop-number.terminals.items c.loop-number.places.keys far _ _ c.in_err-terminal.field-0.0
     (rw c.terminal-path.ensures at told))
 
 pub returns-then-not-branch : goal.returns-then-not-branch
 returns-then-not-branch c seen takes =
     let document = table_view c.args.document.now in
-    let number = c.loop-number.number in
     let far = c.loop-number.invariant seen takes in
-    let there = shown_at view (terminals_in document) c.in_ok-items.items.now number c.index-items-number.result c.in_ok-items.ensures.items c.loop-number-test.true c.index-items-number.is in
-    let told = c.in_ok-terminal.ensures (metals_in document) (take number (terminals_in document)) (have_names document seen c.args.metals.now takes) in
+    let there = shown_at view (terminals_in document) c.in_ok-items.items.now _ c.index-items-number.result c.in_ok-items.ensures.items c.loop-number-test.true c.index-items-number.is in
+    let told = c.in_ok-terminal.ensures (metals_in document) (take c.loop-number.number (terminals_in document)) (have_names document seen c.args.metals.now takes) in
     rw c.terminal-path.ensures
-    (repeated document c.args.metals.now number (view c.index-items-number.result) there c.loop-number.terminals.items c.loop-number.places.keys far
+    (repeated document c.args.metals.now c.loop-number.number (view c.index-items-number.result) there c.loop-number.terminals.items c.loop-number.places.keys far
     (layer_names_differ document seen c.args.metals.now takes) c.in_ok-terminal.terminal (rw c.terminal-path.ensures at told)
     _ (rw c.if-not-branch.true at c.in_ok-add_place.ensures))
 
 pub loop-number-preserved : goal.loop-number-preserved
 loop-number-preserved c seen takes =
     let document = table_view c.args.document.now in
-    let number = c.loop-number.number in
     let far = c.loop-number.invariant seen takes in
-    let there = shown_at view (terminals_in document) c.in_ok-items.items.now number c.index-items-number.result c.in_ok-items.ensures.items c.loop-number-test.true c.index-items-number.is in
-    let told = c.in_ok-terminal.ensures (metals_in document) (take number (terminals_in document)) (have_names document seen c.args.metals.now takes) in
+    let there = shown_at view (terminals_in document) c.in_ok-items.items.now _ c.index-items-number.result c.in_ok-items.ensures.items c.loop-number-test.true c.index-items-number.is in
+    let told = c.in_ok-terminal.ensures (metals_in document) (take c.loop-number.number (terminals_in document)) (have_names document seen c.args.metals.now takes) in
     let added = rw c.if-not-branch.false at c.in_ok-add_place.ensures in
     rw c.in_ok-push.ensures.items
-    (one_terminal_more document c.args.metals.now number (view c.index-items-number.result) there c.loop-number.terminals.items c.loop-number.places.keys far
+    (one_terminal_more document c.args.metals.now c.loop-number.number (view c.index-items-number.result) there c.loop-number.terminals.items c.loop-number.places.keys far
     (layer_names_differ document seen c.args.metals.now takes) c.in_ok-terminal.terminal (rw c.terminal-path.ensures at told)
     _ added.1 added.0)
 
