@@ -76,9 +76,9 @@ pub fn spread_of(zones: &[Labelled], window: Rect) -> Spread {
     spread
 }
 
-/// Whether one label has most of the zones: it leads all others together by half of them. The label that is left over
-/// when zones of different labels are taken away in pairs is the only one that can, and so many of its zones are left.
-pub fn has_leader(zones: &[Labelled]) -> bool {
+/// By how many zones one label leads all others together, where one does. The label that is left over when zones of different
+/// labels are taken away in pairs is the only one that can, and at least so many of its zones are left.
+pub fn lead(zones: &[Labelled]) -> usize {
     let mut leader: usize = 0;
     let mut lead: usize = 0;
     for zone in zones {
@@ -91,7 +91,7 @@ pub fn has_leader(zones: &[Labelled]) -> bool {
             lead -= 1;
         }
     }
-    zones.len() / 2 <= lead
+    lead
 }
 
 /// This place, where it lies between the ends of the places and nearer to their middle than the one found before.
