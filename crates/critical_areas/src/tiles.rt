@@ -33,8 +33,8 @@ use union_area::union_area;
 use via_clusters::via_area;
 
 /// For each question of the parts, in order, how many cells of the window, where there is one, have its fault. They are counted
-/// over tiles with this edge, or a longer one where pieces or defects are long, by so many workers at once, and each tile passes the gate.
-/// Where one tile is all of the window nothing is made for tiles.
+/// over tiles with this edge, or a longer one where pieces or defects are long, by so many workers at once, and each tile
+/// passes the gate. Where one tile is all of the window nothing is made for tiles.
 pub fn tiled_amounts<G: Gate + Sync>(
     rt: &(impl Threads + Sync),
     alloc: Global,

@@ -14,4 +14,5 @@ pub mod TallyLaws
 pub mod OrderLaws
 pub mod RangeLaws
 pub mod CellLaws
+pub mod PartTallies
 pub mod WindowLaws

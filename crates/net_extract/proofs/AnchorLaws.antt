@@ -1,6 +1,6 @@
 -- terminals as anchors, one after the other
-use Rattle.std.proofs.Common.{ℕ, zero, suc, ◌+◌, ◌≡◌, refl, sym, ap, ◌∙◌, subst, List, [], ◌∷◌, ◌++◌, length, take, drop, map, arith, All, Some, slice_get}
-use Rattle.lists.proofs.Words.{AllZip, enumerate_from, take-append-drop, drop_more, All-more, slice_get_within, get_or_from_slice_get}
+use Rattle.std.proofs.Common.{ℕ, ◌+◌, ◌≡◌, refl, sym, ap, ◌∙◌, subst, List, ◌∷◌, ◌++◌, take, drop, map, arith, All, Some, slice_get}
+use Rattle.lists.proofs.Words.{enumerate_from, take-append-drop, drop_more, All-more, slice_get_within, get_or_from_slice_get}
 use Rattle.first_refusal.specs.Checks.{IsRefusalOfFirst}
 use Rattle.geo_core.specs.declared.plane.Cell.{Cell}
 use Rattle.geo_core.specs.declared.plane.Labelled.{Labelled}

@@ -1,12 +1,10 @@
 -- groups of contact pieces are via clusters
 use Rattle.geo_core.specs.Plane.{Has, IsCoveredIn}
 use Rattle.geo_core.specs.declared.plane.Cell.{Cell}
-use Rattle.geo_core.specs.declared.plane.Half.{Half}
 use Rattle.geo_core.specs.declared.plane.Rect.{Rect}
-use Rattle.fault_model.specs.FaultNames.{IsOn, Cut}
-use Rattle.fault_model.specs.Faults.{IsSameCluster}
+use Rattle.fault_model.specs.FaultNames.{Cut}
 use Rattle.map_model.specs.MapNames.{LayerMap, MappedCut}
-use Rattle.net_extract.specs.ContactGroups.{CarryClusters, ends_of_contact}
+use Rattle.net_extract.specs.ContactGroups.{CarryClusters}
 use Rattle.net_extract.specs.Cuts.{cut_of, cuts_of, numbered_cuts}
 use Rattle.net_extract.specs.Extraction.{AreNetsOf}
 use Rattle.net_extract.specs.NetLists.{NetLists, IsIslandCell, contacts_of}

@@ -1,6 +1,6 @@
 -- contact pieces in the order of their islands, group by group
-use Rattle.std.proofs.Common.{ℕ, ◌+◌, ◌-◌, ◌<◌, ◌≤◌, ◌≡◌, ◌≢◌, refl, sym, ap, ◌∙◌, subst, List, [], ◌∷◌, ◌++◌, Bool, true, false, not, ◌&&◌, ◌==◌, inl, inr, ◌⊎◌, length, take, drop, map, get_or, nat_cmp, arith, All, AllPairs, Contains, Some, slice_get, filter, take_all}
-use Rattle.lists.proofs.Words.{is_lt, Ordering, Less, Equal, Greater, nat_tests, IsSortedByKey, IsPermutation, Called, ComputesKey, always_returns_same, ranks_by, sorted_far, filter-append, take-append-drop, append-nil, map-append, length-take, length-drop, length-map, All-head, All-tail, All-cons, All-nil, All-push, All-contains, Contains-append_cases, Contains-append_left, Contains-append_right, Contains-push, Contains-push_cases, Contains-permutation, IsPermutation-sym, eqb_tells, leb_tells, get_or_default, get_or_from_slice_get, slice_get_within, cases_Bool, and_parts, Decides-eqb, drop-drop, drop_all}
+use Rattle.std.proofs.Common.{ℕ, ◌+◌, ◌<◌, ◌≤◌, ◌≡◌, refl, sym, ap, ◌∙◌, subst, List, [], ◌∷◌, ◌++◌, Bool, true, false, not, ◌&&◌, ◌==◌, inl, inr, ◌⊎◌, length, take, drop, map, get_or, nat_cmp, arith, All, Contains, Some, slice_get, filter, take_all}
+use Rattle.lists.proofs.Words.{is_lt, Ordering, nat_tests, IsSortedByKey, IsPermutation, Called, ComputesKey, always_returns_same, ranks_by, sorted_far, filter-append, take-append-drop, append-nil, map-append, length-drop, All-nil, All-push, All-contains, Contains-append_cases, Contains-append_left, Contains-append_right, Contains-push, Contains-push_cases, Contains-permutation, leb_tells, get_or_default, get_or_from_slice_get, slice_get_within, cases_Bool, and_parts, Decides-eqb, drop-drop}
 use Rattle.std.specs.Ordering.{ordering_then}
 use Rattle.std.specs.Cmp.{IsTotalOrder}
 use Rattle.std.specs.List.Sorted.{IsStableByKey}
@@ -10,7 +10,6 @@ use Rattle.std.proofs.lemmas.List.{get_or-drop}
 use Rattle.std.proofs.lemmas.List.Elements.{filter_agree}
 use denote.Param.Members.{Mut}
 use denote.Ref.{Bor}
-use Rattle.geo_core.specs.declared.plane.Rect.{Rect}
 use Rattle.lists.specs.Differing.{AreDifferent}
 use Rattle.lists.proofs.Containing.{Contains-none, Contains-slice_get, all_of_each}
 use Rattle.lists.proofs.Differing.{different_more}

@@ -1,8 +1,7 @@
 -- what layers come to
-use Rattle.std.proofs.Common.{ℕ, ◌<◌, ◌≡◌, refl, sym, ap, ◌∙◌, subst, List, [], ◌∷◌, length, map, All, Contains, Result, Ok, Err, IsErrAnd}
+use Rattle.std.proofs.Common.{ℕ, ◌<◌, ◌≡◌, sym, ◌∙◌, subst, List, ◌∷◌, length, map, All, Contains, Err}
 use Rattle.lists.proofs.Words.{AllZip, enumerate_from, length-map, map-map, All-contains, All-weaker, Contains-append_right}
-use Rattle.first_refusal.specs.Checks.{Checks, all_hold, one_fails, IsRefusalOfFirst}
-use Rattle.first_refusal.specs.Outcomes.{Outcome}
+use Rattle.first_refusal.specs.Checks.{one_fails, IsRefusalOfFirst}
 use Rattle.geo_core.specs.declared.plane.Cell.{Cell}
 use Rattle.geo_core.specs.declared.plane.Labelled.{Labelled}
 use Rattle.geo_core.specs.declared.plane.Rect.{Rect}
@@ -11,7 +10,7 @@ use Rattle.map_model.specs.declared.layers.Cut.{Cut as GivenCut}
 use Rattle.map_model.specs.declared.layers.Terminal.{Terminal}
 use Rattle.map_model.specs.declared.map.Map.{Map}
 use Rattle.net_extract.specs.inside.Anchoring.{IsAnchorOf, IsOnIsland}
-use Rattle.first_refusal.specs.Answers.{Answers, refuses, no_memory}
+use Rattle.first_refusal.specs.Answers.{refuses, no_memory}
 use Rattle.first_refusal.proofs.JudgeLaws.{Judges}
 use Rattle.net_extract.specs.Extraction.{AreNetsOf, IsOnItsMetal, off_metal}
 use Rattle.net_extract.specs.inside.Numbering.{AreIslandsOf, AreContactLists, AreNetNumbers, piece_of}

@@ -1,6 +1,6 @@
 -- islands that are found for terminals
-use Rattle.std.proofs.Common.{ℕ, zero, suc, ◌+◌, ◌<◌, ◌≤◌, ◌≡◌, refl, sym, ap, ◌∙◌, subst, List, [], ◌∷◌, ◌++◌, length, set, replicate, length-set, take, drop, take_all, arith, inl, inr, ◌⊎◌, Option, Some, None, slice_get}
-use Rattle.lists.proofs.Words.{length-replicate, take-append-le, Contains-append_left, Contains-push, Contains-push_cases, slice_get_within}
+use Rattle.std.proofs.Common.{ℕ, zero, suc, ◌+◌, ◌<◌, ◌≤◌, ◌≡◌, refl, sym, ap, ◌∙◌, subst, List, [], ◌∷◌, ◌++◌, length, set, replicate, length-set, arith, inl, inr, ◌⊎◌, Option, Some, None, slice_get}
+use Rattle.lists.proofs.Words.{length-replicate, Contains-append_left, Contains-push, Contains-push_cases, slice_get_within}
 use Rattle.geo_core.specs.declared.plane.Labelled.{Labelled}
 use Rattle.map_model.specs.declared.layers.Terminal.{Terminal}
 use Rattle.net_extract.specs.inside.LabelledCells.{HasLabelled, AreMeetings}

@@ -1,5 +1,5 @@
 -- the lists of nets tell what was found
-use Rattle.std.proofs.Common.{length, inl, inr, ◌+◌, ℕ, zero, suc, ◌<◌, ◌≡◌, ◌≢◌, refl, sym, ap, ◌∙◌, subst, List, [], ◌∷◌, get_or, map, arith, ◌↔◌, All, Contains, Some, slice_get}
+use Rattle.std.proofs.Common.{length, inl, inr, ◌+◌, ℕ, zero, suc, ◌<◌, ◌≡◌, refl, sym, ap, ◌∙◌, subst, List, [], ◌∷◌, get_or, map, arith, ◌↔◌, All, Contains, Some, slice_get}
 use Rattle.lists.proofs.Words.{AllZip, leb_tells, get_or_past, length-map, get_or_default, All-contains, Contains-get_or}
 use Rattle.paths.proofs.PathLaws.{within}
 use Rattle.geo_core.specs.Plane.{Has, IsInUnion, IsCoveredIn}

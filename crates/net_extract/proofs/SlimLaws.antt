@@ -7,7 +7,9 @@ use Rattle.geo_core.specs.Plane.{Has}
 use Rattle.geo_core.specs.declared.plane.Cell.{Cell}
 use Rattle.geo_core.specs.declared.plane.Labelled.{Labelled}
 use Rattle.geo_core.specs.declared.plane.Rect.{Rect}
+use Rattle.fault_model.proofs.AlikeLaws.{IsOn-alike}
 use Rattle.fault_model.proofs.UnionLaws.{in_union, among_union}
+use Rattle.paths.proofs.PathLaws.{within}
 use Rattle.lists.proofs.Mapping.{Contains-map, Contains-map_from}
 use Rattle.net_extract.specs.inside.LabelledCells.{HasLabelled, HaveSameLabelled, ArePartsIn}
 use Rattle.net_extract.specs.inside.Numbering.{AreIslandsFrom}
@@ -113,6 +115,17 @@ islands_slim rects low high islands slim are same = record {
   );
   joined = λ i k p q p_on q_on. are.joined i k p q (p_on.0, p_on.1, (same i p_on.0).0 p_on.2) (q_on.0, q_on.1, (same k q_on.0).0 q_on.2);
   within = λ i c h. are.within i c ((same i c).0 h);
+}
+
+-- the islands of rectangles are those of others that have the same cells
+pub islands_alike : (rects merged : List Rect) (low high most : ℕ) (islands : List Labelled) → HaveSameCells rects merged → high ≤ most → AreIslandsFrom merged low high islands
+    → AreIslandsFrom rects low most islands
+islands_alike rects merged low high most islands same few are = record {
+  covered = λ c. (λ h. (same c).0 ((are.covered c).0 h), λ u. (are.covered c).1 ((same c).1 u));
+  joined = λ i k p q p_on q_on.
+      let told = are.joined i k p q p_on q_on in
+      (λ e. within (IsOn-alike (λ c. (same c).0)) (told.0 e), λ walk. told.1 (within (IsOn-alike (λ c. (same c).1)) walk));
+  within = λ i c h. let bounds = are.within i c h in (bounds.0, omega arith);
 }
 
 pub parts_slim : (cut : List Rect) (rects parts slim : List Labelled) → ArePartsIn cut rects parts → HaveSameLabelled parts slim → ArePartsIn cut rects slim

@@ -2,9 +2,13 @@ ghost use Rattle.std.specs.Prelude.{◌+◌, ◌^◌, ◌<◌, ◌≤◌, IfOk, 
 ghost use Rattle.net_extract.specs.inside.Numbering.{AreIslandsFrom, AreIslandsOf};
 
 use super::slimming::slim;
-use geo_core::{Items, Labelled, NoMemory, Rect, RectList};
+use depth_sweep::merge_rects;
+use geo_core::{Items, Labelled, NoMemory, Rect, RectList, join};
 use islands::label;
 use std::alloc::Global;
+
+/// Rectangles lie on one another where they have more than so many times the cells of the least rectangle round them.
+const OFTEN: u64 = 2;
 
 /// Rectangles of a metal, labelled by their islands.
 pub type IslandList = Items<Labelled>;
@@ -44,9 +48,44 @@ pub fn metal_islands(
     })
 }
 
+/// How many cells the rectangle has.
+fn area_of(rect: Rect) -> u64 {
+    let width = u64::from(rect.x1.abs_diff(rect.x0));
+    let height = u64::from(rect.y1.abs_diff(rect.y0));
+    width.saturating_mul(height)
+}
+
+/// Whether the rectangles lie on one another, by how many cells each of them has. It serves to choose among ways that all lead
+/// to the answer.
+fn lie_on_one_another(rects: &[Rect]) -> bool {
+    let Some((first, others)) = rects.split_first() else {
+        return false;
+    };
+    let mut around = *first;
+    let mut cells = area_of(*first);
+    for rect in others {
+        around = join(around, *rect);
+        cells = cells.saturating_add(area_of(*rect));
+    }
+    area_of(around) < cells / OFTEN
+}
+
+/// The cells of the rectangles with their islands, which are numbered from `first` on. Rectangles that lie on one another are
+/// replaced by others with the same cells before islands are looked for, so that few of them touch.
+fn islands_from(alloc: Global, rects: &[Rect], first: usize) -> Result<IslandList, NoMemory>
+    requires { first + length rects.now < 2 ^ 64 }
+    ensures { IfOk result (λ islands. AreIslandsFrom rects.now first (first + length rects.now) islands) }
+{
+    if lie_on_one_another(rects) {
+        let merged = merge_rects(alloc, rects)?;
+        return islands_among(alloc, &merged, first);
+    }
+    islands_among(alloc, rects, first)
+}
+
 /// The cells of the rectangles with their islands, which are numbered from `first` on. Rectangles of one island that
 /// overlap are replaced by others with the same cells where these are no more.
-fn islands_from(alloc: Global, rects: &[Rect], first: usize) -> Result<IslandList, NoMemory>
+fn islands_among(alloc: Global, rects: &[Rect], first: usize) -> Result<IslandList, NoMemory>
     requires { first + length rects.now < 2 ^ 64 }
     ensures { IfOk result (λ islands. AreIslandsFrom rects.now first (first + length rects.now) islands) }
 {

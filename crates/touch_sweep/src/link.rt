@@ -17,7 +17,7 @@ use std::alloc::{AllocError, Global};
 const FEW: usize = 16;
 
 /// Where there are no more than this many pairs for each point, they are all right: a sweep is quicker than chains.
-const ENOUGH: usize = 4;
+const ENOUGH: usize = 2;
 
 /// Adds pairs of numbers by which all entries that touch are joined, where the later one of two begins in the strip. The
 /// entries are in the order of their lowest rows. Where there are many pairs for so many numbers, pairs are let go that

@@ -1,1 +1,2 @@
 pub mod ClipLaws
+pub mod RunLaws

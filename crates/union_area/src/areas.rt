@@ -1,11 +1,14 @@
 ghost use Rattle.std.specs.Prelude.{◌<◌, ◌^◌, ◌≡◌, IfOk, IfSome};
+ghost use Rattle.geo_core.specs.Cells.{Has};
 ghost use Rattle.geo_core.specs.Unions.{IsInUnion};
+ghost use Rattle.geo_core.specs.declared.plane.Cell.{Cell};
+ghost use Rattle.depth_sweep.specs.Runs.{AreApart};
 ghost use Rattle.fault_model.specs.Areas.{Tally, cells_of};
 ghost use Rattle.window_parts.specs.WindowParts.{AreParts};
 
 use super::survey::Survey;
 use super::windows::{clipped, is_filled};
-use depth_sweep::area_once;
+use depth_sweep::{area_once, runs_within};
 use geo_core::{NoMemory, Rect, Steps};
 use std::alloc::Global;
 use std::marker::Brand;
@@ -14,6 +17,9 @@ use window_parts::count_of;
 
 /// So many rectangles are swept at once.
 const FEW: usize = 64;
+
+/// So many looks for each rectangle are few.
+const LOOKS_EACH: usize = 4;
 
 /// How many cells of the window lie in at least one rectangle of the list. The one error is that no memory is left.
 pub fn union_area(alloc: Global, rects: &[Rect], window: Rect) -> Result<u64, NoMemory>
@@ -29,7 +35,7 @@ pub fn union_area(alloc: Global, rects: &[Rect], window: Rect) -> Result<u64, No
         return Ok(count_of(window));
     }
     match halves_of(inside, window) {
-        None => swept_area(alloc, inside, window),
+        None => area_within(alloc, inside, window),
         Some((first, second)) => {
             let one = union_area(alloc, inside, first)?;
             let other = union_area(alloc, inside, second)?;
@@ -53,6 +59,34 @@ fn halves_of(rects: &[Rect], window: Rect) -> Option<(Rect, Rect)>
         return survey.halves();
     }
     None
+}
+
+/// The area of rectangles in the window: where rectangles without common cells are found with few looks, it is that of all
+/// of these. Else it is found by a sweep.
+fn area_within(alloc: Global, rects: &[Rect], window: Rect) -> Result<u64, NoMemory>
+    requires { (c : Cell) → IsInUnion rects.now c → Has window c }
+    ensures tally { IfOk result (λ n. Tally (IsInUnion rects.now) (cells_of window) n) }
+    ensures small { IfOk result (λ n. n < 2 ^ 63) }
+{
+    let mut left = rects.len().saturating_mul(LOOKS_EACH);
+    match runs_within(alloc, rects, &mut left)? {
+        Some(runs) => Ok(area_of_runs(runs.as_slice(), window)),
+        None => swept_area(alloc, rects, window),
+    }
+}
+
+/// The area of rectangles in the window that have no cells in common.
+fn area_of_runs(runs: &[Rect], window: Rect) -> u64
+    requires apart { AreApart runs.now }
+    requires within { (c : Cell) → IsInUnion runs.now c → Has window c }
+    ensures tally { Tally (IsInUnion runs.now) (cells_of window) result }
+    ensures small { result < 2 ^ 63 }
+{
+    let mut area = 0;
+    for run in runs {
+        area += count_of(*run);
+    }
+    area
 }
 
 /// The area by a sweep.

@@ -1,6 +1,6 @@
 use Rattle.std.proofs.Common.{◌≡◌, ◌∙◌, length, map, arith, All, Err}
 use Rattle.lists.proofs.Words.{AllZip, enumerate_from, length-map}
-use Rattle.first_refusal.specs.Checks.{Checks, all_hold}
+use Rattle.first_refusal.specs.Checks.{all_hold}
 use Rattle.map_model.specs.MapNames.{terminal_of}
 use Rattle.net_extract.specs.inside.Anchoring.{IsAnchorOf, IsOnIsland}
 use Rattle.net_extract.specs.Extraction.{off_metal}

@@ -1,4 +1,4 @@
-use Rattle.std.proofs.Common.{◌≡◌, sym, subst, ◌∙◌, true, false, arith, get_or, length, All, take_all}
+use Rattle.std.proofs.Common.{◌≡◌, sym, subst, ◌∙◌, true, false, arith, length, All, take_all}
 use Rattle.lists.proofs.Words.{get_or_default, All-more}
 use Rattle.net_extract.specs.ContactGroups.{carries_both}
 use Rattle.net_extract.specs.declared.pieces.ContactPiece.{ContactPiece}

@@ -1,4 +1,4 @@
-use Rattle.std.proofs.Common.{List, Vec, subst}
+use Rattle.std.proofs.Common.{Vec, subst}
 use Rattle.lists.proofs.Words.{IfOk-weaker}
 use Rattle.std.specs.Global.{Global}
 use Rattle.net_extract.specs.ContactGroups.{AreGroupsOf}

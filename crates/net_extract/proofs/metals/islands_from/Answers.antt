@@ -1,27 +1,16 @@
-use Rattle.std.proofs.Common.{◌≤◌, ◌<◌, length, take_all, refl, ap, map, ◌+◌, ◌∙◌, arith}
-use Rattle.lists.proofs.Words.{slice_get_read}
-use Rattle.net_extract.proofs.IslandLaws.{label_small, islands_from}
-use Rattle.net_extract.proofs.SlimLaws.{islands_slim}
+use Rattle.std.proofs.Common.{ap, arith, length, subst, sym, ◌+◌, ◌≤◌}
+use Rattle.lists.proofs.Words.{IfOk-weaker}
+use Rattle.depth_sweep.specs.Runs.{HaveSameCells}
+use Rattle.net_extract.proofs.SlimLaws.{islands_alike}
 use Rattle.net_extract.proofs.metals.islands_from.Goals as goal
 
-pub overflow_add-first : goal.overflow_add-first
-overflow_add-first c =
-    let labels = c.in_ok-labels.labels.items in
-    let labelling = c.in_ok-labels.ensures.least in
-    let one_each = labelling.one_each in
-    let k = c.loop-k.k in
-    let small : k < length labels = omega arith in
-    let low : c.index.result.now ≤ k = label_small c.args.rects.now labels labelling k c.index.result.now (slice_get_read labels (length labels) k c.index.result.now refl small c.index.ensures) in
-    omega arith
+pub islands_among-requires : goal.islands_among-requires
+islands_among-requires c = omega (arith, c.in_ok-merged.ensures.few, ap length c.deref.ensures.value)
 
-pub returns : goal.returns
-returns c =
+pub returns-then-lie_on_one_another : goal.returns-then-lie_on_one_another
+returns-then-lie_on_one_another c =
     let rects = c.args.rects.now in
-    let labels = c.in_ok-labels.labels.items in
-    let labelling = c.in_ok-labels.ensures.least in
-    let one_each = labelling.one_each in
-    let k = c.loop-k.k in
-    let past : length labels ≤ k = omega arith in
-    let islands = islands_from rects labels c.args.first _ (c.loop-k.invariant.rects ∙ take_all k rects c.loop-k-test.false)
-    (c.loop-k.invariant.labels ∙ ap (map (λ n. c.args.first + n)) (take_all k labels past)) labelling c.in_ok-labels.ensures.islands in
-    rw c.from_vec.ensures (islands_slim rects _ _ _ _ islands c.in_ok-slim.ensures)
+    let merged = c.deref.result.now in
+    let same = subst (HaveSameCells rects) (sym c.deref.ensures.value) c.in_ok-merged.ensures.same in
+    let few : c.args.first + length merged ≤ c.args.first + length rects = omega (arith, c.in_ok-merged.ensures.few, ap length c.deref.ensures.value) in
+    IfOk-weaker _ _ _ (λ islands are. islands_alike rects merged _ _ _ islands same few are) c.islands_among.ensures

@@ -1,4 +1,4 @@
-use Rattle.std.proofs.Common.{List, Vec, subst, sym}
+use Rattle.std.proofs.Common.{List, Vec, subst}
 use Rattle.lists.proofs.Words.{IfOk-weaker}
 use Rattle.std.specs.Global.{Global}
 use Rattle.geo_core.specs.declared.plane.Labelled.{Labelled}

@@ -19,8 +19,8 @@ returns-then-is_filled-clause-tally t c =
 pub returns-in-None-clause-tally : goal.returns-in-None-clause-tally
 returns-in-None-clause-tally t c =
     let those = subst (AreClipped c.args.rects.now c.args.window) (sym c.as_slice-inside.ensures.value) c.in_ok-inside.ensures in
-    IfOk-weaker c.swept_area.result (Tally (IsInUnion c.as_slice-inside.result.now) (cells_of c.args.window)) (Tally (IsInUnion c.args.rects.now) (cells_of c.args.window))
-    (tally_clipped c.args.rects.now c.args.window c.as_slice-inside.result.now those) c.swept_area.ensures.tally
+    IfOk-weaker c.area_within.result (Tally (IsInUnion c.as_slice-inside.result.now) (cells_of c.args.window)) (Tally (IsInUnion c.args.rects.now) (cells_of c.args.window))
+    (tally_clipped c.args.rects.now c.args.window c.as_slice-inside.result.now those) c.area_within.ensures.tally
 
 pub union_area-requires : goal.union_area-requires
 union_area-requires t c = let fewer = fewer_cells c.args.window c.in-Some.first c.in-Some.second c.in-Some.ensures in (omega (arith, fewer.0), tt)

@@ -1,6 +1,6 @@
 use Rattle.std.proofs.Common.{◌+◌, ◌≡◌, take, map}
 use Rattle.net_extract.proofs.IslandLaws.{rect_of, label_of}
-use Rattle.net_extract.proofs.metals.islands_from.Given as goal
+use Rattle.net_extract.proofs.metals.islands_among.Given as goal
 
 abbrev pub invariant-loop-k : goal.invariant-loop-k
 invariant-loop-k l = record {
