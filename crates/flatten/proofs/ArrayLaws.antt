@@ -1,5 +1,5 @@
 -- the steps of an array, by their columns and rows
-use Rattle.std.proofs.Common.{ℕ, suc, ◌+◌, ◌*◌, ◌<◌, ◌≡◌, List, [], ◌∷◌, length, length-append, get_or, take, Some, sym, ap, ◌∙◌, arith, slice_get}
+use Rattle.std.proofs.Common.{ℕ, ◌+◌, ◌*◌, ◌<◌, ◌≡◌, List, [], ◌∷◌, length, length-append, get_or, take, Some, sym, ap, ◌∙◌, arith, slice_get}
 use Rattle.lists.proofs.Words.{flat_map, range_with_len, length-take-le, length-range_with_len, length-map-range_with_len, get_or-range_with_len, get_or-map-range_with_len, slice_get-get_or}
 use Rattle.std.proofs.Math.Nat.{mul-le-mul_right}
 use Rattle.std.proofs.lemmas.List.Concat.{get_or-flat_map}
@@ -13,12 +13,7 @@ module _ (reference : Reference) where
   -- so many rows have so many steps
   rows_long : (rows : List ℕ) → length (flat_map (steps_in_row reference) rows) ≡ length rows * columns_of reference.lattice
   rows_long [] = omega arith
-  rows_long (row ∷ rows) =
-      length-append (steps_in_row reference row) (flat_map (steps_in_row reference) rows) ∙ ap (λ n. n + length (flat_map (steps_in_row reference) rows)) (row_long row)
-      ∙ ap (λ n. columns_of reference.lattice + n) (rows_long rows) ∙ more (length rows) (columns_of reference.lattice)
-    where
-      more : (n w : ℕ) → w + n * w ≡ suc n * w
-      more n w = omega arith
+  rows_long (row ∷ rows) = rw (length-append, row_long row, rows_long rows) (omega arith)
 
   pub steps_long : length (steps_of reference) ≡ rows_of reference.lattice * columns_of reference.lattice
   steps_long = rows_long (range_with_len 0 (rows_of reference.lattice)) ∙ ap (λ n. n * columns_of reference.lattice) (length-range_with_len 0 (rows_of reference.lattice))
@@ -40,10 +35,7 @@ module _ (reference : Reference) where
 
     -- and so many steps stand before it
     before : length (flat_map (steps_in_row reference) (take row all_rows)) ≡ row * columns_of reference.lattice
-    before = rows_long (take row all_rows) ∙ ap (λ n. n * columns_of reference.lattice) taken
-      where
-        taken : length (take row all_rows) ≡ row
-        taken = length-take-le row all_rows (omega (arith, length-range_with_len 0 (rows_of reference.lattice)))
+    before = rw (rows_long (take row all_rows), length-take-le row all_rows (omega (arith, length-range_with_len 0 (rows_of reference.lattice))))
 
     within : row * columns_of reference.lattice + column < length (steps_of reference)
     within = omega (arith, steps_long, mul-le-mul_right (columns_of reference.lattice) rows)

@@ -1,12 +1,13 @@
 -- a refusal tells its cause
-use Rattle.std.proofs.Common.{ℕ, suc, ◌<◌, ◌≤◌, ◌≡◌, ◌⊎◌, inl, inr, List, [], ◌∷◌, length, map, Option, Some, None, refl, sym, subst, arith, All, Contains, IsSome}
-use Rattle.lists.proofs.Words.{range_with_len, cases_lt, All-append, All-cons, All-contains, All-map, Contains-append_right}
+use Rattle.std.proofs.Common.{ℕ, suc, ◌<◌, ◌≤◌, ◌≡◌, ◌⊎◌, inl, inr, List, ◌∷◌, length, map, Option, Some, None, refl, subst, arith, All, Contains, IsSome}
+use Rattle.lists.proofs.Words.{range_with_len, cases_lt, All-cons, All-contains, All-map, Contains-append_right}
 use Rattle.first_refusal.specs.Outcomes.{refused, value, stops, goes_on}
 use Rattle.first_refusal.specs.Checks.{IsRefusalOfFirst, all_hold, one_fails}
 use Rattle.library_model.specs.Names.{names_of, place_of}
 use Rattle.library_model.specs.declared.library.Structure.{Structure}
 use Rattle.map_model.specs.MapNames.{LayerMap}
-use Rattle.flatten.specs.Structures.{all_references, all_targets, numbers_of, target_of}
+use Rattle.std.proofs.lemmas.List.{nil_from_length}
+use Rattle.flatten.specs.Structures.{all_references, all_targets, target_of}
 use Rattle.flatten.specs.ReferenceChains.{StartsChain, IsEndless}
 use Rattle.flatten.specs.Tops.{HasTop, IsNoOtherTop, IsTop, IsUnnamed}
 use Rattle.flatten.specs.Routes.{Route, point_count}
@@ -14,8 +15,9 @@ use Rattle.flatten.specs.Placements.{LibraryCheck, has_its_target, leads_to_no_c
 use Rattle.flatten.specs.Causes.{IsSecondTop, Tells}
 use Rattle.flatten.specs.declared.fault.PlaceFault.{PlaceFault}
 use Rattle.flatten.specs.declared.fault.PlaceFault.TheVariants.{NoTop}
-use Rattle.flatten.proofs.NumberLaws.{all_numbers, number_below, number_there, one_or_none}
-use Rattle.flatten.proofs.ChainLaws.{chain_or_not, no_longer}
+use Rattle.flatten.proofs.ChoiceLaws.{all_library}
+use Rattle.flatten.proofs.NumberLaws.{number_below, number_there, one_or_none}
+use Rattle.flatten.proofs.ChainLaws.{chain_or_not, is_shorter}
 use Rattle.lists.proofs.Comparing.{equal_or_not}
 use Rattle.lists.proofs.Containing.{Contains-head, all_of_each}
 
@@ -25,11 +27,12 @@ none_there : {X : Type 0} (o : Option X) → (IsSome o → ⊥) → o ≡ None
 none_there None h = refl
 none_there (Some x) h = absurd (h refl)
 
--- the first check that fails is one of the checks
-is_among : {X R : Type 0} (Holds : X → Type 0) (checks : List X) (fault_of : X → R) (fault : R) (first : IsRefusalOfFirst Holds checks fault_of fault) → Contains checks first.check
-is_among Holds checks fault_of fault first =
-    subst (λ l. Contains l first.check) (sym first.is_first.parts)
-    (Contains-append_right first.is_first.before (first.check ∷ first.is_first.after) first.check (Contains-head first.check first.is_first.after))
+-- a refusal of the first check that fails is one of a check that fails
+by_check : {X R : Type 0} (Holds : X → Type 0) (checks : List X) (fault_of : X → R) (IsOne : X → Type 0) (P : R → Type 0) → All IsOne checks
+    → ((check : X) → IsOne check → (Holds check → ⊥) → P (fault_of check)) → (fault : R) → IsRefusalOfFirst Holds checks fault_of fault → P fault
+by_check Holds checks fault_of IsOne P all each fault first =
+    let there = Contains-append_right first.is_first.before (first.check ∷ first.is_first.after) first.check (Contains-head first.check first.is_first.after) in
+    rw first.is_its_refusal (each first.check (All-contains IsOne checks first.check all (rw first.is_first.parts there)) first.is_first.fails)
 
 module _ (structures : List Structure) where
   -- where it cannot be that chains end, they do not
@@ -40,14 +43,8 @@ module _ (structures : List Structure) where
   longer : (most : ℕ) (one : ℕ) → (((n : ℕ) → StartsChain structures n one → n ≤ most) → ⊥) → StartsChain structures (suc most) one
   longer most one h = elim (chain_or_not structures (suc most) one) [
     | inl chain ↦ chain
-    | inr none ↦ absurd (h (λ n chain.
-        let near : n ≤ suc most = no_longer structures (suc most) n one none chain in
-        let not_it : n ≡ suc most → ⊥ = λ e. none (subst (λ k. StartsChain structures k one) e chain) in
-        at_most n near not_it))
+    | inr none ↦ absurd (h (λ n chain. let less : n < suc most = is_shorter structures (suc most) n one none chain in omega arith))
   ]
-    where
-      at_most : (n : ℕ) → n ≤ suc most → (n ≡ suc most → ⊥) → n ≤ most
-      at_most n near not_it = elim (cases_lt most n) [ inl more ↦ absurd (not_it (omega arith)) | inr less ↦ omega arith ]
 
   unnamed_or_not : (one : ℕ) → IsUnnamed structures one ⊎ (IsUnnamed structures one → ⊥)
   unnamed_or_not one = elim (one_or_none (λ other. other ≡ one) (λ other. equal_or_not other one) (all_targets structures)) [
@@ -75,18 +72,10 @@ module _ (structures : List Structure) (layer_map : LayerMap) (wanted : Option (
   IsOf (is_no_other_top one) = one < length structures
 
   all_of : All IsOf (library_checks structures)
-  all_of =
-      All-append IsOf (map has_its_target (all_references structures)) _ (All-map IsOf has_its_target (all_references structures)
-      (all_of_each (Contains (all_references structures)) (all_references structures) (λ reference there. there)))
-      (All-append IsOf (map leads_to_no_cycle (numbers_of structures)) _ (all_numbers leads_to_no_cycle IsOf (length structures) (λ one within. within))
-      (All-cons IsOf has_top _ tt (all_numbers is_no_other_top IsOf (length structures) (λ one within. within))))
+  all_of = all_library structures IsOf (all_of_each (Contains (all_references structures)) (all_references structures) (λ reference there. there)) (λ one within. within) tt (λ one within. within)
 
   no_top : (wanted : Option (List ℕ)) → (HasTop structures wanted → ⊥) → Tells structures layer_map wanted NoTop
-  no_top None fails = by_list structures fails
-    where
-      by_list : (list : List Structure) → (1 ≤ length list → ⊥) → list ≡ []
-      by_list [] h = refl
-      by_list (s ∷ list) h = absurd (h (omega arith))
+  no_top None fails = elim (cases_lt 0 (length structures)) [ inl some ↦ absurd (fails some) | inr none ↦ nil_from_length structures (omega arith) ]
   no_top (Some name) fails = none_there (place_of (names_of structures) name) fails
 
   other_top : (wanted : Option (List ℕ)) (one : ℕ) → one < length structures → (IsNoOtherTop structures wanted one → ⊥)
@@ -102,9 +91,7 @@ module _ (structures : List Structure) (layer_map : LayerMap) (wanted : Option (
 
   choosing_tells : (fault : PlaceFault) → Choosing structures wanted (refused fault) → Tells structures layer_map wanted fault
   choosing_tells fault (one_fails first) =
-      subst (Tells structures layer_map wanted) (sym first.is_its_refusal)
-      (library_tells first.check (All-contains IsOf (library_checks structures) first.check all_of
-      (is_among (LibraryHolds structures wanted) (library_checks structures) (library_fault structures) fault first)) first.is_first.fails)
+      by_check (LibraryHolds structures wanted) (library_checks structures) (library_fault structures) IsOf (Tells structures layer_map wanted) all_of library_tells fault first
 
   -- ---- what the checks of the top tell
 
@@ -137,9 +124,7 @@ module _ (structures : List Structure) (layer_map : LayerMap) (wanted : Option (
 
     from_top_tells : (fault : PlaceFault) → PlacingFrom structures top placed (refused fault) → Tells structures layer_map wanted fault
     from_top_tells fault (one_fails first) =
-        subst (Tells structures layer_map wanted) (sym first.is_its_refusal)
-        (top_tells first.check (All-contains IsOfTop (top_checks placed) first.check all_of_top
-        (is_among (TopHolds structures top placed) (top_checks placed) (top_fault structures top) fault first)) first.is_first.fails)
+        by_check (TopHolds structures top placed) (top_checks placed) (top_fault structures top) IsOfTop (Tells structures layer_map wanted) all_of_top top_tells fault first
 
   chosen_is_top : (top : ℕ) → Choosing structures wanted (value top) → IsTop structures wanted top
   chosen_is_top top (all_hold all is) = is

@@ -1,5 +1,5 @@
 -- chains of references: their lengths, and structures to which no reference leads
-use Rattle.std.proofs.Common.{ℕ, zero, suc, ◌+◌, ◌-◌, ◌≤◌, ◌<◌, ◌≡◌, ◌⊎◌, inl, inr, List, [], ◌∷◌, length, max, sym, subst, arith, Contains}
+use Rattle.std.proofs.Common.{ℕ, zero, suc, ◌≤◌, ◌<◌, ◌⊎◌, inl, inr, List, [], ◌∷◌, length, max, sym, subst, arith, Contains}
 use Rattle.lists.proofs.Words.{cases_lt}
 use Rattle.library_model.specs.declared.library.Structure.{Structure}
 use Rattle.flatten.specs.Structures.{numbers_of, targets_of}
@@ -19,24 +19,18 @@ module _ (structures : List Structure) where
   ]
 
   -- a chain has a chain of each lesser length at its start
-  shorter_chain : (n k one : ℕ) → StartsChain structures (n + k) one → StartsChain structures n one
-  shorter_chain zero k one chain = tt
-  shorter_chain (suc n) k one chain =
-      let e : suc n + k ≡ suc (n + k) = omega arith in
-      let longer : StartsChain structures (suc (n + k)) one = subst (λ m. StartsChain structures m one) e chain in
-      (longer.0, longer.1, shorter_chain n k longer.0 longer.2)
+  shorter_chain : (n m one : ℕ) → n ≤ m → StartsChain structures m one → StartsChain structures n one
+  shorter_chain zero m one less chain = tt
+  shorter_chain (suc n) zero one less chain = absurd (omega arith)
+  shorter_chain (suc n) (suc m) one less (other, there, rest) = (other, there, shorter_chain n m other (omega arith) rest)
 
   -- no chain from the structures of the list is longer
   abbrev pub IsLongest : List ℕ → ℕ → Type 0
   IsLongest starts most = (one : ℕ) → Contains starts one → (n : ℕ) → StartsChain structures n one → n ≤ most
 
-  -- a chain is no longer than one that does not start there
-  pub no_longer : (n m one : ℕ) → (StartsChain structures n one → ⊥) → StartsChain structures m one → m ≤ n
-  no_longer n m one none chain =
-      elim (cases_lt n m) [
-        | inl more ↦ let e : m ≡ n + (m - n) = omega arith in absurd (none (shorter_chain n (m - n) one (subst (λ x. StartsChain structures x one) e chain)))
-        | inr less ↦ omega arith
-      ]
+  -- a chain is shorter than one that does not start there
+  pub is_shorter : (n m one : ℕ) → (StartsChain structures n one → ⊥) → StartsChain structures m one → m < n
+  is_shorter n m one none chain = elim (cases_lt m n) [ inl less ↦ less | inr more ↦ absurd (none (shorter_chain n m one more chain)) ]
 
   -- where chains end from each structure, it cannot be that their lengths have no bound
   pub some_bound : (starts : List ℕ) → ((one : ℕ) → Contains starts one → IsEndless structures one → ⊥) → ((most : ℕ) → IsLongest starts most → ⊥) → ⊥
@@ -45,7 +39,7 @@ module _ (structures : List Structure) where
       some_bound starts (λ one there. ends one (Contains-tail first starts one there)) (λ most longest. ends first (Contains-head first starts) (λ n. elim (chain_or_not n first) [
         | inl chain ↦ chain
         | inr ended ↦ absurd (none (max n most) (λ one there m chain. elim (Contains-cons_cases first starts one there) [
-          | inl e ↦ let h : m ≤ n = no_longer n m first ended (subst (StartsChain structures m) (sym e) chain) in omega arith
+          | inl e ↦ let h : m < n = is_shorter n m first ended (subst (StartsChain structures m) (sym e) chain) in omega arith
           | inr behind ↦ let h : m ≤ most = longest one behind m chain in omega arith
         ]))
       ]))

@@ -21,9 +21,6 @@ use Rattle.flatten.proofs.FirstLaws.{first_number}
 -- the first that fails of a list is the first of the list said in other words
 module _ {A N R : Type 0} (H : A → Type 0) (Holds : N → Type 0) (say : A → N) (of : A → R) (refusal_of : N → R) (to : (a : A) → H a → Holds (say a)) (from : (a : A) → Holds (say a)
     → H a) (same : (a : A) → of a ≡ refusal_of (say a)) where
-  all_said : (xs : List A) → All H xs → All Holds (map say xs)
-  all_said xs all = All-map Holds say xs (λ k d h. to (get_or xs k d) (all k d h))
-
   pub first_said : (xs : List A) (refusal : R) → IsRefusalOfFirst H xs of refusal → IsRefusalOfFirst Holds (map say xs) refusal_of refusal
   first_said xs refusal first = record {
     check = say first.check;
@@ -31,11 +28,19 @@ module _ {A N R : Type 0} (H : A → Type 0) (Holds : N → Type 0) (say : A →
       before = map say first.is_first.before;
       after = map say first.is_first.after;
       parts = ap (map say) first.is_first.parts ∙ map-append say first.is_first.before (first.check ∷ first.is_first.after);
-      all_before = all_said first.is_first.before first.is_first.all_before;
+      all_before = All-map Holds say first.is_first.before (λ k d h. to (get_or first.is_first.before k d) (first.is_first.all_before k d h));
       fails = λ holds. first.is_first.fails (from first.check holds);
     };
     is_its_refusal = first.is_its_refusal ∙ same first.check;
   }
+
+-- what holds of each check of the library
+pub all_library : (structures : List Structure) (P : LibraryCheck → Type 0) → All (λ reference. P (has_its_target reference)) (all_references structures)
+    → ((one : ℕ) → one < length structures → P (leads_to_no_cycle one)) → P has_top → ((one : ℕ) → one < length structures → P (is_no_other_top one)) → All P (library_checks structures)
+all_library structures P known ends top alone =
+    All-append P (map has_its_target (all_references structures)) _ (All-map P has_its_target (all_references structures) known)
+    (All-append P (map leads_to_no_cycle (numbers_of structures)) _ (all_numbers leads_to_no_cycle P (length structures) ends)
+    (All-cons P has_top _ top (all_numbers is_no_other_top P (length structures) alone)))
 
 module _ {T : Type 0} (structures : List Structure) (wanted : Option (List ℕ)) (Is : T → Type 0) where
   abbrev Holds : LibraryCheck → Type 0
@@ -93,8 +98,7 @@ module _ {T : Type 0} (structures : List Structure) (wanted : Option (List ℕ))
             (first_number Holds fault_of Is is_no_other_top (length structures) one within before fails))
 
         pub all_checks : ((one : ℕ) → one < length structures → IsNoOtherTop structures wanted one) → All Holds (library_checks structures)
-        all_checks alone =
-            All-append Holds targets _ all_known (All-append Holds cycles _ all_end (All-cons Holds has_top tops some (all_numbers is_no_other_top Holds (length structures) alone)))
+        all_checks = all_library structures Holds known ends some
 
 -- a choice that came to a top comes to whatever is made of it
 pub chosen_by : {T : Type 0} (structures : List Structure) (wanted : Option (List ℕ)) {top : ℕ} {Is : T → Type 0} {thing : T} → IsChosen structures wanted top → Is thing

@@ -1,21 +1,23 @@
 -- the routes from a structure by its parts, and what they weigh
-use Rattle.std.proofs.Common.{ℕ, zero, suc, ◌+◌, ◌*◌, ◌≤◌, ◌≡◌, List, [], Vec, refl, sym, ap, ◌∙◌, arith, Contains}
-use Rattle.lists.proofs.Words.{flat_map, Bor, Global, enumerate_from, option_map_or}
+use Rattle.std.proofs.Common.{ℕ, zero, suc, ◌+◌, ◌*◌, ◌≤◌, ◌≡◌, List, [], ◌∷◌, Vec, refl, sym, ap, subst, ◌∙◌, arith, Contains}
+use Rattle.lists.proofs.Words.{flat_map, sum_by-append, sum_by-cons, Bor, Global, option_map_or}
 use Rattle.library_model.specs.Names.{names_of}
 use Rattle.library_model.specs.declared.element.Shape.{Shape}
 use Rattle.library_model.specs.declared.element.Reference.{Reference}
 use Rattle.library_model.specs.declared.library.Structure.{Structure}
 use Rattle.map_model.specs.MapNames.{LayerMap}
-use Rattle.flatten.specs.Structures.{elements_of, target_of}
-use Rattle.flatten.specs.Routes.{routes, mapped_routes}
+use Rattle.flatten.specs.Routes.{Route, routes, mapped_routes}
 use Rattle.flatten.specs.inside.Parts.{AreNodes, LeadsTo, parts_at}
-use Rattle.flatten.specs.inside.Weights.{Weight, no_weight, both_weights, times_weight, weight_of, weight_over, Weighs, weighs}
+use Rattle.flatten.specs.inside.Weights.{Weight, no_weight, both_weights, times_weight, weight_of, weight_over, Weighs, weighs, copies_of}
 use Rattle.flatten.specs.inside.Ends.{node_routes, part_routes, routes_below}
 use Rattle.flatten.specs.declared.part.Part.{Part}
 use Rattle.flatten.specs.declared.part.Part.TheVariants.{End, Copies}
-use Rattle.flatten.proofs.RouteLaws.{routes-zero, routes-suc}
-use Rattle.flatten.proofs.EndLaws.{parts_alike, weigh, weigh-parts}
-use Rattle.flatten.proofs.GraphLaws.{leads_on, parts_of_at, bound_in}
+use Rattle.flatten.specs.Steps.{steps_of}
+use Rattle.flatten.proofs.ArrayLaws.{steps_long}
+use Rattle.lists.proofs.Containing.{Contains-head, Contains-tail}
+use Rattle.flatten.proofs.RouteLaws.{from_target, routes-is}
+use Rattle.flatten.proofs.EndLaws.{parts_alike, weigh, weigh-copies}
+use Rattle.flatten.proofs.GraphLaws.{is_of_at, parts_of_at, bound_in}
 
 -- the routes from a structure are those of its parts
 pub node_routes-is : (nodes : List (Vec Part Global)) (k one : ℕ) → node_routes nodes k one ≡ flat_map (part_routes (routes_below nodes k) one) (parts_at nodes one)
@@ -25,28 +27,44 @@ node_routes-is nodes (suc k) one = refl
 
 -- and those of the library to shapes of mapped layers
 module _ (structures : List Structure) (layer_map : LayerMap) (nodes : List (Vec Part Global)) (are_nodes : AreNodes (names_of structures) layer_map structures nodes) where
+  -- where it holds of the targets of its parts
+  alike_by : (k one : ℕ) → ((reference : Bor Reference) (target : ℕ) → Contains (parts_at nodes one) (Copies reference target)
+      → mapped_routes layer_map (from_target structures k reference.now) ≡ routes_below nodes k target) → mapped_routes layer_map (routes structures k one) ≡ node_routes nodes k one
+  alike_by k one alike =
+      ap (mapped_routes layer_map) (routes-is structures k one)
+      ∙ parts_alike layer_map (names_of structures) one (from_target structures k) (routes_below nodes k) (parts_of_at structures layer_map nodes are_nodes one) alike
+      ∙ sym (node_routes-is nodes k one)
+
   pub routes_alike : (k one : ℕ) → mapped_routes layer_map (routes structures k one) ≡ node_routes nodes k one
-  routes_alike zero one =
-      ap (mapped_routes layer_map) (routes-zero structures one)
-      ∙ parts_alike layer_map (names_of structures) one (λ reference. []) (λ target. []) (enumerate_from 0 (elements_of structures one)) (parts_at nodes one)
-      (parts_of_at structures layer_map nodes are_nodes one) (λ reference target there. refl)
-      ∙ sym (node_routes-is nodes zero one)
-  routes_alike (suc k) one =
-      let are = parts_of_at structures layer_map nodes are_nodes one in
-      ap (mapped_routes layer_map) (routes-suc structures k one)
-      ∙ parts_alike layer_map (names_of structures) one (λ reference. option_map_or (routes structures k) (target_of structures reference) []) (node_routes nodes k)
-      (enumerate_from 0 (elements_of structures one)) (parts_at nodes one) are
-      (λ reference target there.
-      let known = leads_on (names_of structures) layer_map (enumerate_from 0 (elements_of structures one)) (parts_at nodes one) are reference target there in
-      ap (λ o. mapped_routes layer_map (option_map_or (routes structures k) o [])) known.1 ∙ routes_alike k target)
-      ∙ sym (node_routes-is nodes (suc k) one)
+  routes_alike zero one = alike_by zero one (λ reference target there. refl)
+  routes_alike (suc k) one = alike_by (suc k) one (λ reference target there.
+      ap (λ o. mapped_routes layer_map (option_map_or (routes structures k) o [])) (is_of_at structures layer_map nodes are_nodes one (Copies reference target) there).1 ∙ routes_alike k target)
 
 -- numbers of weights are those of the routes
 module _ (nodes : List (Vec Part Global)) (weight : Shape → ℕ) (number : Weight → ℕ)
     (of_none : number no_weight ≡ 0) (of_both : (a b : Weight) → number (both_weights a b) ≡ number a + number b)
     (of_end : (of : ℕ → Weight) (element layer : ℕ) (shape : Bor Shape) → number (weight_of of (End element layer shape)) ≡ weight shape.now)
     (of_copies : (copies : ℕ) (w : Weight) → number (times_weight copies w) ≡ copies * number w) where
-  -- where that holds of the structures to which parts lead, it holds of the routes from there
+  -- where that holds of the structures to which parts refer, it holds of the routes that begin at the parts
+  module _ (structure : ℕ) (of : ℕ → Weight) (by_number : ℕ → List Route) where
+    weigh-part : (part : Part) → ((reference : Bor Reference) (target : ℕ) → part ≡ Copies reference target → weigh weight (by_number target) ≡ number (of target))
+        → weigh weight (part_routes by_number structure part) ≡ number (weight_of of part)
+    weigh-part (End element layer shape) known = rw (of_end of) (simp (sum_by-cons {X = Route}) (omega arith))
+    weigh-part (Copies reference target) known =
+        rw (weigh-copies weight (by_number target) (steps_of reference.now), steps_long reference.now, known reference target refl, of_copies (copies_of reference.now) (of target)) refl
+
+    weigh-parts : (parts : List Part) → ((reference : Bor Reference) (target : ℕ) → Contains parts (Copies reference target) → weigh weight (by_number target) ≡ number (of target))
+        → weigh weight (flat_map (part_routes by_number structure) parts) ≡ number (weight_over of parts)
+    weigh-parts [] known = sym of_none
+    weigh-parts (part ∷ parts) known =
+        rw (
+          of_both (weight_of of part) (weight_over of parts),
+          ← weigh-part part (λ reference target e. known reference target (subst (Contains (part ∷ parts)) e (Contains-head part parts))),
+          ← weigh-parts parts (λ reference target there. known reference target (Contains-tail part parts (Copies reference target) there)),
+        )
+        (sum_by-append {X = Route} (λ route. weight route.shape) (part_routes by_number structure part) (flat_map (part_routes by_number structure) parts))
+
+  -- and so of those with one step less
   below : (of : ℕ → Weight) (parts : List Part) → ((target : ℕ) → LeadsTo parts target → (k : ℕ) → (of target).height ≤ k → weigh weight (node_routes nodes k target) ≡ number (of target))
       → (k : ℕ) → (weight_over of parts).height ≤ k → (reference : Bor Reference) (target : ℕ) → Contains parts (Copies reference target)
       → weigh weight (routes_below nodes k target) ≡ number (of target)
@@ -55,6 +73,4 @@ module _ (nodes : List (Vec Part Global)) (weight : Shape → ℕ) (number : Wei
 
   pub counted : (one : ℕ) (w : Weight) → Weighs nodes one w → (k : ℕ) → w.height ≤ k → weigh weight (node_routes nodes k one) ≡ number w
   counted one w (weighs of each) k low =
-      ap (weigh weight) (node_routes-is nodes k one)
-      ∙ weigh-parts weight number one of (routes_below nodes k) of_none of_both (of_end of) of_copies (parts_at nodes one)
-      (below of (parts_at nodes one) (λ target to. counted target (of target) (each target to)) k low)
+      rw (node_routes-is nodes k one) (weigh-parts one of (routes_below nodes k) (parts_at nodes one) (below of (parts_at nodes one) (λ target to. counted target (of target) (each target to)) k low))

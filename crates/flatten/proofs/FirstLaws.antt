@@ -1,10 +1,11 @@
 -- the first check that fails, where checks are those of one item after another
-use Rattle.std.proofs.Common.{ℕ, suc, ◌+◌, ◌<◌, ◌≡◌, ◌≢◌, List, [], ◌∷◌, ◌++◌, length, get_or, map, take, drop, append_assoc, Err, refl, sym, ap, subst, ◌∙◌, All}
-use Rattle.lists.proofs.Words.{flat_map, range_with_len, drop-cons, flat_map-append, All-append, take_more, take-append-drop, append-nil}
+use Rattle.std.proofs.Common.{ℕ, suc, ◌+◌, ◌<◌, ◌≡◌, ◌≢◌, List, ◌∷◌, ◌++◌, length, get_or, map, take, drop, append_assoc, Err, refl, sym, ap, subst, ◌∙◌, All}
+use Rattle.lists.proofs.Words.{flat_map, range_with_len, drop-cons, flat_map-append, All-append, take-append-drop}
+use Rattle.lists.proofs.Reading.{flat_map_next}
 use Rattle.first_refusal.specs.Outcomes.{Outcome, refused}
 use Rattle.first_refusal.specs.Answers.{Answers, refuses, no_memory}
-use Rattle.first_refusal.specs.Checks.{IsRefusalOfFirst, one_fails}
-use Rattle.first_refusal.proofs.JudgeLaws.{Judges, goes_on, stops}
+use Rattle.first_refusal.specs.Checks.{IsRefusalOfFirst}
+use Rattle.first_refusal.proofs.JudgeLaws.{Judges, fails_first, goes_on, stops}
 use Rattle.flatten.proofs.NumberLaws.{all_numbers, numbers_parted}
 
 -- a fault that is not want of memory is the stage's
@@ -20,9 +21,7 @@ refused_within Holds refusal_of before here behind refusal all first = record {
   is_first = record {
     before = before ++ first.is_first.before;
     after = first.is_first.after ++ behind;
-    parts = ap (λ xs. before ++ (xs ++ behind)) first.is_first.parts
-        ∙ ap (λ xs. before ++ xs) (append_assoc first.is_first.before (first.check ∷ first.is_first.after) behind)
-        ∙ sym (append_assoc before first.is_first.before (first.check ∷ (first.is_first.after ++ behind)));
+    parts = rw first.is_first.parts (simp append_assoc);
     all_before = All-append Holds before first.is_first.before all first.is_first.all_before;
     fails = first.is_first.fails;
   };
@@ -32,15 +31,10 @@ refused_within Holds refusal_of before here behind refusal all first = record {
 module _ {X Y : Type 0} (of : X → List Y) (xs : List X) (i : ℕ) (x : X) (more : i < length xs) (is : x ≡ get_or xs i x) where
   -- what comes of items, the next of which is this one
   pub next_added : flat_map of (take (i + 1) xs) ≡ flat_map of (take i xs) ++ of x
-  next_added = ap (flat_map of) (take_more xs i x more ∙ ap (λ y. take i xs ++ y ∷ []) (sym is)) ∙ last
-    where
-      last : flat_map of (take i xs ++ x ∷ []) ≡ flat_map of (take i xs) ++ of x
-      last = simp (flat_map-append, append-nil)
+  next_added = sym (flat_map_next of xs i x (flat_map of (take i xs)) _ more is refl refl)
 
   next_parted : flat_map of xs ≡ flat_map of (take i xs) ++ (of x ++ flat_map of (drop (suc i) xs))
-  next_parted =
-      ap (flat_map of) (sym (take-append-drop i xs) ∙ ap (λ rest. take i xs ++ rest) (drop-cons xs i x more ∙ ap (λ y. y ∷ drop (suc i) xs) (sym is)))
-      ∙ flat_map-append of (take i xs) (x ∷ drop (suc i) xs)
+  next_parted = ap (flat_map of) (sym (take-append-drop i xs) ∙ ap (λ rest. take i xs ++ rest) (rw (← is) at (drop-cons xs i x more))) ∙ flat_map-append of (take i xs) (x ∷ drop (suc i) xs)
 
   module _ (Holds : Y → Type 0) (all : All Holds (flat_map of (take i xs))) where
     pub hold_at : All Holds (of x) → All Holds (flat_map of (take (i + 1) xs))
@@ -50,20 +44,10 @@ module _ {X Y : Type 0} (of : X → List Y) (xs : List X) (i : ℕ) (x : X) (mor
     pub refused_at : {T U F : Type 0} {memory : F} (refusal_of : Y → F) (Is : T → Type 0) (Js : U → Type 0) (fault : F) → Judges memory Holds (of x) refusal_of Is (Err fault)
         → Judges memory Holds (flat_map of xs) refusal_of Js (Err fault)
     refused_at {memory} refusal_of Is Js fault told =
-        subst (λ checks. Judges memory Holds checks refusal_of Js (Err fault)) (sym next_parted)
-        (goes_on Holds refusal_of Js (flat_map of (take i xs)) _ (Err fault) all (stops Holds refusal_of Is Js (of x) (flat_map of (drop (suc i) xs)) fault told))
+        rw next_parted (goes_on Holds refusal_of Js (flat_map of (take i xs)) _ (Err fault) all (stops Holds refusal_of Is Js (of x) (flat_map of (drop (suc i) xs)) fault told))
 
 -- the first number of which the check fails
 pub first_number : {N T F : Type 0} {memory : F} (Holds : N → Type 0) (refusal_of : N → F) (Is : T → Type 0) (say : ℕ → N) (n k : ℕ) → k < n → ((i : ℕ) → i < k → Holds (say i)) → (Holds (say k) → ⊥)
     → Judges memory Holds (map say (range_with_len 0 n)) refusal_of Is (Err (refusal_of (say k)))
-first_number Holds refusal_of Is say n k within before fails = refuses (one_fails (record {
-  check = say k;
-  is_first = record {
-    before = map say (range_with_len 0 k);
-    after = drop (suc k) (map say (range_with_len 0 n));
-    parts = numbers_parted say n k within;
-    all_before = all_numbers say Holds k before;
-    fails = fails;
-  };
-  is_its_refusal = refl;
-}))
+first_number Holds refusal_of Is say n k within before fails =
+    rw (numbers_parted say n k within) (goes_on Holds refusal_of Is (map say (range_with_len 0 k)) _ (Err _) (all_numbers say Holds k before) (fails_first Holds refusal_of Is (say k) _ fails))

@@ -1,5 +1,5 @@
 -- lists of placed shapes that grow
-use Rattle.std.proofs.Common.{ℕ, ◌+◌, ◌≤◌, ◌<◌, ◌≡◌, List, [], ◌∷◌, ◌++◌, length, get_or, map, take, take_all, append_assoc, Result, Ok, Err, refl, sym, ap, subst, ◌∙◌, arith, Contains, All}
+use Rattle.std.proofs.Common.{ℕ, ◌+◌, ◌≤◌, ◌<◌, ◌≡◌, List, [], ◌∷◌, ◌++◌, length, get_or, map, take, take_all, append_assoc, Result, Ok, Err, refl, sym, ap, ◌∙◌, arith, Contains, All}
 use Rattle.std.specs.Prelude.{IsErrAnd}
 use Rattle.lists.proofs.Words.{flat_map, Bor, append-nil, map-append, All-nil, range_with_len, length-range_with_len, get_or-range_with_len}
 use Rattle.first_refusal.specs.Answers.{Answers, gives}
@@ -14,8 +14,8 @@ use Rattle.flatten.specs.Motions.{MovesAlong}
 use Rattle.flatten.specs.Placed.{IsEndOf}
 use Rattle.flatten.specs.Placements.{PlacesInRange}
 use Rattle.flatten.specs.inside.Parts.{Nodes, parts_at}
-use Rattle.flatten.specs.inside.Ends.{node_routes, part_routes}
-use Rattle.flatten.specs.inside.Expansions.{AddsEnds, Expands, HaveLayers, PlacesEach, behind_steps, route_to}
+use Rattle.flatten.specs.inside.Ends.{node_routes, part_routes, route_to}
+use Rattle.flatten.specs.inside.Expansions.{AddsEnds, Expands, HaveLayers, PlacesEach, behind_steps}
 use Rattle.flatten.specs.declared.fault.PlaceFault.{PlaceFault}
 use Rattle.flatten.specs.declared.fault.PlaceFault.TheVariants.{OutOfRange, Memory}
 use Rattle.flatten.specs.declared.motion.Motion.{Motion}
@@ -60,24 +60,22 @@ module _ {X : Type 0} {nodes : Nodes} {motion : Motion} {of_item : X → List Ro
     read steps = ap (map (behind_steps steps)) all ∙ behind-flat_map of_item steps xs
 
     pub all_followed : {done : Unit {0}} → length xs ≤ i → (steps : List Step) → MovesAlong motion steps → Answers Memory (Expands nodes steps routes before now) (Ok done)
-    all_followed {done} past steps moves =
-        subst (λ rs. Answers Memory (PlacesEach (λ layer_map. HaveLayers layer_map nodes) rs before (λ (d : Unit {0}). now)) (Ok done))
-        (ap (flat_map (behind of_item steps)) (take_all i xs past) ∙ sym (read steps)) (gives (all_hold (so_far.in_range steps moves) (so_far.adds steps moves)))
+    all_followed past steps moves =
+        rw (read steps) (gives (all_hold (rw (take_all i xs past) at (so_far.in_range steps moves)) (rw (take_all i xs past) at (so_far.adds steps moves))))
 
     module _ (x : X) (more : i < length xs) (is : x ≡ get_or xs i x) where
       pub one_refuses : {after back : List Placed} (result : Result (Unit {0}) PlaceFault) (fault : PlaceFault) → IsErrAnd result (λ same. same ≡ fault)
           → ((steps : List Step) → MovesAlong motion steps → Answers Memory (Expands nodes steps (of_item x) now after) (Err fault))
           → (steps : List Step) → MovesAlong motion steps → Answers Memory (Expands nodes steps routes before back) result
-      one_refuses {back} result fault gave told steps moves = handed_on Memory _ result fault gave
-          (subst (λ rs. Answers Memory (PlacesEach (λ layer_map. HaveLayers layer_map nodes) rs before (λ (d : Unit {0}). back)) (Err fault)) (sym (read steps))
-          (refused_at (behind of_item steps) xs i x more is PlacesInRange (so_far.in_range steps moves) (λ (route : Route). OutOfRange route.shape.at) _ _ fault (told steps moves)))
+      one_refuses result fault gave told steps moves = handed_on Memory _ result fault gave
+          (rw (read steps) (refused_at (behind of_item steps) xs i x more is PlacesInRange (so_far.in_range steps moves) (λ (route : Route). OutOfRange route.shape.at) _ _ fault (told steps moves)))
 
   pub one_followed : {i : ℕ} {now after : List Placed} {done : Unit {0}} → IsFollowedTo nodes motion of_item xs i before now → (x : X) → i < length xs → x ≡ get_or xs i x
       → ((steps : List Step) → MovesAlong motion steps → Answers Memory (Expands nodes steps (of_item x) now after) (Ok done)) → IsFollowedTo nodes motion of_item xs (i + 1) before after
   one_followed {i} {now} {after} so_far x more is told = record {
     in_range = λ steps moves. hold_at (behind of_item steps) xs i x more is PlacesInRange (so_far.in_range steps moves) (passed (told steps moves));
     adds = λ steps moves layer_map have.
-        subst (λ rs. AddsEnds layer_map rs before after) (sym (next_added (behind of_item steps) xs i x more is))
+        rw (next_added (behind of_item steps) xs i x more is)
         (ends_both layer_map _ (behind of_item steps x) before now after (so_far.adds steps moves layer_map have) (given (told steps moves) layer_map have));
   }
 
@@ -98,21 +96,16 @@ pub end_placed : (nodes : Nodes) (from : ℕ → List Route) {one element layer 
     → Answers Memory (PlacesEach (λ layer_map. IsMappedTo layer_map (shape.now.layer, shape.now.datatype) layer) (route_to steps one element shape.now ∷ []) before (λ done. after)) result
     → Answers Memory (Expands nodes steps (part_routes from one (End element layer shape)) before after) result
 end_placed nodes from {one} {element} {layer} {shape} {before} {after} {result} steps there told =
-    subst (λ all. Answers Memory (PlacesEach (λ layer_map. HaveLayers layer_map nodes) (route_to all one element shape.now ∷ []) before (λ (d : Unit {0}). after)) result) (sym (append-nil steps))
-    (weaker PlacesInRange (λ (route : Route). OutOfRange route.shape.at) _ _ _ result (λ done h layer_map have. h layer_map (have one element layer shape there)) told)
+    rw (append-nil steps) (weaker PlacesInRange (λ (route : Route). OutOfRange route.shape.at) _ _ _ result (λ done h layer_map have. h layer_map (have one element layer shape there)) told)
 
 -- steps before a step before a route
 behind_both : (steps : List Step) (step : Step) (routes : List Route) → map (behind_steps steps) (map (behind_step step) routes) ≡ map (behind_steps (steps ++ step ∷ [])) routes
 behind_both steps step [] = refl
-behind_both steps step (route ∷ routes) =
-    ap (λ all. record route { steps = all } ∷ map (behind_steps steps) (map (behind_step step) routes)) (sym (append_assoc steps (step ∷ []) route.steps))
-    ∙ ap (λ rest. behind_steps (steps ++ step ∷ []) route ∷ rest) (behind_both steps step routes)
+behind_both steps step (route ∷ routes) = simp (append_assoc, behind_both steps step routes)
 
 pub stepped : (nodes : Nodes) (motion farther : Motion) (target : ℕ) {step : Step} {left less : ℕ} {before after : List Placed} {result : Result (Unit {0}) PlaceFault}
     → ((steps : List Step) → MovesAlong motion steps → MovesAlong farther (steps ++ step ∷ [])) → less ≡ left
     → ((steps : List Step) → MovesAlong farther steps → Answers Memory (Expands nodes steps (node_routes nodes less target) before after) result)
     → (steps : List Step) → MovesAlong motion steps → Answers Memory (Expands nodes steps (map (behind_step step) (node_routes nodes left target)) before after) result
 stepped nodes motion farther target {step} {left} {less} {before} {after} {result} moves same told steps along =
-    subst (λ rs. Answers Memory (PlacesEach (λ layer_map. HaveLayers layer_map nodes) rs before (λ (d : Unit {0}). after)) result)
-    (sym (behind_both steps step (node_routes nodes less target)) ∙ ap (λ n. map (behind_steps steps) (map (behind_step step) (node_routes nodes n target))) same)
-    (told (steps ++ step ∷ []) (moves steps along))
+    rw (← same, behind_both steps step (node_routes nodes less target)) (told (steps ++ step ∷ []) (moves steps along))

@@ -1,39 +1,26 @@
 -- turns of shifted points, and how far they shift
-use Rattle.std.proofs.Common.{ℕ, zero, suc, ◌+◌, ◌*◌, ◌≤◌, ◌^◌, ◌≡◌, Bool, true, false, refl, sym, ap, subst, ◌∙◌, arith, ℤ, pos, negsuc, neg_ℤ, ◌+ℤ◌, nat_abs, if◌then◌else◌}
+use Rattle.std.proofs.Common.{ℕ, zero, suc, ◌≤◌, ◌≡◌, Bool, true, false, refl, sym, ap, ◌∙◌, arith, ℤ, neg_ℤ, ◌+ℤ◌, nat_abs, if◌then◌else◌}
 use Rattle.lists.proofs.Words.{ints}
 use Rattle.std.proofs.Math.IntN.{+ℤ_assoc}
-use Rattle.geo_core.specs.Plane.{mirror_image, quarter_turn, quarter_turns, image_under}
+use Rattle.geo_core.specs.Plane.{mirror_image, quarter_turns, image_under}
 use Rattle.geo_core.specs.declared.plane.Point.{Point}
 use Rattle.geo_core.specs.declared.plane.Turn.{Turn}
+use Rattle.geo_core.proofs.TurnLaws.{at, same_at}
 use Rattle.flatten.specs.Steps.{shifted}
-
-abbrev pub at : ℤ → ℤ → Point
-at x y = record { x = x; y = y }
-
-pub same_at : (a b c d : ℤ) → a ≡ c → b ≡ d → at a b ≡ at c d
-same_at a b c d e f = ap (λ x. at x b) e ∙ ap (at c) f
 
 neg-+ : (a b : ℤ) → neg_ℤ (a +ℤ b) ≡ neg_ℤ a +ℤ neg_ℤ b
 neg-+ a b = omega (arith, ints)
 
 abs-neg : (a : ℤ) → nat_abs (neg_ℤ a) ≡ nat_abs a
-abs-neg (pos zero) = refl
-abs-neg (pos (suc n)) = refl
-abs-neg (negsuc n) = refl
+abs-neg a = omega (arith, ints)
 
 -- a shifted point's image is the image, shifted by the image of the shift
-mirror_image-shifted : (by p : Point) → mirror_image (shifted by p) ≡ shifted (mirror_image by) (mirror_image p)
-mirror_image-shifted by p = ap (at (p.x +ℤ by.x)) (neg-+ p.y by.y)
-
-quarter_turn-shifted : (by p : Point) → quarter_turn (shifted by p) ≡ shifted (quarter_turn by) (quarter_turn p)
-quarter_turn-shifted by p = ap (λ x. at x (p.x +ℤ by.x)) (neg-+ p.y by.y)
-
 quarter_turns-shifted : (n : ℕ) (by p : Point) → quarter_turns n (shifted by p) ≡ shifted (quarter_turns n by) (quarter_turns n p)
 quarter_turns-shifted zero by p = refl
-quarter_turns-shifted (suc n) by p = ap quarter_turn (quarter_turns-shifted n by p) ∙ quarter_turn-shifted (quarter_turns n by) (quarter_turns n p)
+quarter_turns-shifted (suc n) by p = rw (quarter_turns-shifted n by p) (ap (λ x. at x ((quarter_turns n p).x +ℤ (quarter_turns n by).x)) (neg-+ (quarter_turns n p).y (quarter_turns n by).y))
 
 start-shifted : (b : Bool) (by p : Point) → (if b then mirror_image (shifted by p) else shifted by p) ≡ shifted (if b then mirror_image by else by) (if b then mirror_image p else p)
-start-shifted true by p = mirror_image-shifted by p
+start-shifted true by p = ap (at (p.x +ℤ by.x)) (neg-+ p.y by.y)
 start-shifted false by p = refl
 
 pub image_under-shifted : (turn : Turn) (by p : Point) → image_under turn (shifted by p) ≡ shifted (image_under turn by) (image_under turn p)
@@ -70,36 +57,9 @@ module _ (outer inner both : Turn) (outer_by inner_by by : Point) (after : (p : 
   pub moves_behind : (p : Point) → shifted by (image_under both p) ≡ shifted outer_by (image_under outer (shifted inner_by (image_under inner p)))
   moves_behind p =
       let shift : by ≡ shifted outer_by (image_under outer inner_by) = same_at by.x by.y _ _ across up in
-      ap (λ b. shifted b (image_under both p)) shift
-      ∙ ap (shifted (shifted outer_by (image_under outer inner_by))) (after p)
-      ∙ sym (shifted-shifted (image_under outer inner_by) outer_by (image_under outer (image_under inner p)))
-      ∙ ap (shifted outer_by) (sym (image_under-shifted outer inner_by (image_under inner p)))
+      rw (shift, after p, image_under-shifted outer inner_by (image_under inner p))
+      (sym (shifted-shifted (image_under outer inner_by) outer_by (image_under outer (image_under inner p))))
 
 -- a shift by equal amounts
 pub shifted_alike : (dx dy : ℤ) (by p : Point) → dx ≡ by.x → dy ≡ by.y → shifted (at dx dy) p ≡ shifted by p
 shifted_alike dx dy by p across up = ap (λ b. shifted b p) (same_at dx dy by.x by.y across up)
-
--- the bound of one step more
-pub one_step_more : (a b c steps : ℕ) → a ≤ b + c → b ≤ 2 ^ 49 → c ≤ steps * 2 ^ 49 → a ≤ suc steps * 2 ^ 49
-one_step_more a b c steps h k l = omega arith
-
--- a turned shift is the image of the shift, as it was passed, and it is as short
-module _ (turn : Turn) (dx dy dx' dy' : ℤ) (x-same : dx' ≡ dx) (y-same : dy' ≡ dy) where
-  passed : image_under turn (at dx' dy') ≡ image_under turn (at dx dy)
-  passed = ap (image_under turn) (same_at dx' dy' dx dy x-same y-same)
-
-  pub turned_across : (x : ℤ) → x ≡ (image_under turn (at dx' dy')).x → x ≡ (image_under turn (at dx dy)).x
-  turned_across x e = e ∙ ap (λ p. p.x) passed
-
-  pub turned_up : (y : ℤ) → y ≡ (image_under turn (at dx' dy')).y → y ≡ (image_under turn (at dx dy)).y
-  turned_up y e = e ∙ ap (λ p. p.y) passed
-
-  module _ (m : ℕ) (across : nat_abs dx ≤ m) (up : nat_abs dy ≤ m) where
-    near : IsWithin m (image_under turn (at dx dy))
-    near = IsWithin-image_under m turn (at dx dy) (record { across = across; up = up })
-
-    pub near_across : (x : ℤ) → x ≡ (image_under turn (at dx' dy')).x → nat_abs x ≤ m
-    near_across x e = subst (λ z. nat_abs z ≤ m) (sym (turned_across x e)) near.across
-
-    pub near_up : (y : ℤ) → y ≡ (image_under turn (at dx' dy')).y → nat_abs y ≤ m
-    near_up y e = subst (λ z. nat_abs z ≤ m) (sym (turned_up y e)) near.up

@@ -4,12 +4,12 @@ use Rattle.lists.proofs.Words.{ints}
 use Rattle.geo_core.specs.Plane.{mirror_image, quarter_turn, quarter_turns, image_under}
 use Rattle.geo_core.specs.declared.plane.Point.{Point}
 use Rattle.geo_core.specs.declared.plane.Turn.{Turn}
-use Rattle.geo_core.proofs.TurnLaws.{after_mirror, after_plain}
+use Rattle.geo_core.proofs.TurnLaws.{after_mirror, after_plain, at, same_at}
 use Rattle.library_model.proofs.SameParts.{same_turn}
 use Rattle.flatten.specs.Steps.{Step, shifted, shift_of, moved_by}
 use Rattle.flatten.specs.Motions.{MovesAlong, image_by}
 use Rattle.flatten.specs.declared.motion.Motion.{Motion}
-use Rattle.flatten.proofs.MotionLaws.{at, same_at, moves_behind}
+use Rattle.flatten.proofs.MotionLaws.{moves_behind}
 
 -- ---- there is one
 
@@ -52,17 +52,19 @@ turned_origin : (n : ℕ) → quarter_turns n origin ≡ origin
 turned_origin zero = refl
 turned_origin (suc n) = ap quarter_turn (turned_origin n)
 
-origin_stays : (turn : Turn) → image_under turn origin ≡ origin
-origin_stays turn = by_mirror turn.reflect
+-- a point that is its own mirror image
+own_mirror : (turn : Turn) (p : Point) → mirror_image p ≡ p → image_under turn p ≡ quarter_turns turn.quarters p
+own_mirror turn p own = by_mirror turn.reflect
   where
-    by_mirror : (b : Bool) → quarter_turns turn.quarters (if b then mirror_image origin else origin) ≡ origin
-    by_mirror true = turned_origin turn.quarters
-    by_mirror false = turned_origin turn.quarters
+    by_mirror : (b : Bool) → quarter_turns turn.quarters (if b then mirror_image p else p) ≡ quarter_turns turn.quarters p
+    by_mirror true = ap (quarter_turns turn.quarters) own
+    by_mirror false = refl
 
 -- so the shift is where it comes
 shift_shows : (motion : Motion) → image_by motion origin ≡ at motion.dx motion.dy
 shift_shows motion =
-    ap (shifted (at motion.dx motion.dy)) (origin_stays motion.turn) ∙ same_at (pos 0 +ℤ motion.dx) (pos 0 +ℤ motion.dy) motion.dx motion.dy (omega (arith, ints)) (omega (arith, ints))
+    ap (shifted (at motion.dx motion.dy)) (own_mirror motion.turn origin refl ∙ turned_origin motion.turn.quarters)
+    ∙ same_at (pos 0 +ℤ motion.dx) (pos 0 +ℤ motion.dy) motion.dx motion.dy (omega (arith, ints)) (omega (arith, ints))
 
 -- equal shifts leave points as they differ
 unshifted : (by p q : Point) → shifted by p ≡ shifted by q → p ≡ q
@@ -105,19 +107,11 @@ mirrors_agree n h true false e = absurd (opposite n h e)
 mirrors_agree n h false true e = absurd (opposite n h (sym e))
 mirrors_agree n h false false e = refl
 
--- a point on the right is its own mirror image
-right_under : (turn : Turn) → image_under turn right ≡ quarter_turns turn.quarters right
-right_under turn = by_mirror turn.reflect
-  where
-    by_mirror : (b : Bool) → quarter_turns turn.quarters (if b then mirror_image right else right) ≡ quarter_turns turn.quarters right
-    by_mirror true = refl
-    by_mirror false = refl
-
 turns_agree : (one other : Turn) → ((p : Point) → image_under one p ≡ image_under other p) → one ≡ other
 turns_agree one other same = same_turn one other mirrors quarters
   where
     lead : quarter_turns one.quarters right ≡ quarter_turns other.quarters right
-    lead = sym (right_under one) ∙ same right ∙ right_under other
+    lead = sym (own_mirror one right refl) ∙ same right ∙ own_mirror other right refl
 
     quarters : one.quarters ≡ other.quarters
     quarters = sym (quarters_show one.quarters one.whole) ∙ ap (λ p. quarters_to p.x p.y) lead ∙ quarters_show other.quarters other.whole

@@ -36,7 +36,7 @@ module _ (plan : Plan) (has : HasLibrary plan) where
   all_done one reference target there =
       has.2.planned.done target (let h = has.2.planned.surveyed.below one reference target there in omega (arith, nodes_long has.0 has.1 plan.nodes.items has.2.planned.surveyed.nodes_are))
 
-  module _ (pruned : Nodes) (is : IsPruned plan.nodes.items pruned) where
+  module _ {pruned : Nodes} (is : IsPruned plan.nodes.items pruned) where
     pub still_below : AreNodesBelow (length pruned) pruned
     still_below = pruned_below plan.nodes.items pruned is has.2.planned.surveyed.below
 
@@ -68,8 +68,7 @@ module _ (structures : List Structure) (layer_map : LayerMap) (wanted : Option (
     pub all_placed : (result : Result (Vec Placed Global) PlaceFault)
         → Answers Memory (PlacesEach (λ layer_map. HaveLayers layer_map plan.nodes.items) (node_routes plan.nodes.items 256 plan.top) [] (λ placed. placed.items)) result
         → IfOk result (λ placed. ArePlaced structures layer_map wanted placed.items) × IfErr result (λ fault. fault ≢ Memory → Placing structures layer_map wanted (refused fault))
-    all_placed result told = by_checks result
-        (placing_from _ result (subst (λ rs. Answers Memory (PlacesEach (λ layer_map. HaveLayers layer_map plan.nodes.items) rs [] (λ placed. placed.items)) result) routes_are told))
+    all_placed result told = by_checks result (placing_from _ result (rw routes_are at told))
       where
         by_checks : (result : Result (Vec Placed Global) PlaceFault)
             → Judges Memory Holds (top_checks all) (top_fault structures plan.top)

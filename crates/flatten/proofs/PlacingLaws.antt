@@ -1,6 +1,6 @@
 -- what a placement comes to
 use Rattle.std.proofs.Common.{ℕ, ◌<◌, ◌≡◌, inl, inr, List, ◌∷◌, ◌++◌, length, map, Option, Some, None, refl, sym, ◌∙◌, arith, All, Contains, IsSome}
-use Rattle.lists.proofs.Words.{All-contains, All-head, All-tail, cases_lt}
+use Rattle.lists.proofs.Words.{All-contains, Contains-append_left, Contains-append_right, cases_lt}
 use Rattle.first_refusal.specs.Laws.{IsUnique, CannotLack}
 use Rattle.first_refusal.proofs.CheckLaws.{checks_agree, checks_cannot_lack}
 use Rattle.first_refusal.proofs.StageLaws.{stages_agree, stages_cannot_lack}
@@ -9,11 +9,11 @@ use Rattle.library_model.specs.declared.library.Structure.{Structure}
 use Rattle.map_model.specs.MapNames.{LayerMap}
 use Rattle.flatten.specs.Structures.{all_references, numbers_of}
 use Rattle.flatten.specs.ReferenceChains.{IsEndless}
-use Rattle.flatten.specs.Tops.{IsTop, HasTop, IsNoOtherTop, IsUnnamed, IsOnlyUnnamed}
-use Rattle.flatten.specs.Placements.{has_its_target, leads_to_no_cycle, has_top, is_no_other_top, LibraryHolds, library_checks, library_fault, TopHolds, top_checks, top_fault, Choosing, PlacingFrom, Placing, placed_routes}
+use Rattle.flatten.specs.Tops.{IsTop, IsNoOtherTop, IsUnnamed, IsOnlyUnnamed}
+use Rattle.flatten.specs.Placements.{LibraryCheck, has_its_target, leads_to_no_cycle, has_top, is_no_other_top, LibraryHolds, library_checks, library_fault, TopHolds, top_checks, top_fault, Choosing, PlacingFrom, Placing, placed_routes}
 use Rattle.flatten.proofs.NumberLaws.{number_there}
 use Rattle.flatten.proofs.ChainLaws.{some_bound, some_unnamed}
-use Rattle.lists.proofs.Containing.{All-back, All-front}
+use Rattle.lists.proofs.Containing.{Contains-head, Contains-tail}
 use Rattle.lists.proofs.Mapping.{Contains-map}
 
 module _ (structures : List Structure) where
@@ -32,22 +32,20 @@ module _ (structures : List Structure) where
 
   -- each check of the library by its place in the list
   module _ (wanted : Option (List ℕ)) (all : All (LibraryHolds structures wanted) (library_checks structures)) where
-    behind_targets : All (LibraryHolds structures wanted) (map leads_to_no_cycle (numbers_of structures) ++ has_top ∷ map is_no_other_top (numbers_of structures))
-    behind_targets = All-back (LibraryHolds structures wanted) (map has_its_target (all_references structures)) _ all
+    -- behind the targets, and behind the cycles
+    by_place : (check : LibraryCheck) → Contains (map leads_to_no_cycle (numbers_of structures) ++ has_top ∷ map is_no_other_top (numbers_of structures)) check → LibraryHolds structures wanted check
+    by_place check there =
+        All-contains (LibraryHolds structures wanted) (library_checks structures) check all (Contains-append_right (map has_its_target (all_references structures)) _ check there)
 
-    behind_cycles : All (LibraryHolds structures wanted) (has_top ∷ map is_no_other_top (numbers_of structures))
-    behind_cycles = All-back (LibraryHolds structures wanted) (map leads_to_no_cycle (numbers_of structures)) _ behind_targets
+    by_last_place : (check : LibraryCheck) → Contains (has_top ∷ map is_no_other_top (numbers_of structures)) check → LibraryHolds structures wanted check
+    by_last_place check there = by_place check (Contains-append_right (map leads_to_no_cycle (numbers_of structures)) _ check there)
 
     ends_from : (one : ℕ) → Contains (numbers_of structures) one → IsEndless structures one → ⊥
-    ends_from one there = All-contains (LibraryHolds structures wanted) (map leads_to_no_cycle (numbers_of structures)) (leads_to_no_cycle one)
-        (All-front (LibraryHolds structures wanted) (map leads_to_no_cycle (numbers_of structures)) _ behind_targets) (Contains-map leads_to_no_cycle (numbers_of structures) one there)
-
-    top_is_there : HasTop structures wanted
-    top_is_there = All-head (LibraryHolds structures wanted) has_top _ behind_cycles
+    ends_from one there = by_place (leads_to_no_cycle one) (Contains-append_left _ _ _ (Contains-map leads_to_no_cycle (numbers_of structures) one there))
 
     no_other_top : (one : ℕ) → one < length structures → IsNoOtherTop structures wanted one
-    no_other_top one within = All-contains (LibraryHolds structures wanted) (map is_no_other_top (numbers_of structures)) (is_no_other_top one)
-        (All-tail (LibraryHolds structures wanted) has_top _ behind_cycles) (Contains-map is_no_other_top (numbers_of structures) one (number_there (length structures) one within))
+    no_other_top one within =
+        by_last_place (is_no_other_top one) (Contains-tail has_top _ _ (Contains-map is_no_other_top (numbers_of structures) one (number_there (length structures) one within)))
 
   -- of two structures to which no reference leads one would be another top
   only_unnamed : ((one : ℕ) → one < length structures → IsNoOtherTop structures None one) → (one : ℕ) → one < length structures → IsUnnamed structures one → IsOnlyUnnamed structures one
@@ -63,8 +61,8 @@ module _ (structures : List Structure) where
   tops_cannot_lack : (wanted : Option (List ℕ)) → All (LibraryHolds structures wanted) (library_checks structures) → CannotLack (IsTop structures wanted)
   tops_cannot_lack None all none =
       some_bound structures (numbers_of structures) (ends_from None all) (λ most longest.
-      some_unnamed structures most longest (λ one there unnamed. none one (only_unnamed (no_other_top None all) one there unnamed)) 0 (top_is_there None all))
-  tops_cannot_lack (Some name) all none = by_place (place_of (names_of structures) name) refl (top_is_there (Some name) all)
+      some_unnamed structures most longest (λ one there unnamed. none one (only_unnamed (no_other_top None all) one there unnamed)) 0 (by_last_place None all has_top (Contains-head has_top _)))
+  tops_cannot_lack (Some name) all none = by_place (place_of (names_of structures) name) refl (by_last_place (Some name) all has_top (Contains-head has_top _))
     where
       by_place : (o : Option ℕ) → place_of (names_of structures) name ≡ o → IsSome o → ⊥
       by_place None e some = cc

@@ -1,5 +1,5 @@
 -- what each stage of a plan comes to, by the names that the index has
-use Rattle.std.proofs.Common.{ℕ, ◌≡◌, List, length, Vec, Option, Ok, Err, sym, subst, arith, All}
+use Rattle.std.proofs.Common.{ℕ, ◌≡◌, List, length, Vec, Option, Ok, Err, arith, All}
 use Rattle.lists.proofs.Words.{Global, AllZip-long}
 use Rattle.first_refusal.specs.Answers.{Answers, gives, refuses, no_memory}
 use Rattle.library_model.specs.Names.{names_of}
@@ -28,8 +28,7 @@ module _ (structures : List Structure) (layer_map : LayerMap) (nodes : List (Vec
         → Answers Memory (Chooses structures wanted Is) (Err fault)
     cycle_of wanted Is _ no_memory = no_memory
     cycle_of wanted Is fault (refuses first) =
-        subst (λ f. Answers Memory (Chooses structures wanted Is) (Err f)) (sym first.is_its_fault)
-        (cycle_refused structures wanted Is known first.root first.is_there (λ n. starts_chain structures layer_map nodes are_nodes n first.root (first.endless n))
+        rw first.is_its_fault (cycle_refused structures wanted Is known first.root first.is_there (λ n. starts_chain structures layer_map nodes are_nodes n first.root (first.endless n))
         (λ one h. let w = first.before one h in chains_end structures layer_map nodes are_nodes one w.0 w.1))
 
     pub surveyed_of : (states : List State) → AreAllDone nodes states → AreSurveyed structures layer_map nodes

@@ -1,6 +1,6 @@
 -- structures that place nothing, and what is left of a graph without them
-use Rattle.std.proofs.Common.{ℕ, zero, suc, ◌+◌, ◌*◌, ◌≤◌, ◌<◌, ◌≡◌, ◌↔◌, inl, inr, Bool, true, false, List, [], ◌∷◌, ◌++◌, map, Vec, Option, Some, None, refl, sym, ap, subst, ◌∙◌, arith, Contains, length, get_or, set, slice_get, ◌≢◌}
-use Rattle.lists.proofs.Words.{flat_map, Bor, Global, slice_get_past, cases_lt, option_map_or}
+use Rattle.std.proofs.Common.{ℕ, zero, suc, ◌+◌, ◌*◌, ◌≤◌, ◌<◌, ◌≡◌, ◌↔◌, inl, inr, Bool, true, false, List, [], ◌∷◌, ◌++◌, map, Vec, Option, Some, None, refl, sym, ap, subst, ◌∙◌, arith, Contains, length, length-set, get_or, get_or-set_same, get_or-set_other, set, slice_get, ◌≢◌}
+use Rattle.lists.proofs.Words.{flat_map, Bor, Global, slice_get_past, cases_lt}
 use Rattle.map_model.specs.MapNames.{LayerMap}
 use Rattle.std.specs.Prelude.{nat_lt}
 use Rattle.std.proofs.lemmas.Bool.{le-ltb, ltb-false}
@@ -15,8 +15,8 @@ use Rattle.flatten.specs.inside.Weights.{Weight, weight_over, Weighs, weighs, co
 use Rattle.flatten.specs.inside.Ends.{node_routes, part_routes, routes_below}
 use Rattle.flatten.specs.inside.Parts.{AreNodesBelow}
 use Rattle.flatten.specs.inside.Expansions.{HaveLayers}
-use Rattle.flatten.specs.inside.Prunings.{AreDone, AreNodesDone, IsPrunedTo, IsBarren, IsBarrenPart, IsPruned, Prunes, TellsBarren, no_more, goes, stays}
-use Rattle.flatten.specs.inside.Surveys.{AreTrue, state_of}
+use Rattle.flatten.specs.inside.Prunings.{AreNodesDone, IsPrunedTo, IsBarren, IsBarrenPart, IsPruned, Prunes, TellsBarren, no_more, goes, stays}
+use Rattle.flatten.specs.inside.Surveys.{AreDone, AreTrue, state_of}
 use Rattle.flatten.specs.declared.part.Part.{Part}
 use Rattle.flatten.specs.declared.part.Part.TheVariants.{End, Copies}
 use Rattle.flatten.specs.declared.summary.Summary.{Summary}
@@ -25,36 +25,32 @@ use Rattle.flatten.specs.declared.summary.State.TheVariants.{Done}
 use Rattle.flatten.proofs.CountLaws.{counted, node_routes-is}
 use Rattle.flatten.proofs.EndLaws.{weigh}
 use Rattle.flatten.proofs.SearchLaws.{parts_read}
+use Rattle.std.proofs.Math.Nat.{mul-le-mul}
+use Rattle.std.proofs.lemmas.Option.{gets}
 use Rattle.lists.proofs.Comparing.{equal_or_not}
 use Rattle.lists.proofs.Containing.{Contains-cons_cases, Contains-head, Contains-none, Contains-one, Contains-tail}
 use Rattle.lists.proofs.Mapping.{flat_map-same}
 
 -- lists of which one item is set
-slice_get-set_same : {X : Type 0} (xs : List X) (i : ℕ) (x : X) → i < length xs → slice_get (set xs i x) i ≡ Some x
-slice_get-set_same [] i x within = absurd (omega arith)
-slice_get-set_same (y ∷ xs) zero x within = refl
-slice_get-set_same (y ∷ xs) (suc i) x within = slice_get-set_same xs i x (omega arith)
-
 slice_get-set_other : {X : Type 0} (xs : List X) (i : ℕ) (x : X) (k : ℕ) → k ≢ i → slice_get (set xs i x) k ≡ slice_get xs k
-slice_get-set_other [] i x k apart = refl
-slice_get-set_other (y ∷ xs) zero x zero apart = absurd (apart refl)
-slice_get-set_other (y ∷ xs) zero x (suc k) apart = refl
-slice_get-set_other (y ∷ xs) (suc i) x zero apart = refl
-slice_get-set_other (y ∷ xs) (suc i) x (suc k) apart = slice_get-set_other xs i x k (λ e. apart (ap suc e))
+slice_get-set_other xs i x k apart = grind (arith, gets, get_or-set_other, length-set)
+
+-- the parts of one structure are set: those, and the others as they were
+by_set : (nodes : Nodes) (i : ℕ) (left : Vec Part Global) → i < length nodes → (P : ℕ → List Part → Type 0) → P i left.items → ((one : ℕ) → one ≢ i → P one (parts_at nodes one)) → (one : ℕ)
+    → P one (parts_at (set nodes i left) one)
+by_set nodes i left within P for_one for_rest one = elim (equal_or_not one i) [
+  | inl same ↦ rw (same, ← parts_read (set nodes i left) i left left.items refl (rw (length-set nodes i left) within) (sym (get_or-set_same nodes i left left within))) for_one
+  | inr apart ↦ rw (slice_get-set_other nodes i left one apart) (for_rest one apart)
+]
 
 -- a reference makes a copy at least
-product : (a b : ℕ) → 1 ≤ a → 1 ≤ b → 1 ≤ a * b
-product zero b h k = absurd (omega arith)
-product (suc a) zero h k = absurd (omega arith)
-product (suc a) (suc b) h k = omega arith
-
 some_copies : (lattice : Option Lattice) → 1 ≤ rows_of lattice * columns_of lattice
 some_copies None = omega arith
-some_copies (Some lattice) = product lattice.rows lattice.columns lattice.some_rows lattice.some_columns
+some_copies (Some lattice) = mul-le-mul lattice.some_rows lattice.some_columns
 
 no_shapes : (copies shapes : ℕ) → 1 ≤ copies → copies * shapes ≡ 0 → shapes ≡ 0
-no_shapes copies zero h e = refl
-no_shapes copies (suc shapes) h e = let some : 1 ≤ copies * suc shapes = product copies (suc shapes) h (omega arith) in absurd (omega arith)
+no_shapes zero shapes h e = absurd (omega arith)
+no_shapes (suc copies) shapes h e = omega arith
 
 -- copies of what has no routes have none
 pub no_routes : (steps : List Step) → flat_map (λ step. map (behind_step step) []) steps ≡ []
@@ -67,13 +63,10 @@ nothing_in : (one : ℕ) (of : ℕ → Weight) (from : ℕ → List Route) (part
 nothing_in one of from [] none barren = refl
 nothing_in one of from (End element layer shape ∷ parts) none barren = let no : 1 + (weight_over of parts).shapes ≡ 0 = none in absurd (omega arith)
 nothing_in one of from (Copies reference target ∷ parts) none barren =
-    let here : copies_of reference.now * (of target).shapes ≡ 0 = let both : copies_of reference.now * (of target).shapes + (weight_over of parts).shapes ≡ 0 = none in omega arith in
-    let behind : (weight_over of parts).shapes ≡ 0 = let both : copies_of reference.now * (of target).shapes + (weight_over of parts).shapes ≡ 0 = none in omega arith in
-    let target_barren : from target ≡ [] = barren reference target (Contains-head (Copies reference target) parts)
-    (no_shapes (copies_of reference.now) (of target).shapes (some_copies reference.now.lattice) here) in
-    let rest : flat_map (part_routes from one) parts ≡ [] = nothing_in one of from parts behind (λ r t there. barren r t (Contains-tail (Copies reference target) parts (Copies r t) there)) in
-    ap (λ routes. flat_map (λ step. map (behind_step step) routes) (steps_of reference.now) ++ flat_map (part_routes from one) parts) target_barren
-    ∙ ap (λ routes. routes ++ flat_map (part_routes from one) parts) (no_routes (steps_of reference.now)) ∙ rest
+    let both : copies_of reference.now * (of target).shapes + (weight_over of parts).shapes ≡ 0 = none in
+    let no_more : (of target).shapes ≡ 0 = no_shapes (copies_of reference.now) (of target).shapes (some_copies reference.now.lattice) (omega arith) in
+    rw (barren reference target (Contains-head (Copies reference target) parts) no_more, no_routes (steps_of reference.now))
+    (nothing_in one of from parts (omega arith) (λ r t there. barren r t (Contains-tail (Copies reference target) parts (Copies r t) there)))
 
 -- where all parts lead to what is surveyed, each does
 one_done : (states : List State) (parts : List Part) → AreDone states parts → (part : Part) → Contains parts part → AreDone states (part ∷ [])
@@ -108,14 +101,12 @@ module _ (nodes : Nodes) where
   module _ (from : ℕ → List Route) (one : ℕ) (nothing : (target : ℕ) → IsBarren nodes target → from target ≡ []) where
     nothing_at : (part : Part) → IsBarrenPart nodes part → part_routes from one part ≡ []
     nothing_at (End element layer shape) is = absurd is
-    nothing_at (Copies reference target) is =
-        ap (λ routes. flat_map (λ step. map (behind_step step) routes) (steps_of reference.now)) (nothing target is) ∙ no_routes (steps_of reference.now)
+    nothing_at (Copies reference target) is = rw (nothing target is) (no_routes (steps_of reference.now))
 
-    left_routes : (parts left : List Part) → Prunes nodes parts left → flat_map (part_routes from one) left ≡ flat_map (part_routes from one) parts
-    left_routes [] [] no_more = refl
-    left_routes [] (l ∷ left) h = elim h [ ]
-    left_routes (p ∷ parts) left (goes is h) = left_routes parts left h ∙ ap (λ routes. routes ++ flat_map (part_routes from one) parts) (sym (nothing_at p is))
-    left_routes (p ∷ parts) (l ∷ left) (stays some h) = ap (λ routes. part_routes from one p ++ routes) (left_routes parts left h)
+    left_routes : {parts left : List Part} → Prunes nodes parts left → flat_map (part_routes from one) left ≡ flat_map (part_routes from one) parts
+    left_routes no_more = refl
+    left_routes (goes {part = p} is h) = rw (nothing_at p is) (left_routes h)
+    left_routes (stays {part = p} some h) = ap (λ routes. part_routes from one p ++ routes) (left_routes h)
 
   -- a test that is false exactly at what places nothing leaves the rest
   module _ {F : Type 0} (R : F → Part → Bool → F → Type 0) (f : F) where
@@ -126,14 +117,13 @@ module _ (nodes : Nodes) where
     left_after [] [] q long run tells = no_more
     left_after [] (p ∷ parts) q long run tells = absurd (omega arith)
     left_after (b ∷ bs) [] q long run tells = absurd run
-    left_after (true ∷ bs) (p ∷ parts) q long run tells =
-        let one = tells p true run.0 (Contains-head p parts) run.1 in
-        stays (λ none. let no : true ≡ false = one.0.1 none in cc) (left_after bs parts q (omega arith) (subst (λ (g : F). ReturnsInTurn R g bs parts q) one.1 run.2)
-        (λ part b g there. tells part b g (Contains-tail p parts part there)))
-    left_after (false ∷ bs) (p ∷ parts) q long run tells =
-        let one = tells p false run.0 (Contains-head p parts) run.1 in
-        goes (one.0.0 refl) (left_after bs parts q (omega arith) (subst (λ (g : F). ReturnsInTurn R g bs parts q) one.1 run.2)
-        (λ part b g there. tells part b g (Contains-tail p parts part there)))
+    left_after (b ∷ bs) (p ∷ parts) q long run tells =
+        let one = tells p b run.0 (Contains-head p parts) run.1 in
+        by_answer b one.0 (left_after bs parts q (omega arith) (subst (λ (g : F). ReturnsInTurn R g bs parts q) one.1 run.2) (λ part b g there. tells part b g (Contains-tail p parts part there)))
+      where
+        by_answer : (b : Bool) → (b ≡ false) ↔ IsBarrenPart nodes p → Prunes nodes parts (items_where_true bs parts) → Prunes nodes (p ∷ parts) (items_where_true (b ∷ bs) (p ∷ parts))
+        by_answer true is rest = stays (λ none. let no : true ≡ false = is.1 none in cc) rest
+        by_answer false is rest = goes (is.0 refl) rest
 
     pub left_by : (states : List State) → AreTrue nodes states → ((part : Part) (b : Bool) (g : F) → R f part b g → TellsBarren states part b × (g ≡ f))
         → (parts left : List Part) → IsFiltered R f parts left → AreDone states parts → Prunes nodes parts left
@@ -151,44 +141,27 @@ module _ (nodes : Nodes) where
 
     pub one_pruned : (left : Vec Part Global) → Prunes nodes node.items left.items → IsPrunedTo nodes (set now i left) (i + 1)
     one_pruned left prunes = record {
-      behind = λ one before. elim (equal_or_not one i) [
-        | inl same ↦
-            subst (λ x. Prunes nodes (parts_at nodes x) (parts_at (set now i left) x)) (sym same)
-            (subst (λ parts. Prunes nodes parts (parts_at (set now i left) i)) ahead_is (subst (Prunes nodes node.items) (sym at_place) prunes))
-        | inr apart ↦ subst (Prunes nodes (parts_at nodes one)) (sym (off_place one apart)) (so_far.behind one (omega arith))
-      ];
-      ahead = λ one h. off_place one (λ e. absurd (omega arith)) ∙ so_far.ahead one (omega arith);
+      behind = by_set now i left (omega arith) (λ one parts. one < i + 1 → Prunes nodes (parts_at nodes one) parts) (λ h. subst (λ parts. Prunes nodes parts left.items) ahead_is prunes)
+          (λ one apart h. so_far.behind one (omega arith));
+      ahead = by_set now i left (omega arith) (λ one parts. i + 1 ≤ one → parts ≡ parts_at nodes one) (λ h. absurd (omega arith)) (λ one apart h. so_far.ahead one (omega arith));
     }
-      where
-        at_place : parts_at (set now i left) i ≡ left.items
-        at_place = ap (λ o. option_map_or (λ p. p.items) o []) (slice_get-set_same now i left (omega arith))
-
-        off_place : (one : ℕ) → one ≢ i → parts_at (set now i left) one ≡ parts_at now one
-        off_place one apart = ap (λ o. option_map_or (λ p. p.items) o []) (slice_get-set_other now i left one apart)
 
   pub all_pruned : (now : Nodes) (i : ℕ) → length now ≡ length nodes → length nodes ≤ i → IsPrunedTo nodes now i → IsPruned nodes now
   all_pruned now i long past so_far = record {
     long = long;
     prunes = λ one. elim (cases_lt one i) [
       | inl before ↦ so_far.behind one before
-      | inr after ↦ subst (Prunes nodes (parts_at nodes one)) (sym (so_far.ahead one after)) (none_goes (parts_at nodes one) (no_parts one (omega arith)))
+      | inr after ↦ rw (so_far.ahead one after, slice_get_past nodes one (omega arith)) no_more
     ];
   }
-    where
-      no_parts : (one : ℕ) → length nodes ≤ one → parts_at nodes one ≡ []
-      no_parts one past = ap (λ o. option_map_or (λ p. p.items) o []) (slice_get_past nodes one past)
-
-      none_goes : (parts : List Part) → parts ≡ [] → Prunes nodes parts parts
-      none_goes parts none = rw none no_more
 
   -- and what is left was there
-  left_there : (parts left : List Part) → Prunes nodes parts left → (part : Part) → Contains left part → Contains parts part
-  left_there [] [] no_more part there = absurd (Contains-none there)
-  left_there [] (l ∷ left) h part there = elim h [ ]
-  left_there (p ∷ parts) left (goes is h) part there = Contains-tail p parts part (left_there parts left h part there)
-  left_there (p ∷ parts) (l ∷ left) (stays some h) part there = elim (Contains-cons_cases p left part there) [
-    | inl same ↦ subst (λ x. Contains (p ∷ parts) x) same (Contains-head p parts)
-    | inr behind ↦ Contains-tail p parts part (left_there parts left h part behind)
+  left_there : {parts left : List Part} → Prunes nodes parts left → (part : Part) → Contains left part → Contains parts part
+  left_there no_more part there = absurd (Contains-none there)
+  left_there (goes {part = p} {parts = ps} is h) part there = Contains-tail p ps part (left_there h part there)
+  left_there (stays {part = p} {parts = ps} {left = ls} some h) part there = elim (Contains-cons_cases p ls part there) [
+    | inl same ↦ rw (← same) (Contains-head p ps)
+    | inr behind ↦ Contains-tail p ps part (left_there h part behind)
   ]
 
   module _ (pruned : Nodes) (is : IsPruned nodes pruned) where
@@ -197,7 +170,7 @@ module _ (nodes : Nodes) where
     routes_stay k fewer one =
         node_routes-is pruned k one
         ∙ flat_map-same (part_routes (routes_below pruned k) one) (part_routes (routes_below nodes k) one) (parts_at pruned one) (λ part there. same_part part)
-        ∙ left_routes (routes_below nodes k) one (λ target none. below target none k) (parts_at nodes one) (parts_at pruned one) (is.prunes one) ∙ sym (node_routes-is nodes k one)
+        ∙ left_routes (routes_below nodes k) one (λ target none. below target none k) (is.prunes one) ∙ sym (node_routes-is nodes k one)
       where
         same_part : (part : Part) → part_routes (routes_below pruned k) one part ≡ part_routes (routes_below nodes k) one part
         same_part (End element layer shape) = refl
@@ -209,8 +182,8 @@ module _ (nodes : Nodes) where
 
     pub pruned_below : AreNodesBelow (length nodes) nodes → AreNodesBelow (length pruned) pruned
     pruned_below small one reference target there =
-        let h = small one reference target (left_there (parts_at nodes one) (parts_at pruned one) (is.prunes one) (Copies reference target) there) in omega (arith, is.long)
+        let h = small one reference target (left_there (is.prunes one) (Copies reference target) there) in omega (arith, is.long)
 
     pub pruned_layers : (layer_map : LayerMap) → HaveLayers layer_map nodes → HaveLayers layer_map pruned
     pruned_layers layer_map have one element layer shape there =
-        have one element layer shape (left_there (parts_at nodes one) (parts_at pruned one) (is.prunes one) (End element layer shape) there)
+        have one element layer shape (left_there (is.prunes one) (End element layer shape) there)

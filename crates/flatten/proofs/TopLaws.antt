@@ -1,65 +1,65 @@
 -- the top: the structure of the wanted name, or the one that is not marked, where those are marked to which parts lead
-use Rattle.std.proofs.Common.{ℕ, ◌<◌, ◌≡◌, Result, Ok, Err, inl, inr, Bool, List, length, Vec, Option, Some, None, refl, sym, subst, ◌∙◌, arith, All, IsSome}
+use Rattle.std.proofs.Common.{ℕ, ◌<◌, ◌≡◌, Result, Ok, Err, inl, inr, Bool, List, length, Vec, Option, Some, None, refl, sym, subst, ◌∙◌, arith, IsSome}
 use Rattle.std.specs.Prelude.{IfOk, IfErr}
 use Rattle.lists.proofs.Words.{Global, AllZip-long}
-use Rattle.first_refusal.specs.Answers.{Answers}
+use Rattle.first_refusal.specs.Answers.{Answers, gives}
 use Rattle.first_refusal.specs.Checks.{all_hold}
 use Rattle.library_model.specs.Names.{names_of, place_of}
 use Rattle.library_model.specs.declared.library.Structure.{Structure}
 use Rattle.map_model.specs.MapNames.{LayerMap}
-use Rattle.flatten.specs.Structures.{all_references, numbers_of, targets_of}
+use Rattle.flatten.specs.Structures.{numbers_of, targets_of}
 use Rattle.flatten.specs.ReferenceChains.{IsEndless}
-use Rattle.flatten.specs.Tops.{IsUnnamed, IsOnlyUnnamed, IsNoOtherTop, HasTop}
+use Rattle.flatten.specs.Tops.{IsTop, IsUnnamed, IsOnlyUnnamed, IsNoOtherTop, HasTop}
 use Rattle.flatten.specs.inside.Marks.{IsMarked, IsOnlyUnmarked, IsTopFault, all_marked, second_unmarked}
-use Rattle.flatten.specs.inside.Parts.{AreNodes, IsKnown, LeadsTo, parts_at}
-use Rattle.flatten.specs.inside.Weights.{Weight, Weighs}
-use Rattle.flatten.specs.inside.Plans.{Chooses, IsChosen}
+use Rattle.flatten.specs.inside.Parts.{LeadsTo, parts_at}
+use Rattle.flatten.specs.inside.Plans.{AreSurveyed, Chooses, IsChosen}
 use Rattle.flatten.specs.declared.part.Part.{Part}
 use Rattle.flatten.specs.declared.fault.PlaceFault.{PlaceFault}
 use Rattle.flatten.specs.declared.fault.PlaceFault.TheVariants.{NoTop, Memory}
 use Rattle.flatten.proofs.NumberLaws.{number_there, number_below}
 use Rattle.flatten.proofs.ChainLaws.{some_bound, some_unnamed}
-use Rattle.flatten.proofs.ChoiceLaws.{none_refused, many_refused, all_checks, chosen_by}
+use Rattle.flatten.proofs.ChoiceLaws.{none_refused, many_refused, all_checks}
 use Rattle.flatten.proofs.GraphLaws.{named_within, leads, leads_back, chains_end}
 use Rattle.flatten.proofs.MarkLaws.{leads_within}
 use Rattle.lists.proofs.Comparing.{equal_or_not}
 use Rattle.lists.proofs.Mapping.{Contains-flat_map, Contains-flat_map_from}
 
-module _ (structures : List Structure) (layer_map : LayerMap) (nodes : List (Vec Part Global)) (are_nodes : AreNodes (names_of structures) layer_map structures nodes)
-    (known : All (IsKnown (names_of structures)) (all_references structures)) (weighed : (one : ℕ) → one < length structures → (weight : Weight) × Weighs nodes one weight) where
-  ends : (one : ℕ) → one < length structures → IsEndless structures one → ⊥
-  ends one within = let w = weighed one within in chains_end structures layer_map nodes are_nodes one w.0 w.1
+-- the number of the top is chosen
+abbrev pub Answer : List Structure → Option (List ℕ) → Result ℕ PlaceFault → Type 0
+Answer structures wanted = Answers Memory (Chooses structures wanted (IsChosen structures wanted))
 
-  -- the number of the top is chosen
-  abbrev pub Answer : Option (List ℕ) → Result ℕ PlaceFault → Type 0
-  Answer wanted = Answers Memory (Chooses structures wanted (IsChosen structures wanted))
+module _ {structures : List Structure} {layer_map : LayerMap} {nodes : List (Vec Part Global)} (surveyed : AreSurveyed structures layer_map nodes) where
+  ends : (one : ℕ) → one < length structures → IsEndless structures one → ⊥
+  ends one within = let w = surveyed.weighed one within in chains_end structures layer_map nodes surveyed.nodes_are one w.0 w.1
+
+  chosen : (wanted : Option (List ℕ)) (top : ℕ) → top < length structures → HasTop structures wanted → ((one : ℕ) → one < length structures → IsNoOtherTop structures wanted one)
+      → IsTop structures wanted top → Answer structures wanted (Ok top)
+  chosen wanted top within some alone is =
+      let all = all_checks structures wanted (IsChosen structures wanted) surveyed.known ends some alone in gives (all_hold all (within, all_hold all is))
 
   -- a wanted top: the structure of the name, or none
-  pub name_chosen : (name : List ℕ) (top : ℕ) → place_of (names_of structures) name ≡ Some top → Answer (Some name) (Ok top)
-  name_chosen name top is =
-      let chosen : IsChosen structures (Some name) top = (
-        named_within structures name top is,
-        all_hold (all_checks structures (Some name) (IsChosen structures (Some name)) known ends (subst IsSome (sym is) refl) (λ one within. tt)) is,
-      ) in chosen_by structures (Some name) chosen chosen
+  pub name_chosen : (name : List ℕ) (top : ℕ) → place_of (names_of structures) name ≡ Some top → Answer structures (Some name) (Ok top)
+  name_chosen name top is = chosen (Some name) top (named_within structures name top is) (rw is refl) (λ one within. tt) is
 
-  pub name_refused : (name : List ℕ) → place_of (names_of structures) name ≡ None → Answer (Some name) (Err NoTop)
-  name_refused name none = none_refused structures (Some name) _ known ends (λ some. let no = subst IsSome none some in cc no)
+  pub name_refused : (name : List ℕ) → place_of (names_of structures) name ≡ None → Answer structures (Some name) (Err NoTop)
+  name_refused name none = none_refused structures (Some name) _ surveyed.known ends (λ some. let no = subst IsSome none some in cc no)
 
   module _ (marks : List Bool) (marked : (other one : ℕ) → LeadsTo (parts_at nodes other) one → IsMarked marks one) (only : (one : ℕ) → IsMarked marks one → (other : ℕ)
       × LeadsTo (parts_at nodes other) one) where
     -- no reference leads to what is not marked
     unnamed : (one : ℕ) → (IsMarked marks one → ⊥) → IsUnnamed structures one
     unnamed one unmarked there =
-        let from = Contains-flat_map_from (targets_of structures) (numbers_of structures) one there in unmarked (marked from.0 one (leads_back structures layer_map nodes are_nodes from.0 one from.2))
+        let from = Contains-flat_map_from (targets_of structures) (numbers_of structures) one there in
+        unmarked (marked from.0 one (leads_back structures layer_map nodes surveyed.nodes_are from.0 one from.2))
 
     -- and one leads to what is
     is_named : (one : ℕ) → IsMarked marks one → IsUnnamed structures one → ⊥
     is_named one mark free =
         let from = only one mark in
-        let long : length nodes ≡ length structures = AllZip-long _ structures nodes are_nodes in
+        let long : length nodes ≡ length structures = AllZip-long _ structures nodes surveyed.nodes_are in
         let within : from.0 < length structures = omega (arith, leads_within nodes from.0 one from.1) in
         free (Contains-flat_map (targets_of structures) (numbers_of structures) from.0 one (number_there (length structures) from.0 within)
-        (leads structures layer_map nodes are_nodes from.0 one from.1))
+        (leads structures layer_map nodes surveyed.nodes_are from.0 one from.1))
 
     -- where others before it are marked but one, that one is the first to which none leads
     alone : (count first : ℕ) → IsOnlyUnmarked count marks first → (one : ℕ) → one < count → IsNoOtherTop structures None one
@@ -70,13 +70,8 @@ module _ (structures : List Structure) (layer_map : LayerMap) (nodes : List (Vec
         ]
 
     -- the only structure that is not marked is the top
-    unmarked_chosen : (top : ℕ) → IsOnlyUnmarked (length structures) marks top → Answer None (Ok top)
-    unmarked_chosen top is_only =
-        let some : HasTop structures None = let h = is_only.below in omega arith in
-        let chosen : IsChosen structures None top = (
-          is_only.below,
-          all_hold (all_checks structures None (IsChosen structures None) known ends some (alone (length structures) top is_only)) only_top,
-        ) in chosen_by structures None chosen chosen
+    unmarked_chosen : (top : ℕ) → IsOnlyUnmarked (length structures) marks top → Answer structures None (Ok top)
+    unmarked_chosen top is_only = chosen None top is_only.below (let h = is_only.below in omega arith) (alone (length structures) top is_only) only_top
       where
         only_top : IsOnlyUnnamed structures top
         only_top = record {
@@ -91,12 +86,12 @@ module _ (structures : List Structure) (layer_map : LayerMap) (nodes : List (Vec
         some_bound structures (numbers_of structures) (λ one there. ends one (number_below (length structures) one there))
         (λ most longest. some_unnamed structures most longest (λ one within free. is_named one (all one within) free) 0 some)
 
-    marks_refused : (fault : PlaceFault) → IsTopFault structures marks fault → Answer None (Err fault)
-    marks_refused fault (all_marked all) = none_refused structures None _ known ends (none_there all)
+    marks_refused : (fault : PlaceFault) → IsTopFault structures marks fault → Answer structures None (Err fault)
+    marks_refused fault (all_marked all) = none_refused structures None _ surveyed.known ends (none_there all)
     marks_refused fault (second_unmarked {number = number} {first = first} within unmarked is_only) =
-        many_refused structures None _ known ends (omega arith) number within (λ one h. alone number first is_only one h)
+        many_refused structures None _ surveyed.known ends (omega arith) number within (λ one h. alone number first is_only one h)
         (λ no_other. no_other (unnamed number unmarked) first is_only.below (unnamed first is_only.unmarked))
 
-    pub marks_tell : (result : Result ℕ PlaceFault) → IfOk result (IsOnlyUnmarked (length structures) marks) → IfErr result (IsTopFault structures marks) → Answer None result
+    pub marks_tell : (result : Result ℕ PlaceFault) → IfOk result (IsOnlyUnmarked (length structures) marks) → IfErr result (IsTopFault structures marks) → Answer structures None result
     marks_tell (Ok top) is_only fault = unmarked_chosen top is_only
     marks_tell (Err fault) is_only is_fault = marks_refused fault is_fault

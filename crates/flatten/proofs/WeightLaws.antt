@@ -1,6 +1,6 @@
 -- weights of parts
-use Rattle.std.proofs.Common.{ℕ, suc, ◌+◌, ◌≤◌, ◌<◌, ◌≡◌, max, List, [], ◌∷◌, length, get_or, drop, add-one, sym, ap, subst, ◌∙◌, arith, Contains}
-use Rattle.lists.proofs.Words.{Bor, drop-cons, drop_all}
+use Rattle.std.proofs.Common.{ℕ, ◌+◌, ◌≤◌, ◌<◌, ◌≡◌, max, List, [], ◌∷◌, length, get_or, drop, sym, subst, ◌∙◌, arith, Contains}
+use Rattle.lists.proofs.Words.{Bor, drop_all, drop_more}
 use Rattle.library_model.specs.declared.element.Reference.{Reference}
 use Rattle.flatten.specs.declared.part.Part.{Part}
 use Rattle.flatten.specs.declared.part.Part.TheVariants.{Copies}
@@ -22,25 +22,16 @@ pub nothing_last : (weight : Weight) → both_weights weight no_weight ≡ weigh
 nothing_last weight = same_weights _ weight.height _ weight.shapes _ weight.points (omega arith) (omega arith) (omega arith)
 
 regrouped : (a b c : Weight) → both_weights (both_weights a b) c ≡ both_weights a (both_weights b c)
-regrouped a b c = same_weights _ _ _ _ _ _ (three a.height b.height c.height) (omega arith) (omega arith)
-  where
-    three : (x y z : ℕ) → max (max x y) z ≡ max x (max y z)
-    three x y z = omega arith
+regrouped a b c = same_weights _ _ _ _ _ _ (omega arith) (omega arith) (omega arith)
 
 module _ (of : ℕ → Weight) (parts : List Part) (i : ℕ) (weight : Weight) (all : Weight) (before : both_weights weight (weight_over of (drop i parts)) ≡ all) where
   -- one part more
   pub weight_more : (part : Part) → i < length parts → part ≡ get_or parts i part → both_weights (both_weights weight (weight_of of part)) (weight_over of (drop (i + 1) parts)) ≡ all
-  weight_more part more is =
-      regrouped weight (weight_of of part) (weight_over of (drop (i + 1) parts))
-      ∙ ap (both_weights weight) (sym parted) ∙ before
-    where
-      parted : weight_over of (drop i parts) ≡ both_weights (weight_of of part) (weight_over of (drop (i + 1) parts))
-      parted = ap (weight_over of) (drop-cons parts i part more ∙ ap (λ x. x ∷ drop (suc i) parts) (sym is))
-          ∙ ap (λ k. both_weights (weight_of of part) (weight_over of (drop k parts))) (sym (add-one i))
+  weight_more part more is = regrouped weight (weight_of of part) (weight_over of (drop (i + 1) parts)) ∙ (rw (drop_more parts i part more, ← is) at before)
 
   -- and past the last
   pub weight_all : length parts ≤ i → weight ≡ all
-  weight_all past = sym (nothing_last weight) ∙ ap (λ rest. both_weights weight (weight_over of rest)) (sym (drop_all i parts past)) ∙ before
+  weight_all past = sym (nothing_last weight) ∙ (rw (drop_all i parts past) at before)
 
 -- what is known of parts is known of one
 module _ (parts : List Part) (i : ℕ) (part : Part) (more : i < length parts) (is : part ≡ get_or parts i part) where

@@ -6,8 +6,8 @@ ghost use Rattle.map_model.specs.LayerMap.{IsMappedTo};
 ghost use Rattle.flatten.specs.Steps.{Step, columns_of, rows_of, steps_in_row, steps_of};
 ghost use Rattle.flatten.specs.Motions.{MovesAlong};
 ghost use Rattle.flatten.specs.inside.Parts.{AreNodesBelow, parts_at};
-ghost use Rattle.flatten.specs.inside.Ends.{node_routes, part_routes, routes_below};
-ghost use Rattle.flatten.specs.inside.Expansions.{Expands, PlacesEach, copy_routes, route_to};
+ghost use Rattle.flatten.specs.inside.Ends.{node_routes, part_routes, route_to, routes_below};
+ghost use Rattle.flatten.specs.inside.Expansions.{Expands, PlacesEach, copy_routes};
 
 use super::fault::PlaceFault;
 use super::part::Part;
@@ -69,6 +69,7 @@ fn rows(reference: &Reference) -> u16
 
 /// Places what the copies in one row of a reference place.
 #[cycle(expansion)]
+#[tactic(auto, using(crate::proofs::GrowthLaws::none_followed))]
 fn expand_row(
     nodes: &[Vec<Part<'_>>],
     placed: &mut Vec<Placed>,
@@ -92,6 +93,7 @@ fn expand_row(
 
 /// Places what the copies of a reference place, row by row.
 #[cycle(expansion)]
+#[tactic(auto, using(crate::proofs::GrowthLaws::none_followed))]
 fn expand_copies(
     nodes: &[Vec<Part<'_>>],
     placed: &mut Vec<Placed>,
@@ -144,6 +146,7 @@ fn expand_part(
 
 /// Places what the structure with this number places, part by part.
 #[cycle(expansion)]
+#[tactic(auto, using(crate::proofs::GrowthLaws::none_followed))]
 pub fn expand(
     nodes: &[Vec<Part<'_>>],
     placed: &mut Vec<Placed>,

@@ -40,6 +40,7 @@ pub fn a_mapped_shape_has_a_layer()
 
 /// The copies of an array go row by row, and column by column in each row: the copy in this column and row stands behind
 /// those of all rows before it and those of the columns before it. There are no other copies.
+#[tactic(auto, using(crate::proofs::ArrayLaws::steps_long, crate::proofs::ArrayLaws::stands_there))]
 pub fn arrays_go_row_by_row()
     ensures count { (reference : Reference) →
         length (steps_of reference) ≡ rows_of reference.lattice * columns_of reference.lattice }
@@ -85,7 +86,7 @@ pub fn motions_agree()
 {}
 
 /// No route has more steps than it may have.
-#[tactic(auto, using(crate::proofs::RouteLaws::routes_are_short))]
+#[tactic(auto, using(crate::proofs::ListedRoutes::routes_are_short))]
 pub fn no_route_is_longer_than_its_bound()
     ensures { (structures : List Structure) (most : ℕ) (start : ℕ) →
         All (λ route. length route.steps ≤ most) (routes structures most start) }

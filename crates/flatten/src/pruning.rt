@@ -2,8 +2,8 @@
 
 ghost use Rattle.std.specs.Prelude.{◌≡◌};
 ghost use Rattle.flatten.specs.inside.Parts.{Nodes};
-ghost use Rattle.flatten.specs.inside.Surveys.{AreTrue, state_of};
-ghost use Rattle.flatten.specs.inside.Prunings.{AreDone, AreNodesDone, IsPruned, Prunes, TellsBarren};
+ghost use Rattle.flatten.specs.inside.Surveys.{AreDone, AreTrue, state_of};
+ghost use Rattle.flatten.specs.inside.Prunings.{AreNodesDone, IsPruned, Prunes, TellsBarren};
 
 use super::part::Part;
 use super::summary::State;

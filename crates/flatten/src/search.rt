@@ -33,6 +33,7 @@ fn next_undone(parts: &[Part<'_>], states: &[State], next: usize) -> Option<(usi
 
 /// One step of a search at the structure `one`, which was last on the stack. The answer is whether the search goes on:
 /// where it does not, there is a cycle.
+#[tactic(auto, using(crate::proofs::SearchLaws::one_within, crate::proofs::SearchLaws::one_in_nodes))]
 fn step(
     nodes: &[Vec<Part<'_>>],
     states: &mut [State],

@@ -1,20 +1,20 @@
 -- the routes that begin at parts
 use Rattle.std.specs.Prelude.{ℕ, zero, suc, List, [], ◌∷◌, map, flat_map, Vec}
 use Rattle.lists.specs.Words.{Global}
-use Rattle.flatten.specs.Steps.{steps_of}
+use Rattle.library_model.specs.declared.element.Shape.{Shape}
+use Rattle.flatten.specs.Steps.{Step, steps_of}
 use Rattle.flatten.specs.Routes.{Route, behind_step}
 use Rattle.flatten.specs.inside.Parts.{parts_at}
 use Rattle.flatten.specs.declared.part.Part.{Part}
 use Rattle.flatten.specs.declared.part.Part.TheVariants.{End, Copies}
 
+-- the route along these steps to a shape
+abbrev pub route_to : List Step → ℕ → ℕ → Shape → Route
+route_to steps structure element shape = record { steps = steps; structure = structure; element = element; shape = shape }
+
 -- the routes that begin at a part of the structure with this number, where those from targets are these
 abbrev pub part_routes : (ℕ → List Route) → ℕ → Part → List Route
-part_routes from structure (End element layer shape) = record {
-  steps = [];
-  structure = structure;
-  element = element;
-  shape = shape.now;
-} ∷ []
+part_routes from structure (End element layer shape) = route_to [] structure element shape.now ∷ []
 part_routes from structure (Copies reference target) = flat_map (λ step. map (behind_step step) (from target)) (steps_of reference.now)
 
 -- the routes that begin at the parts of the structure with this number and have at most so many steps

@@ -23,10 +23,6 @@ use Rattle.flatten.specs.declared.plan.Plan.{Plan}
 abbrev pub HasLibrary : Plan → Type 0
 HasLibrary plan = (structures : List Structure) × (layer_map : LayerMap) × IsPlanOf structures layer_map plan
 
--- the route along these steps to a shape
-abbrev pub route_to : List Step → ℕ → ℕ → Shape → Route
-route_to steps structure element shape = record { steps = steps; structure = structure; element = element; shape = shape }
-
 -- the route behind these steps
 abbrev pub behind_steps : List Step → Route → Route
 behind_steps steps route = record route { steps = steps ++ route.steps }

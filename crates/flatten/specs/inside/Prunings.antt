@@ -1,15 +1,11 @@
 -- what is left of a graph once all that places nothing has gone
-use Rattle.std.specs.Prelude.{ℕ, Bool, false, ◌↔◌, List, [], ◌∷◌, ◌≡◌, ◌<◌, ◌≤◌, Contains, length}
-use Rattle.lists.specs.Words.{Bor}
-use Rattle.library_model.specs.declared.element.Reference.{Reference}
+use Rattle.std.specs.Prelude.{ℕ, Bool, false, ◌↔◌, List, [], ◌∷◌, ◌≡◌, ◌<◌, ◌≤◌, length}
 use Rattle.flatten.specs.inside.Parts.{Nodes, parts_at}
 use Rattle.flatten.specs.inside.Ends.{node_routes}
-use Rattle.flatten.specs.inside.Surveys.{AreTrue, state_of}
+use Rattle.flatten.specs.inside.Surveys.{AreDone, AreTrue}
 use Rattle.flatten.specs.declared.part.Part.{Part}
 use Rattle.flatten.specs.declared.part.Part.TheVariants.{End, Copies}
 use Rattle.flatten.specs.declared.summary.State.{State}
-use Rattle.flatten.specs.declared.summary.State.TheVariants.{Done}
-use Rattle.flatten.specs.declared.summary.Summary.{Summary}
 
 -- no route leads from the structure to a shape of a mapped layer, however many steps it may have
 abbrev pub IsBarren : Nodes → ℕ → Type 0
@@ -37,12 +33,7 @@ pub record IsPrunedTo (nodes now : Nodes) (next : ℕ) : Type 0 where
   pub behind : (one : ℕ) → one < next → Prunes nodes (parts_at nodes one) (parts_at now one)
   pub ahead : (one : ℕ) → next ≤ one → parts_at now one ≡ parts_at nodes one
 
--- the structures to which the parts refer are surveyed
-abbrev pub AreDone : List State → List Part → Type 0
-AreDone states parts = (reference : Bor Reference) (target : ℕ) → Contains parts (Copies reference target)
-    → (summary : Summary) × (state_of states target ≡ Done summary)
-
--- and those to which all parts refer
+-- the structures to which all parts refer are surveyed
 abbrev pub AreNodesDone : List State → Nodes → Type 0
 AreNodesDone states nodes = (one : ℕ) → AreDone states (parts_at nodes one)
 

@@ -1,35 +1,36 @@
 -- what a search is that surveys one structure and all to which it leads
-use Rattle.std.specs.Prelude.{ℕ, List, ◌≡◌, ◌≢◌, ◌+◌, ◌<◌, length, All, Contains, sum_by, slice_get, slice_index_or, Some, Vec}
-use Rattle.lists.specs.Words.{Bor, Global}
-use Rattle.library_model.specs.declared.element.Reference.{Reference}
+use Rattle.std.specs.Prelude.{ℕ, suc, List, ◌≡◌, ◌≢◌, ◌+◌, ◌<◌, length, take, All, Contains, sum_by, slice_get, Some, Vec}
+use Rattle.lists.specs.Words.{Global}
 use Rattle.flatten.specs.inside.Parts.{LeadsTo, parts_at}
-use Rattle.flatten.specs.inside.Surveys.{AreTrue, state_of}
+use Rattle.flatten.specs.inside.Weights.{Weight, Weighs, IsKept}
+use Rattle.flatten.specs.inside.Surveys.{AreDone, state_of}
 use Rattle.flatten.specs.declared.part.Part.{Part}
-use Rattle.flatten.specs.declared.part.Part.TheVariants.{Copies}
 use Rattle.flatten.specs.declared.summary.State.{State}
 use Rattle.flatten.specs.declared.summary.State.TheVariants.{New, Open, Done}
-use Rattle.flatten.specs.declared.summary.Summary.{Summary}
 
--- where a structure is open, each part before the one at this place is no reference to a structure that is not done
+-- no part before the one at this place is a reference to a structure that is not done
 abbrev pub IsDoneBefore : List State → List Part → ℕ → Type 0
-IsDoneBefore states parts next = (k : ℕ) (reference : Bor Reference) (target : ℕ) → k < next
-    → slice_get parts k ≡ Some (Copies reference target)
-    → (summary : Summary) × (state_of states target ≡ Done summary)
+IsDoneBefore states parts next = AreDone states (take next parts)
 
 -- each structure refers to the next
 abbrev pub IsWay : List (Vec Part Global) → List ℕ → Type 0
-IsWay nodes stack = (i d : ℕ) → i + 1 < length stack → LeadsTo (parts_at nodes (slice_index_or stack i d)) (slice_index_or stack (i + 1) d)
+IsWay nodes stack = (i one other : ℕ) → slice_get stack i ≡ Some one → slice_get stack (suc i) ≡ Some other
+    → LeadsTo (parts_at nodes one) other
+
+-- what a search from the root says of a structure in this state: the root is not new, what is open lies on the stack and has
+-- been followed up to a place, and what is kept of one that is done is true
+abbrev pub IsSaid : List (Vec Part Global) → ℕ → List State → List ℕ → ℕ → State → Type 0
+IsSaid nodes root states stack one New = one ≢ root
+IsSaid nodes root states stack one (Open next) = Contains stack one × IsDoneBefore states (parts_at nodes one) next
+IsSaid nodes root states stack one (Done summary) = (weight : Weight) × Weighs nodes one weight × IsKept weight summary
 
 -- A search from the root. On the stack is a way from it, on which each open structure lies.
 pub record IsSearch (nodes : List (Vec Part Global)) (root : ℕ) (states : List State) (stack : List ℕ) : Type 0 where
   pub long : length states ≡ length nodes
-  pub are_true : AreTrue nodes states
-  pub done_before : (one next : ℕ) → state_of states one ≡ Open next → IsDoneBefore states (parts_at nodes one) next
-  pub open_on_stack : (one next : ℕ) → state_of states one ≡ Open next → Contains stack one
+  pub said : (one : ℕ) → IsSaid nodes root states stack one (state_of states one)
   pub way : IsWay nodes stack
   pub in_nodes : All (λ one. one < length nodes) stack
-  pub begins : (d : ℕ) → 0 < length stack → slice_index_or stack 0 d ≡ root
-  pub reached : state_of states root ≢ New
+  pub begins : (one : ℕ) → slice_get stack 0 ≡ Some one → one ≡ root
 
 -- how much is left to do: two steps for each new structure, and one for each on the stack
 abbrev pub steps_of_state : State → ℕ

@@ -25,6 +25,11 @@ abbrev pub AreTrue : List (Vec Part Global) → List State → Type 0
 AreTrue nodes states = (one : ℕ) (summary : Summary) → state_of states one ≡ Done summary → (weight : Weight) × Weighs nodes one weight
     × IsKept weight summary
 
+-- the structures to which the parts refer are done
+abbrev pub AreDone : List State → List Part → Type 0
+AreDone states parts = (reference : Bor Reference) (target : ℕ) → Contains parts (Copies reference target)
+    → (summary : Summary) × (state_of states target ≡ Done summary)
+
 -- what is kept of the weights of the structures to which the parts refer stands in the states
 abbrev pub AreWeighed : List State → (ℕ → Weight) → List Part → Type 0
 AreWeighed states of parts = (reference : Bor Reference) (target : ℕ) → Contains parts (Copies reference target)

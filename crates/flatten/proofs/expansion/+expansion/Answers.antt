@@ -3,13 +3,10 @@ use Rattle.lists.proofs.Words.{length-range_with_len}
 use Rattle.flatten.specs.inside.Ends.{routes_below}
 use Rattle.flatten.proofs.SearchLaws.{parts_read}
 use Rattle.flatten.proofs.ExpansionLaws.{by_parts, by_rows, by_columns, by_copies, nothing_left}
-use Rattle.flatten.proofs.GrowthLaws.{number_more, number_is, none_followed, one_followed, one_refuses, all_followed, nothing_placed, end_placed, stepped}
+use Rattle.flatten.proofs.GrowthLaws.{number_more, number_is, one_followed, one_refuses, all_followed, nothing_placed, end_placed, stepped}
 use Rattle.flatten.proofs.expansion.+expansion.Goals as goal
 
 -- part by part
-pub expand-loop-part-init : goal.expand-loop-part-init
-expand-loop-part-init t c = none_followed
-
 pub expand-expand_part-requires : goal.expand-expand_part-requires
 expand-expand_part-requires t c =
     let read = parts_read c.args.nodes.now c.args.one c.index-nodes-one.result c.as_slice-part-items.result.now c.as_slice-part-items.ensures.value c.requires.there c.index-nodes-one.is in
@@ -52,9 +49,6 @@ expand_part-returns-else-way-eq0 t c =
     rw (k.is, by_copies c.args.nodes.now left (left - 1) c.args.one k.target k.reference more) c.expand_copies.ensures
 
 -- row by row
-pub expand_copies-loop-row-init : goal.expand_copies-loop-row-init
-expand_copies-loop-row-init t c = none_followed
-
 pub expand_copies-expand_row-requires : goal.expand_copies-expand_row-requires
 expand_copies-expand_row-requires t c = (omega arith, (c.requires.followed, (c.requires.there, (c.requires.more, omega (arith, c.rows-row-end.ensures.few)))))
 
@@ -73,9 +67,6 @@ expand_copies-returns t c =
     (rw (length-range_with_len 0 c.rows-row-end.result) c.loop-row-test.false)
 
 -- column by column
-pub expand_row-loop-column-init : goal.expand_row-loop-column-init
-expand_row-loop-column-init t c = none_followed
-
 pub expand_row-expand-requires : goal.expand_row-expand-requires
 expand_row-expand-requires t c = (omega (arith, c.on.ensures.left), (c.requires.followed, c.requires.there))
 

@@ -43,6 +43,3 @@ loop-node-init c = rw (c.in_ok-marks.ensures.items_if_clones_equal (λ y e. e)) 
   marked = λ other one h. absurd (omega arith);
   only = λ one marked. let none = as_made (length c.args.nodes.now) one false in cc marked;
 })
-
-pub returns-clause-only : goal.returns-clause-only
-returns-clause-only c = c.loop-node.invariant.only

@@ -1,12 +1,11 @@
-use Rattle.std.proofs.Common.{take_all, subst, All}
+use Rattle.std.proofs.Common.{take_all}
 use Rattle.first_refusal.specs.Answers.{gives}
 use Rattle.first_refusal.specs.Checks.{all_hold}
 use Rattle.first_refusal.proofs.AnswerLaws.{handed_on}
 use Rattle.first_refusal.proofs.JudgeLaws.{given, passed}
-use Rattle.map_model.specs.MapNames.{layer_map_of}
-use Rattle.lists.proofs.Words.{flat_map, All-nil}
+use Rattle.lists.proofs.Words.{All-nil}
 use Rattle.flatten.specs.Structures.{references_among}
-use Rattle.flatten.specs.inside.Parts.{IsKnown, AreNodes}
+use Rattle.flatten.specs.inside.Parts.{IsKnown}
 use Rattle.flatten.specs.declared.fault.PlaceFault.TheVariants.{UnknownStructure}
 use Rattle.flatten.proofs.FirstLaws.{refused_at, hold_at}
 use Rattle.flatten.proofs.parts.nodes_of.Goals as goal
@@ -34,6 +33,4 @@ loop-structure-init c = record {
 pub returns : goal.returns
 returns c =
     let all = take_all c.loop-structure.structure-index c.args.structures.now c.loop-structure-test.false in
-    gives (all_hold
-    (subst (λ es. All (IsKnown c.args.index.now) (flat_map (λ structure. references_among structure.elements) es)) all c.loop-structure.invariant.known)
-    (subst (λ es. AreNodes c.args.index.now (layer_map_of c.args.map.now) es c.loop-structure.nodes.items) all c.loop-structure.invariant.nodes))
+    gives (all_hold (rw all at c.loop-structure.invariant.known) (rw all at c.loop-structure.invariant.nodes))

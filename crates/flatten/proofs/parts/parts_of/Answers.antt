@@ -1,12 +1,12 @@
-use Rattle.std.proofs.Common.{take_all, subst, All}
-use Rattle.lists.proofs.Words.{flat_map, enumerate_from, All-nil, length-enumerate_from}
+use Rattle.std.proofs.Common.{take_all}
+use Rattle.lists.proofs.Words.{enumerate_from, All-nil, length-enumerate_from}
 use Rattle.first_refusal.specs.Answers.{gives}
 use Rattle.first_refusal.specs.Checks.{all_hold}
 use Rattle.first_refusal.proofs.AnswerLaws.{handed_on}
 use Rattle.first_refusal.proofs.JudgeLaws.{given, passed}
 use Rattle.map_model.specs.MapNames.{layer_map_of}
 use Rattle.flatten.specs.Structures.{references_in}
-use Rattle.flatten.specs.inside.Parts.{IsKnown, AreParts, no_more}
+use Rattle.flatten.specs.inside.Parts.{IsKnown, no_more}
 use Rattle.flatten.specs.declared.fault.PlaceFault.TheVariants.{UnknownStructure}
 use Rattle.flatten.proofs.FirstLaws.{refused_at, hold_at}
 use Rattle.flatten.proofs.PartLaws.{one_element_more}
@@ -41,8 +41,6 @@ loop-place-preserved c =
 pub returns : goal.returns
 returns c =
     let elements = c.args.structure.now.elements in
-    gives (all_hold
-    (subst (λ es. All (IsKnown c.args.index.now) (flat_map references_in es)) (take_all c.loop-place.place elements (rw (← c.as_slice-elements.ensures) c.loop-place-test.false))
-    c.loop-place.invariant.known)
-    (subst (λ es. AreParts c.args.index.now (layer_map_of c.args.map.now) es c.loop-place.parts.items)
-    (take_all c.loop-place.place (enumerate_from 0 elements) (rw (length-enumerate_from 0 elements, ← c.as_slice-elements.ensures) c.loop-place-test.false)) c.loop-place.invariant.parts))
+    let past = rw c.as_slice-elements.ensures at c.loop-place-test.false in
+    let numbered = take_all c.loop-place.place (enumerate_from 0 elements) (rw (length-enumerate_from 0 elements) past) in
+    gives (all_hold (rw (take_all c.loop-place.place elements past) at c.loop-place.invariant.known) (rw numbered at c.loop-place.invariant.parts))

@@ -1,4 +1,4 @@
-use Rattle.std.proofs.Common.{[], ◌≡◌, ◌∙◌, sym, subst}
+use Rattle.std.proofs.Common.{ℕ, [], ◌++◌, ◌≡◌, ◌∙◌, drop, length, sym, subst, take}
 use Rattle.first_refusal.specs.Answers.{gives}
 use Rattle.first_refusal.specs.Checks.{all_hold}
 use Rattle.first_refusal.proofs.AnswerLaws.{handed_on}
@@ -17,30 +17,25 @@ pub prune-requires-clause-done : goal.prune-requires-clause-done
 prune-requires-clause-done c = rw (c.as_mut_slice.ensures.value, c.as_slice.ensures.value) (all_done c.args.plan.now c.requires)
 
 -- what is left after pruning is what is read then
-pruned : (nodes slice new back : Nodes) → slice ≡ nodes → IsPruned slice new → back ≡ new → IsPruned nodes back
-pruned nodes slice new back read is same = rw same (subst (λ all. IsPruned all new) read is)
+pruned : {n : ℕ} {nodes slice new back : Nodes} → slice ≡ nodes → IsPruned slice new → back ≡ take n (new ++ drop (length new) nodes) → length new ≡ n → IsPruned nodes back
+pruned {n} {nodes} {slice} {new} read is rest long = rw (rest, put_back n new nodes (sym long)) (subst (λ all. IsPruned all new) read is)
 
 pub expand-requires-clause-followed : goal.expand-requires-clause-followed
-expand-requires-clause-followed c =
-    still_below c.args.plan.now c.requires c.as_slice-2.result.now (pruned c.args.plan.now.nodes.items c.as_mut_slice.result.now c.prune.new.nodes c.as_slice-2.result.now
-    c.as_mut_slice.ensures.value c.prune.ensures (c.as_slice-2.ensures.value ∙ put_back _ c.prune.new.nodes _ (sym (c.prune.auto.nodes ∙ c.as_mut_slice.ensures.len))))
+expand-requires-clause-followed c = still_below c.args.plan.now c.requires
+    (pruned c.as_mut_slice.ensures.value c.prune.ensures c.as_slice-2.ensures.value (c.prune.auto.nodes ∙ c.as_mut_slice.ensures.len))
 
 pub expand-requires-clause-there : goal.expand-requires-clause-there
-expand-requires-clause-there c =
-    still_there c.args.plan.now c.requires c.as_slice-2.result.now (pruned c.args.plan.now.nodes.items c.as_mut_slice.result.now c.prune.new.nodes c.as_slice-2.result.now
-    c.as_mut_slice.ensures.value c.prune.ensures (c.as_slice-2.ensures.value ∙ put_back _ c.prune.new.nodes _ (sym (c.prune.auto.nodes ∙ c.as_mut_slice.ensures.len))))
+expand-requires-clause-there c = still_there c.args.plan.now c.requires
+    (pruned c.as_mut_slice.ensures.value c.prune.ensures c.as_slice-2.ensures.value (c.prune.auto.nodes ∙ c.as_mut_slice.ensures.len))
 
 pub returns-in_err-expand : goal.returns-in_err-expand
 returns-in_err-expand c =
-    let is = pruned c.args.plan.now.nodes.items c.as_mut_slice.result.now c.prune.new.nodes c.as_slice-2.result.now c.as_mut_slice.ensures.value c.prune.ensures
-    (c.as_slice-2.ensures.value ∙ put_back _ c.prune.new.nodes _ (sym (c.prune.auto.nodes ∙ c.as_mut_slice.ensures.len))) in
-    let told = rw (c.at_top.ensures.left, routes_behind_none c.args.plan.now c.requires c.as_slice-2.result.now is 256) at (c.in_err-expand.ensures [] c.at_top.ensures.moves) in
+    let is = pruned c.as_mut_slice.ensures.value c.prune.ensures c.as_slice-2.ensures.value (c.prune.auto.nodes ∙ c.as_mut_slice.ensures.len) in
+    let told = rw (c.at_top.ensures.left, routes_behind_none c.args.plan.now c.requires is 256) at (c.in_err-expand.ensures [] c.at_top.ensures.moves) in
     handed_on _ _ c.from_residual-in_err-expand.result _ c.from_residual-in_err-expand.ensures.1 (unread _ _ _ _ _ c.in_err-expand.field-0.0 told)
 
 pub returns : goal.returns
 returns c =
-    let is = pruned c.args.plan.now.nodes.items c.as_mut_slice.result.now c.prune.new.nodes c.as_slice-2.result.now c.as_mut_slice.ensures.value c.prune.ensures
-    (c.as_slice-2.ensures.value ∙ put_back _ c.prune.new.nodes _ (sym (c.prune.auto.nodes ∙ c.as_mut_slice.ensures.len))) in
-    let told = rw (c.at_top.ensures.left, routes_behind_none c.args.plan.now c.requires c.as_slice-2.result.now is 256, c.in_ok-placed.ensures.items)
-    at (c.in_ok-expand.ensures [] c.at_top.ensures.moves) in
+    let is = pruned c.as_mut_slice.ensures.value c.prune.ensures c.as_slice-2.ensures.value (c.prune.auto.nodes ∙ c.as_mut_slice.ensures.len) in
+    let told = rw (c.at_top.ensures.left, routes_behind_none c.args.plan.now c.requires is 256, c.in_ok-placed.ensures.items) at (c.in_ok-expand.ensures [] c.at_top.ensures.moves) in
     gives (all_hold (passed told) (λ layer_map have. given told layer_map (pruned_layers c.args.plan.now.nodes.items c.as_slice-2.result.now is layer_map have)))

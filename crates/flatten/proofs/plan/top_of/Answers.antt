@@ -9,19 +9,16 @@ only_unmarked-requires-clause-long c =
 
 pub returns-in-Some-find : goal.returns-in-Some-find
 returns-in-Some-find c =
-    let known = c.requires.surveyed.1 in
-    rw c.in-Some.is (name_chosen c.args.structures.now c.requires.surveyed.0 c.args.nodes.now known.nodes_are known.known known.weighed c.in-Some.name.now c.in-Some-find.top
+    rw c.in-Some.is (name_chosen c.requires.surveyed.1 c.in-Some.name.now c.in-Some-find.top
     (sym (rw (c.in-Some-find.is, c.requires.indexed.names) at c.find.ensures.place)))
 
 pub returns-in-None-find : goal.returns-in-None-find
 returns-in-None-find c =
-    let known = c.requires.surveyed.1 in
-    rw c.in-Some.is (name_refused c.args.structures.now c.requires.surveyed.0 c.args.nodes.now known.nodes_are known.known known.weighed c.in-Some.name.now
+    rw c.in-Some.is (name_refused c.requires.surveyed.1 c.in-Some.name.now
     (sym (rw (c.in-None-find.is, c.requires.indexed.names) at c.find.ensures.place)))
 
 pub returns-in_ok-marks-in-None : goal.returns-in_ok-marks-in-None
 returns-in_ok-marks-in-None c =
-    let known = c.requires.surveyed.1 in
     let told = rw (← c.as_slice.ensures.value) at c.in_ok-marks-in-None.ensures in
-    rw c.in-None.is (marks_tell c.args.structures.now c.requires.surveyed.0 c.args.nodes.now known.nodes_are known.known known.weighed c.as_slice.result.now told.marked told.only
+    rw c.in-None.is (marks_tell c.requires.surveyed.1 c.as_slice.result.now told.marked told.only
     c.only_unmarked.result c.only_unmarked.ensures.only c.only_unmarked.ensures.fault)

@@ -1,6 +1,6 @@
 use Rattle.std.proofs.Common.{sym, subst, Vec}
 use Rattle.lists.proofs.Words.{Global}
-use Rattle.flatten.specs.inside.Prunings.{AreDone}
+use Rattle.flatten.specs.inside.Surveys.{AreDone}
 use Rattle.flatten.specs.declared.part.Part.{Part}
 use Rattle.flatten.proofs.PruningLaws.{all_pruned, node_done, one_pruned}
 use Rattle.flatten.proofs.pruning.prune.Goals as goal

@@ -1,8 +1,6 @@
-use Rattle.std.proofs.Common.{◌≡◌, get_or, inl, inr, sym, ap, subst, ◌∙◌, arith, Contains}
-use Rattle.lists.proofs.Words.{cases_lt, get_or_from_slice_get}
-use Rattle.flatten.specs.inside.Surveys.{state_of}
-use Rattle.flatten.specs.declared.part.Part.TheVariants.{Copies}
-use Rattle.flatten.specs.declared.summary.State.TheVariants.{Done}
+use Rattle.std.proofs.Common.{◌≡◌, inl, inr, sym, subst, take_all, ◌∙◌, arith, length, Contains}
+use Rattle.lists.proofs.Containing.{Contains-take_cases}
+use Rattle.flatten.specs.inside.Surveys.{AreDone}
 use Rattle.flatten.proofs.search.next_undone.Goals as goal
 use Rattle.flatten.proofs.search.next_undone.Goals.{in-Copies+in-Done, in_default}
 
@@ -19,17 +17,18 @@ returns-in_default-states c = record {
 }
 
 pub loop-place-preserved : goal.loop-place-preserved
-loop-place-preserved c k reference target h is =
-    elim (cases_lt k c.loop-place.place) [
-      | inl before ↦ c.loop-place.invariant k reference target before is
-      | inr here ↦
-          let same : k ≡ c.loop-place.place = omega arith in
-          let item : c.index-parts-place.result ≡ Copies reference target
-          = c.index-parts-place.is ∙ ap (λ i. get_or c.args.parts.now i c.index-parts-place.result) (sym same)
-          ∙ get_or_from_slice_get c.args.parts.now k (Copies reference target) c.index-parts-place.result is in
-          elim c.match-parts-place.branch [
-            | in-Copies+in-Done w ↦ let alike : w.in-Copies.target ≡ target = cc w.in-Copies.is in
-                (w.in-Done.field-0, subst (λ x. state_of c.args.states.now x ≡ Done w.in-Done.field-0) alike w.in-Done.is)
-            | in_default w ↦ absurd (w.in_default.not-Copies reference target item)
-          ]
+loop-place-preserved c reference target there =
+    elim (Contains-take_cases c.args.parts.now c.loop-place.place c.index-parts-place.result _ c.loop-place-test.true there) [
+      | inl before ↦ c.loop-place.invariant reference target before
+      | inr here ↦ elim c.match-parts-place.branch [
+        | in-Copies+in-Done w ↦
+            let alike : w.in-Copies.target ≡ target = cc (here, w.in-Copies.is, c.index-parts-place.is) in
+            (w.in-Done.field-0, rw alike at w.in-Done.is)
+        | in_default w ↦ absurd (w.in_default.not-Copies reference target (c.index-parts-place.is ∙ here))
+      ]
     ]
+
+pub returns-clause-none : goal.returns-clause-none
+returns-clause-none c =
+    let parts = c.args.parts.now in
+    subst (AreDone c.args.states.now) (take_all c.loop-place.place parts c.loop-place-test.false ∙ sym (take_all (length parts) parts (omega arith))) c.loop-place.invariant

@@ -1,4 +1,4 @@
-use Rattle.std.proofs.Common.{◌≡◌, ◌≤◌, ◌+◌, ◌-◌, [], ◌∷◌, ◌++◌, length, length-append, take, vec_len, sym, ap, subst, ◌∙◌, arith}
+use Rattle.std.proofs.Common.{◌≡◌, ◌≤◌, ◌+◌, [], ◌∷◌, ◌++◌, length, length-append, sym, ap, subst, ◌∙◌, arith}
 use Rattle.flatten.specs.inside.Searches.{IsSearch, steps_left}
 use Rattle.flatten.proofs.SearchLaws.{begins_search, begins_keeping, ends_settled, ends_done}
 use Rattle.flatten.proofs.search.search.Goals as goal
@@ -7,8 +7,8 @@ pub loop-one-init : goal.loop-one-init
 loop-one-init c =
     let items : c.push.new.self.items ≡ c.args.root ∷ [] = c.in_ok-push.ensures.items ∙ ap (λ l. l ++ c.args.root ∷ []) c.requires.empty in
     record {
-      search = subst (IsSearch _ _ _) (sym items) (begins_search c.args.nodes.now c.args.root c.args.states.now c.requires.long c.requires.root c.requires.new c.requires.settled);
-      kept = begins_keeping c.args.nodes.now c.args.root c.args.states.now c.requires.long c.requires.root c.requires.new c.requires.settled;
+      search = subst (IsSearch _ _ _) (sym items) (begins_search c.requires.settled c.requires.long c.requires.root c.requires.new);
+      kept = begins_keeping c.requires.settled c.requires.long c.requires.root c.requires.new;
     }
 
 pub step-requires-clause-search : goal.step-requires-clause-search
@@ -21,28 +21,13 @@ loop-one-preserved c = record {
 }
 
 pub returns-clause-settled : goal.returns-clause-settled
-returns-clause-settled c =
-    let first : vec_len c.loop-one.stack - 1 ≡ 0 = omega (arith, c.in_default.ensures.cases.0) in
-    let left : c.pop.new.self.items ≡ [] = c.in_default.ensures.rest ∙ ap (λ n. take n c.loop-one.stack.items) first in
-    ends_settled c.args.nodes.now c.args.root c.loop-one.states c.loop-one.stack.items c.loop-one.invariant.search (c.in_default.ensures.items ∙ ap (λ l. l ++ []) left)
+returns-clause-settled c = ends_settled c.loop-one.invariant.search (omega (arith, c.in_default.ensures.cases.0))
 
 pub returns-clause-done : goal.returns-clause-done
-returns-clause-done c =
-    let first : vec_len c.loop-one.stack - 1 ≡ 0 = omega (arith, c.in_default.ensures.cases.0) in
-    let left : c.pop.new.self.items ≡ [] = c.in_default.ensures.rest ∙ ap (λ n. take n c.loop-one.stack.items) first in
-    ends_done c.args.nodes.now c.args.root c.loop-one.states c.loop-one.stack.items c.loop-one.invariant.search (c.in_default.ensures.items ∙ ap (λ l. l ++ []) left)
-
-pub step-requires-clause-below : goal.step-requires-clause-below
-step-requires-clause-below c = c.requires.below
-
-pub bounds-states-root : goal.bounds-states-root
-bounds-states-root c = rw c.requires.long c.requires.root
+returns-clause-done c = ends_done c.loop-one.invariant.search (omega (arith, c.in_default.ensures.cases.0))
 
 pub loop-one-smaller : goal.loop-one-smaller
 loop-one-smaller c =
     let less : steps_left c.step.new.states c.step.new.stack.items ≤ steps_left c.loop-one.states c.pop.new.self.items = c.in_ok-step.ensures.less in
     let popped : length c.loop-one.stack.items ≡ length c.pop.new.self.items + 1 = ap length c.in-Some.ensures.items ∙ length-append c.pop.new.self.items (c.in-Some.one ∷ []) in
     omega arith
-
-pub returns-clause-kept : goal.returns-clause-kept
-returns-clause-kept c = c.loop-one.invariant.kept

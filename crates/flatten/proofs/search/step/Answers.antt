@@ -1,116 +1,60 @@
-use Rattle.std.proofs.Common.{◌≡◌, ◌≤◌, ◌<◌, ◌∷◌, [], ◌++◌, length, set, sym, ap, subst, ◌∙◌, arith, length-set}
-use Rattle.flatten.specs.inside.Parts.{AreBelow, LeadsTo, parts_at}
-use Rattle.flatten.specs.inside.Weights.{weight_over}
-use Rattle.flatten.specs.inside.Surveys.{state_of}
-use Rattle.flatten.specs.inside.Searches.{IsDoneBefore, IsSearch, steps_left}
-use Rattle.flatten.specs.declared.summary.Summary.{Summary}
-use Rattle.flatten.specs.declared.summary.State.TheVariants.{New, Open, Done}
-use Rattle.flatten.proofs.SearchLaws.{is_new, weight_at, are_weighed, weigh_all, parts_last, passed_over, chains_from_root, one_in_nodes, one_within, keeps_done, no_more_left, done_now, goes_on, keeps_done_pushed, fewer_left}
+use Rattle.std.proofs.Common.{◌≡◌, ◌∷◌, [], ◌++◌, sym, ap, take_all, ◌∙◌, arith, length, length-set}
+use Rattle.flatten.specs.inside.Surveys.{AreDone}
+use Rattle.flatten.specs.declared.summary.State.TheVariants.{Open}
+use Rattle.flatten.proofs.SearchLaws.{is_new, parts_last, below_last, open_said, passed_over, chains_from_root, done_now, goes_on}
 use Rattle.flatten.proofs.search.step.Goals as goal
 
 pub returns-in_default : goal.returns-in_default
-returns-in_default c = record {
-  search = passed_over c.args.nodes.now c.args.root c.args.states.now c.args.stack.now.items c.args.one c.requires.search (λ next e. c.in_default.not-Open next e);
-  cycle = tt;
-  kept = λ one summary e. e;
-  less = omega arith;
-}
+returns-in_default c =
+    let on = passed_over c.args.stack.now.items c.args.one c.requires.search c.in_default.not-Open in
+    record { search = on.search; cycle = tt; kept = on.kept; less = on.less }
 
 pub next_undone-requires-clause-below : goal.next_undone-requires-clause-below
-next_undone-requires-clause-below c =
-    let parts = parts_last c.args.nodes.now c.args.root _ c.args.stack.now.items c.args.one c.requires.search _ _ c.as_slice-parts.ensures.value c.index-nodes-one.is in
-    subst (λ count. AreBelow count c.as_slice-parts.result.now) (sym c.requires.search.long) (subst (AreBelow (length c.args.nodes.now)) (sym parts) (c.requires.below c.args.one))
+next_undone-requires-clause-below c = below_last c.args.stack.now.items c.args.one c.requires.search c.requires.below c.as_slice-parts.ensures.value c.index-nodes-one.is
 
 pub next_undone-requires-clause-before : goal.next_undone-requires-clause-before
 next_undone-requires-clause-before c =
-    let parts = parts_last c.args.nodes.now c.args.root _ c.args.stack.now.items c.args.one c.requires.search _ _ c.as_slice-parts.ensures.value c.index-nodes-one.is in
-    subst (λ p. IsDoneBefore c.args.states.now p c.in-Open.next) (sym parts) (c.requires.search.done_before c.args.one c.in-Open.next c.in-Open.is)
+    let parts = parts_last c.args.stack.now.items c.args.one c.requires.search c.as_slice-parts.ensures.value c.index-nodes-one.is in
+    rw parts (open_said c.args.stack.now.items c.args.one c.requires.search c.args.one c.in-Open.next c.in-Open.is).1
 
 pub summary_of-requires : goal.summary_of-requires
-summary_of-requires c =
-    let parts = parts_last c.args.nodes.now c.args.root _ c.args.stack.now.items c.args.one c.requires.search _ _ c.as_slice-parts.ensures.value c.index-nodes-one.is in
-    subst (λ count. AreBelow count c.as_slice-parts.result.now) (sym c.requires.search.long) (subst (AreBelow (length c.args.nodes.now)) (sym parts) (c.requires.below c.args.one))
+summary_of-requires c = below_last c.args.stack.now.items c.args.one c.requires.search c.requires.below c.as_slice-parts.ensures.value c.index-nodes-one.is
 
 pub bounds-in-Some : goal.bounds-in-Some
 bounds-in-Some c =
-    let parts = parts_last c.args.nodes.now c.args.root _ c.args.stack.now.items c.args.one c.requires.search _ _ c.as_slice-parts.ensures.value c.index-nodes-one.is in
-    let leads = c.in-Some.ensures.leads in
-    let h : c.in-Some.other < length c.args.nodes.now = subst (AreBelow (length c.args.nodes.now)) (sym parts) (c.requires.below c.args.one) leads.0 c.in-Some.other leads.1 in
-    omega (arith, c.requires.search.long)
+    let below = below_last c.args.stack.now.items c.args.one c.requires.search c.requires.below c.as_slice-parts.ensures.value c.index-nodes-one.is in
+    below c.in-Some.ensures.leads.0 c.in-Some.other c.in-Some.ensures.leads.1
 
 pub bounds-states-other : goal.bounds-states-other
 bounds-states-other c =
-    let parts = parts_last c.args.nodes.now c.args.root _ c.args.stack.now.items c.args.one c.requires.search _ _ c.as_slice-parts.ensures.value c.index-nodes-one.is in
-    let leads = c.in-Some.ensures.leads in
-    let h : c.in-Some.other < length c.args.nodes.now = subst (AreBelow (length c.args.nodes.now)) (sym parts) (c.requires.below c.args.one) leads.0 c.in-Some.other leads.1 in
-    omega (arith, c.requires.search.long, length-set c.args.states.now c.args.one (Open c.in-Some.place))
-
-pub bounds-nodes-one : goal.bounds-nodes-one
-bounds-nodes-one c = one_in_nodes c.args.nodes.now c.args.root c.args.states.now c.args.stack.now.items c.args.one c.requires.search
-
-pub bounds-states-one : goal.bounds-states-one
-bounds-states-one c = one_within c.args.nodes.now c.args.root c.args.states.now c.args.stack.now.items c.args.one c.requires.search
-
-pub bounds-states-one-in-None : goal.bounds-states-one-in-None
-bounds-states-one-in-None c = one_within c.args.nodes.now c.args.root c.args.states.now c.args.stack.now.items c.args.one c.requires.search
-
-pub bounds-states-one-in-Some : goal.bounds-states-one-in-Some
-bounds-states-one-in-Some c = one_within c.args.nodes.now c.args.root c.args.states.now c.args.stack.now.items c.args.one c.requires.search
+    let below = below_last c.args.stack.now.items c.args.one c.requires.search c.requires.below c.as_slice-parts.ensures.value c.index-nodes-one.is in
+    let h = below c.in-Some.ensures.leads.0 c.in-Some.other c.in-Some.ensures.leads.1 in
+    omega (arith, length-set c.args.states.now c.args.one (Open c.in-Some.place))
 
 pub returns-in-Open-states : goal.returns-in-Open-states
 returns-in-Open-states c =
-    let parts = parts_last c.args.nodes.now c.args.root _ c.args.stack.now.items c.args.one c.requires.search _ _ c.as_slice-parts.ensures.value c.index-nodes-one.is in
+    let parts = parts_last c.args.stack.now.items c.args.one c.requires.search c.as_slice-parts.ensures.value c.index-nodes-one.is in
     record {
       search = tt;
-      cycle = chains_from_root c.args.nodes.now c.args.root c.args.states.now c.args.stack.now.items c.args.one c.requires.search c.in-Some.other c.in-Open-states.field-0
-          (subst (λ p. LeadsTo p c.in-Some.other) parts c.in-Some.ensures.leads) c.in-Open-states.is;
+      cycle = chains_from_root c.args.stack.now.items c.args.one c.requires.search c.in-Some.other c.in-Open-states.field-0 (rw parts at c.in-Some.ensures.leads) c.in-Open-states.is;
       kept = λ one summary e. e;
       less = omega arith;
     }
 
 pub returns-in-None : goal.returns-in-None
 returns-in-None c =
-    let parts = parts_last c.args.nodes.now c.args.root _ c.args.stack.now.items c.args.one c.requires.search _ _ c.as_slice-parts.ensures.value c.index-nodes-one.is in
-    let nodes = c.args.nodes.now in
-    let states = c.args.states.now in
-    let stack = c.args.stack.now.items in
-    let these = c.as_slice-parts.result.now in
-    let true_so_far = c.requires.search.are_true in
-    let not_done = λ (s : Summary) (e : state_of states c.args.one ≡ Done s). let was = c.in-Open.is in let no : ⊥ = cc e in no in
-    record {
-      search = done_now nodes c.args.root states stack c.args.one c.requires.search c.summary_of.result not_done (
-        weight_over (weight_at nodes states true_so_far) these,
-        weigh_all nodes states true_so_far these c.in-None.ensures.none c.args.one parts,
-        c.summary_of.ensures (weight_at nodes states true_so_far)
-            (are_weighed nodes states true_so_far these c.in-None.ensures.none),
-      );
-      cycle = tt;
-      kept = keeps_done nodes c.args.root states stack c.args.one c.requires.search c.summary_of.result not_done;
-      less = no_more_left nodes c.args.root states stack c.args.one c.requires.search c.summary_of.result not_done;
-    }
+    let parts = parts_last c.args.stack.now.items c.args.one c.requires.search c.as_slice-parts.ensures.value c.index-nodes-one.is in
+    let done : AreDone c.args.states.now c.as_slice-parts.result.now = rw (← take_all (length c.as_slice-parts.result.now) c.as_slice-parts.result.now (omega arith)) c.in-None.ensures.none in
+    let on = done_now c.args.stack.now.items c.args.one c.requires.search c.in-Open.next c.in-Open.is c.summary_of.result (rw parts at done) (rw parts at c.summary_of.ensures) in
+    record { search = on.search; cycle = tt; kept = on.kept; less = on.less }
 
 pub returns-in_ok-push-in-Some-2 : goal.returns-in_ok-push-in-Some-2
 returns-in_ok-push-in-Some-2 c =
-    let parts = parts_last c.args.nodes.now c.args.root _ c.args.stack.now.items c.args.one c.requires.search _ _ c.as_slice-parts.ensures.value c.index-nodes-one.is in
-    let nodes = c.args.nodes.now in
-    let states = c.args.states.now in
-    let stack = c.args.stack.now.items in
-    let other = c.in-Some.other in
-    let place = c.in-Some.place in
-    let leads = c.in-Some.ensures.leads in
-    let within : other < length nodes = subst (AreBelow (length nodes)) (sym parts) (c.requires.below c.args.one) leads.0 other leads.1 in
-    let new : state_of states other ≡ New = is_new (state_of states other) c.in_default-states.not-Open c.in-Some.ensures.undone in
-    let leads_on : LeadsTo (parts_at nodes c.args.one) other = subst (λ p. LeadsTo p other) parts leads in
-    let done : IsDoneBefore states (parts_at nodes c.args.one) place = subst (λ p. IsDoneBefore states p place) parts c.in-Some.ensures.before in
-    let not_done = λ (s : Summary) (e : state_of states c.args.one ≡ Done s). let was = c.in-Open.is in let no : ⊥ = cc e in no in
-    let not_new = λ (e : state_of states c.args.one ≡ New). let was = c.in-Open.is in let no : ⊥ = cc e in no in
-    let items : (stack ++ c.args.one ∷ []) ++ other ∷ [] ≡ c.push-in-Some.new.self.items = ap (λ l. l ++ other ∷ []) (sym c.in_ok-push-in-Some.ensures.items)
-    ∙ sym c.in_ok-push-in-Some-2.ensures.items in
-    record {
-      search = subst (IsSearch nodes c.args.root (set (set states c.args.one (Open place)) other (Open 0))) items
-          (goes_on nodes c.args.root states stack c.args.one c.requires.search other place not_done new within leads_on done not_new);
-      cycle = tt;
-      kept = keeps_done_pushed nodes c.args.root states stack c.args.one c.requires.search other place not_done new within leads_on done not_new;
-      less = subst (λ l. steps_left (set (set states c.args.one (Open place)) other (Open 0)) l ≤ steps_left states stack) items
-          (fewer_left nodes c.args.root states stack c.args.one c.requires.search other place not_done new within leads_on done not_new);
-    }
+    let parts = parts_last c.args.stack.now.items c.args.one c.requires.search c.as_slice-parts.ensures.value c.index-nodes-one.is in
+    let below = below_last c.args.stack.now.items c.args.one c.requires.search c.requires.below c.as_slice-parts.ensures.value c.index-nodes-one.is in
+    let found = c.in-Some.ensures in
+    let on = goes_on c.args.stack.now.items c.args.one c.requires.search c.in-Open.next c.in-Open.is c.in-Some.other c.in-Some.place
+    (is_new _ c.in_default-states.not-Open found.undone) (rw parts at found.leads) (below found.leads.0 c.in-Some.other found.leads.1) (rw parts at found.before) in
+    let items : (c.args.stack.now.items ++ c.args.one ∷ []) ++ c.in-Some.other ∷ [] ≡ c.push-in-Some.new.self.items
+    = ap (λ l. l ++ c.in-Some.other ∷ []) (sym c.in_ok-push-in-Some.ensures.items) ∙ sym c.in_ok-push-in-Some-2.ensures.items in
+    rw (← items) (record { search = on.search; cycle = tt; kept = on.kept; less = on.less })

@@ -41,20 +41,5 @@ loop-root-init c = rw (c.in_ok-states.ensures.items_if_clones_equal (λ y e. e))
   done = λ one h. absurd (omega arith);
 })
 
-pub survey_from-requires-clause-below : goal.survey_from-requires-clause-below
-survey_from-requires-clause-below c = c.requires.below
-
-pub survey_from-requires-clause-long : goal.survey_from-requires-clause-long
-survey_from-requires-clause-long c = ap length c.deref_mut.ensures.value ∙ c.loop-root.invariant.long
-
-pub survey_from-requires-clause-root : goal.survey_from-requires-clause-root
-survey_from-requires-clause-root c = rw c.requires.long c.loop-root-test.true
-
-pub survey_from-requires-clause-settled : goal.survey_from-requires-clause-settled
-survey_from-requires-clause-settled c = rw c.deref_mut.ensures.value c.loop-root.invariant.settled
-
-pub bounds-structures-root : goal.bounds-structures-root
-bounds-structures-root c = c.loop-root-test.true
-
 pub returns-clause-answers : goal.returns-clause-answers
 returns-clause-answers c = gives (record { settled = c.loop-root.invariant.settled; done = λ one h. c.loop-root.invariant.done one (omega arith) })

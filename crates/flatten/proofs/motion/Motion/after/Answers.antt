@@ -1,7 +1,7 @@
 use Rattle.std.proofs.Common.{suc, ◌≤◌, ◌^◌, ◌*◌, ◌≡◌, nat_abs, ◌+ℤ◌, to_z, of_z, w64, arith}
 use Rattle.lists.proofs.Words.{ints}
-use Rattle.geo_core.specs.Plane.{image_under}
-use Rattle.flatten.proofs.MotionLaws.{at, moves_behind, turned_across, turned_up}
+use Rattle.geo_core.proofs.TurnLaws.{at}
+use Rattle.flatten.proofs.MotionLaws.{moves_behind}
 use Rattle.flatten.proofs.motion.Motion.after.Goals as goal
 
 pub returns-clause-moves : goal.returns-clause-moves
@@ -11,8 +11,8 @@ returns-clause-moves c =
     let turned = c.turned-across in
     let x-same : to_z w64 (of_z w64 inner.dx) ≡ inner.dx = omega (arith, ints, c.requires.inner_reach.across) in
     let y-same : to_z w64 (of_z w64 inner.dy) ≡ inner.dy = omega (arith, ints, c.requires.inner_reach.up) in
-    let x-is : turned.result.0 ≡ (image_under outer.turn (at inner.dx inner.dy)).x = turned_across outer.turn inner.dx inner.dy _ _ x-same y-same turned.result.0 turned.ensures.across in
-    let y-is : turned.result.1 ≡ (image_under outer.turn (at inner.dx inner.dy)).y = turned_up outer.turn inner.dx inner.dy _ _ x-same y-same turned.result.1 turned.ensures.up in
+    let x-is = rw (x-same, y-same) at turned.ensures.across in
+    let y-is = rw (x-same, y-same) at turned.ensures.up in
     let across : to_z w64 (of_z w64 c.both_shifts.result) ≡ turned.result.0 +ℤ outer.dx = omega (arith, ints, c.requires.reach.across, turned.ensures.across_amount) in
     let up : to_z w64 (of_z w64 c.both_shifts-2.result) ≡ turned.result.1 +ℤ outer.dy = omega (arith, ints, c.requires.reach.up, turned.ensures.up_amount) in
     moves_behind outer.turn inner.turn c.after.result (at outer.dx outer.dy) (at inner.dx inner.dy) (at (to_z w64 (of_z w64 c.both_shifts.result)) (to_z w64 (of_z w64 c.both_shifts-2.result)))
