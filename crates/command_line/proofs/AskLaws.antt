@@ -64,23 +64,13 @@ module _ (values : OptionName → List Text) (positions : List Text) where
   values_few request asked task (of_one_metal {layer = n} _ layer _ _ _) others Layer = once_is_few 0 65535 (values Layer) n layer
   values_few request asked task (of_one_metal {datatype = n} _ _ datatype _ _) others Datatype = once_is_few 0 65535 (values Datatype) n datatype
   values_few request asked task (of_one_metal {radius = n} _ _ _ radius _) others Radius = once_is_few 1 1000000 (values Radius) n radius
-  values_few request asked task (of_one_metal _ _ _ _ _) others Map = none_is_few (values Map) (others Map refl)
-  values_few request asked task (of_map {map = m} _ map _) others Map = one_is_few (values Map) m map
-  values_few request asked task (of_map _ _ _) others Layer = none_is_few (values Layer) (others Layer refl)
-  values_few request asked task (of_map _ _ _) others Datatype = none_is_few (values Datatype) (others Datatype refl)
-  values_few request asked task (of_map _ _ _) others Radius = none_is_few (values Radius) (others Radius refl)
   values_few request asked task (of_one_metal {top = t} _ _ _ _ top) others Top = given_is_few (values Top) t top
+  values_few request asked task (of_map {map = m} _ map _) others Map = one_is_few (values Map) m map
   values_few request asked task (of_map {top = t} _ _ top) others Top = given_is_few (values Top) t top
-  values_few request asked task (of_one_metal _ _ _ _ _) others Generate = none_is_few (values Generate) (others Generate refl)
-  values_few request asked task (of_map _ _ _) others Generate = none_is_few (values Generate) (others Generate refl)
   values_few request asked task (of_generator {columns = n} _ columns) others Generate = once_is_few 1 500 (values Generate) n columns
-  values_few request asked task (of_generator _ _) others Map = none_is_few (values Map) (others Map refl)
-  values_few request asked task (of_generator _ _) others Top = none_is_few (values Top) (others Top refl)
-  values_few request asked task (of_generator _ _) others Layer = none_is_few (values Layer) (others Layer refl)
-  values_few request asked task (of_generator _ _) others Datatype = none_is_few (values Datatype) (others Datatype refl)
-  values_few request asked task (of_generator _ _) others Radius = none_is_few (values Radius) (others Radius refl)
-  values_few request asked task _ others Tile = default_is_few 1 1000000000 (values Tile) request.edge 65536 asked.edge
-  values_few request asked task _ others Workers = default_is_few 1 64 (values Workers) request.workers 4 asked.workers
+  values_few request asked task is others Tile = default_is_few 1 1000000000 (values Tile) request.edge 65536 asked.edge
+  values_few request asked task is others Workers = default_is_few 1 64 (values Workers) request.workers 4 asked.workers
+  values_few request asked task is others name = none_is_few (values name) (others name refl)
 
 -- ---- words that give this
 

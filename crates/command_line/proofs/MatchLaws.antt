@@ -76,13 +76,7 @@ met name value rows =
 passes : (name : OptionName) (value : Text) (rows : List Row) → has_row (name_of name) rows ≡ false → turn_passes top [] (walk_with rows) (whole_word name value) ≡ true
 unfolding clap_on_literals
 passes Map value rows h = rw h refl
-passes Top value rows h = rw h refl
-passes Tile value rows h = rw h refl
-passes Workers value rows h = rw h refl
-passes Layer value rows h = rw h refl
-passes Datatype value rows h = rw h refl
-passes Radius value rows h = rw h refl
-passes Generate value rows h = rw h refl
+passes other value rows h = rw h refl
 
 -- ---- an option that is given once
 
@@ -127,28 +121,21 @@ one_step done o rest once =
 step_passes : (done : Options) (o : OptionName × Text) (rest : Options) → AreOnce (done ++ o ∷ rest) → turn_passes top [] (walk_with (rows_of_options done)) (whole_word o.0 o.1) ≡ true
 step_passes done o rest once = passes o.0 o.1 (rows_of_options done) (not_before done o.0 o.1 rest (once o.0))
 
--- the walk over the words of options gives a row for each
-walk_options : (done options : Options) (rest : List Text) → AreOnce (done ++ options) → fold (walked rules []) (walk_with (rows_of_options done)) (words_of_options options ++ rest) ≡ fold
-    (walked rules []) (walk_with (rows_of_options (done ++ options))) rest
-walk_options done [] rest once = ap (λ d. fold (walked rules []) (walk_with (rows_of_options d)) rest) (sym (append-nil done))
-walk_options done (o ∷ os) rest once =
-    let more : (done ++ o ∷ []) ++ os ≡ done ++ o ∷ os = append_assoc done (o ∷ []) os in
-    ap (λ w. fold (walked rules []) w (words_of_options os ++ rest)) (one_step done o os once) ∙ walk_options (done ++ o ∷ []) os rest (subst AreOnce (sym more) once)
-    ∙ ap (λ d. fold (walked rules []) (walk_with (rows_of_options d)) rest) more
-
 -- a word that passes is passed over
 one_passes : (s : Shape) (w next : Walk) (word : Text) (rest : List Text) → turn_passes s [] w word ≡ true → walked s.rules [] w word ≡ next
     → walk_passes s [] w (word ∷ rest) ≡ walk_passes s [] next rest
 unfolding walk_passes
 one_passes s w next word rest h e = rw (h, e) refl
 
-passes_options : (done options : Options) (rest : List Text) → AreOnce (done ++ options) → walk_passes top [] (walk_with (rows_of_options done)) (words_of_options options ++ rest) ≡ walk_passes top []
-    (walk_with (rows_of_options (done ++ options))) rest
-passes_options done [] rest once = ap (λ d. walk_passes top [] (walk_with (rows_of_options d)) rest) (sym (append-nil done))
-passes_options done (o ∷ os) rest once =
+-- what each word of an option takes from the walk, all words of options do: there is a row for each
+over_options : {X : Type 0} (after : Walk → List Text → X) → ((w next : Walk) (word : Text) (rest : List Text) → turn_passes top [] w word ≡ true → walked rules [] w word ≡ next
+    → after w (word ∷ rest) ≡ after next rest) → (done options : Options) (rest : List Text) → AreOnce (done ++ options)
+    → after (walk_with (rows_of_options done)) (words_of_options options ++ rest) ≡ after (walk_with (rows_of_options (done ++ options))) rest
+over_options after step done [] rest once = ap (λ d. after (walk_with (rows_of_options d)) rest) (sym (append-nil done))
+over_options after step done (o ∷ os) rest once =
     let more : (done ++ o ∷ []) ++ os ≡ done ++ o ∷ os = append_assoc done (o ∷ []) os in
-    one_passes top (walk_with (rows_of_options done)) (walk_with (rows_of_options (done ++ o ∷ []))) (whole_word o.0 o.1) (words_of_options os ++ rest) (step_passes done o os once)
-    (one_step done o os once) ∙ passes_options (done ++ o ∷ []) os rest (subst AreOnce (sym more) once) ∙ ap (λ d. walk_passes top [] (walk_with (rows_of_options d)) rest) more
+    step (walk_with (rows_of_options done)) (walk_with (rows_of_options (done ++ o ∷ []))) (whole_word o.0 o.1) (words_of_options os ++ rest) (step_passes done o os once) (one_step done o os once)
+    ∙ over_options after step (done ++ o ∷ []) os rest (subst AreOnce (sym more) once) ∙ ap (λ d. after (walk_with (rows_of_options d)) rest) more
 
 -- ---- the end of the walk
 
@@ -218,12 +205,13 @@ walk_ends : (given : Given) → AreSingle given → EndsWith (walk rules [] noth
 walk_ends given single =
     let rows = rows_of_options given.options in
     let over : fold (walked rules []) (walk_with []) (one_form given) ≡ fold (walked rules []) (walk_with rows) (position_words given.positions) =
-    walk_options [] given.options (position_words given.positions) single.options in
+    over_options (fold (walked rules [])) (λ w next word rest passed is. ap (λ v. fold (walked rules []) v rest) is) [] given.options (position_words given.positions) single.options in
     subst (λ (w : Walk). EndsWith w (rows ++ layout_rows given.positions)) (sym over) (ends rows (no_layout given.options) given.positions single.positions)
 
 all_pass : (given : Given) → AreSingle given → walk_passes top [] (walk_with []) (one_form given) ≡ true
 all_pass given single =
-    passes_options [] given.options (position_words given.positions) single.options ∙ passes_end (rows_of_options given.options) (no_layout given.options) given.positions single.positions
+    over_options (walk_passes top []) (one_passes top) [] given.options (position_words given.positions) single.options
+    ∙ passes_end (rows_of_options given.options) (no_layout given.options) given.positions single.positions
 
 pub simple : is_simple whole_command ≡ true
 simple = refl

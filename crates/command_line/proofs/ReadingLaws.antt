@@ -32,8 +32,7 @@ pub fewer : (words rest : List Text) (read : ReadArgument) → BeginWith words r
 fewer words rest read first = go first.argument first.words_are where
   go : (a : Argument) → words ≡ words_of a ++ rest → length rest < length words
   go (in_one_word n v) e = omega (arith, ap length e)
-  go (in_two_words n v) e = omega (arith, ap length e)
-  go (positional t) e = omega (arith, ap length e)
+  go other e = omega (arith, ap length e)
 
 pub no_option_first : (words rest : List Text) (word : Text) → words ≡ word ∷ rest → (IsPlain word → ⊥) → ((name : OptionName) (value : Option Text) → word ≢ option_word name value)
     → BeginWithNone words

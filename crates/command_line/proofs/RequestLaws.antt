@@ -26,9 +26,8 @@ number_or_default_is low high default values m n (left_out e) (left_out f) = ref
 
 text_if_given_is : (values : List Text) → IsUnique (IsTextIfGiven values)
 text_if_given_is values None None e f = refl
-text_if_given_is values None (Some u) e f = let s = sym e ∙ f in cc s
-text_if_given_is values (Some t) None e f = let s = sym e ∙ f in cc s
 text_if_given_is values (Some t) (Some u) e f = let same : t ≡ u = let s = sym e ∙ f in cc s in ap (λ (x : Text). Some x) same
+text_if_given_is values t u e f = let s = sym e ∙ f in cc s
 
 -- the same task for two requests
 module _ (values : OptionName → List Text) (positions : List Text) where

@@ -91,14 +91,12 @@ first_is_one (positional t) (positional u) xs ys p q e =
 
 -- and they are not the last words
 no_last : (a : Argument) (xs : List Text) (last : Option (List Text)) → IsClearlySpelled a → words_of a ++ xs ≢ last_words last
-no_last (in_one_word n v) xs None p e = cc e
-no_last (in_two_words n v) xs None p e = cc e
-no_last (positional t) xs None p e = cc e
 no_last (in_one_word n v) xs (Some ws) p e =
     let word : whole_word n v ≡ codes "--" = cc e in
     let s : true ≡ false = sym (has_equals n v) ∙ ap (list_any is_equals) word in cc s
 no_last (in_two_words n v) xs (Some ws) p e = let word : name_word n ≡ codes "--" = cc e in no_nameless n (ap (drop 2) word)
 no_last (positional t) xs (Some ws) p e = let word : t ≡ codes "--" = cc e in plain_has_no_dashes t [] p word
+no_last a xs last p e = cc e
 
 -- ---- whole lists of words
 
@@ -128,9 +126,8 @@ follow (a ∷ others) (b ∷ bs) rest last p q e =
 
 same_last : (last other : Option (List Text)) → last_words last ≡ last_words other → last ≡ other
 same_last None None e = refl
-same_last None (Some ws) e = cc e
-same_last (Some vs) None e = cc e
 same_last (Some vs) (Some ws) e = let same : vs ≡ ws = cc e in ap Some same
+same_last last other e = cc e
 
 -- words that are spelled in two ways are spelled in one
 same_reading : (a b : List Argument) (last other : Option (List Text)) → Follows (last_words last) a b other → (b ≡ a) × (last ≡ other)

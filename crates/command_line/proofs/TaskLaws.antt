@@ -95,9 +95,8 @@ module _ (values : OptionName → List Text) (positions : List Text) (none : pos
 -- where one is
 module _ (values : OptionName → List Text) (positions : List Text) (named_layout : Text) (named_at : positions ≡ named_layout ∷ []) where
   pub no_task_of_generator : (values Generate ≢ []) → (task : Task) → IsTask values positions task → GiveNoOther values (options_for task) → ⊥
-  no_task_of_generator given task (of_one_metal at layer datatype radius top) others = given (others Generate refl)
-  no_task_of_generator given task (of_map at map top) others = given (others Generate refl)
   no_task_of_generator given task (of_generator none columns) others = let s = sym named_at ∙ none in cc s
+  no_task_of_generator given task other others = given (others Generate refl)
 
   pub no_task_without_numbers : values Map ≡ [] → ((numbers : ℕ × ℕ × ℕ) → AreNumbers values numbers → ⊥)
       → (task : Task) → IsTask values positions task → ⊥

@@ -4,7 +4,7 @@ use Rattle.lists.proofs.Words.{lt_z, le_z, ints, to_z-of_z, same_Some}
 use Rattle.toml.specs.Data.{Data, integer, as_integer}
 use Rattle.layer_map.specs.inside.ReadValues.{Finds, finds, lacks, IsThere, IsWritten}
 use Rattle.layer_map.specs.TerminalChecks.{IsCellNumber}
-use Rattle.layer_map.proofs.ValueLaws.{integer_is}
+use Rattle.layer_map.proofs.ValueLaws.{integer_is, one_integer}
 
 -- such a number fits 32 bits
 cell_number_fits : (z : ℤ) → IsCellNumber z → SFits w32 z
@@ -20,15 +20,9 @@ cell_number_is : (z : ℤ) → SFits w32 z → lt_z (to_z w32 (of_z w32 z)) (neg
 cell_number_is z fits low high = record { least = grind (arith, ints); most = grind (arith, ints) }
 
 module _ (d : Data) where
-  pub no_cell_number : None ≡ as_integer d → Finds (IsWritten integer IsCellNumber d) None
-  no_cell_number h = lacks (λ n is. let e : None ≡ Some n = h ∙ ap as_integer is.written in cc e)
-
   module _ (z : ℤ) (h : Some z ≡ as_integer d) (fits : SFits w64 z) where
-    number_is : (n : ℤ) → IsWritten integer IsCellNumber d n → n ≡ z
-    number_is n is = let e : Some n ≡ Some z = sym (h ∙ ap as_integer is.written) in same_Some _ _ e
-
     pub not_cell_number : (SFits w32 (to_z w64 (of_z w64 z)) → ⊥) → Finds (IsWritten integer IsCellNumber d) None
-    not_cell_number not = lacks (λ n is. not (subst (SFits w32) (number_is n is ∙ sym (to_z-of_z w64 z fits)) (cell_number_fits n is.is)))
+    not_cell_number not = lacks (λ n is. not (subst (SFits w32) (one_integer (λ y. y) IsCellNumber d z h n is ∙ sym (to_z-of_z w64 z fits)) (cell_number_fits n is.is)))
 
     module _ (y : ℤ) (told : SFits w32 (to_z w64 (of_z w64 z)) × (y ≡ to_z w64 (of_z w64 z))) where
       same : y ≡ z
@@ -38,10 +32,10 @@ module _ (d : Data) where
       fits32 = subst (SFits w32) (sym told.1) told.0
 
       pub too_low : lt_z (to_z w32 (of_z w32 y)) (negsuc 999999999) ≡ true → Finds (IsWritten integer IsCellNumber d) None
-      too_low low = lacks (λ n is. not_so_low y fits32 low (subst IsCellNumber (number_is n is ∙ sym same) is.is))
+      too_low low = lacks (λ n is. not_so_low y fits32 low (subst IsCellNumber (one_integer (λ y. y) IsCellNumber d z h n is ∙ sym same) is.is))
 
       pub too_high : le_z (pos 1000000000) (to_z w32 (of_z w32 y)) ≡ true → Finds (IsWritten integer IsCellNumber d) None
-      too_high high = lacks (λ n is. not_so_high y fits32 high (subst IsCellNumber (number_is n is ∙ sym same) is.is))
+      too_high high = lacks (λ n is. not_so_high y fits32 high (subst IsCellNumber (one_integer (λ y. y) IsCellNumber d z h n is ∙ sym same) is.is))
 
       pub cell_number : lt_z (to_z w32 (of_z w32 y)) (negsuc 999999999) ≡ false → le_z (pos 1000000000) (to_z w32 (of_z w32 y)) ≡ false
           → Finds (IsWritten integer IsCellNumber d) (Some (to_z w32 (of_z w32 y)))

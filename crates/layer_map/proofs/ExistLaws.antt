@@ -1,6 +1,6 @@
 -- where all checks of a document hold it gives a layer map, and so bytes come to something
-use Rattle.std.proofs.Common.{add-zero, ◌≡◌, ℕ, zero, suc, ◌+◌, ◌<◌, List, [], ◌∷◌, ◌++◌, length, get_or, take, map, Option, Some, false, refl, sym, ap, ◌∙◌, subst, arith, zero-add, All, Contains, slice_get}
-use Rattle.lists.proofs.Words.{flat_map, AllZip, range_with_len, get_or-map, length-map, get_or-take, length-take-le, slice_get-get_or, slice_get_within}
+use Rattle.std.proofs.Common.{◌≡◌, ℕ, suc, ◌<◌, List, [], ◌∷◌, ◌++◌, length, get_or, take, map, Option, Some, false, refl, sym, ap, ◌∙◌, subst, arith, zero-add, All, Contains, slice_get}
+use Rattle.lists.proofs.Words.{flat_map, AllZip, All-contains, Contains-get_or, range_with_len, get_or-map, get_or-range_with_len, get_or_from_slice_get, length-map, length-range_with_len, get_or-take, length-take-le, slice_get_within}
 use Rattle.geo_core.specs.declared.plane.Cell.{Cell}
 use Rattle.first_refusal.specs.Laws.{CannotLack}
 use Rattle.first_refusal.proofs.CheckLaws.{checks_cannot_lack}
@@ -11,27 +11,23 @@ use Rattle.layer_map.specs.Documents.{DocumentComesTo, GivesCut, GivesLayer, Giv
 use Rattle.layer_map.specs.LayerChecks.{layer_checks}
 use Rattle.map_model.specs.MapNames.{LayerMap, MappedCut, MappedLayer, names_of, sizes_of}
 use Rattle.lists.specs.Differing.{AreDifferent}
-use Rattle.layer_map.specs.MapChecks.{Holds, checks_of, checks_of_cuts, checks_of_each, checks_of_metals, checks_of_terminals, fault_of, first_checks, of_cut, of_metal, of_terminal, has_known_keys, has_metals, metals_are_few, cuts_are_array, cuts_are_few, terminals_are_array, terminals_are_few}
+use Rattle.layer_map.specs.MapChecks.{Holds, MapCheck, checks_of, checks_of_cuts, checks_of_each, checks_of_metals, checks_of_terminals, fault_of, first_checks, of_cut, of_metal, of_terminal, has_known_keys, has_metals, metals_are_few, cuts_are_array, cuts_are_few, terminals_are_array, terminals_are_few}
 use Rattle.layer_map.specs.inside.ReadLayers.{written_name}
 use Rattle.layer_map.specs.TerminalChecks.{terminal_checks}
 use Rattle.layer_map.specs.Values.{cuts_in, metals_in, name_of_item, terminals_in}
 use Rattle.layer_map.specs.declared.fault.MapFault.TheVariants.{Syntax}
-use Rattle.lists.proofs.Containing.{All-back, All-front}
+use Rattle.lists.proofs.Containing.{All-back, All-front, all_of_each, number_of, some_item}
+use Rattle.lists.proofs.Mapping.{Contains-flat_map, Contains-map_from}
+use Rattle.std.proofs.lemmas.List.{take-map}
+use Rattle.layer_map.proofs.SeenLaws.{names_zip}
 use Rattle.lists.proofs.Differing.{AreDifferent-unmap}
 
 -- the checks of the item with one number
-all_of_one : {A : Type 0} (P : A → Type 0) (checks_at : ℕ → List A) (first count number : ℕ) → number < count → All P (flat_map checks_at (range_with_len first count))
-    → All P (checks_at (first + number))
-all_of_one P checks_at first zero number within all = absurd (omega arith)
-all_of_one P checks_at first (suc count) zero within all = subst (λ (n : ℕ). All P (checks_at n)) (sym (add-zero first))
-    (All-front P (checks_at first) (flat_map checks_at (range_with_len (first + 1) count)) all)
-all_of_one P checks_at first (suc count) (suc number) within all =
-    let same : (first + 1) + number ≡ first + suc number = omega arith in
-    subst (λ (n : ℕ). All P (checks_at n)) same (all_of_one P checks_at (first + 1) count number (omega arith)
-    (All-back P (checks_at first) (flat_map checks_at (range_with_len (first + 1) count)) all))
-
 all_of_number : {A : Type 0} (P : A → Type 0) (checks_at : ℕ → List A) (count number : ℕ) → number < count → All P (flat_map checks_at (range_with_len 0 count)) → All P (checks_at number)
-all_of_number P checks_at count number within all = subst (λ (n : ℕ). All P (checks_at n)) (zero-add number) (all_of_one P checks_at 0 count number within all)
+all_of_number P checks_at count number within all =
+    let there : Contains (range_with_len 0 count) number = (number, omega (arith, length-range_with_len 0 count), get_or-range_with_len 0 count number number within ∙ zero-add number) in
+    all_of_each P (checks_at number) (λ check among. All-contains P (flat_map checks_at (range_with_len 0 count)) check all
+    (Contains-flat_map checks_at (range_with_len 0 count) number check there among))
 
 -- where each of some things has something, they have a list of these
 list_for : {A B : Type 0} (R : A → B → Type 0) (ds : List A) → ((k : ℕ) (d : A) → slice_get ds k ≡ Some d → (b : B) × R d b) → (bs : List B) × AllZip R ds bs
@@ -41,66 +37,38 @@ list_for R (d ∷ ds) each =
     let (bs, others) = list_for R ds (λ k e there. each (suc k) e there) in
     (b ∷ bs, (here, others))
 
--- the names in items and those of the layers that they give
-names_zip : (ds : List Data) (layers : List MappedLayer) → AllZip GivesLayer ds layers → map name_of_item ds ≡ map written_name (names_of layers)
-names_zip [] [] all = refl
-names_zip [] (l ∷ ls) all = absurd all
-names_zip (d ∷ ds) [] all = absurd all
-names_zip (d ∷ ds) (l ∷ ls) all = ap (λ (x : Option Data). x ∷ map name_of_item ds) all.0.name ∙ ap (λ (xs : List (Option Data)). written_name l.name ∷ xs) (names_zip ds ls all.1)
-
 -- where no item has the name of an earlier one, all names differ
 new_names_differ : (ds : List Data) → ((k : ℕ) (d : Data) → slice_get ds k ≡ Some d → Contains (map name_of_item (take k ds)) (name_of_item d) → ⊥) → AreDifferent (map name_of_item ds)
 new_names_differ ds new i j o below within same =
-    let j_in : j < length ds = omega (arith, length-map ds name_of_item) in
-    let i_in : i < length ds = omega arith in
-    differs ds new i j o below i_in j_in same where
-      differs : (ds : List Data) → ((k : ℕ) (d : Data) → slice_get ds k ≡ Some d → Contains (map name_of_item (take k ds)) (name_of_item d) → ⊥) → (i j : ℕ) (o : Option Data) → i < j → i < length ds
-          → j < length ds → get_or (map name_of_item ds) i o ≡ get_or (map name_of_item ds) j o → ⊥
-      differs [] new i j o below i_in j_in same = omega arith
-      differs (d ∷ ds) new i j o below i_in j_in same =
-          let there : slice_get (d ∷ ds) j ≡ Some (get_or (d ∷ ds) j d) = slice_get-get_or (d ∷ ds) j d j_in in
-          let name_j : get_or (map name_of_item (d ∷ ds)) j o ≡ name_of_item (get_or (d ∷ ds) j d) = get_or-map name_of_item (d ∷ ds) j d o j_in in
-          let name_i : get_or (map name_of_item (d ∷ ds)) i o ≡ name_of_item (get_or (d ∷ ds) i d) = get_or-map name_of_item (d ∷ ds) i d o i_in in
-          let room : i < length (take j (d ∷ ds)) = omega (arith, length-take-le j (d ∷ ds)) in
-          let early : get_or (map name_of_item (take j (d ∷ ds))) i (name_of_item (get_or (d ∷ ds) j d)) ≡ name_of_item (get_or (take j (d ∷ ds)) i d) =
-          get_or-map name_of_item (take j (d ∷ ds)) i d _ room in
-          new j (get_or (d ∷ ds) j d) there (i, omega (arith, length-map (take j (d ∷ ds)) name_of_item), early ∙ ap name_of_item (get_or-take j (d ∷ ds) i d below) ∙ sym name_i ∙ same ∙ name_j)
+    let (d, there) = some_item ds j (omega (arith, length-map ds name_of_item)) in
+    let here : get_or (map name_of_item ds) j o ≡ name_of_item d = get_or-map name_of_item ds j d o (slice_get_within ds j d there) ∙ ap name_of_item (get_or_from_slice_get ds j d d there) in
+    let early = Contains-get_or (take j (map name_of_item ds)) i o (omega (arith, length-take-le j (map name_of_item ds))) in
+    new j d there (rw (← take-map) (subst (Contains (take j (map name_of_item ds))) (get_or-take j (map name_of_item ds) i o below ∙ same ∙ here) early))
 
 -- a name that stands in one of the items names its layer
 names_one : (ds : List Data) (layers : List MappedLayer) (there : Option Data) → AllZip GivesLayer ds layers → Contains (map name_of_item ds) there → (number : ℕ) × NamesMetal layers there number
-names_one [] [] there all (k, within, same) = absurd (omega arith)
-names_one [] (l ∷ ls) there all among = absurd all
-names_one (d ∷ ds) [] there all among = absurd all
-names_one (d ∷ ds) (l ∷ ls) there all (zero, within, same) = (0, record { metal = l; numbered = refl; named = sym same ∙ all.0.name })
-names_one (d ∷ ds) (l ∷ ls) there all (suc k, within, same) =
-    let (number, names) = names_one ds ls there all.1 (k, omega arith, same) in
-    (suc number, record { metal = names.metal; numbered = names.numbered; named = names.named })
+names_one ds layers there all among =
+    let (name, lies, same) = Contains-map_from written_name (names_of layers) there (rw (names_zip ds layers all) at among) in
+    let (layer, has, is) = Contains-map_from (λ (l : MappedLayer). l.name) layers name lies in
+    let (number, numbered) = number_of layers layer has in
+    (number, record { metal = layer; numbered = numbered; named = sym (ap written_name is ∙ same) })
 
 module _ (document : Members) (all : All (Holds document) (checks_of document)) where
-  first_hold : All (Holds document) first_checks
-  first_hold = All-front (Holds document) first_checks (checks_of_metals document ++ (checks_of_cuts document ++ checks_of_terminals document)) all
-
   rest_holds : All (Holds document) (checks_of_metals document ++ (checks_of_cuts document ++ checks_of_terminals document))
   rest_holds = All-back (Holds document) first_checks (checks_of_metals document ++ (checks_of_cuts document ++ checks_of_terminals document)) all
-
-  metals_hold : All (Holds document) (checks_of_each of_metal layer_checks (metals_in document))
-  metals_hold = All-back (Holds document) (has_metals ∷ metals_are_few ∷ []) (checks_of_each of_metal layer_checks (metals_in document))
-      (All-front (Holds document) (checks_of_metals document) (checks_of_cuts document ++ checks_of_terminals document) rest_holds)
 
   behind_metals_hold : All (Holds document) (checks_of_cuts document ++ checks_of_terminals document)
   behind_metals_hold = All-back (Holds document) (checks_of_metals document) (checks_of_cuts document ++ checks_of_terminals document) rest_holds
 
-  cuts_hold : All (Holds document) (checks_of_each of_cut cut_checks (cuts_in document))
-  cuts_hold = All-back (Holds document) (cuts_are_array ∷ cuts_are_few ∷ []) (checks_of_each of_cut cut_checks (cuts_in document))
-      (All-front (Holds document) (checks_of_cuts document) (checks_of_terminals document) behind_metals_hold)
-
-  terminals_hold : All (Holds document) (checks_of_each of_terminal terminal_checks (terminals_in document))
-  terminals_hold = All-back (Holds document) (terminals_are_array ∷ terminals_are_few ∷ []) (checks_of_each of_terminal terminal_checks (terminals_in document))
-      (All-back (Holds document) (checks_of_cuts document) (checks_of_terminals document) behind_metals_hold)
+  -- behind two checks of all items, those of each
+  item_holds : {C : Type 0} (first second : MapCheck) (of_item : ℕ → C → MapCheck) (checks : List C) (items : List Data) → All (Holds document) (first ∷ second ∷ checks_of_each of_item checks items)
+      → (number : ℕ) (item : Data) → slice_get items number ≡ Some item → All (Holds document) (map (of_item number) checks)
+  item_holds first second of_item checks items hold number item there = all_of_number (Holds document) (λ n. map (of_item n) checks) (length items) number (slice_get_within items number item there)
+      (All-back (Holds document) (first ∷ second ∷ []) (checks_of_each of_item checks items) hold)
 
   metal_hold : (number : ℕ) (item : Data) → slice_get (metals_in document) number ≡ Some item → All (Holds document) (map (of_metal number) layer_checks)
-  metal_hold number item there = all_of_number (Holds document) (λ n. map (of_metal n) layer_checks) (length (metals_in document)) number (slice_get_within (metals_in document) number item there)
-      metals_hold
+  metal_hold = item_holds has_metals metals_are_few of_metal layer_checks (metals_in document)
+      (All-front (Holds document) (checks_of_metals document) (checks_of_cuts document ++ checks_of_terminals document) rest_holds)
 
   a_metal : (number : ℕ) (item : Data) → slice_get (metals_in document) number ≡ Some item → (layer : MappedLayer) × GivesLayer item layer
   a_metal number item there =
@@ -118,7 +86,8 @@ module _ (document : Members) (all : All (Holds document) (checks_of document)) 
 
   a_cut : (number : ℕ) (item : Data) → slice_get (cuts_in document) number ≡ Some item → (cut : MappedCut) × GivesCut metals.0 item cut
   a_cut number item there =
-      let checks = all_of_number (Holds document) (λ n. map (of_cut n) cut_checks) (length (cuts_in document)) number (slice_get_within (cuts_in document) number item there) cuts_hold in
+      let hold = All-front (Holds document) (checks_of_cuts document) (checks_of_terminals document) behind_metals_hold in
+      let checks = item_holds cuts_are_array cuts_are_few of_cut cut_checks (cuts_in document) hold number item there in
       let name = rw there at (checks 2 has_known_keys (omega arith)) in
       let pairs = rw there at (checks 4 has_known_keys (omega arith)) in
       let (lower, lower_names) = names_one (metals_in document) metals.0 _ metals.1 (rw there at (checks 7 has_known_keys (omega arith))) in
@@ -129,8 +98,8 @@ module _ (document : Members) (all : All (Holds document) (checks_of document)) 
 
   a_terminal : (number : ℕ) (item : Data) → slice_get (terminals_in document) number ≡ Some item → (terminal : ℕ × Cell) × GivesTerminal metals.0 item terminal
   a_terminal number item there =
-      let checks = all_of_number (Holds document) (λ n. map (of_terminal n) terminal_checks) (length (terminals_in document)) number (slice_get_within (terminals_in document) number item there)
-      terminals_hold in
+      let hold = All-back (Holds document) (checks_of_cuts document) (checks_of_terminals document) behind_metals_hold in
+      let checks = item_holds terminals_are_array terminals_are_few of_terminal terminal_checks (terminals_in document) hold number item there in
       let (metal, names) = names_one (metals_in document) metals.0 _ metals.1 (rw there at (checks 3 has_known_keys (omega arith))) in
       let x = rw there at (checks 4 has_known_keys (omega arith)) in
       let y = rw there at (checks 5 has_known_keys (omega arith)) in
@@ -138,8 +107,8 @@ module _ (document : Members) (all : All (Holds document) (checks_of document)) 
 
   pub a_map : (layer_map : LayerMap) × GivesMap document layer_map
   a_map =
-      let radii = first_hold 4 has_known_keys (omega arith) in
-      let weights = first_hold 5 has_known_keys (omega arith) in
+      let radii = all 4 has_known_keys (omega arith) in
+      let weights = all 5 has_known_keys (omega arith) in
       let cuts = list_for (GivesCut metals.0) (cuts_in document) a_cut in
       let terminals = list_for (GivesTerminal metals.0) (terminals_in document) a_terminal in (
         record { metals = metals.0; cuts = cuts.0; sizes = sizes_of radii.0 weights.0; terminals = terminals.0 },

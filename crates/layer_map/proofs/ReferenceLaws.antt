@@ -1,57 +1,41 @@
--- what stands at a key, and the metal that it names
-use Rattle.std.proofs.Common.{◌≡◌, ℕ, zero, suc, List, [], ◌∷◌, map, Option, Some, None, refl, sym, ap, ◌∙◌, subst, option_and_then, Contains, slice_get}
-use Rattle.lists.proofs.Words.{same_Some}
-use Rattle.lists.proofs.Containing.{Contains-slice_get, number_of}
-use Rattle.lists.proofs.Mapping.{Contains-map}
-use Rattle.toml.specs.Data.{Data, string, integer, float, boolean, datetime, array, table, as_str}
+-- what stands at a key: a text, a name, and the metal that it names
+use Rattle.std.proofs.Common.{◌≡◌, ℕ, List, map, Option, Some, None, refl, sym, ap, ◌∙◌, subst, option_and_then, option_map, slice_get, arith, true, false, ◌↔◌, IfSome, IsSome}
+use Rattle.lists.proofs.Words.{length-map, same_Some, slice_get-map, slice_get_within}
+use Rattle.lists.proofs.Containing.{some_item}
+use Rattle.toml.specs.Data.{Data, string, as_str}
 use Rattle.layer_map.specs.Documents.{NamesMetal}
-use Rattle.map_model.specs.MapNames.{metal_layer}
-use Rattle.layer_map.specs.Values.{name_of_item}
-use Rattle.layer_map.specs.ItemChecks.{ReferenceHolds, is_text, is_metal}
-use Rattle.layer_map.specs.inside.ReadMetals.{HaveNamesOf}
-use Rattle.layer_map.specs.inside.ReadLayers.{written_name}
-use Rattle.layer_map.proofs.SeenLaws.{name_among}
+use Rattle.layer_map.specs.inside.ReadValues.{Finds, finds, lacks, IsThere}
+use Rattle.map_model.specs.MapNames.{IsLayerName, metal_layer}
 use Rattle.map_model.specs.declared.layers.Metal.{Metal}
 
 pub text_is : (there : Option Data) (text : List ℕ) → Some text ≡ option_and_then as_str there → there ≡ Some (string text)
 text_is (Some (string s)) text h = ap (λ t. Some (string t)) (sym (same_Some _ _ h))
-text_is (Some (integer z)) text h = cc h
-text_is (Some (float x)) text h = cc h
-text_is (Some (boolean b)) text h = cc h
-text_is (Some (datetime dt)) text h = cc h
-text_is (Some (array ds)) text h = cc h
-text_is (Some (table ms)) text h = cc h
-text_is None text h = cc h
+text_is other text h = cc h
 
--- a text stands there, or none
-pub no_text : (items : List Data) (there : Option Data) → None ≡ option_and_then as_str there → ReferenceHolds items there is_text → ⊥
-no_text items there h (text, is, _) = let e : None ≡ Some text = h ∙ ap (option_and_then as_str) is in cc e
+-- no text stands there, or one that is a name or not
+pub no_text_there : (Kind : List ℕ → Type 0) (there : Option Data) → None ≡ option_and_then as_str there → Finds (IsThere string Kind there) None
+no_text_there Kind there h = lacks (λ name is. let e : None ≡ Some name = h ∙ ap (option_and_then as_str) is.written in cc e)
 
-pub some_text : (items : List Data) (there : Option Data) (text : List ℕ) → Some text ≡ option_and_then as_str there → ReferenceHolds items there is_text
-some_text items there text h = (text, text_is there text h, tt)
+pub name_there : (there : Option Data) (text : List ℕ) (made : Option (List ℕ)) → Some text ≡ option_and_then as_str there → IfSome made (λ name. name ≡ text) → IsSome made ↔ IsLayerName text
+    → Finds (IsThere string IsLayerName there) made
+name_there there text (Some name) told same valid =
+    finds (record { written = text_is there text told ∙ ap (λ t. Some (string t)) (sym same); is = subst IsLayerName (sym same) (valid.0 refl) })
+name_there there text None told same valid =
+    lacks (λ name is.
+    let e : Some text ≡ Some name = told ∙ ap (option_and_then as_str) is.written in
+    let equal : text ≡ name = same_Some _ _ e in
+    let some : false ≡ true = valid.1 (subst IsLayerName (sym equal) is.is) in
+    cc some)
 
-module _ (items : List Data) (metals : List Metal) (there : Option Data) (text : List ℕ) (have : HaveNamesOf items metals) (told : Some text ≡ option_and_then as_str there) where
-  -- a metal has this name, or none
-  pub no_metal : ((number : ℕ) → slice_get (map (λ metal. metal.name) metals) number ≡ Some text → ⊥) → ReferenceHolds items there is_metal → ⊥
-  no_metal not h =
-      let among = subst (λ (ds : List (Option Data)). Contains ds (written_name text)) have (subst (Contains (map name_of_item items)) (text_is there text told) h) in
-      let (number, named) = number_of (map (λ metal. metal.name) metals) text (name_among (map (λ metal. metal.name) metals) text among) in
-      not number named
-
-  module _ (number : ℕ) (named : slice_get (map (λ metal. metal.name) metals) number ≡ Some text) where
-    pub some_metal : ReferenceHolds items there is_metal
-    some_metal =
-        let among = Contains-map written_name (map (λ metal. metal.name) metals) text (Contains-slice_get (map (λ metal. metal.name) metals) number text named) in
-        subst (Contains (map name_of_item items)) (sym (text_is there text told)) (subst (λ (ds : List (Option Data)). Contains ds (written_name text)) (sym have) among)
-
-    pub names_metal : NamesMetal (map metal_layer metals) there number
-    names_metal = let (metal, numbered, same) = at metals number named in record {
+-- the metal of which the name stands there
+pub names_metal : (metals : List Metal) (there : Option Data) (text : List ℕ) → there ≡ Some (string text) → (number : ℕ) → slice_get (map (λ metal. metal.name) metals) number ≡ Some text
+    → NamesMetal (map metal_layer metals) there number
+names_metal metals there text is number named =
+    let within = slice_get_within (map (λ (m : Metal). m.name) metals) number text named in
+    let (metal, at_number) = some_item metals number (omega (arith, length-map metals (λ (m : Metal). m.name))) in
+    let same : Some metal.name ≡ Some text = sym (slice_get-map (λ (m : Metal). m.name) metals number ∙ ap (option_map (λ (m : Metal). m.name)) at_number) ∙ named in
+    record {
       metal = metal_layer metal;
-      numbered = numbered;
-      named = text_is there text told
-          ∙ ap (λ t. Some (string t)) (sym same);
-    } where
-      at : (ms : List Metal) (k : ℕ) → slice_get (map (λ metal. metal.name) ms) k ≡ Some text → (metal : Metal) × (slice_get (map metal_layer ms) k ≡ Some (metal_layer metal)) × (metal.name ≡ text)
-      at [] k h = cc h
-      at (m ∷ ms) zero h = (m, refl, cc h)
-      at (m ∷ ms) (suc k) h = at ms k h
+      numbered = slice_get-map metal_layer metals number ∙ ap (option_map metal_layer) at_number;
+      named = is ∙ ap (λ (t : List ℕ). Some (string t)) (sym (same_Some _ _ same));
+    }

@@ -1,9 +1,10 @@
 -- the sample: its document, each of its checks, and its map
-use Rattle.std.proofs.Common.{◌≡◌, ◌≢◌, ℕ, zero, suc, ◌+◌, ◌*◌, ◌<◌, ◌≤◌, pos, List, [], ◌∷◌, ◌++◌, ◌&&◌, ◌==◌, ◌∙◌, codes, map, Option, Some, refl, arith, Bool, true, false, not, ap, sym, subst, get_or, nat_lt, unwrap_or, option_and_then, All, Contains}
-use Rattle.lists.proofs.Words.{list_all, and_parts, eq-eqb, ltb-true, IsStrictlyIncreasing, ints, All-append, All-cons, All-contains, All-from_recursion, All-nil, All-weaker, AllPairs-cons, IsUtf8-from_ascii}
+use Rattle.std.proofs.Common.{◌≡◌, ◌≢◌, ℕ, zero, suc, ◌+◌, ◌*◌, ◌<◌, ◌≤◌, pos, List, length, [], ◌∷◌, ◌++◌, ◌&&◌, ◌==◌, ◌∙◌, codes, map, Option, Some, refl, arith, Bool, true, false, not, ap, sym, subst, get_or, nat_lt, unwrap_or, option_and_then, All, Contains}
+use Rattle.std.specs.List.{AllByRecursion}
+use Rattle.lists.proofs.Words.{AllPass-from_list_all, list_all, and_parts, eq-eqb, ltb-true, IsStrictlyIncreasing, ints, All-append, All-contains, All-from_recursion, All-weaker, AllPairs-cons, IsUtf8-from_ascii}
 use Rattle.std.proofs.lemmas.Bool.{not-true}
 use Rattle.std.proofs.lemmas.Str.Ascii.{IsAscii-from_all}
-use Rattle.first_refusal.specs.Outcomes.{value}
+use Rattle.first_refusal.specs.Outcomes.{goes_on, reads, value}
 use Rattle.first_refusal.specs.Checks.{all_hold}
 use Rattle.geo_core.specs.Plane.{IsRadius}
 use Rattle.toml.specs.Data.{Data, Members, no_members, member, string, table, as_str}
@@ -12,14 +13,13 @@ use Rattle.toml.proofs.OnLiterals.{toml_on_literals}
 use Rattle.layer_map.specs.Documents.{GivesMap, IsDocument, MapComesTo, NamesMetal}
 use Rattle.map_model.specs.MapNames.{AreRadii, AreWeights, IsPair, ArePairs, IsLayerName, is_name_byte}
 use Rattle.lists.specs.Differing.{AreDifferent}
-use Rattle.layer_map.specs.MapChecks.{MapCheck, Holds, checks_of, checks_of_cuts, checks_of_metals, checks_of_terminals, cuts_are_array, cuts_are_few, first_checks, has_metals, map_keys, metals_are_few, of_cut, of_metal, of_terminal, terminals_are_array, terminals_are_few}
-use Rattle.layer_map.specs.LayerChecks.{layer_checks, metal_keys}
-use Rattle.layer_map.specs.CutChecks.{as_layer, cut_checks, cut_keys, end_checks}
-use Rattle.layer_map.specs.TerminalChecks.{IsCellNumber, terminal_checks, terminal_keys}
+use Rattle.layer_map.specs.MapChecks.{MapCheck, Holds, checks_of, checks_of_cuts, checks_of_metals, checks_of_terminals, first_checks, map_keys}
+use Rattle.layer_map.specs.LayerChecks.{metal_keys}
+use Rattle.layer_map.specs.CutChecks.{cut_keys}
+use Rattle.layer_map.specs.TerminalChecks.{IsCellNumber, terminal_keys}
 use Rattle.layer_map.specs.inside.ReadLayers.{written_name}
 use Rattle.layer_map.specs.Sample.{sample_map, sample_text}
 use Rattle.layer_map.specs.Values.{StandsAs, array_of, pair_value, pairs_value, whole_number, whole_numbers}
-use Rattle.layer_map.proofs.MapLaws.{document_decides}
 use Rattle.layer_map.proofs.SeenLaws.{pair_tells}
 use Rattle.lists.proofs.Containing.{Contains-none}
 use Rattle.lists.proofs.Differing.{AreDifferent-map, different_front}
@@ -48,12 +48,6 @@ parsed : parse_document sample_text ≡ Some sample_document
 unfolding toml_on_literals
 parsed = refl
 
--- what passes a test of each item
-module _ {A : Type 0} (test : A → Bool) where
-  all_pass : (xs : List A) → list_all test xs ≡ true → All (λ x. test x ≡ true) xs
-  all_pass [] h = All-nil (λ x. test x ≡ true)
-  all_pass (x ∷ xs) h = let parts = and_parts (test x) (list_all test xs) h in All-cons (λ y. test y ≡ true) x xs parts.0 (all_pass xs parts.1)
-
 -- things that are told apart by a number of each
 module _ {A : Type 0} (code : A → ℕ) where
   abbrev differ : A → A → Bool
@@ -70,10 +64,10 @@ module _ {A : Type 0} (code : A → ℕ) where
   are_different [] h = λ i j d below within. absurd (omega arith)
   are_different (x ∷ xs) h =
       let parts = and_parts (list_all (differ x) xs) (all_apart xs) h in
-      AllPairs-cons (λ p q. p ≢ q) x xs (All-weaker (λ y. differ x y ≡ true) (λ y. x ≢ y) (apart x) xs (all_pass (differ x) xs parts.0)) (are_different xs parts.1)
+      AllPairs-cons (λ p q. p ≢ q) x xs (All-weaker (λ y. differ x y ≡ true) (λ y. x ≢ y) (apart x) xs (AllPass-from_list_all (differ x) xs parts.0)) (are_different xs parts.1)
 
   not_among : (x : A) (xs : List A) → list_all (differ x) xs ≡ true → Contains xs x → ⊥
-  not_among x xs h among = apart x x (All-contains (λ y. differ x y ≡ true) xs x (all_pass (differ x) xs h) among) refl
+  not_among x xs h among = apart x x (All-contains (λ y. differ x y ≡ true) xs x (AllPass-from_list_all (differ x) xs h) among) refl
 
 -- a name of the sample as a number, and the text that stands somewhere
 abbrev name_code : List ℕ → ℕ
@@ -85,7 +79,7 @@ code_of there = name_code (unwrap_or (option_and_then as_str there) [])
 is_document : IsDocument sample_text sample_document
 is_document = record {
   is_text = IsUtf8-from_ascii sample_text (IsAscii-from_all sample_text (All-weaker (λ b. nat_lt b 128 ≡ true) (λ b. b < 128) (λ b. ltb-true b 128) sample_text
-      (all_pass (λ b. nat_lt b 128) sample_text refl)));
+      (AllPass-from_list_all (λ b. nat_lt b 128) sample_text refl)));
   parsed = parsed;
 }
 
@@ -104,21 +98,16 @@ radii_are = record {
 weights_are : AreWeights 2 (10 ∷ 1 ∷ [])
 weights_are = record { as_many = refl; each = All-from_recursion (λ (w : ℕ). w ≤ 1000000000) (10 ∷ 1 ∷ []) (omega arith, (omega arith, tt)) }
 
-short_name : (a b : ℕ) → is_name_byte a ≡ true → is_name_byte b ≡ true → IsLayerName (a ∷ b ∷ [])
-short_name a b p q = record { some = omega arith; few = omega arith; each = All-from_recursion (λ c. is_name_byte c ≡ true) (a ∷ b ∷ []) (p, (q, tt)) }
-
+-- a name of two bytes, and some pairs
 named : (a b : ℕ) → is_name_byte a ≡ true → is_name_byte b ≡ true → StandsAs string IsLayerName (Some (string (a ∷ b ∷ [])))
-named a b p q = (a ∷ b ∷ [], refl, short_name a b p q)
+named a b p q =
+    (a ∷ b ∷ [], refl, record { some = omega arith; few = omega arith; each = All-from_recursion (λ c. is_name_byte c ≡ true) (a ∷ b ∷ []) (p, (q, tt)) })
 
-one_pair : (a b : ℕ) → a ≤ 65535 → b ≤ 65535 → ArePairs ((a, b) ∷ [])
-one_pair a b p q = record { some = omega arith; few = omega arith; each = All-from_recursion IsPair ((a, b) ∷ []) (record { layer = p; datatype = q }, tt) }
+pair_is : (a b : ℕ) → a ≤ 65535 → b ≤ 65535 → IsPair (a, b)
+pair_is a b p q = record { layer = p; datatype = q }
 
-two_pairs : ArePairs ((1, 0) ∷ (1, 20) ∷ [])
-two_pairs = record {
-  some = omega arith;
-  few = omega arith;
-  each = All-from_recursion IsPair ((1, 0) ∷ (1, 20) ∷ []) (record { layer = omega arith; datatype = omega arith }, (record { layer = omega arith; datatype = omega arith }, tt));
-}
+paired : (pairs : List (ℕ × ℕ)) → 1 ≤ length pairs → length pairs ≤ 16 → AllByRecursion IsPair pairs → StandsAs pairs_value ArePairs (Some (pairs_value pairs))
+paired pairs some few each = (pairs, refl, record { some = some; few = few; each = All-from_recursion IsPair pairs each })
 
 -- all pairs differ
 abbrev all_pairs : List (ℕ × ℕ)
@@ -139,62 +128,43 @@ head_holds = All-from_recursion Sound first_checks (keys, (refl, (refl, (omega a
       ((4, omega arith, refl), ((3, omega arith, refl), ((1, omega arith, refl), ((5, omega arith, refl), ((0, omega arith, refl), ((2, omega arith, refl), tt))))))
 
 -- the keys and the name of an item and its pairs
-metal_keys_known : All (Contains metal_keys) (codes "name" ∷ codes "pairs" ∷ [])
-metal_keys_known = All-from_recursion (Contains metal_keys) (codes "name" ∷ codes "pairs" ∷ []) ((0, omega arith, refl), ((1, omega arith, refl), tt))
+keys_known : All (Contains metal_keys) (codes "name" ∷ codes "pairs" ∷ [])
+keys_known = All-from_recursion (Contains metal_keys) (codes "name" ∷ codes "pairs" ∷ []) ((0, omega arith, refl), ((1, omega arith, refl), tt))
 
-first_metal_holds : All Sound (map (of_metal 0) layer_checks)
-first_metal_holds =
-    let differ = written_differ ((1, 0) ∷ (1, 20) ∷ []) ((3, 0) ∷ (2, 0) ∷ []) refl in
-    All-from_recursion Sound (map (of_metal 0) layer_checks) (refl, (metal_keys_known, (named 109 49 refl refl, (Contains-none, (((1, 0) ∷ (1, 20) ∷ [], refl, two_pairs), (differ, tt))))))
-
-second_metal_holds : All Sound (map (of_metal 1) layer_checks)
-second_metal_holds =
+-- of each array, first that it is one of so many items, and then what holds of the items
+metals_hold : All Sound (checks_of_metals sample_document)
+metals_hold =
+    let first = paired ((1, 0) ∷ (1, 20) ∷ []) (omega arith) (omega arith)
+    (pair_is 1 0 (omega arith) (omega arith), (pair_is 1 20 (omega arith) (omega arith), tt)) in
+    let second = paired ((3, 0) ∷ []) (omega arith) (omega arith) (pair_is 3 0 (omega arith) (omega arith), tt) in
     let new = not_among code_of (written_name (codes "m2")) (written_name (codes "m1") ∷ []) refl in
-    let pairs = one_pair 3 0 (omega arith) (omega arith) in
-    let differ = written_differ ((1, 0) ∷ (1, 20) ∷ (3, 0) ∷ []) ((2, 0) ∷ []) refl in
-    All-from_recursion Sound (map (of_metal 1) layer_checks) (refl, (metal_keys_known, (named 109 50 refl refl, (new, (((3, 0) ∷ [], refl, pairs), (differ, tt))))))
+    let differ = written_differ ((1, 0) ∷ (1, 20) ∷ []) ((3, 0) ∷ (2, 0) ∷ []) refl in
+    let also = written_differ ((1, 0) ∷ (1, 20) ∷ (3, 0) ∷ []) ((2, 0) ∷ []) refl in
+    All-from_recursion Sound (checks_of_metals sample_document)
+    (omega arith, (omega arith, (refl, (keys_known, (named 109 49 refl refl, (Contains-none, (first, (differ, (refl, (keys_known, (named 109 50 refl refl, (new, (second, (also, tt))))))))))))))
 
-cut_layer_holds : All Sound (map (of_cut 0) (map as_layer layer_checks))
-cut_layer_holds =
+cuts_hold : All Sound (checks_of_cuts sample_document)
+cuts_hold =
     let new = not_among code_of (written_name (codes "v1")) (written_name (codes "m1") ∷ written_name (codes "m2") ∷ []) refl in
-    let pairs = one_pair 2 0 (omega arith) (omega arith) in
+    let pairs = paired ((2, 0) ∷ []) (omega arith) (omega arith) (pair_is 2 0 (omega arith) (omega arith), tt) in
     let differ = written_differ all_pairs [] refl in
-    All-from_recursion Sound (map (of_cut 0) (map as_layer layer_checks)) (refl, (keys, (named 118 49 refl refl, (new, (((2, 0) ∷ [], refl, pairs), (differ, tt)))))) where
+    let m1 = codes "m1" in
+    let m2 = codes "m2" in
+    let ends = apart code_of (written_name m2) (written_name m1) refl in
+    All-from_recursion Sound (checks_of_cuts sample_document)
+    (refl, (omega arith, (refl, (keys, (named 118 49 refl refl, (new, (pairs, (differ, ((m1, refl, tt), ((0, omega arith, refl), ((m2, refl, tt), ((1, omega arith, refl), (ends, tt))))))))))))) where
       keys : All (Contains cut_keys) (codes "lower" ∷ codes "name" ∷ codes "pairs" ∷ codes "upper" ∷ [])
       keys = All-from_recursion (Contains cut_keys) (codes "lower" ∷ codes "name" ∷ codes "pairs" ∷ codes "upper" ∷ [])
           ((2, omega arith, refl), ((0, omega arith, refl), ((1, omega arith, refl), ((3, omega arith, refl), tt))))
 
-cut_ends_hold : All Sound (map (of_cut 0) end_checks)
-cut_ends_hold =
-    let differ = apart code_of (written_name (codes "m2")) (written_name (codes "m1")) refl in
-    All-from_recursion Sound (map (of_cut 0) end_checks) ((codes "m1", refl, tt), ((0, omega arith, refl), ((codes "m2", refl, tt), ((1, omega arith, refl), (differ, tt)))))
-
-terminal_holds : All Sound (map (of_terminal 0) terminal_checks)
-terminal_holds = All-from_recursion Sound (map (of_terminal 0) terminal_checks)
-    (refl, (keys, ((codes "m1", refl, tt), ((0, omega arith, refl), ((pos 0, refl, zero_is), ((pos 0, refl, zero_is), (Contains-none, tt))))))) where
+terminals_hold : All Sound (checks_of_terminals sample_document)
+terminals_hold = All-from_recursion Sound (checks_of_terminals sample_document)
+    (refl, (omega arith, (refl, (keys, ((codes "m1", refl, tt), ((0, omega arith, refl), ((pos 0, refl, zero_is), ((pos 0, refl, zero_is), (Contains-none, tt))))))))) where
       keys : All (Contains terminal_keys) (codes "metal" ∷ codes "x" ∷ codes "y" ∷ [])
       keys = All-from_recursion (Contains terminal_keys) (codes "metal" ∷ codes "x" ∷ codes "y" ∷ []) ((0, omega arith, refl), ((1, omega arith, refl), ((2, omega arith, refl), tt)))
 
       zero_is : IsCellNumber (pos 0)
       zero_is = record { least = omega (arith, ints); most = omega (arith, ints) }
-
--- of each array, first that it is one of so many items, and then what holds of the items
-metals_hold : All Sound (checks_of_metals sample_document)
-metals_hold =
-    All-append Sound (has_metals ∷ metals_are_few ∷ []) (map (of_metal 0) layer_checks ++ map (of_metal 1) layer_checks)
-    (All-from_recursion Sound (has_metals ∷ metals_are_few ∷ []) (omega arith, (omega arith, tt)))
-    (All-append Sound (map (of_metal 0) layer_checks) (map (of_metal 1) layer_checks) first_metal_holds second_metal_holds)
-
-cuts_hold : All Sound (checks_of_cuts sample_document)
-cuts_hold =
-    All-append Sound (cuts_are_array ∷ cuts_are_few ∷ []) (map (of_cut 0) cut_checks)
-    (All-from_recursion Sound (cuts_are_array ∷ cuts_are_few ∷ []) (refl, (omega arith, tt)))
-    (All-append Sound (map (of_cut 0) (map as_layer layer_checks)) (map (of_cut 0) end_checks) cut_layer_holds cut_ends_hold)
-
-terminals_hold : All Sound (checks_of_terminals sample_document)
-terminals_hold =
-    All-append Sound (terminals_are_array ∷ terminals_are_few ∷ []) (map (of_terminal 0) terminal_checks)
-    (All-from_recursion Sound (terminals_are_array ∷ terminals_are_few ∷ []) (refl, (omega arith, tt))) terminal_holds
 
 sample_holds : All Sound (checks_of sample_document)
 sample_holds =
@@ -222,4 +192,4 @@ sample_gives = record {
   second = record { metal = record { name = codes "m2"; pairs = (3, 0) ∷ [] }; numbered = refl; named = refl }
 
 pub sample_comes_to_its_map : MapComesTo sample_text (value sample_map)
-sample_comes_to_its_map = document_decides sample_text sample_document (value sample_map) is_document (all_hold sample_holds sample_gives)
+sample_comes_to_its_map = goes_on (reads is_document) (all_hold sample_holds sample_gives)

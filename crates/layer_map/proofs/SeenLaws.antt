@@ -1,19 +1,19 @@
--- names and pairs that were seen, and those of the next item
-use Rattle.std.proofs.Common.{◌≡◌, ℕ, List, [], ◌∷◌, ◌++◌, map, Some, Ok, Err, sym, ap, ◌∙◌, subst, Contains}
-use Rattle.layer_map.specs.inside.ReadValues.{IsThere}
-use Rattle.map_model.specs.MapNames.{ArePairs, IsLayerName}
-use Rattle.lists.proofs.Words.{append-nil, flat_map, flat_map-append, map-append, All-from_recursion}
-use Rattle.toml.specs.Data.{Data, string}
+-- names and pairs that were seen, those of the next item, and those of all layers
+use Rattle.std.proofs.Common.{◌≡◌, ℕ, List, [], ◌∷◌, ◌++◌, map, Some, refl, sym, ap, ◌∙◌, subst, Contains}
+use Rattle.map_model.specs.MapNames.{MappedLayer, metal_layer, names_of, pairs_of}
+use Rattle.lists.proofs.Words.{append-nil, flat_map, flat_map-append, map-append, map-map, AllZip}
+use Rattle.toml.specs.Data.{Data, Members}
 use Rattle.lists.specs.Differing.{AreDifferent}
-use Rattle.layer_map.specs.LayerChecks.{LayerHolds, has_name, has_new_name, has_pairs, has_new_pairs, layer_fault}
-use Rattle.layer_map.specs.DocumentPaths.{name_at, pairs_at}
-use Rattle.layer_map.specs.Values.{name_of_item, pairs_of_item, pair_value, pairs_value, values_in}
-use Rattle.layer_map.specs.inside.ReadLayers.{pair_values, written_name}
-use Rattle.layer_map.specs.declared.fault.MapFault.TheVariants.{BadValue, RepeatedName, RepeatedPair, Memory}
-use Rattle.first_refusal.proofs.JudgeLaws.{Judges, fails_first, passes}
-use Rattle.layer_map.proofs.EachLaws.{fails_second}
-use Rattle.lists.proofs.Differing.{AreDifferent-map, AreDifferent-unmap}
-use Rattle.lists.proofs.Mapping.{Contains-map, Contains-map_from}
+use Rattle.layer_map.specs.Values.{name_of_item, pairs_of_item, pair_value, pairs_value, values_in, metals_in}
+use Rattle.layer_map.specs.Documents.{GivesLayer}
+use Rattle.layer_map.specs.inside.ReadLayers.{AreSeen, TakesLayer, TakesName, TakesPairs, pair_values, written_name}
+use Rattle.layer_map.specs.inside.ReadMetals.{HaveNamesOf, TakesMetals}
+use Rattle.layer_map.specs.declared.seen.Layer.{Layer}
+use Rattle.layer_map.specs.declared.seen.Seen.{Seen}
+use Rattle.map_model.specs.declared.layers.Metal.{Metal}
+use Rattle.lists.proofs.Differing.{AreDifferent-map, AreDifferent-unmap, different_more}
+use Rattle.lists.proofs.Mapping.{Contains-map_from}
+use Rattle.layer_map.proofs.SpelledLaws.{zip_shows}
 use Rattle.layer_map.proofs.ValueLaws.{listed-items_of}
 
 name_tells : (one other : List ℕ) → written_name one ≡ written_name other → one ≡ other
@@ -33,41 +33,45 @@ pairs_up_to earlier item pairs more seen there =
     flat_map-append pair_values earlier (item ∷ []) ∙ ap (λ xs. flat_map pair_values earlier ++ xs) (append-nil (pair_values item)) ∙ ap (λ xs. xs ++ pair_values item) seen
     ∙ ap (λ xs. map pair_value pairs ++ xs) here ∙ sym (map-append pair_value pairs more)
 
-module _ (known : List (List ℕ)) (earlier : List Data) (item : Data) (path : ℕ) {T : Type 0} (Is : T → Type 0) where
-  pub no_name : ((name : List ℕ) → IsThere string IsLayerName (name_of_item item) name → ⊥) → Judges Memory (LayerHolds known earlier item) (has_name ∷ has_new_name ∷ []) (layer_fault path) Is
-      (Err (BadValue (name_at path)))
-  no_name not = fails_first (LayerHolds known earlier item) (layer_fault path) Is has_name (has_new_name ∷ []) (λ h. not h.0 (record { written = h.1; is = h.2 }))
+-- layers that items give have their names and their pairs, and where those that were seen differ so do these
+pub names_zip : (ds : List Data) (layers : List MappedLayer) → AllZip GivesLayer ds layers → map name_of_item ds ≡ map written_name (names_of layers)
+names_zip ds layers all = zip_shows GivesLayer name_of_item (λ layer. written_name layer.name) (λ d layer gives. gives.name) ds layers all ∙ sym (map-map written_name (λ layer. layer.name) layers)
 
-  module _ (names : List (List ℕ)) (seen : map name_of_item earlier ≡ map written_name names) (name : List ℕ) (there : IsThere string IsLayerName (name_of_item item) name) where
-    name_holds : LayerHolds known earlier item has_name
-    name_holds = (name, there.written, there.is)
+pairs_zip : (ds : List Data) (layers : List MappedLayer) → AllZip GivesLayer ds layers → flat_map pair_values ds ≡ map pair_value (pairs_of layers)
+pairs_zip [] [] all = refl
+pairs_zip (d ∷ ds) (l ∷ ls) all = ap (λ xs. xs ++ flat_map pair_values ds) (ap values_in all.0.pairs ∙ listed-items_of (map pair_value l.pairs))
+    ∙ ap (λ xs. map pair_value l.pairs ++ xs) (pairs_zip ds ls all.1) ∙ sym (map-append pair_value l.pairs (pairs_of ls))
+pairs_zip ds layers all = absurd all
 
-    pub old_name : Contains names name → Judges Memory (LayerHolds known earlier item) (has_name ∷ has_new_name ∷ []) (layer_fault path) Is (Err (RepeatedName (name_at path)))
-    old_name among = fails_second (LayerHolds known earlier item) (layer_fault path) Is has_name has_new_name [] name_holds
-        (λ new. new (rw (seen, there.written) (Contains-map written_name names name among)))
+pub layers_differ : (ds : List Data) (layers : List MappedLayer) (seen : Seen) → AllZip GivesLayer ds layers → AreSeen ds seen → AreDifferent (names_of layers) × AreDifferent (pairs_of layers)
+layers_differ ds layers seen all are = (
+  AreDifferent-unmap written_name (names_of layers) (subst AreDifferent (sym are.names ∙ names_zip ds layers all) (AreDifferent-map written_name seen.names.items name_tells are.names_differ)),
+  AreDifferent-unmap pair_value (pairs_of layers) (subst AreDifferent (sym are.pairs ∙ pairs_zip ds layers all) (AreDifferent-map pair_value seen.pairs.items pair_tells are.pairs_differ)),
+)
 
-    pub new_name : (thing : T) → (Contains names name → ⊥) → Is thing → Judges Memory (LayerHolds known earlier item) (has_name ∷ has_new_name ∷ []) (layer_fault path) Is (Ok thing)
-    new_name thing new is =
-        passes (LayerHolds known earlier item) (layer_fault path) Is (has_name ∷ has_new_name ∷ []) thing
-        (All-from_recursion (LayerHolds known earlier item) (has_name ∷ has_new_name ∷ []) (name_holds, ((λ h. new (name_among names name (rw (seen, there.written) at h))), tt))) is
+-- what is known of the metals behind which cuts and terminals are read
+module _ (document : Members) (seen : Seen) (metals : List Metal) (takes : TakesMetals document seen metals) where
+  pub have_names : HaveNamesOf (metals_in document) metals
+  have_names = names_zip (metals_in document) (map metal_layer metals) takes.gives_them ∙ ap (map written_name) (map-map (λ layer. layer.name) metal_layer metals)
 
-  pub no_pairs : ((pairs : List (ℕ × ℕ)) → IsThere pairs_value ArePairs (pairs_of_item item) pairs → ⊥)
-      → Judges Memory (LayerHolds known earlier item) (has_pairs ∷ has_new_pairs ∷ []) (layer_fault path) Is (Err (BadValue (pairs_at path)))
-  no_pairs not = fails_first (LayerHolds known earlier item) (layer_fault path) Is has_pairs (has_new_pairs ∷ []) (λ h. not h.0 (record { written = h.1; is = h.2 }))
+  pub layer_names_differ : AreDifferent (names_of (map metal_layer metals))
+  layer_names_differ = (layers_differ (metals_in document) (map metal_layer metals) seen takes.gives_them takes.are_seen).0
 
-  module _ (pairs : List (ℕ × ℕ)) (seen : flat_map pair_values earlier ≡ map pair_value pairs) (more : List (ℕ × ℕ)) (there : IsThere pairs_value ArePairs (pairs_of_item item) more) where
-    pairs_hold : LayerHolds known earlier item has_pairs
-    pairs_hold = (more, there.written, there.is)
+  pub names_are_different : AreDifferent (map (λ metal. metal.name) metals)
+  names_are_different = subst AreDifferent (map-map (λ layer. layer.name) metal_layer metals) layer_names_differ
 
-    up_to : flat_map pair_values (earlier ++ item ∷ []) ≡ map pair_value (pairs ++ more)
-    up_to = pairs_up_to earlier item pairs more seen there.written
-
-    pub old_pair : (AreDifferent (pairs ++ more) → ⊥) → Judges Memory (LayerHolds known earlier item) (has_pairs ∷ has_new_pairs ∷ []) (layer_fault path) Is (Err (RepeatedPair (pairs_at path)))
-    old_pair not = fails_second (LayerHolds known earlier item) (layer_fault path) Is has_pairs has_new_pairs [] pairs_hold
-        (λ differ. not (AreDifferent-unmap pair_value (pairs ++ more) (subst AreDifferent up_to differ)))
-
-    pub new_pairs : (thing : T) → AreDifferent (pairs ++ more) → Is thing → Judges Memory (LayerHolds known earlier item) (has_pairs ∷ has_new_pairs ∷ []) (layer_fault path) Is (Ok thing)
-    new_pairs thing differ is =
-        passes (LayerHolds known earlier item) (layer_fault path) Is (has_pairs ∷ has_new_pairs ∷ []) thing
-        (All-from_recursion (LayerHolds known earlier item) (has_pairs ∷ has_new_pairs ∷ [])
-        (pairs_hold, (subst AreDifferent (sym up_to) (AreDifferent-map pair_value (pairs ++ more) pair_tells differ), tt))) is
+-- what was seen, and the next item
+pub takes_layer : (earlier : List Data) (item : Data) (old new : Seen) (layer : Layer) → AreSeen earlier old → TakesName item old.names.items new.names.items layer.name
+    → TakesPairs item old.pairs.items new.pairs.items layer.pairs → TakesLayer earlier item old new layer
+takes_layer earlier item old new layer seen name pairs = record {
+  gives_it = record { name = name.there; pairs = pairs.there };
+  names = name.added;
+  pairs = pairs.added;
+  are_seen = record {
+    names = map-append name_of_item earlier (item ∷ []) ∙ ap (λ xs. xs ++ name_of_item item ∷ []) seen.names ∙ ap (λ x. map written_name old.names.items ++ x ∷ []) name.there
+        ∙ sym (map-append written_name old.names.items (layer.name ∷ [])) ∙ ap (map written_name) (sym name.added);
+    pairs = pairs_up_to earlier item old.pairs.items layer.pairs seen.pairs pairs.there ∙ ap (map pair_value) (sym pairs.added);
+    names_differ = subst AreDifferent (sym name.added) (different_more old.names.items layer.name seen.names_differ name.is_new);
+    pairs_differ = pairs.differ;
+  };
+}

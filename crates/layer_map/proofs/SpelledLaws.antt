@@ -1,21 +1,18 @@
 -- lists of values, each written as something
-use Rattle.std.proofs.Common.{◌≡◌, ℕ, ◌+◌, ◌<◌, ◌≤◌, List, [], ◌∷◌, ◌++◌, length, get_or, take, map, None, refl, sym, ap, ◌∙◌, arith}
-use Rattle.lists.proofs.Words.{length-map, map-append, take_more, get_or-map, All-push, All-get_or, All-nil}
+use Rattle.std.proofs.Common.{◌≡◌, ℕ, ◌+◌, ◌<◌, All, List, [], ◌∷◌, ◌++◌, length, get_or, take, map, None, refl, sym, ap, ◌∙◌, arith}
+use Rattle.lists.proofs.Words.{length-map, map-append, get_or-map, All-push, All-get_or, All-cons, All-nil, AllZip}
+use Rattle.lists.proofs.Reading.{taken_more}
 use Rattle.toml.specs.Data.{Data}
-use Rattle.layer_map.specs.Values.{whole_number}
-use Rattle.layer_map.specs.inside.ReadValues.{IsWholeIn, AreWholesIn, Finds, lacks}
-
--- one item more of a list
-pub map-take-more : {A B : Type 0} (f : A → B) (xs : List A) (i : ℕ) (x : A) → i < length xs → x ≡ get_or xs i x → map f (take (i + 1) xs) ≡ map f (take i xs) ++ f x ∷ []
-map-take-more f xs i x within is = ap (map f) (take_more xs i x within) ∙ map-append f (take i xs) (get_or xs i x ∷ []) ∙ ap (λ y. map f (take i xs) ++ f y ∷ []) (sym is)
+use Rattle.toml.specs.View.{view}
+use Rattle.toml.specs.declared.value.Value.{Value}
+use Rattle.layer_map.specs.inside.ReadValues.{AreWritten, Finds, IsWritten, lacks}
 
 -- a list is told by what is written for it
 pub lists_tell : {A : Type 0} (written : A → Data) → ((one other : A) → written one ≡ written other → one ≡ other) → (xs ys : List A) → map written xs ≡ map written ys → xs ≡ ys
 lists_tell written tells [] [] same = refl
-lists_tell written tells [] (y ∷ ys) same = cc same
-lists_tell written tells (x ∷ xs) [] same = cc same
 lists_tell written tells (x ∷ xs) (y ∷ ys) same =
     let head : x ≡ y = tells x y (cc same) in let tail : xs ≡ ys = lists_tell written tells xs ys (cc same) in cc
+lists_tell written tells xs ys same = cc same
 
 -- what is written at one place
 pub written_at : {A V : Type 0} (view : V → Data) (written : A → Data) (vs : List V) (things : List A) → map view vs ≡ map written things → (i : ℕ) (v : V) (thing : A) → i < length vs
@@ -25,22 +22,38 @@ written_at view written vs things same i v thing within is =
     let room : i < length things = omega arith in
     (room, ap view is ∙ sym (get_or-map view vs i v (view v) within) ∙ ap (λ ds. get_or ds i (view v)) same ∙ get_or-map written things i thing (view v) room)
 
--- whole numbers within bounds
-pub no_wholes : (low high : ℕ) → AreWholesIn low high [] []
-no_wholes low high = record { are_wholes = refl; least = All-nil _; most = All-nil _ }
+-- things of a kind, each written as a value: one more, or a value that is none
+module _ {A : Type 0} (as_value : A → Data) (P : A → Type 0) (vs : List Value) (i : ℕ) (v : Value) (within : i < length vs) (is : v ≡ get_or vs i v) where
+  pub one_written : (things : List A) (thing : A) → AreWritten as_value (All P) (map view (take i vs)) things → IsWritten as_value P (view v) thing
+      → AreWritten as_value (All P) (map view (take (i + 1) vs)) (things ++ thing ∷ [])
+  one_written things thing far here = record {
+    written = ap (map view) (taken_more vs i v within is) ∙ map-append view (take i vs) (v ∷ []) ∙ ap (λ ds. ds ++ view v ∷ []) far.written
+        ∙ ap (λ d. map as_value things ++ d ∷ []) here.written ∙ sym (map-append as_value things (thing ∷ []));
+    is = All-push P things thing far.is here.is;
+  }
 
-pub wholes_push : (low high : ℕ) (ds : List Data) (numbers : List ℕ) (d : Data) (number : ℕ) → AreWholesIn low high ds numbers → IsWholeIn low high d number
-    → AreWholesIn low high (ds ++ d ∷ []) (numbers ++ number ∷ [])
-wholes_push low high ds numbers d number are is =
-    record {
-      are_wholes = ap (λ xs. xs ++ d ∷ []) are.are_wholes ∙ ap (λ y. map whole_number numbers ++ y ∷ []) is.is_whole ∙ sym (map-append whole_number numbers (number ∷ []));
-      least = All-push (λ n. low ≤ n) numbers number are.least is.least;
-      most = All-push (λ n. n ≤ high) numbers number are.most is.most;
-    }
+  pub none_written : (Kind : List A → Type 0) → ((things : List A) → Kind things → All P things) → A → ((thing : A) → IsWritten as_value P (view v) thing → ⊥)
+      → Finds (AreWritten as_value Kind (map view vs)) None
+  none_written Kind each d not = lacks (λ things are.
+      let (room, told) = written_at view as_value vs things are.written i v d within is in
+      not (get_or things i d) (record { written = told; is = All-get_or P things i d room (each things are.is) }))
 
-pub not_wholes : {V : Type 0} (view : V → Data) (low high : ℕ) (vs : List V) (i : ℕ) (v : V) → i < length vs → v ≡ get_or vs i v → ((n : ℕ) → IsWholeIn low high (view v) n → ⊥)
-    → Finds (AreWholesIn low high (map view vs)) None
-not_wholes view low high vs i v within is not =
-    lacks (λ numbers are.
-    let (room, told) = written_at view whole_number vs numbers are.are_wholes i v 0 within is in
-    not (get_or numbers i 0) (record { is_whole = told; least = All-get_or (λ n. low ≤ n) numbers i 0 room are.least; most = All-get_or (λ n. n ≤ high) numbers i 0 room are.most }))
+-- two lists of which each two items at one place stand so to one another
+module _ {A B : Type 0} (R : A → B → Type 0) where
+  -- what all of them show is the same
+  pub zip_shows : {C : Type 0} (f : A → C) (g : B → C) → ((x : A) (y : B) → R x y → f x ≡ g y) → (xs : List A) (ys : List B) → AllZip R xs ys → map f xs ≡ map g ys
+  zip_shows f g tells [] [] all = refl
+  zip_shows f g tells (x ∷ xs) (y ∷ ys) all = ap (λ c. c ∷ map f xs) (tells x y all.0) ∙ ap (λ cs. g y ∷ cs) (zip_shows f g tells xs ys all.1)
+  zip_shows f g tells xs ys all = absurd all
+
+  -- so do what the second become to the first in another way
+  pub zip_becomes : {C : Type 0} (S : A → C → Type 0) (g : B → C) → ((x : A) (y : B) → R x y → S x (g y)) → (xs : List A) (ys : List B) → AllZip R xs ys → AllZip S xs (map g ys)
+  zip_becomes S g more [] [] all = tt
+  zip_becomes S g more (x ∷ xs) (y ∷ ys) all = (more x y all.0, zip_becomes S g more xs ys all.1)
+  zip_becomes S g more xs ys all = absurd all
+
+-- and what is known of the second of each two
+pub zip_each : {A B C : Type 0} (R : A → C → Type 0) (g : B → C) (P : B → Type 0) → ((x : A) (y : B) → R x (g y) → P y) → (xs : List A) (ys : List B) → AllZip R xs (map g ys) → All P ys
+zip_each R g P tells xs [] all = All-nil P
+zip_each R g P tells [] (y ∷ ys) all = absurd all
+zip_each R g P tells (x ∷ xs) (y ∷ ys) all = All-cons P y ys (tells x y all.0) (zip_each R g P tells xs ys all.1)

@@ -7,12 +7,12 @@ use Rattle.first_refusal.proofs.CheckLaws.{checks_agree}
 use Rattle.first_refusal.proofs.StageLaws.{readings_agree, stages_agree}
 use Rattle.toml.specs.Data.{Data, Members}
 use Rattle.layer_map.specs.Documents.{DocumentComesTo, GivesCut, GivesLayer, GivesMap, GivesTerminal, IsDocument, MapComesTo}
-use Rattle.map_model.specs.MapNames.{DefectSize, MappedCut, MappedLayer, names_of, sizes_of}
+use Rattle.map_model.specs.MapNames.{DefectSize, MappedCut, MappedLayer, names_of, sizes_of, LayerMap}
 use Rattle.lists.specs.Differing.{AreDifferent}
 use Rattle.layer_map.specs.MapChecks.{Holds, checks_of, fault_of}
 use Rattle.layer_map.specs.Values.{array_of, pair_value, cuts_in, terminals_in, values_in, whole_number}
 use Rattle.layer_map.specs.declared.fault.MapFault.TheVariants.{Syntax}
-use Rattle.layer_map.proofs.EndLaws.{one_metal_named}
+use Rattle.layer_map.proofs.CutLaws.{one_metal_named}
 use Rattle.layer_map.proofs.SeenLaws.{pair_tells}
 use Rattle.layer_map.proofs.SpelledLaws.{lists_tell}
 use Rattle.layer_map.proofs.ValueLaws.{listed-items_of}
@@ -20,11 +20,10 @@ use Rattle.layer_map.proofs.ValueLaws.{listed-items_of}
 -- what is read of each of some things is one list at most
 zip_tells : {A B : Type 0} (R : A → B → Type 0) → ((a : A) (x y : B) → R a x → R a y → x ≡ y) → (ds : List A) (xs ys : List B) → AllZip R ds xs → AllZip R ds ys → xs ≡ ys
 zip_tells R tells [] [] [] p q = refl
-zip_tells R tells [] [] (y ∷ ys) p q = absurd q
-zip_tells R tells [] (x ∷ xs) ys p q = absurd p
-zip_tells R tells (d ∷ ds) [] ys p q = absurd p
-zip_tells R tells (d ∷ ds) (x ∷ xs) [] p q = absurd q
 zip_tells R tells (d ∷ ds) (x ∷ xs) (y ∷ ys) p q = ap (λ z. z ∷ xs) (tells d x y p.0 q.0) ∙ ap (λ zs. y ∷ zs) (zip_tells R tells ds xs ys p.1 q.1)
+zip_tells R tells [] xs (y ∷ ys) p q = absurd q
+zip_tells R tells (d ∷ ds) xs [] p q = absurd q
+zip_tells R tells ds xs ys p q = absurd p
 
 arrays_tell : {A : Type 0} (written : A → Data) → ((one other : A) → written one ≡ written other → one ≡ other) → (there : Option Data) (xs ys : List A) → there ≡ Some (array_of (map written xs))
     → there ≡ Some (array_of (map written ys)) → xs ≡ ys
@@ -47,18 +46,16 @@ module _ (metals : List MappedLayer) (differ : AreDifferent (names_of metals)) w
       let lower : one.lower ≡ other.lower = one_metal_named metals _ one.lower other.lower differ p.lower q.lower in
       let upper : one.upper ≡ other.upper = one_metal_named metals _ one.upper other.upper differ p.upper q.upper in
       let terminals : one.has_terminals ≡ other.has_terminals = p.no_terminals ∙ sym q.no_terminals in
-      ap (λ (m : MappedLayer). record { mapped = m; lower = one.lower; upper = one.upper; has_terminals = one.has_terminals }) mapped
-      ∙ ap (λ (n : ℕ). record { mapped = other.mapped; lower = n; upper = one.upper; has_terminals = one.has_terminals }) lower
-      ∙ ap (λ (n : ℕ). record { mapped = other.mapped; lower = other.lower; upper = n; has_terminals = one.has_terminals }) upper
-      ∙ ap (λ (b : Bool). record { mapped = other.mapped; lower = other.lower; upper = other.upper; has_terminals = b }) terminals
+      let made : MappedLayer → ℕ → ℕ → Bool → MappedCut = λ m l u t. record { mapped = m; lower = l; upper = u; has_terminals = t } in
+      let same : made one.mapped one.lower one.upper one.has_terminals ≡ made other.mapped other.lower other.upper other.has_terminals = cc (mapped, lower, upper, terminals) in same
 
   terminals_tell : (item : Data) (one other : ℕ × Cell) → GivesTerminal metals item one → GivesTerminal metals item other → one ≡ other
   terminals_tell item (m, c) (n, d) p q =
       let number : m ≡ n = one_metal_named metals _ m n differ p.metal q.metal in
       let columns : c.i ≡ d.i = cc (p.column, q.column) in
       let rows : c.j ≡ d.j = cc (p.row, q.row) in
-      let cells : c ≡ d = ap (λ (z : ℤ). record { i = z; j = c.j }) columns ∙ ap (λ (z : ℤ). record { i = d.i; j = z }) rows in
-      ap (λ (k : ℕ). (k, c)) number ∙ ap (λ (e : Cell). (n, e)) cells
+      let made : ℕ → ℤ → ℤ → ℕ × Cell = λ k x y. (k, record { i = x; j = y }) in
+      let same : made m c.i c.j ≡ made n d.i d.j = cc (number, columns, rows) in same
 
 pub maps_tell : (document : Members) → IsUnique (GivesMap document)
 maps_tell document one other p q =
@@ -70,10 +67,8 @@ maps_tell document one other p q =
     let radii : p.radii ≡ q.radii = arrays_tell whole_number number_tells _ p.radii q.radii p.has_radii q.has_radii in
     let weights : p.weights ≡ q.weights = arrays_tell whole_number number_tells _ p.weights q.weights p.has_weights q.has_weights in
     let sizes : one.sizes ≡ other.sizes = p.sizes ∙ ap (λ (rs : List ℕ). sizes_of rs p.weights) radii ∙ ap (λ (ws : List ℕ). sizes_of q.radii ws) weights ∙ sym q.sizes in
-    ap (λ (ms : List MappedLayer). record { metals = ms; cuts = one.cuts; sizes = one.sizes; terminals = one.terminals }) metals
-    ∙ ap (λ (cs : List MappedCut). record { metals = other.metals; cuts = cs; sizes = one.sizes; terminals = one.terminals }) cuts
-    ∙ ap (λ (ss : List DefectSize). record { metals = other.metals; cuts = other.cuts; sizes = ss; terminals = one.terminals }) sizes
-    ∙ ap (λ (ts : List (ℕ × Cell)). record { metals = other.metals; cuts = other.cuts; sizes = other.sizes; terminals = ts }) terminals
+    let made : List MappedLayer → List MappedCut → List DefectSize → List (ℕ × Cell) → LayerMap = λ ms cs ss ts. record { metals = ms; cuts = cs; sizes = ss; terminals = ts } in
+    let same : made one.metals one.cuts one.sizes one.terminals ≡ made other.metals other.cuts other.sizes other.terminals = cc (metals, cuts, sizes, terminals) in same
 
 pub documents_agree : (bytes : List ℕ) → IsUnique (IsDocument bytes)
 documents_agree bytes one other p q = same_Some _ _ (sym p.parsed ∙ q.parsed)

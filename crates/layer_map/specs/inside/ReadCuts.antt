@@ -20,7 +20,6 @@ pub record TakesEnds (metals : List Metal) (item : Data) (ends : ℕ × ℕ) : T
 -- the item, behind these, gives this cut between two of the metals, whose name and pairs were added to those that were seen
 pub record TakesCut (metals : List Metal) (earlier : List Data) (item : Data) (old new : Seen) (cut : Cut) : Type 0 where
   pub gives_it : GivesCut (map metal_layer metals) item (mapped_cut cut)
-  pub joins : JoinsMetals (length metals) cut
   pub names : new.names.items ≡ old.names.items ++ cut.name ∷ []
   pub pairs : new.pairs.items ≡ old.pairs.items ++ cut.pairs
   pub are_seen : AreSeen (earlier ++ item ∷ []) new

@@ -3,7 +3,7 @@ use Rattle.std.specs.Prelude.{◌≡◌, ◌≤◌, List, length, map}
 use Rattle.lists.specs.Words.{AllZip}
 use Rattle.toml.specs.Data.{Data, Members}
 use Rattle.layer_map.specs.Documents.{GivesLayer}
-use Rattle.map_model.specs.MapNames.{metal_layer, names_of, pairs_of}
+use Rattle.map_model.specs.MapNames.{metal_layer}
 use Rattle.layer_map.specs.Values.{name_of_item, metals_in}
 use Rattle.map_model.specs.declared.limits.TheConstants.{MOST_METALS}
 use Rattle.layer_map.specs.declared.seen.Seen.{Seen}
@@ -20,5 +20,3 @@ pub record TakesMetals (document : Members) (seen : Seen) (metals : List Metal) 
   pub few : length metals ≤ MOST_METALS
   pub gives_them : AllZip GivesLayer (metals_in document) (map metal_layer metals)
   pub are_seen : AreSeen (metals_in document) seen
-  pub names : seen.names.items ≡ names_of (map metal_layer metals)
-  pub pairs : seen.pairs.items ≡ pairs_of (map metal_layer metals)

@@ -19,9 +19,8 @@ abbrev pub AddsPlace : Bool → List (ℕ × ℤ × ℤ) → List (ℕ × ℤ ×
 AddsPlace is_new old new place = MatchBool is_new ((new ≡ old ++ place ∷ []) × (Contains old place → ⊥)) (Contains old place)
 
 -- the item gives this terminal of one of the metals
-pub record TakesTerminal (metals : List Metal) (item : Data) (terminal : Terminal) : Type 0 where
-  pub gives_it : GivesTerminal (map metal_layer metals) item (terminal_of terminal)
-  pub on_metal : terminal.metal < length metals
+abbrev pub TakesTerminal : List Metal → Data → Terminal → Type 0
+TakesTerminal metals item terminal = GivesTerminal (map metal_layer metals) item (terminal_of terminal)
 
 -- these terminals are those of the document, whose metals are these
 pub record TakesTerminals (document : Members) (metals : List Metal) (terminals : List Terminal) : Type 0 where

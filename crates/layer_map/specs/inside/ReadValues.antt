@@ -24,17 +24,18 @@ pub record IsThere {A : Type 0} (as_value : A → Data) (Kind : A → Type 0) (t
   pub written : there ≡ Some (as_value thing)
   pub is : Kind thing
 
--- the value is this whole number, which lies within these bounds
-pub record IsWholeIn (low high : ℕ) (value : Data) (number : ℕ) : Type 0 where
-  pub is_whole : value ≡ whole_number number
+-- the number lies within these bounds
+pub record IsWithin (low high number : ℕ) : Type 0 where
   pub least : low ≤ number
   pub most : number ≤ high
 
+-- the value is this whole number, which lies within these bounds
+abbrev pub IsWholeIn : ℕ → ℕ → Data → ℕ → Type 0
+IsWholeIn low high = IsWritten whole_number (IsWithin low high)
+
 -- the values are these whole numbers, each of which lies within these bounds
-pub record AreWholesIn (low high : ℕ) (values : List Data) (numbers : List ℕ) : Type 0 where
-  pub are_wholes : values ≡ map whole_number numbers
-  pub least : All (λ number. low ≤ number) numbers
-  pub most : All (λ number. number ≤ high) numbers
+abbrev pub AreWholesIn : ℕ → ℕ → List Data → List ℕ → Type 0
+AreWholesIn low high = AreWritten whole_number (All (IsWithin low high))
 
 -- texts, without where they lie
 abbrev pub texts_of : List (Bor (List ℕ)) → List (List ℕ)

@@ -1,7 +1,10 @@
 use Rattle.std.proofs.Common.{arith, take_all}
 use Rattle.lists.proofs.Words.{nat_tests}
 use Rattle.layer_map.proofs.FindLaws.{found, none_found}
-use Rattle.layer_map.proofs.PairLaws.{all_pairs, not_all_pairs, one_pair_more, wrong_count}
+use Rattle.layer_map.proofs.PairLaws.{all_pairs, wrong_count}
+use Rattle.layer_map.proofs.SpelledLaws.{none_written, one_written}
+use Rattle.layer_map.specs.Values.{pair_value}
+use Rattle.map_model.specs.MapNames.{ArePairs, IsPair}
 use Rattle.layer_map.proofs.layer_items.pairs_of.Goals as goal
 
 pub returns-then-is_empty : goal.returns-then-is_empty
@@ -12,13 +15,12 @@ returns-then-values-gt-MOST_PAIRS c = wrong_count c.args.values.now (λ counts. 
 
 pub returns-in-None : goal.returns-in-None
 returns-in-None c =
-    not_all_pairs c.args.values.now c.loop-value.value-index c.value-item.result c.loop-value-test.true c.value-item.is (none_found c.in-None.ensures)
+    none_written pair_value IsPair c.args.values.now _ _ c.loop-value-test.true c.value-item.is ArePairs (λ pairs are. are.each) (0, 0) (none_found c.in-None.ensures)
 
 pub loop-value-preserved : goal.loop-value-preserved
 loop-value-preserved c =
     rw c.in_ok-push-in-Some.ensures.items
-    (one_pair_more c.args.values.now c.loop-value.value-index c.value-item.result c.loop-value.pairs.items c.in-Some.pair c.loop-value-test.true c.value-item.is c.loop-value.invariant
-    (found c.in-Some.ensures))
+    (one_written pair_value IsPair c.args.values.now _ _ c.loop-value-test.true c.value-item.is _ _ c.loop-value.invariant (found c.in-Some.ensures))
 
 pub returns : goal.returns
 returns c =

@@ -1,5 +1,5 @@
 use Rattle.std.proofs.Common.{SFits, rules, w32}
-use Rattle.layer_map.proofs.PlaceLaws.{adds_place, place_is}
+use Rattle.layer_map.proofs.TerminalLaws.{adds_place, place_is}
 use Rattle.layer_map.proofs.terminals.add_place.Goals as goal
 
 pub returns : goal.returns

@@ -1,18 +1,17 @@
 use Rattle.std.proofs.Common.{take_all}
-use Rattle.toml.specs.View.{view}
-use Rattle.layer_map.specs.inside.ReadValues.{finds}
+use Rattle.layer_map.specs.Values.{whole_number}
+use Rattle.layer_map.specs.inside.ReadValues.{IsWithin, finds}
 use Rattle.layer_map.proofs.FindLaws.{found, none_found}
-use Rattle.layer_map.proofs.SpelledLaws.{map-take-more, not_wholes, wholes_push}
+use Rattle.layer_map.proofs.SpelledLaws.{none_written, one_written}
 use Rattle.layer_map.proofs.values.wholes_in.Goals as goal
 
 pub returns-in-None : goal.returns-in-None
-returns-in-None c =
-    not_wholes view c.args.low c.args.high c.args.values.now c.loop-value.value-index c.value-item.result c.loop-value-test.true c.value-item.is (none_found c.in-None.ensures)
+returns-in-None c = none_written whole_number (IsWithin c.args.low c.args.high) c.args.values.now _ _ c.loop-value-test.true c.value-item.is _ (λ things all. all) 0 (none_found c.in-None.ensures)
 
 pub loop-value-preserved : goal.loop-value-preserved
 loop-value-preserved c =
-    rw (map-take-more view c.args.values.now c.loop-value.value-index c.value-item.result c.loop-value-test.true c.value-item.is, c.in_ok-push-in-Some.ensures.items)
-    (wholes_push c.args.low c.args.high _ c.loop-value.numbers.items _ c.in-Some.number c.loop-value.invariant (found c.in-Some.ensures))
+    rw c.in_ok-push-in-Some.ensures.items
+    (one_written whole_number (IsWithin c.args.low c.args.high) c.args.values.now _ _ c.loop-value-test.true c.value-item.is _ _ c.loop-value.invariant (found c.in-Some.ensures))
 
 pub returns : goal.returns
 returns c = finds (rw (take_all c.loop-value.value-index c.args.values.now c.loop-value-test.false) at c.loop-value.invariant)
