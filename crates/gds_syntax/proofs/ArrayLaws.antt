@@ -8,9 +8,9 @@ use Rattle.library_grammar.specs.GrammarNames.{Entry, ElementCheck, ElementHolds
 use Rattle.library_grammar.specs.declared.fault.SyntaxFault.TheVariants.{EmptyArray, UnevenArray}
 
 -- steps between the same points
-pub leads_alike : (count told_count : ℤ) (from told_from to told_to : Point) (step : ℤ × ℤ) → told_count ≡ count → told_from ≡ from → told_to ≡ to
+pub leads_alike : {count told_count : ℤ} {from told_from to told_to : Point} {step : ℤ × ℤ} → told_count ≡ count → told_from ≡ from → told_to ≡ to
     → Leads told_count told_from told_to step → Leads count from to step
-leads_alike count told_count from told_from to told_to step is_count is_from is_to leads =
+leads_alike {told_count = told_count} {from = from} {told_from = told_from} {to = to} {step = step} is_count is_from is_to leads =
     subst (λ n. Leads n from to step) is_count (subst (λ p. Leads told_count p to step) is_from (subst (λ p. Leads told_count told_from p step) is_to leads))
 
 module _ (own : List Entry) where

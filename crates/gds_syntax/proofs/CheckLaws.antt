@@ -1,6 +1,6 @@
 -- The checks of an element: that they hold, and the fault of the first that fails.
-use Rattle.std.proofs.Common.{◌≡◌, refl, ap, sym, ◌∙◌, subst, ℕ, ◌+◌, ◌<◌, ◌≤◌, List, ◌∷◌, ◌++◌, map, length, get_or, take, drop, append_assoc, All, Contains, take_all}
-use Rattle.lists.proofs.Words.{map-append, take-append-drop, drop_more, All-map, All-more}
+use Rattle.std.proofs.Common.{◌≡◌, refl, ap, sym, ◌∙◌, subst, ℕ, ◌+◌, ◌<◌, ◌≤◌, List, ◌∷◌, ◌++◌, map, length, get_or, take, drop, All, Contains, take_all}
+use Rattle.lists.proofs.Words.{map-append, take-append-drop, drop_more, All-map}
 use Rattle.library_grammar.specs.GrammarNames.{IsRefusalOfFirst, IsFaultOfFirst, Entry, ElementCheck, ElementForm, has, ElementHolds, element_fault, kinds_of}
 use Rattle.first_refusal.specs.Checks.{IsFirstFailing}
 use Rattle.library_grammar.specs.declared.fault.SyntaxFault.TheVariants.{Missing}
@@ -13,10 +13,6 @@ fault_of at own checks check first = record { check = check; is_first = first; i
 -- ---- the records that are needed, looked for one after the other
 
 module _ (own : List Entry) (needed : List ℕ) where
-  pub first_needed_are_there : (i : ℕ) → i < length needed → All (Contains (kinds_of own)) (take i needed) → Contains (kinds_of own) (get_or needed i 0)
-      → All (Contains (kinds_of own)) (take (i + 1) needed)
-  first_needed_are_there i within all there = All-more (Contains (kinds_of own)) needed i 0 within all there
-
   -- the records that were looked for are those that the element needs
   module _ (form : ElementForm) (same : needed ≡ form.required) where
     pub needed_are_there : (i : ℕ) → length needed ≤ i → All (Contains (kinds_of own)) (take i needed) → All (ElementHolds own) (map has form.required)

@@ -1,8 +1,8 @@
 -- How a reader goes through the elements of a structure.
-use Rattle.std.proofs.Common.{◌≡◌, ◌≢◌, ℕ, ◌<◌, ◌≤◌, List, [], ◌∷◌, ◌++◌, length, refl, sym, ap, subst, ◌∙◌, Some, None, Option, arith, option_to_list, append_assoc, length-append}
-use Rattle.lists.proofs.Words.{add-zero, ne_eqb, append-nil, All-nil, All-append, All-cons, flat_map, flat_map-append}
+use Rattle.std.proofs.Common.{IfSome, ◌≡◌, ◌≢◌, ℕ, ◌<◌, ◌≤◌, List, [], ◌∷◌, ◌++◌, length, refl, sym, ap, subst, ◌∙◌, Some, None, Option, arith, option_to_list, append_assoc, length-append}
+use Rattle.lists.proofs.Words.{All-push, add-zero, ne_eqb, append-nil, All-nil, flat_map, flat_map-append}
 use Rattle.gds_records.specs.declared.kinds.TheConstants as kind
-use Rattle.library_grammar.specs.GrammarNames.{IsKept, Reading, entry_of, Entry, ElementForm, Opens, element_forms, IsFirstFault, ElementParts, element_records, IsElement, behind, SayElements, among_own, behind_strname, between_elements, between_structures, form_of, into_element, next_place, IsPlain}
+use Rattle.library_grammar.specs.GrammarNames.{IsOfKind, Place, IsKept, Reading, entry_of, Entry, ElementForm, Opens, element_forms, ElementParts, element_records, IsElement, behind, SayElements, among_own, behind_strname, between_elements, between_structures, form_of, into_element, next_place, IsPlain}
 use Rattle.gds_records.specs.declared.record.Record.{Record}
 use Rattle.library_grammar.specs.Libraries.{no_more, one_more}
 use Rattle.gds_syntax.specs.LibraryReaders.{IsElementAt, AreElements, TakesRecord, standing, IsAt, IsFirstBehind, Advances, Stops, ReadsElement, ReadsElements, ReadsElementsSoFar}
@@ -11,24 +11,29 @@ use Rattle.library_grammar.specs.declared.fault.SyntaxFault.{SyntaxFault}
 use Rattle.library_grammar.specs.declared.fault.SyntaxFault.TheVariants.{Unexpected}
 use Rattle.library_grammar.proofs.PlaceEndings.{found_form}
 use Rattle.library_grammar.proofs.PlainKinds.{plain, opening_is_plain}
-use Rattle.gds_syntax.proofs.ReaderLaws.{Advances-none, Advances-append, advances_plain, advances_kind, stops_later, stops_unexpected}
+use Rattle.gds_syntax.proofs.ReaderLaws.{Advances-none, Advances-append, advances_plain, advances_kind, stops_later, stops_there, stops_unexpected}
 use Rattle.library_grammar.proofs.NextRecords.{behind-append}
 
--- a structure without a class
-pub elements_begin : {old new : Reading} {found : Record} → TakesRecord old new found → found.kind ≢ kind.STRCLASS → ReadsElementsSoFar old new [] found
-elements_begin {old = old} {found = found} takes other =
+-- no element yet, behind the class of a structure or without one
+begins_at : {old mid new : Reading} {found : Record} (class : Option Entry) (place : Place) → IfSome class (IsOfKind kind.STRCLASS) → next_place place found.kind ≡ into_element found.kind
+    → ((names : List (List ℕ)) → Advances old mid (standing behind_strname names) (standing place names) (option_to_list class ++ [])) → TakesRecord mid new found → ReadsElementsSoFar old new [] found
+begins_at {mid = mid} class place is_class is_between advances takes =
     record {
-      between = old;
-      class = None;
-      is_class = tt;
+      between = mid;
+      class = class;
+      is_class = is_class;
       entries = [];
       are_elements = record { parts = []; in_grammar = All-nil IsElement; are_theirs = refl; say = no_more };
       few = omega arith;
-      place = behind_strname;
-      is_between = rw (ne_eqb found.kind kind.STRCLASS other) refl;
-      advances = λ names. Advances-none old (standing behind_strname names);
+      place = place;
+      is_between = is_between;
+      advances = advances;
       takes = takes;
     }
+
+pub elements_begin : {old new : Reading} {found : Record} → TakesRecord old new found → found.kind ≢ kind.STRCLASS → ReadsElementsSoFar old new [] found
+elements_begin {old = old} {found = found} takes other =
+    begins_at None behind_strname tt (rw (ne_eqb found.kind kind.STRCLASS other) refl) (λ names. Advances-none old (standing behind_strname names)) takes
 
 -- a structure with a class
 pub class_further : {old mid : Reading} {class : Record} → TakesRecord old mid class → class.kind ≡ kind.STRCLASS → (names : List (List ℕ))
@@ -37,19 +42,7 @@ class_further takes is names = advances_kind kind.STRCLASS behind_strname betwee
 
 pub elements_begin_behind_class : {old mid new : Reading} {class found : Record} → TakesRecord old mid class → class.kind ≡ kind.STRCLASS → TakesRecord mid new found
     → ReadsElementsSoFar old new [] found
-elements_begin_behind_class {mid = mid} {class = class} takes is more =
-    record {
-      between = mid;
-      class = Some (entry_of class);
-      is_class = is;
-      entries = [];
-      are_elements = record { parts = []; in_grammar = All-nil IsElement; are_theirs = refl; say = no_more };
-      few = omega arith;
-      place = between_elements;
-      is_between = refl;
-      advances = class_further takes is;
-      takes = more;
-    }
+elements_begin_behind_class {class = class} takes is more = begins_at (Some (entry_of class)) between_elements is refl (class_further takes is) more
 
 -- a record that opens an element
 pub opens : (k : ℕ) (form : ElementForm) → form_of k ≡ Some form → Opens k form
@@ -57,23 +50,30 @@ opens k form found =
     let (listed, opening) = found_form element_forms k form found in
     record { listed = listed; opening = opening }
 
--- a reader goes on by it
-pub opening_further : {old mid : Reading} {elements : List Element} {found : Record} {form : ElementForm} → found.kind ≢ kind.ENDSTR → form_of found.kind ≡ Some form
-    → (so_far : ReadsElementsSoFar old mid elements found) → (names : List (List ℕ))
-    → Advances old mid (standing behind_strname names) (standing (among_own form []) names) (option_to_list so_far.class ++ so_far.entries ++ entry_of found ∷ [])
-opening_further {found = found} {form = form} no_end is so_far names =
-    let next : next_place so_far.place found.kind ≡ Some (among_own form []) = so_far.is_between ∙ rw (ne_eqb found.kind kind.ENDSTR no_end, is) refl in
-    let opened = opens found.kind form is in
-    Advances-append (so_far.advances names)
-    (advances_plain (standing so_far.place names) (among_own form []) so_far.takes next (subst IsPlain (sym opened.opening) (opening_is_plain form opened.listed)))
+-- where a reader found a record that opens an element
+module _ {old mid : Reading} {elements : List Element} {found : Record} {form : ElementForm} (no_end : found.kind ≢ kind.ENDSTR) (is : form_of found.kind ≡ Some form)
+    (so_far : ReadsElementsSoFar old mid elements found) where
+  -- it goes on by it
+  opening_step : (names : List (List ℕ)) → Advances so_far.between mid (standing so_far.place names) (standing (among_own form []) names) (entry_of found ∷ [])
+  opening_step names =
+      let next : next_place so_far.place found.kind ≡ Some (among_own form []) = so_far.is_between ∙ rw (ne_eqb found.kind kind.ENDSTR no_end, is) refl in
+      let opened = opens found.kind form is in
+      advances_plain (standing so_far.place names) (among_own form []) so_far.takes next (subst IsPlain (sym opened.opening) (opening_is_plain form opened.listed))
 
--- a reader goes on by the element
-pub element_further : {old mid via : Reading} {elements : List Element} {found : Record} {form : ElementForm} {kept : Option Element} → found.kind ≢ kind.ENDSTR → form_of found.kind ≡ Some form
-    → (so_far : ReadsElementsSoFar old mid elements found) → (reads : ReadsElement mid via found form kept) → (names : List (List ℕ))
-    → Advances old via (standing behind_strname names) (standing between_elements names) (option_to_list so_far.class ++ (so_far.entries ++ entry_of found ∷ reads.entries))
-element_further {old = old} {via = via} no_end is so_far reads names =
-    let all = Advances-append (opening_further no_end is so_far names) (reads.advances names) in
-    subst (λ (x : List Entry). Advances old via (standing behind_strname names) (standing between_elements names) x) (simp append_assoc refl) all
+  -- and by the element
+  pub element_further : {via : Reading} {kept : Option Element} (reads : ReadsElement mid via found form kept) (names : List (List ℕ)) → Advances old via (standing behind_strname names)
+      (standing between_elements names) (option_to_list so_far.class ++ (so_far.entries ++ entry_of found ∷ reads.entries))
+  element_further {via} reads names =
+      let all = Advances-append (Advances-append (so_far.advances names) (opening_step names)) (reads.advances names) in
+      subst (λ (x : List Entry). Advances old via (standing behind_strname names) (standing between_elements names) x) (simp append_assoc refl) all
+
+  -- the fault of the element is the first of the stream
+  pub element_fault_stops : (fault : SyntaxFault)
+      → ((earlier : List Entry) (names : List (List ℕ)) → found.at ≡ behind 0 earlier → IsAt mid (earlier ++ entry_of found ∷ []) (standing (among_own form []) names)
+      → IsFirstBehind (earlier ++ entry_of found ∷ []) mid fault)
+      → (names : List (List ℕ)) → Stops old (standing behind_strname names) fault
+  element_fault_stops fault stops names =
+      stops_later (so_far.advances names) (λ before here. stops_there (opening_step names) here (stops before names (so_far.takes.place ∙ here.offset)))
 
 -- an element more at the end
 SayElements-snoc : (at : ℕ) (parts : List ElementParts) (elements : List Element) (one : ElementParts) (kept : Option Element) → SayElements at parts elements
@@ -93,7 +93,7 @@ AreElements-snoc : (at : ℕ) (entries more : List Entry) (elements : List Eleme
 AreElements-snoc at entries more elements kept are is =
     record {
       parts = are.parts ++ is.parts ∷ [];
-      in_grammar = All-append IsElement are.parts (is.parts ∷ []) are.in_grammar (All-cons IsElement is.parts [] is.in_grammar (All-nil IsElement));
+      in_grammar = All-push IsElement are.parts is.parts are.in_grammar is.in_grammar;
       are_theirs = cc (are.are_theirs, is.are_its, flat_map-append element_records are.parts (is.parts ∷ []), append-nil (element_records is.parts));
       say = SayElements-snoc at are.parts elements is.parts kept are.say
           (subst (λ (es : List Entry). IsKept (behind at es) is.parts.own is.parts.opening.kind kept) are.are_theirs is.keeps);
@@ -109,10 +109,10 @@ begins_there {old = old} so_far =
 pub forward : (old new : Reading) (taken : List Entry) → new.at ≡ behind old.at taken → old.at ≤ new.at
 forward old new taken offset = omega (arith, offset)
 
--- elements are fewer than bytes
-few_more : (elements : List Element) (kept : Option Element) (a b c : ℕ) → length elements ≤ a → a < b → b ≤ c → length (elements ++ option_to_list kept) ≤ c
-few_more elements None a b c few further on = omega (arith, length-append elements [])
-few_more elements (Some element) a b c few further on = omega (arith, length-append elements (element ∷ []))
+-- things that are read are fewer than bytes
+pub few_more : {X : Type 0} (things : List X) (more : Option X) (a b c : ℕ) → length things ≤ a → a < b → b ≤ c → length (things ++ option_to_list more) ≤ c
+few_more things None a b c few further on = omega (arith, length-append things [])
+few_more things (Some thing) a b c few further on = omega (arith, length-append things (thing ∷ []))
 
 -- one element more
 pub elements_go_on : {old mid via new : Reading} {elements : List Element} {found next : Record} {form : ElementForm} {kept : Option Element} → found.kind ≢ kind.ENDSTR
@@ -132,29 +132,6 @@ elements_go_on {old = old} {mid = mid} {via = via} {elements = elements} {found 
       advances = element_further no_end is so_far reads;
       takes = takes;
     }
-
--- the fault of an element is the first of the stream
-pub element_fault_stops : {old mid : Reading} {elements : List Element} {found : Record} {form : ElementForm} (fault : SyntaxFault) → found.kind ≢ kind.ENDSTR → form_of found.kind ≡ Some form
-    → ReadsElementsSoFar old mid elements found
-    → ((earlier : List Entry) (names : List (List ℕ)) → found.at ≡ behind 0 earlier → IsAt mid (earlier ++ entry_of found ∷ []) (standing (among_own form []) names)
-    → IsFirstBehind (earlier ++ entry_of found ∷ []) mid fault)
-    → (names : List (List ℕ)) → Stops old (standing behind_strname names) fault
-element_fault_stops {mid = mid} {found = found} {form = form} fault no_end is so_far stops names before here entries end left =
-    let front = so_far.advances names in
-    let there = front.stands before here in
-    let behind_it = (opening_further no_end is so_far names).stands before here in
-    let place : found.at ≡ behind 0 (before ++ (option_to_list so_far.class ++ so_far.entries)) = so_far.takes.place ∙ there.offset in
-    let same : (before ++ (option_to_list so_far.class ++ so_far.entries)) ++ entry_of found ∷ [] ≡ before ++ (option_to_list so_far.class ++ so_far.entries ++ entry_of found ∷ []) =
-    append_assoc before (option_to_list so_far.class ++ so_far.entries) (entry_of found ∷ []) in
-    let first = stops (before ++ (option_to_list so_far.class ++ so_far.entries)) names place (subst (λ (x : List Entry). IsAt mid x (standing (among_own form []) names)) (sym same) behind_it) in
-    let (behind_front, front_parts, front_left) = front.takes.left entries end left in
-    let (others, parts, other_left) = so_far.takes.takes.left behind_front end front_left in
-    let all : IsFirstFault (((before ++ (option_to_list so_far.class ++ so_far.entries)) ++ entry_of found ∷ []) ++ others) end fault = first others end other_left in
-    let joined : before ++ entries ≡ ((before ++ (option_to_list so_far.class ++ so_far.entries)) ++ entry_of found ∷ []) ++ others =
-    ap (λ (x : List Entry). before ++ x) (front_parts ∙ ap (λ (x : List Entry). (option_to_list so_far.class ++ so_far.entries) ++ x) parts)
-    ∙ sym (append_assoc before (option_to_list so_far.class ++ so_far.entries) (entry_of found ∷ others))
-    ∙ sym (append_assoc (before ++ (option_to_list so_far.class ++ so_far.entries)) (entry_of found ∷ []) others) in
-    subst (λ (x : List Entry). IsFirstFault x end fault) (sym joined) all
 
 -- a record that opens no element
 pub elements_stop : {old new : Reading} {elements : List Element} {found : Record} → found.kind ≢ kind.ENDSTR → form_of found.kind ≡ None

@@ -1,6 +1,6 @@
 -- How a reader goes through the head of a library.
 use Rattle.std.proofs.Common.{◌≡◌, ◌≢◌, ℕ, List, [], ◌∷◌, ◌++◌, refl, sym, subst, ◌∙◌, length, Some, None, arith, Contains, append_assoc}
-use Rattle.lists.proofs.Words.{ne_eqb, eq-eqb, All-nil, All-append, All-take, All-cons, take_at}
+use Rattle.lists.proofs.Words.{All-push, ne_eqb, eq-eqb, All-nil, All-take, take_at}
 use Rattle.library_grammar.specs.GrammarNames.{IsText, Reading, entry_of, AreBytes, IsByte, Place, before_header, before_bgnlib, before_name, before_units, between_structures, has_kind, next_place, head_kinds}
 use Rattle.gds_records.specs.declared.kinds.TheConstants as kind
 use Rattle.gds_records.specs.declared.record.Record.{Record}
@@ -31,8 +31,7 @@ head_goes_on {mid = mid} {found = found} other has so_far takes =
     record {
       between = mid;
       front = so_far.front ++ entry_of found ∷ [];
-      are_head = All-append (λ e. Contains head_kinds e.kind) so_far.front (entry_of found ∷ []) so_far.are_head
-          (All-cons (λ e. Contains head_kinds e.kind) (entry_of found) [] has (All-nil (λ e. Contains head_kinds e.kind)));
+      are_head = All-push (λ e. Contains head_kinds e.kind) so_far.front (entry_of found) so_far.are_head has;
       advances = head_further other has so_far;
       takes = takes;
     }

@@ -1,5 +1,5 @@
 -- answers to checks, put together from answers to parts of them
-use Rattle.std.proofs.Common.{◌≡◌, refl, sym, subst, ℕ, List, [], ◌∷◌, ◌++◌, map, length, Option, Some, None, Result, Ok, Err, All, IsErrAnd}
+use Rattle.std.proofs.Common.{◌≡◌, sym, subst, ℕ, List, [], ◌∷◌, ◌++◌, map, length, Option, Some, None, Result, Ok, Err, All, IsErrAnd}
 use Rattle.lists.proofs.Words.{All-nil, All-cons}
 use Rattle.library_grammar.specs.GrammarNames.{gives, refuses, refused, Checks, all_hold, one_fails, Entry, ElementForm, IsCount, ElementCheck, has, has_right_count, ElementHolds, element_checks, element_fault, checks_of_sort, IsFaultOfFirst, Judges, IsKept, points_of}
 use Rattle.first_refusal.proofs.AnswerLaws.{handed_on}
@@ -41,23 +41,23 @@ module _ (at : ℕ) (own : List Entry) where
   abbrev pub IsAnswer : ElementKind → Result (Option Element) SyntaxFault → Type 0
   IsAnswer kind result = Judges at own (checks_of_sort (form_for kind).sort) (IsKept at own (form_for kind).opening) result
 
-  pub keeps : {T : Type 0} (kind other : ElementKind) (Is : T → Type 0) (t : T) (element : Element) → kind ≡ other
+  pub keeps : {T : Type 0} {kind other : ElementKind} {Is : T → Type 0} {t : T} {element : Element} → kind ≡ other
       → Judges at own (checks_of_sort (form_for other).sort) Is (Ok t) → (Is t → IsKept at own (form_for other).opening (Some element))
       → IsAnswer kind (Ok (Some element))
-  keeps kind other Is t element same (gives (all_hold all is)) kept = subst (λ k. IsAnswer k (Ok (Some element))) (sym same) (gives (all_hold all (kept is)))
+  keeps {element = element} same (gives (all_hold all is)) kept = subst (λ k. IsAnswer k (Ok (Some element))) (sym same) (gives (all_hold all (kept is)))
 
-  pub without_checks : {T : Type 0} (Is : T → Type 0) (t : T) → Is t → Judges at own [] Is (Ok t)
-  without_checks Is t is = gives (all_hold (All-nil (ElementHolds own)) is)
+  pub without_checks : {T : Type 0} {Is : T → Type 0} {t : T} → Is t → Judges at own [] Is (Ok t)
+  without_checks is = gives (all_hold (All-nil (ElementHolds own)) is)
 
-  pub keeps_none : (kind other : ElementKind) → kind ≡ other → checks_of_sort (form_for other).sort ≡ [] → IsKept at own (form_for other).opening None
+  pub keeps_none : {kind other : ElementKind} → kind ≡ other → checks_of_sort (form_for other).sort ≡ [] → IsKept at own (form_for other).opening None
       → IsAnswer kind (Ok None)
-  keeps_none kind other same none kept =
+  keeps_none {other = other} same none kept =
       let none_fails : All (ElementHolds own) (checks_of_sort (form_for other).sort) = subst (All (ElementHolds own)) (sym none) (All-nil (ElementHolds own)) in
       subst (λ k. IsAnswer k (Ok None)) (sym same) (gives (all_hold none_fails kept))
 
-  pub has_fault : {T : Type 0} (kind other : ElementKind) (Is : T → Type 0) (fault : SyntaxFault) (result : Result (Option Element) SyntaxFault) → kind ≡ other
+  pub has_fault : {T : Type 0} {kind other : ElementKind} {Is : T → Type 0} {fault : SyntaxFault} (result : Result (Option Element) SyntaxFault) → kind ≡ other
       → Judges at own (checks_of_sort (form_for other).sort) Is (Err fault) → IsErrAnd result (λ f. f ≡ fault) → IsAnswer kind result
-  has_fault kind other Is fault result same judged h =
+  has_fault {other = other} {Is = Is} {fault = fault} result same judged h =
       let checks : List ElementCheck = checks_of_sort (form_for other).sort in
       let Kept : Option Element → Type 0 = IsKept at own (form_for other).opening in
       subst (λ k. IsAnswer k result) (sym same) (handed_on Memory (Checks (ElementHolds own) checks (element_fault at) Kept) result fault h

@@ -1,13 +1,12 @@
 -- What bytes come to, from what a reader found in them.
-use Rattle.std.proofs.Common.{◌≡◌, ℕ, List, [], ◌∷◌, ◌++◌, refl, ap, subst, ◌∙◌, true}
+use Rattle.std.proofs.Common.{◌≡◌, ℕ, List, [], ◌∷◌, ◌++◌, refl, ap, subst, ◌∙◌}
 use Rattle.lists.proofs.Words.{append-nil}
-use Rattle.library_grammar.specs.GrammarNames.{value, refused, Reading, start_of, IsLeft, Entry, AreBytes, End, whole, Splits, BytesComeTo, are_library, have_fault, NoneShows, LibraryParts, library_head, IsInGrammar, behind, SayStructures, IsLibrary, before_header, between_structures}
+use Rattle.library_grammar.specs.GrammarNames.{value, refused, Reading, start_of, Entry, AreBytes, End, whole, Splits, BytesComeTo, are_library, have_fault, NoneShows, LibraryParts, library_head, behind, SayStructures, IsLibrary, before_header}
 use Rattle.gds_records.proofs.SplitLaws.{all_bytes_split}
 use Rattle.gds_syntax.specs.LibraryReaders.{standing, IsAt, Stops, ReadsHead, ReadsStructures}
 use Rattle.library_grammar.specs.declared.fault.SyntaxFault.{SyntaxFault}
 use Rattle.library_model.specs.declared.library.Library.{Library}
 use Rattle.library_model.specs.declared.library.Structure.{Structure}
-use Rattle.gds_syntax.proofs.ReaderLaws.{stops_later}
 use Rattle.library_grammar.proofs.StandLaws.{starts as nothing_behind}
 
 -- the reader begins where no records are behind it
@@ -19,16 +18,6 @@ pub bytes_have_fault : (bytes : List ℕ) (fault : SyntaxFault) → AreBytes byt
 bytes_have_fault bytes fault are stops =
     let (entries, end, split) = all_bytes_split 0 bytes are in
     have_fault split (stops [] (starts bytes) entries end split)
-
--- behind the head
-pub bytes_have_later_fault : (bytes : List ℕ) (mid : Reading) (name units : List ℕ) (fault : SyntaxFault) → AreBytes bytes → ReadsHead (start_of bytes) mid name units
-    → Stops mid (standing between_structures []) fault → BytesComeTo bytes (refused fault)
-bytes_have_later_fault bytes mid name units fault are head stops =
-    bytes_have_fault bytes fault are (stops_later head.advances stops)
-
--- what is left behind the end
-none_left : (reading : Reading) (entries : List Entry) (end : End) → reading.ended ≡ true → IsLeft reading entries end → (entries ≡ []) × (end ≡ whole)
-none_left reading entries end ended left = rw ended at left
 
 -- the parts that a reader read
 abbrev parts_read : {old mid new : Reading} {name units : List ℕ} {structures : List Structure} → ReadsHead old mid name units → ReadsStructures mid new structures → LibraryParts
@@ -44,20 +33,6 @@ parts_read head rest =
       last = rest.last;
     }
 
-parts_in_grammar : {old mid new : Reading} {name units : List ℕ} {structures : List Structure} (head : ReadsHead old mid name units) (rest : ReadsStructures mid new structures)
-    → IsInGrammar (parts_read head rest)
-parts_in_grammar head rest =
-    record {
-      version = head.is_head.is_version;
-      opens = head.is_head.opens;
-      before_name = head.is_head.are_before_name;
-      names = head.is_head.names;
-      before_units = head.is_head.are_before_units;
-      units = head.is_head.are_units;
-      structures = rest.are_structures.in_grammar;
-      ends = rest.is_last;
-    }
-
 -- the library that they say
 library_of_parts : (bytes : List ℕ) (mid new : Reading) (library : Library) (head : ReadsHead (start_of bytes) mid library.name library.units)
     (rest : ReadsStructures mid new library.structures) → IsLibrary (head.entries ++ (rest.entries ++ rest.last ∷ [])) library
@@ -68,7 +43,16 @@ library_of_parts bytes mid new library head rest =
     record {
       in_shape = record {
         library = parts;
-        in_grammar = parts_in_grammar head rest;
+        in_grammar = record {
+          version = head.is_head.is_version;
+          opens = head.is_head.opens;
+          before_name = head.is_head.are_before_name;
+          names = head.is_head.names;
+          before_units = head.is_head.are_before_units;
+          units = head.is_head.are_units;
+          structures = are.in_grammar;
+          ends = rest.is_last;
+        };
         are_its = ap (λ (es : List Entry). es ++ (rest.entries ++ rest.last ∷ [])) head.is_head.are_its ∙ ap (λ (es : List Entry). library_head parts ++ (es ++ rest.last ∷ [])) are.are_theirs;
       };
       says = record {
@@ -85,7 +69,7 @@ bytes_are_library bytes mid new library are head rest =
     let (entries, end, split) = all_bytes_split 0 bytes are in
     let (others, parts, mid_left) = head.advances.takes.left entries end split in
     let (last, more_parts, new_left) = rest.advances.takes.left others end mid_left in
-    let (none, is_whole) = none_left new last end rest.ended new_left in
+    let (none, is_whole) = rw rest.ended at new_left in
     let all : entries ≡ head.entries ++ (rest.entries ++ rest.last ∷ []) =
     parts ∙ ap (λ (x : List Entry). head.entries ++ x) (more_parts ∙ ap (λ (x : List Entry). (rest.entries ++ rest.last ∷ []) ++ x) none ∙ append-nil (rest.entries ++ rest.last ∷ [])) in
     let quiet : NoneShows (head.entries ++ (rest.entries ++ rest.last ∷ [])) = (rest.advances.stands head.entries (head.advances.stands [] (starts bytes))).none_shows in

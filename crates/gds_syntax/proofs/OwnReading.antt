@@ -1,6 +1,6 @@
 -- How a reader goes through the own records of an element.
-use Rattle.std.proofs.Common.{◌≡◌, ◌≢◌, ℕ, List, [], ◌∷◌, ◌++◌, refl, sym, subst, ◌∙◌, false, Some, None, arith, Contains, not, ◌&&◌}
-use Rattle.lists.proofs.Words.{ne_eqb, map-append, All-nil, All-append, All-cons}
+use Rattle.std.proofs.Common.{◌≡◌, ◌≢◌, ℕ, List, [], ◌∷◌, ◌++◌, refl, sym, subst, ◌∙◌, Bool, true, false, true≢false, Some, None, arith, Contains}
+use Rattle.lists.proofs.Words.{All-push, ne_eqb, map-append, All-nil}
 use Rattle.library_grammar.specs.GrammarNames.{AreDifferent, Reading, entry_of, Entry, ElementForm, element_forms, own_kinds, among_own, has_kind, next_place, out_of_element, kinds_of}
 use Rattle.lists.proofs.Differing.{different_more}
 use Rattle.gds_records.specs.declared.kinds.TheConstants as kind
@@ -63,37 +63,28 @@ pub own_goes_on : {old mid new : Reading} (element : ElementKind) {own : List En
     → (Contains (kinds_of own) found.kind → ⊥) → ReadsOwnSoFar old mid (form_for element) own found → TakesRecord mid new next
     → ReadsOwnSoFar old new (form_for element) (own ++ entry_of found ∷ []) next
 own_goes_on {mid = mid} element {own = own} {found = found} owned fresh so_far takes =
-    let Has : Entry → Type 0 = λ e. Contains (own_kinds (form_for element)) e.kind in
     record {
       between = mid;
-      are_own = All-append Has own (entry_of found ∷ []) so_far.are_own (All-cons Has (entry_of found) [] owned (All-nil Has));
+      are_own = All-push (λ e. Contains (own_kinds (form_for element)) e.kind) own (entry_of found) so_far.are_own owned;
       once = subst AreDifferent (sym (kinds_and_one own (entry_of found))) (different_more (kinds_of own) found.kind so_far.once fresh);
       advances = own_further element owned fresh so_far;
       takes = takes;
     }
 
 -- a record that is no own one, or one that the element has, leads out of the element if anywhere
-own_leaves : (form : ElementForm) (own : List ℕ) (k : ℕ) → (has_kind (own_kinds form) k && not (has_kind own k)) ≡ false → next_place (among_own form own) k ≡ out_of_element k
-own_leaves form own k leaves = rw leaves refl
+own_leaves : (form : ElementForm) (own : List ℕ) (k : ℕ) → (Contains (own_kinds form) k → (Contains own k → ⊥) → ⊥) → next_place (among_own form own) k ≡ out_of_element k
+own_leaves form own k leaves = by (has_kind (own_kinds form) k) (has_kind own k) refl refl
+  where
+    by : (owned had : Bool) → has_kind (own_kinds form) k ≡ owned → has_kind own k ≡ had → next_place (among_own form own) k ≡ out_of_element k
+    by false had foreign _ = rw foreign refl
+    by true true is_own known = rw (is_own, known) refl
+    by true false is_own fresh = absurd (leaves (contains_kind (own_kinds form) k is_own) (λ has. true≢false (sym (has_contained own k has) ∙ fresh)))
 
 -- and stops the reader unless it is PROPATTR or ENDEL
-own_stops : {old new : Reading} {form : ElementForm} {own : List Entry} {found : Record} → (has_kind (own_kinds form) found.kind && not (has_kind (kinds_of own) found.kind)) ≡ false
+pub own_stops : {old new : Reading} {form : ElementForm} {own : List Entry} {found : Record} → (Contains (own_kinds form) found.kind → (Contains (kinds_of own) found.kind → ⊥) → ⊥)
     → found.kind ≢ kind.PROPATTR → found.kind ≢ kind.ENDEL → ReadsOwnSoFar old new form own found → (names : List (List ℕ))
     → Stops old (standing (among_own form []) names) (Unexpected found.at found.kind)
 own_stops {form = form} {own = own} {found = found} leaves no_attribute no_end so_far names =
     let none : out_of_element found.kind ≡ None = rw (ne_eqb found.kind kind.PROPATTR no_attribute, ne_eqb found.kind kind.ENDEL no_end) refl in
     stops_later (so_far.advances names)
     (stops_unexpected (standing (among_own form (kinds_of own)) names) so_far.takes (own_leaves form (kinds_of own) found.kind leaves ∙ none))
-
--- the two ways in which it is none that may follow
-pub foreign_stops : {old new : Reading} {form : ElementForm} {own : List Entry} {found : Record} → (Contains (own_kinds form) found.kind → ⊥)
-    → found.kind ≢ kind.PROPATTR → found.kind ≢ kind.ENDEL → ReadsOwnSoFar old new form own found → (names : List (List ℕ))
-    → Stops old (standing (among_own form []) names) (Unexpected found.at found.kind)
-foreign_stops {form = form} {found = found} foreign no_attribute no_end so_far names =
-    own_stops (rw (is_false (has_kind (own_kinds form) found.kind) (λ has. foreign (contains_kind (own_kinds form) found.kind has))) refl) no_attribute no_end so_far names
-
-pub repeated_stops : {old new : Reading} {form : ElementForm} {own : List Entry} {found : Record} → Contains (own_kinds form) found.kind → Contains (kinds_of own) found.kind
-    → found.kind ≢ kind.PROPATTR → found.kind ≢ kind.ENDEL → ReadsOwnSoFar old new form own found → (names : List (List ℕ))
-    → Stops old (standing (among_own form []) names) (Unexpected found.at found.kind)
-repeated_stops {form = form} {own = own} {found = found} owned repeated no_attribute no_end so_far names =
-    own_stops (rw (has_contained (own_kinds form) found.kind owned, has_contained (kinds_of own) found.kind repeated) refl) no_attribute no_end so_far names

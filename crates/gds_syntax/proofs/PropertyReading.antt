@@ -1,6 +1,6 @@
 -- How a reader goes through the properties of an element.
-use Rattle.std.proofs.Common.{◌≡◌, ◌≢◌, ℕ, List, [], ◌∷◌, ◌++◌, refl, sym, ap, subst, Some, None, arith, append_assoc}
-use Rattle.lists.proofs.Words.{ne_eqb, flat_map, flat_map-append, All-nil, All-append, All-cons}
+use Rattle.std.proofs.Common.{◌∙◌, ◌==◌, false, ◌≡◌, ◌≢◌, ℕ, List, [], ◌∷◌, ◌++◌, refl, sym, ap, subst, Some, None, arith, append_assoc}
+use Rattle.lists.proofs.Words.{eqb-false, All-push, ne_eqb, flat_map, flat_map-append, All-nil}
 use Rattle.gds_records.specs.declared.kinds.TheConstants as kind
 use Rattle.library_grammar.specs.GrammarNames.{Reading, entry_of, Entry, ElementForm, Shows, may_not_stand, repeats, is_faulty, EndsOwnRecords, kinds_of, Property, property_records, IsProperty, Place, before_header, among_own, behind_attribute, behind_property, between_elements, next_place, place_behind}
 use Rattle.gds_records.specs.declared.record.Record.{Record}
@@ -11,10 +11,6 @@ use Rattle.library_grammar.proofs.OwnPlaces.{own_place}
 use Rattle.library_grammar.proofs.PlaceLaws.{may_stand}
 use Rattle.library_grammar.proofs.PlainKinds.{plain}
 use Rattle.gds_syntax.proofs.ReaderLaws.{Advances-append, advances_by, advances_kind, stops_later, stops_unexpected}
-
--- a property more at the end
-records-snoc : (properties : List Property) (one : Property) → flat_map property_records (properties ++ one ∷ []) ≡ flat_map property_records properties ++ property_records one
-records-snoc properties one = flat_map-append property_records properties (one ∷ [])
 
 -- no own records end behind a property
 behind_property_ends_none : (before : List Entry) (e : Entry) (at : ℕ) (form : ElementForm) (own : List Entry) → place_behind before_header (kinds_of before) ≡ Some behind_property
@@ -45,14 +41,20 @@ properties_begin {mid = mid} {text = text} takes is_text more =
       takes = more;
     }
 
--- the reader goes on by the attribute of one property more
+-- the reader goes on by a record that may stand behind a property and names no structure
+behind_it : {old mid : Reading} {found : Record} (k : ℕ) (to : Place) → found.kind ≡ k → (k == kind.STRNAME) ≡ false → next_place behind_property k ≡ Some to
+    → (so_far : ReadsPropertiesSoFar old mid found) → (names : List (List ℕ))
+    → Advances old mid (standing behind_attribute names) (standing to names) (so_far.text ∷ (flat_map property_records so_far.properties ++ entry_of found ∷ []))
+behind_it {found = found} k to is other leads so_far names =
+    let next : next_place behind_property found.kind ≡ Some to = ap (next_place behind_property) is ∙ leads in
+    let no_name : found.kind ≢ kind.STRNAME = λ same. eqb-false k kind.STRNAME other (sym is ∙ same) in
+    Advances-append (so_far.advances names) (advances_by (standing behind_property names) to so_far.takes next no_name
+    (λ before here fault. behind_property_is_quiet before (entry_of found) to fault here.place next no_name))
+
+-- by the attribute of one property more
 pub attribute_further : {old mid : Reading} {found : Record} → found.kind ≡ kind.PROPATTR → (so_far : ReadsPropertiesSoFar old mid found) → (names : List (List ℕ))
     → Advances old mid (standing behind_attribute names) (standing behind_attribute names) (so_far.text ∷ (flat_map property_records so_far.properties ++ entry_of found ∷ []))
-attribute_further {found = found} is so_far names =
-    let next : next_place behind_property found.kind ≡ Some behind_attribute = ap (next_place behind_property) is in
-    let other : found.kind ≢ kind.STRNAME = λ same. omega (arith, is, same) in
-    Advances-append (so_far.advances names) (advances_by (standing behind_property names) behind_attribute so_far.takes next other
-    (λ before here fault. behind_property_is_quiet before (entry_of found) behind_attribute fault here.place next other))
+attribute_further is = behind_it kind.PROPATTR behind_attribute is refl refl
 
 -- and by its value
 pub property_further : {old mid via : Reading} {found text : Record} → found.kind ≡ kind.PROPATTR → (so_far : ReadsPropertiesSoFar old mid found) → TakesRecord mid via text
@@ -74,10 +76,9 @@ properties_go_on {old = old} {via = via} {found = found} {text = text} is so_far
       text = so_far.text;
       is_text = so_far.is_text;
       properties = so_far.properties ++ one ∷ [];
-      are_properties = All-append IsProperty so_far.properties (one ∷ []) so_far.are_properties (All-cons IsProperty one [] (record { attribute = is; text = is_text }) (All-nil IsProperty));
+      are_properties = All-push IsProperty so_far.properties one so_far.are_properties (record { attribute = is; text = is_text });
       advances = λ names.
-          subst (λ (es : List Entry). Advances old via (standing behind_attribute names) (standing behind_property names) (so_far.text ∷ es)) (sym (records-snoc so_far.properties one))
-          (property_further is so_far takes is_text names);
+          rw (flat_map-append property_records so_far.properties (one ∷ [])) (property_further is so_far takes is_text names);
       takes = more;
     }
 
@@ -91,8 +92,6 @@ properties_stop {found = found} no_attribute no_end so_far names =
 -- ENDEL
 pub properties_end : {old new : Reading} {found : Record} → found.kind ≡ kind.ENDEL → ReadsPropertiesSoFar old new found → ReadsProperties old new
 properties_end {found = found} is so_far =
-    let next : next_place behind_property found.kind ≡ Some between_elements = ap (next_place behind_property) is in
-    let other : found.kind ≢ kind.STRNAME = λ same. omega (arith, is, same) in
     record {
       text = so_far.text;
       is_text = so_far.is_text;
@@ -100,8 +99,6 @@ properties_end {found = found} is so_far =
       are_properties = so_far.are_properties;
       last = entry_of found;
       is_last = is;
-      advances = λ names.
-          Advances-append (so_far.advances names) (advances_by (standing behind_property names) between_elements so_far.takes next other
-          (λ before here fault. behind_property_is_quiet before (entry_of found) between_elements fault here.place next other));
+      advances = behind_it kind.ENDEL between_elements is refl refl so_far;
       ready = so_far.takes.ready (λ same. omega (arith, is, same));
     }

@@ -6,11 +6,11 @@ use Rattle.first_refusal.specs.Outcomes.{Outcome, value, refused}
 use Rattle.first_refusal.proofs.AnswerLaws.{handed_on, out_of_memory}
 use Rattle.lists.proofs.Words.{append-nil, ne_eqb, add-zero}
 use Rattle.gds_records.specs.declared.kinds.TheConstants as kind
-use Rattle.library_grammar.specs.GrammarNames.{Reading, IsLeft, IsGivenOrLeft, MovesPast, entry_of, Entry, spelling, spellings, End, IsFirstFault, at_record, at_end, Shows, behind, Place, next_place, IsPlain}
+use Rattle.library_grammar.specs.GrammarNames.{Reading, IsLeft, IsGivenOrLeft, MovesPast, entry_of, Entry, spelling, spellings, End, IsFirstFault, at_record, at_end, AreNamesIn, Shows, behind, Place, next_place, IsPlain}
 use Rattle.gds_records.specs.declared.fault.RecordFault.{RecordFault}
 use Rattle.gds_records.specs.declared.record.Record.{Record}
 use Rattle.library_grammar.specs.FirstFault.{may_not_stand as shows_unexpected}
-use Rattle.gds_syntax.specs.LibraryReaders.{Takes, TakesRecord, Standing, standing, IsAt, Advances, Stops, IsReady, most_bytes}
+use Rattle.gds_syntax.specs.LibraryReaders.{Takes, TakesRecord, Standing, standing, IsAt, IsFirstBehind, Advances, Stops, IsReady, most_bytes}
 use Rattle.library_grammar.specs.declared.fault.SyntaxFault.{SyntaxFault}
 use Rattle.library_grammar.specs.declared.fault.SyntaxFault.TheVariants.{Record as record_fault, Unexpected, Memory}
 use Rattle.library_grammar.proofs.PlaceLaws.{may_not_stand}
@@ -41,11 +41,7 @@ pub is_false : (b : Bool) → (IsTrue b → ⊥) → b ≡ false
 is_false true it_is_not = absurd (it_is_not refl)
 is_false false it_is_not = refl
 
--- the reader is further on then
-pub further : (old new : Reading) (r : Record) → MovesPast old new r → old.at < new.at
-further old new r moved = omega (arith, moved.moves)
-
--- and can read on unless the record is ENDLIB
+-- a reader that moved past a record can read on unless the record is ENDLIB
 pub goes_on : (old new : Reading) (r : Record) → MovesPast old new r → IsReady old → r.kind ≢ kind.ENDLIB → IsReady new
 goes_on old new r moved ready other =
     record {
@@ -81,45 +77,51 @@ Advances-append {new = new} {to = to} {one = one} {other = other} first second =
       stands = λ before here. subst (λ (x : List Entry). IsAt new x to) (append_assoc before one other) (second.stands (before ++ one) (first.stands before here));
     }
 
--- a fault that is found further on
+-- a fault that is found further on, behind records with which the reader stands there
+pub stops_there : {old mid : Reading} {from via : Standing} {taken before : List Entry} {fault : SyntaxFault} → Advances old mid from via taken → IsAt old before from
+    → (IsAt mid (before ++ taken) via → IsFirstBehind (before ++ taken) mid fault) → IsFirstBehind before old fault
+stops_there {taken = taken} {before = before} {fault = fault} first here second entries end left =
+    let (others, parts, mid_left) = first.takes.left entries end left in
+    rw parts (subst (λ (x : List Entry). IsFirstFault x end fault) (append_assoc before taken others) (second (first.stands before here) others end mid_left))
+
+-- and behind any
 pub stops_later : {old mid : Reading} {from via : Standing} {taken : List Entry} {fault : SyntaxFault} → Advances old mid from via taken
     → Stops mid via fault → Stops old from fault
-stops_later {taken = taken} {fault = fault} first second =
-    λ before here entries end left.
-    let (others, parts, mid_left) = first.takes.left entries end left in
-    let found : IsFirstFault ((before ++ taken) ++ others) end fault = second (before ++ taken) (first.stands before here) others end mid_left in
-    rw parts (subst (λ (x : List Entry). IsFirstFault x end fault) (append_assoc before taken others) found)
+stops_later {taken = taken} first second before here = stops_there first here (second (before ++ taken))
+
+-- a fault that the next record shows
+pub stops_showing : {old new : Reading} {from : Standing} {before : List Entry} {r : Record} {fault : SyntaxFault} → TakesRecord old new r → IsAt old before from
+    → Shows before (entry_of r) fault → IsFirstBehind before old fault
+stops_showing {before = before} {r = r} taken here shown entries end left =
+    let (others, parts, _) = taken.takes.left entries end left in
+    at_record before others (entry_of r) (ap (λ (x : List Entry). before ++ x) parts) here.none_shows shown
 
 -- a record that may not stand there
 pub stops_unexpected : {old new : Reading} (from : Standing) {r : Record} → TakesRecord old new r → next_place from.place r.kind ≡ None
     → Stops old from (Unexpected r.at r.kind)
-stops_unexpected from {r = r} taken none before here entries end left =
-    let (others, parts, _) = taken.takes.left entries end left in
-    let place : r.at ≡ behind 0 before = taken.place ∙ here.offset in
-    let shown : Shows before (entry_of r) (Unexpected (behind 0 before) r.kind) = shows_unexpected (may_not_stand before (entry_of r) from.place here.place none) in
-    let parts_of_all : before ++ entries ≡ before ++ entry_of r ∷ others = ap (λ (x : List Entry). before ++ x) parts in
-    rw place (at_record before others (entry_of r) parts_of_all here.none_shows shown)
+stops_unexpected from {r = r} taken none before here =
+    rw (taken.place ∙ here.offset) (stops_showing taken here (shows_unexpected (may_not_stand before (entry_of r) from.place here.place none)))
 
 -- a reader stands behind one record more, which shows no fault
-pub IsAt-snoc : {old new : Reading} {r : Record} (from : Standing) (to : Place) (before : List Entry) → TakesRecord old new r → next_place from.place r.kind ≡ Some to
-    → r.kind ≢ kind.STRNAME → IsAt old before from → ((fault : SyntaxFault) → Shows before (entry_of r) fault → ⊥)
-    → IsAt new (before ++ entry_of r ∷ []) (standing to from.names)
-IsAt-snoc {r = r} from to before taken next names_nothing here quiet =
+pub IsAt-snoc : {old new : Reading} {r : Record} (from to : Standing) (before : List Entry) → TakesRecord old new r → next_place from.place r.kind ≡ Some to.place
+    → IsAt old before from → ((fault : SyntaxFault) → Shows before (entry_of r) fault → ⊥) → AreNamesIn (before ++ entry_of r ∷ []) to.names
+    → IsAt new (before ++ entry_of r ∷ []) to
+IsAt-snoc {r = r} from to before taken next here quiet names =
     record {
-      place = place_after before (entry_of r) from.place to here.place next;
+      place = place_after before (entry_of r) from.place to.place here.place next;
       none_shows = NoneShows-snoc before (entry_of r) here.none_shows quiet;
       offset = taken.takes.offset ∙ ap (λ (at : ℕ). behind at (entry_of r ∷ [])) here.offset ∙ sym (behind-append 0 before (entry_of r ∷ []));
-      names = AreNamesIn-snoc before (entry_of r) from.names names_nothing here.names;
+      names = names;
     }
 
 -- a reader goes on by one record that shows no fault
 pub advances_by : {old new : Reading} {r : Record} (from : Standing) (to : Place) → TakesRecord old new r → next_place from.place r.kind ≡ Some to
     → r.kind ≢ kind.STRNAME → ((before : List Entry) → IsAt old before from → (fault : SyntaxFault) → Shows before (entry_of r) fault → ⊥)
     → Advances old new from (standing to from.names) (entry_of r ∷ [])
-advances_by from to taken next names_nothing quiet =
+advances_by {r = r} from to taken next names_nothing quiet =
     record {
       takes = taken.takes;
-      stands = λ before here. IsAt-snoc from to before taken next names_nothing here (quiet before here);
+      stands = λ before here. IsAt-snoc from (standing to from.names) before taken next here (quiet before here) (AreNamesIn-snoc before (entry_of r) from.names names_nothing here.names);
     }
 
 -- so does it by a plain one that may stand there

@@ -2,7 +2,6 @@
 use Rattle.std.proofs.Common.{◌≡◌, ◌∙◌, refl, sym, ap, ℕ, zero, suc, ℤ, pos, negsuc, ◌+ℤ◌, ◌-ℤ◌, ◌*ℤ◌, ◌≤ℤ◌, neg_ℤ, nat_abs, ◌/◌, ◌%◌, ◌≤◌, Option, Some, None, IfSome, IfNone, SFits, w16, w32, w64, to_z, of_z, arith, ◌↔◌}
 use Rattle.lists.proofs.Words.{ints, unsigned_abs-mul, to_z-of_z, IfSome_then}
 use Rattle.std.specs.Prelude.{int_div, int_rem}
-use Rattle.std.specs.Option.{option_zip}
 use Rattle.std.proofs.Math.IntN.{*ℤ_comm}
 use Rattle.std.proofs.Math.Nat.{div-le_self, mul-mod_right}
 use Rattle.std.proofs.lemmas.Int.{quot-rem, quot_is, quot_fits, rem_is}
@@ -42,14 +41,6 @@ no_rest_of_parts way count part e =
     none_of_size (int_rem way count)
     (size_of_rest way count ∙ ap (λ z. nat_abs z % nat_abs count) (sym e) ∙ ap (λ n. n % nat_abs count) (unsigned_abs-mul count part) ∙ mul-mod_right (nat_abs count) (nat_abs part))
 
--- ---- steps
-
-pub leads_along : (from to p : ℤ) → p ≡ (to -ℤ from) → (from +ℤ p) ≡ to
-leads_along from to p e = omega (arith, ints)
-
-pub way_along : (from to p : ℤ) → (from +ℤ p) ≡ to → p ≡ (to -ℤ from)
-way_along from to p e = omega (arith, ints)
-
 -- ---- what a program divides
 
 module _ (way count : ℤ) (way_fits : SFits w64 way) (count_fits : SFits w64 count) where
@@ -72,29 +63,19 @@ module _ (from to count told_count told_way : ℤ) (r : Option ℤ) where
   pub step_leads : IfSome r (λ part. (told_count *ℤ part) ≡ told_way) → told_count ≡ count → told_way ≡ (to -ℤ from)
       → IfSome r (λ step. (from +ℤ (count *ℤ step)) ≡ to)
   step_leads whole is_count is_way =
-      IfSome_then r whole (λ part e. leads_along from to (count *ℤ part) (ap (λ n. n *ℤ part) (sym is_count) ∙ e ∙ is_way))
+      IfSome_then r whole (λ part e. let p : (count *ℤ part) ≡ (to -ℤ from) = ap (λ n. n *ℤ part) (sym is_count) ∙ e ∙ is_way in omega (arith, ints))
 
   pub no_step_leads : IfNone r ((part : ℤ) → (told_count *ℤ part) ≡ told_way → ⊥) → told_count ≡ count → told_way ≡ (to -ℤ from)
       → IfNone r ((step : ℤ) → (from +ℤ (count *ℤ step)) ≡ to → ⊥)
-  no_step_leads none is_count is_way = IfNone_then r none (λ n step e. n step (ap (λ k. k *ℤ step) is_count ∙ way_along from to (count *ℤ step) e ∙ sym is_way))
+  no_step_leads none is_count is_way = IfNone_then r none (λ n step e.
+      let p : (count *ℤ step) ≡ (to -ℤ from) = omega (arith, ints) in n step (ap (λ k. k *ℤ step) is_count ∙ p ∙ sym is_way))
 
 -- a step is one also where numbers are told as their bits
 pub told_step : (from to count step : ℤ) → SFits w32 from → SFits w32 to → SFits w16 count
     → ((to_z w32 (of_z w32 from) +ℤ (to_z w16 (of_z w16 count) *ℤ step)) ≡ to_z w32 (of_z w32 to)) ↔ ((from +ℤ (count *ℤ step)) ≡ to)
 told_step from to count step of_from of_to of_count = rw (to_z-of_z w32 from of_from, to_z-of_z w32 to of_to, to_z-of_z w16 count of_count) (λ h. h, λ h. h)
 
--- ---- two answers as one
-
--- where both are there, what follows from both
-pub both_there : {A B : Type 0} (one : Option A) (other : Option B) (P : A → Type 0) (Q : B → Type 0) (R : A × B → Type 0) → IfSome one P → IfSome other Q
-    → ((a : A) (b : B) → P a → Q b → R (a, b)) → IfSome (option_zip one other) R
-both_there None other P Q R p q both = tt
-both_there (Some a) None P Q R p q both = tt
-both_there (Some a) (Some b) P Q R p q both = both a b p q
-
--- where one is not there, what follows from that of either
-pub one_lacks : {A B : Type 0} (one : Option A) (other : Option B) (P Q R : Type 0) → IfNone one P → IfNone other Q → (P → R) → (Q → R)
-    → IfNone (option_zip one other) R
-one_lacks None other P Q R p q of_one of_other = of_one p
-one_lacks (Some a) None P Q R p q of_one of_other = of_other q
-one_lacks (Some a) (Some b) P Q R p q of_one of_other = tt
+-- what is known holds where nothing is there
+pub holds_of_none : {A P : Type 0} (o : Option A) → P → IfNone o P
+holds_of_none None p = p
+holds_of_none (Some a) p = tt

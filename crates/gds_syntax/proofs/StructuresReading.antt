@@ -1,6 +1,6 @@
 -- How a reader goes through the structures of a library.
-use Rattle.std.proofs.Common.{◌≡◌, ◌≢◌, ℕ, ◌<◌, ◌≤◌, List, [], ◌∷◌, ◌++◌, length, refl, sym, ap, subst, ◌∙◌, None, arith, append_assoc, length-append}
-use Rattle.lists.proofs.Words.{add-zero, ne_eqb, append-nil, length-map, map-append, All-nil, All-append, All-cons, flat_map, flat_map-append}
+use Rattle.std.proofs.Common.{◌≡◌, ◌≢◌, ℕ, ◌≤◌, List, [], ◌∷◌, ◌++◌, length, refl, sym, ap, subst, ◌∙◌, Some, None, arith, append_assoc}
+use Rattle.lists.proofs.Words.{All-push, add-zero, ne_eqb, append-nil, length-map, map-append, All-nil, flat_map, flat_map-append}
 use Rattle.gds_records.specs.declared.kinds.TheConstants as kind
 use Rattle.library_grammar.specs.GrammarNames.{Reading, entry_of, Entry, StructureParts, structure_records, IsStructure, behind, SaysStructure, SayStructures, between_structures, before_strname, behind_endlib, next_place}
 use Rattle.gds_records.specs.declared.record.Record.{Record}
@@ -8,7 +8,7 @@ use Rattle.library_grammar.specs.Libraries.{no_more, one_more}
 use Rattle.gds_syntax.specs.LibraryReaders.{IsStructureAt, AreStructures, TakesRecord, standing, Advances, Stops, IsReady, most_bytes, ReadsStructure, ReadsStructures, ReadsStructuresSoFar}
 use Rattle.library_grammar.specs.declared.fault.SyntaxFault.TheVariants.{Unexpected}
 use Rattle.library_model.specs.declared.library.Structure.{Structure}
-use Rattle.gds_syntax.proofs.ElementsReading.{forward}
+use Rattle.gds_syntax.proofs.ElementsReading.{few_more, forward}
 use Rattle.library_grammar.proofs.PlainKinds.{plain}
 use Rattle.gds_syntax.proofs.ReaderLaws.{Advances-none, Advances-append, advances_kind, stops_later, stops_unexpected}
 use Rattle.library_grammar.proofs.NextRecords.{behind-append}
@@ -54,23 +54,15 @@ AreStructures-snoc : (at : ℕ) (entries more : List Entry) (structures : List S
 AreStructures-snoc at entries more structures structure are is =
     record {
       parts = are.parts ++ is.parts ∷ [];
-      in_grammar = All-append IsStructure are.parts (is.parts ∷ []) are.in_grammar (All-cons IsStructure is.parts [] is.in_grammar (All-nil IsStructure));
+      in_grammar = All-push IsStructure are.parts is.parts are.in_grammar is.in_grammar;
       are_theirs = cc (are.are_theirs, is.are_its, flat_map-append structure_records are.parts (is.parts ∷ []), append-nil (structure_records is.parts));
       say = SayStructures-snoc at are.parts structures is.parts structure are.say
           (subst (λ (es : List Entry). SaysStructure (behind at es) is.parts structure) are.are_theirs is.says);
     }
 
--- structures are fewer than bytes
-count_more : (structures : List Structure) (structure : Structure) (a b c : ℕ) → length structures ≤ a → a < b → b ≤ c → length (structures ++ structure ∷ []) ≤ c
-count_more structures structure a b c few further on = omega (arith, length-append structures (structure ∷ []))
-
--- and so are their names
+-- names of structures are fewer than bytes
 pub few_names : {old new : Reading} {structures : List Structure} {names : List (List ℕ)} {found : Record} → ReadsStructuresSoFar old new structures names found → length names ≤ new.at
 few_names {structures = structures} so_far = omega (arith, ap length so_far.are_names, length-map structures (λ (s : Structure). s.name), so_far.few_structures, so_far.takes.further)
-
--- the elements of one structure are
-pub few_elements : (reading : Reading) (structure : Structure) → length structure.elements ≤ reading.at → IsReady reading → length structure.elements ≤ most_bytes
-few_elements reading structure few ready = omega (arith, few, ready.within, ready.short)
 
 -- one structure more
 pub structures_go_on : {old mid via new : Reading} {structures : List Structure} {names more : List (List ℕ)} {found next : Record} {structure : Structure} → found.kind ≡ kind.BGNSTR
@@ -83,9 +75,8 @@ structures_go_on {old = old} {mid = mid} {via = via} {structures = structures} {
       entries = so_far.entries ++ entry_of found ∷ reads.entries;
       are_structures = AreStructures-snoc old.at so_far.entries (entry_of found ∷ reads.entries) structures structure so_far.are_structures
           (subst (λ (o : ℕ). IsStructureAt o (entry_of found ∷ reads.entries) structure) begins reads.is_structure);
-      few_structures = count_more structures structure so_far.between.at mid.at via.at so_far.few_structures so_far.takes.further (forward mid via reads.entries reads.advances.takes.offset);
-      few_elements = All-append (λ s. length s.elements ≤ most_bytes) structures (structure ∷ []) so_far.few_elements
-          (All-cons (λ s. length s.elements ≤ most_bytes) structure [] (few_elements via structure reads.few reads.ready) (All-nil (λ s. length s.elements ≤ most_bytes)));
+      few_structures = few_more structures (Some structure) so_far.between.at mid.at via.at so_far.few_structures so_far.takes.further (forward mid via reads.entries reads.advances.takes.offset);
+      few_elements = All-push (λ s. length s.elements ≤ most_bytes) structures structure so_far.few_elements (omega (arith, reads.few, reads.ready.within, reads.ready.short));
       are_names = reads.named ∙ ap (λ (x : List (List ℕ)). x ++ structure.name ∷ []) so_far.are_names ∙ sym (map-append (λ (s : Structure). s.name) structures (structure ∷ []));
       advances = structure_further is so_far reads;
       takes = takes;
@@ -101,11 +92,9 @@ structures_stop {names = names} {found = found} no_structure no_end so_far =
 -- the end of the library
 pub structures_end : {old new : Reading} {structures : List Structure} {names : List (List ℕ)} {found : Record} → found.kind ≡ kind.ENDLIB → IsReady old
     → ReadsStructuresSoFar old new structures names found → ReadsStructures old new structures
-structures_end {old = old} {new = new} {names = names} {found = found} is ready so_far =
+structures_end {new = new} {names = names} {found = found} is ready so_far =
     let short : length new.bytes ≤ most_bytes = subst (λ (bytes : List ℕ). length bytes ≤ most_bytes) (sym (so_far.takes.bytes ∙ so_far.advances.takes.bytes)) ready.short in
     let last_step = advances_kind kind.ENDLIB between_structures behind_endlib names so_far.takes is refl (plain kind.ENDLIB refl) in
-    let all : Advances old new (standing between_structures []) (standing behind_endlib names) (so_far.entries ++ entry_of found ∷ []) =
-    Advances-append so_far.advances last_step in
     record {
       entries = so_far.entries;
       are_structures = so_far.are_structures;
@@ -113,6 +102,6 @@ structures_end {old = old} {new = new} {names = names} {found = found} is ready 
       is_last = is;
       few_structures = omega (arith, so_far.few_structures, so_far.takes.further, so_far.takes.within, short);
       few_elements = so_far.few_elements;
-      advances = subst (λ (n : List (List ℕ)). Advances old new (standing between_structures []) (standing behind_endlib n) (so_far.entries ++ entry_of found ∷ [])) so_far.are_names all;
+      advances = rw (← so_far.are_names) (Advances-append so_far.advances last_step);
       ended = so_far.takes.ends.1 is;
     }

@@ -52,12 +52,6 @@ angle_of_quarters (Some body) quarters h = h
 
 -- ---- the checks of a reference
 
-bit_is_clear : (n : ℕ) → bit_and n 2 ≡ 0 → n / 2 % 2 ≡ 1 → ⊥
-bit_is_clear n clear set = let e : bit_and n 2 ≡ n / 2 % 2 * 2 = and_pow n 1 in omega arith
-
-bit_is_set : (n : ℕ) → (bit_and n 2 ≡ 0 → ⊥) → n / 2 % 2 ≡ 1
-bit_is_set n set = let e : bit_and n 2 ≡ n / 2 % 2 * 2 = and_pow n 1 in omega arith
-
 turned_by_quarters : (own : List Entry) (n : ℕ) → (degrees : ℤ) × IsAngle own degrees × ComesTo degrees n
     → (quarters : ℤ) × HasQuarters own quarters × (negsuc 3 ≤ℤ quarters) × (quarters ≤ℤ pos 4)
 turned_by_quarters own n (degrees, angle, comes) =
@@ -67,10 +61,10 @@ turned_by_quarters own n (degrees, angle, comes) =
 
 module _ (own : List Entry) (strans : ℕ) (is : strans ≡ unsigned_of kind.STRANS own) where
   not_absolute : bit_and strans 2 ≡ 0 → HasAbsoluteAngle own → ⊥
-  not_absolute clear set = bit_is_clear strans clear (subst (λ n. n / 2 % 2 ≡ 1) (sym is) set)
+  not_absolute clear set = let e : bit_and strans 2 ≡ strans / 2 % 2 * 2 = and_pow strans 1 in let bit = subst (λ n. n / 2 % 2 ≡ 1) (sym is) set in omega arith
 
   absolute : (bit_and strans 2 ≡ 0 → ⊥) → HasAbsoluteAngle own
-  absolute set = subst (λ n. n / 2 % 2 ≡ 1) is (bit_is_set strans set)
+  absolute set = let e : bit_and strans 2 ≡ strans / 2 % 2 * 2 = and_pow strans 1 in subst (λ n. n / 2 % 2 ≡ 1) is (omega arith)
 
   pub reference_checks_hold : (n : ℕ) → IfSome (field kind.MAG own) (λ body. HasValue body (pos 1)) → bit_and strans 2 ≡ 0
       → (degrees : ℤ) × IsAngle own degrees × ComesTo degrees n → All (ElementHolds own) reference_checks

@@ -53,7 +53,9 @@ fn step_between(from: Point, to: Point, count: i16) -> Option<(i64, i64)>
     ensures short { IfSome result IsStep }
     ensures none { IfNone result ((step : ℤ × ℤ) → Leads count from to step → ⊥) }
 {
-    step_along(from.x, to.x, count).zip(step_along(from.y, to.y, count))
+    let across = step_along(from.x, to.x, count)?;
+    let up = step_along(from.y, to.y, count)?;
+    Some((across, up))
 }
 
 /// The steps of an array with so many columns and rows, if they are whole.
@@ -68,11 +70,9 @@ fn steps_of(own: &OwnRecords<'_>, columns: i16, rows: i16) -> Option<((i64, i64)
     ensures none { IfNone result ((column_step row_step : ℤ × ℤ) → HasSteps own.now column_step row_step → ⊥) }
 {
     let origin = point_of(own, 0);
-    step_between(origin, point_of(own, 1), columns).zip(step_between(
-        origin,
-        point_of(own, 2),
-        rows,
-    ))
+    let column_step = step_between(origin, point_of(own, 1), columns)?;
+    let row_step = step_between(origin, point_of(own, 2), rows)?;
+    Some((column_step, row_step))
 }
 
 /// The columns and rows of an array and the steps between them, if it has at least one of each and its steps are whole.

@@ -19,6 +19,7 @@ use library_model::element::Element;
 use std::alloc::Global;
 
 /// Reads the own records of an element, and gives the record behind them, which ends them.
+#[tactic(auto, using(first_refusal::proofs::AnswerLaws::out_of_memory, crate::proofs::ReaderLaws::one_less_left))]
 fn read_own<'a>(
     records: &mut Records<'a>,
     kind: ElementKind,
@@ -41,6 +42,7 @@ fn read_own<'a>(
 }
 
 /// Reads the properties of an element behind the first PROPATTR, and its end.
+#[tactic(auto, using(crate::proofs::ReaderLaws::has_less_left))]
 fn read_properties(records: &mut Records<'_>) -> Result<(), SyntaxFault>
     requires { IsReady records.old }
     ensures read { IfOk result (λ _. ReadsProperties records.old records.new) }
@@ -111,6 +113,7 @@ fn keep(elements: &mut Vec<Element>, kept: Option<Element>) -> Result<(), NoMemo
 }
 
 /// Reads the elements of a structure behind its name, and its end.
+#[tactic(auto, using(first_refusal::proofs::AnswerLaws::out_of_memory))]
 pub fn read_elements<'a>(
     alloc: Global,
     records: &mut Records<'a>,

@@ -43,6 +43,7 @@ fn is_head_kind(kind: u8) -> bool
 }
 
 /// The next record of this kind, behind records of the head.
+#[tactic(auto, using(crate::proofs::ReaderLaws::one_less_left))]
 fn behind_head_records<'a>(records: &mut Records<'a>, kind: u8) -> Result<Record<'a>, SyntaxFault>
     requires { IsReady records.old }
     ensures found { IfOk result (ReadsHeadRecords kind records.old records.new) }
@@ -59,6 +60,7 @@ fn behind_head_records<'a>(records: &mut Records<'a>, kind: u8) -> Result<Record
 }
 
 /// The head of a library, up to its structures.
+#[tactic(auto, using(first_refusal::proofs::AnswerLaws::out_of_memory))]
 pub fn read_head(alloc: Global, records: &mut Records<'_>) -> Result<Head, SyntaxFault>
     requires { IsReady records.old }
     ensures { Answers SyntaxFault.Memory (ReadsOrStops (λ head. ReadsHead records.old records.new head.name head.units)

@@ -72,6 +72,7 @@ impl<'a> OwnRecords<'a> {
     }
 
     /// Whether there is a record of this kind.
+    #[tactic(auto, using(crate::proofs::OwnLaws::has_kind_where_found))]
     pub fn has(&self, kind: u8) -> bool
         ensures { IsTrue result ↔ Contains (kinds_of self.now) kind }
     {

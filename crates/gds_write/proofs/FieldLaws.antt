@@ -5,6 +5,7 @@ use Rattle.std.specs.Set.{distinct_count}
 use Rattle.std.proofs.lemmas.Map.Made.{AllPairs-from_IsDistinct}
 use Rattle.library_grammar.specs.GrammarNames.{Entry, field, kinds_of}
 use Rattle.gds_write.specs.Bodies.{entry_if, is_not_zero}
+use Rattle.std.proofs.lemmas.Bool.{true_from_ne_false}
 
 -- records, each with whether it is written
 abbrev pub written_of : List (Bool × Entry) → List Entry
@@ -34,12 +35,8 @@ field_of k [] = refl
 field_of k (part ∷ parts) = field_by k part.0 part.1 (written_of parts) (first_of k parts) (part.1.kind == k) refl (field_of k parts)
 
 -- a number that is not written is 0
-not_not : (b : Bool) → not b ≡ false → b ≡ true
-not_not true e = refl
-not_not false e = absurd (true≢false e)
-
 zero_unwritten : (z : ℤ) → is_not_zero z ≡ false → z ≡ pos 0
-zero_unwritten z e = (Decides-int_eq z (pos 0)).0 (not_not (int_eq z (pos 0)) e)
+zero_unwritten z e = (Decides-int_eq z (pos 0)).0 (true_from_ne_false (int_eq z (pos 0)) (λ other. true≢false (sym (ap not other) ∙ e)))
 
 pub number_reads_by : (f : List ℕ → ℤ) (body : List ℕ) (z : ℤ) (b : Bool) → is_not_zero z ≡ b → f body ≡ z → unwrap_or (option_map f (if b then Some body else None)) (pos 0) ≡ z
 number_reads_by f body z true written reads = reads

@@ -1,7 +1,7 @@
 -- A library that was read is well formed, so that it can be written.
 use Rattle.std.proofs.Common.{◌≡◌, ℕ, ℤ, pos, ◌+ℤ◌, ◌*ℤ◌, ◌+◌, ◌≤◌, List, [], ◌∷◌, ◌++◌, length, All, Option, Some, None, IfSome, sym, ap, subst, ◌∙◌, arith, FitsSigned, IfOk, Result, Ok, Err, option_to_list, w32, length-append}
 use Rattle.lists.proofs.Words.{All-weaker, All-nil, All-cons, All-head, All-tail, All-same, flat_map}
-use Rattle.library_grammar.specs.GrammarNames.{value, IsText, IsInProfile, Entry, IsKept, boundary, path, sref, aref, text, node, box, IsReference, IsLattice, BytesComeTo, are_library, property_records, ElementParts, element_records, StructureParts, structure_head, structure_records, library_head, library_records, SayElements, SaysStructure, SayStructures, body_of, point_in, points_of, Leads, HasItsPoints, IsWellPointed, AreWellPointed, IsPoint, ArePoints}
+use Rattle.library_grammar.specs.GrammarNames.{value, IsText, IsInProfile, Entry, IsKept, boundary, path, sref, aref, box, IsReference, IsLattice, BytesComeTo, are_library, property_records, ElementParts, element_records, StructureParts, structure_head, structure_records, library_head, library_records, SayElements, SaysStructure, SayStructures, body_of, point_in, points_of, Leads, HasItsPoints, IsWellPointed, AreWellPointed, IsPoint, ArePoints}
 use Rattle.geo_core.specs.declared.plane.Point.{Point}
 use Rattle.gds_records.specs.declared.kinds.TheConstants as kind
 use Rattle.library_grammar.specs.Libraries.{no_more as no_elements, one_more as one_element, no_more as no_structures, one_more as one_structure}
@@ -16,8 +16,8 @@ use Rattle.library_model.specs.declared.library.Library.{Library}
 use Rattle.library_model.specs.declared.library.Structure.{Structure}
 use Rattle.lists.proofs.Containing.{All-front, All-back}
 use Rattle.library_grammar.proofs.FieldRanges.{body_has}
-use Rattle.library_grammar.proofs.LibraryFacts.{library_names_differ, library_is_pointed}
-use Rattle.library_grammar.proofs.PointLaws.{cast_fits, length-points_of}
+use Rattle.library_grammar.proofs.LibraryFacts.{with_kept, library_names_differ, library_is_pointed}
+use Rattle.library_grammar.proofs.PointLaws.{point_fits, length-points_of}
 use Rattle.gds_write.specs.WellFormed.{IsWritableName, IsWritableShape, IsWritableReference, IsWritableElement, IsWritableStructure, IsWellFormed}
 use Rattle.gds_write.specs.Written.{array_points, moved_by}
 
@@ -42,9 +42,6 @@ few_points own all = let count = length-points_of own in let short = short_body 
 shape_is_writable : (own : List Entry) (shape : Shape) → All IsInProfile own → shape.points ≡ points_of own → HasItsPoints shape.kind shape.points → IsWritableShape shape
 shape_is_writable own shape all has pointed =
     record { few = subst (λ (points : List Point). length points ≤ 8191) (sym has) (few_points own all); points = pointed }
-
-point_fits : (body : List ℕ) (k : ℕ) → IsPoint (point_in body k)
-point_fits body k = record { across = cast_fits _; up = cast_fits _ }
 
 moved_fits : (count : ℕ) (signed : ℤ) (from to : Point) (step : ℤ × ℤ) → pos count ≡ signed → Leads signed from to step → IsPoint to → IsPoint (moved_by count step from)
 moved_fits count signed from to step same leads fits =
@@ -81,13 +78,8 @@ kept_is_writable at own _ _ all (aref {reference} {lattice} is repeated of_latti
     reference_is_writable own reference all is
     (subst (HasFittingLattice reference.origin) (sym repeated)
     (subst (λ (origin : Point). ArePoints (array_points origin lattice)) (sym is.is_origin) (array_fits own lattice of_lattice)))
-kept_is_writable at own _ _ all text pointed = tt
-kept_is_writable at own _ _ all node pointed = tt
 kept_is_writable at own _ _ all (box {shape} is) pointed = shape_is_writable own shape all is.has_points pointed
-
-with_kept : (P : Element → Type 0) (kept : Option Element) (rest : List Element) → IfSome kept P → All P rest → All P (option_to_list kept ++ rest)
-with_kept P None rest one all = all
-with_kept P (Some x) rest one all = All-cons P x rest one all
+kept_is_writable at own _ _ all _ pointed = tt
 
 of_kept : (P : Element → Type 0) (kept : Option Element) (rest : List Element) → All P (option_to_list kept ++ rest) → IfSome kept P × All P rest
 of_kept P None rest all = (tt, all)

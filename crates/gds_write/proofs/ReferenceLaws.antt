@@ -31,19 +31,16 @@ mirrors_by false false is = (λ t. absurd (cc), λ e. absurd (omega arith))
 
 not_absolute_by : (reflect written : Bool) → item 2 0 (unwrap_or (if written then Some (strans_entry reflect).body else None) []) / 2 % 2 ≡ 1 → ⊥
 not_absolute_by true true e = omega arith
-not_absolute_by true false e = omega arith
 not_absolute_by false true e = omega arith
-not_absolute_by false false e = omega arith
+not_absolute_by _ _ e = omega arith
 
 -- ANGLE, where it is written, is 90 degrees a quarter
 quarters_by : (quarters : ℕ) → quarters < 4
     → MatchOption (if not (quarters == 0) then Some (angle_entry quarters).body else None) (pos quarters +ℤ (pos 4 *ℤ pos 0) ≡ pos 0)
     (λ body. HasValue body (pos 90 *ℤ (pos quarters +ℤ (pos 4 *ℤ pos 0))))
 quarters_by zero few = refl
-quarters_by (suc zero) few = record { size = record { scaled = refl }; sign = refl }
-quarters_by (suc (suc zero)) few = record { size = record { scaled = refl }; sign = refl }
-quarters_by (suc (suc (suc zero))) few = record { size = record { scaled = refl }; sign = refl }
 quarters_by (suc (suc (suc (suc quarters)))) few = absurd (omega arith)
+quarters_by _ few = record { size = record { scaled = refl }; sign = refl }
 
 -- ---- where a reference is placed
 
@@ -85,44 +82,44 @@ module _ (target : List ℕ) (turn : Turn) (origin : Point) where
   fields None = let has = reference_field None in record { xy = has kind.XY; strans = has kind.STRANS; angle = has kind.ANGLE; mag = has kind.MAG }
   fields (Some lattice) = let has = reference_field (Some lattice) in record { xy = has kind.XY; strans = has kind.STRANS; angle = has kind.ANGLE; mag = has kind.MAG }
 
-module _ (target : List ℕ) (turn : Turn) (origin : Point) (lattice : Option Lattice) where
-  abbrev own : List Entry
-  own = reference_own target turn origin lattice
+module _ (reference : Reference) (lattice : Option Lattice) where
+  abbrev pub own : List Entry
+  own = reference_own reference.target reference.turn reference.origin lattice
 
   abbrev turns : Bool
-  turns = not (turn.quarters == 0)
+  turns = not (reference.turn.quarters == 0)
 
   abbrev mirrors : Bool
-  mirrors = turn.reflect || turns
+  mirrors = reference.turn.reflect || turns
 
-  has : Fields target turn origin lattice own
-  has = fields target turn origin lattice
+  has : Fields reference.target reference.turn reference.origin lattice own
+  has = fields reference.target reference.turn reference.origin lattice
 
-  xy_body : body_of kind.XY own ≡ flat_map point_bytes (placing_points origin lattice)
+  xy_body : body_of kind.XY own ≡ flat_map point_bytes (placing_points reference.origin lattice)
   xy_body = ap (λ (o : Option (List ℕ)). unwrap_or o []) has.xy
 
   -- ---- the turn as it is read
 
-  word_is : unsigned_of kind.STRANS own ≡ item 2 0 (unwrap_or (if mirrors then Some (strans_entry turn.reflect).body else None) [])
+  word_is : unsigned_of kind.STRANS own ≡ item 2 0 (unwrap_or (if mirrors then Some (strans_entry reference.turn.reflect).body else None) [])
   word_is = ap (λ (o : Option (List ℕ)). item 2 0 (unwrap_or o [])) has.strans
 
-  is_written : turn.reflect ≡ true → mirrors ≡ true
+  is_written : reference.turn.reflect ≡ true → mirrors ≡ true
   is_written e = ap (λ (b : Bool). b || turns) e
 
-  has_quarters : HasQuarters own (pos turn.quarters +ℤ (pos 4 *ℤ pos 0))
-  has_quarters = rw has.angle (quarters_by turn.quarters turn.whole)
+  has_quarters : HasQuarters own (pos reference.turn.quarters +ℤ (pos 4 *ℤ pos 0))
+  has_quarters = rw has.angle (quarters_by reference.turn.quarters reference.turn.whole)
 
-  turn_is_read : IsTurn own turn
-  turn_is_read = record { mirrors = rw word_is (mirrors_by turn.reflect mirrors is_written); circles = pos 0; turns = has_quarters }
+  turn_is_read : IsTurn own reference.turn
+  turn_is_read = record { mirrors = rw word_is (mirrors_by reference.turn.reflect mirrors is_written); circles = pos 0; turns = has_quarters }
 
   not_magnified : IfSome (field kind.MAG own) (λ body. HasValue body (pos 1))
   not_magnified = rw has.mag tt
 
   not_absolute : unsigned_of kind.STRANS own / 2 % 2 ≡ 1 → ⊥
-  not_absolute = rw word_is (not_absolute_by turn.reflect mirrors)
+  not_absolute = rw word_is (not_absolute_by reference.turn.reflect mirrors)
 
   by_quarters : (quarters : ℤ) × HasQuarters own quarters × (negsuc 3 ≤ℤ quarters) × (quarters ≤ℤ pos 4)
-  by_quarters = let few = turn.whole in (pos turn.quarters +ℤ (pos 4 *ℤ pos 0), has_quarters, omega (arith, ints), omega (arith, ints))
+  by_quarters = let few = reference.turn.whole in (pos reference.turn.quarters +ℤ (pos 4 *ℤ pos 0), has_quarters, omega (arith, ints), omega (arith, ints))
 
 -- ---- a reference as it is read
 
@@ -131,9 +128,6 @@ abbrev pub reference_at : ℕ → Reference → Reference
 reference_at at reference = record reference { at = at }
 
 module _ (at : ℕ) (reference : Reference) (lattice : Option Lattice) (writable : IsWritableReference reference) (is : reference.lattice ≡ lattice) where
-  abbrev own_records : List Entry
-  own_records = reference_own reference.target reference.turn reference.origin lattice
-
   placed_points_fit : (l : Option Lattice) → IfSome l (λ some. ArePoints (array_points reference.origin some)) → ArePoints (placing_points reference.origin l)
   placed_points_fit None fit = All-from_recursion IsPoint (reference.origin ∷ []) (reference.origin_fits, tt)
   placed_points_fit (Some some) fit = fit
@@ -141,59 +135,55 @@ module _ (at : ℕ) (reference : Reference) (lattice : Option Lattice) (writable
   points_fit : ArePoints (placing_points reference.origin lattice)
   points_fit = placed_points_fit lattice (subst (λ (l : Option Lattice). IfSome l (λ some. ArePoints (array_points reference.origin some))) is writable.lattice)
 
-  point_is : (k : ℕ) → k < length (placing_points reference.origin lattice) → point_in (body_of kind.XY own_records) k ≡ get_or (placing_points reference.origin lattice) k reference.origin
-  point_is k within = rw (xy_body reference.target reference.turn reference.origin lattice) (point_reads (placing_points reference.origin lattice) k reference.origin points_fit within)
+  point_is : (k : ℕ) → k < length (placing_points reference.origin lattice) → point_in (body_of kind.XY (own reference lattice)) k ≡ get_or (placing_points reference.origin lattice) k reference.origin
+  point_is k within = rw (xy_body reference lattice) (point_reads (placing_points reference.origin lattice) k reference.origin points_fit within)
 
-  points_are : points_of own_records ≡ placing_points reference.origin lattice
-  points_are = rw (xy_body reference.target reference.turn reference.origin lattice) (points_read (placing_points reference.origin lattice) points_fit)
+  points_are : points_of (own reference lattice) ≡ placing_points reference.origin lattice
+  points_are = rw (xy_body reference lattice) (points_read (placing_points reference.origin lattice) points_fit)
 
   first_is_origin : (l : Option Lattice) → (0 < length (placing_points reference.origin l)) × (get_or (placing_points reference.origin l) 0 reference.origin ≡ reference.origin)
   first_is_origin None = (omega arith, refl)
   first_is_origin (Some some) = (omega arith, refl)
 
-  is_reference : IsReference at own_records (reference_at at reference)
+  is_reference : IsReference at (own reference lattice) (reference_at at reference)
   is_reference =
       let first = first_is_origin lattice in
       record {
         place = refl;
         is_target = (padded_fills reference.target writable.target reference.target_fits).is_text;
-        is_turn = turn_is_read reference.target reference.turn reference.origin lattice;
+        is_turn = turn_is_read reference lattice;
         is_origin = sym (point_is 0 first.0 ∙ first.1);
       }
 
-  has_points_xy : Contains (kinds_of own_records) kind.XY
-  has_points_xy = has_found kind.XY own_records _ (has reference.target reference.turn reference.origin lattice).xy
+  has_points_xy : Contains (kinds_of (own reference lattice)) kind.XY
+  has_points_xy = has_found kind.XY (own reference lattice) _ (has reference lattice).xy
 
 -- a reference that is not repeated
 module _ (at : ℕ) (reference : Reference) (writable : IsWritableReference reference) (is : reference.lattice ≡ None) where
-  pub sref_kept : IsKept at (reference_own reference.target reference.turn reference.origin None) kind.SREF (Some (reference_element (reference_at at reference)))
+  pub sref_kept : IsKept at (own reference None) kind.SREF (Some (reference_element (reference_at at reference)))
   sref_kept = keeps_sref (is_reference at reference None writable is) is
 
-  pub sref_holds : All (ElementHolds (reference_own reference.target reference.turn reference.origin None)) (element_checks sref_form)
+  pub sref_holds : All (ElementHolds (own reference None)) (element_checks sref_form)
   sref_holds =
-      all_of {P = ElementHolds (reference_own reference.target reference.turn reference.origin None)}
+      all_of {P = ElementHolds (own reference None)}
       (more (has_points_xy at reference None writable is) (more (0, omega arith, refl) (more (ap length (points_are at reference None writable is))
-      (more (not_magnified reference.target reference.turn reference.origin None) (more (not_absolute reference.target reference.turn reference.origin None)
-      (one (by_quarters reference.target reference.turn reference.origin None)))))))
+      (more (not_magnified reference None) (more (not_absolute reference None) (one (by_quarters reference None)))))))
 
 -- an array
 module _ (at : ℕ) (reference : Reference) (lattice : Lattice) (writable : IsWritableReference reference) (is : reference.lattice ≡ Some lattice) where
-  abbrev array_own : List Entry
-  array_own = reference_own reference.target reference.turn reference.origin (Some lattice)
-
-  has_colrow : field kind.COLROW array_own ≡ Some (big_bytes 2 lattice.columns ++ big_bytes 2 lattice.rows)
+  has_colrow : field kind.COLROW (own reference (Some lattice)) ≡ Some (big_bytes 2 lattice.columns ++ big_bytes 2 lattice.rows)
   has_colrow = reference_field reference.target reference.turn reference.origin (Some lattice) kind.COLROW
 
-  columns_are : columns_of array_own ≡ pos lattice.columns
+  columns_are : columns_of (own reference (Some lattice)) ≡ pos lattice.columns
   columns_are = rw has_colrow (columns_read lattice.columns lattice.rows lattice.few_columns)
 
-  rows_are : rows_of array_own ≡ pos lattice.rows
+  rows_are : rows_of (own reference (Some lattice)) ≡ pos lattice.rows
   rows_are = rw has_colrow (rows_read lattice.columns lattice.rows lattice.few_rows)
 
   leads : (count : ℕ) (step : ℤ × ℤ) (counted : ℤ) (from to : Point) → counted ≡ pos count → from ≡ reference.origin → to ≡ moved_by count step reference.origin → Leads counted from to step
   leads count step counted from to same_count same_from same_to = rw (same_count, same_from, same_to) (record { across = refl; up = refl })
 
-  has_steps : HasSteps array_own lattice.column_step lattice.row_step
+  has_steps : HasSteps (own reference (Some lattice)) lattice.column_step lattice.row_step
   has_steps =
       let point = point_is at reference (Some lattice) writable is in
       record {
@@ -201,16 +191,16 @@ module _ (at : ℕ) (reference : Reference) (lattice : Lattice) (writable : IsWr
         rows = leads lattice.rows lattice.row_step _ _ _ rows_are (point 0 (omega arith)) (point 2 (omega arith));
       }
 
-  pub aref_kept : IsKept at array_own kind.AREF (Some (reference_element (reference_at at reference)))
+  pub aref_kept : IsKept at (own reference (Some lattice)) kind.AREF (Some (reference_element (reference_at at reference)))
   aref_kept =
       keeps_aref (is_reference at reference (Some lattice) writable is) is
       (record { columns = sym columns_are; rows = sym rows_are; steps = has_steps })
 
-  pub aref_holds : All (ElementHolds array_own) (element_checks aref_form)
+  pub aref_holds : All (ElementHolds (own reference (Some lattice))) (element_checks aref_form)
   aref_holds =
       let some_columns = lattice.some_columns in
       let some_rows = lattice.some_rows in
-      all_of {P = ElementHolds array_own} (more (has_points_xy at reference (Some lattice) writable is) (more (0, omega arith, refl) (more (has_found kind.COLROW array_own _ has_colrow)
-      (more (ap length (points_are at reference (Some lattice) writable is)) (more (not_magnified reference.target reference.turn reference.origin (Some lattice))
-      (more (not_absolute reference.target reference.turn reference.origin (Some lattice)) (more (by_quarters reference.target reference.turn reference.origin (Some lattice))
+      all_of {P = ElementHolds (own reference (Some lattice))} (more (has_points_xy at reference (Some lattice) writable is) (more (0, omega arith, refl)
+      (more (has_found kind.COLROW (own reference (Some lattice)) _ has_colrow) (more (ap length (points_are at reference (Some lattice) writable is))
+      (more (not_magnified reference (Some lattice)) (more (not_absolute reference (Some lattice)) (more (by_quarters reference (Some lattice))
       (more (rw columns_are (omega (arith, ints)), rw rows_are (omega (arith, ints))) (one (lattice.column_step, lattice.row_step, has_steps))))))))))

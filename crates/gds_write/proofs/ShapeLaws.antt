@@ -1,5 +1,5 @@
 -- What a shape's own records say of it, as they are written.
-use Rattle.std.proofs.Common.{◌≡◌, ℕ, suc, ◌≤◌, ℤ, pos, Bool, true, false, ◌==◌, List, [], ◌∷◌, ◌++◌, length, All, Contains, Option, Some, refl, sym, ap, subst, ◌∙◌, arith, append_assoc, w16, w32, FitsSigned, None, if◌then◌else◌, unwrap_or}
+use Rattle.std.proofs.Common.{◌≡◌, ℕ, suc, ◌≤◌, ℤ, Bool, true, false, ◌==◌, List, [], ◌∷◌, ◌++◌, length, All, Contains, Option, Some, refl, sym, ap, subst, ◌∙◌, arith, append_assoc, w16, w32, FitsSigned, None, if◌then◌else◌, unwrap_or}
 use Rattle.lists.proofs.Words.{cast_signed, flat_map, eqb-true}
 use Rattle.geo_core.specs.declared.plane.Point.{Point}
 use Rattle.library_grammar.specs.GrammarNames.{unsigned_of, item, Entry, ElementHolds, element_checks, ElementForm, boundary_form, path_form, box_form, path_kind, IsKept, field, points_in, points_of, short_of, long_of, IsClosed, HasItsPoints, ArePoints, IsKind, kinds_of}

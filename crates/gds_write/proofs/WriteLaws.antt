@@ -1,6 +1,6 @@
 -- What each step of the writer puts behind what is there.
-use Rattle.std.proofs.Common.{◌≡◌, ℕ, ◌+◌, ◌*◌, ◌<◌, ◌≤◌, List, [], ◌∷◌, ◌++◌, length, get_or, take, All, sym, ap, subst, ◌∙◌, append_assoc, take_all}
-use Rattle.lists.proofs.Words.{flat_map, append-nil, take_more, flat_map-append}
+use Rattle.std.proofs.Common.{◌≡◌, ℕ, ◌+◌, ◌*◌, ◌<◌, ◌≤◌, List, [], ◌∷◌, ◌++◌, length, get_or, take, All, refl, sym, ap, subst, ◌∙◌, append_assoc, take_all}
+use Rattle.lists.proofs.Words.{flat_map, append-nil, flat_map-append}
 use Rattle.byteorder.specs.Endian.{big_bytes}
 use Rattle.geo_core.specs.declared.plane.Point.{Point}
 use Rattle.gds_records.specs.declared.forms.TheConstants as form
@@ -8,32 +8,26 @@ use Rattle.gds_records.specs.declared.kinds.TheConstants as kind
 use Rattle.library_grammar.specs.GrammarNames.{Entry, spelling, spellings}
 use Rattle.gds_write.specs.Bodies.{point_bytes, points_entry}
 use Rattle.gds_write.proofs.ProfileLaws.{length-points}
+use Rattle.lists.proofs.Reading.{flat_map_next, gained_more}
+use Rattle.lists.proofs.Words.{get_or_default}
 
 -- two lists of records, one after the other
 pub appended : (old mid new : List ℕ) (xs ys : List Entry) → mid ≡ old ++ spellings xs → new ≡ mid ++ spellings ys → new ≡ old ++ spellings (xs ++ ys)
 appended old mid new xs ys first second =
     second ∙ ap (λ (m : List ℕ). m ++ spellings ys) first ∙ append_assoc old (spellings xs) (spellings ys) ∙ ap (λ (m : List ℕ). old ++ m) (sym (flat_map-append spelling xs ys))
 
--- the parts up to the next one are those before it and this one
-pub parts_more : {A B : Type 0} (f : A → List B) (parts : List A) (i : ℕ) (d : A) → i < length parts
-    → flat_map f (take (i + 1) parts) ≡ flat_map f (take i parts) ++ f (get_or parts i d)
-parts_more {B = B} f parts i d more =
-    ap (flat_map f) (take_more parts i d more) ∙ flat_map-append f (take i parts) (get_or parts i d ∷ [])
-    ∙ ap (λ (v : List B). flat_map f (take i parts) ++ v) (append-nil (f (get_or parts i d)))
-
 -- one part more is written
 pub part_written : {A : Type 0} (f : A → List Entry) (parts : List A) (i : ℕ) (a : A) (old now new : List ℕ) → i < length parts → a ≡ get_or parts i a
     → now ≡ old ++ spellings (flat_map f (take i parts)) → new ≡ now ++ spellings (f a) → new ≡ old ++ spellings (flat_map f (take (i + 1) parts))
-part_written {A} f parts i a old now new more is before one =
-    rw (parts_more f parts i a more)
-    (appended old now new (flat_map f (take i parts)) (f (get_or parts i a)) before (one ∙ ap (λ (x : A). now ++ spellings (f x)) is))
+part_written f parts i a old now new more is before one =
+    appended old now new (flat_map f (take i parts)) (f a) before one ∙ ap (λ (es : List Entry). old ++ spellings es) (flat_map_next f parts i a _ _ more is refl refl)
 
 -- one point more is written
 pub point_written : (points : List Point) (i : ℕ) (d : Point) (old now new : List ℕ) → i < length points
     → now ≡ old ++ flat_map point_bytes (take i points) → new ≡ now ++ point_bytes (get_or points i d) → new ≡ old ++ flat_map point_bytes (take (i + 1) points)
 point_written points i d old now new more before one =
-    rw (parts_more point_bytes points i d more)
-    (one ∙ ap (λ (v : List ℕ). v ++ point_bytes (get_or points i d)) before ∙ append_assoc old (flat_map point_bytes (take i points)) (point_bytes (get_or points i d)))
+    gained_more old now new (flat_map point_bytes (take i points)) (point_bytes (get_or points i d)) _ before one
+    (flat_map_next point_bytes points i (get_or points i d) _ _ more (get_or_default points i d (get_or points i d) more) refl refl)
 
 -- all points are written, behind the head of their record
 pub points_written : (points : List Point) (i size : ℕ) (old now new : List ℕ) → length points ≤ i → size ≡ 8 * length points

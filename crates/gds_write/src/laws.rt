@@ -16,6 +16,7 @@ pub fn written_reads()
 {}
 
 /// A library that bytes come to is well formed, so that it can be written.
+#[tactic(auto, using(crate::proofs::ReadWellFormed::come_to_well_formed))]
 pub fn read_is_well_formed()
     ensures { (bytes : List ℕ) (library : Library) → BytesComeTo bytes (value library) → IsWellFormed library }
 {}

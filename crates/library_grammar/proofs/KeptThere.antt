@@ -1,11 +1,11 @@
 -- What is kept of an element is there where its checks hold.
 use Rattle.std.proofs.Common.{◌≡◌, ℕ, ℤ, pos, negsuc, zero, suc, nat_abs, ◌+ℤ◌, ◌*ℤ◌, ◌≤ℤ◌, ◌*◌, ◌/◌, ◌<◌, ◌≤◌, ◌^◌, List, All, Contains, Option, Some, None, refl, ap, subst, ◌∙◌, arith, FitsSigned, ◌==◌, w16, w32}
-use Rattle.lists.proofs.Words.{pos-*ℤ-negsuc, le-mul_of_pos_right, Decides-eqb, ints, All-contains}
+use Rattle.lists.proofs.Words.{pos-*ℤ-negsuc, le-mul_of_pos_right, Decides-eqb, ints}
 use Rattle.std.proofs.Math.Nat.{mul_comm}
 use Rattle.geo_core.specs.declared.plane.Point.{Point}
 use Rattle.geo_core.specs.declared.plane.Turn.{Turn}
 use Rattle.gds_records.specs.declared.kinds.TheConstants as kind
-use Rattle.library_grammar.specs.GrammarNames.{Entry, ElementCheck, ElementHolds, element_checks, turns_by_quarters, has_columns_and_rows, has_whole_steps, ElementForm, boundary_form, path_form, sref_form, aref_form, box_form, element_forms, IsShape, path_kind, IsTurn, IsReference, IsLattice, IsKept, boundary, path, sref, aref, text, node, box, body_of, point_in, points_of, unsigned_of, HasQuarters, columns_of, rows_of, Leads, IsKind, IsPoint, IsStep}
+use Rattle.library_grammar.specs.GrammarNames.{Entry, ElementHolds, element_checks, turns_by_quarters, has_columns_and_rows, has_whole_steps, ElementForm, boundary_form, path_form, sref_form, aref_form, box_form, element_forms, IsShape, path_kind, IsTurn, IsReference, IsLattice, IsKept, boundary, path, sref, aref, text, node, box, body_of, point_in, points_of, unsigned_of, HasQuarters, columns_of, rows_of, Leads, IsKind, IsPoint, IsStep}
 use Rattle.library_model.specs.declared.element.Element.{Element}
 use Rattle.library_model.specs.declared.element.Element.TheVariants.{Shape as shape_element, Reference as reference_element}
 use Rattle.library_model.specs.declared.element.Lattice.{Lattice}
@@ -13,7 +13,8 @@ use Rattle.library_model.specs.declared.element.Reference.{Reference}
 use Rattle.library_model.specs.declared.element.Shape.{Shape}
 use Rattle.library_model.specs.declared.element.ShapeKind.{ShapeKind}
 use Rattle.library_model.specs.declared.element.ShapeKind.TheVariants.{Boundary, BoxElement}
-use Rattle.library_grammar.proofs.FieldRanges.{HaveBytes, body_has_bytes, unsigned_of_fits, short_of_fits, long_of_fits, columns_fit, rows_fit, point_fits, points_fit}
+use Rattle.library_grammar.proofs.FieldRanges.{HaveBytes, body_has_bytes, unsigned_of_fits, short_fits, short_of_fits, long_of_fits}
+use Rattle.library_grammar.proofs.PointLaws.{point_fits, are_points}
 use Rattle.library_grammar.proofs.PlaceRuns.{each_form}
 use Rattle.library_grammar.proofs.TextThere.{text_there}
 
@@ -31,13 +32,13 @@ shape_there at shape_kind datatype_kind own have fits = (
     kind_fits = fits;
     layer_fits = unsigned_of_fits own have kind.LAYER;
     datatype_fits = unsigned_of_fits own have datatype_kind;
-    points_fit = points_fit own have;
+    points_fit = are_points own;
   },
   record { place = refl; is_kind = refl; on_layer = refl; of_datatype = refl; has_points = refl },
 )
 
-path_fits : (own : List Entry) → HaveBytes own → IsKind (path_kind own)
-path_fits own have = (short_of_fits own have kind.PATHTYPE, long_of_fits own have kind.WIDTH, long_of_fits own have kind.BGNEXTN, long_of_fits own have kind.ENDEXTN)
+path_fits : (own : List Entry) → IsKind (path_kind own)
+path_fits own = (short_of_fits own kind.PATHTYPE, long_of_fits own kind.WIDTH, long_of_fits own kind.BGNEXTN, long_of_fits own kind.ENDEXTN)
 
 -- ---- turns
 
@@ -87,12 +88,12 @@ step_fits n count from to step some is from_fits to_fits leads = record {
   up = step_is_near n from.y to.y step.1 some from_fits.up to_fits.up (ap (λ (k : ℤ). from.y +ℤ (k *ℤ step.1)) is ∙ leads.up);
 }
 
-lattice_there : (own : List Entry) → HaveBytes own → ElementHolds own has_columns_and_rows → ElementHolds own has_whole_steps
+lattice_there : (own : List Entry) → ElementHolds own has_columns_and_rows → ElementHolds own has_whole_steps
     → (lattice : Lattice) × IsLattice own lattice
-lattice_there own have (some_columns, some_rows) (column_step, row_step, steps) =
-    let columns = count_there (columns_of own) (columns_fit own have) some_columns in
-    let rows = count_there (rows_of own) (rows_fit own have) some_rows in
-    let first = point_fits own have 0 in (
+lattice_there own (some_columns, some_rows) (column_step, row_step, steps) =
+    let columns = count_there (columns_of own) (short_fits _) some_columns in
+    let rows = count_there (rows_of own) (short_fits _) some_rows in
+    let first = point_fits (body_of kind.XY own) 0 in (
       record {
         columns = columns.0;
         rows = rows.0;
@@ -102,8 +103,8 @@ lattice_there own have (some_columns, some_rows) (column_step, row_step, steps) 
         few_columns = columns.3;
         some_rows = rows.2;
         few_rows = rows.3;
-        column_step_fits = step_fits columns.0 (columns_of own) _ _ column_step columns.2 columns.1 first (point_fits own have 1) steps.columns;
-        row_step_fits = step_fits rows.0 (rows_of own) _ _ row_step rows.2 rows.1 first (point_fits own have 2) steps.rows;
+        column_step_fits = step_fits columns.0 (columns_of own) _ _ column_step columns.2 columns.1 first (point_fits (body_of kind.XY own) 1) steps.columns;
+        row_step_fits = step_fits rows.0 (rows_of own) _ _ row_step rows.2 rows.1 first (point_fits (body_of kind.XY own) 2) steps.rows;
       },
       record { columns = columns.1; rows = rows.1; steps = steps },
     )
@@ -121,7 +122,7 @@ reference_there at own turn lattice have is_turn =
         origin = point_in (body_of kind.XY own) 0;
         lattice = lattice;
         target_fits = target.are_bytes;
-        origin_fits = point_fits own have 0;
+        origin_fits = point_fits (body_of kind.XY own) 0;
       },
       record { place = refl; is_target = target.is_text; is_turn = is_turn; is_origin = refl },
       refl,
@@ -138,28 +139,21 @@ module _ (at : ℕ) (own : List Entry) (have : HaveBytes own) where
   keeps_boundary all = let shape = shape_there at Boundary kind.DATATYPE own have tt in (Some (shape_element shape.0), boundary shape.1)
 
   keeps_path : Keeps at own path_form
-  keeps_path all = let shape = shape_there at (path_kind own) kind.DATATYPE own have (path_fits own have) in (Some (shape_element shape.0), path shape.1)
+  keeps_path all = let shape = shape_there at (path_kind own) kind.DATATYPE own have (path_fits own) in (Some (shape_element shape.0), path shape.1)
 
   keeps_box : Keeps at own box_form
   keeps_box all = let shape = shape_there at BoxElement kind.BOXTYPE own have tt in (Some (shape_element shape.0), box shape.1)
 
   keeps_sref : Keeps at own sref_form
   keeps_sref all =
-      let turns : ElementHolds own turns_by_quarters =
-      All-contains (ElementHolds own) (element_checks sref_form) turns_by_quarters all (5, omega arith, refl)
-      in
-      let turn = turn_there own turns in
+      let turn = turn_there own (all 5 turns_by_quarters (omega arith)) in
       let reference = reference_there at own turn.0 None have turn.1 in
       (Some (reference_element reference.0), sref reference.1 reference.2)
 
   keeps_aref : Keeps at own aref_form
   keeps_aref all =
-      let Holds : ElementCheck → Type 0 = ElementHolds own in
-      let turns : Holds turns_by_quarters = All-contains Holds (element_checks aref_form) turns_by_quarters all (6, omega arith, refl) in
-      let some : Holds has_columns_and_rows = All-contains Holds (element_checks aref_form) has_columns_and_rows all (7, omega arith, refl) in
-      let steps : Holds has_whole_steps = All-contains Holds (element_checks aref_form) has_whole_steps all (8, omega arith, refl) in
-      let turn = turn_there own turns in
-      let lattice = lattice_there own have some steps in
+      let turn = turn_there own (all 6 turns_by_quarters (omega arith)) in
+      let lattice = lattice_there own (all 7 has_columns_and_rows (omega arith)) (all 8 has_whole_steps (omega arith)) in
       let reference = reference_there at own turn.0 (Some lattice.0) have turn.1 in
       (Some (reference_element reference.0), aref reference.1 reference.2 lattice.1)
 

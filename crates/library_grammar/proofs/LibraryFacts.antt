@@ -16,6 +16,7 @@ use Rattle.library_model.specs.declared.library.Structure.{Structure}
 use Rattle.library_grammar.proofs.NextRecords.{among_more}
 use Rattle.library_grammar.proofs.LibraryThere.{checks_cannot_fail, second_part, split_part}
 use Rattle.library_grammar.proofs.PointedLaws.{kept_is_pointed}
+use Rattle.library_grammar.proofs.TextThere.{no_item}
 
 -- ---- names
 
@@ -100,20 +101,12 @@ not_closed p front last other closed =
     let rests : front ++ last ∷ [] ≡ closed.between ++ closed.first ∷ [] = cc (parts) in
     elim (last_or_before front last closed.between closed.first [] rests) [
       | inl (fronts, lasts, none) ↦ other (lasts ∙ sym first)
-      | inr (more, fronts, none) ↦ nothing more none
+      | inr (more, fronts, none) ↦ no_item more [] last none
     ]
-  where
-    nothing : (more : List Point) → [] ≡ more ++ last ∷ [] → ⊥
-    nothing [] none = cc (none)
-    nothing (m ∷ more) none = cc (none)
 
 closed_or_not : (points : List Point) → IsClosed points ⊎ (IsClosed points → ⊥)
 closed_or_not [] = inr (λ closed. let parts = closed.parts in cc (parts))
-closed_or_not (p ∷ []) = inr (λ closed. alone closed.first closed.between closed.parts)
-  where
-    alone : (first : Point) (between : List Point) → p ∷ [] ≡ first ∷ (between ++ first ∷ []) → ⊥
-    alone first [] same = cc (same)
-    alone first (b ∷ between) same = cc (same)
+closed_or_not (p ∷ []) = inr (λ closed. let parts = closed.parts in no_item closed.between [] closed.first (cc parts))
 closed_or_not (p ∷ q ∷ points) =
     let end = ends_with q points in
     let all : p ∷ q ∷ points ≡ p ∷ (end.0 ++ end.1 ∷ []) = ap (λ (ps : List Point). p ∷ ps) end.2 in
@@ -146,9 +139,10 @@ pointed_there (Some (reference_element reference)) h = tt
 
 -- ---- shapes
 
-pointed_with : (kept : Option Element) (rest : List Element) → IfSome kept IsWellPointed → All IsWellPointed rest → All IsWellPointed (option_to_list kept ++ rest)
-pointed_with None rest one all = all
-pointed_with (Some element) rest one all = All-cons IsWellPointed element rest one all
+-- what is kept of an element, if anything, and what is kept of others
+pub with_kept : (P : Element → Type 0) (kept : Option Element) (rest : List Element) → IfSome kept P → All P rest → All P (option_to_list kept ++ rest)
+with_kept P None rest one all = all
+with_kept P (Some element) rest one all = All-cons P element rest one all
 
 module _ (stream : List Entry) (shape : IsInShape stream) (none : NoneShows stream) where
   elements_pointed : (at : ℕ) (before after : List Entry) (parts : List ElementParts) (elements : List Element) → stream ≡ before ++ (flat_map element_records parts ++ after)
@@ -158,7 +152,7 @@ module _ (stream : List Entry) (shape : IsInShape stream) (none : NoneShows stre
       let is = All-head IsElement x others are in
       let rest : List Entry = flat_map element_records others in
       let here = split_part stream before (element_records x) rest after lie in
-      pointed_with kept elements
+      with_kept IsWellPointed kept elements
       (pointed_there kept (λ not.
       checks_cannot_fail stream shape none before x (rest ++ after) here is (λ sound. not (kept_is_pointed at x.own x.opening.kind kept x.form is.opens sound keeps))))
       (elements_pointed _ (before ++ element_records x) after others elements (second_part stream before (element_records x) (rest ++ after) here) (All-tail IsElement x others are) more)

@@ -13,8 +13,8 @@ use Rattle.library_grammar.proofs.KeptThere.{kept_there}
 use Rattle.library_grammar.proofs.NextRecords.{behind-append, NoneShows-snoc}
 use Rattle.library_grammar.proofs.PartsAgree.{closing_begins, element_behind}
 use Rattle.library_grammar.proofs.ShapeThere.{in_shape}
-use Rattle.library_grammar.proofs.SizeLaws.{units_has_sixteen}
-use Rattle.library_grammar.proofs.TextThere.{text_there}
+use Rattle.library_grammar.proofs.SizeLaws.{sizes}
+use Rattle.library_grammar.proofs.TextThere.{no_item, text_there}
 
 -- ---- where parts of a stream lie
 
@@ -122,7 +122,7 @@ module _ (stream : List Entry) (shape : IsInShape stream) (none : NoneShows stre
         units = l.units.body;
         structures = structures;
         name_fits = text.are_bytes;
-        units_count = units_has_sixteen l.units of_units is.units;
+        units_count = sizes.units l.units of_units is.units;
         units_fit = of_units.spelled.body;
       })
       (record { in_shape = shape; says = record { name = text.is_text; units = refl; structures = say } }))
@@ -130,8 +130,7 @@ module _ (stream : List Entry) (shape : IsInShape stream) (none : NoneShows stre
 -- ---- bytes
 
 nothing_shows : NoneShows []
-nothing_shows [] after e fault parts shown = absurd (cc)
-nothing_shows (x ∷ before) after e fault parts shown = absurd (cc)
+nothing_shows before after e fault parts shown = no_item before after e parts
 
 -- where no record is the first that shows a fault, none shows one
 none_shows : (before rest : List Entry) → NoneShows before

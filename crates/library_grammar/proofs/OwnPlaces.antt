@@ -5,7 +5,7 @@ use Rattle.lists.proofs.Words.{append-nil, list_all, map-append, length-map, All
 use Rattle.std.specs.Prelude.{is_none}
 use Rattle.std.proofs.lemmas.Bool.{true≢false}
 use Rattle.gds_records.specs.declared.kinds.TheConstants as kind
-use Rattle.library_grammar.specs.GrammarNames.{Entry, ElementForm, Opens, element_forms, own_kinds, Place, before_header, before_bgnlib, before_name, before_units, between_structures, before_strname, behind_strname, between_elements, among_own, behind_attribute, behind_property, behind_endlib, has_kind, form_of, into_element, out_of_element, next_place, place_behind, kinds_of, head_kinds}
+use Rattle.library_grammar.specs.GrammarNames.{Entry, ElementForm, Opens, element_forms, own_kinds, Place, before_header, before_name, before_units, between_structures, before_strname, behind_strname, between_elements, among_own, behind_attribute, behind_property, behind_endlib, has_kind, form_of, into_element, out_of_element, next_place, place_behind, kinds_of, head_kinds}
 use Rattle.library_grammar.proofs.PlaceEndings.{found_form}
 use Rattle.library_grammar.proofs.PlaceRuns.{begins_element, begins_first, each_form, form_test, has_contained, not_true, own_step, place_behind-append}
 use Rattle.library_grammar.proofs.PlainKinds.{own_is_plain}
@@ -59,25 +59,16 @@ into_form k q h = chosen (k == kind.ENDSTR) between_structures q (option_map (λ
     go (Some form) found h = same_place (among_own form []) q h (found_form element_forms k form found).0
 
 next_of_form : (p q : Place) (k : ℕ) → IsOfForm p → next_place p k ≡ Some q → IsOfForm q
-next_of_form before_header q k good h = chosen (k == kind.HEADER) before_bgnlib q None tt (nowhere q) h
-next_of_form before_bgnlib q k good h = chosen (k == kind.BGNLIB) before_name q None tt (nowhere q) h
-next_of_form before_name q k good h =
-    chosen (k == kind.LIBNAME) before_units q (if has_kind head_kinds k then Some before_name else None) tt
-    (chosen (has_kind head_kinds k) before_name q None tt (nowhere q)) h
-next_of_form before_units q k good h =
-    chosen (k == kind.UNITS) between_structures q (if has_kind head_kinds k then Some before_units else None) tt
-    (chosen (has_kind head_kinds k) before_units q None tt (nowhere q)) h
-next_of_form between_structures q k good h =
-    chosen (k == kind.BGNSTR) before_strname q (if k == kind.ENDLIB then Some behind_endlib else None) tt
-    (chosen (k == kind.ENDLIB) behind_endlib q None tt (nowhere q)) h
-next_of_form before_strname q k good h = chosen (k == kind.STRNAME) behind_strname q None tt (nowhere q) h
+next_of_form before_name q k good h = chosen (k == kind.LIBNAME) before_units q _ tt (chosen (has_kind head_kinds k) before_name q None tt (nowhere q)) h
+next_of_form before_units q k good h = chosen (k == kind.UNITS) between_structures q _ tt (chosen (has_kind head_kinds k) before_units q None tt (nowhere q)) h
+next_of_form between_structures q k good h = chosen (k == kind.BGNSTR) before_strname q _ tt (chosen (k == kind.ENDLIB) behind_endlib q None tt (nowhere q)) h
 next_of_form behind_strname q k good h = chosen (k == kind.STRCLASS) between_elements q (into_element k) tt (into_form k q) h
 next_of_form between_elements q k good h = into_form k q h
 next_of_form (among_own form own) q k good h =
     chosen (has_kind (own_kinds form) k && not (has_kind own k)) (among_own form (own ++ k ∷ [])) q (out_of_element k) good (out_of_form k q) h
-next_of_form behind_attribute q k good h = chosen (k == kind.PROPVALUE) behind_property q None tt (nowhere q) h
 next_of_form behind_property q k good h = out_of_form k q h
 next_of_form behind_endlib q k good h = nowhere q h
+next_of_form _ q k good h = chosen _ _ q None tt (nowhere q) h
 
 pub behind_of_form : (kinds : List ℕ) (p q : Place) → IsOfForm p → place_behind p kinds ≡ Some q → IsOfForm q
 behind_of_form [] p q good h = same_place p q h good
@@ -107,20 +98,12 @@ begins_own p q form leads h = let same : Some (among_own form []) ≡ Some q = s
 
 -- an opening record leads to the own records of its element alone
 opening_leads : (p q : Place) (form : ElementForm) → Contains element_forms form → IsOfForm p → next_place p form.opening ≡ Some q → q ≡ among_own form []
-opening_leads before_header q form listed good h = no_opening before_header q form refl listed h
-opening_leads before_bgnlib q form listed good h = no_opening before_bgnlib q form refl listed h
-opening_leads before_name q form listed good h = no_opening before_name q form refl listed h
-opening_leads before_units q form listed good h = no_opening before_units q form refl listed h
-opening_leads between_structures q form listed good h = no_opening between_structures q form refl listed h
-opening_leads before_strname q form listed good h = no_opening before_strname q form refl listed h
 opening_leads behind_strname q form listed good h = begins_own behind_strname q form (begins_first form listed) h
 opening_leads between_elements q form listed good h = begins_own between_elements q form (begins_element form listed) h
 opening_leads (among_own other own) q form listed good h =
     let out : out_of_element form.opening ≡ None = each_form (λ f. out_of_element f.opening ≡ None) refl refl refl refl refl refl refl form listed in
     nothing_more (next_place (among_own other own) form.opening) q (q ≡ among_own form []) (rw (opening_is_foreign other form good listed) out) h
-opening_leads behind_attribute q form listed good h = no_opening behind_attribute q form refl listed h
-opening_leads behind_property q form listed good h = no_opening behind_property q form refl listed h
-opening_leads behind_endlib q form listed good h = no_opening behind_endlib q form refl listed h
+opening_leads p q form listed good h = no_opening p q form refl listed h
 
 -- ---- own records
 

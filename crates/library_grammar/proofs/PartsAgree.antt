@@ -1,9 +1,10 @@
 -- Where each part of a library ends is told by its records, so that records have one way to be the parts of a library.
-use Rattle.std.proofs.Common.{◌≡◌, ◌≢◌, ◌⊎◌, inl, inr, ℕ, Bool, true, false, not, ◌==◌, List, [], ◌∷◌, ◌++◌, All, Contains, Option, Some, None, IfSome, refl, sym, ap, subst, ◌∙◌, arith, append_assoc, option_to_list}
+use Rattle.std.proofs.Common.{◌≡◌, ◌≢◌, ◌⊎◌, inl, inr, ℕ, true, false, not, ◌==◌, List, [], ◌∷◌, ◌++◌, All, Contains, Option, Some, None, IfSome, refl, sym, ap, subst, ◌∙◌, arith, append_assoc, option_to_list}
 use Rattle.lists.proofs.Words.{flat_map, list_all, eqb-false, All-head, All-tail}
 use Rattle.std.proofs.lemmas.Bool.{true≢false}
 use Rattle.gds_records.specs.declared.kinds.TheConstants as kind
 use Rattle.library_grammar.specs.GrammarNames.{Entry, ElementForm, Opens, element_forms, own_kinds, head_kinds, IsOfKind, Property, property_records, IsProperty, ElementParts, element_records, IsElement, StructureParts, structure_records, IsStructure, LibraryParts, library_records, IsInGrammar, has_kind, form_of}
+use Rattle.library_grammar.proofs.PlaceEndings.{one_each}
 use Rattle.library_grammar.proofs.PlaceRuns.{each_form, form_test, has_contained, not_true}
 
 -- ---- parts one after the other, up to a record that begins none
@@ -36,15 +37,9 @@ other_kind k n e o differs is is' same = differs (sym is ∙ ap (λ (x : Entry).
 module _ (Kind : ℕ → Type 0) (Last : Entry → Type 0) (apart : (e last : Entry) → Kind e.kind → Last last → e ≡ last → ⊥) where
   pub records_agree : (front other : List Entry) (last end : Entry) (rest also : List Entry) → All (λ e. Kind e.kind) front → All (λ e. Kind e.kind) other
       → Last last → Last end → front ++ last ∷ rest ≡ other ++ end ∷ also → (front ≡ other) × (last ≡ end) × (rest ≡ also)
-  records_agree [] [] last end rest also are are' is is' same = (refl, cc, cc)
-  records_agree [] (y ∷ other) last end rest also are are' is is' same =
-      absurd (apart y last (All-head (λ e. Kind e.kind) y other are') is (cc same))
-  records_agree (x ∷ front) [] last end rest also are are' is is' same =
-      absurd (apart x end (All-head (λ e. Kind e.kind) x front are) is' (cc same))
-  records_agree (x ∷ front) (y ∷ other) last end rest also are are' is is' same =
-      let first : x ≡ y = cc in
-      let others = records_agree front other last end rest also (All-tail (λ e. Kind e.kind) x front are) (All-tail (λ e. Kind e.kind) y other are') is is' (cc same) in
-      (cc (first, others.0), others.1, others.2)
+  records_agree front other last end rest also are are' is is' same =
+      parts_agree (λ e. Kind e.kind) (λ e. e ∷ []) Last (λ a b rest also _ _ same. (cc same, cc same)) (λ a rest also last is is_last same. apart a last is is_last (cc same))
+      front other last end rest also are are' is is' (rw (one_each front, one_each other) same)
 
 -- a kind that a list lacks is none that it contains
 lacked : (kinds : List ℕ) (k x : ℕ) → has_kind kinds k ≡ false → Contains kinds x → x ≢ k

@@ -2,7 +2,7 @@
 use Rattle.std.proofs.Common.{◌≡◌, ◌≢◌, ℕ, suc, ◌⊎◌, inl, inr, Bool, true, false, not, ◌&&◌, ◌||◌, ◌==◌, if◌then◌else◌, List, [], ◌∷◌, ◌++◌, get_or, All, AllPairs, Contains, Option, Some, None, option_map, option_and_then, find, IfSome, refl, sym, ap, subst, ◌∙◌, arith, append_assoc, option_to_list}
 use Rattle.lists.proofs.Words.{flat_map, eqb-true, eqb-false, All-nil, All-cons, All-weaker, Any-from_list_any, list_any-append, AllPairs-cons}
 use Rattle.gds_records.specs.declared.kinds.TheConstants as kind
-use Rattle.library_grammar.specs.GrammarNames.{Entry, ElementForm, element_forms, own_kinds, kinds_of, head_kinds, IsOfKind, Property, property_records, IsProperty, ElementParts, element_records, IsElement, StructureParts, structure_records, IsStructure, IsInShape, Place, before_header, before_bgnlib, before_name, before_units, between_structures, before_strname, behind_strname, between_elements, among_own, behind_attribute, behind_property, behind_endlib, has_kind, form_of, into_element, out_of_element, next_place, place_behind}
+use Rattle.library_grammar.specs.GrammarNames.{Entry, ElementForm, element_forms, own_kinds, kinds_of, head_kinds, IsOfKind, property_records, IsProperty, ElementParts, element_records, IsElement, StructureParts, structure_records, IsStructure, IsInShape, Place, before_header, before_bgnlib, before_name, before_units, between_structures, before_strname, behind_strname, between_elements, among_own, behind_attribute, behind_property, behind_endlib, has_kind, form_of, into_element, out_of_element, next_place, place_behind}
 
 -- ---- what leads to the end
 
@@ -281,9 +281,21 @@ ends_of (e ∷ entries) p h = go (next_place p e.kind) refl h (ends_of entries)
     go (Some next) is_next h further = back p next e entries is_next (further next h)
 
 -- a list item by item
-one_each : (entries : List Entry) → flat_map (λ e. e ∷ []) entries ≡ entries
+pub one_each : (entries : List Entry) → flat_map (λ e. e ∷ []) entries ≡ entries
 one_each [] = refl
 one_each (e ∷ entries) = ap (λ (es : List Entry). e ∷ es) (one_each entries)
+
+-- the parts of a library, one after the other, are in shape
+parts_in_shape : (version opening name units last : Entry) (front more : List Entry) (structures : List StructureParts) → IsOfKind kind.HEADER version
+    → IsOfKind kind.BGNLIB opening → All (λ e. Contains head_kinds e.kind) front → IsOfKind kind.LIBNAME name → All (λ e. Contains head_kinds e.kind) more
+    → IsOfKind kind.UNITS units → All IsStructure structures → IsOfKind kind.ENDLIB last
+    → IsInShape (version ∷ opening ∷ (front ++ name ∷ (more ++ units ∷ (flat_map structure_records structures ++ last ∷ []))))
+parts_in_shape version opening name units last front more structures v o b n u t s l =
+    record {
+      library = record { version = version; opening = opening; before_name = front; name = name; before_units = more; units = units; structures = structures; last = last };
+      in_grammar = record { version = v; opens = o; before_name = b; names = n; before_units = u; units = t; structures = s; ends = l };
+      are_its = simp append_assoc refl;
+    }
 
 -- records that lead to the end are in shape
 pub in_shape_of_end : (entries : List Entry) → place_behind before_header (kinds_of entries) ≡ Some behind_endlib → IsInShape entries
@@ -299,26 +311,6 @@ in_shape_of_end entries h =
     let same : entries ≡ version.first ∷ opening.first ∷ (to_name.items ++ name.first ∷ (to_units.items ++ units.first ∷ (flat_map structure_records rest.items ++ last.first ∷ []))) =
     cc (version.parts, opening.parts, to_name.parts, name.parts, to_units.parts, units.parts, rest.parts, last.parts, last.ends, one_each to_name.items, one_each to_units.items)
     in
-    record {
-      library = record {
-        version = version.first;
-        opening = opening.first;
-        before_name = to_name.items;
-        name = name.first;
-        before_units = to_units.items;
-        units = units.first;
-        structures = rest.items;
-        last = last.first;
-      };
-      in_grammar = record {
-        version = version.is_first;
-        opens = opening.is_first;
-        before_name = to_name.are;
-        names = name.is_first;
-        before_units = to_units.are;
-        units = units.is_first;
-        structures = rest.are;
-        ends = last.is_first;
-      };
-      are_its = simp append_assoc same;
-    }
+    subst IsInShape (sym same)
+    (parts_in_shape version.first opening.first name.first units.first last.first to_name.items to_units.items rest.items
+    version.is_first opening.is_first to_name.are name.is_first to_units.are units.is_first rest.are last.is_first)

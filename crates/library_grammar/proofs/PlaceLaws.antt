@@ -1,5 +1,5 @@
 -- What may stand behind records is what their place says: each place has a way to the end, and a list in shape stops nowhere.
-use Rattle.std.proofs.Common.{◌≡◌, ℕ, Bool, true, false, not, ◌&&◌, ◌==◌, ◌↔◌, List, [], ◌∷◌, ◌++◌, Option, Some, None, IsSome, option_and_then, refl, sym, ap, ◌∙◌}
+use Rattle.std.proofs.Common.{map, ◌≡◌, ℕ, Bool, true, false, not, ◌&&◌, ◌==◌, ◌↔◌, List, [], ◌∷◌, ◌++◌, Option, Some, None, IsSome, option_and_then, refl, sym, ap, ◌∙◌}
 use Rattle.lists.proofs.Words.{list_any-append, or-true, map-append}
 use Rattle.std.proofs.Math.Bool.{and-false}
 use Rattle.gds_records.specs.declared.kinds.TheConstants as kind
@@ -21,26 +21,8 @@ WayOut p = (entries : List Entry) × LeadTo p entries behind_endlib
 way_behind : (p q : Place) (k : ℕ) → next_place p k ≡ Some q → WayOut q → WayOut p
 way_behind p q k e way = (some_entry k ∷ way.0, step p q k (kinds_of way.0) e ∙ way.1)
 
-out_of_library : WayOut between_structures
-out_of_library = (some_entry kind.ENDLIB ∷ [], refl)
-
 out_of_structure : WayOut between_elements
-out_of_structure = way_behind between_elements between_structures kind.ENDSTR refl out_of_library
-
-out_of_properties : WayOut behind_property
-out_of_properties = way_behind behind_property between_elements kind.ENDEL refl out_of_structure
-
-out_of_units : WayOut before_units
-out_of_units = way_behind before_units between_structures kind.UNITS refl out_of_library
-
-out_of_name : WayOut before_name
-out_of_name = way_behind before_name before_units kind.LIBNAME refl out_of_units
-
-out_of_bgnlib : WayOut before_bgnlib
-out_of_bgnlib = way_behind before_bgnlib before_name kind.BGNLIB refl out_of_name
-
-out_of_named : WayOut behind_strname
-out_of_named = way_behind behind_strname between_structures kind.ENDSTR refl out_of_library
+out_of_structure = (map some_entry (kind.ENDSTR ∷ kind.ENDLIB ∷ []), refl)
 
 -- Where ENDEL cannot be one more of an element's own records, it leads out of the element.
 closes : (form : ElementForm) (own : List ℕ) → (has_kind (own_kinds form) kind.ENDEL && not (has_kind own kind.ENDEL)) ≡ false → WayOut (among_own form own)
@@ -58,17 +40,17 @@ out_of_own form own = go (has_kind (own_kinds form) kind.ENDEL && not (has_kind 
     go false test = closes form own test
 
 way_out : (p : Place) → WayOut p
-way_out before_header = way_behind before_header before_bgnlib kind.HEADER refl out_of_bgnlib
-way_out before_bgnlib = out_of_bgnlib
-way_out before_name = out_of_name
-way_out before_units = out_of_units
-way_out between_structures = out_of_library
-way_out before_strname = way_behind before_strname behind_strname kind.STRNAME refl out_of_named
-way_out behind_strname = out_of_named
+way_out before_header = (map some_entry (kind.HEADER ∷ kind.BGNLIB ∷ kind.LIBNAME ∷ kind.UNITS ∷ kind.ENDLIB ∷ []), refl)
+way_out before_bgnlib = (map some_entry (kind.BGNLIB ∷ kind.LIBNAME ∷ kind.UNITS ∷ kind.ENDLIB ∷ []), refl)
+way_out before_name = (map some_entry (kind.LIBNAME ∷ kind.UNITS ∷ kind.ENDLIB ∷ []), refl)
+way_out before_units = (map some_entry (kind.UNITS ∷ kind.ENDLIB ∷ []), refl)
+way_out between_structures = (map some_entry (kind.ENDLIB ∷ []), refl)
+way_out before_strname = (map some_entry (kind.STRNAME ∷ kind.ENDSTR ∷ kind.ENDLIB ∷ []), refl)
+way_out behind_strname = (map some_entry (kind.ENDSTR ∷ kind.ENDLIB ∷ []), refl)
 way_out between_elements = out_of_structure
 way_out (among_own form own) = out_of_own form own
-way_out behind_attribute = way_behind behind_attribute behind_property kind.PROPVALUE refl out_of_properties
-way_out behind_property = out_of_properties
+way_out behind_attribute = (map some_entry (kind.PROPVALUE ∷ kind.ENDEL ∷ kind.ENDSTR ∷ kind.ENDLIB ∷ []), refl)
+way_out behind_property = (map some_entry (kind.ENDEL ∷ kind.ENDSTR ∷ kind.ENDLIB ∷ []), refl)
 way_out behind_endlib = ([], refl)
 
 -- ---- what may stand

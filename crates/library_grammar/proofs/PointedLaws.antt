@@ -1,7 +1,7 @@
 -- The shape of an element whose checks hold has its points.
 use Rattle.std.proofs.Common.{◌≡◌, ℕ, List, refl, subst, Option, arith, length, ◌≤◌, All, IfSome}
 use Rattle.gds_records.specs.declared.kinds.TheConstants as kind
-use Rattle.library_grammar.specs.GrammarNames.{Entry, ElementHolds, element_checks, is_closed, ElementForm, Opens, boundary_form, path_form, box_form, IsKept, boundary, path, sref, aref, text, node, box, points_of, IsWellPointed, IsOutline}
+use Rattle.library_grammar.specs.GrammarNames.{Entry, ElementHolds, element_checks, is_closed, ElementForm, Opens, boundary_form, path_form, box_form, IsKept, boundary, path, box, points_of, IsWellPointed, IsOutline}
 use Rattle.library_model.specs.declared.element.Element.{Element}
 use Rattle.library_grammar.proofs.PartsAgree.{forms_agree}
 
@@ -26,11 +26,8 @@ kept_is_pointed at own _ _ form opens sound (path is) =
     let holds = subst (λ (f : ElementForm). All (ElementHolds own) (element_checks f)) (path_opens form opens) sound in
     let some : 1 ≤ length (points_of own) = holds 3 is_closed (omega arith) in
     rw (is.is_kind, is.has_points) some
-kept_is_pointed at own _ _ form opens sound (sref is none) = tt
-kept_is_pointed at own _ _ form opens sound (aref is repeated lattice) = tt
-kept_is_pointed at own _ _ form opens sound text = tt
-kept_is_pointed at own _ _ form opens sound node = tt
 kept_is_pointed at own _ _ form opens sound (box is) =
     let holds = subst (λ (f : ElementForm). All (ElementHolds own) (element_checks f)) (box_opens form opens) sound in
     let outline : IsOutline (points_of own) = record { count = holds 3 is_closed (omega arith); closed = holds 4 is_closed (omega arith) } in
     rw (is.is_kind, is.has_points) outline
+kept_is_pointed at own _ _ form opens sound _ = tt

@@ -2,7 +2,7 @@
 use Rattle.std.proofs.Common.{◌≡◌, ℕ, false, List, [], ◌∷◌, ◌++◌, Option, Some, None, refl, sym, ap, subst, ◌∙◌, append_assoc}
 use Rattle.lists.proofs.Words.{append-nil, map-append}
 use Rattle.gds_records.specs.declared.kinds.TheConstants as kind
-use Rattle.library_grammar.specs.GrammarNames.{Entry, EndsWithEndlib, own_kinds, NoneShows, behind, Place, before_header, before_bgnlib, before_name, before_units, between_structures, before_strname, behind_strname, between_elements, among_own, behind_attribute, behind_property, behind_endlib, has_kind, next_place, place_behind, kinds_of, IsInShape}
+use Rattle.library_grammar.specs.GrammarNames.{Entry, EndsWithEndlib, own_kinds, NoneShows, behind, Place, before_header, between_structures, among_own, behind_endlib, has_kind, next_place, place_behind, kinds_of, IsInShape}
 use Rattle.library_grammar.specs.FirstFault.{may_not_stand as shows_unexpected}
 use Rattle.library_grammar.specs.declared.fault.SyntaxFault.TheVariants.{Unexpected}
 use Rattle.library_grammar.proofs.OwnPlaces.{IsOfForm, behind_of_form, way_in_parts, way_in_steps}
@@ -30,21 +30,12 @@ leads_on before (e ∷ rest) p here none = go (next_place p e.kind) refl (leads_
 
 -- ENDLIB leads behind the end alone
 endlib_ends : (p q : Place) → IsOfForm p → next_place p kind.ENDLIB ≡ Some q → q ≡ behind_endlib
-endlib_ends before_header q good h = absurd (cc)
-endlib_ends before_bgnlib q good h = absurd (cc)
-endlib_ends before_name q good h = absurd (cc)
-endlib_ends before_units q good h = absurd (cc)
 endlib_ends between_structures q good h = let same : behind_endlib ≡ q = cc in sym same
-endlib_ends before_strname q good h = absurd (cc)
-endlib_ends behind_strname q good h = absurd (cc)
-endlib_ends between_elements q good h = absurd (cc)
 endlib_ends (among_own form own) q good h =
     let lacks = each_form (λ f. has_kind (own_kinds f) kind.ENDLIB ≡ false) refl refl refl refl refl refl refl form good in
     let none : next_place (among_own form own) kind.ENDLIB ≡ None = rw lacks refl in
     absurd (cc)
-endlib_ends behind_attribute q good h = absurd (cc)
-endlib_ends behind_property q good h = absurd (cc)
-endlib_ends behind_endlib q good h = absurd (cc)
+endlib_ends _ q good h = absurd (cc)
 
 pub in_shape : (entries : List Entry) → NoneShows entries → EndsWithEndlib entries → IsInShape entries
 in_shape entries none ends =

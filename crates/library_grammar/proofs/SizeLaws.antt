@@ -16,50 +16,35 @@ bodies_have n k sized e in_profile of_kind =
     let (rule, is, takes) = in_profile.permitted in
     MatchOption-at_some ⊥ (λ rule. (m : ℕ) → TakesSize rule.sizes m → m ≡ n) rule (ap rule_at (sym of_kind) ∙ only_rule e.kind rule is.listed) sized (length e.body) takes
 
-pub layer_has_two : BodiesHave 2 kind.LAYER
-unfolding table
-layer_has_two = bodies_have 2 kind.LAYER (λ m e. e)
+-- the kinds into whose bodies a reader looks
+pub record Sizes : Type 0 where
+  pub layer : BodiesHave 2 kind.LAYER
+  pub datatype : BodiesHave 2 kind.DATATYPE
+  pub boxtype : BodiesHave 2 kind.BOXTYPE
+  pub strans : BodiesHave 2 kind.STRANS
+  pub pathtype : BodiesHave 2 kind.PATHTYPE
+  pub width : BodiesHave 4 kind.WIDTH
+  pub bgnextn : BodiesHave 4 kind.BGNEXTN
+  pub endextn : BodiesHave 4 kind.ENDEXTN
+  pub colrow : BodiesHave 4 kind.COLROW
+  pub mag : BodiesHave 8 kind.MAG
+  pub angle : BodiesHave 8 kind.ANGLE
+  pub units : BodiesHave 16 kind.UNITS
 
-pub datatype_has_two : BodiesHave 2 kind.DATATYPE
+pub sizes : Sizes
 unfolding table
-datatype_has_two = bodies_have 2 kind.DATATYPE (λ m e. e)
-
-pub boxtype_has_two : BodiesHave 2 kind.BOXTYPE
-unfolding table
-boxtype_has_two = bodies_have 2 kind.BOXTYPE (λ m e. e)
-
-pub strans_has_two : BodiesHave 2 kind.STRANS
-unfolding table
-strans_has_two = bodies_have 2 kind.STRANS (λ m e. e)
-
-pub pathtype_has_two : BodiesHave 2 kind.PATHTYPE
-unfolding table
-pathtype_has_two = bodies_have 2 kind.PATHTYPE (λ m e. e)
-
-pub width_has_four : BodiesHave 4 kind.WIDTH
-unfolding table
-width_has_four = bodies_have 4 kind.WIDTH (λ m e. e)
-
-pub bgnextn_has_four : BodiesHave 4 kind.BGNEXTN
-unfolding table
-bgnextn_has_four = bodies_have 4 kind.BGNEXTN (λ m e. e)
-
-pub endextn_has_four : BodiesHave 4 kind.ENDEXTN
-unfolding table
-endextn_has_four = bodies_have 4 kind.ENDEXTN (λ m e. e)
-
-pub colrow_has_four : BodiesHave 4 kind.COLROW
-unfolding table
-colrow_has_four = bodies_have 4 kind.COLROW (λ m e. e)
-
-pub mag_has_eight : BodiesHave 8 kind.MAG
-unfolding table
-mag_has_eight = bodies_have 8 kind.MAG (λ m e. e)
-
-pub angle_has_eight : BodiesHave 8 kind.ANGLE
-unfolding table
-angle_has_eight = bodies_have 8 kind.ANGLE (λ m e. e)
-
-pub units_has_sixteen : BodiesHave 16 kind.UNITS
-unfolding table
-units_has_sixteen = bodies_have 16 kind.UNITS (λ m e. e)
+sizes =
+    record {
+      layer = bodies_have 2 kind.LAYER (λ m e. e);
+      datatype = bodies_have 2 kind.DATATYPE (λ m e. e);
+      boxtype = bodies_have 2 kind.BOXTYPE (λ m e. e);
+      strans = bodies_have 2 kind.STRANS (λ m e. e);
+      pathtype = bodies_have 2 kind.PATHTYPE (λ m e. e);
+      width = bodies_have 4 kind.WIDTH (λ m e. e);
+      bgnextn = bodies_have 4 kind.BGNEXTN (λ m e. e);
+      endextn = bodies_have 4 kind.ENDEXTN (λ m e. e);
+      colrow = bodies_have 4 kind.COLROW (λ m e. e);
+      mag = bodies_have 8 kind.MAG (λ m e. e);
+      angle = bodies_have 8 kind.ANGLE (λ m e. e);
+      units = bodies_have 16 kind.UNITS (λ m e. e);
+    }

@@ -7,6 +7,7 @@ use Rattle.library_grammar.specs.GrammarNames.{IsText, Entry, ElementHolds, elem
 use Rattle.library_grammar.specs.declared.fault.SyntaxFault.{SyntaxFault}
 use Rattle.library_grammar.proofs.NextRecords.{place_after, NoneShows-snoc, plain_shows_nothing, AreNamesIn-snoc, AreNamesIn-named, new_name_is_quiet}
 use Rattle.library_grammar.proofs.OwnPlaces.{own_agree, way_in_steps}
+use Rattle.library_grammar.proofs.TextThere.{no_item}
 use Rattle.library_grammar.proofs.PlaceLaws.{may_stand}
 use Rattle.library_grammar.proofs.PlaceRuns.{LeadTo, step, own_run, ends_element}
 use Rattle.library_grammar.proofs.PlainKinds.{own_is_plain, opening_is_plain}
@@ -32,16 +33,11 @@ pub record StandsAt (before : List Entry) (place : Place) (names : List (List �
   pub none_shows : NoneShows before
   pub are_names : AreNamesIn before names
 
--- no records are in front of the first
-no_records : (before after : List Entry) (e : Entry) → [] ≡ before ++ e ∷ after → ⊥
-no_records [] after e same = cc (same)
-no_records (b ∷ before) after e same = cc (same)
-
 pub starts : StandsAt [] before_header []
 starts = record {
   leads = refl;
-  none_shows = λ before after e fault same shown. no_records before after e same;
-  are_names = λ name. (λ has. absurd (omega (arith, has.1)), λ found. absurd (no_records found.earlier found.later found.record_of_name found.parts));
+  none_shows = λ before after e fault same shown. no_item before after e same;
+  are_names = λ name. (λ has. absurd (omega (arith, has.1)), λ found. absurd (no_item found.earlier found.later found.record_of_name found.parts));
 }
 
 -- these records lead on, whatever stands in front of them

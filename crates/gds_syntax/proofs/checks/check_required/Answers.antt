@@ -1,10 +1,13 @@
+use Rattle.std.proofs.Common.{Contains}
+use Rattle.lists.proofs.Words.{All-more}
+use Rattle.library_grammar.specs.GrammarNames.{kinds_of}
 use Rattle.gds_syntax.specs.inside.ElementKinds.{form_for}
-use Rattle.gds_syntax.proofs.CheckLaws.{first_needed_are_there, needed_are_there, first_missing}
+use Rattle.gds_syntax.proofs.CheckLaws.{needed_are_there, first_missing}
 use Rattle.gds_syntax.proofs.checks.check_required.Goals as goal
 
 pub loop-needed-preserved : goal.loop-needed-preserved
 loop-needed-preserved c =
-    first_needed_are_there c.args.own.now c.required-needed-items.result.now c.loop-needed.needed-index c.loop-needed-test.true
+    All-more (Contains (kinds_of c.args.own.now)) c.required-needed-items.result.now c.loop-needed.needed-index 0 c.loop-needed-test.true
     c.loop-needed.invariant (c.has.ensures.0 c.if-not-has.false)
 
 pub returns-then-not-has-clause-failed : goal.returns-then-not-has-clause-failed

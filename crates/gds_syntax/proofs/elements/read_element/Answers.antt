@@ -38,8 +38,8 @@ returns c =
     let own = read c.in_ok-closing.ensures in
     elim c.if-closing-eq-PROPATTR.branch [
       | then-closing-eq-PROPATTR+in_ok-read_properties w ↦
-          rw w.records-is (gives (element_with_properties c.args.opening.now c.in_ok-kept.kept
-          c.requires.opens own w.if-closing-eq-PROPATTR.true w.in_ok-read_properties.ensures.read sound keeps))
+          rw w.records-is (gives (element_with_properties c.args.opening.now c.requires.opens own c.in_ok-kept.kept sound keeps
+          w.if-closing-eq-PROPATTR.true w.in_ok-read_properties.ensures.read))
       | else-closing-eq-PROPATTR w ↦
-          rw w.records-is (gives (plain_element c.args.opening.now c.in_ok-kept.kept c.requires.opens own w.if-closing-eq-PROPATTR.false sound keeps))
+          rw w.records-is (gives (plain_element c.args.opening.now c.requires.opens own c.in_ok-kept.kept sound keeps w.if-closing-eq-PROPATTR.false))
     ]

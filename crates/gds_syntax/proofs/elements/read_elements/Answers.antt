@@ -3,7 +3,7 @@ use Rattle.gds_syntax.specs.inside.ElementKinds.{form_for}
 use Rattle.library_grammar.specs.GrammarNames.{between_elements}
 use Rattle.gds_syntax.specs.LibraryReaders.{standing}
 use Rattle.gds_syntax.proofs.ElementsReading.{elements_go_on, elements_stop, elements_end, element_further, element_fault_stops, opens}
-use Rattle.first_refusal.proofs.AnswerLaws.{handed_on, out_of_memory}
+use Rattle.first_refusal.proofs.AnswerLaws.{handed_on}
 use Rattle.first_refusal.specs.Answers.{gives, refuses}
 use Rattle.library_grammar.specs.declared.fault.SyntaxFault.TheVariants.{Memory}
 use Rattle.gds_syntax.proofs.ReaderLaws.{has_less_left, passed_on, read, stops_later}
@@ -24,7 +24,7 @@ read_element-requires-clause-ready c =
 pub returns-in_err-kept : goal.returns-in_err-kept
 returns-in_err-kept c =
     passed_on c.from_residual-in_err-kept.result c.from_residual-in_err-kept.ensures.1 c.in_err-kept.ensures
-    (element_fault_stops c.in_err-kept.field-0.0 c.loop-found-test.true (sym c.in-Some.ensures) c.loop-found.invariant)
+    (element_fault_stops c.loop-found-test.true (sym c.in-Some.ensures) c.loop-found.invariant c.in_err-kept.field-0.0)
 
 pub returns-in_err-found-2 : goal.returns-in_err-found-2
 returns-in_err-found-2 c =
@@ -45,9 +45,6 @@ returns c = gives (elements_end c.loop-found-test.false c.loop-found.invariant)
 
 pub returns-in_err-found : goal.returns-in_err-found
 returns-in_err-found c = handed_on Memory _ c.from_residual.result _ c.from_residual.ensures.1 (refuses c.in_err-found.ensures.faulty)
-
-pub returns-in_err-keep : goal.returns-in_err-keep
-returns-in_err-keep c = out_of_memory Memory _ c.from_residual-in_err-keep.result c.from_residual-in_err-keep.ensures.1
 
 pub next_record-requires : goal.next_record-requires
 next_record-requires c = (read c.in_ok-kept.ensures).ready

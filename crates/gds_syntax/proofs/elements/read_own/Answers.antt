@@ -3,11 +3,11 @@ use Rattle.lists.proofs.Words.{iff_false}
 use Rattle.gds_syntax.specs.inside.ElementKinds.{form_for}
 use Rattle.library_grammar.specs.GrammarNames.{among_own}
 use Rattle.gds_syntax.specs.LibraryReaders.{standing}
-use Rattle.gds_syntax.proofs.OwnReading.{own_begins, own_is_ready, own_further, own_goes_on, foreign_stops, repeated_stops}
-use Rattle.first_refusal.proofs.AnswerLaws.{handed_on, out_of_memory}
+use Rattle.gds_syntax.proofs.OwnReading.{own_begins, own_is_ready, own_further, own_goes_on, own_stops}
+use Rattle.first_refusal.proofs.AnswerLaws.{handed_on}
 use Rattle.first_refusal.specs.Answers.{gives, refuses}
 use Rattle.library_grammar.specs.declared.fault.SyntaxFault.TheVariants.{Memory}
-use Rattle.gds_syntax.proofs.ReaderLaws.{stops_later, one_less_left}
+use Rattle.gds_syntax.proofs.ReaderLaws.{stops_later}
 use Rattle.gds_syntax.proofs.elements.read_own.Goals as goal
 use Rattle.gds_syntax.proofs.elements.read_own.Goals.{then-loop-own-test+else-not-has, else-loop-own-test}
 
@@ -24,14 +24,8 @@ returns-in_err-found-2 c =
 pub loop-own-init : goal.loop-own-init
 loop-own-init c = rw c.requires.none (own_begins (form_for c.args.kind) c.in_ok-found.ensures.found)
 
-pub push-requires : goal.push-requires
-push-requires c = c.loop-own.invariant.takes.in_profile
-
 pub next_record-requires-in-loop-own : goal.next_record-requires-in-loop-own
 next_record-requires-in-loop-own c = own_is_ready c.args.kind (c.owns.ensures.0 c.loop-own-test.true) c.loop-own.invariant
-
-pub loop-own-smaller : goal.loop-own-smaller
-loop-own-smaller c = one_less_left c.in_ok-found-2.ensures.found
 
 pub loop-own-preserved : goal.loop-own-preserved
 loop-own-preserved c =
@@ -40,16 +34,12 @@ loop-own-preserved c =
     rw c.in_ok-push.ensures all
 
 pub returns-then-found-ne-ENDEL : goal.returns-then-found-ne-ENDEL
-returns-then-found-ne-ENDEL c = rw c.unexpected.ensures (refuses (λ names.
-    elim c.loop-own-test.branch [
-      | then-loop-own-test+else-not-has w ↦
-          repeated_stops (c.owns.ensures.0 w.loop-own-test.true) (w.has.ensures.0 w.if-not-has.false) c.if-found-ne-PROPATTR.true c.if-found-ne-ENDEL.true c.loop-own.invariant names
-      | else-loop-own-test w ↦
-          foreign_stops (iff_false c.owns.ensures w.loop-own-test.false) c.if-found-ne-PROPATTR.true c.if-found-ne-ENDEL.true c.loop-own.invariant names
-    ]))
-
-pub returns-in_err-push : goal.returns-in_err-push
-returns-in_err-push c = out_of_memory Memory _ c.from_residual-in_err-push.result c.from_residual-in_err-push.ensures.1
+returns-then-found-ne-ENDEL c = rw c.unexpected.ensures (refuses (own_stops
+    (λ owned fresh. elim c.loop-own-test.branch [
+      | then-loop-own-test+else-not-has w ↦ fresh (w.has.ensures.0 w.if-not-has.false)
+      | else-loop-own-test w ↦ iff_false c.owns.ensures w.loop-own-test.false owned
+    ])
+    c.if-found-ne-PROPATTR.true c.if-found-ne-ENDEL.true c.loop-own.invariant))
 
 pub returns : goal.returns
 returns c = gives (record { so_far = c.loop-own.invariant; ends = elim c.else-found-ne-PROPATTR.either [ inl w ↦ inr w.1 | inr is ↦ inl is ] })

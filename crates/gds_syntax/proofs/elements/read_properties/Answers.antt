@@ -5,7 +5,7 @@ use Rattle.gds_syntax.specs.LibraryReaders.{standing}
 use Rattle.library_grammar.proofs.PlainKinds.{plain}
 use Rattle.gds_syntax.proofs.PropertyReading.{properties_begin, properties_go_on, properties_stop, properties_end, attribute_further, property_further}
 use Rattle.first_refusal.proofs.AnswerLaws.{error_handed_on}
-use Rattle.gds_syntax.proofs.ReaderLaws.{stops_later, only_one, advances_kind, has_less_left}
+use Rattle.gds_syntax.proofs.ReaderLaws.{stops_later, only_one, advances_kind}
 use Rattle.gds_syntax.proofs.elements.read_properties.Goals as goal
 
 pub returns-in_err-_text-clause-faulty : goal.returns-in_err-_text-clause-faulty
@@ -33,9 +33,6 @@ returns-in_err-found-2-clause-faulty c =
     error_handed_on c.from_residual-in_err-found-2.result c.in_err-found-2.field-0.0 _ c.from_residual-in_err-found-2.ensures.1 (λ names. stops_later
     (property_further c.loop-found-test.true c.loop-found.invariant c.in_ok-_text-2.ensures.found c.in_ok-_text-2.ensures.of_kind names)
     (c.in_err-found-2.ensures.faulty (standing behind_property names)))
-
-pub loop-found-smaller : goal.loop-found-smaller
-loop-found-smaller c = has_less_left _ c.in_ok-_text-2.ensures.found.takes c.in_ok-found-2.ensures.found
 
 pub loop-found-preserved : goal.loop-found-preserved
 loop-found-preserved c =

@@ -1,7 +1,7 @@
 use Rattle.lists.proofs.Words.{iff_false}
 use Rattle.gds_syntax.proofs.HeadLaws.{head_begins, head_further, head_goes_on, head_stops, head_ends}
 use Rattle.first_refusal.proofs.AnswerLaws.{error_handed_on}
-use Rattle.gds_syntax.proofs.ReaderLaws.{stops_later, one_less_left}
+use Rattle.gds_syntax.proofs.ReaderLaws.{stops_later}
 use Rattle.gds_syntax.proofs.head.behind_head_records.Goals as goal
 
 pub loop-found-init : goal.loop-found-init
@@ -16,9 +16,6 @@ returns-in_err-found-2-clause-faulty c =
     error_handed_on c.from_residual-in_err-found-2.result c.in_err-found-2.field-0.0 _ c.from_residual-in_err-found-2.ensures.1 (λ from to place. stops_later
     (head_further c.loop-found-test.true (c.is_head_kind.ensures.0 c.if-not-is_head_kind.false) c.loop-found.invariant from to place)
     (c.in_err-found-2.ensures.faulty from))
-
-pub loop-found-smaller : goal.loop-found-smaller
-loop-found-smaller c = one_less_left c.in_ok-found-2.ensures.found
 
 pub loop-found-preserved : goal.loop-found-preserved
 loop-found-preserved c = head_goes_on

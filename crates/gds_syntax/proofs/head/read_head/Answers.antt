@@ -4,11 +4,11 @@ use Rattle.library_grammar.specs.GrammarNames.{entry_of, AreBytes, before_header
 use Rattle.gds_syntax.specs.LibraryReaders.{standing, ReadsHead}
 use Rattle.gds_syntax.proofs.HeadLaws.{text_fits, begins, names, reads_head}
 use Rattle.library_grammar.proofs.PlainKinds.{plain}
-use Rattle.first_refusal.proofs.AnswerLaws.{handed_on, out_of_memory}
+use Rattle.first_refusal.proofs.AnswerLaws.{handed_on}
 use Rattle.first_refusal.specs.Answers.{gives, refuses}
 use Rattle.library_grammar.specs.declared.fault.SyntaxFault.TheVariants.{Memory}
 use Rattle.gds_syntax.proofs.ReaderLaws.{stops_later, advances_kind, only_one}
-use Rattle.library_grammar.proofs.SizeLaws.{units_has_sixteen}
+use Rattle.library_grammar.proofs.SizeLaws.{sizes}
 use Rattle.gds_syntax.proofs.head.read_head.Goals as goal
 
 pub returns-in_err-_version : goal.returns-in_err-_version
@@ -35,7 +35,7 @@ returns-in_err-found c =
     (names c.in_ok-_version._version c.in_ok-_dates._dates begun c.in_ok-name.ensures.found) (c.in_err-found.ensures.faulty (standing before_units []) between_structures (λ k. refl))))
 
 pub copy_from_slice-requires : goal.copy_from_slice-requires
-copy_from_slice-requires c = sym (units_has_sixteen (entry_of c.in_ok-found.found) c.in_ok-found.ensures.found.in_profile c.in_ok-found.ensures.found.of_kind)
+copy_from_slice-requires c = sym (sizes.units (entry_of c.in_ok-found.found) c.in_ok-found.ensures.found.in_profile c.in_ok-found.ensures.found.of_kind)
 
 pub returns : goal.returns
 returns c =
@@ -51,9 +51,6 @@ invariant_of-result c =
     let name = c.in_ok-name.ensures.found.in_profile.spelled.body in
     record {
       name_fits = subst AreBytes (sym (c.from_vec.ensures ∙ c.in_ok-name-2.ensures.items)) (text_fits c.in_ok-name.name.body.now c.text.result.now name c.text.ensures);
-      units_count = ap length c.copy_from_slice.ensures.after ∙ units_has_sixteen (entry_of c.in_ok-found.found) units.in_profile units.of_kind;
+      units_count = ap length c.copy_from_slice.ensures.after ∙ sizes.units (entry_of c.in_ok-found.found) units.in_profile units.of_kind;
       units_fit = subst AreBytes (sym c.copy_from_slice.ensures.after) units.in_profile.spelled.body;
     }
-
-pub returns-in_err-name-2 : goal.returns-in_err-name-2
-returns-in_err-name-2 c = out_of_memory Memory _ c.from_residual-in_err-name-2.result c.from_residual-in_err-name-2.ensures.1

@@ -1,7 +1,7 @@
 use Rattle.library_grammar.specs.GrammarNames.{aref, gives, refuses, all_hold, one_fails, reference_checks, array_checks, ElementHolds, element_fault}
 use Rattle.lists.proofs.Words.{All-append}
 use Rattle.gds_syntax.proofs.JudgedLaws.{fault_in_front}
-use Rattle.first_refusal.proofs.AnswerLaws.{handed_on, out_of_memory}
+use Rattle.first_refusal.proofs.AnswerLaws.{handed_on}
 use Rattle.first_refusal.proofs.JudgeLaws.{goes_on}
 use Rattle.library_grammar.specs.declared.fault.SyntaxFault.TheVariants.{Memory}
 use Rattle.gds_syntax.proofs.kept.array_of.Goals as goal
@@ -16,10 +16,6 @@ returns-in_err-lattice c =
     let own = c.args.own.now in
     handed_on Memory _ c.from_residual-in_err-lattice.result c.in_err-lattice.field-0.0 c.from_residual-in_err-lattice.ensures.1
     (goes_on (ElementHolds own) (element_fault c.args.at) _ reference_checks array_checks _ c.in_ok-turn.ensures.passed (refuses (one_fails c.in_err-lattice.ensures.failed)))
-
-pub returns-in_err-reference_of : goal.returns-in_err-reference_of
-returns-in_err-reference_of c =
-    out_of_memory Memory _ c.from_residual-in_err-reference_of.result c.from_residual-in_err-reference_of.ensures.1
 
 pub returns : goal.returns
 returns c =

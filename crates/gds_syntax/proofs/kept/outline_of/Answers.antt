@@ -2,13 +2,7 @@ use Rattle.std.proofs.Common.{◌≡◌, ◌∙◌, [], sym, subst}
 use Rattle.library_grammar.specs.GrammarNames.{points_of, IsClosed, gives, all_hold, is_closed, ElementCheck, ElementHolds, element_fault}
 use Rattle.lists.proofs.Words.{All-nil, All-cons}
 use Rattle.first_refusal.proofs.JudgeLaws.{fails_first}
-use Rattle.first_refusal.proofs.AnswerLaws.{out_of_memory}
-use Rattle.library_grammar.specs.declared.fault.SyntaxFault.TheVariants.{Memory}
 use Rattle.gds_syntax.proofs.kept.outline_of.Goals as goal
-
-pub returns-in_err-shape : goal.returns-in_err-shape
-returns-in_err-shape c =
-    out_of_memory Memory _ c.from_residual.result c.from_residual.ensures.1
 
 pub returns-then-not-is_closed : goal.returns-then-not-is_closed
 returns-then-not-is_closed c =

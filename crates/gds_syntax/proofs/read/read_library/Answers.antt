@@ -1,8 +1,8 @@
 use Rattle.std.proofs.Common.{sym, arith}
 use Rattle.gds_records.proofs.Heads.{bytes_are_bytes}
-use Rattle.gds_syntax.proofs.LibraryReading.{bytes_have_fault, bytes_have_later_fault, bytes_are_library}
+use Rattle.gds_syntax.proofs.LibraryReading.{bytes_have_fault, bytes_are_library}
 use Rattle.library_grammar.proofs.LibraryFacts.{library_names_differ, library_is_pointed}
-use Rattle.gds_syntax.proofs.ReaderLaws.{passed_on, read}
+use Rattle.gds_syntax.proofs.ReaderLaws.{passed_on, read, stops_later}
 use Rattle.first_refusal.specs.Answers.{gives}
 use Rattle.gds_syntax.proofs.read.read_library.Goals as goal
 
@@ -15,9 +15,9 @@ returns-in_err-head-clause-answers c =
 pub returns-in_err-structures-clause-answers : goal.returns-in_err-structures-clause-answers
 returns-in_err-structures-clause-answers c =
     let is_head = read c.in_ok-head.ensures in
+    let from_start = rw c.new-records.ensures at is_head in
     passed_on c.from_residual-in_err-structures.result c.from_residual-in_err-structures.ensures.1 c.in_err-structures.ensures (λ stop.
-    bytes_have_later_fault c.args.bytes.now c.read_head.new.records c.in_ok-head.head.name c.in_ok-head.head.units c.in_err-structures.field-0.0
-    (bytes_are_bytes c.args.bytes.now (λ i. omega (arith, c.type_inv.bytes i))) (rw c.new-records.ensures at is_head) stop)
+    bytes_have_fault c.args.bytes.now c.in_err-structures.field-0.0 (bytes_are_bytes c.args.bytes.now (λ i. omega (arith, c.type_inv.bytes i))) (stops_later from_start.advances stop))
 
 pub returns-clause-answers : goal.returns-clause-answers
 returns-clause-answers c =

@@ -1,5 +1,6 @@
+use Rattle.std.proofs.Common.{arith}
 use Rattle.library_grammar.specs.GrammarNames.{MovesPast}
-use Rattle.gds_syntax.proofs.ReaderLaws.{takes_one, further, goes_on, stops_at_end}
+use Rattle.gds_syntax.proofs.ReaderLaws.{takes_one, goes_on, stops_at_end}
 use Rattle.gds_syntax.proofs.records.next_record.Goals as goal
 
 pub returns-in-Ok-Some-clause-found : goal.returns-in-Ok-Some-clause-found
@@ -10,7 +11,7 @@ returns-in-Ok-Some-clause-found c =
       in_profile = rw c.in-Ok-Some.field-0-is at c.in-Ok-Some.ensures.in_profile;
       place = moved.place;
       bytes = moved.bytes;
-      further = further c.args.records.now c.next.new.self c.in-Ok-Some.found moved;
+      further = omega (arith, moved.moves);
       within = moved.within;
       ends = moved.ends;
       ready = goes_on c.args.records.now c.next.new.self c.in-Ok-Some.found moved c.requires;

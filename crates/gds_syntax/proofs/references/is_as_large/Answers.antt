@@ -1,11 +1,11 @@
 use Rattle.std.proofs.Common.{arith}
 use Rattle.library_grammar.specs.GrammarNames.{entry_of}
-use Rattle.library_grammar.proofs.SizeLaws.{mag_has_eight}
+use Rattle.library_grammar.proofs.SizeLaws.{sizes}
 use Rattle.gds_syntax.proofs.TurnLaws.{as_large_where_one}
 use Rattle.gds_syntax.proofs.references.is_as_large.Goals as goal
 
 pub real_whole-requires : goal.real_whole-requires
-real_whole-requires c = omega (arith, mag_has_eight (entry_of c.in-Some.mag) c.in-Some.ensures.in_profile c.in-Some.ensures.of_kind)
+real_whole-requires c = omega (arith, sizes.mag (entry_of c.in-Some.mag) c.in-Some.ensures.in_profile c.in-Some.ensures.of_kind)
 
 pub returns-in-Some : goal.returns-in-Some
 returns-in-Some c =

@@ -2,12 +2,12 @@ use Rattle.std.proofs.Common.{arith, pos, SFits, w64, rules}
 use Rattle.lists.proofs.Words.{to_z-of_z}
 use Rattle.library_grammar.specs.GrammarNames.{entry_of}
 use Rattle.gds_syntax.proofs.QuarterLaws.{no_turn}
-use Rattle.library_grammar.proofs.SizeLaws.{angle_has_eight}
+use Rattle.library_grammar.proofs.SizeLaws.{sizes}
 use Rattle.gds_syntax.proofs.TurnLaws.{no_quarters_of_body, none_is_no_angle}
 use Rattle.gds_syntax.proofs.references.quarters_of.Goals as goal
 
 pub real_whole-requires : goal.real_whole-requires
-real_whole-requires c = omega (arith, angle_has_eight (entry_of c.in-Some.angle) c.in-Some.ensures.in_profile c.in-Some.ensures.of_kind)
+real_whole-requires c = omega (arith, sizes.angle (entry_of c.in-Some.angle) c.in-Some.ensures.in_profile c.in-Some.ensures.of_kind)
 
 pub returns-in_ok-real_whole-in-Some-clause-not_whole : goal.returns-in_ok-real_whole-in-Some-clause-not_whole
 returns-in_ok-real_whole-in-Some-clause-not_whole c =

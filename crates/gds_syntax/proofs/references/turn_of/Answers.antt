@@ -1,9 +1,5 @@
-use Rattle.library_grammar.proofs.SizeLaws.{strans_has_two}
 use Rattle.gds_syntax.proofs.TurnLaws.{reference_checks_hold, fault_where_magnified, fault_where_absolute, fault_where_bad}
 use Rattle.gds_syntax.proofs.references.turn_of.Goals as goal
-
-pub u16_in-strans-requires : goal.u16_in-strans-requires
-u16_in-strans-requires c = strans_has_two
 
 pub returns-then-not-is_as_large-clause-failed : goal.returns-then-not-is_as_large-clause-failed
 returns-then-not-is_as_large-clause-failed c =

@@ -1,11 +1,7 @@
 use Rattle.std.proofs.Common.{sym, subst}
 use Rattle.library_grammar.specs.GrammarNames.{ArePoints}
 use Rattle.library_grammar.proofs.PointLaws.{are_points}
-use Rattle.library_grammar.proofs.SizeLaws.{layer_has_two}
 use Rattle.gds_syntax.proofs.shapes.shape_of.Goals as goal
-
-pub u16_in-requires : goal.u16_in-requires
-u16_in-requires c = layer_has_two
 
 pub invariant_of-result : goal.invariant_of-result
 invariant_of-result c = record {
