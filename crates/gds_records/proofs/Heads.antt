@@ -26,11 +26,9 @@ spellings_agree e o rest others he ho eq =
     let tails : e.body ++ rest ≡ o.body ++ others = ap (λ (xs : List ℕ). drop 4 xs) eq in
     let bodies : e.body ≡ o.body = sym (take_at e.body rest (length e.body) refl) ∙ ap (take (length e.body)) tails ∙ take_at o.body others (length e.body) len in
     let rests : rest ≡ others = sym (drop_at e.body rest (length e.body) refl) ∙ ap (drop (length e.body)) tails ∙ drop_at o.body others (length e.body) len in
-    let first : e ≡ record { kind = o.kind; form = e.form; body = e.body } = ap (λ (k : ℕ). record { kind = k; form = e.form; body = e.body }) kinds in
-    let second : record { kind = o.kind; form = e.form; body = e.body } ≡ record { kind = o.kind; form = o.form; body = e.body } =
-    ap (λ (f : ℕ). record { kind = o.kind; form = f; body = e.body }) forms in
-    let third : record { kind = o.kind; form = o.form; body = e.body } ≡ o = ap (λ (b : List ℕ). record { kind = o.kind; form = o.form; body = b }) bodies in
-    (first ∙ second ∙ third, rests)
+    let entry : ℕ → ℕ → List ℕ → Entry = λ k f b. record { kind = k; form = f; body = b } in
+    let same : entry e.kind e.form e.body ≡ entry o.kind o.form o.body = cc in
+    (same, rests)
 
 -- the record that bytes begin with where its length is n
 abbrev pub entry_at : List ℕ → ℕ → Entry

@@ -5,25 +5,18 @@ use Rattle.gds_records.specs.declared.fault.RecordFault.{RecordFault}
 use Rattle.gds_records.specs.RecordSpelling.{Entry, spelling}
 use Rattle.gds_records.specs.Profile.{IsInProfile}
 use Rattle.gds_records.specs.RecordChecks.{IsFaultOf}
-use Rattle.gds_records.specs.Split.{End, stops, Splits}
+use Rattle.gds_records.specs.Split.{End, stops}
 use Rattle.gds_records.specs.Reading.{Reading, left_in, IsLeft}
 use Rattle.gds_records.proofs.RecordCheckLaws.{faults_agree}
 use Rattle.gds_records.proofs.SplitLaws.{GoesOn, fault_splits, splits_agree, splits_from, first_is}
-
--- before ENDLIB what is left is the split
-split_of_left : (r : Reading) (entries : List Entry) (end : End) → r.ended ≡ false → IsLeft r entries end → Splits r.at (left_in r) entries end
-split_of_left r entries end h s = rw h at s
-
-left_of_split : (r : Reading) (entries : List Entry) (end : End) → r.ended ≡ false → Splits r.at (left_in r) entries end → IsLeft r entries end
-left_of_split r entries end h s = rw h s
 
 -- where a fault is, it is all that is left
 pub left_at_fault : (r : Reading) (f : RecordFault) → r.ended ≡ false → IsFaultOf r.at (left_in r) f → (entries : List Entry) (end : End)
     → (IsLeft r entries end → (entries ≡ []) × (end ≡ stops f)) × ((entries ≡ []) × (end ≡ stops f) → IsLeft r entries end)
 left_at_fault r f running fault entries end =
     let here = fault_splits r.at (left_in r) f fault in (
-      λ s. splits_agree entries r.at (left_in r) [] end (stops f) (split_of_left r entries end running s) here,
-      λ (none, stopped). rw (none, stopped) (left_of_split r [] (stops f) running here),
+      λ s. splits_agree entries r.at (left_in r) [] end (stops f) (rw running at s) here,
+      λ (none, stopped). rw (none, stopped, running) here,
     )
 
 -- and it is the only fault
@@ -34,15 +27,10 @@ only_fault r f running fault g = (
 )
 
 -- what is left behind a record
-goes_on : (new : Reading) (at : ℕ) (is_last : Bool) (others : List Entry) (end : End) → new.at ≡ at → new.ended ≡ is_last → GoesOn at (left_in new) is_last others end → IsLeft new others end
-goes_on new at is_last others end place last s =
-    let moved : GoesOn new.at (left_in new) is_last others end = subst (λ (a : ℕ). GoesOn a (left_in new) is_last others end) (sym place) s in
-    rw last moved
-
-went_on : (new : Reading) (at : ℕ) (is_last : Bool) (others : List Entry) (end : End) → new.at ≡ at → new.ended ≡ is_last → IsLeft new others end → GoesOn at (left_in new) is_last others end
-went_on new at is_last others end place last s =
-    let here : GoesOn new.at (left_in new) is_last others end = rw last at s in
-    subst (λ (a : ℕ). GoesOn a (left_in new) is_last others end) place here
+goes_on : (new : Reading) (at : ℕ) (is_last : Bool) (others : List Entry) (end : End) → new.at ≡ at → new.ended ≡ is_last → GoesOn at (left_in new) is_last others end ↔ IsLeft new others end
+goes_on new at is_last others end place last =
+    let Here : ℕ → Type 0 = λ a. GoesOn a (left_in new) is_last others end in
+    ((λ s. rw last (subst Here (sym place) s)), λ s. subst Here place (rw last at s))
 
 -- the bytes behind a record are those that are left when the reader has moved past it
 left_behind : (old new : Reading) (e : Entry) (after : List ℕ) → left_in old ≡ spelling e ++ after → new.bytes ≡ old.bytes → new.at ≡ old.at + length (spelling e)
@@ -59,11 +47,10 @@ pub left_at_record : (old new : Reading) (e : Entry) (after : List ℕ) → old.
     → (IsLeft old entries end → (others : List Entry) × (entries ≡ e ∷ others) × IsLeft new others end)
     × ((others : List Entry) × (entries ≡ e ∷ others) × IsLeft new others end → IsLeft old entries end)
 left_at_record old new e after running in_profile parts bytes place last entries end =
-    let begins = left_behind old new e after parts bytes place in (
+    let begins = left_behind old new e after parts bytes place in
+    let on = λ (others : List Entry). goes_on new (old.at + length (spelling e)) (eqb e.kind 4) others end place last in (
       λ s.
-          let first = first_is old.at (left_in old) e (left_in new) entries end in_profile begins (split_of_left old entries end running s) in
-          (first.0, first.1, goes_on new (old.at + length (spelling e)) (eqb e.kind 4) first.0 end place last first.2),
-      λ (others, same, s).
-          rw same (left_of_split old (e ∷ others) end running
-          (splits_from old.at (left_in old) e (left_in new) others end in_profile begins (went_on new (old.at + length (spelling e)) (eqb e.kind 4) others end place last s))),
+          let first = first_is old.at (left_in old) e (left_in new) entries end in_profile begins (rw running at s) in
+          (first.0, first.1, (on first.0).0 first.2),
+      λ (others, same, s). rw (same, running) (splits_from old.at (left_in old) e (left_in new) others end in_profile begins ((on others).1 s)),
     )

@@ -27,12 +27,11 @@ power_at i j k e = ap (λ (n : ℕ). 16 ^ n) (sym e) ∙ pow-add 16 i j
 
 -- ---- the size with an exponent from 78 on: the fraction times a power
 
-times_power : (f e : ℕ) → 78 ≤ e → f * 16 ^ e ≡ f * 16 ^ (e - 78) * 16 ^ 78
-times_power f e h = ap (λ (p : ℕ). f * p) (power_at (e - 78) 78 e (omega arith)) ∙ sym (mul_assoc f (16 ^ (e - 78)) (16 ^ 78))
-
 module _ (f e s : ℕ) (high : 78 ≤ e) (is_scale : s ≡ 16 ^ (e - 78)) where
   scaled : f * 16 ^ e ≡ f * s * 16 ^ 78
-  scaled = times_power f e high ∙ ap (λ (p : ℕ). f * p * 16 ^ 78) (sym is_scale)
+  scaled =
+      ap (λ (p : ℕ). f * p) (power_at (e - 78) 78 e (omega arith)) ∙ sym (mul_assoc f (16 ^ (e - 78)) (16 ^ 78))
+      ∙ ap (λ (p : ℕ). f * p * 16 ^ 78) (sym is_scale)
 
   size_is_product : (m : ℕ) → IsSize f e m → m ≡ f * s
   size_is_product m is = cancelled m (f * s) (16 ^ 78) (power_some 78) (is.scaled ∙ scaled)
@@ -109,9 +108,6 @@ values_agree bytes z w one other =
 -- ---- the value, where b are the bits, and a size was found or there is none
 
 module _ (bytes : List ℕ) (b : ℕ) (bits : b ≡ big_number 8 bytes) where
-  size_in_bits : (m : ℕ) → IsSize (b % 2 ^ 56) (b / 2 ^ 56 % 2 ^ 7) m → IsSize (fraction_of bytes) (exponent_of bytes) m
-  size_in_bits m is = subst (λ (n : ℕ). IsSize (n % 2 ^ 56) (n / 2 ^ 56 % 2 ^ 7) m) bits is
-
   pub no_size_no_value : ((m : ℕ) → m < 2 ^ 64 → IsSize (b % 2 ^ 56) (b / 2 ^ 56 % 2 ^ 7) m → ⊥) → (z : ℤ) → FitsSigned w64 z → HasValue bytes z → ⊥
   no_size_no_value none z fits is =
       none (unsigned_abs z) (omega (arith, ints)) (subst (λ (n : ℕ). IsSize (n % 2 ^ 56) (n / 2 ^ 56 % 2 ^ 7) (unsigned_abs z)) (sym bits) is.size)
@@ -120,7 +116,7 @@ module _ (bytes : List ℕ) (b : ℕ) (bits : b ≡ big_number 8 bytes) where
     value_where : (w : ℤ) → w ≡ signed (b / 2 ^ 63) m → HasValue bytes w
     value_where w is =
         let same : w ≡ signed (sign_of bytes) m = is ∙ ap (λ (n : ℕ). signed (n / 2 ^ 63) m) bits in
-        subst (HasValue bytes) (sym same) (value_of_size bytes m (size_in_bits m is_size))
+        subst (HasValue bytes) (sym same) (value_of_size bytes m (subst (λ (n : ℕ). IsSize (n % 2 ^ 56) (n / 2 ^ 56 % 2 ^ 7) m) bits is_size))
 
     pub found_is_value : (w : ℤ) (r : Option ℤ) → w ≡ signed (b / 2 ^ 63) m → SomeIff r (FitsSigned w64 w) w → IfSome r (HasValue bytes)
     found_is_value w None is none = tt

@@ -1,13 +1,13 @@
 -- Bytes have one fault at most. They begin with a record, and then have none, or they have a fault.
-use Rattle.std.proofs.Common.{◌≡◌, ℕ, ◌%◌, ◌<◌, ◌≤◌, ◌⊎◌, inl, inr, ◌-◌, List, ◌++◌, length, drop, All, refl, subst, arith, length-append}
-use Rattle.lists.proofs.Words.{cases_lt}
-use Rattle.first_refusal.proofs.CheckLaws.{fails_at_once, fails_later, all_hold_or_one_fails, first_refusals_agree}
+use Rattle.std.proofs.Common.{◌≡◌, ℕ, ◌%◌, ◌⊎◌, inl, inr, ◌-◌, List, ◌++◌, ◌∷◌, length, drop, All, refl, subst, arith, length-append}
+use Rattle.lists.proofs.Words.{cases_lt, All-from_recursion}
+use Rattle.std.specs.List.{AllByRecursion}
+use Rattle.first_refusal.proofs.CheckLaws.{all_hold_or_one_fails, first_refusals_agree}
 use Rattle.gds_records.specs.declared.fault.RecordFault.{RecordFault}
-use Rattle.gds_records.specs.declared.fault.RecordFault.TheVariants.{Truncated, BadLength, BadRecord, BadSize}
 use Rattle.gds_records.specs.RecordSpelling.{Entry, spelling}
 use Rattle.lists.specs.ByteLists.{AreBytes}
 use Rattle.gds_records.specs.Profile.{IsInProfile}
-use Rattle.gds_records.specs.Table.{IsListed, IsPermitted}
+use Rattle.gds_records.specs.Table.{IsPermitted}
 use Rattle.gds_records.specs.RecordChecks.{length_field, kind_field, form_field, RecordCheck, head_is_there, length_counts_head, length_is_even, body_is_there, form_is_listed, size_is_permitted, record_checks, Holds, fault_at, IsFaultOf}
 use Rattle.gds_records.proofs.TableLaws.{listed_or_not, permitted_or_not}
 use Rattle.gds_records.proofs.Heads.{length_field-spelling, entry_at, IsInProfile-entry_at, spelling-entry_at}
@@ -71,42 +71,10 @@ record_or_fault offset rest bytes =
     ]
 
 -- the fault of bytes where the checks before one hold, and that one fails
-module _ (offset : ℕ) (rest : List ℕ) where
-  pub truncated_in_head : length rest < 4 → IsFaultOf offset rest (Truncated offset)
-  truncated_in_head short = record { check = head_is_there; is_first = fails_at_once _ _ _ (λ h. omega arith); is_its_refusal = refl }
-
-  module _ (head : 4 ≤ length rest) where
-    pub bad_where_low : length_field rest < 4 → IsFaultOf offset rest (BadLength offset (length_field rest))
-    bad_where_low low = record { check = length_counts_head; is_first = fails_later _ _ _ _ head (fails_at_once _ _ _ (λ h. omega arith)); is_its_refusal = refl }
-
-    module _ (counts_head : 4 ≤ length_field rest) where
-      pub bad_where_odd : length_field rest % 2 ≡ 1 → IsFaultOf offset rest (BadLength offset (length_field rest))
-      bad_where_odd odd = record { check = length_is_even; is_first = fails_later _ _ _ _ head (fails_later _ _ _ _ counts_head (fails_at_once _ _ _ (λ h. omega arith))); is_its_refusal = refl }
-
-      module _ (even : length_field rest % 2 ≡ 0) where
-        pub truncated_in_body : length rest < length_field rest → IsFaultOf offset rest (Truncated offset)
-        truncated_in_body short = record {
-          check = body_is_there;
-          is_first = fails_later _ _ _ _ head
-              (fails_later _ _ _ _ counts_head (fails_later _ _ _ _ even (fails_at_once _ _ _ (λ h. omega arith))));
-          is_its_refusal = refl;
-        }
-
-        module _ (body : length_field rest ≤ length rest) where
-          pub bad_record : (IsListed (kind_field rest) (form_field rest) → ⊥) → IsFaultOf offset rest (BadRecord offset (kind_field rest) (form_field rest))
-          bad_record none =
-              record {
-                check = form_is_listed;
-                is_first = fails_later _ _ _ _ head (fails_later _ _ _ _ counts_head (fails_later _ _ _ _ even (fails_later _ _ _ _ body (fails_at_once _ _ _ none))));
-                is_its_refusal = refl;
-              }
-
-          pub bad_size : (n : ℕ) → n ≡ length_field rest → IsListed (kind_field rest) (form_field rest) → (IsPermitted (kind_field rest) (form_field rest) (n - 4) → ⊥)
-              → IsFaultOf offset rest (BadSize offset)
-          bad_size n field listed refused =
-              let refuses = subst (λ (m : ℕ). IsPermitted (kind_field rest) (form_field rest) (m - 4) → ⊥) field refused in
-              record {
-                check = size_is_permitted;
-                is_first = fails_later _ _ _ _ head (fails_later _ _ _ _ counts_head (fails_later _ _ _ _ even (fails_later _ _ _ _ body (fails_later _ _ _ _ listed (fails_at_once _ _ _ refuses)))));
-                is_its_refusal = refl;
-              }
+pub fault_behind : (offset : ℕ) (rest : List ℕ) (before : List RecordCheck) (check : RecordCheck) (behind : List RecordCheck) → record_checks ≡ before ++ check ∷ behind
+    → AllByRecursion (Holds rest) before → (Holds rest check → ⊥) → IsFaultOf offset rest (fault_at offset rest check)
+fault_behind offset rest before check behind parts holds fails = record {
+  check = check;
+  is_first = record { before = before; after = behind; parts = parts; all_before = All-from_recursion (Holds rest) before holds; fails = fails };
+  is_its_refusal = refl;
+}

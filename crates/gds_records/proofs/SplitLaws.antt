@@ -1,6 +1,6 @@
 -- A split goes on behind its first record, is the only one, and is there for every string of bytes.
-use Rattle.std.proofs.Common.{add-zero, ◌≡◌, ◌≢◌, ℕ, zero, suc, ◌+◌, ◌<◌, ◌⊎◌, inl, inr, Bool, true, false, eqb, List, [], ◌∷◌, ◌++◌, length, drop, All, refl, sym, ap, subst, ◌∙◌, arith, append_assoc, length-append}
-use Rattle.lists.proofs.Words.{eqb-true, eqb-false, eq-eqb, ne_eqb, All-nil, All-cons, All-head, All-tail, All-drop}
+use Rattle.std.proofs.Common.{add-zero, ◌≡◌, ◌≢◌, ℕ, zero, suc, ◌+◌, ◌<◌, ◌⊎◌, inl, inr, Bool, eqb, List, [], ◌∷◌, ◌++◌, length, drop, All, refl, sym, ap, subst, ◌∙◌, arith, append_assoc, length-append}
+use Rattle.lists.proofs.Words.{cases_Bool, eqb-true, eqb-false, eq-eqb, ne_eqb, All-nil, All-cons, All-head, All-tail, All-drop}
 use Rattle.std.specs.Prelude.{MatchBool}
 use Rattle.std.proofs.lemmas.List.{append_cancel_left}
 use Rattle.gds_records.specs.declared.fault.RecordFault.{RecordFault}
@@ -8,7 +8,7 @@ use Rattle.gds_records.specs.RecordSpelling.{Entry, IsEndlib, IsNoEndlib, spelli
 use Rattle.lists.specs.ByteLists.{IsByte, AreBytes}
 use Rattle.gds_records.specs.Profile.{IsInProfile}
 use Rattle.gds_records.specs.RecordChecks.{IsFaultOf}
-use Rattle.gds_records.specs.Split.{End, whole, stops, EndsWithEndlib, Splits, HasSplit}
+use Rattle.gds_records.specs.Split.{End, whole, stops, EndsWithEndlib, IsEnd, Splits, HasSplit}
 use Rattle.gds_records.proofs.Heads.{spellings_agree}
 use Rattle.gds_records.proofs.RecordCheckLaws.{faults_agree, records_have_no_fault, record_or_fault}
 
@@ -78,27 +78,26 @@ joined_on : (bytes : List ℕ) (e : Entry) (after : List ℕ) (others : List Ent
 joined_on bytes e after others rest begins joined =
     begins ∙ ap (λ (x : List ℕ). spelling e ++ x) joined ∙ sym (append_assoc (spelling e) (spellings others) rest)
 
+ends_behind : (offset : ℕ) (e : Entry) (others : List Entry) (rest : List ℕ) (end : End) → IsNoEndlib e → IsEnd others (offset + length (spelling e) + length (spellings others)) rest end
+    → IsEnd (e ∷ others) (offset + length (spellings (e ∷ others))) rest end
+ends_behind offset e others rest whole none ends = record {
+  before = e ∷ ends.before;
+  last = ends.last;
+  parts = ap (λ (x : List Entry). e ∷ x) ends.parts;
+  none_before = All-cons IsNoEndlib e ends.before none ends.none_before;
+  is_endlib = ends.is_endlib;
+}
+ends_behind offset e others rest (stops f) none ends =
+    (All-cons IsNoEndlib e others none ends.0, subst (λ (o : ℕ). IsFaultOf o rest f) (sym (offset_on offset e others)) ends.1)
+
 more_splits : (offset : ℕ) (bytes : List ℕ) (e : Entry) (after : List ℕ) (others : List Entry) (end : End) → IsInProfile e → IsNoEndlib e → bytes ≡ spelling e ++ after
     → Splits (offset + length (spelling e)) after others end → Splits offset bytes (e ∷ others) end
-more_splits offset bytes e after others whole in_profile is_none begins s =
+more_splits offset bytes e after others end in_profile is_none begins s =
     record {
       rest = s.rest;
       joined = joined_on bytes e after others s.rest begins s.joined;
       each = All-cons IsInProfile e others in_profile s.each;
-      ends = record {
-        before = e ∷ s.ends.before;
-        last = s.ends.last;
-        parts = ap (λ (x : List Entry). e ∷ x) s.ends.parts;
-        none_before = All-cons IsNoEndlib e s.ends.before is_none s.ends.none_before;
-        is_endlib = s.ends.is_endlib;
-      };
-    }
-more_splits offset bytes e after others (stops f) in_profile is_none begins s =
-    record {
-      rest = s.rest;
-      joined = joined_on bytes e after others s.rest begins s.joined;
-      each = All-cons IsInProfile e others in_profile s.each;
-      ends = (All-cons IsNoEndlib e others is_none s.ends.0, subst (λ (o : ℕ). IsFaultOf o s.rest f) (sym (offset_on offset e others)) s.ends.1);
+      ends = ends_behind offset e others s.rest end is_none s.ends;
     }
 
 endlib_splits : (offset : ℕ) (bytes : List ℕ) (e : Entry) (after : List ℕ) → IsInProfile e → IsEndlib e → bytes ≡ spelling e ++ after → Splits offset bytes (e ∷ []) whole
@@ -110,18 +109,15 @@ endlib_splits offset bytes e after in_profile is_last begins =
       ends = record { before = []; last = e; parts = refl; none_before = All-nil IsNoEndlib; is_endlib = is_last };
     }
 
-from_goes_on : (offset : ℕ) (bytes : List ℕ) (e : Entry) (after : List ℕ) (others : List Entry) (end : End) (is_last : Bool) → eqb e.kind 4 ≡ is_last → IsInProfile e → bytes ≡ spelling e ++ after
-    → GoesOn (offset + length (spelling e)) after is_last others end → Splits offset bytes (e ∷ others) end
-from_goes_on offset bytes e after others end true test in_profile begins (none, is_whole) =
-    rw (none, is_whole) (endlib_splits offset bytes e after in_profile (eqb-true e.kind 4 test) begins)
-from_goes_on offset bytes e after others end false test in_profile begins s =
-    more_splits offset bytes e after others end in_profile (eqb-false e.kind 4 test) begins s
-
 -- the split of bytes that begin with a record, in both directions
 pub splits_from : (offset : ℕ) (bytes : List ℕ) (e : Entry) (after : List ℕ) (others : List Entry) (end : End) → IsInProfile e → bytes ≡ spelling e ++ after
     → GoesOn (offset + length (spelling e)) after (eqb e.kind 4) others end → Splits offset bytes (e ∷ others) end
-splits_from offset bytes e after others end in_profile begins goes =
-    from_goes_on offset bytes e after others end (eqb e.kind 4) refl in_profile begins goes
+splits_from offset bytes e after others end in_profile begins goes = elim (cases_Bool (eqb e.kind 4)) [
+  | inl t ↦
+      let h = rw t at goes in
+      rw (h.0, h.1) (endlib_splits offset bytes e after in_profile (eqb-true e.kind 4 t) begins)
+  | inr f ↦ more_splits offset bytes e after others end in_profile (eqb-false e.kind 4 f) begins (rw f at goes)
+]
 
 pub first_is : (offset : ℕ) (bytes : List ℕ) (e : Entry) (after : List ℕ) (entries : List Entry) (end : End) → IsInProfile e → bytes ≡ spelling e ++ after
     → Splits offset bytes entries end → (others : List Entry) × (entries ≡ e ∷ others) × GoesOn (offset + length (spelling e)) after (eqb e.kind 4) others end
@@ -134,12 +130,6 @@ first_is offset bytes e after (o ∷ others) end in_profile begins s =
     (others, ap (λ (x : Entry). x ∷ others) (sym same), splits_on offset bytes e after others end begins (subst (λ (x : Entry). Splits offset bytes (x ∷ others) end) (sym same) s))
 
 -- ---- one split at most
-
-agree_on : (is_last : Bool) (offset : ℕ) (after : List ℕ) (e : Entry) (entries others : List Entry) (end other : End)
-    → (Splits offset after entries end → Splits offset after others other → (entries ≡ others) × (end ≡ other))
-    → GoesOn offset after is_last entries end → GoesOn offset after is_last others other → (e ∷ entries ≡ e ∷ others) × (end ≡ other)
-agree_on true offset after e entries others end other step (n, w) (m, v) = (ap (λ (x : List Entry). e ∷ x) (n ∙ sym m), w ∙ sym v)
-agree_on false offset after e entries others end other step s t = let h = step s t in (ap (λ (x : List Entry). e ∷ x) h.0, h.1)
 
 pub splits_agree : (entries : List Entry) (offset : ℕ) (bytes : List ℕ) (others : List Entry) (end other : End) → Splits offset bytes entries end → Splits offset bytes others other
     → (entries ≡ others) × (end ≡ other)
@@ -154,19 +144,18 @@ splits_agree [] offset bytes (o ∷ others) end other s t =
 splits_agree (e ∷ entries) offset bytes others end other s t =
     let begins : bytes ≡ spelling e ++ (spellings entries ++ s.rest) = s.joined ∙ append_assoc (spelling e) (spellings entries) s.rest in
     let first = first_is offset bytes e (spellings entries ++ s.rest) others other (All-head IsInProfile e entries s.each) begins t in
-    let step = λ (p : Splits (offset + length (spelling e)) (spellings entries ++ s.rest) entries end) (q : Splits (offset + length (spelling e)) (spellings entries ++ s.rest) first.0 other).
-    splits_agree entries (offset + length (spelling e)) (spellings entries ++ s.rest) first.0 end other p q in
-    let both = agree_on (eqb e.kind 4) (offset + length (spelling e)) (spellings entries ++ s.rest) e entries first.0 end other step
-    (splits_on offset bytes e (spellings entries ++ s.rest) entries end begins s) first.2 in
-    (both.0 ∙ sym first.1, both.1)
+    let mine = splits_on offset bytes e (spellings entries ++ s.rest) entries end begins s in
+    elim (cases_Bool (eqb e.kind 4)) [
+      | inl t ↦
+          let one = rw t at mine in
+          let also = rw t at first.2 in
+          (ap (λ (x : List Entry). e ∷ x) (one.0 ∙ sym also.0) ∙ sym first.1, one.1 ∙ sym also.1)
+      | inr f ↦
+          let both = splits_agree entries (offset + length (spelling e)) (spellings entries ++ s.rest) first.0 end other (rw f at mine) (rw f at first.2) in
+          (ap (λ (x : List Entry). e ∷ x) both.0 ∙ sym first.1, both.1)
+    ]
 
 -- ---- one split at least
-
-split_at_record : (offset : ℕ) (bytes : List ℕ) (e : Entry) (after : List ℕ) (is_last : Bool) → eqb e.kind 4 ≡ is_last → IsInProfile e → bytes ≡ spelling e ++ after
-    → HasSplit (offset + length (spelling e)) after → HasSplit offset bytes
-split_at_record offset bytes e after true test in_profile begins rest = (e ∷ [], whole, endlib_splits offset bytes e after in_profile (eqb-true e.kind 4 test) begins)
-split_at_record offset bytes e after false test in_profile begins rest =
-    (e ∷ rest.0, rest.1, more_splits offset bytes e after rest.0 rest.1 in_profile (eqb-false e.kind 4 test) begins rest.2)
 
 pub has_split : (fuel offset : ℕ) (bytes : List ℕ) → length bytes < fuel → AreBytes bytes → HasSplit offset bytes
 has_split zero offset bytes lt h = absurd (omega arith)
@@ -174,7 +163,11 @@ has_split (suc fuel) offset bytes lt h =
     elim (record_or_fault offset bytes h) [
       | inl (n, e, in_profile, begins) ↦
           let shorter : length (drop n bytes) < fuel = omega (arith, ap length begins, length-append (spelling e) (drop n bytes)) in
-          split_at_record offset bytes e (drop n bytes) (eqb e.kind 4) refl in_profile begins (has_split fuel (offset + length (spelling e)) (drop n bytes) shorter (All-drop IsByte n bytes h))
+          let behind = has_split fuel (offset + length (spelling e)) (drop n bytes) shorter (All-drop IsByte n bytes h) in
+          elim (cases_Bool (eqb e.kind 4)) [
+            | inl t ↦ (e ∷ [], whole, endlib_splits offset bytes e (drop n bytes) in_profile (eqb-true e.kind 4 t) begins)
+            | inr f ↦ (e ∷ behind.0, behind.1, more_splits offset bytes e (drop n bytes) behind.0 behind.1 in_profile (eqb-false e.kind 4 f) begins behind.2)
+          ]
       | inr (f, fault) ↦ ([], stops f, fault_splits offset bytes f fault)
     ]
 

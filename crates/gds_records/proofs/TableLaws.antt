@@ -49,10 +49,7 @@ no_rule_above n k e h = none_above k (rule_at k) (omega arith) refl
 pub rules_agree : (k : ℕ) (one other : Rule) → Contains table (k, one) → Contains table (k, other) → one ≡ other
 rules_agree k one other is also = cc (only_rule k one is, only_rule k other also)
 
--- a record that is permitted has the form and the size that the table says of its kind
-pub form_of_permitted : (k f n : ℕ) (rule : Rule) → Contains table (k, rule) → IsPermitted k f n → TakesForm rule.form f
-form_of_permitted k f n rule listed (other, is, takes) = subst (λ (r : Rule). TakesForm r.form f) (rules_agree k other rule is.listed listed) is.takes_form
-
+-- a record that is permitted has a size that the table says of its kind
 pub size_of_permitted : (k f n : ℕ) (rule : Rule) → Contains table (k, rule) → IsPermitted k f n → TakesSize rule.sizes n
 size_of_permitted k f n rule listed (other, is, takes) = subst (λ (r : Rule). TakesSize r.sizes n) (rules_agree k other rule is.listed listed) takes
 

@@ -1,5 +1,5 @@
 -- the edges between points that are taken in pairs: each point with the one behind it
-use Rattle.std.proofs.Common.{◌≡◌, ◌⊎◌, true, false, inl, inr, List, [], ◌∷◌, drop, length, refl, ap, arith}
+use Rattle.std.proofs.Common.{◌≡◌, ◌⊎◌, inl, inr, List, [], ◌∷◌, drop, length, refl, ap, arith}
 use Rattle.lists.proofs.Words.{zip}
 use Rattle.geo_core.specs.declared.plane.Point.{Point}
 use Rattle.outlines.specs.Outlines.{edges_of}
@@ -23,7 +23,3 @@ edges_ended (x ∷ xs) (y ∷ ys) (inr none) = absurd (omega arith)
 pub edges_none : (points : List Point) → length points ≡ 0 → edges_of points ≡ []
 edges_none [] none = refl
 edges_none (p ∷ points) none = absurd (omega arith)
-
--- two answers to one question
-pub untrue : false ≡ true → ⊥
-untrue e = cc e

@@ -1,6 +1,6 @@
 -- an outline's cells, each as a rectangle of its own: some cover exists
-use Rattle.std.proofs.Common.{ℕ, zero, suc, ◌≡◌, ◌⊎◌, inl, inr, refl, sym, ap, subst, ◌∙◌, List, [], ◌∷◌, map, Bool, true, false, cond, not, arith, ℤ, pos, neg_ℤ, ◌+ℤ◌, ◌-ℤ◌, ◌≤ℤ◌, ◌<ℤ◌, ◌&&◌, All, Contains}
-use Rattle.lists.proofs.Words.{flat_map, and_right, ints, by_lt_z, All-head, All-tail, All-map, All-weaker}
+use Rattle.std.proofs.Common.{ℕ, zero, suc, ◌≡◌, ◌↔◌, filter, get_or, int_eq, refl, sym, ap, subst, ◌∙◌, List, [], ◌∷◌, map, Bool, true, false, cond, not, arith, ℤ, pos, neg_ℤ, ◌+ℤ◌, ◌-ℤ◌, ◌≤ℤ◌, ◌<ℤ◌, ◌&&◌, All, Contains}
+use Rattle.lists.proofs.Words.{flat_map, and_right, clamps, ints, int_max, int_min, Decides-int_eq, by_lt_z, All-head, All-tail, All-map, All-weaker}
 use Rattle.geo_core.specs.Plane.{IsInRange, circuit, IsIn, IsInterval, Has, IsInLayout}
 use Rattle.geo_core.specs.declared.plane.Point.{Point}
 use Rattle.geo_core.specs.declared.bounds.TheConstants.{FARTHEST, FARTHEST_GROWN}
@@ -9,10 +9,11 @@ use Rattle.geo_core.specs.declared.plane.Rect.{Rect}
 use Rattle.outlines.specs.Fillings.{IsCover}
 use Rattle.outlines.specs.Outlines.{IsInside, winding_number}
 use Rattle.outlines.specs.Sights.{winding_number_by_right}
-use Rattle.outlines.proofs.CountLaws.{le_false, le_true, zero_or_not}
+use Rattle.outlines.proofs.CountLaws.{le_false, le_true}
 use Rattle.outlines.proofs.WindLaws.{Place, place_of, counted, left_rises, left_falls, right_rises, right_falls, winds_by_places, by_right, right_tells}
-use Rattle.lists.proofs.Containing.{Contains-head, Contains-none, Contains-one, Contains-tail, all_of_each}
-use Rattle.lists.proofs.Mapping.{Contains-flat_map, Contains-flat_map_from, Contains-map}
+use Rattle.lists.proofs.Filtering.{Contains-filter, Contains-filter_passes}
+use Rattle.lists.proofs.Containing.{Contains-head, Contains-tail}
+use Rattle.lists.proofs.Mapping.{Contains-flat_map, Contains-map, Contains-map_from}
 
 -- the column and the row of the cell lie within the range of points
 record IsWithin (c : Cell) : Type 0 where
@@ -77,34 +78,6 @@ module _ (points : List Point) (c : Cell) (range : All IsInRange points) where
     top = by_lt_z c.j FARTHEST (λ h. h) (λ h. absurd (winds (over h)));
   }
 
--- ---- a choice of a list's items, each with what is made of it
-
-module _ {X Y : Type 0} (P : X → Type 0) (decide : (x : X) → P x ⊎ (P x → ⊥)) (make : (x : X) → P x → Y) where
-  kept : (x : X) → P x ⊎ (P x → ⊥) → List Y
-  kept x (inl holds) = make x holds ∷ []
-  kept x (inr fails) = []
-
-  chosen : List X → List Y
-  chosen = flat_map (λ x. kept x (decide x))
-
-  kept_from : (x : X) (d : P x ⊎ (P x → ⊥)) (y : Y) → Contains (kept x d) y → (from : X) × (holds : P from) × (make from holds ≡ y)
-  unfolding kept
-  kept_from x (inl holds) y h = (x, holds, Contains-one (make x holds) y h)
-  kept_from x (inr fails) y h = absurd (Contains-none h)
-
-  chosen_from : (xs : List X) (y : Y) → Contains (chosen xs) y → (from : X) × (holds : P from) × (make from holds ≡ y)
-  unfolding chosen
-  chosen_from xs y h = let found = Contains-flat_map_from (λ x. kept x (decide x)) xs y h in kept_from found.0 (decide found.0) y found.2
-
-  kept_has : (x : X) (d : P x ⊎ (P x → ⊥)) → P x → (holds : P x) × Contains (kept x d) (make x holds)
-  unfolding kept
-  kept_has x (inl holds) h = (holds, Contains-head (make x holds) [])
-  kept_has x (inr fails) h = absurd (fails h)
-
-  chosen_has : (xs : List X) (x : X) → Contains xs x → P x → (holds : P x) × Contains (chosen xs) (make x holds)
-  unfolding chosen
-  chosen_has xs x among h = let k = kept_has x (decide x) h in (k.0, Contains-flat_map (λ x. kept x (decide x)) xs x (make x k.0) among k.1)
-
 -- ---- all cells
 
 -- so many numbers, from the least coordinate on
@@ -134,61 +107,76 @@ cell_there n far c within =
 
 -- ---- a cell as a rectangle
 
-grown : (z : ℤ) → neg_ℤ FARTHEST ≤ℤ z → z <ℤ FARTHEST → IsInterval FARTHEST_GROWN z (z +ℤ pos 1)
-grown z low high = record { some = omega (arith, ints); least = omega (arith, ints); most = omega (arith, ints) }
+-- a number, or the next one to it at which a cell may lie
+kept : ℤ → ℤ
+kept z = int_max (neg_ℤ FARTHEST) (int_min z (FARTHEST -ℤ pos 1))
 
-plain : (z : ℤ) → neg_ℤ FARTHEST ≤ℤ z → z <ℤ FARTHEST → IsInterval FARTHEST z (z +ℤ pos 1)
-plain z low high = record { some = omega (arith, ints); least = low; most = omega (arith, ints) }
+grown : (z : ℤ) → IsInterval FARTHEST_GROWN (kept z) (kept z +ℤ pos 1)
+unfolding kept
+grown z = record { some = omega (arith, ints, clamps); least = omega (arith, ints, clamps); most = omega (arith, ints, clamps) }
 
-only_one : (z x : ℤ) → IsIn z (z +ℤ pos 1) x → x ≡ z
-only_one z x h = let f = h.from in let b = h.before in omega (arith, ints)
+plain : (z : ℤ) → IsInterval FARTHEST (kept z) (kept z +ℤ pos 1)
+unfolding kept
+plain z = record { some = omega (arith, ints, clamps); least = omega (arith, ints, clamps); most = omega (arith, ints, clamps) }
 
-its_own : (z : ℤ) → IsIn z (z +ℤ pos 1) z
-its_own z = record { from = omega (arith, ints); before = omega (arith, ints) }
+module _ (z : ℤ) (low : neg_ℤ FARTHEST ≤ℤ z) (high : z <ℤ FARTHEST) where
+  only_one : (x : ℤ) → IsIn (kept z) (kept z +ℤ pos 1) x → x ≡ z
+  unfolding kept
+  only_one x h = let f = h.from in let b = h.before in omega (arith, ints, clamps)
+
+  its_own : IsIn (kept z) (kept z +ℤ pos 1) z
+  unfolding kept
+  its_own = record { from = omega (arith, ints, clamps); before = omega (arith, ints, clamps) }
+
+unit : Cell → Rect
+unit c = record { x0 = kept c.i; y0 = kept c.j; x1 = kept c.i +ℤ pos 1; y1 = kept c.j +ℤ pos 1; across = grown c.i; up = grown c.j }
+
+unit_in_layout : (c : Cell) → IsInLayout (unit c)
+unfolding unit
+unit_in_layout c = record { across = plain c.i; up = plain c.j }
 
 module _ (c : Cell) (within : IsWithin c) where
-  unit : Rect
-  unit = record { x0 = c.i; y0 = c.j; x1 = c.i +ℤ pos 1; y1 = c.j +ℤ pos 1; across = grown c.i within.left within.right; up = grown c.j within.bottom within.top }
-
-  unit_only : (d : Cell) → Has unit d → d ≡ c
+  unit_only : (d : Cell) → Has (unit c) d → d ≡ c
   unfolding unit
-  unit_only d h = ap (λ i. cell_at i d.j) (only_one c.i d.i h.across) ∙ ap (cell_at c.i) (only_one c.j d.j h.up)
+  unit_only d h = ap (λ i. cell_at i d.j) (only_one c.i within.left within.right d.i h.across) ∙ ap (cell_at c.i) (only_one c.j within.bottom within.top d.j h.up)
 
-  unit_has : Has unit c
+  unit_has : Has (unit c) c
   unfolding unit
-  unit_has = record { across = its_own c.i; up = its_own c.j }
+  unit_has = record { across = its_own c.i within.left within.right; up = its_own c.j within.bottom within.top }
 
-  unit_in_layout : IsInLayout unit
-  unfolding unit
-  unit_in_layout = record { across = plain c.i within.left within.right; up = plain c.j within.bottom within.top }
+-- ---- the cells inside
+
+is_inside : List Point → Cell → Bool
+is_inside points c = not (int_eq (winding_number points c) (pos 0))
+
+inside_tells : (points : List Point) (c : Cell) → (is_inside points c ≡ true) ↔ IsInside points c
+unfolding is_inside
+inside_tells points c = tells (int_eq (winding_number points c) (pos 0)) (Decides-int_eq (winding_number points c) (pos 0)) where
+  tells : {P : Type 0} (b : Bool) → (b ≡ true) ↔ P → (not b ≡ true) ↔ (P → ⊥)
+  tells true is = ((λ e. cc e), λ fails. absurd (fails (is.0 refl)))
+  tells false is = ((λ e p. cc (is.1 p)), λ fails. refl)
 
 module _ (points : List Point) (range : All IsInRange points) (corners : List Point) (closed : points ≡ circuit corners) where
   within : (c : Cell) → IsInside points c → IsWithin c
   within c = covered_within points c range corners closed
 
-  choice : (c : Cell) → IsInside points c ⊎ (IsInside points c → ⊥)
-  choice c = elim (zero_or_not (winding_number points c)) [ inl none ↦ inr (λ winds. winds none) | inr winds ↦ inl winds ]
-
-  as_unit : (c : Cell) → IsInside points c → Rect
-  as_unit c winds = unit c (within c winds)
-
   pub cells_cover : (rects : List Rect) × IsCover (IsInside points) rects
-  unfolding as_unit
   cells_cover =
-      let cells = all_cells 2000000000 in
-      let from = chosen_from (IsInside points) choice as_unit cells in (
-        chosen (IsInside points) choice as_unit cells,
+      let test = is_inside points in
+      let all = all_cells 2000000000 in
+      let cells = filter test all in (
+        map unit cells,
         record {
           same = λ c. (
             λ h.
-                let found = from h.rect h.among in
-                let is = unit_only found.0 (within found.0 found.1) c (subst (λ rect. Has rect c) (sym found.2) h.has) in
-                subst (IsInside points) (sym is) found.1,
+                let found = Contains-map_from unit cells h.rect h.among in
+                let winds = (inside_tells points found.0).0 (Contains-filter_passes test all found.0 found.1) in
+                let is = unit_only found.0 (within found.0 winds) c (subst (λ rect. Has rect c) (sym found.2) h.has) in
+                subst (IsInside points) (sym is) winds,
             λ winds.
-                let found = chosen_has (IsInside points) choice as_unit cells c (cell_there 2000000000 refl c (within c winds)) winds in
-                record { rect = as_unit c found.0; among = found.1; has = unit_has c (within c found.0) },
+                let among = Contains-filter test all c (cell_there 2000000000 refl c (within c winds)) ((inside_tells points c).1 winds) in
+                record { rect = unit c; among = Contains-map unit cells c among; has = unit_has c (within c winds) },
           );
-          within = all_of_each IsInLayout (chosen (IsInside points) choice as_unit cells) (λ rect among.
-              let found = from rect among in subst IsInLayout found.2 (unit_in_layout found.0 (within found.0 found.1)));
+          within = All-map IsInLayout unit cells (λ k d small. unit_in_layout (get_or cells k d));
         },
       )

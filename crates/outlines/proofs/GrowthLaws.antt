@@ -1,6 +1,6 @@
 -- rectangles that grow from band to band, and how often they have a cell
-use Rattle.std.proofs.Common.{ℕ, ◌+◌, ◌<◌, ◌≤◌, ◌≡◌, refl, sym, ap, subst, ◌∙◌, List, [], ◌∷◌, ◌++◌, length, get_or, take, arith, Bool, true, false, cond, ℤ, ◌<ℤ◌, ◌&&◌, All, take_all}
-use Rattle.lists.proofs.Words.{ints, by_lt_z, All-get_or, sum_by_push, sum_by-append, sum_by-cons, sum_by_more}
+use Rattle.std.proofs.Common.{ℕ, ◌+◌, ◌<◌, ◌≤◌, ◌≡◌, refl, ap, ◌∙◌, List, [], ◌∷◌, ◌++◌, length, get_or, take, arith, Bool, true, false, cond, ℤ, ◌<ℤ◌, ◌&&◌, All, take_all}
+use Rattle.lists.proofs.Words.{ints, by_lt_z, sum_by_push, sum_by-append, sum_by-cons, sum_by_more}
 use Rattle.geo_core.specs.Plane.{IsInLayout, IsInterval}
 use Rattle.geo_core.specs.declared.bounds.TheConstants.{FARTHEST}
 use Rattle.geo_core.specs.declared.interval.Interval.{Interval}
@@ -13,27 +13,22 @@ use Rattle.outlines.proofs.CountLaws.{le_true, le_false, lt_true, lt_false}
 abbrev pub one : Bool → ℕ
 one b = cond b 1 0
 
--- a rectangle that moves from the front of the one list to the end of the other
-pub depth_moved : (c : Cell) (done : List Rect) (rect : Rect) (rest : List Rect) → depth_at c (done ++ rect ∷ []) + depth_at c rest ≡ depth_at c done + depth_at c (rect ∷ rest)
-depth_moved c done rect rest = omega (arith, sum_by_push (λ r. cond (has_cell c r) 1 0) done rect, sum_by-cons (λ r. cond (has_cell c r) 1 0) rect rest)
-
-pub none_moved : (done growing : List Rect) → HasSameCells done growing done growing
-none_moved done growing = record { same = λ c. refl }
-
+-- a rectangle moves from the front of the one list to the end of the other
 pub one_moved : (done growing done0 growing0 : List Rect) (rect : Rect) (rest : List Rect) → growing ≡ rect ∷ rest → HasSameCells done growing done0 growing0
     → HasSameCells (done ++ rect ∷ []) rest done0 growing0
-one_moved done growing done0 growing0 rect rest e h = record { same = λ c. depth_moved c done rect rest ∙ (ap (λ rs. depth_at c done + depth_at c rs) (sym e) ∙ h.same c) }
+one_moved done growing done0 growing0 rect rest e h = record {
+  same = λ c.
+      let first : depth_at c growing ≡ cond (has_cell c rect) 1 0 + depth_at c rest = ap (depth_at c) e ∙ sum_by-cons (λ r. cond (has_cell c r) 1 0) rect rest in
+      omega (arith, sum_by_push (λ r. cond (has_cell c r) 1 0) done rect, first, h.same c);
+}
 
 -- ---- a run in the rows of a band
 
 -- a rectangle of these columns and rows has what the run has in the rows
-pub as_rect : (c : Cell) (run rows : Interval) (rect : Rect) → rect.x0 ≡ run.low → rect.x1 ≡ run.high → rect.y0 ≡ rows.low → rect.y1 ≡ rows.high → has_cell c rect ≡ has_in_rows c rows run
-as_rect c run rows rect a b e f = cc
-
 pub run_pushed : (run rows : Interval) (grown growing : List Rect) (rect : Rect) → rect.x0 ≡ run.low → rect.x1 ≡ run.high → rect.y0 ≡ rows.low → rect.y1 ≡ rows.high
     → AddsRun run rows (grown ++ rect ∷ []) growing grown growing
 run_pushed run rows grown growing rect a b e f = record {
-  more = λ c. let t = as_rect c run rows rect a b e f in let s = sum_by_push (λ r. cond (has_cell c r) 1 0) grown rect in
+  more = λ c. let t : has_cell c rect ≡ has_in_rows c rows run = cc in let s = sum_by_push (λ r. cond (has_cell c r) 1 0) grown rect in
       let k : depth_at c (grown ++ rect ∷ []) ≡ depth_at c grown + cond (has_in_rows c rows run) 1 0 = s ∙ ap (λ t. depth_at c grown + cond t 1 0) t in
       omega (arith, k);
 }
@@ -65,11 +60,6 @@ run_continues run rows grown growing rect rest longer e x0 x1 y0 y1 left right t
       let q : depth_at c growing ≡ cond (has_cell c rect) 1 0 + depth_at c rest = ap (depth_at c) e ∙ sum_by-cons (λ r. cond (has_cell c r) 1 0) rect rest in
       omega (arith, a, b, d, j, p, q);
 }
-
--- a rectangle of these columns and rows lies where a layout may
-pub rect_in_layout : (rect : Rect) (columns rows : Interval) → rect.x0 ≡ columns.low → rect.x1 ≡ columns.high → rect.y0 ≡ rows.low → rect.y1 ≡ rows.high → IsRunInLayout columns
-    → IsRunInLayout rows → IsInLayout rect
-rect_in_layout rect columns rows a b e f h k = record { across = rw (a, b) h.ends; up = rw (e, f) k.ends }
 
 -- the rows of a rectangle and those of the band on top of it
 pub rows_joined : (low middle high : ℤ) → IsInterval FARTHEST low middle → IsInterval FARTHEST middle high → IsInterval FARTHEST low high
@@ -119,6 +109,3 @@ pub band_added : (before : Growth) (runs : List Interval) (i : ℕ) (rows : Inte
 band_added before runs i rows done grown growing past so_far c =
     let all : band_at c (take i runs) rows ≡ band_at c runs rows = ap (λ rs. band_at c rs rows) (take_all i runs past) in
     omega (arith, so_far.cells c, all, sum_by-append (λ r. cond (has_cell c r) 1 0) done growing)
-
-pub run_within : (runs : List Interval) (i : ℕ) (run : Interval) → All IsRunInLayout runs → i < length runs → run ≡ get_or runs i run → IsRunInLayout run
-run_within runs i run all small is = subst IsRunInLayout (sym is) (All-get_or IsRunInLayout runs i run small all)

@@ -82,9 +82,7 @@ Winds across up start =
 
 wound : (across up : Where) (start : ℕ) → start < 4 → Winds across up start
 unfolding places round from_low from_high turns
-wound before before = four (Winds before before) (refl, refl) (refl, refl) (refl, refl) (refl, refl)
-wound before inside = four (Winds before inside) (refl, refl) (refl, refl) (refl, refl) (refl, refl)
-wound before behind = four (Winds before behind) (refl, refl) (refl, refl) (refl, refl) (refl, refl)
+wound before up = four (Winds before up) (refl, refl) (refl, refl) (refl, refl) (refl, refl)
 wound inside before = four (Winds inside before) (refl, refl) (refl, refl) (refl, refl) (refl, refl)
 wound inside inside = four (Winds inside inside) (refl, refl) (refl, refl) (refl, refl) (refl, refl)
 wound inside behind = four (Winds inside behind) (refl, refl) (refl, refl) (refl, refl) (refl, refl)
@@ -118,13 +116,11 @@ module _ (rect : Rect) (c : Cell) where
   unfolding corners
   corners_told = rw (x.low_told, x.high_told, y.low_told, y.high_told) refl
 
-  placed_once : (start : ℕ) → start < 4 → map (place_of c) (circuit (rotation start (rectangle_corners rect))) ≡ circuit (rotation start corners)
+  placed : (start : ℕ) → start < 4 →
+      (map (place_of c) (circuit (rotation start (rectangle_corners rect))) ≡ circuit (rotation start corners))
+      × (map (place_of c) (circuit (rotation start (reverse (rectangle_corners rect)))) ≡ circuit (rotation start (reverse corners)))
   unfolding corners places
-  placed_once start h = four (λ s. map (place_of c) (circuit (rotation s (rectangle_corners rect))) ≡ circuit (rotation s corners)) refl refl refl refl start h
-
-  placed_back : (start : ℕ) → start < 4 → map (place_of c) (circuit (rotation start (reverse (rectangle_corners rect)))) ≡ circuit (rotation start (reverse corners))
-  unfolding corners places
-  placed_back start h = four (λ s. map (place_of c) (circuit (rotation s (reverse (rectangle_corners rect)))) ≡ circuit (rotation s (reverse corners))) refl refl refl refl start h
+  placed = four _ (refl, refl) (refl, refl) (refl, refl) (refl, refl)
 
   -- what the outline winds, with a sign or without, tells whether the cell is in the rectangle
   told_by_turns : (w : ℤ) → (w ≡ pos 0) ↔ (turns x.place y.place ≡ pos 0) → (w ≢ pos 0) ↔ Has rect c
@@ -138,11 +134,11 @@ module _ (rect : Rect) (c : Cell) where
   unfolding round
   rectangle_covered points (counterclockwise start h e) =
       let w : winding_number points c ≡ turns x.place y.place =
-      winds_by_places c points ∙ ap (λ l. round (map (place_of c) l)) e ∙ ap round (placed_once start h) ∙ ap (λ l. round (circuit (rotation start l))) corners_told
+      winds_by_places c points ∙ ap (λ l. round (map (place_of c) l)) e ∙ ap round (placed start h).0 ∙ ap (λ l. round (circuit (rotation start l))) corners_told
       ∙ (wound x.place y.place start h).0 in
       told_by_turns (winding_number points c) ((λ z. sym w ∙ z), λ z. w ∙ z)
   rectangle_covered points (clockwise start h e) =
       let w : winding_number points c ≡ neg_ℤ (turns x.place y.place) =
-      winds_by_places c points ∙ ap (λ l. round (map (place_of c) l)) e ∙ ap round (placed_back start h) ∙ ap (λ l. round (circuit (rotation start (reverse l)))) corners_told
+      winds_by_places c points ∙ ap (λ l. round (map (place_of c) l)) e ∙ ap round (placed start h).1 ∙ ap (λ l. round (circuit (rotation start (reverse l)))) corners_told
       ∙ (wound x.place y.place start h).1 in
       told_by_turns (winding_number points c) (no_turn (winding_number points c) (turns x.place y.place) w)

@@ -1,7 +1,6 @@
 -- from the sides that cross a row to runs of columns
-use Rattle.std.proofs.Common.{ℕ, ◌+◌, ◌<◌, ◌≤◌, ◌≡◌, ◌≢◌, refl, sym, ap, subst, ◌∙◌, List, [], ◌∷◌, ◌++◌, length, get_or, take, arith, inl, inr, ◌⊎◌, Bool, cond, Some, ℤ, neg_ℤ, ◌≤ℤ◌, ◌<ℤ◌, ◌&&◌, ◌↔◌, not, int_le, int_lt, All, count_by, take_all}
-use Rattle.lists.proofs.Words.{and_right, ints, by_lt_z, append-nil, get_or_default, length-take, All-weaker, All-more, sum_by_push, sum_by_more}
-use Rattle.std.proofs.lemmas.List.Elements.{All-pop}
+use Rattle.std.proofs.Common.{ℕ, ◌+◌, ◌<◌, ◌≤◌, ◌≡◌, ◌≢◌, refl, sym, ap, subst, ◌∙◌, List, [], ◌∷◌, ◌++◌, length, get_or, take, arith, inl, inr, ◌⊎◌, Bool, cond, ℤ, neg_ℤ, ◌≤ℤ◌, ◌<ℤ◌, ◌&&◌, ◌↔◌, not, int_le, int_lt, All, count_by, take_all}
+use Rattle.lists.proofs.Words.{and_right, ints, by_lt_z, get_or_default, length-take, All-weaker, All-more, sum_by_push, sum_by_more}
 use Rattle.std.proofs.lemmas.List.Sums.{count_by-le-length}
 use Rattle.geo_core.specs.Plane.{IsInterval}
 use Rattle.geo_core.specs.declared.bounds.TheConstants.{FARTHEST}
@@ -33,16 +32,6 @@ columns_joined before rest last longer low high e a b meets more = record {
 
 pub joined_within : (last longer : Interval) (low high : ℤ) → longer.low ≡ last.low → longer.high ≡ high → last.high ≡ low → IsRunInLayout last → IsInterval FARTHEST low high → IsRunInLayout longer
 joined_within last longer low high a b meets h k = record { ends = rw (a, b) (rows_joined last.low last.high high h.ends (rw meets k)) }
-
--- what stays of the runs where the last one is no part of it
-pub none_popped : (before rest : List Interval) → before ≡ rest ++ [] → rest ≡ before
-none_popped before rest e = sym (e ∙ append-nil rest)
-
-pub last_within : (rest : List Interval) (last : Interval) → All IsRunInLayout (rest ++ last ∷ []) → All IsRunInLayout rest × IsRunInLayout last
-last_within rest last all = All-pop IsRunInLayout (rest ++ last ∷ []) rest (Some last) refl all
-
-pub run_of_ends : (run : Interval) (low high : ℤ) → run.low ≡ low → run.high ≡ high → IsInterval FARTHEST low high → IsRunInLayout run
-run_of_ends run low high a b h = record { ends = rw (a, b) h }
 
 -- ---- one side after the other
 
@@ -82,22 +71,17 @@ pub record FillsTo (ups downs : ℕ) (from to : ℤ) (before after : List Interv
   pub between : (i : ℤ) → from ≤ℤ i → i <ℤ to → (0 < runs_with i after) ↔ (ups ≢ downs)
   pub within : All IsRunInLayout after
 
-lies_left : (low high i : ℤ) → i <ℤ low → one (lies_in low high i) ≡ 0
-lies_left low high i h = rw (le_false low i h) refl
-
-lies_right : (low high i : ℤ) → high ≤ℤ i → one (lies_in low high i) ≡ 0
-lies_right low high i h = ap one (and_right (int_le low i) (int_lt i high) (lt_false i high h))
-
-lies_between : (low high i : ℤ) → low ≤ℤ i → i <ℤ high → one (lies_in low high i) ≡ 1
-lies_between low high i h k = rw (le_true low i h, lt_true i high k) refl
-
 -- they are added
 pub fills_added : (crossing : List Side) (n ups downs : ℕ) (from to end : ℤ) (before after : List Interval) → AreRunsSoFar crossing n ups downs from before → ups ≢ downs → end ≡ to
     → AddsColumns from end before after → All IsRunInLayout after → FillsTo ups downs from to before after
 fills_added crossing n ups downs from to end before after so_far differ same adds within = record {
-  left = λ i h. omega (arith, adds.more i, lies_left from end i h);
-  right = λ i h. omega (arith, adds.more i, lies_right from end i (rw same h));
-  between = λ i h k. (λ some. differ, λ other. omega (arith, adds.more i, lies_between from end i h (rw same k)));
+  left = λ i h. let none : one (lies_in from end i) ≡ 0 = rw (le_false from i h) refl in omega (arith, adds.more i, none);
+  right = λ i h.
+      let none : one (lies_in from end i) ≡ 0 = ap one (and_right (int_le from i) (int_lt i end) (lt_false i end (rw same h))) in
+      omega (arith, adds.more i, none);
+  between = λ i h k.
+      let more : one (lies_in from end i) ≡ 1 = rw (le_true from i h, lt_true i end (rw same k)) refl in
+      (λ some. differ, λ other. omega (arith, adds.more i, more));
   within = within;
 }
 

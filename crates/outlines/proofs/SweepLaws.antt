@@ -1,6 +1,7 @@
 -- a sweep fills band by band what the sides have between them
-use Rattle.std.proofs.Common.{Global, ℕ, ◌+◌, ◌<◌, ◌≡◌, refl, sym, ◌∙◌, List, [], get_or, arith, inl, inr, Bool, true, false, cond, Vec, Result, Ok, Err, IfOk, ℤ, pos, negsuc, neg_ℤ, ◌-ℤ◌, ◌≤ℤ◌, ◌<ℤ◌, ◌&&◌, ◌↔◌, int_le, int_lt, All, count_by, unsigned_abs}
-use Rattle.lists.proofs.Words.{IsPermutation, and_parts, and_right, leb_tells, ints, by_lt_z, All-weaker, sum_by-IsPermutation}
+use Rattle.std.proofs.Common.{Global, ℕ, ◌+◌, ◌<◌, ◌≡◌, refl, sym, ◌∙◌, List, [], get_or, arith, Bool, true, false, Vec, Result, Ok, Err, IfOk, ℤ, pos, negsuc, neg_ℤ, ◌-ℤ◌, ◌≤ℤ◌, ◌<ℤ◌, ◌&&◌, ◌↔◌, int_le, int_lt, All, count_by, unsigned_abs}
+use Rattle.lists.proofs.Words.{IsPermutation, and_parts, and_right, ints, by_lt_z}
+use Rattle.std.proofs.Math.Bool.{and-true}
 use Rattle.std.specs.declared.alloc.AllocError.{AllocError}
 use Rattle.geo_core.specs.Plane.{Has, IsInLayout, IsIn}
 use Rattle.geo_core.specs.declared.bounds.TheConstants.{FARTHEST}
@@ -9,9 +10,10 @@ use Rattle.geo_core.specs.declared.plane.Cell.{Cell}
 use Rattle.geo_core.specs.declared.plane.Rect.{Rect}
 use Rattle.outlines.specs.Fillings.{IsInSome, IsCover}
 use Rattle.outlines.specs.inside.Sides.{AreByColumn, IsBalanced, IsBetween, crossing_count, everywhere, goes_down_at, goes_up_at, spans, up_to}
-use Rattle.outlines.specs.inside.Sweeps.{AreEvenlyCrossing, AreRunsOf, AreSplitFrom, Begins, HasNoEndBefore, IsAtRow, IsGrowthInLayout, depth_at, downs_to, growth_at, has_cell, lies_in, runs_with, ups_to}
+use Rattle.outlines.specs.inside.Sweeps.{AreEvenlyCrossing, AreRunsOf, AreSplitFrom, GoesOnPast, HasNoEndBefore, IsAbove, IsAtRow, IsGrowthInLayout, depth_at, downs_to, growth_at, has_cell, lies_in, runs_with, ups_to}
 use Rattle.outlines.specs.declared.growth.Growth.{Growth}
 use Rattle.outlines.specs.declared.side.Side.{Side}
+use Rattle.outlines.proofs.CrossingLaws.{counts_moved}
 use Rattle.outlines.proofs.CountLaws.{count_agree, count_none, some_passes, passes_count, le_true, le_false, lt_true, lt_false}
 
 -- ---- how far it is to the last row
@@ -28,19 +30,6 @@ nearer row next far h k =
 
 -- ---- a band: rows between which no side begins or ends
 
-both_true : (t a b : Bool) → a ≡ true → b ≡ true → (t && (a && b)) ≡ t
-both_true true a b e f = rw (e, f) refl
-both_true false a b e f = refl
-
-one_false : (t a b : Bool) → a ≡ false → (t && (a && b)) ≡ false
-one_false true a b e = rw e refl
-one_false false a b e = refl
-
-other_false : (t a b : Bool) → b ≡ false → (t && (a && b)) ≡ false
-other_false true true b e = e
-other_false true false b e = refl
-other_false false a b e = refl
-
 -- each row of the band is crossed by the same sides
 pub band_crossing : (row next at : ℤ) (sides crossing later : List Side) (test : Side → Bool) → AreSplitFrom row crossing later [] sides → IsAtRow row crossing later
     → HasNoEndBefore next crossing later
@@ -52,13 +41,13 @@ band_crossing row next at sides crossing later test split at_row ends low high =
           let s = get_or crossing k d in
           let a : s.low ≤ℤ row = at_row.begun k d small in
           let b : next ≤ℤ s.high = ends.crossing_ends k d small in
-          both_true (test s) (int_le s.low at) (int_lt at s.high) (le_true s.low at (omega (arith, ints))) (lt_true at s.high (omega (arith, ints))))
+          rw (le_true s.low at (omega (arith, ints)), lt_true at s.high (omega (arith, ints))) (and-true (test s)))
 
       none_later : crossing_count test at later ≡ 0
       none_later = count_none (λ s. test s && spans at s) later (λ k d small.
           let s = get_or later k d in
           let b : next ≤ℤ s.low = ends.later_begins k d small in
-          one_false (test s) (int_le s.low at) (int_lt at s.high) (le_false s.low at (omega (arith, ints))))
+          and_right (test s) (spans at s) (rw (le_false s.low at (omega (arith, ints))) refl))
 
 pub evenly : (row next : ℤ) (sides crossing later : List Side) → IsBalanced sides → AreSplitFrom row crossing later [] sides → IsAtRow row crossing later
     → HasNoEndBefore next crossing later → row <ℤ next
@@ -78,21 +67,12 @@ pub record IsFilledTo (sides : List Side) (row : ℤ) (growth : Growth) : Type 0
 none_below : (test : Side → Bool) (at : ℤ) (sides : List Side) → at <ℤ neg_ℤ FARTHEST → crossing_count test at sides ≡ 0
 none_below test at sides h = count_none (λ s. test s && spans at s) sides (λ k d small.
     let s = get_or sides k d in let least = s.rows.least in
-    one_false (test s) (int_le s.low at) (int_lt at s.high) (le_false s.low at (omega (arith, ints))))
+    and_right (test s) (spans at s) (rw (le_false s.low at (omega (arith, ints))) refl))
 
 none_above : (test : Side → Bool) (at : ℤ) (sides : List Side) → FARTHEST ≤ℤ at → crossing_count test at sides ≡ 0
 none_above test at sides h = count_none (λ s. test s && spans at s) sides (λ k d small.
     let s = get_or sides k d in let most = s.rows.most in
-    other_false (test s) (int_le s.low at) (int_lt at s.high) (lt_false at s.high (omega (arith, ints))))
-
-pub nothing_filled : (sides : List Side) (growth : Growth) → ((c : Cell) → growth_at c growth ≡ 0) → IsGrowthInLayout growth → IsFilledTo sides (neg_ℤ FARTHEST) growth
-nothing_filled sides growth none within = record {
-  cells = λ c. (
-    λ some. absurd (omega (arith, none c)),
-    λ h. absurd (h.1 (none_below (goes_up_at (up_to c.i)) c.j sides h.0 ∙ sym (none_below (goes_down_at (up_to c.i)) c.j sides h.0))),
-  );
-  within = within;
-}
+    and_right (test s) (spans at s) (and_right (int_le s.low at) (int_lt at s.high) (lt_false at s.high (omega (arith, ints)))))
 
 -- how many of the runs have the cell in the rows from `low` to before `high`
 abbrev pub band_between : Cell → List Interval → ℤ → ℤ → ℕ
@@ -100,10 +80,7 @@ band_between c runs low high = count_by (λ run. lies_in run.low run.high c.i &&
 
 in_band : (c : Cell) (runs : List Interval) (low high : ℤ) → lies_in low high c.j ≡ true → band_between c runs low high ≡ runs_with c.i runs
 in_band c runs low high e = count_agree (λ run. lies_in run.low run.high c.i && lies_in low high c.j) (λ run. lies_in run.low run.high c.i) runs
-    (λ k d small. and_true (lies_in (get_or runs k d).low (get_or runs k d).high c.i) (lies_in low high c.j) e) where
-      and_true : (a b : Bool) → b ≡ true → (a && b) ≡ a
-      and_true true b e = e
-      and_true false b e = refl
+    (λ k d small. rw e (and-true (lies_in (get_or runs k d).low (get_or runs k d).high c.i)))
 
 out_of_band : (c : Cell) (runs : List Interval) (low high : ℤ) → lies_in low high c.j ≡ false → band_between c runs low high ≡ 0
 out_of_band c runs low high e = count_none (λ run. lies_in run.low run.high c.i && lies_in low high c.j) runs
@@ -111,7 +88,7 @@ out_of_band c runs low high e = count_none (λ run. lies_in run.low run.high c.i
 
 -- a count that is not more than 0 is 0
 not_some : (n : ℕ) → (0 < n → ⊥) → n ≡ 0
-not_some n h = elim (leb_tells n 0) [ inl a ↦ let b = a.1 in omega arith | inr a ↦ absurd (h a.1) ]
+not_some n h = omega (arith, h)
 
 pub band_filled : (sides : List Side) (row next : ℤ) (crossing later : List Side) (runs : List Interval) (growth after : Growth) → row <ℤ next
     → AreSplitFrom row crossing later [] sides → IsAtRow row crossing later → HasNoEndBefore next crossing later → AreRunsOf crossing runs
@@ -146,12 +123,7 @@ band_filled sides row next crossing later runs growth after h split at_row ends 
 -- ---- rectangles and their cells
 
 in_by_test : (low high x : ℤ) → lies_in low high x ≡ true → IsIn low high x
-in_by_test low high x e =
-    let a = and_parts (int_le low x) (int_lt x high) e in
-    record {
-      from = by_lt_z x low (λ l. absurd (let f = le_false low x l in let g = a.0 in cc)) (λ l. l);
-      before = by_lt_z x high (λ l. l) (λ l. absurd (let f = lt_false x high l in let g = a.1 in cc));
-    }
+in_by_test low high x e = record { from = grind (arith, ints); before = grind (arith, ints) }
 
 has_by_test : (c : Cell) (rect : Rect) → has_cell c rect ≡ true → Has rect c
 has_by_test c rect e =
@@ -185,19 +157,16 @@ all_filled sides row growth rects past filled same within = record {
 pub filling_moved : (sides sorted : List Side) (rects : List Rect) → IsPermutation sides sorted → IsCover (IsBetween sorted) rects → IsCover (IsBetween sides) rects
 filling_moved sides sorted rects moved filling = record {
   same = λ c.
-      let up = moved_count (goes_up_at (up_to c.i)) c.j in
-      let down = moved_count (goes_down_at (up_to c.i)) c.j in
+      let up = counts_moved sides sorted moved (goes_up_at (up_to c.i)) c.j in
+      let down = counts_moved sides sorted moved (goes_down_at (up_to c.i)) c.j in
       (λ h e. (filling.same c).0 h (up ∙ (e ∙ sym down)), λ differ. (filling.same c).1 (λ e. differ (sym up ∙ (e ∙ down))));
   within = filling.within;
-} where
-  moved_count : (test : Side → Bool) (at : ℤ) → crossing_count test at sorted ≡ crossing_count test at sides
-  moved_count test at = sum_by-IsPermutation (λ s. cond (test s && spans at s) 1 0) sides sorted moved
+}
 
 pub balanced_by_sort : (sides sorted : List Side) → IsPermutation sides sorted → IsBalanced sides → IsBalanced sorted
 balanced_by_sort sides sorted moved balanced = record {
   same = λ row.
-      sum_by-IsPermutation (λ s. cond (goes_up_at everywhere s && spans row s) 1 0) sides sorted moved
-      ∙ (balanced.same row ∙ sym (sum_by-IsPermutation (λ s. cond (goes_down_at everywhere s && spans row s) 1 0) sides sorted moved));
+      counts_moved sides sorted moved (goes_up_at everywhere) row ∙ (balanced.same row ∙ sym (counts_moved sides sorted moved (goes_down_at everywhere) row));
 }
 
 -- ---- the whole state
@@ -210,24 +179,27 @@ pub record IsSweptTo (sides : List Side) (row : ℤ) (crossing later : List Side
   pub least : neg_ℤ FARTHEST ≤ℤ row
   pub most : row ≤ℤ FARTHEST
 
--- a step up
-pub split_on : (row next : ℤ) (sides crossing later crossing' later' : List Side) → row <ℤ next → AreSplitFrom row crossing later [] sides
-    → AreSplitFrom next crossing' later' crossing later → AreSplitFrom next crossing' later' [] sides
-split_on row next sides crossing later crossing' later' h split step = record { same = λ test at k. step.same test at k ∙ split.same test at (omega (arith, ints)) }
-
-pub begun_below : (row next : ℤ) (crossing : List Side) → row <ℤ next → All (Begins row) crossing → All (Begins next) crossing
-begun_below row next crossing h begun = All-weaker (Begins row) (Begins next) (λ s k. omega (arith, ints)) crossing begun
-
 pub swept_none : (sides crossing later : List Side) (growth : Growth) → AreSplitFrom (neg_ℤ FARTHEST) crossing later [] sides → IsAtRow (neg_ℤ FARTHEST) crossing later → AreByColumn crossing
     → ((c : Cell) → growth_at c growth ≡ 0) → IsGrowthInLayout growth → IsSweptTo sides (neg_ℤ FARTHEST) crossing later growth
 swept_none sides crossing later growth split at_row by_column none within = record {
   split = split;
   at_row = at_row;
   by_column = by_column;
-  filled = nothing_filled sides growth none within;
+  filled = record {
+    cells = λ c. (
+      λ some. absurd (omega (arith, none c)),
+      λ h. absurd (h.1 (none_below (goes_up_at (up_to c.i)) c.j sides h.0 ∙ sym (none_below (goes_down_at (up_to c.i)) c.j sides h.0))),
+    );
+    within = within;
+  };
   least = omega (arith, ints);
   most = omega (arith, ints);
 }
+
+-- the next row lies further up
+pub climbs : {sides crossing later all : List Side} {row next : ℤ} {growth : Growth} → IsSweptTo sides row crossing later growth → row <ℤ FARTHEST → all ≡ crossing
+    → ((row : ℤ) → row <ℤ FARTHEST → All (GoesOnPast row) all → All (IsAbove row) later → row <ℤ next) → row <ℤ next
+climbs {row = row} swept below e further = further row below (rw e swept.at_row.lasting) swept.at_row.above
 
 -- one band further
 pub swept_on : (sides : List Side) (row next : ℤ) (crossing later crossing' later' : List Side) (runs : List Interval) (growth after : Growth) → row <ℤ next → next ≤ℤ FARTHEST
@@ -235,7 +207,7 @@ pub swept_on : (sides : List Side) (row next : ℤ) (crossing later crossing' la
     → AreSplitFrom next crossing' later' crossing later → IsAtRow next crossing' later' → AreByColumn crossing' → IsSweptTo sides row crossing later growth
     → IsSweptTo sides next crossing' later' after
 swept_on sides row next crossing later crossing' later' runs growth after h most ends are adds within step at_row by_column swept = record {
-  split = split_on row next sides crossing later crossing' later' h swept.split step;
+  split = record { same = λ test at k. step.same test at k ∙ swept.split.same test at (omega (arith, ints)) };
   at_row = at_row;
   by_column = by_column;
   filled = band_filled sides row next crossing later runs growth after h swept.split swept.at_row ends are adds within swept.filled;
@@ -247,8 +219,3 @@ pub finished : (sides : List Side) (row : ℤ) (growth : Growth) (result : Resul
     → IfOk result (λ rects. (c : Cell) → depth_at c rects.items ≡ growth_at c growth) → IfOk result (λ rects. All IsInLayout rects.items) → IfOk result (λ rects. IsCover (IsBetween sides) rects.items)
 finished sides row growth (Ok rects) past filled same within = all_filled sides row growth rects.items past filled same within
 finished sides row growth (Err e) past filled same within = tt
-
-pub sorted_filled : (sides sorted : List Side) (result : Result (Vec Rect Global) AllocError) → IsPermutation sides sorted → IfOk result (λ rects. IsCover (IsBetween sorted) rects.items)
-    → IfOk result (λ rects. IsCover (IsBetween sides) rects.items)
-sorted_filled sides sorted (Ok rects) moved filling = filling_moved sides sorted rects.items moved filling
-sorted_filled sides sorted (Err e) moved filling = tt

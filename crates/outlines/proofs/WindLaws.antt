@@ -3,9 +3,9 @@ use Rattle.std.proofs.Common.{ℕ, ◌+◌, ◌≡◌, refl, sym, ap, subst, ◌
 use Rattle.lists.proofs.Words.{ints, map-append, sum_by-cons}
 use Rattle.geo_core.specs.declared.plane.Point.{Point}
 use Rattle.geo_core.specs.declared.plane.Cell.{Cell}
-use Rattle.outlines.specs.Outlines.{Edge, edges_of, is_left_of, goes_up_across, goes_down_across, winding_number}
+use Rattle.outlines.specs.Outlines.{Edge, edges_of, goes_up_across, goes_down_across, winding_number}
 use Rattle.geo_core.specs.Plane.{circuit}
-use Rattle.outlines.specs.Sights.{is_right_of, winding_number_by_right}
+use Rattle.outlines.specs.Sights.{winding_number_by_right}
 
 -- of a point: whether it lies no further right than the left side of the cell, and no higher than its lower side
 abbrev pub Place : Type 0
@@ -53,27 +53,20 @@ module _ (c : Cell) where
       ∙ ap (λ t. cond t 1 0 + count_by test (edges_of (q ∷ points))) (same p q)
       ∙ ap (λ n. cond (over (place_of c p) (place_of c q)) 1 0 + n) (edges_counted test over same (q ∷ points))
 
-  left_up : (p q : Point) → (is_left_of c (p, q) && goes_up_across c.j (p, q)) ≡ left_rises (place_of c p) (place_of c q)
-  left_up p q = ap (λ t. int_le p.x c.i && (int_le p.y c.j && t)) (lt_is_not_le c.j q.y)
-
-  left_down : (p q : Point) → (is_left_of c (p, q) && goes_down_across c.j (p, q)) ≡ left_falls (place_of c p) (place_of c q)
-  left_down p q = ap (λ t. int_le p.x c.i && (int_le q.y c.j && t)) (lt_is_not_le c.j p.y)
-
-  right_up : (p q : Point) → (is_right_of c (p, q) && goes_up_across c.j (p, q)) ≡ right_rises (place_of c p) (place_of c q)
-  right_up p q = ap (λ s. s && goes_up_across c.j (p, q)) (lt_is_not_le c.i p.x) ∙ ap (λ t. not (int_le p.x c.i) && (int_le p.y c.j && t)) (lt_is_not_le c.j q.y)
-
-  right_down : (p q : Point) → (is_right_of c (p, q) && goes_down_across c.j (p, q)) ≡ right_falls (place_of c p) (place_of c q)
-  right_down p q = ap (λ s. s && goes_down_across c.j (p, q)) (lt_is_not_le c.i p.x) ∙ ap (λ t. not (int_le p.x c.i) && (int_le q.y c.j && t)) (lt_is_not_le c.j p.y)
+  -- edges beside the cell wind as often as their places tell
+  winds_beside : (beside : ℤ → Bool) (near : Bool → Bool) → ((x : ℤ) → beside x ≡ near (int_le x c.i)) → (points : List Point)
+      → pos (count_by (λ e. beside e.0.x && goes_up_across c.j e) (edges_of points)) -ℤ pos (count_by (λ e. beside e.0.x && goes_down_across c.j e) (edges_of points))
+      ≡ pos (counted (λ p q. near p.0 && rises p q) (map (place_of c) points)) -ℤ pos (counted (λ p q. near p.0 && falls p q) (map (place_of c) points))
+  winds_beside beside near same points =
+      let up = edges_counted (λ e. beside e.0.x && goes_up_across c.j e) (λ p q. near p.0 && rises p q) (λ p q. rw (same p.x, lt_is_not_le c.j q.y) refl) points in
+      let down = edges_counted (λ e. beside e.0.x && goes_down_across c.j e) (λ p q. near p.0 && falls p q) (λ p q. rw (same p.x, lt_is_not_le c.j p.y) refl) points in
+      cc (up, down)
 
   pub winds_by_places : (points : List Point) → winding_number points c ≡ pos (counted left_rises (map (place_of c) points)) -ℤ pos (counted left_falls (map (place_of c) points))
-  winds_by_places points =
-      ap (λ n. pos n -ℤ pos (count_by (λ e. is_left_of c e && goes_down_across c.j e) (edges_of points))) (edges_counted (λ e. is_left_of c e && goes_up_across c.j e) left_rises left_up points)
-      ∙ ap (λ n. pos (counted left_rises (map (place_of c) points)) -ℤ pos n) (edges_counted (λ e. is_left_of c e && goes_down_across c.j e) left_falls left_down points)
+  winds_by_places = winds_beside (λ x. int_le x c.i) (λ left. left) (λ x. refl)
 
   pub by_right : (points : List Point) → winding_number_by_right points c ≡ pos (counted right_rises (map (place_of c) points)) -ℤ pos (counted right_falls (map (place_of c) points))
-  by_right points =
-      ap (λ n. pos n -ℤ pos (count_by (λ e. is_right_of c e && goes_down_across c.j e) (edges_of points))) (edges_counted (λ e. is_right_of c e && goes_up_across c.j e) right_rises right_up points)
-      ∙ ap (λ n. pos (counted right_rises (map (place_of c) points)) -ℤ pos n) (edges_counted (λ e. is_right_of c e && goes_down_across c.j e) right_falls right_down points)
+  by_right = winds_beside (λ x. int_lt c.i x) not (λ x. lt_is_not_le c.i x)
 
 -- each edge has the cell on one side
 one_side : (at t : Bool) → cond (at && t) 1 0 + cond (not at && t) 1 0 ≡ cond t 1 0

@@ -17,10 +17,8 @@ pub fn are_along_axes(points: &[Point]) -> bool
     let Some((_, others)) = points.split_first() else {
         return true;
     };
-    for (from, to) in points.iter().zip(others) {
-        if !is_along_axis(*from, *to) {
-            return false;
-        }
-    }
-    true
+    points
+        .iter()
+        .zip(others)
+        .all(|(from, to)| is_along_axis(*from, *to))
 }

@@ -6,7 +6,6 @@ use Rattle.first_refusal.proofs.CheckLaws.{none_fails, first_refusals_agree}
 use Rattle.geo_core.specs.declared.plane.Point.{Point}
 use Rattle.geo_core.specs.declared.plane.Cell.{Cell}
 use Rattle.geo_core.specs.declared.plane.Rect.{Rect}
-use Rattle.library_model.specs.declared.element.Shape.{Shape}
 use Rattle.library_model.specs.declared.element.ShapeKind.{ShapeKind}
 use Rattle.library_model.specs.declared.library.Structure.{Structure}
 use Rattle.flatten.specs.declared.placed.Placed.{Placed}
@@ -28,25 +27,17 @@ module _ (kind : ShapeKind) (points : List Point) (at : ℕ) where
       ((λ h. (second.same c).1 ((first.same c).0 h)), (λ h. (first.same c).1 ((second.same c).0 h)))
 
 module _ (structures : List Structure) (placed : Placed) where
-  -- what both come to, said of one shape
-  told : (shape : Shape) (outcome : Outcome (List Rect) CoverFault) (comes : PlacedComesTo structures placed outcome) → comes.shape ≡ shape
-      → CoverComesTo shape.kind (placed_points placed shape) shape.at outcome
-  told shape outcome comes same = subst (λ s. CoverComesTo s.kind (placed_points placed s) s.at outcome) same comes.comes
-
-  alike : (one other : Outcome (List Rect) CoverFault) (first : PlacedComesTo structures placed one) (second : PlacedComesTo structures placed other) → second.shape ≡ first.shape
-  alike one other first second = placed_shapes_agree structures placed second.shape first.shape second.is_shape first.is_shape
+  -- what both come to, said of the shape of the first
+  alike : {one other : Outcome (List Rect) CoverFault} (first : PlacedComesTo structures placed one) → PlacedComesTo structures placed other
+      → CoverComesTo first.shape.kind (placed_points placed first.shape) first.shape.at other
+  alike {other = other} first second =
+      subst (λ s. CoverComesTo s.kind (placed_points placed s) s.at other) (placed_shapes_agree structures placed second.shape first.shape second.is_shape first.is_shape) second.comes
 
   pub covered_or_refused : (rects : List Rect) (fault : CoverFault) → PlacedComesTo structures placed (value rects) → PlacedComesTo structures placed (refused fault) → ⊥
-  covered_or_refused rects fault first second =
-      let shape = first.shape in
-      cover_or_fault shape.kind (placed_points placed shape) shape.at rects fault first.comes (told shape (refused fault) second (alike (value rects) (refused fault) first second))
+  covered_or_refused rects fault first second = cover_or_fault _ _ _ rects fault first.comes (alike first second)
 
   pub refused_once : (one other : CoverFault) → PlacedComesTo structures placed (refused one) → PlacedComesTo structures placed (refused other) → one ≡ other
-  refused_once one other first second =
-      let shape = first.shape in
-      one_fault shape.kind (placed_points placed shape) shape.at one other first.comes (told shape (refused other) second (alike (refused one) (refused other) first second))
+  refused_once one other first second = one_fault _ _ _ one other first.comes (alike first second)
 
   pub covered_alike : (one other : List Rect) → PlacedComesTo structures placed (value one) → PlacedComesTo structures placed (value other) → (c : Cell) → IsInSome one c ↔ IsInSome other c
-  covered_alike one other first second =
-      let shape = first.shape in
-      one_cover shape.kind (placed_points placed shape) shape.at one other first.comes (told shape (value other) second (alike (value one) (value other) first second))
+  covered_alike one other first second = one_cover _ _ _ one other first.comes (alike first second)

@@ -1,21 +1,13 @@
 -- the rectangles of pieces
-use Rattle.std.proofs.Common.{◌≡◌, ℤ, neg_ℤ, ◌≤ℤ◌, w32, w64, ◌+ℤ◌, ◌-ℤ◌, to_z, of_z, List, [], ◌∷◌, ◌++◌, map, append_assoc, sym, ap, subst, ◌∙◌, arith, All, Contains}
-use Rattle.lists.proofs.Words.{append-nil, map-append, ints, All-contains}
+use Rattle.std.proofs.Common.{◌≡◌, ℤ, neg_ℤ, ◌≤ℤ◌, w32, w64, ◌+ℤ◌, ◌-ℤ◌, to_z, of_z, List, [], ◌∷◌, ◌++◌, map, append_assoc, sym, ap, subst, ◌∙◌, arith, All}
+use Rattle.lists.proofs.Words.{append-nil, map-append, ints}
 use mir.Val.{SFits}
 use Rattle.geo_core.specs.declared.bounds.TheConstants.{FARTHEST}
 use Rattle.rect_cover.specs.PathPieces.{Box, Piece, box_of, box_towards, direction_of}
 use Rattle.rect_cover.specs.inside.PieceBoxes.{box_value}
 use Rattle.rect_cover.specs.declared.direction.Direction.{Direction}
 use Rattle.rect_cover.specs.declared.piece.PieceBox.{PieceBox}
-use Rattle.lists.proofs.Containing.{all_of_each}
-use Rattle.lists.proofs.Mapping.{Contains-map}
-
-pub same_box : (a b : Box) → a.x0 ≡ b.x0 → a.y0 ≡ b.y0 → a.x1 ≡ b.x1 → a.y1 ≡ b.y1 → a ≡ b
-same_box a b left bottom right top =
-    ap (λ x. let r : Box = record { x0 = x; y0 = a.y0; x1 = a.x1; y1 = a.y1 } in r) left
-    ∙ ap (λ y. let r : Box = record { x0 = b.x0; y0 = y; x1 = a.x1; y1 = a.y1 } in r) bottom
-    ∙ ap (λ x. let r : Box = record { x0 = b.x0; y0 = b.y0; x1 = x; y1 = a.y1 } in r) right
-    ∙ ap (λ y. let r : Box = record { x0 = b.x0; y0 = b.y0; x1 = b.x1; y1 = y } in r) top
+use Rattle.rect_cover.proofs.PlacedLaws.{all_before_map}
 
 -- a coordinate that a layout may have, in four bytes
 pub narrowed : (z r : ℤ) → neg_ℤ FARTHEST ≤ℤ z → z ≤ℤ FARTHEST → r ≡ to_z w32 (of_z w32 (to_z w64 (of_z w64 z))) → r ≡ z
@@ -39,9 +31,7 @@ module _ (half : ℤ) (all : List Box) where
 
 -- what holds of each of these rectangles
 pub each_box : (P : Box → Type 0) (boxes : List PieceBox) (all : List Box) → map box_value boxes ≡ all → All P all → All (λ piece. P (box_value piece)) boxes
-each_box P boxes all same holds =
-    all_of_each (λ piece. P (box_value piece)) boxes (λ piece among. All-contains P all (box_value piece) holds
-    (subst (λ xs. Contains xs (box_value piece)) same (Contains-map box_value boxes piece among)))
+each_box P boxes all same holds = all_before_map P box_value boxes (subst (All P) (sym same) holds)
 
 -- a coordinate that lies so far below or above one of four bytes
 pub lowered : (r a b : ℤ) → SFits w32 a → SFits w32 b → r ≡ to_z w32 (of_z w32 a) -ℤ to_z w32 (of_z w32 b) → to_z w64 (of_z w64 r) ≡ a -ℤ b

@@ -11,9 +11,6 @@ no_point = record { x = pos 0; y = pos 0 }
 pub record AreFirst (points : List Point) (n : ℕ) : Type 0 where
   pub same : (k : ℕ) → k < n → get_or points k no_point ≡ get_or points 0 no_point
 
-pub has_at : (points : List Point) (k : ℕ) → k < length points → Contains points (get_or points k no_point)
-has_at points k h = (k, h, get_or_default points k (get_or points k no_point) no_point h)
-
 first_again : (points : List Point) (p : Point) → AreFirst points (length points) → Contains points p → get_or points 0 no_point ≡ p
 first_again points p first (k, h, e) = sym (get_or_default points k p no_point h ∙ first.same k h) ∙ e
 

@@ -14,14 +14,14 @@ use Rattle.library_model.specs.declared.library.Structure.{Structure}
 use Rattle.flatten.specs.declared.placed.Placed.{Placed}
 use Rattle.outlines.specs.Fillings.{IsCover}
 use Rattle.outlines.specs.Outlines.{IsInside}
-use Rattle.outlines.proofs.CountLaws.{zero_or_not}
+use Rattle.lists.proofs.Comparing.{same_or_not}
 use Rattle.outlines.proofs.GridLaws.{cells_cover}
 use Rattle.outlines.proofs.WindLaws.{map-circuit}
 use Rattle.rect_cover.specs.PathPieces.{Box, style_of}
 use Rattle.rect_cover.specs.Covers.{Covers}
 use Rattle.rect_cover.specs.Coverings.{IsWellPlaced, PlacedComesTo, placed_at, placed_points}
 use Rattle.rect_cover.specs.inside.PieceBoxes.{rect_value}
-use Rattle.rect_cover.specs.ShapeChecks.{HasCells, IsBoxInLayout, ShapeHolds, checks_of, path_checks, shape_fault, boxes_of, is_within, has_long_pieces}
+use Rattle.rect_cover.specs.ShapeChecks.{HasCells, IsBoxInLayout, ShapeHolds, checks_of, shape_fault, boxes_of, is_within, has_long_pieces}
 use Rattle.rect_cover.specs.declared.style.PathStyle.{PathStyle}
 use Rattle.rect_cover.proofs.PathLaws.{checks_of_wide, path_of, thin_cover, wide_cover}
 
@@ -53,16 +53,14 @@ abbrev HasCover : ShapeKind → List Point → Type 0
 HasCover kind points = (rects : List Rect) × IsCover (Covers kind points) rects
 
 module _ (style : PathStyle) (points : List Point) where
-  wide_has : style.width ≢ pos 0 → All (ShapeHolds points) (path_checks style) → HasCover (path_of style) points
-  wide_has wide all =
-      let cells : All HasCells (boxes_of style points) = all 6 (has_long_pieces style) (omega arith) in
-      let near : All IsBoxInLayout (boxes_of style points) = all 7 (is_within style) (omega arith) in
-      let rects = rects_of (boxes_of style points) cells near in
-      (rects.0, wide_cover style points wide rects.0 rects.1 cells near)
-
   path_has : (style.width ≡ pos 0) ⊎ (style.width ≢ pos 0) → All (ShapeHolds points) (checks_of (path_of style)) → HasCover (path_of style) points
   path_has (inl thin) all = ([], thin_cover style points thin)
-  path_has (inr wide) all = wide_has wide (subst (All (ShapeHolds points)) (checks_of_wide style points wide) all)
+  path_has (inr wide) all =
+      let all_wide = subst (All (ShapeHolds points)) (checks_of_wide style points wide) all in
+      let cells : All HasCells (boxes_of style points) = all_wide 6 (has_long_pieces style) (omega arith) in
+      let near : All IsBoxInLayout (boxes_of style points) = all_wide 7 (is_within style) (omega arith) in
+      let rects = rects_of (boxes_of style points) cells near in
+      (rects.0, wide_cover style points wide rects.0 rects.1 cells near)
 
 -- a closed outline is a circuit
 outline_has : (f : Point → Point) (points : List Point) → IsClosed points → All IsInRange (map f points) → (rects : List Rect) × IsCover (IsInside (map f points)) rects
@@ -74,7 +72,7 @@ some_cover : (kind : ShapeKind) (f : Point → Point) (points : List Point) → 
     → HasCover kind (map f points)
 some_cover Boundary f points outline range all = outline_has f points outline.closed range
 some_cover BoxElement f points outline range all = outline_has f points outline.closed range
-some_cover (Path pathtype width begin end) f points some range all = path_has (style_of pathtype width begin end) (map f points) (zero_or_not width) all
+some_cover (Path pathtype width begin end) f points some range all = path_has (style_of pathtype width begin end) (map f points) (same_or_not width (pos 0)) all
 
 pub covers_cannot_lack : (structures : List Structure) (placed : Placed) → IsWellPlaced structures placed → CannotLack (PlacedComesTo structures placed)
 covers_cannot_lack structures placed given none =

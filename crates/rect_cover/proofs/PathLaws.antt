@@ -1,9 +1,9 @@
 -- what the checks of a path and its rectangles come to
 use Rattle.std.proofs.Common.{ℕ, ◌≡◌, ◌≢◌, ◌==◌, false, if◌then◌else◌, ℤ, pos, negsuc, nat_abs, List, [], ◌∷◌, ◌++◌, map, refl, sym, ap, subst, ◌∙◌, arith, All, Contains}
-use Rattle.lists.proofs.Words.{nat_tests, All-nil, All-cons, All-append, All-contains}
+use Rattle.lists.proofs.Words.{nat_tests, All-nil, All-append, All-contains, All-from_recursion}
+use Rattle.std.specs.List.{AllByRecursion}
 use Rattle.first_refusal.specs.Checks.{IsRefusalOfFirst, all_hold, one_fails}
 use Rattle.first_refusal.specs.Outcomes.{value, refused}
-use Rattle.first_refusal.proofs.CheckLaws.{fails_at_once, fails_later}
 use Rattle.geo_core.specs.Plane.{IsInLayout}
 use Rattle.geo_core.specs.declared.plane.Point.{Point}
 use Rattle.geo_core.specs.declared.plane.Cell.{Cell}
@@ -17,7 +17,7 @@ use Rattle.rect_cover.specs.PathPieces.{box_of, half_width_of, pieces_of, corner
 use Rattle.rect_cover.specs.Covers.{Covers, IsInBox}
 use Rattle.rect_cover.specs.Coverings.{CoverComesTo}
 use Rattle.rect_cover.specs.inside.PieceBoxes.{rect_value}
-use Rattle.rect_cover.specs.ShapeChecks.{ShapeCheck, ShapeHolds, HasCells, IsBoxInLayout, GoesOn, has_no_reversal, has_long_pieces, is_within, checks_of, path_checks, style_checks, point_checks, box_checks, boxes_of, shape_fault}
+use Rattle.rect_cover.specs.ShapeChecks.{ShapeCheck, ShapeHolds, HasCells, IsBoxInLayout, GoesOn, has_no_reversal, checks_of, path_checks, style_checks, point_checks, box_checks, boxes_of, shape_fault}
 use Rattle.rect_cover.specs.declared.fault.CoverFault.{CoverFault}
 use Rattle.rect_cover.specs.declared.style.PathStyle.{PathStyle}
 use Rattle.lists.proofs.Containing.{Contains-none, all_of_each}
@@ -27,18 +27,14 @@ use Rattle.lists.proofs.Mapping.{Contains-map, Contains-map_from}
 abbrev pub path_of : PathStyle → ShapeKind
 path_of style = Path style.pathtype style.width style.begin style.end
 
-module _ {N R : Type 0} (Holds : N → Type 0) (refusal_of : N → R) where
-  -- the first check fails
-  pub first_fails : (check : N) (checks : List N) → (Holds check → ⊥) → IsRefusalOfFirst Holds (check ∷ checks) refusal_of (refusal_of check)
-  first_fails check checks fails = record { check = check; is_first = fails_at_once Holds check checks fails; is_its_refusal = refl }
-
-  -- it holds, and another fails
-  pub later_fails : (first : N) (checks : List N) (refusal : R) → Holds first → IsRefusalOfFirst Holds checks refusal_of refusal → IsRefusalOfFirst Holds (first ∷ checks) refusal_of refusal
-  later_fails first checks refusal holds later = record {
-    check = later.check;
-    is_first = fails_later Holds first checks later.check holds later.is_first;
-    is_its_refusal = later.is_its_refusal;
-  }
+-- a check that fails behind checks that hold is the first that fails
+pub fails_behind : {N R : Type 0} (Holds : N → Type 0) (refusal_of : N → R) (before : List N) (check : N) (behind : List N) → AllByRecursion Holds before → (Holds check → ⊥)
+    → IsRefusalOfFirst Holds (before ++ check ∷ behind) refusal_of (refusal_of check)
+fails_behind Holds refusal_of before check behind all fails = record {
+  check = check;
+  is_first = record { before = before; after = behind; parts = refl; all_before = All-from_recursion Holds before all; fails = fails };
+  is_its_refusal = refl;
+}
 
 has_amount : (w : ℤ) → w ≢ pos 0 → (nat_abs w == 0) ≡ false
 has_amount (pos n) wide = let some : n ≢ 0 = λ e. wide (ap pos e) in grind (arith, nat_tests)
@@ -107,7 +103,7 @@ module _ (style : PathStyle) (points : List Point) where
     checks_before styles these on =
         let Holds = ShapeHolds points in
         All-append Holds (style_checks style) (point_checks ++ has_no_reversal ∷ []) styles
-        (All-append Holds point_checks (has_no_reversal ∷ []) these (All-cons Holds has_no_reversal [] on (All-nil Holds)))
+        (All-append Holds point_checks (has_no_reversal ∷ []) these (All-from_recursion Holds (has_no_reversal ∷ []) (on, tt)))
 
     -- where all hold, the rectangles of the pieces are its cover
     pub path_covered : style.width ≢ pos 0 → All (ShapeHolds points) (style_checks style ++ (point_checks ++ has_no_reversal ∷ [])) → (rects : List Rect) → map rect_value rects ≡ boxes_of style points
@@ -115,6 +111,5 @@ module _ (style : PathStyle) (points : List Point) where
     path_covered wide before rects same some within =
         let Holds = ShapeHolds points in
         let all : All Holds (path_checks style) =
-        All-append Holds (style_checks style ++ (point_checks ++ has_no_reversal ∷ [])) (box_checks style) before
-        (All-cons Holds (has_long_pieces style) (is_within style ∷ []) some (All-cons Holds (is_within style) [] within (All-nil Holds))) in
+        All-append Holds (style_checks style ++ (point_checks ++ has_no_reversal ∷ [])) (box_checks style) before (All-from_recursion Holds (box_checks style) (some, (within, tt))) in
         all_hold (subst (All Holds) (sym (checks_of_wide wide)) all) (wide_cover wide rects same some within)

@@ -1,6 +1,6 @@
 -- placed shapes, and where their points come to lie
-use Rattle.std.proofs.Common.{Global, ℕ, ℤ, ◌≡◌, ◌+ℤ◌, ◌⊎◌, inl, inr, List, [], ◌∷◌, map, ◌<◌, length, get_or, sym, ◌∙◌, ap, subst, Some, Vec, Result, Ok, Err, to_z, of_z, w16, w32, w64, arith, All, FitsSigned, slice_get}
-use Rattle.lists.proofs.Words.{to_z-of_z, get_or_from_slice_get, slice_get_within, length-map, map-append, All-nil, All-cons, All-head, All-tail}
+use Rattle.std.proofs.Common.{Global, ℤ, ◌≡◌, ◌+ℤ◌, List, [], ◌∷◌, map, ◌<◌, length, get_or, sym, ◌∙◌, ap, subst, Some, Vec, Result, Ok, Err, to_z, of_z, w16, w32, w64, arith, All, FitsSigned, slice_get}
+use Rattle.lists.proofs.Words.{to_z-of_z, get_or_from_slice_get, slice_get_within, length-map, map-append, get_or-map}
 use Rattle.first_refusal.specs.Answers.{Answers, gives, refuses, no_memory}
 use Rattle.first_refusal.specs.Outcomes.{value, refused}
 use Rattle.geo_core.specs.Plane.{IsInRange, IsOutline, image_under}
@@ -51,8 +51,7 @@ module _ (structures : List Structure) (placed : Placed) where
 
 module _ {X Y : Type 0} (P : Y → Type 0) (f : X → Y) where
   pub all_before_map : (xs : List X) → All P (map f xs) → All (λ x. P (f x)) xs
-  all_before_map [] all = All-nil (λ x. P (f x))
-  all_before_map (x ∷ xs) all = All-cons (λ x. P (f x)) x xs (All-head P (f x) (map f xs) all) (all_before_map xs (All-tail P (f x) (map f xs) all))
+  all_before_map xs all k d within = subst P (get_or-map f xs k d (f d) within) (all k (f d) (omega (arith, length-map xs f)))
 
 -- an outline stays one where its points come to lie
 still_outline : (f : Point → Point) (points : List Point) → IsOutline points → IsOutline (map f points)
@@ -93,15 +92,6 @@ module _ (placed : Placed) (point : Point) (x y : ℤ) (same_x : x ≡ point.x) 
 
   pub lies_up : (a d : ℤ) → a ≡ (image_under placed.turn (record { x = x; y = y })).y → d ≡ placed.dy → a +ℤ d ≡ (placed_at placed point).y
   lies_up a d is by = cc (ap (λ p. p.y) turned)
-
-pub lies_there : (placed : Placed) (point : Point) (x y : ℤ) → x ≡ (placed_at placed point).x → y ≡ (placed_at placed point).y → (record { x = x; y = y }) ≡ placed_at placed point
-lies_there placed point x y across up = same_at x y (placed_at placed point).x (placed_at placed point).y across up
-
--- an outline of either kind comes to the same
-pub outline_comes : (kind : ShapeKind) (points : List Point) (at : ℕ) (result : Result (Vec Rect Global) CoverFault) → (kind ≡ Boundary) ⊎ (kind ≡ BoxElement)
-    → Answers Memory (λ outcome. CoverComesTo Boundary points at (with_items outcome)) result → Answers Memory (λ outcome. CoverComesTo kind points at (with_items outcome)) result
-outline_comes kind points at result (inl is) comes = subst (λ k. Answers Memory (λ outcome. CoverComesTo k points at (with_items outcome)) result) (sym is) comes
-outline_comes kind points at result (inr is) comes = subst (λ k. Answers Memory (λ outcome. CoverComesTo k points at (with_items outcome)) result) (sym is) comes
 
 -- what the cover of the placed shape comes to is what that of its kind comes to where its points lie
 pub shape_comes : (structures : List Structure) (placed : Placed) (shape : Shape) → IsPlacedShape structures placed shape

@@ -18,6 +18,7 @@ use std::alloc::Global;
 /// Rectangles that have together exactly the cells of a placed shape, each within 1,000,000,000 of 0. They may overlap,
 /// and stand in no order. A path of width 0 has none. The fault is that of the first check that fails; `CoverFault` has
 /// their order.
+#[tactic(auto, using(first_refusal::proofs::AnswerLaws::out_of_memory))]
 pub fn cover(alloc: Global, library: &Library, placed: &Placed) -> Result<Vec<Rect>, CoverFault>
     requires placed { IsWellPlaced library.now.structures placed.now }
     ensures { Answers Memory (λ outcome. PlacedComesTo library.now.structures placed.now (with_items outcome)) result }

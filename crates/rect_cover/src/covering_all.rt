@@ -16,6 +16,7 @@ use std::thread::Threads;
 ///
 /// The shapes go into pieces of one shape or more, about two for each processor, and each piece has a thread of its own.
 /// So a few shapes of many points are covered side by side, too. No clause says so.
+#[tactic(auto, using(first_refusal::proofs::AnswerLaws::out_of_memory))]
 pub fn cover_all(
     rt: &(impl Threads + Sync),
     alloc: Global,

@@ -12,6 +12,7 @@ use outlines::{are_along_axes, cover_outline};
 use std::alloc::Global;
 
 /// Rectangles of the cells inside the outline through these points, of a shape that begins at this offset.
+#[tactic(auto, using(first_refusal::proofs::AnswerLaws::out_of_memory))]
 pub fn cover_closed(alloc: Global, points: &[Point], at: u32) -> Result<Vec<Rect>, CoverFault>
     requires outline { IsOutline points.now }
     requires in_range { All IsInRange points.now }

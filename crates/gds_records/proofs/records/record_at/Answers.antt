@@ -1,36 +1,46 @@
-use Rattle.std.proofs.Common.{◌≡◌, ◌-◌, ◌%◌, drop, refl, arith}
+use Rattle.std.proofs.Common.{◌≡◌, ◌-◌, ◌%◌, [], ◌∷◌, drop, refl, arith}
 use Rattle.lists.proofs.Words.{iff_false}
-use Rattle.gds_records.specs.RecordChecks.{kind_field, form_field}
+use Rattle.gds_records.specs.RecordChecks.{kind_field, form_field, head_is_there, length_counts_head, length_is_even, body_is_there, form_is_listed, size_is_permitted}
 use Rattle.gds_records.proofs.TableLaws.{not_permitted}
 use Rattle.gds_records.proofs.Heads.{bytes_are_bytes, IsInProfile-entry_at, spelling-entry_at}
-use Rattle.gds_records.proofs.RecordCheckLaws.{truncated_in_head, bad_where_low, bad_where_odd, truncated_in_body, bad_record, bad_size}
+use Rattle.gds_records.proofs.RecordCheckLaws.{fault_behind}
 use Rattle.gds_records.proofs.records.record_at.Goals.{then-len-lt4-via-then-len-lt4, then-len-lt4-via-else-len-lt4+then-len-eq1}
 use Rattle.gds_records.proofs.records.record_at.Goals as goal
 
 pub returns-then-rest-lt-HEAD-clause-fault : goal.returns-then-rest-lt-HEAD-clause-fault
-returns-then-rest-lt-HEAD-clause-fault c = truncated_in_head c.args.at c.args.rest.now c.if-rest-lt-HEAD.true
+returns-then-rest-lt-HEAD-clause-fault c =
+    let short = c.if-rest-lt-HEAD.true in fault_behind c.args.at c.args.rest.now [] head_is_there _ refl tt (λ h. omega arith)
 
 pub returns-then-len-lt4-clause-fault : goal.returns-then-len-lt4-clause-fault
 returns-then-len-lt4-clause-fault c =
+    let rest = c.args.rest.now in
     let field = c.read_u16-len.ensures in
+    let head = c.if-rest-lt-HEAD.false in
     elim c.then-len-lt4.branch [
-      | then-len-lt4-via-then-len-lt4 w ↦ rw field (bad_where_low c.args.at c.args.rest.now c.if-rest-lt-HEAD.false (omega arith))
-      | then-len-lt4-via-else-len-lt4+then-len-eq1 w ↦ rw field (bad_where_odd c.args.at c.args.rest.now c.if-rest-lt-HEAD.false (omega arith) (omega arith))
+      | then-len-lt4-via-then-len-lt4 w ↦
+          let low = w.if-len-lt4.true in rw field (fault_behind c.args.at rest (head_is_there ∷ []) length_counts_head _ refl (head, tt) (λ h. omega arith))
+      | then-len-lt4-via-else-len-lt4+then-len-eq1 w ↦
+          rw field (fault_behind c.args.at rest (head_is_there ∷ length_counts_head ∷ []) length_is_even _ refl (head, (omega arith, tt)) (λ h. omega arith))
     ]
 
 pub returns-then-rest-end-clause-fault : goal.returns-then-rest-end-clause-fault
-returns-then-rest-end-clause-fault c = truncated_in_body c.args.at c.args.rest.now c.if-rest-lt-HEAD.false (omega arith) (omega arith) (omega arith)
+returns-then-rest-end-clause-fault c =
+    fault_behind c.args.at c.args.rest.now (head_is_there ∷ length_counts_head ∷ length_is_even ∷ []) body_is_there _ refl
+    (c.if-rest-lt-HEAD.false, (omega arith, (omega arith, tt))) (λ h. omega arith)
 
 pub returns-in_default-clause-fault : goal.returns-in_default-clause-fault
 returns-in_default-clause-fault c =
-    bad_record c.args.at c.args.rest.now c.if-rest-lt-HEAD.false (omega arith) (omega arith) (omega arith) c.in_default.ensures.none
+    fault_behind c.args.at c.args.rest.now (head_is_there ∷ length_counts_head ∷ length_is_even ∷ body_is_there ∷ []) form_is_listed _ refl
+    (c.if-rest-lt-HEAD.false, (omega arith, (omega arith, (omega arith, tt)))) c.in_default.ensures.none
 
 pub returns-then-not-takes_size-clause-fault : goal.returns-then-not-takes_size-clause-fault
 returns-then-not-takes_size-clause-fault c =
-    let rule = c.in-Some.rule in
+    let rest = c.args.rest.now in
+    let field = c.read_u16-len.ensures in
     let is = c.in-Some.ensures.some in
-    let refused = not_permitted (kind_field c.args.rest.now) (form_field c.args.rest.now) (c.read_u16-len.result - 4) rule is (iff_false c.takes_size.ensures c.if-not-takes_size.true) in
-    bad_size c.args.at c.args.rest.now c.if-rest-lt-HEAD.false (omega arith) (omega arith) (omega arith) c.read_u16-len.result c.read_u16-len.ensures (rule, is) refused
+    let refused = not_permitted (kind_field rest) (form_field rest) (c.read_u16-len.result - 4) c.in-Some.rule is (iff_false c.takes_size.ensures c.if-not-takes_size.true) in
+    fault_behind c.args.at rest (head_is_there ∷ length_counts_head ∷ length_is_even ∷ body_is_there ∷ form_is_listed ∷ []) size_is_permitted _ refl
+    (c.if-rest-lt-HEAD.false, (omega arith, (omega arith, (omega arith, ((c.in-Some.rule, is), tt))))) (rw field at refused)
 
 pub returns-clause-found : goal.returns-clause-found
 returns-clause-found c =

@@ -1,7 +1,8 @@
 use Rattle.std.proofs.Common.{rules, w32, int_lt}
 use Rattle.lists.proofs.Words.{to_z-of_z}
 use Rattle.std.proofs.lemmas.Fn.{filter_same}
-use Rattle.outlines.proofs.CrossingLaws.{IsKept, kept_begun, kept_lasting, crossed, moved_at_row, ordered_by_sort}
+use Rattle.lists.proofs.Sorting.{AllPairs-from_sort}
+use Rattle.outlines.proofs.CrossingLaws.{IsKept, kept_begun, kept_lasting, crossed, moved_at_row}
 use Rattle.outlines.proofs.crossing.cross.Goals as goal
 
 pub begin-requires-clause-begun : goal.begin-requires-clause-begun
@@ -29,4 +30,4 @@ returns-clause-at_row c =
     moved_at_row c.args.row _ _ c.in_ok-rest.rest.now c.in_ok-sort_by_key.ensures.permutation at
 
 pub returns-clause-by_column : goal.returns-clause-by_column
-returns-clause-by_column c = ordered_by_sort (λ side. side.x) _ c.in_ok-sort_by_key.ensures.sorted (λ a r q k. search rules)
+returns-clause-by_column c = AllPairs-from_sort (λ side. side.x) _ c.in_ok-sort_by_key.ensures.sorted (λ a r q k. search rules)

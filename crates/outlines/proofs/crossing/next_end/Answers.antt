@@ -1,12 +1,13 @@
-use Rattle.std.proofs.Common.{◌≡◌, w32, to_z, of_z, arith}
+use Rattle.std.proofs.Common.{◌≡◌, w32, to_z, of_z, arith, take_all}
 use Rattle.lists.proofs.Words.{ints}
-use Rattle.outlines.proofs.CrossingLaws.{next_begun, next_nearer, next_found}
+use Rattle.outlines.proofs.CrossingLaws.{next_nearer}
 use Rattle.outlines.proofs.crossing.next_end.Goals as goal
 
 pub loop-side-init : goal.loop-side-init
 loop-side-init c =
     let same : to_z w32 (of_z w32 c.first_low-next.result) ≡ c.first_low-next.result = omega (arith, ints) in
-    rw same (next_begun c.args.crossing.now c.args.later.now _ c.first_low-next.ensures.least c.first_low-next.ensures.within c.first_low-next.ensures.further)
+    let first = c.first_low-next.ensures in
+    rw same (record { ends = λ k d small. absurd (omega arith); begins = first.least; most = first.within; further = λ row h lasting above. first.further row h above })
 
 pub loop-side-preserved : goal.loop-side-preserved
 loop-side-preserved c =
@@ -17,8 +18,8 @@ loop-side-preserved c =
     c.loop-side.invariant)
 
 pub returns : goal.returns
-returns c = record {
-  least = next_found c.args.crossing.now c.args.later.now c.loop-side.side-index _ c.loop-side-test.false c.loop-side.invariant;
+returns c = let all = take_all c.loop-side.side-index c.args.crossing.now c.loop-side-test.false in record {
+  least = record { crossing_ends = rw all at c.loop-side.invariant.ends; later_begins = c.loop-side.invariant.begins };
   within = c.loop-side.invariant.most;
   further = c.loop-side.invariant.further;
 }

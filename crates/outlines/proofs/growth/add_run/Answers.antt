@@ -1,7 +1,7 @@
 use Rattle.std.proofs.Common.{◌≡◌, ℤ, sym, ap, subst, ◌∙◌, rules, w32, of_z, to_z, SFits, All}
 use Rattle.lists.proofs.Words.{to_z-of_z, All-push, All-head, All-tail}
 use Rattle.geo_core.specs.Plane.{IsInLayout}
-use Rattle.outlines.proofs.GrowthLaws.{run_continues, run_pushed, rect_in_layout, longer_in_layout}
+use Rattle.outlines.proofs.GrowthLaws.{run_continues, run_pushed, longer_in_layout}
 use Rattle.outlines.proofs.growth.add_run.Goals as goal
 
 -- numbers of one form in memory
@@ -33,6 +33,6 @@ returns c =
     rw c.in_ok-push-2.ensures.items (record {
       cells = run_pushed c.args.run c.args.rows c.args.grown.now.items c.args.growing.now rect c.of-2.ensures.left c.of-2.ensures.right c.of-2.ensures.bottom c.of-2.ensures.top;
       grown = All-push IsInLayout c.args.grown.now.items rect c.requires.grown
-          (rect_in_layout rect c.args.run c.args.rows c.of-2.ensures.left c.of-2.ensures.right c.of-2.ensures.bottom c.of-2.ensures.top c.requires.run c.requires.rows);
+          (record { across = rw (c.of-2.ensures.left, c.of-2.ensures.right) c.requires.run.ends; up = rw (c.of-2.ensures.bottom, c.of-2.ensures.top) c.requires.rows.ends });
       growing = c.requires.growing;
     })

@@ -1,11 +1,11 @@
-use Rattle.std.proofs.Common.{subst, All}
+use Rattle.std.proofs.Common.{refl, subst, All}
 use Rattle.lists.proofs.Words.{All-push, All-head, All-tail}
 use Rattle.geo_core.specs.Plane.{IsInLayout}
-use Rattle.outlines.proofs.GrowthLaws.{none_moved, one_moved}
+use Rattle.outlines.proofs.GrowthLaws.{one_moved}
 use Rattle.outlines.proofs.growth.finish_left_of.Goals as goal
 
 pub loop-rect-init : goal.loop-rect-init
-loop-rect-init c = record { cells = none_moved c.args.done.now.items c.args.growing.now; done = c.requires.done; growing = c.requires.growing }
+loop-rect-init c = record { cells = record { same = λ cell. refl }; done = c.requires.done; growing = c.requires.growing }
 
 pub loop-rect-preserved : goal.loop-rect-preserved
 loop-rect-preserved c =

@@ -1,9 +1,7 @@
 use Rattle.std.proofs.Common.{ap, subst, sym, ◌∙◌, map, All}
-use Rattle.first_refusal.proofs.AnswerLaws.{out_of_memory}
 use Rattle.geo_core.specs.Plane.{IsInRange}
 use Rattle.library_model.specs.Points.{HasItsPoints}
 use Rattle.rect_cover.specs.Coverings.{placed_at}
-use Rattle.rect_cover.specs.declared.fault.CoverFault.TheVariants.{Memory}
 use Rattle.rect_cover.proofs.PlacedLaws.{its_points, its_range, all_before_map, points_kept, shape_comes}
 use Rattle.rect_cover.proofs.covering.cover.Goals as goal
 
@@ -13,9 +11,6 @@ place_points-requires c =
     let placed = c.args.placed.now in
     all_before_map IsInRange (placed_at placed) c.as_slice.result.now
     (subst (λ l. All IsInRange (map (placed_at placed) l)) (sym c.as_slice.ensures) (its_range structures placed c.requires.placed c.shape_of-shape.result.now c.shape_of-shape.ensures))
-
-pub returns-in_err-points : goal.returns-in_err-points
-returns-in_err-points c = out_of_memory Memory _ c.from_residual.result c.from_residual.ensures.1
 
 pub cover_shape-requires-clause-points : goal.cover_shape-requires-clause-points
 cover_shape-requires-clause-points c =

@@ -1,12 +1,12 @@
-use Rattle.std.proofs.Common.{subst, w16, w32, rules, FitsSigned}
+use Rattle.std.proofs.Common.{inl, inr, subst, w16, w32, rules, FitsSigned}
 use Rattle.first_refusal.specs.Answers.{Answers}
 use Rattle.rect_cover.specs.declared.fault.CoverFault.TheVariants.{Memory}
 use Rattle.rect_cover.specs.Coverings.{CoverComesTo, with_items}
-use Rattle.rect_cover.proofs.PlacedLaws.{outline_comes, style_kept}
+use Rattle.rect_cover.proofs.PlacedLaws.{style_kept}
 use Rattle.rect_cover.proofs.covering.cover_shape.Goals as goal
 
 pub returns-in-Boundary : goal.returns-in-Boundary
-returns-in-Boundary c = outline_comes c.args.kind c.args.points.now c.args.at c.cover_closed.result c.in-Boundary.is c.cover_closed.ensures
+returns-in-Boundary c = elim c.in-Boundary.is [ inl is ↦ rw is c.cover_closed.ensures | inr is ↦ rw is c.cover_closed.ensures ]
 
 pub returns-in-Path : goal.returns-in-Path
 returns-in-Path c =

@@ -1,4 +1,3 @@
-use Rattle.std.proofs.Common.{ap, ◌∙◌, get_or}
 use Rattle.lists.proofs.Words.{slice_get_within}
 use Rattle.rect_cover.proofs.PlacedLaws.{element_read, element_within, shape_read}
 use Rattle.rect_cover.proofs.covering.shape_of.Goals as goal
@@ -10,16 +9,14 @@ bounds-as_slice-placed c =
 pub bounds-as_slice-placed-2 : goal.bounds-as_slice-placed-2
 bounds-as_slice-placed-2 c =
     let structure = c.index-as_slice-placed in
-    rw c.as_slice-2.ensures (element_within c.args.library.now.structures c.args.placed.now c.requires.shape c.requires.is_shape structure.result
-    (structure.is ∙ ap (λ l. get_or l c.args.placed.now.structure structure.result) c.as_slice.ensures))
+    rw c.as_slice-2.ensures (element_within c.args.library.now.structures c.args.placed.now c.requires.shape c.requires.is_shape structure.result (rw c.as_slice.ensures at structure.is))
 
 pub unreachable-requires : goal.unreachable-requires
 unreachable-requires c =
     let structure = c.index-as_slice-placed in
     let element = c.index-as_slice-placed-2 in
-    let is_shape = element_read c.args.library.now.structures c.args.placed.now c.requires.shape c.requires.is_shape structure.result
-    (structure.is ∙ ap (λ l. get_or l c.args.placed.now.structure structure.result) c.as_slice.ensures)
-    element.result (element.is ∙ ap (λ l. get_or l c.args.placed.now.element element.result) c.as_slice-2.ensures) in
+    let is_shape = element_read c.args.library.now.structures c.args.placed.now c.requires.shape c.requires.is_shape structure.result (rw c.as_slice.ensures at structure.is)
+    element.result (rw c.as_slice-2.ensures at element.is) in
     let is_reference = c.in-Reference.is in
     cc
 
@@ -27,6 +24,5 @@ pub returns : goal.returns
 returns c =
     let structure = c.index-as_slice-placed in
     let element = c.index-as_slice-placed-2 in
-    shape_read c.args.library.now.structures c.args.placed.now c.requires.shape c.requires.is_shape structure.result
-    (structure.is ∙ ap (λ l. get_or l c.args.placed.now.structure structure.result) c.as_slice.ensures)
-    element.result c.in-Shape.shape (element.is ∙ ap (λ l. get_or l c.args.placed.now.element element.result) c.as_slice-2.ensures) c.in-Shape.is
+    shape_read c.args.library.now.structures c.args.placed.now c.requires.shape c.requires.is_shape structure.result (rw c.as_slice.ensures at structure.is)
+    element.result c.in-Shape.shape (rw c.as_slice-2.ensures at element.is) c.in-Shape.is

@@ -2,7 +2,7 @@ use Rattle.std.proofs.Common.{◌≡◌, ◌∙◌, ap, length, sym, subst, rule
 use Rattle.lists.proofs.Words.{AllZip, into_iter_items}
 use Rattle.rayon.proofs.ToStd.{slice-AllZip}
 use Rattle.first_refusal.specs.Answers.{gives}
-use Rattle.first_refusal.proofs.AnswerLaws.{handed_on, out_of_memory}
+use Rattle.first_refusal.proofs.AnswerLaws.{handed_on}
 use Rattle.rect_cover.specs.Coverings.{IsWellPlaced, all_covered}
 use Rattle.rect_cover.specs.declared.fault.CoverFault.TheVariants.{Memory}
 use Rattle.rect_cover.proofs.ListedLaws.{IsAnswerFor, none_listed, one_listed, refused_first, all_listed}
@@ -40,15 +40,6 @@ loop-answer-preserved g c =
           c.in_ok-answer.field-0 _ _ c.in_ok-answer.was c.from_vec.ensures c.in_ok-push.ensures.items;
       count = omega (arith, ap length steps.0, steps.1, loop.invariant.count);
     }
-
-pub returns-in_err-answers : goal.returns-in_err-answers
-returns-in_err-answers g c = out_of_memory Memory _ c.from_residual.result c.from_residual.ensures.1
-
-pub returns-in_err-lists : goal.returns-in_err-lists
-returns-in_err-lists g c = out_of_memory Memory _ c.from_residual-in_err-lists.result c.from_residual-in_err-lists.ensures.1
-
-pub returns-in_err-push : goal.returns-in_err-push
-returns-in_err-push g c = out_of_memory Memory _ c.from_residual-in_err-push.result c.from_residual-in_err-push.ensures.1
 
 pub returns : goal.returns
 returns g c =

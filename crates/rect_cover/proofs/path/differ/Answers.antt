@@ -1,5 +1,6 @@
 use Rattle.std.proofs.Common.{◌≡◌, get_or, refl, rules, arith}
-use Rattle.rect_cover.proofs.DifferLaws.{no_point, has_at, none_differ}
+use Rattle.lists.proofs.Words.{Contains-get_or}
+use Rattle.rect_cover.proofs.DifferLaws.{no_point, none_differ}
 use Rattle.rect_cover.proofs.path.differ.Goals as goal
 
 pub returns-then-ne : goal.returns-then-ne
@@ -7,7 +8,7 @@ returns-then-ne c =
     let points = c.args.points.now in
     let k = c.loop-point.point-index in
     let apart : get_or points k no_point ≡ get_or points 0 no_point → ⊥ = search rules in (
-      λ _. (get_or points k no_point, get_or points 0 no_point, has_at points k c.loop-point-test.true, has_at points 0 c.requires, apart),
+      λ _. (get_or points k no_point, get_or points 0 no_point, Contains-get_or points k no_point c.loop-point-test.true, Contains-get_or points 0 no_point c.requires, apart),
       λ _. refl,
     )
 

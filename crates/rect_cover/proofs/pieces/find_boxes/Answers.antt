@@ -1,7 +1,7 @@
-use Rattle.std.proofs.Common.{ℕ, w32, to_z, of_z, suc, ◌+◌, ◌<◌, ◌≡◌, ◌==◌, ◌++◌, ◌∷◌, length, drop, map, pos, sym, ap, ◌∙◌, arith, rules, add-one, subst}
+use Rattle.std.proofs.Common.{w32, to_z, of_z, ◌+◌, ◌<◌, ◌≡◌, ◌++◌, length, drop, map, pos, sym, ap, ◌∙◌, arith, rules}
 use Rattle.lists.proofs.Words.{nat_tests, to_z-of_z}
 use Rattle.geo_core.specs.declared.plane.Point.{Point}
-use Rattle.rect_cover.specs.PathPieces.{Knot, box_of, half_width_of, reach_behind, pieces_between}
+use Rattle.rect_cover.specs.PathPieces.{box_of, half_width_of, reach_behind, pieces_between}
 use Rattle.rect_cover.specs.inside.PieceBoxes.{box_value, knot_of}
 use Rattle.rect_cover.proofs.PieceLaws.{pieces_ahead, pieces_begin_at, piece_more, no_piece_behind}
 use Rattle.rect_cover.proofs.BoxLaws.{boxes_more, boxes_end}
@@ -28,17 +28,13 @@ loop-i-preserved c =
     let none : Point = record { x = pos 0; y = pos 0 } in
     let from = knot_of c.loop-i.from in
     let to = knot_of c.next_corner-to.result in
-    let all = map (box_of half) (pieces_between style corners) in
-    let At : Knot → Type 0 = λ knot. pieces_ahead half behind from ((drop i corners)) ≡ (from, knot) ∷ pieces_ahead half behind knot ((drop (suc i) corners)) in
-    let more : At to = subst At (sym c.next_corner-to.ensures)
-    (piece_more half behind from corners i none c.loop-i-test.true (i + 1 == length corners) (λ e. grind (arith, nat_tests)) (λ e. grind (arith, nat_tests))) in
-    let ahead = pieces_ahead half behind to ((drop (suc i) corners)) in
+    let more = piece_more half behind from to corners i none c.loop-i-test.true c.next_corner-to.ensures in
     let narrow : to_z w32 (of_z w32 c.half_width.result) ≡ c.half_width.result = to_z-of_z w32 c.half_width.result (search rules) in
     let box : box_value c.between.result ≡ box_of half (from, to) = c.between.ensures ∙ ap (λ h. box_of h (from, to)) (narrow ∙ c.half_width.ensures) in
+    let ahead = pieces_ahead half behind to (drop (i + 1) corners) in
     let front = ap (λ pieces. map box_value c.loop-i.boxes.items ++ map (box_of half) pieces) (sym more) ∙ c.loop-i.invariant in
-    let Last : ℕ → Type 0 = λ n. map box_value c.push.new.self.items ++ map (box_of half) (pieces_ahead half behind to ((drop n corners))) ≡ all in
-    subst Last (sym (add-one i))
-    (ap (λ boxes. map box_value boxes ++ map (box_of half) ahead) c.in_ok-push.ensures.items ∙ boxes_more half all c.loop-i.boxes.items c.between.result (from, to) ahead box front)
+    ap (λ boxes. map box_value boxes ++ map (box_of half) ahead) c.in_ok-push.ensures.items
+    ∙ boxes_more half (map (box_of half) (pieces_between style corners)) c.loop-i.boxes.items c.between.result (from, to) ahead box front
 
 pub returns : goal.returns
 returns c =

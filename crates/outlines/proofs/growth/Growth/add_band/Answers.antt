@@ -1,7 +1,8 @@
-use Rattle.std.proofs.Common.{sym}
+use Rattle.std.proofs.Common.{subst, sym}
 use Rattle.lists.proofs.Words.{All-append}
 use Rattle.geo_core.specs.Plane.{IsInLayout}
-use Rattle.outlines.proofs.GrowthLaws.{band_begun, run_added, band_added, run_within}
+use Rattle.outlines.specs.inside.Sweeps.{IsRunInLayout}
+use Rattle.outlines.proofs.GrowthLaws.{band_begun, run_added, band_added}
 use Rattle.outlines.proofs.growth.Growth.add_band.Goals as goal
 
 pub loop-run-init : goal.loop-run-init
@@ -19,7 +20,7 @@ pub finish_left_of-requires-clause-growing : goal.finish_left_of-requires-clause
 finish_left_of-requires-clause-growing c = c.loop-run.invariant.growing_within
 
 pub add_run-requires-clause-run : goal.add_run-requires-clause-run
-add_run-requires-clause-run c = run_within c.args.runs.now c.loop-run.run-index c.run-item.result c.requires.columns c.loop-run-test.true c.run-item.is
+add_run-requires-clause-run c = subst IsRunInLayout (sym c.run-item.is) (c.requires.columns c.loop-run.run-index _ c.loop-run-test.true)
 
 pub add_run-requires-clause-grown : goal.add_run-requires-clause-grown
 add_run-requires-clause-grown c = c.loop-run.invariant.grown_within
