@@ -69,7 +69,7 @@ const DOCUMENTS: &[(&str, &str, (u8, u64))] = &[
 #[test]
 fn first_faults_of_a_document(rt: HostRuntime) {
     for (old, new, want) in DOCUMENTS {
-        assert!(rt; comes_to(rt.alloc(), old, new, *want), "{new}");
+        assert!(rt; comes_to(rt.alloc(), old, new, *want));
     }
 }
 
@@ -113,7 +113,7 @@ const METALS: &[(&str, &str, (u8, u64))] = &[
 #[test]
 fn first_faults_of_metals(rt: HostRuntime) {
     for (old, new, want) in METALS {
-        assert!(rt; comes_to(rt.alloc(), old, new, *want), "{new}");
+        assert!(rt; comes_to(rt.alloc(), old, new, *want));
     }
 }
 

@@ -23,20 +23,21 @@ fn sample_maps(alloc: Global, layer: u16, datatype: u16, want: Option<u32>) -> b
     }
 }
 
+const PAIRS: &[(u16, u16, Option<u32>)] = &[
+    (1, 0, Some(0)),
+    (1, 20, Some(0)),
+    (3, 0, Some(1)),
+    (2, 0, Some(2)),
+    (2, 1, None),
+    (0, 0, None),
+    (65_535, 65_535, None),
+];
+
 #[test]
 fn pairs_of_the_sample(rt: HostRuntime) {
-    let cases = [
-        (1, 0, Some(0)),
-        (1, 20, Some(0)),
-        (3, 0, Some(1)),
-        (2, 0, Some(2)),
-        (2, 1, None),
-        (0, 0, None),
-        (65_535, 65_535, None),
-    ];
-    for (layer, datatype, want) in cases {
+    for (layer, datatype, want) in PAIRS {
         assert!(rt;
-            sample_maps(rt.alloc(), layer, datatype, want),
+            sample_maps(rt.alloc(), *layer, *datatype, *want),
             "{layer}, {datatype}"
         );
     }
@@ -50,19 +51,23 @@ fn is_name(text: &str) -> bool {
     }
 }
 
+const NAMES: &[&str] = &["m", "M1_top", "_", "0", "abcdefghijklmnopqrstuvwxyz_01234"];
+
+const OTHER_TEXTS: &[&str] = &[
+    "",
+    "m-1",
+    "m 1",
+    "m.",
+    "\u{fc}",
+    "abcdefghijklmnopqrstuvwxyz_012345",
+];
+
 #[test]
 fn names_are_letters_digits_and_underscores(rt: HostRuntime) {
-    for name in ["m", "M1_top", "_", "0", "abcdefghijklmnopqrstuvwxyz_01234"] {
+    for name in NAMES {
         assert!(rt; is_name(name), "{name}");
     }
-    for name in [
-        "",
-        "m-1",
-        "m 1",
-        "m.",
-        "\u{fc}",
-        "abcdefghijklmnopqrstuvwxyz_012345",
-    ] {
+    for name in OTHER_TEXTS {
         assert!(rt; !is_name(name), "{name}");
     }
     assert!(rt; LayerName::m().as_str() == "m");
