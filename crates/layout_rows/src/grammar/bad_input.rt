@@ -1,6 +1,8 @@
 //! The stream of the two bars, cut and changed.
 
-use super::streams::{TWO_BARS, is_refused, read, stream_of};
+use super::streams::{is_refusal, read};
+use crate::reading::records::TWO_SQUARES;
+use gds_syntax::SyntaxFault;
 use std::alloc::Global;
 
 /// Its records: where each begins, and its length.
@@ -27,14 +29,10 @@ const RECORDS: &[(u16, u16)] = &[
 
 /// Whether the stream is refused as cut off at this offset, wherever it is cut within the record there.
 fn is_cut_within(alloc: Global, at: u16, length: u16) -> bool {
-    let Ok(bytes) = stream_of(alloc, TWO_BARS) else {
-        return false;
-    };
-    let whole = bytes.as_slice();
     let start = usize::from(at);
     for end in start..start + usize::from(length) {
-        let front = whole.get(..end).unwrap_or(whole);
-        if !is_refused(alloc, front, 10, u64::from(at)) {
+        let front = TWO_SQUARES.get(..end).unwrap_or(TWO_SQUARES);
+        if !is_refusal(read(alloc, front), 10, u64::from(at)) {
             return false;
         }
     }
@@ -59,30 +57,34 @@ enum Answer {
     Any,
 }
 
+/// Whether such a fault is answered.
+fn is_fault(fault: SyntaxFault, answer: Answer) -> bool {
+    match answer {
+        Answer::Accepted => false,
+        Answer::Refused(number, place) => fault.number() == number && fault.place() == place,
+        Answer::Any => (10..=23).contains(&fault.number()),
+    }
+}
+
 /// Whether the bytes are answered so.
 fn are_answered(alloc: Global, bytes: &[u8], answer: Answer) -> bool {
-    match (read(alloc, bytes), answer) {
-        (Ok(_), Answer::Accepted | Answer::Any) => true,
-        (Err(fault), Answer::Refused(number, place)) => fault.number() == number
-            && fault.place() == place,
-        (Err(fault), Answer::Any) => (10..=23).contains(&fault.number()),
-        _ => false,
+    match read(alloc, bytes) {
+        Ok(_) => matches!(answer, Answer::Accepted | Answer::Any),
+        Err(fault) => is_fault(fault, answer),
     }
 }
 
 /// Other values of a byte: what is turned over in it.
-const FLIPS: [u8; 9] = [1, 2, 4, 8, 16, 32, 64, 128, 255];
+const FLIPS: &[u8] = &[1, 2, 4, 8, 16, 32, 64, 128, 255];
 
 /// Whether the stream is answered so where the byte at this offset has one of the other values.
 fn is_changed_at(alloc: Global, at: usize, answer: Answer) -> bool {
     for flip in FLIPS {
-        let Ok(mut bytes) = stream_of(alloc, TWO_BARS) else {
-            return false;
-        };
+        let mut bytes = *TWO_SQUARES;
         if let Some(byte) = bytes.get_mut(at) {
-            *byte ^= flip;
+            *byte ^= *flip;
         }
-        if !are_answered(alloc, bytes.as_slice(), answer) {
+        if !are_answered(alloc, &bytes, answer) {
             return false;
         }
     }

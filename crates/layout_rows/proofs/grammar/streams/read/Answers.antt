@@ -1,5 +1,5 @@
 use Rattle.gds_write.proofs.ReadWellFormed.{read_is_well_formed}
-use Rattle.syntax_rows.proofs.streams.read.Goals as goal
+use Rattle.layout_rows.proofs.grammar.streams.read.Goals as goal
 
 pub returns-clause-well_formed : goal.returns-clause-well_formed
 returns-clause-well_formed c =

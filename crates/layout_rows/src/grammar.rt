@@ -1,9 +1,6 @@
-//! Worked rows on the calls that read and write a library: what is refused and where, what is accepted and kept, what is
-//! written, and bytes that were cut or changed. Each row's answer was worked out by hand. The crate has tests alone.
-#![tactic(auto)]
+//! Libraries: what is refused and where, what is accepted and kept, what is written, and bytes that were cut or changed.
 
 /// A table of rows, one a line: what the row is about, the records of its stream, and what is wanted of it.
-#[cfg(test)]
 macro_rules! rows {
     ($($about:literal: $records:expr => $($wanted:expr),+;)*) => {
         &[$(($about, $records, $($wanted),+)),*]
@@ -11,7 +8,6 @@ macro_rules! rows {
 }
 
 /// Records, one behind the other.
-#[cfg(test)]
 macro_rules! records {
     ($($record:ident)*) => {
         &[$($record),*]
@@ -19,7 +15,6 @@ macro_rules! records {
 }
 
 /// A path with these ends, this width, and so much more at its beginning and at its end.
-#[cfg(test)]
 macro_rules! path {
     ($pathtype:literal, $width:literal, $begin:literal, $end:literal) => {
         ShapeKind::Path {
@@ -31,23 +26,20 @@ macro_rules! path {
     };
 }
 
-#[cfg(test)]
+/// The one element of a structure: a placement of `S` at the origin, mirrored or not, and turned by so many quarters.
+macro_rules! placement {
+    ($reflect:literal, $quarters:literal) => {
+        &[Wanted::Reference(94, b"S", $reflect, $quarters, ORIGIN_POINT, None)]
+    };
+}
+
 mod accepted;
-#[cfg(test)]
 mod bad_input;
-#[cfg(test)]
 mod names;
-#[cfg(test)]
 mod records;
-#[cfg(test)]
 mod refusals;
-#[cfg(test)]
 mod same;
-#[cfg(test)]
 mod streams;
-#[cfg(test)]
 mod usual_writer;
-#[cfg(test)]
 mod wanted;
-#[cfg(test)]
 mod written;

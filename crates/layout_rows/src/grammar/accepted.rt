@@ -1,25 +1,28 @@
 use super::records::*;
-use super::streams::{TWO_BARS, joined, read, stream_of};
-use super::wanted::{RIGHT_SQUARE_POINTS, SQUARE_POINTS, Wanted, has_elements, has_structures};
+use super::streams::{TWO_BARS, read_elements, read_records};
+use super::wanted::{
+    ORIGIN_POINT, RIGHT_SQUARE_POINTS, SQUARE_POINTS, Wanted, has_one_structure, has_structures,
+};
 use gds_syntax::ShapeKind;
 use geo_core::Point;
 use std::alloc::Global;
+use std::process::Abort;
 
 /// Whether the stream with these records is a library `L` whose one structure `T` has just these elements.
 fn are_kept(alloc: Global, records: &[&[u8]], wanted: &[Wanted]) -> bool {
-    let Ok(bytes) = stream_of(alloc, records) else {
-        return false;
-    };
-    match read(alloc, bytes.as_slice()) {
-        Ok(library) => {
-            has_structures(&library, b"L", &[(60, b"T", wanted.len())])
-                && library
-                    .structures
-                    .as_slice()
-                    .iter()
-                    .all(|structure| has_elements(structure, wanted))
-        }
+    match read_elements(alloc, records) {
+        Ok(library) => has_one_structure(&library, b"L", 60, wanted),
         Err(_) => false,
+    }
+}
+
+/// What a row is about, the records behind the front, the first at 94, and the elements that are kept.
+type Row = (&'static str, &'static [&'static [u8]], &'static [Wanted]);
+
+/// Stops the test at a row whose elements are not kept so.
+fn expect_kept(rt: &impl Abort, alloc: Global, rows: &[Row]) {
+    for (name, records, wanted) in rows {
+        assert!(rt; are_kept(alloc, records, wanted), "{name}");
     }
 }
 
@@ -62,7 +65,7 @@ const ONE_POINT: &[u8] = b"\x00\x0C\x10\x03\x00\x00\x00\x07\xFF\xFF\xFF\xF7";
 const PATHTYPE_NEGATIVE: &[u8] = b"\x00\x06\x21\x02\xFF\xFF";
 
 /// Shapes behind the front, the first at 94, and what is kept.
-const SHAPES: &[(&str, &[&[u8]], &[Wanted])] = rows! {
+const SHAPES: &[Row] = rows! {
     "empty_layout": &[] => &[];
     "two bars": TWO_BARS => BARS;
     "records in another order, and all that a boundary may have":
@@ -91,11 +94,14 @@ const SHAPES: &[(&str, &[&[u8]], &[Wanted])] = rows! {
     } => &[];
 };
 
+/// The rows. A function that does more takes long to prove where it names so many slices.
+fn shape_rows() -> &'static [Row] {
+    SHAPES
+}
+
 #[test]
 fn shapes_are_kept(rt: HostRuntime) {
-    for (name, records, wanted) in SHAPES {
-        assert!(rt; are_kept(rt.alloc(), records, wanted), "{name}");
-    }
+    expect_kept(&rt, rt.alloc(), shape_rows());
 }
 
 /// Magnification by 1 in another spelling.
@@ -107,29 +113,30 @@ const ANGLE_0: &[u8] = b"\x00\x0C\x1C\x05\x00\x00\x00\x00\x00\x00\x00\x00";
 const ANGLE_MINUS_360: &[u8] = b"\x00\x0C\x1C\x05\xC3\x16\x80\x00\x00\x00\x00\x00";
 
 /// What a placement of `S` at the origin says of its turn: whether it mirrors, and by how many quarters it turns.
-const TURNS: &[(&str, &[&[u8]], bool, u8)] = rows! {
-    "plain": &[SREF_S, ORIGIN_END] => false, 0;
-    "magnified by 1": &[SREF_S, MAG_1, ORIGIN_END] => false, 0;
-    "magnified by 1, spelled longer": &[SREF_S, MAG_1_SPELLED_LONGER, ORIGIN_END] => false, 0;
-    "angle 0": &[SREF_S, ANGLE_0, ORIGIN_END] => false, 0;
-    "angle 90": &[SREF_S, ANGLE_90, ORIGIN_END] => false, 1;
-    "angle 180": &[SREF_S, ANGLE_180, ORIGIN_END] => false, 2;
-    "angle 270": &[SREF_S, ANGLE_270, ORIGIN_END] => false, 3;
-    "angle 360": &[SREF_S, ANGLE_360, ORIGIN_END] => false, 0;
-    "angle -90": &[SREF_S, ANGLE_MINUS_90, ORIGIN_END] => false, 3;
-    "angle -360": &[SREF_S, ANGLE_MINUS_360, ORIGIN_END] => false, 0;
-    "mirrored": &[SREF_S, STRANS_MIRROR, ORIGIN_END] => true, 0;
-    "mirrored and turned": &[SREF, ANGLE_270, MAG_1, STRANS_MIRROR, ORIGIN, SNAME_S, ENDEL] => true, 3;
-    "ignored bits of STRANS": &[SREF_S, STRANS_IGNORED, ORIGIN_END] => false, 0;
+const TURNS: &[Row] = rows! {
+    "plain": &[SREF_S, ORIGIN_END] => placement!(false, 0);
+    "magnified by 1": &[SREF_S, MAG_1, ORIGIN_END] => placement!(false, 0);
+    "magnified by 1, spelled longer": &[SREF_S, MAG_1_SPELLED_LONGER, ORIGIN_END] => placement!(false, 0);
+    "angle 0": &[SREF_S, ANGLE_0, ORIGIN_END] => placement!(false, 0);
+    "angle 90": &[SREF_S, ANGLE_90, ORIGIN_END] => placement!(false, 1);
+    "angle 180": &[SREF_S, ANGLE_180, ORIGIN_END] => placement!(false, 2);
+    "angle 270": &[SREF_S, ANGLE_270, ORIGIN_END] => placement!(false, 3);
+    "angle 360": &[SREF_S, ANGLE_360, ORIGIN_END] => placement!(false, 0);
+    "angle -90": &[SREF_S, ANGLE_MINUS_90, ORIGIN_END] => placement!(false, 3);
+    "angle -360": &[SREF_S, ANGLE_MINUS_360, ORIGIN_END] => placement!(false, 0);
+    "mirrored": &[SREF_S, STRANS_MIRROR, ORIGIN_END] => placement!(true, 0);
+    "mirrored and turned": &[SREF, ANGLE_270, MAG_1, STRANS_MIRROR, ORIGIN, SNAME_S, ENDEL] => placement!(true, 3);
+    "ignored bits of STRANS": &[SREF_S, STRANS_IGNORED, ORIGIN_END] => placement!(false, 0);
 };
+
+/// The rows.
+fn turn_rows() -> &'static [Row] {
+    TURNS
+}
 
 #[test]
 fn placements_are_kept(rt: HostRuntime) {
-    for (name, records, reflect, quarters) in TURNS {
-        let origin = Point { x: 0, y: 0 };
-        let wanted = Wanted::Reference(94, b"S", *reflect, *quarters, origin, None);
-        assert!(rt; are_kept(rt.alloc(), records, &[wanted]), "{name}");
-    }
+    expect_kept(&rt, rt.alloc(), turn_rows());
 }
 
 /// The most columns and rows.
@@ -147,23 +154,26 @@ const LEAST: Point = Point {
 };
 
 /// Arrays behind the front, and what is kept.
-const ARRAYS: &[(&str, &[&[u8]], Wanted)] = rows! {
+const ARRAYS: &[Row] = rows! {
     // the steps are as given, and are not turned again
     "array_turned_90": &[AREF_S, ANGLE_90, COLUMNS_3_ROWS_2, TURNED_LATTICE, ENDEL]
-        => Wanted::Reference(94, b"S", false, 1, Point { x: 0, y: 0 }, Some((3, 2, (0, 10), (-10, 0))));
+        => &[Wanted::Reference(94, b"S", false, 1, ORIGIN_POINT, Some((3, 2, (0, 10), (-10, 0))))];
     "array_turned_minus_90": &[AREF_S, ANGLE_MINUS_90, COLUMNS_3_ROWS_2, TURNED_LATTICE, ENDEL]
-        => Wanted::Reference(94, b"S", false, 3, Point { x: 0, y: 0 }, Some((3, 2, (0, 10), (-10, 0))));
+        => &[Wanted::Reference(94, b"S", false, 3, ORIGIN_POINT, Some((3, 2, (0, 10), (-10, 0))))];
     "steps past the coordinates": &[AREF, SNAME_LONG, COLUMNS_1_ROWS_1, FAR_LATTICE, ENDEL]
-        => Wanted::Reference(94, b"a\0b", false, 0, LEAST, Some((1, 1, (4_294_967_295, 0), (0, 4_294_967_295))));
+        => &[Wanted::Reference(94, b"a\0b", false, 0, LEAST, Some((1, 1, (4_294_967_295, 0), (0, 4_294_967_295))))];
     "most columns and rows, all in one place": &[AREF_S, COLUMNS_MOST, SAME_PLACE, ENDEL]
-        => Wanted::Reference(94, b"S", false, 0, Point { x: 1, y: 2 }, Some((32_767, 32_767, (0, 0), (0, 0))));
+        => &[Wanted::Reference(94, b"S", false, 0, Point { x: 1, y: 2 }, Some((32_767, 32_767, (0, 0), (0, 0))))];
 };
+
+/// The rows.
+fn array_rows() -> &'static [Row] {
+    ARRAYS
+}
 
 #[test]
 fn arrays_are_kept(rt: HostRuntime) {
-    for (name, records, wanted) in ARRAYS {
-        assert!(rt; are_kept(rt.alloc(), records, &[*wanted]), "{name}");
-    }
+    expect_kept(&rt, rt.alloc(), array_rows());
 }
 
 /// Records of the head, each of which may stand more than once, before the name and behind it.
@@ -198,17 +208,22 @@ fn is_library(
     name: &[u8],
     wanted: &[(u32, &[u8], usize)],
 ) -> bool {
-    let Ok(bytes) = joined(alloc, records) else {
-        return false;
-    };
-    match read(alloc, bytes.as_slice()) {
+    match read_records(alloc, records, &[]) {
         Ok(library) => has_structures(&library, name, wanted),
         Err(_) => false,
     }
 }
 
-/// Whole streams: the name of the library, and its structures.
-const LIBRARIES: &[(&str, &[&[u8]], &[u8], &[(u32, &[u8], usize)])] = rows! {
+/// What a row is about, the records of a whole stream, the name of the library, and its structures.
+type LibraryRow = (
+    &'static str,
+    &'static [&'static [u8]],
+    &'static [u8],
+    &'static [(u32, &'static [u8], usize)],
+);
+
+/// Whole streams.
+const LIBRARIES: &[LibraryRow] = rows! {
     "no structure": &[HEAD, ENDLIB] => b"L", &[];
     "an empty structure without a name": &[HEAD, BGNSTR, STRNAME_EMPTY, ENDSTR, ENDLIB] => b"L", &[(60, b"", 0)];
     "a reference, and behind it what it names": records! {
@@ -220,9 +235,14 @@ const LIBRARIES: &[(&str, &[&[u8]], &[u8], &[(u32, &[u8], usize)])] = rows! {
     } => b"a\x00b", &[(100, b"T", 0)];
 };
 
+/// The rows.
+fn library_rows() -> &'static [LibraryRow] {
+    LIBRARIES
+}
+
 #[test]
 fn libraries_are_kept(rt: HostRuntime) {
-    for (about, records, name, structures) in LIBRARIES {
+    for (about, records, name, structures) in library_rows() {
         assert!(rt;
             is_library(rt.alloc(), records, name, structures),
             "{about}"

@@ -1,8 +1,10 @@
 use super::records::*;
-use super::streams::{is_refused, read, stream_of};
+use super::streams::{is_refusal, read, read_elements};
+use crate::told::says;
 use gds_records::{RecordFault, kinds};
-use gds_syntax::SyntaxFault;
+use gds_syntax::SyntaxFault::{self, Missing, Unexpected};
 use std::alloc::Global;
+use std::process::Abort;
 
 /// Bytes that are no stream: the number and the place of the refusal.
 const NO_STREAMS: &[(&str, &[u8], u8, u64)] = &[
@@ -18,15 +20,19 @@ const NO_STREAMS: &[(&str, &[u8], u8, u64)] = &[
 #[test]
 fn no_streams_are_refused(rt: HostRuntime) {
     for (name, bytes, number, place) in NO_STREAMS {
-        assert!(rt; is_refused(rt.alloc(), bytes, *number, *place), "{name}");
+        let read = read(rt.alloc(), bytes);
+        assert!(rt; is_refusal(read, *number, *place), "{name}");
     }
 }
 
-/// Whether the stream with these records is refused with this number at this place.
-fn are_refused(alloc: Global, records: &[&[u8]], number: u8, place: u64) -> bool {
-    match stream_of(alloc, records) {
-        Ok(bytes) => is_refused(alloc, bytes.as_slice(), number, place),
-        Err(_) => false,
+/// What a row is about, the records behind the front, the first at 94, and the number and the place of the refusal.
+type Row = (&'static str, &'static [&'static [u8]], u8, u64);
+
+/// Stops the test at a row that is not refused so.
+fn expect_refused(rt: &impl Abort, alloc: Global, rows: &[Row]) {
+    for (name, records, number, place) in rows {
+        let read = read_elements(alloc, records);
+        assert!(rt; is_refusal(read, *number, *place), "{name}");
     }
 }
 
@@ -93,7 +99,7 @@ const COLUMNS_3_ROWS_1: &[u8] = b"\x00\x08\x13\x02\x00\x03\x00\x01";
 const COLUMNS_1_ROWS_3: &[u8] = b"\x00\x08\x13\x02\x00\x01\x00\x03";
 
 /// Elements behind the front, the first at 94: the number and the place of the refusal.
-const ELEMENTS: &[(&str, &[&[u8]], u8, u64)] = rows! {
+const ELEMENTS: &[Row] = rows! {
     "boundary_without_layer": &[BOUNDARY, DATATYPE_0, SQUARE_END] => 15, 94;
     "boundary_of_three_points": &[BOUNDARY_ON_1, CORNERS_3, ENDEL] => 17, 94;
     "boundary_not_closed": &[BOUNDARY_ON_1, ENDS_BESIDE, ENDEL] => 18, 94;
@@ -136,11 +142,14 @@ const ELEMENTS: &[(&str, &[&[u8]], u8, u64)] = rows! {
     "no columns, then uneven": &[AREF_S, COLUMNS_0_ROWS_3, ACROSS_AND_UP, ENDEL] => 22, 94;
 };
 
+/// The rows. A function that does more takes long to prove where it names so many slices.
+fn element_rows() -> &'static [Row] {
+    ELEMENTS
+}
+
 #[test]
 fn elements_are_refused(rt: HostRuntime) {
-    for (name, records, number, place) in ELEMENTS {
-        assert!(rt; are_refused(rt.alloc(), records, *number, *place), "{name}");
-    }
+    expect_refused(&rt, rt.alloc(), element_rows());
 }
 
 /// A name that is filled further, and records that do not stand within a structure.
@@ -161,7 +170,7 @@ const HALF_A_POINT: &[u8] = b"\x00\x08\x10\x03\x00\x00\x00\x00";
 const TOO_LONG: &[u8] = b"\x7F\xFE\x0D\x02\x00\x01";
 
 /// Records behind the front, the first at 94: the number and the place of the refusal.
-const RECORDS: &[(&str, &[&[u8]], u8, u64)] = rows! {
+const RECORDS: &[Row] = rows! {
     "layer_twice": &[BOUNDARY, LAYER_1, LAYER_1, DATATYPE_0, SQUARE_END] => 14, 104;
     // records that may not stand where they do
     "own record in no element": &[LAYER_1] => 14, 94;
@@ -202,68 +211,71 @@ const RECORDS: &[(&str, &[&[u8]], u8, u64)] = rows! {
     "name twice, then a bad element": &[ENDSTR, BGNSTR_SHORT, STRNAME_T, BOUNDARY, ENDEL] => 16, 102;
 };
 
+/// The rows.
+fn record_rows() -> &'static [Row] {
+    RECORDS
+}
+
 #[test]
 fn records_are_refused(rt: HostRuntime) {
-    for (name, records, number, place) in RECORDS {
-        assert!(rt; are_refused(rt.alloc(), records, *number, *place), "{name}");
-    }
+    expect_refused(&rt, rt.alloc(), record_rows());
 }
 
 /// Whether this is the fault of the stream with these records.
 fn have_fault(alloc: Global, records: &[&[u8]], fault: SyntaxFault) -> bool {
-    let Ok(bytes) = stream_of(alloc, records) else {
-        return false;
-    };
-    match read(alloc, bytes.as_slice()) {
+    match read_elements(alloc, records) {
         Ok(_) => false,
         Err(found) => found == fault,
     }
 }
 
-/// Elements behind the front, the first at 94, and the kind of the record that is missing: the least, where several are.
-const MISSING: &[(&str, &[&[u8]], u8)] = rows! {
-    "boundary of nothing": &[BOUNDARY, ENDEL] => kinds::LAYER;
-    "boundary on a layer": &[BOUNDARY, LAYER_1, ENDEL] => kinds::DATATYPE;
-    "boundary of no points": &[BOUNDARY_ON_1, ENDEL] => kinds::XY;
-    "path of a datatype": &[PATH, DATATYPE_0, ENDEL] => kinds::LAYER;
-    "reference of nothing": &[SREF, ENDEL] => kinds::XY;
-    "reference to nothing": &[SREF, ORIGIN_END] => kinds::SNAME;
-    "array of nothing": &[AREF, ORIGIN_END] => kinds::SNAME;
-    "array of no columns": &[AREF, ORIGIN, SNAME_S, ENDEL] => kinds::COLROW;
-    "text on a layer": &[TEXT, LAYER_1, ENDEL] => kinds::XY;
-    "text of no type": &[TEXT, LAYER_1, ORIGIN_END] => kinds::TEXTTYPE;
-    "text of no words": &[TEXT, LAYER_1, ORIGIN, TEXTTYPE_0, ENDEL] => kinds::STRING;
-    "node on a layer": &[NODE, LAYER_1, ENDEL] => kinds::XY;
-    "node of no type": &[NODE, LAYER_1, ORIGIN_END] => kinds::NODETYPE;
-    "box of no type": &[BOX, LAYER_1, ORIGIN_END] => kinds::BOXTYPE;
-};
+/// What a row is about, the records behind the front, the first at 94, and the fault.
+type FaultRow = (&'static str, &'static [&'static [u8]], SyntaxFault);
 
-#[test]
-fn missing_records_are_told(rt: HostRuntime) {
-    for (about, records, kind) in MISSING {
-        let fault = SyntaxFault::Missing {
-            at: 94,
-            kind: *kind,
-        };
-        assert!(rt; have_fault(rt.alloc(), records, fault), "{about}");
+/// Stops the test at a row that has another fault.
+fn expect_fault(rt: &impl Abort, alloc: Global, rows: &[FaultRow]) {
+    for (about, records, fault) in rows {
+        assert!(rt; have_fault(alloc, records, *fault), "{about}");
     }
 }
 
+/// Elements behind the front, the first at 94, and the kind of the record that is missing: the least, where several are.
+const MISSING: &[FaultRow] = rows! {
+    "boundary of nothing": &[BOUNDARY, ENDEL] => Missing { at: 94, kind: kinds::LAYER };
+    "boundary on a layer": &[BOUNDARY, LAYER_1, ENDEL] => Missing { at: 94, kind: kinds::DATATYPE };
+    "boundary of no points": &[BOUNDARY_ON_1, ENDEL] => Missing { at: 94, kind: kinds::XY };
+    "path of a datatype": &[PATH, DATATYPE_0, ENDEL] => Missing { at: 94, kind: kinds::LAYER };
+    "reference of nothing": &[SREF, ENDEL] => Missing { at: 94, kind: kinds::XY };
+    "reference to nothing": &[SREF, ORIGIN_END] => Missing { at: 94, kind: kinds::SNAME };
+    "array of nothing": &[AREF, ORIGIN_END] => Missing { at: 94, kind: kinds::SNAME };
+    "array of no columns": &[AREF, ORIGIN, SNAME_S, ENDEL] => Missing { at: 94, kind: kinds::COLROW };
+    "text on a layer": &[TEXT, LAYER_1, ENDEL] => Missing { at: 94, kind: kinds::XY };
+    "text of no type": &[TEXT, LAYER_1, ORIGIN_END] => Missing { at: 94, kind: kinds::TEXTTYPE };
+    "text of no words": &[TEXT, LAYER_1, ORIGIN, TEXTTYPE_0, ENDEL] => Missing { at: 94, kind: kinds::STRING };
+    "node on a layer": &[NODE, LAYER_1, ENDEL] => Missing { at: 94, kind: kinds::XY };
+    "node of no type": &[NODE, LAYER_1, ORIGIN_END] => Missing { at: 94, kind: kinds::NODETYPE };
+    "box of no type": &[BOX, LAYER_1, ORIGIN_END] => Missing { at: 94, kind: kinds::BOXTYPE };
+};
+
+/// The rows.
+fn missing_rows() -> &'static [FaultRow] {
+    MISSING
+}
+
+#[test]
+fn missing_records_are_told(rt: HostRuntime) {
+    expect_fault(&rt, rt.alloc(), missing_rows());
+}
+
 /// Records behind the front, and the offset and the kind of the one that may not stand there.
-const UNEXPECTED: &[(&str, &[&[u8]], u32, u8)] = rows! {
-    "end of the library": &[ENDLIB] => 94, kinds::ENDLIB;
-    "width of a boundary": &[BOUNDARY, WIDTH_4] => 98, kinds::WIDTH;
+const UNEXPECTED: &[FaultRow] = rows! {
+    "end of the library": &[ENDLIB] => Unexpected { at: 94, kind: kinds::ENDLIB };
+    "width of a boundary": &[BOUNDARY, WIDTH_4] => Unexpected { at: 98, kind: kinds::WIDTH };
 };
 
 #[test]
 fn unexpected_records_are_told(rt: HostRuntime) {
-    for (about, records, at, kind) in UNEXPECTED {
-        let fault = SyntaxFault::Unexpected {
-            at: *at,
-            kind: *kind,
-        };
-        assert!(rt; have_fault(rt.alloc(), records, fault), "{about}");
-    }
+    expect_fault(&rt, rt.alloc(), UNEXPECTED);
 }
 
 /// What is told of each fault, the fault, its number and its place.
@@ -284,10 +296,7 @@ const TOLD: &[(&str, SyntaxFault, u8, u64)] = rows! {
 
 /// Whether the fault is told so.
 fn is_told(alloc: Global, fault: SyntaxFault, number: u8, place: u64, wanted: &str) -> bool {
-    match format!(in alloc; "{fault}") {
-        Ok(text) => fault.number() == number && fault.place() == place && text.as_str() == wanted,
-        Err(_) => false,
-    }
+    fault.number() == number && fault.place() == place && says(alloc, &fault, wanted)
 }
 
 #[test]
@@ -295,7 +304,7 @@ fn faults_are_told(rt: HostRuntime) {
     for (text, fault, number, place) in TOLD {
         assert!(rt;
             is_told(rt.alloc(), *fault, *number, *place, text),
-            "{fault:?}"
+            "{text}"
         );
     }
 }

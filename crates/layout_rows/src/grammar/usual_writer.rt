@@ -1,8 +1,8 @@
 //! What a usual writer of layouts puts into a stream besides shapes.
 
 use super::records::*;
-use super::streams::{joined, read};
-use super::wanted::{RIGHT_SQUARE_POINTS, SQUARE_POINTS, Wanted, has_elements, has_structures};
+use super::streams::read_records;
+use super::wanted::{RIGHT_SQUARE_POINTS, SQUARE_POINTS, Wanted, has_one_structure};
 use gds_syntax::{Library, ShapeKind};
 use geo_core::Point;
 use std::alloc::Global;
@@ -77,6 +77,11 @@ const STREAM: &[&[u8]] = records! {
     ENDSTR ENDLIB
 };
 
+/// Its records. A function that does more takes long to prove where it names so many slices.
+fn stream() -> &'static [&'static [u8]] {
+    STREAM
+}
+
 /// The points of the slanted outline, and those of the line.
 const SLANTED_POINTS: &[Point] = &[
     Point { x: 0, y: 0 },
@@ -97,26 +102,12 @@ const KEPT: &[Wanted] = &[
 
 /// Whether this is the library of the stream.
 fn is_library(library: &Library) -> bool {
-    has_structures(library, b"TOP_LIB", &[(100, b"T", 4)])
-        && library.units == *UNITS_BODY
-        && library
-            .structures
-            .as_slice()
-            .iter()
-            .all(|structure| has_elements(structure, KEPT))
+    library.units == *UNITS_BODY && has_one_structure(library, b"TOP_LIB", 100, KEPT)
 }
 
 /// Whether the stream is read, with these records behind its end.
 fn is_read(alloc: Global, padding: &[&[u8]]) -> bool {
-    let Ok(mut bytes) = joined(alloc, STREAM) else {
-        return false;
-    };
-    for piece in padding {
-        if bytes.extend_from_slice(piece).is_err() {
-            return false;
-        }
-    }
-    match read(alloc, bytes.as_slice()) {
+    match read_records(alloc, stream(), padding) {
         Ok(library) => is_library(&library),
         Err(_) => false,
     }

@@ -21,24 +21,34 @@ pub const TWO_BARS: &[&[u8]] = &[
     ENDEL,
 ];
 
-/// These records, one behind the other.
-pub fn joined(alloc: Global, records: &[&[u8]]) -> Result<Vec<u8>, AllocError> {
-    let mut bytes = Vec::new(alloc);
+/// The ends of the structure and of the library.
+pub const END: &[&[u8]] = &[ENDSTR, ENDLIB];
+
+/// Appends these records, one behind the other.
+fn append(bytes: &mut Vec<u8>, records: &[&[u8]]) -> Result<(), AllocError> {
     for record in records {
         bytes.extend_from_slice(record)?;
     }
+    Ok(())
+}
+
+/// The records of three lists, one behind the other.
+pub fn joined(
+    alloc: Global,
+    front: &[&[u8]],
+    records: &[&[u8]],
+    end: &[&[u8]],
+) -> Result<Vec<u8>, AllocError> {
+    let mut bytes = Vec::new(alloc);
+    append(&mut bytes, front)?;
+    append(&mut bytes, records)?;
+    append(&mut bytes, end)?;
     Ok(bytes)
 }
 
 /// The stream with these records behind its front, and then the end of the structure and of the library.
 pub fn stream_of(alloc: Global, records: &[&[u8]]) -> Result<Vec<u8>, AllocError> {
-    let mut bytes = joined(alloc, FRONT)?;
-    for record in records {
-        bytes.extend_from_slice(record)?;
-    }
-    bytes.extend_from_slice(ENDSTR)?;
-    bytes.extend_from_slice(ENDLIB)?;
-    Ok(bytes)
+    joined(alloc, FRONT, records, END)
 }
 
 /// The library of a stream of at most a million bytes.
@@ -53,9 +63,28 @@ pub fn read(alloc: Global, bytes: &[u8]) -> Result<Library, SyntaxFault>
     read_library(alloc, bytes)
 }
 
-/// Whether the bytes are refused with this number at this place.
-pub fn is_refused(alloc: Global, bytes: &[u8], number: u8, place: u64) -> bool {
-    match read(alloc, bytes) {
+/// The library of the stream with these records behind its front.
+pub fn read_elements(alloc: Global, records: &[&[u8]]) -> Result<Library, SyntaxFault>
+    ensures names_differ { IfOk result (λ library. AreDifferent (names_of library.structures)) }
+    ensures few_structures { IfOk result (λ library. length library.structures < 2 ^ 32) }
+{
+    let bytes = stream_of(alloc, records)?;
+    read(alloc, bytes.as_slice())
+}
+
+/// The library of these records, with more of them behind it.
+pub fn read_records(
+    alloc: Global,
+    records: &[&[u8]],
+    more: &[&[u8]],
+) -> Result<Library, SyntaxFault> {
+    let bytes = joined(alloc, records, more, &[])?;
+    read(alloc, bytes.as_slice())
+}
+
+/// Whether reading was refused with this number at this place.
+pub fn is_refusal(read: Result<Library, SyntaxFault>, number: u8, place: u64) -> bool {
+    match read {
         Ok(_) => false,
         Err(fault) => fault.number() == number && fault.place() == place,
     }

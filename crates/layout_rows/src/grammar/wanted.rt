@@ -16,6 +16,9 @@ pub enum Wanted {
 /// Columns and rows, and how far each is from the one before.
 pub type WantedLattice = (u16, u16, (i64, i64), (i64, i64));
 
+/// The origin.
+pub const ORIGIN_POINT: Point = Point { x: 0, y: 0 };
+
 /// The corners of `[0,10)x[0,10)` and of `[14,24)x[0,10)`.
 pub const SQUARE_POINTS: &[Point] = &[
     Point { x: 0, y: 0 },
@@ -88,13 +91,26 @@ fn is_element(element: &Element, wanted: &Wanted) -> bool {
 }
 
 /// Whether the structure has just these elements.
-pub fn has_elements(structure: &Structure, wanted: &[Wanted]) -> bool {
+fn has_elements(structure: &Structure, wanted: &[Wanted]) -> bool {
     let elements = structure.elements.as_slice();
     elements.len() == wanted.len()
         && elements
             .iter()
             .zip(wanted)
             .all(|(element, wanted)| is_element(element, wanted))
+}
+
+/// Whether the library has this name and one structure `T`, which begins at this offset and has just these elements.
+pub fn has_one_structure(library: &Library, name: &[u8], at: u32, wanted: &[Wanted]) -> bool {
+    match library.structures.as_slice() {
+        [structure] => {
+            library.name.as_slice() == name
+                && structure.at == at
+                && structure.name.as_slice() == b"T".as_slice()
+                && has_elements(structure, wanted)
+        }
+        _ => false,
+    }
 }
 
 /// Whether the library has this name and these structures, each with its offset, its name and its number of elements.

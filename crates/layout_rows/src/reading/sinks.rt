@@ -171,7 +171,7 @@ fn is_read(rt: &HostRuntime, path: &str, wanted: &[u8]) -> bool {
 
 /// The path of a file for this test alone.
 fn path_of_a_file(rt: &HostRuntime) -> Result<PathBuf, Fail> {
-    let name = format!(in rt.alloc(); "reading_rows_{}", process::id(rt.process()))?;
+    let name = format!(in rt.alloc(); "layout_rows_{}", process::id(rt.process()))?;
     Ok(env::temp_dir(rt)?.join(rt.alloc(), name.as_str())?)
 }
 

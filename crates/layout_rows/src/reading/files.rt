@@ -1,3 +1,4 @@
+use crate::told::says;
 use edge_io::{Files, MemFiles, OsFiles, ReadError, read_whole};
 use lists::Name;
 use std::alloc::{AllocError, Global};
@@ -10,10 +11,9 @@ fn reads(
     limit: u16,
     want: Result<&[u8], ReadError>,
 ) -> bool {
-    match (read_whole(alloc, files, name, usize::from(limit)), want) {
-        (Ok(bytes), Ok(wanted)) => bytes.as_slice() == wanted,
-        (Err(error), Err(wanted)) => error == wanted,
-        _ => false,
+    match read_whole(alloc, files, name, usize::from(limit)) {
+        Ok(bytes) => want == Ok(bytes.as_slice()),
+        Err(error) => want == Err(error),
     }
 }
 
@@ -81,18 +81,10 @@ const TEXTS: &[(ReadError, &str)] = &[
     (ReadError::Memory, "no memory is left"),
 ];
 
-/// Whether the error says this.
-fn says(alloc: Global, error: ReadError, text: &str) -> bool {
-    match format!(in alloc; "{error}") {
-        Ok(said) => said.as_str() == text,
-        Err(_) => false,
-    }
-}
-
 #[test]
 fn errors_say_what_is_wrong(rt: HostRuntime) {
     for (error, text) in TEXTS {
-        assert!(rt; says(rt.alloc(), *error, text), "{text}");
+        assert!(rt; says(rt.alloc(), error, text), "{text}");
     }
 }
 
