@@ -1,4 +1,4 @@
-use super::samples::{comes_to, outcome};
+use super::samples::{Row, expect_changes, reads_as};
 use std::alloc::{AllocError, Global};
 
 /// The text so many times, after a beginning.
@@ -13,7 +13,7 @@ fn repeated(alloc: Global, first: &str, text: &str, count: usize) -> Result<Stri
 /// Whether the text so many times, after a beginning, is no document.
 fn is_no_document(alloc: Global, first: &str, text: &str, count: usize) -> bool {
     match repeated(alloc, first, text, count) {
-        Ok(all) => outcome(alloc, all.as_bytes()) == (40, 0),
+        Ok(all) => reads_as(alloc, all.as_bytes(), (40, 0)),
         Err(_) => false,
     }
 }
@@ -55,12 +55,12 @@ const BYTES: &[&[u8]] = &[
 #[test]
 fn other_bytes_are_refused(rt: HostRuntime) {
     for bytes in BYTES {
-        assert!(rt; outcome(rt.alloc(), bytes) == (40, 0), "{bytes:?}");
+        assert!(rt; reads_as(rt.alloc(), bytes, (40, 0)), "{bytes:?}");
     }
 }
 
 /// Parts of the sample, what stands there instead, and what that comes to.
-const OTHER_VALUES: &[(&str, &str, (u8, u64))] = &[
+const OTHER_VALUES: &[Row] = &[
     ("version = 1", "version = 1979-05-27", (42, 2)),
     ("version = 1", "version = true", (42, 2)),
     ("version = 1", "version = 18446744073709551617", (40, 0)),
@@ -94,7 +94,5 @@ const OTHER_VALUES: &[(&str, &str, (u8, u64))] = &[
 /// Values of other kinds, and numbers that are too great.
 #[test]
 fn other_values_are_refused(rt: HostRuntime) {
-    for (old, new, want) in OTHER_VALUES {
-        assert!(rt; comes_to(rt.alloc(), old, new, *want), "{new}");
-    }
+    expect_changes(&rt, rt.alloc(), OTHER_VALUES);
 }

@@ -1,4 +1,4 @@
-use super::samples::outcome;
+use super::samples::reads_as;
 use std::alloc::{AllocError, Global};
 
 /// How many there are of each thing in a map, whose items are as short as may be.
@@ -27,17 +27,20 @@ const MOST: Counts = Counts {
     terminals: 10_000,
 };
 
-fn add_radii(text: &mut String, count: u32) -> Result<(), AllocError> {
-    text.push_str("version = 1\nradii = [")?;
+/// Adds the key, and an array of so many numbers from the first on.
+fn add_numbers(text: &mut String, key: &str, first: u32, count: u32) -> Result<(), AllocError> {
+    text.push_str(key)?;
     for k in 0..count {
-        let radius = k.saturating_add(1);
-        write!(text, "{radius}, ")?;
-    }
-    text.push_str("]\nweights = [")?;
-    for k in 0..count {
-        write!(text, "{k}, ")?;
+        let number = k.saturating_add(first);
+        write!(text, "{number}, ")?;
     }
     text.push_str("]\n")
+}
+
+/// Adds the version, radii from 1 on, and weights from 0 on.
+fn add_sizes(text: &mut String, count: u32) -> Result<(), AllocError> {
+    add_numbers(text, "version = 1\nradii = [", 1, count)?;
+    add_numbers(text, "weights = [", 0, count)
 }
 
 /// The pairs of the layer with this number: no two layers have the same first number.
@@ -49,17 +52,30 @@ fn add_pairs(text: &mut String, layer: u32, count: u32) -> Result<(), AllocError
     text.push_str("]\n")
 }
 
-fn add_layers(text: &mut String, counts: Counts) -> Result<(), AllocError> {
-    for k in 0..counts.metals {
-        write!(text, "[[metal]]\nname = \"m{k}\"\n")?;
-        add_pairs(text, k, counts.pairs)?;
-    }
-    for k in 0..counts.cuts {
-        write!(
-            text,
-            "[[cut]]\nname = \"v{k}\"\nlower = \"m0\"\nupper = \"m1\"\n"
-        )?;
-        add_pairs(text, k.saturating_add(1000), counts.pairs)?;
+/// What stands before the number of a layer and behind it, and the first numbers of its pairs.
+struct Kind {
+    front: &'static str,
+    back: &'static str,
+    first: u32,
+}
+
+const METAL: Kind = Kind {
+    front: "[[metal]]\nname = \"m",
+    back: "\"\n",
+    first: 0,
+};
+
+const CUT: Kind = Kind {
+    front: "[[cut]]\nname = \"v",
+    back: "\"\nlower = \"m0\"\nupper = \"m1\"\n",
+    first: 1000,
+};
+
+/// Adds so many layers with so many pairs each.
+fn add_layers(text: &mut String, kind: &Kind, count: u32, pairs: u32) -> Result<(), AllocError> {
+    for k in 0..count {
+        write!(text, "{}{k}{}", kind.front, kind.back)?;
+        add_pairs(text, k.saturating_add(kind.first), pairs)?;
     }
     Ok(())
 }
@@ -71,19 +87,24 @@ fn add_terminals(text: &mut String, count: u32) -> Result<(), AllocError> {
     Ok(())
 }
 
+fn add_map(text: &mut String, counts: Counts) -> Result<(), AllocError> {
+    add_sizes(text, counts.radii)?;
+    add_layers(text, &METAL, counts.metals, counts.pairs)?;
+    add_layers(text, &CUT, counts.cuts, counts.pairs)?;
+    add_terminals(text, counts.terminals)
+}
+
 /// The text of a map with so many of each.
 fn text_of(alloc: Global, counts: Counts) -> Result<String, AllocError> {
     let mut text = String::new(alloc);
-    add_radii(&mut text, counts.radii)?;
-    add_layers(&mut text, counts)?;
-    add_terminals(&mut text, counts.terminals)?;
+    add_map(&mut text, counts)?;
     Ok(text)
 }
 
 /// Whether a map with so many of each comes to this.
 fn comes_to(alloc: Global, counts: Counts, want: (u8, u64)) -> bool {
     match text_of(alloc, counts) {
-        Ok(text) => outcome(alloc, text.as_bytes()) == want,
+        Ok(text) => reads_as(alloc, text.as_bytes(), want),
         Err(_) => false,
     }
 }

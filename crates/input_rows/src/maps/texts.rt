@@ -1,3 +1,4 @@
+use crate::told::says;
 use layer_map::MapFault;
 use std::alloc::Global;
 
@@ -43,16 +44,13 @@ const TEXTS: &[(MapFault, (u8, u64), &str)] = &[
 ];
 
 /// Whether the fault has this number and this place, and says this.
-fn says(alloc: Global, fault: MapFault, told: (u8, u64), text: &str) -> bool {
-    match format!(in alloc; "{fault}") {
-        Ok(said) => (fault.number(), fault.place()) == told && said.as_str() == text,
-        Err(_) => false,
-    }
+fn is_told(alloc: Global, fault: MapFault, told: (u8, u64), text: &str) -> bool {
+    (fault.number(), fault.place()) == told && says(alloc, &fault, text)
 }
 
 #[test]
 fn faults_say_what_is_wrong(rt: HostRuntime) {
     for (fault, told, text) in TEXTS {
-        assert!(rt; says(rt.alloc(), *fault, *told, text), "{text}");
+        assert!(rt; is_told(rt.alloc(), *fault, *told, text), "{text}");
     }
 }

@@ -1,11 +1,7 @@
-use super::samples::{SAMPLE, comes_to, outcome};
+use super::samples::{Row, SAMPLE, expect_changes, reads_as};
 
-#[test]
-fn map_sample(rt: HostRuntime) {
-    assert!(rt; outcome(rt.alloc(), SAMPLE.as_bytes()) == (0, 0));
-}
-
-const ONE_FAULT: &[(&str, &str, (u8, u64))] = &[
+/// Maps that say one thing wrong.
+const ONE_FAULT: &[Row] = &[
     // falling radii
     ("radii = [2, 5]", "radii = [5, 2]", (42, 3)),
     // weights of one radius
@@ -26,15 +22,21 @@ const ONE_FAULT: &[(&str, &str, (u8, u64))] = &[
     ),
 ];
 
-/// Maps that say one thing wrong.
 #[test]
 fn maps_with_one_fault(rt: HostRuntime) {
-    for (old, new, want) in ONE_FAULT {
-        assert!(rt; comes_to(rt.alloc(), old, new, *want), "{new}");
-    }
+    expect_changes(&rt, rt.alloc(), ONE_FAULT);
 }
 
-const SHORT_MAPS: &[(&str, (u8, u64))] = &[
+/// A map in one line for each key.
+const INLINE: &str = "version = 1\nradii = [1]\nweights = [1]\ncut = []\nterminal = []\n\
+    metal = [{ name = \"a\", pairs = [[1, 0]] }, { name = \"b\", pairs = [[2, 0]] }]\n";
+
+/// Whole texts, and what they come to.
+const WHOLE_TEXTS: &[(&str, (u8, u64))] = &[
+    // map_sample, and another map
+    (SAMPLE, (0, 0)),
+    (INLINE, (0, 0)),
+    // short_maps
     ("version = 1", (42, 3)),
     ("x", (40, 0)),
     ("q = 1", (41, 1)),
@@ -43,46 +45,48 @@ const SHORT_MAPS: &[(&str, (u8, u64))] = &[
     ("# nothing", (42, 2)),
 ];
 
-/// Whole texts.
 #[test]
-fn short_maps(rt: HostRuntime) {
-    for (text, want) in SHORT_MAPS {
-        assert!(rt; outcome(rt.alloc(), text.as_bytes()) == *want);
+fn whole_texts(rt: HostRuntime) {
+    for (text, want) in WHOLE_TEXTS {
+        assert!(rt; reads_as(rt.alloc(), text.as_bytes(), *want), "{text}");
     }
 }
 
-const SPELLINGS: &[(&str, &str)] = &[
+/// The same document, written in other ways.
+const SPELLINGS: &[Row] = &[
     (
         "[[cut]]\nname = \"v1\"\npairs = [[2, 0]]\nlower = \"m1\"\nupper = \"m2\"\n",
         "",
+        (0, 0),
     ),
-    ("[[terminal]]\nmetal = \"m1\"\nx = 0\ny = 0\n", ""),
-    ("radii = [2, 5]", "radii = [\n  2, # two\n  0x5,\n]"),
-    ("weights = [10, 1]", "weights = [0, 1_000_000_000]"),
-    ("version = 1", "\"version\" = +1"),
-    ("x = 0\ny = 0", "y = 999_999_999\nx = -1_000_000_000"),
-    ("[[1, 0], [1, 20]]", "[[65535, 65535]]"),
+    ("[[terminal]]\nmetal = \"m1\"\nx = 0\ny = 0\n", "", (0, 0)),
+    ("radii = [2, 5]", "radii = [\n  2, # two\n  0x5,\n]", (0, 0)),
+    ("weights = [10, 1]", "weights = [0, 1_000_000_000]", (0, 0)),
+    ("version = 1", "\"version\" = +1", (0, 0)),
+    (
+        "x = 0\ny = 0",
+        "y = 999_999_999\nx = -1_000_000_000",
+        (0, 0),
+    ),
+    ("[[1, 0], [1, 20]]", "[[65535, 65535]]", (0, 0)),
     (
         "[[terminal]]",
         "[[terminal]]\nmetal = \"m2\"\nx = 0\ny = 0\n[[terminal]]",
+        (0, 0),
     ),
     (
         "[[terminal]]",
         "[[terminal]]\nmetal = \"m1\"\nx = 1\ny = 0\n[[terminal]]",
+        (0, 0),
     ),
     (
         "[[terminal]]",
         "[[terminal]]\nmetal = \"m1\"\nx = 0\ny = 1\n[[terminal]]",
+        (0, 0),
     ),
 ];
 
-/// The same document, written in other ways.
 #[test]
 fn other_spellings_of_the_sample(rt: HostRuntime) {
-    for (old, new) in SPELLINGS {
-        assert!(rt; comes_to(rt.alloc(), old, new, (0, 0)), "{new}");
-    }
-    let inline = "version = 1\nradii = [1]\nweights = [1]\ncut = []\nterminal = []\n\
-        metal = [{ name = \"a\", pairs = [[1, 0]] }, { name = \"b\", pairs = [[2, 0]] }]\n";
-    assert!(rt; outcome(rt.alloc(), inline.as_bytes()) == (0, 0));
+    expect_changes(&rt, rt.alloc(), SPELLINGS);
 }

@@ -2,6 +2,7 @@
 
 use layer_map::read_map;
 use std::alloc::{AllocError, Global};
+use std::process::Abort;
 
 /// Two metals, one cut between them, two radii, and one terminal.
 pub const SAMPLE: &str = "version = 1
@@ -24,16 +25,16 @@ x = 0
 y = 0
 ";
 
-/// What reading comes to: the number and the place of the fault, and 0 and 0 where there is none.
-pub fn outcome(alloc: Global, text: &[u8]) -> (u8, u64) {
+/// Whether reading comes to this: the number and the place of the fault, and 0 and 0 where there is none.
+pub fn reads_as(alloc: Global, text: &[u8], want: (u8, u64)) -> bool {
     match read_map(alloc, text) {
-        Ok(_) => (0, 0),
-        Err(fault) => (fault.number(), fault.place()),
+        Ok(_) => want == (0, 0),
+        Err(fault) => want == (fault.number(), fault.place()),
     }
 }
 
 /// The sample with the first text of this kind replaced.
-pub fn changed(alloc: Global, old: &str, new: &str) -> Result<String, AllocError> {
+fn changed(alloc: Global, old: &str, new: &str) -> Result<String, AllocError> {
     match SAMPLE.split_once(old) {
         Some((before, after)) => format!(in alloc; "{before}{new}{after}"),
         None => String::from_str(alloc, "no such text"),
@@ -41,9 +42,19 @@ pub fn changed(alloc: Global, old: &str, new: &str) -> Result<String, AllocError
 }
 
 /// Whether the sample with the first text of this kind replaced comes to this.
-pub fn comes_to(alloc: Global, old: &str, new: &str, want: (u8, u64)) -> bool {
+fn comes_to(alloc: Global, old: &str, new: &str, want: (u8, u64)) -> bool {
     match changed(alloc, old, new) {
-        Ok(text) => outcome(alloc, text.as_bytes()) == want,
+        Ok(text) => reads_as(alloc, text.as_bytes(), want),
         Err(_) => false,
+    }
+}
+
+/// A part of the sample, what stands there instead, and what that comes to.
+pub type Row = (&'static str, &'static str, (u8, u64));
+
+/// Stops the test at a row that comes to something else.
+pub fn expect_changes(rt: &impl Abort, alloc: Global, rows: &[Row]) {
+    for (old, new, want) in rows {
+        assert!(rt; comes_to(alloc, old, new, *want), "{new}");
     }
 }

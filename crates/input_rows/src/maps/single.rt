@@ -1,11 +1,16 @@
 use super::samples::SAMPLE;
-use layer_map::{LayerName, one_metal, read_map};
+use layer_map::{LayerName, Map, one_metal, read_map};
 use std::alloc::Global;
+
+/// Whether the pair `(1, 0)` is in the first metal of the map, and `(1, 1)` in none.
+fn has_its_pair(map: &Map) -> bool {
+    map.layer_of(1, 0) == Some(0) && map.layer_of(1, 1).is_none()
+}
 
 /// Whether the map of one metal has the pair, and no other.
 fn one_metal_has(alloc: Global) -> bool {
     match one_metal(alloc, 1, 0, 3) {
-        Ok(map) => map.layer_of(1, 0) == Some(0) && map.layer_of(1, 1).is_none(),
+        Ok(map) => has_its_pair(&map),
         Err(_) => false,
     }
 }
@@ -51,38 +56,57 @@ fn is_name(text: &str) -> bool {
     }
 }
 
-const NAMES: &[&str] = &["m", "M1_top", "_", "0", "abcdefghijklmnopqrstuvwxyz_01234"];
-
-const OTHER_TEXTS: &[&str] = &[
-    "",
-    "m-1",
-    "m 1",
-    "m.",
-    "\u{fc}",
-    "abcdefghijklmnopqrstuvwxyz_012345",
+/// Texts, and whether they are names.
+const NAMES: &[(&str, bool)] = &[
+    ("m", true),
+    ("M1_top", true),
+    ("_", true),
+    ("0", true),
+    ("abcdefghijklmnopqrstuvwxyz_01234", true),
+    ("", false),
+    ("m-1", false),
+    ("m 1", false),
+    ("m.", false),
+    ("\u{fc}", false),
+    ("abcdefghijklmnopqrstuvwxyz_012345", false),
 ];
+
+/// Whether the name of the one metal prints as `m`.
+fn is_m() -> bool {
+    LayerName::m().as_str() == "m"
+}
 
 #[test]
 fn names_are_letters_digits_and_underscores(rt: HostRuntime) {
-    for name in NAMES {
-        assert!(rt; is_name(name), "{name}");
+    for (text, want) in NAMES {
+        assert!(rt; is_name(text) == *want, "{text}");
     }
-    for name in OTHER_TEXTS {
-        assert!(rt; !is_name(name), "{name}");
-    }
-    assert!(rt; LayerName::m().as_str() == "m");
+    assert!(rt; is_m());
 }
+
+/// How many metals, cuts and terminals there are.
+fn counts(map: &Map) -> (usize, usize, usize) {
+    (
+        map.metals.as_slice().len(),
+        map.cuts.as_slice().len(),
+        map.terminals.as_slice().len(),
+    )
+}
+
+/// Whether these are the sizes of the sample, and so many metals, cuts and terminals as it has.
+fn is_sample(map: &Map) -> bool {
+    map.radii.as_slice() == RADII && map.weights.as_slice() == WEIGHTS && counts(map) == (2, 1, 1)
+}
+
+/// Radii of the sample, and their weights.
+const RADII: &[u32] = &[2, 5];
+
+const WEIGHTS: &[u64] = &[10, 1];
 
 /// What the sample's metals, cut, terminal and sizes are read as.
 fn sample_reads(alloc: Global) -> bool {
     match read_map(alloc, SAMPLE.as_bytes()) {
-        Ok(map) => {
-            map.radii.as_slice() == [2, 5].as_slice()
-                && map.weights.as_slice() == [10, 1].as_slice()
-                && map.metals.as_slice().len() == 2
-                && map.cuts.as_slice().len() == 1
-                && map.terminals.as_slice().len() == 1
-        }
+        Ok(map) => is_sample(&map),
         Err(_) => false,
     }
 }

@@ -1,4 +1,13 @@
 use super::rows::are_refused;
+use std::alloc::Global;
+use std::process::Abort;
+
+/// Stops the test at a line whose words are not refused.
+fn expect_refused(rt: &impl Abort, alloc: Global, lines: &[&str]) {
+    for line in lines {
+        assert!(rt; are_refused(alloc, line), "{line}");
+    }
+}
 
 /// Words that fit neither form.
 const NO_FORM: &[&str] = &[
@@ -138,28 +147,20 @@ const NUMBERS: &[&str] = &[
 
 #[test]
 fn other_forms_are_refused(rt: HostRuntime) {
-    for line in NO_FORM {
-        assert!(rt; are_refused(rt.alloc(), line), "{line}");
-    }
+    expect_refused(&rt, rt.alloc(), NO_FORM);
 }
 
 #[test]
 fn other_options_are_refused(rt: HostRuntime) {
-    for line in NO_OPTION {
-        assert!(rt; are_refused(rt.alloc(), line), "{line}");
-    }
+    expect_refused(&rt, rt.alloc(), NO_OPTION);
 }
 
 #[test]
 fn empty_texts_are_refused(rt: HostRuntime) {
-    for line in EMPTY {
-        assert!(rt; are_refused(rt.alloc(), line), "{line}");
-    }
+    expect_refused(&rt, rt.alloc(), EMPTY);
 }
 
 #[test]
 fn other_numbers_are_refused(rt: HostRuntime) {
-    for line in NUMBERS {
-        assert!(rt; are_refused(rt.alloc(), line), "{line}");
-    }
+    expect_refused(&rt, rt.alloc(), NUMBERS);
 }

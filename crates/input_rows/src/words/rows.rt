@@ -18,14 +18,19 @@ pub type Row = (&'static str, Asked, u32, u32);
 /// A line of words, and what they ask for: the task, and the structure that they want.
 pub type TopRow = (&'static str, Asked, &'static str);
 
-/// The words of a line, with a bar between two of them. An empty line has none.
-fn words_of(alloc: Global, line: &str) -> Result<Vec<Word>, AllocError> {
-    let mut words = Vec::new(alloc);
-    if line.is_empty() {
-        return Ok(words);
-    }
+/// Adds the words of a line, with a bar between two of them.
+fn add_words(alloc: Global, words: &mut Vec<Word>, line: &str) -> Result<(), AllocError> {
     for word in line.split('|') {
         words.push(Word::from_string(String::from_str(alloc, word)?))?;
+    }
+    Ok(())
+}
+
+/// The words of a line. An empty line has none.
+fn words_of(alloc: Global, line: &str) -> Result<Vec<Word>, AllocError> {
+    let mut words = Vec::new(alloc);
+    if !line.is_empty() {
+        add_words(alloc, &mut words, line)?;
     }
     Ok(words)
 }
@@ -87,26 +92,31 @@ fn top_of(task: &Task) -> Option<&[u8]> {
     }
 }
 
+/// Whether this is asked for with this tile and these workers, and no structure is wanted.
+fn is_asked(request: &Request, asked: &Asked, edge: u32, workers: u32) -> bool {
+    is_task(&request.task, asked)
+        && top_of(&request.task).is_none()
+        && request.edge == edge
+        && request.workers == workers
+}
+
 /// Whether the words of a line ask for this, and want no structure.
 pub fn ask_for(alloc: Global, line: &str, asked: &Asked, edge: u32, workers: u32) -> bool {
     match answer(alloc, line) {
-        Ok(request) => {
-            is_task(&request.task, asked)
-                && top_of(&request.task).is_none()
-                && request.edge == edge
-                && request.workers == workers
-        }
+        Ok(request) => is_asked(&request, asked, edge, workers),
         Err(_) => false,
     }
+}
+
+/// Whether this is asked for, and this structure is wanted.
+fn wants(request: &Request, asked: &Asked, top: &str) -> bool {
+    is_task(&request.task, asked) && top_of(&request.task) == Some(top.as_bytes())
 }
 
 /// Whether the words of a line ask for this, and want this structure.
 pub fn ask_for_top(alloc: Global, line: &str, asked: &Asked, top: &str) -> bool {
     match answer(alloc, line) {
-        Ok(request) => {
-            is_task(&request.task, asked)
-                && top_of(&request.task).is_some_and(|name| name == top.as_bytes())
-        }
+        Ok(request) => wants(&request, asked, top),
         Err(_) => false,
     }
 }

@@ -1,4 +1,13 @@
 use super::rows::{Asked, Row, TopRow, ask_for, ask_for_top};
+use std::alloc::Global;
+use std::process::Abort;
+
+/// Stops the test at a row whose words ask for something else.
+fn expect_asked(rt: &impl Abort, alloc: Global, rows: &[Row]) {
+    for (line, asked, edge, workers) in rows {
+        assert!(rt; ask_for(alloc, line, asked, *edge, *workers), "{line}");
+    }
+}
 
 /// Words of the form of one metal.
 const METAL_ROWS: &[Row] = &[
@@ -165,23 +174,17 @@ const ORDERS: &[&str] = &[
 
 #[test]
 fn one_metal_is_asked_for(rt: HostRuntime) {
-    for (line, asked, edge, workers) in METAL_ROWS {
-        assert!(rt; ask_for(rt.alloc(), line, asked, *edge, *workers), "{line}");
-    }
+    expect_asked(&rt, rt.alloc(), METAL_ROWS);
 }
 
 #[test]
 fn a_generated_layout_is_asked_for(rt: HostRuntime) {
-    for (line, asked, edge, workers) in GENERATED_ROWS {
-        assert!(rt; ask_for(rt.alloc(), line, asked, *edge, *workers), "{line}");
-    }
+    expect_asked(&rt, rt.alloc(), GENERATED_ROWS);
 }
 
 #[test]
 fn a_map_is_asked_for(rt: HostRuntime) {
-    for (line, asked, edge, workers) in MAP_ROWS {
-        assert!(rt; ask_for(rt.alloc(), line, asked, *edge, *workers), "{line}");
-    }
+    expect_asked(&rt, rt.alloc(), MAP_ROWS);
 }
 
 #[test]

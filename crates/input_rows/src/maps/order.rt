@@ -1,4 +1,4 @@
-use super::samples::comes_to;
+use super::samples::{Row, expect_changes};
 
 /// The first metal of the sample, the second, and both.
 const FIRST: &str = "name = \"m1\"\npairs = [[1, 0], [1, 20]]\n";
@@ -15,7 +15,7 @@ const TERMINAL: &str = "metal = \"m1\"\nx = 0\ny = 0\n";
 
 /// Parts of the sample, what stands there instead, and what that comes to: the checks of the document's own keys, where a
 /// later one fails too.
-const DOCUMENTS: &[(&str, &str, (u8, u64))] = &[
+const DOCUMENTS: &[Row] = &[
     (
         "version = 1\nradii = [2, 5]",
         "version = 2\nradii = 5\nq = 1",
@@ -68,13 +68,11 @@ const DOCUMENTS: &[(&str, &str, (u8, u64))] = &[
 
 #[test]
 fn first_faults_of_a_document(rt: HostRuntime) {
-    for (old, new, want) in DOCUMENTS {
-        assert!(rt; comes_to(rt.alloc(), old, new, *want));
-    }
+    expect_changes(&rt, rt.alloc(), DOCUMENTS);
 }
 
 /// The checks of metals, where a later one fails too.
-const METALS: &[(&str, &str, (u8, u64))] = &[
+const METALS: &[Row] = &[
     (FIRST, "name = 1\nq = 1\n", (41, 100)),
     (FIRST, "name = 1\npairs = 1\n", (42, 101)),
     (FIRST, "pairs = 1\n", (42, 101)),
@@ -112,13 +110,11 @@ const METALS: &[(&str, &str, (u8, u64))] = &[
 
 #[test]
 fn first_faults_of_metals(rt: HostRuntime) {
-    for (old, new, want) in METALS {
-        assert!(rt; comes_to(rt.alloc(), old, new, *want));
-    }
+    expect_changes(&rt, rt.alloc(), METALS);
 }
 
 /// The checks of cuts and of terminals, where a later one fails too.
-const CUTS_AND_TERMINALS: &[(&str, &str, (u8, u64))] = &[
+const CUTS_AND_TERMINALS: &[Row] = &[
     (CUT, "name = 1\nq = 1\n", (41, 300)),
     (CUT, "name = 1\npairs = 1\n", (42, 301)),
     (CUT, "name = \"m2\"\npairs = 1\n", (44, 301)),
@@ -185,13 +181,11 @@ const CUTS_AND_TERMINALS: &[(&str, &str, (u8, u64))] = &[
 
 #[test]
 fn first_faults_of_cuts_and_terminals(rt: HostRuntime) {
-    for (old, new, want) in CUTS_AND_TERMINALS {
-        assert!(rt; comes_to(rt.alloc(), old, new, *want), "{new}");
-    }
+    expect_changes(&rt, rt.alloc(), CUTS_AND_TERMINALS);
 }
 
 /// Arrays of what are no tables.
-const NO_TABLES: &[(&str, &str, (u8, u64))] = &[
+const NO_TABLES: &[Row] = &[
     (
         "weights = [10, 1]",
         "weights = [10, 1]\ncut = [1]\nterminal = 1",
@@ -205,7 +199,5 @@ const NO_TABLES: &[(&str, &str, (u8, u64))] = &[
 
 #[test]
 fn items_that_are_no_tables(rt: HostRuntime) {
-    for (old, new, want) in NO_TABLES {
-        assert!(rt; comes_to(rt.alloc(), old, new, *want), "{new}");
-    }
+    expect_changes(&rt, rt.alloc(), NO_TABLES);
 }

@@ -1,0 +1,9 @@
+//! Layer maps: what is read, and the first fault in those that are refused.
+
+mod hostile;
+mod limits;
+mod order;
+mod samples;
+mod single;
+mod texts;
+mod whole;

@@ -1,0 +1,6 @@
+//! Words of a command, and what they ask for.
+
+mod faults;
+mod refused;
+mod requests;
+mod rows;
