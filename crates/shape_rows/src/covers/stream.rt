@@ -1,0 +1,81 @@
+//! Shapes as a stream of one structure.
+
+use crate::stream::{BGNSTR, Corner, ENDLIB, ENDSTR, HEAD, push_points, push_records};
+use gds_syntax::ShapeKind;
+use std::alloc::{AllocError, Global};
+
+/// A shape: what it is, and its points.
+#[derive(Clone, Copy)]
+pub struct Form<'a> {
+    pub kind: ShapeKind,
+    pub corners: &'a [Corner],
+}
+
+/// PATHTYPE, WIDTH, BGNEXTN and ENDEXTN of a path.
+pub type Style = (i16, i32, i32, i32);
+
+/// The path of this style through these points.
+pub fn path((pathtype, width, begin, end): Style, corners: &[Corner]) -> Form<'_> {
+    let kind = ShapeKind::Path {
+        pathtype,
+        width,
+        begin,
+        end,
+    };
+    Form { kind, corners }
+}
+
+/// STRNAME `T`. The first shape begins behind it, at 94.
+const STRNAME: &[u8] = b"\x00\x06\x06\x06T\x00";
+
+/// What opens a boundary, a box or a path on layer 1.
+const BOUNDARY: &[u8] = b"\x00\x04\x08\x00\x00\x06\x0D\x02\x00\x01\x00\x06\x0E\x02\x00\x00";
+
+const BOX: &[u8] = b"\x00\x04\x2D\x00\x00\x06\x0D\x02\x00\x01\x00\x06\x2E\x02\x00\x00";
+
+const PATH: &[u8] = b"\x00\x04\x09\x00\x00\x06\x0D\x02\x00\x01\x00\x06\x0E\x02\x00\x00";
+
+/// What opens a path's PATHTYPE, WIDTH, BGNEXTN and ENDEXTN.
+const PATHTYPE: &[u8] = b"\x00\x06\x21\x02";
+
+const WIDTH: &[u8] = b"\x00\x08\x0F\x03";
+
+const BGNEXTN: &[u8] = b"\x00\x08\x30\x03";
+
+const ENDEXTN: &[u8] = b"\x00\x08\x31\x03";
+
+/// The records of a shape in front of its points.
+fn push_kind(bytes: &mut Vec<u8>, kind: ShapeKind) -> Result<(), AllocError> {
+    match kind {
+        ShapeKind::Boundary => bytes.extend_from_slice(BOUNDARY),
+        ShapeKind::BoxElement => bytes.extend_from_slice(BOX),
+        ShapeKind::Path {
+            pathtype,
+            width,
+            begin,
+            end,
+        } => {
+            push_records(bytes, &[PATH, PATHTYPE, &pathtype.to_be_bytes()])?;
+            push_records(bytes, &[WIDTH, &width.to_be_bytes()])?;
+            push_records(bytes, &[BGNEXTN, &begin.to_be_bytes()])?;
+            push_records(bytes, &[ENDEXTN, &end.to_be_bytes()])
+        }
+    }
+}
+
+/// A structure of these shapes, and the end of the library.
+fn push_forms(bytes: &mut Vec<u8>, forms: &[Form<'_>]) -> Result<(), AllocError> {
+    push_records(bytes, &[BGNSTR, STRNAME])?;
+    for form in forms {
+        push_kind(bytes, form.kind)?;
+        push_points(bytes, form.corners)?;
+    }
+    push_records(bytes, &[ENDSTR, ENDLIB])
+}
+
+/// A stream of one structure that has these shapes.
+pub fn stream_of(alloc: Global, forms: &[Form<'_>]) -> Result<Vec<u8>, AllocError> {
+    let mut bytes = Vec::from_slice(alloc, HEAD)?;
+    push_forms(&mut bytes, forms)?;
+    Ok(bytes)
+}

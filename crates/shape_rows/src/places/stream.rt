@@ -1,0 +1,182 @@
+//! Streams of a few structures, and what they place.
+
+use crate::stream::{BGNSTR, Corner, ENDLIB, ENDSTR, HEAD, push_points, push_records};
+use flatten::{PlaceFault, Placed, place};
+use gds_syntax::read_library;
+use map_model::{Map, one_metal};
+use std::alloc::{AllocError, Global};
+
+/// The name of a structure.
+pub type Name = [u8; 4];
+
+/// What a structure has: a boundary with datatype 0, or an array.
+#[derive(Clone, Copy)]
+pub enum Part<'a> {
+    Shape {
+        layer: u8,
+        corners: &'a [Corner],
+    },
+    Copies {
+        target: Name,
+        /// The bytes of ANGLE.
+        angle: [u8; 8],
+        columns: u16,
+        rows: u16,
+        /// The first copy's, the one behind the last column, and the one behind the last row.
+        points: [Corner; 3],
+    },
+}
+
+/// A structure: its name, and what it has. The elements of the first structure begin at 96.
+pub type Structure<'a> = (Name, &'a [Part<'a>]);
+
+/// BOUNDARY, and LAYER but for its number's last byte.
+const BOUNDARY: &[u8] = b"\x00\x04\x08\x00\x00\x06\x0D\x02\x00";
+
+/// DATATYPE 0.
+const DATATYPE: &[u8] = b"\x00\x06\x0E\x02\x00\x00";
+
+/// AREF, and SNAME but for the name.
+const AREF: &[u8] = b"\x00\x04\x0B\x00\x00\x08\x12\x06";
+
+/// STRANS, and ANGLE but for its number.
+const STRANS: &[u8] = b"\x00\x06\x1A\x01\x00\x00\x00\x0C\x1C\x05";
+
+/// COLROW but for its numbers.
+const COLROW: &[u8] = b"\x00\x08\x13\x02";
+
+/// STRNAME but for the name.
+const STRNAME: &[u8] = b"\x00\x08\x06\x06";
+
+/// One more element.
+fn push_part(bytes: &mut Vec<u8>, part: &Part<'_>) -> Result<(), AllocError> {
+    match part {
+        Part::Shape { layer, corners } => {
+            push_records(bytes, &[BOUNDARY, &[*layer], DATATYPE])?;
+            push_points(bytes, corners)
+        }
+        Part::Copies {
+            target,
+            angle,
+            columns,
+            rows,
+            points,
+        } => {
+            push_records(bytes, &[AREF, target, STRANS, angle, COLROW])?;
+            push_records(bytes, &[&columns.to_be_bytes(), &rows.to_be_bytes()])?;
+            push_points(bytes, points.as_slice())
+        }
+    }
+}
+
+/// One more structure.
+pub fn push_structure(
+    bytes: &mut Vec<u8>,
+    name: Name,
+    parts: &[Part<'_>],
+) -> Result<(), AllocError> {
+    push_records(bytes, &[BGNSTR, STRNAME, &name])?;
+    for part in parts {
+        push_part(bytes, part)?;
+    }
+    bytes.extend_from_slice(ENDSTR)
+}
+
+/// A library without structures, but for its end.
+pub fn begun(alloc: Global) -> Result<Vec<u8>, AllocError> {
+    Vec::from_slice(alloc, HEAD)
+}
+
+/// A library of these structures, but for its end.
+fn library_of(alloc: Global, structures: &[Structure<'_>]) -> Result<Vec<u8>, AllocError> {
+    let mut bytes = begun(alloc)?;
+    for (name, parts) in structures {
+        push_structure(&mut bytes, *name, parts)?;
+    }
+    Ok(bytes)
+}
+
+/// What a library has to come to.
+#[derive(Clone, Copy)]
+pub enum Outcome {
+    /// So many shapes are placed.
+    Count(usize),
+    /// Shapes are placed here, turned by a quarter.
+    Quarters(&'static [(i64, i64)]),
+    /// Nothing is placed, by this fault.
+    Fault(PlaceFault),
+}
+
+/// Whether the shapes are turned by a quarter, and lie at these places.
+fn lie_at(placed: &[Placed], places: &[(i64, i64)]) -> bool {
+    if placed.len() != places.len() {
+        return false;
+    }
+    for (shape, place) in placed.iter().zip(places) {
+        if shape.turn.quarters != 1 || (shape.dx, shape.dy) != *place {
+            return false;
+        }
+    }
+    true
+}
+
+/// Whether the placed shapes are as they have to be.
+fn are_wanted(placed: &[Placed], wanted: Outcome) -> bool {
+    match wanted {
+        Outcome::Count(count) => placed.len() == count,
+        Outcome::Quarters(places) => lie_at(placed, places),
+        Outcome::Fault(_) => false,
+    }
+}
+
+/// Whether what is placed, or the fault, is as it has to be.
+fn is_wanted(found: Result<Vec<Placed>, PlaceFault>, wanted: Outcome) -> bool {
+    match found {
+        Ok(placed) => are_wanted(placed.as_slice(), wanted),
+        Err(fault) => matches!(wanted, Outcome::Fault(other) if other == fault),
+    }
+}
+
+/// Whether the library with these bytes comes to that by this map.
+fn is_read_as(alloc: Global, bytes: &[u8], map: &Map, top: Option<&[u8]>, wanted: Outcome) -> bool {
+    if bytes.len() > 268_435_456 {
+        return false;
+    }
+    match read_library(alloc, bytes) {
+        Ok(library) => is_wanted(place(alloc, &library, map, top), wanted),
+        Err(_) => false,
+    }
+}
+
+/// Whether the library comes to that on layer 1 and datatype 0.
+fn places(alloc: Global, bytes: &[u8], top: Option<&[u8]>, wanted: Outcome) -> bool {
+    match one_metal(alloc, 1, 0, 1) {
+        Ok(map) => is_read_as(alloc, bytes, &map, top, wanted),
+        Err(_) => false,
+    }
+}
+
+/// The library with its end.
+fn ended(made: Result<Vec<u8>, AllocError>) -> Result<Vec<u8>, AllocError> {
+    let mut bytes = made?;
+    bytes.extend_from_slice(ENDLIB)?;
+    Ok(bytes)
+}
+
+/// Whether the library, which has all but its end, comes to that.
+pub fn comes_to(
+    alloc: Global,
+    made: Result<Vec<u8>, AllocError>,
+    top: Option<&[u8]>,
+    wanted: Outcome,
+) -> bool {
+    match ended(made) {
+        Ok(bytes) => places(alloc, bytes.as_slice(), top, wanted),
+        Err(_) => false,
+    }
+}
+
+/// Whether a library of these structures comes to that.
+pub fn structures_come_to(alloc: Global, structures: &[Structure<'_>], wanted: Outcome) -> bool {
+    comes_to(alloc, library_of(alloc, structures), None, wanted)
+}
