@@ -11,6 +11,9 @@ pub const SIDE: usize = 12;
 /// How many cells the field has.
 pub const AREA: usize = 144;
 
+/// How many cells two metals have.
+const PLACES: usize = 288;
+
 /// Whether the rectangle has the cell with this number. Cells are numbered row by row from the lowest.
 pub fn has(sides: Sides, cell: usize) -> bool {
     let cell = cell % AREA;
@@ -107,15 +110,15 @@ fn pass_on(labels: &mut [usize], joins: &[(usize, usize)]) {
 }
 
 /// A label for each cell of two metals, the same where pairs lead from the one cell to the other.
-fn flooded(alloc: Global, joins: &[(usize, usize)]) -> Result<Vec<usize>, AllocError> {
-    let mut labels = Vec::new(alloc);
-    for place in 0..2 * AREA {
-        labels.push(place)?;
+fn flooded(joins: &[(usize, usize)]) -> [usize; PLACES] {
+    let mut labels = [0; PLACES];
+    for place in 0..PLACES {
+        labels[place] = place;
     }
-    for _ in 0..2 * AREA {
-        pass_on(labels.as_mut_slice(), joins);
+    for _ in 0..PLACES {
+        pass_on(&mut labels, joins);
     }
-    Ok(labels)
+    labels
 }
 
 /// Whether any two of the numbered places have the same number exactly where they have the same label.
@@ -131,23 +134,14 @@ fn agree(numbered: &[(usize, usize)], labels: &[usize]) -> bool {
     true
 }
 
-/// The same with the labels of a flood over these pairs.
-fn agree_over(alloc: Global, numbered: &[(usize, usize)], joins: &[(usize, usize)]) -> bool {
-    match flooded(alloc, joins) {
-        Ok(labels) => agree(numbered, labels.as_slice()),
-        Err(_) => false,
-    }
-}
-
 /// Whether there are numbered places, any two of which have the same number exactly where pairs lead from the one to
 /// the other.
 pub fn agree_with(
-    alloc: Global,
     numbered: Option<Vec<(usize, usize)>>,
     joins: Result<Vec<(usize, usize)>, AllocError>,
 ) -> bool {
     match (numbered, joins) {
-        (Some(numbered), Ok(joins)) => agree_over(alloc, numbered.as_slice(), joins.as_slice()),
+        (Some(numbered), Ok(joins)) => agree(numbered.as_slice(), &flooded(joins.as_slice())),
         _ => false,
     }
 }

@@ -1,3 +1,5 @@
+ghost use Rattle.std.specs.Prelude.{◌≡◌, length};
+
 use super::flood::{
     AREA, agree_with, edges, edges_and_contacts, has, is_covered, is_in_all, place_of,
 };
@@ -5,7 +7,7 @@ use super::net_rows::{Shapes, nets_with};
 use super::sides::{Sides, rects_of, sides_of};
 use geo_core::Rect;
 use islands::label;
-use net_extract::{ContactPiece, Piece};
+use net_extract::{ContactPiece, Nets, Piece};
 use std::alloc::{AllocError, Global};
 
 /// One of many rectangles of the field, at most `longest` columns and rows long. Other seeds give others.
@@ -34,6 +36,18 @@ fn field(
     Ok(table)
 }
 
+/// Adds the places of the rectangles with their labels.
+fn add_labelled(
+    rects: &[Rect],
+    labels: &[usize],
+    numbered: &mut Vec<(usize, usize)>,
+) -> Result<(), AllocError> {
+    for (rect, label) in rects.iter().zip(labels) {
+        numbered.push((place_of(0, *rect), *label))?;
+    }
+    Ok(())
+}
+
 /// The places of the rectangles with their labels.
 fn places_with(
     alloc: Global,
@@ -41,9 +55,7 @@ fn places_with(
     labels: &[usize],
 ) -> Result<Vec<(usize, usize)>, AllocError> {
     let mut numbered = Vec::new(alloc);
-    for (rect, label) in rects.iter().zip(labels) {
-        numbered.push((place_of(0, *rect), *label))?;
-    }
+    add_labelled(rects, labels, &mut numbered)?;
     Ok(numbered)
 }
 
@@ -64,11 +76,7 @@ fn labelled(alloc: Global, rects: &[Rect]) -> Option<Vec<(usize, usize)>> {
 /// Whether the labels of the rectangles are those of a flood.
 fn labels_agree(alloc: Global, table: &[Sides]) -> bool {
     match rects_of(alloc, table) {
-        Some(rects) => agree_with(
-            alloc,
-            labelled(alloc, rects.as_slice()),
-            edges(alloc, &[table]),
-        ),
+        Some(rects) => agree_with(labelled(alloc, rects.as_slice()), edges(alloc, &[table])),
         None => false,
     }
 }
@@ -168,13 +176,13 @@ fn numbered(
 /// Whether the islands of the pieces are those of a flood over edges.
 fn islands_agree(alloc: Global, lower: &[Piece], upper: &[Piece], shapes: &Shapes) -> bool {
     let islands = numbered(alloc, lower, upper, false).ok();
-    agree_with(alloc, islands, edges(alloc, &shapes[..2]))
+    agree_with(islands, edges(alloc, &shapes[..2]))
 }
 
 /// Whether their nets are those of a flood over edges and contacts.
 fn nets_agree(alloc: Global, lower: &[Piece], upper: &[Piece], shapes: &Shapes) -> bool {
     let nets = numbered(alloc, lower, upper, true).ok();
-    agree_with(alloc, nets, edges_and_contacts(alloc, shapes))
+    agree_with(nets, edges_and_contacts(alloc, shapes))
 }
 
 /// Whether the pieces have all cells of the rectangles, and no others.
@@ -241,16 +249,24 @@ fn are_flooded(
         && nets_agree(alloc, lower, upper, shapes)
 }
 
+/// Whether these nets of two metals and a cut are those of a flood.
+fn is_flood(alloc: Global, nets: &Nets, shapes: &Shapes) -> bool
+    requires metals { length nets.now.pieces ≡ 2 }
+    requires cuts { length nets.now.contacts ≡ 1 }
+{
+    are_flooded(
+        alloc,
+        nets.pieces(0),
+        nets.pieces(1),
+        nets.contacts(0),
+        shapes,
+    )
+}
+
 /// Whether the islands and the nets of two metals and a cut are those of a flood.
 fn all_agree(alloc: Global, shapes: Shapes) -> bool {
     match nets_with(alloc, "", shapes) {
-        Ok(nets) => are_flooded(
-            alloc,
-            nets.pieces(0),
-            nets.pieces(1),
-            nets.contacts(0),
-            &shapes,
-        ),
+        Ok(nets) => is_flood(alloc, &nets, &shapes),
         Err(_) => false,
     }
 }
@@ -261,6 +277,16 @@ fn layouts_agree(alloc: Global, lower: &[Sides], cut: &[Sides]) -> bool {
         Ok(upper) => all_agree(alloc, [lower, upper.as_slice(), cut]),
         Err(_) => false,
     }
+}
+
+/// Whether they are with each of the layouts for the cut.
+fn all_layouts_agree(alloc: Global, lower: &[Sides]) -> bool {
+    for cut in LAYOUTS {
+        if !layouts_agree(alloc, lower, cut) {
+            return false;
+        }
+    }
+    true
 }
 
 /// Whether they are where all three are scattered.
@@ -281,9 +307,7 @@ fn scattered_agree(alloc: Global, seed: usize) -> bool {
 #[test]
 fn nets_agree_with_a_flood(rt: HostRuntime) {
     for (number, lower) in LAYOUTS.iter().enumerate() {
-        for cut in LAYOUTS {
-            assert!(rt; layouts_agree(rt.alloc(), lower, cut), "layout {number}");
-        }
+        assert!(rt; all_layouts_agree(rt.alloc(), lower), "layout {number}");
     }
     for seed in 0..20 {
         assert!(rt; scattered_agree(rt.alloc(), seed), "seed {seed}");

@@ -27,7 +27,7 @@ const LABELS: &[(&[Sides], &[usize])] = &[
 
 #[test]
 fn labels_are_the_least_chained(rt: HostRuntime) {
-    for (table, wanted) in LABELS {
-        assert!(rt; have_labels(rt.alloc(), table, wanted), "{table:?}");
+    for (number, (table, wanted)) in LABELS.iter().enumerate() {
+        assert!(rt; have_labels(rt.alloc(), table, wanted), "case {number}");
     }
 }

@@ -1,10 +1,12 @@
 //! 5,000 squares in 50 rows of 100, each of which begins ten columns or rows after the one before, and 20,000 such in one row.
 
+ghost use Rattle.std.specs.Prelude.{◌≡◌, length};
+
 use super::net_rows::nets_with;
 use super::sides::{Sides, sides_of};
 use geo_core::{Labelled, NoMemory, Rect};
 use islands::label;
-use net_extract::{ContactPiece, Piece};
+use net_extract::{ContactPiece, Nets, Piece};
 use short_area::short_area;
 use std::alloc::{AllocError, Global};
 
@@ -120,10 +122,18 @@ fn are_one_net(pieces: &[Piece], plates: &[Piece], contacts: &[ContactPiece]) ->
     pieces.len() == COUNT && contacts.len() == COUNT
 }
 
+/// Whether these nets are such.
+fn is_one_net(nets: &Nets) -> bool
+    requires metals { length nets.now.pieces ≡ 2 }
+    requires cuts { length nets.now.contacts ≡ 1 }
+{
+    are_one_net(nets.pieces(0), nets.pieces(1), nets.contacts(0))
+}
+
 /// Whether a plate over all of the squares makes one net of them through a cut of one cell in each.
 fn are_joined(alloc: Global, squares: &[Sides], cells: &[Sides]) -> bool {
     match nets_with(alloc, "", [squares, &[(0, 0, 1000, 500)], cells]) {
-        Ok(nets) => are_one_net(nets.pieces(0), nets.pieces(1), nets.contacts(0)),
+        Ok(nets) => is_one_net(&nets),
         Err(_) => false,
     }
 }

@@ -226,13 +226,17 @@ fn are_handed_out(
     }
 }
 
+/// Whether the anchors are those of the wire and the square, and the wire alone is handed out.
+fn has_the_wire(alloc: Global, nets: &Nets) -> bool
+    requires { length nets.now.pieces ≡ 2 }
+{
+    nets.anchors() == ANCHORS && are_handed_out(nets.islands(alloc, 0), nets.islands(alloc, 1))
+}
+
 /// Whether a wire with terminals at its ends is one island with these, and the only one that is handed out.
 fn is_anchored(alloc: Global) -> bool {
     match nets_with(alloc, TERMINALS, [WIRE, SQUARE, &[]]) {
-        Ok(nets) => {
-            nets.anchors() == ANCHORS
-                && are_handed_out(nets.islands(alloc, 0), nets.islands(alloc, 1))
-        }
+        Ok(nets) => has_the_wire(alloc, &nets),
         Err(_) => false,
     }
 }

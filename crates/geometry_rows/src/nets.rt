@@ -8,12 +8,21 @@ use layer_map::{Map, read_map};
 use net_extract::{Layers, NetFault, Nets, extract};
 use std::alloc::Global;
 
+/// Whether a table is one of rectangles and there is memory for them, with their list appended to the others.
+fn add(alloc: Global, lists: &mut Vec<RectList>, table: &[Sides]) -> bool {
+    match rects_of(alloc, table) {
+        Some(rects) => lists.push(RectList::from_vec(rects)).is_ok(),
+        None => false,
+    }
+}
+
 /// The rectangles of each table.
 fn lists_of(alloc: Global, tables: &[&[Sides]]) -> Option<Vec<RectList>> {
     let mut lists = Vec::new(alloc);
     for table in tables {
-        let rects = rects_of(alloc, table)?;
-        lists.push(RectList::from_vec(rects)).ok()?;
+        if !add(alloc, &mut lists, table) {
+            return None;
+        }
     }
     Some(lists)
 }

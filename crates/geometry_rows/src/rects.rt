@@ -38,8 +38,8 @@ const OTHERS: &[(Sides, Option<Sides>, bool)] = &[
 
 #[test]
 fn rectangles_overlap_in_cells_and_touch_at_sides(rt: HostRuntime) {
-    for (other, common, touch) in OTHERS {
-        assert!(rt; are_so(other, common.as_ref(), *touch), "{other:?}");
+    for (number, (other, common, touch)) in OTHERS.iter().enumerate() {
+        assert!(rt; are_so(other, common.as_ref(), *touch), "case {number}");
     }
 }
 

@@ -40,11 +40,21 @@ pub fn sides_of(rect: Rect) -> Sides {
     (rect.x0, rect.y0, rect.x1, rect.y1)
 }
 
+/// Whether there are such a rectangle and memory for it, with the rectangle appended to the others.
+fn add(rects: &mut Vec<Rect>, sides: &Sides) -> bool {
+    match rect_of(sides) {
+        Some(rect) => rects.push(rect).is_ok(),
+        None => false,
+    }
+}
+
 /// The rectangles with these sides.
 pub fn rects_of(alloc: Global, table: &[Sides]) -> Option<Vec<Rect>> {
     let mut rects = Vec::new(alloc);
     for sides in table {
-        rects.push(rect_of(sides)?).ok()?;
+        if !add(&mut rects, sides) {
+            return None;
+        }
     }
     Some(rects)
 }

@@ -92,15 +92,15 @@ const PAIRS: &[(&[Sides], &[(usize, usize)])] = &[
 
 #[test]
 fn rectangles_that_touch_are_paired(rt: HostRuntime) {
-    for (table, wanted) in PAIRS {
-        assert!(rt; have_pairs(rt.alloc(), table, wanted), "{table:?}");
+    for (number, (table, wanted)) in PAIRS.iter().enumerate() {
+        assert!(rt; have_pairs(rt.alloc(), table, wanted), "case {number}");
     }
 }
 
 #[test]
 fn rectangles_that_touch_are_linked(rt: HostRuntime) {
-    for (table, wanted) in PAIRS {
-        assert!(rt; have_links(rt.alloc(), table, wanted), "{table:?}");
+    for (number, (table, wanted)) in PAIRS.iter().enumerate() {
+        assert!(rt; have_links(rt.alloc(), table, wanted), "case {number}");
     }
 }
 
@@ -179,31 +179,41 @@ fn are_those_that_meet(first: &[Rect], second: &[Rect], pairs: &[(usize, usize)]
     rest.is_empty()
 }
 
-/// Whether the pairs of two such fields, the second of which is shorter, are those that meet.
-fn meetings_agree(alloc: Global, longest: usize, count: usize) -> Result<bool, NoMemory> {
-    let first = field(alloc, longest)?;
-    let others = field(alloc, 7)?;
+/// Whether the pairs of the two lists are those that meet.
+fn meetings_are_right(alloc: Global, first: &[Rect], second: &[Rect]) -> bool {
+    match meetings(alloc, first, second) {
+        Ok(pairs) => are_those_that_meet(first, second, pairs.as_slice()),
+        Err(_) => false,
+    }
+}
+
+/// Whether they are where the second list is cut short, whichever of the two comes first.
+fn are_right_both_ways(alloc: Global, first: &[Rect], others: &[Rect], count: usize) -> bool {
     let second = &others[..count.min(others.len())];
-    let pairs = meetings(alloc, &first, second)?;
-    let turned = meetings(alloc, second, &first)?;
-    Ok(are_those_that_meet(&first, second, &pairs) && are_those_that_meet(second, &first, &turned))
+    meetings_are_right(alloc, first, second) && meetings_are_right(alloc, second, first)
+}
+
+/// Whether the pairs of two such fields, the second of which is shorter, are those that meet.
+fn meetings_agree(alloc: Global, longest: usize, count: usize) -> bool {
+    match (field(alloc, longest), field(alloc, 7)) {
+        (Ok(first), Ok(others)) => {
+            are_right_both_ways(alloc, first.as_slice(), others.as_slice(), count)
+        }
+        _ => false,
+    }
+}
+
+/// Whether they are with 150, 3 and none in the second field.
+fn all_meetings_agree(alloc: Global, longest: usize) -> bool {
+    meetings_agree(alloc, longest, 150)
+        && meetings_agree(alloc, longest, 3)
+        && meetings_agree(alloc, longest, 0)
 }
 
 #[test]
 fn meetings_agree_with_a_comparison_of_all(rt: HostRuntime) {
     for longest in LONGEST {
-        assert!(rt;
-            meetings_agree(rt.alloc(), *longest, 150) == Ok(true),
-            "{longest}"
-        );
-        assert!(rt;
-            meetings_agree(rt.alloc(), *longest, 3) == Ok(true),
-            "{longest}"
-        );
-        assert!(rt;
-            meetings_agree(rt.alloc(), *longest, 0) == Ok(true),
-            "{longest}"
-        );
+        assert!(rt; all_meetings_agree(rt.alloc(), *longest), "{longest}");
     }
 }
 

@@ -22,8 +22,8 @@ const POINTS: &[((bool, u8), (i64, i64))] = &[
 
 #[test]
 fn points_turn(rt: HostRuntime) {
-    for (given, point) in POINTS {
-        assert!(rt; turn_point(turn(*given), 1, 2) == *point, "{given:?}");
+    for (number, (given, point)) in POINTS.iter().enumerate() {
+        assert!(rt; turn_point(turn(*given), 1, 2) == *point, "case {number}");
     }
 }
 
@@ -42,7 +42,7 @@ const TURNS: &[((bool, u8), (bool, u8), (bool, u8))] = &[
 
 #[test]
 fn turns_follow_one_another(rt: HostRuntime) {
-    for (outer, inner, both) in TURNS {
-        assert!(rt; come_to(*outer, *inner, *both), "{inner:?}, then {outer:?}");
+    for (number, (outer, inner, both)) in TURNS.iter().enumerate() {
+        assert!(rt; come_to(*outer, *inner, *both), "case {number}");
     }
 }
