@@ -52,48 +52,61 @@ module _ {Done : ℕ → ℕ → Type 0} (left : ℕ → ℕ) (starts next flat 
         ]
   ]
 
+  -- how far each number's places are filled then
+  next_of : (j : ℕ) → get_or (raise next k) j 0 ≡ get_or next j 0 + match_count j k
+  next_of j = let long = s.one_each in get_or-raise next k j (omega arith)
+
+  -- places that were filled keep what they have
+  kept : (j p : ℕ) → 1 ≤ left k → suc j < length starts → get_or starts j 0 ≤ p → p < get_or next j 0 → get_or (set flat (get_or next k 0) x) p 0 ≡ get_or flat p 0
+  kept j p more b h l = get_or-set_other flat (get_or next k 0) p x 0 (not_next j p more b h l)
+
+  module _ (more : 1 ≤ left k) (here : get_or (set flat (get_or next k 0) x) (get_or next k 0) 0 ≡ x) where
+    sound_with : (j p : ℕ) → suc j < length starts → get_or starts j 0 ≤ p → p < get_or (raise next k) j 0
+        → Done j (get_or (set flat (get_or next k 0) x) p 0) ⊎ ((j ≡ k) × (get_or (set flat (get_or next k 0) x) p 0 ≡ x))
+    sound_with j p b h l = elim (equal_or_not j k) [
+      | inl e ↦ elim (equal_or_not p (get_or next k 0)) [
+        | inl f ↦ inr (e, ap (λ y. get_or (set flat (get_or next k 0) x) y 0) f ∙ here)
+        | inr n ↦
+            let o = next_of j in
+            let g = ap (λ y. get_or next y 0) e in
+            let w = match_count_same j k e in
+            let l' : p < get_or next j 0 = omega arith in
+            inl (subst (Done j) (sym (kept j p more b h l')) (s.sound j p b h l'))
+      ]
+      | inr n ↦
+          let o = next_of j in
+          let w = match_count_other j k n in
+          let l' : p < get_or next j 0 = omega arith in
+          inl (subst (Done j) (sym (kept j p more b h l')) (s.sound j p b h l'))
+    ]
+
+    complete_with : (j y : ℕ) → Done j y ⊎ ((j ≡ k) × (y ≡ x)) → IsPut starts (raise next k) (set flat (get_or next k 0) x) j y
+    complete_with j y d = elim d [
+      | inl e ↦
+          let p = s.complete j y e in
+          let o = next_of j in
+          let t = p.to in
+          record { small = p.small; place = p.place; from = p.from; to = omega arith; is = kept j p.place more p.small p.from p.to ∙ p.is }
+      | inr e ↦
+          let f = s.from k small in
+          let o = next_of k in
+          let same = match_count_same k k refl in
+          let put : IsPut starts (raise next k) (set flat (get_or next k 0) x) k x = record { small = small; place = get_or next k 0; from = f; to = omega arith; is = here } in
+          subst (λ z. IsPut starts (raise next k) (set flat (get_or next k 0) x) z y) (sym e.0) (subst (λ z. IsPut starts (raise next k) (set flat (get_or next k 0) x) k z) (sym e.1) put)
+    ]
+
   pub put_one : (left' : ℕ → ℕ) → ((j : ℕ) → left j ≡ left' j + match_count j k) → get_or next k 0 < length flat
       → IsFilling (λ a b. Done a b ⊎ ((a ≡ k) × (b ≡ x))) left' starts (raise next k) (set flat (get_or next k 0) x)
   put_one left' fewer room =
-      let long = s.one_each in
-      let next_of : (j : ℕ) → get_or (raise next k) j 0 ≡ get_or next j 0 + match_count j k = λ j. get_or-raise next k j (omega arith) in
       let same = match_count_same k k refl in
       let more : 1 ≤ left k = let f = fewer k in omega arith in
       let here = get_or-set_same flat (get_or next k 0) x 0 room in
-      let off : (j p : ℕ) → suc j < length starts → get_or starts j 0 ≤ p → p < get_or next j 0 → get_or (set flat (get_or next k 0) x) p 0 ≡ get_or flat p 0 =
-      λ j p b h l. get_or-set_other flat (get_or next k 0) p x 0 (not_next j p more b h l) in
       record {
-        one_each = length-set next k (get_or next k 0 + 1) ∙ long;
+        one_each = length-set next k (get_or next k 0 + 1) ∙ s.one_each;
         from = λ j b. let f = s.from j b in let e = next_of j in omega arith;
         room = λ j b. let r = s.room j b in let e = next_of j in let f = fewer j in omega arith;
-        sound = λ j p b h l. elim (equal_or_not j k) [
-          | inl e ↦ elim (equal_or_not p (get_or next k 0)) [
-            | inl f ↦ inr (e, ap (λ y. get_or (set flat (get_or next k 0) x) y 0) f ∙ here)
-            | inr n ↦
-                let o = next_of j in
-                let g = ap (λ y. get_or next y 0) e in
-                let w = match_count_same j k e in
-                let l' : p < get_or next j 0 = omega arith in
-                inl (subst (Done j) (sym (off j p b h l')) (s.sound j p b h l'))
-          ]
-          | inr n ↦
-              let o = next_of j in
-              let w = match_count_other j k n in
-              let l' : p < get_or next j 0 = omega arith in
-              inl (subst (Done j) (sym (off j p b h l')) (s.sound j p b h l'))
-        ];
-        complete = λ j y d. elim d [
-          | inl e ↦
-              let p = s.complete j y e in
-              let o = next_of j in
-              let t = p.to in
-              record { small = p.small; place = p.place; from = p.from; to = omega arith; is = off j p.place p.small p.from p.to ∙ p.is }
-          | inr e ↦
-              let f = s.from k small in
-              let o = next_of k in
-              let put : IsPut starts (raise next k) (set flat (get_or next k 0) x) k x = record { small = small; place = get_or next k 0; from = f; to = omega arith; is = here } in
-              subst (λ z. IsPut starts (raise next k) (set flat (get_or next k 0) x) z y) (sym e.0) (subst (λ z. IsPut starts (raise next k) (set flat (get_or next k 0) x) k z) (sym e.1) put)
-        ];
+        sound = sound_with more here;
+        complete = complete_with more here;
       }
 
 -- what is done may be said in other words

@@ -131,6 +131,14 @@ module _ (starts neighbours classes : List ℕ) (graph : IsGraph (length classes
           | inr k ↦ inr (ap (λ x. get_or classes x 0) k.0)
         ])
 
+    -- the walk that leads to i goes on to its neighbour
+    way_on : get_or classes i 0 ≡ start → start < length classes → i < length classes → j < length classes → Path (λ k. k < length classes) (HasNeighbour starts neighbours) start j
+    way_on mine small from to =
+        let i_has : HasClass classes i = omega arith in
+        let path : Path (λ k. k < length classes) (HasNeighbour starts neighbours) start i =
+        subst (λ x. Path (λ k. k < length classes) (HasNeighbour starts neighbours) x i) mine (s.sound.joined i from i_has) in
+        append path (step from (listed starts neighbours i here place_of) (stay to))
+
     pub class_one : get_or classes i 0 ≡ start → start < length classes → i < length classes → j < length classes → length classes ≤ get_or classes j 0
         → IsSpreading starts neighbours (set classes j start) (todo ++ j ∷ []) start i (here + 1)
     class_one mine small from to free =
@@ -138,11 +146,8 @@ module _ (starts neighbours classes : List ℕ) (graph : IsGraph (length classes
         let was = as_it_was start j s.sound small to free in
         let off = off_j start j s.sound small to free in
         let set_to = at_j start j s.sound small to free in
-        let i_has : HasClass classes i = omega arith in
-        let path : Path (λ k. k < length classes) (HasNeighbour starts neighbours) start i =
-        subst (λ x. Path (λ k. k < length classes) (HasNeighbour starts neighbours) x i) mine (s.sound.joined i from i_has) in
         record {
-          sound = sound_more start j s.sound small to free (append path (step from (listed starts neighbours i here place_of) (stay to))) (fresh_is_late start j s.earlier free);
+          sound = sound_more start j s.sound small to free (way_on mine small from to) (fresh_is_late start j s.earlier free);
           closed = λ a place t h. elim (equal_or_not a j) [
             | inl e ↦ inl (inl (subst (Contains (todo ++ j ∷ [])) (sym e) (Contains-push todo j)))
             | inr n ↦

@@ -38,8 +38,8 @@ module _ (c : Cell) (xs ys : List Rect) where
       let e = p.1 in let f = q.1 in let d = t.differ in
       inr (inl (record { first = p.0; second = q.0; differ = omega arith; one = t.one; other = t.other; one_at = p.2; other_at = q.2; one_has = t.one_has; other_has = t.other_has }))
 
-  two_from : TwoOfBoth → IsInTwo (xs ++ ys) c
-  two_from (inl t) = record {
+  two_in_front : IsInTwo xs c → IsInTwo (xs ++ ys) c
+  two_in_front t = record {
     first = t.first;
     second = t.second;
     differ = t.differ;
@@ -50,7 +50,9 @@ module _ (c : Cell) (xs ys : List Rect) where
     one_has = t.one_has;
     other_has = t.other_has;
   }
-  two_from (inr (inl t)) = let d = t.differ in record {
+
+  two_behind : IsInTwo ys c → IsInTwo (xs ++ ys) c
+  two_behind t = let d = t.differ in record {
     first = length xs + t.first;
     second = length xs + t.second;
     differ = omega arith;
@@ -61,7 +63,9 @@ module _ (c : Cell) (xs ys : List Rect) where
     one_has = t.one_has;
     other_has = t.other_has;
   }
-  two_from (inr (inr h)) = let w = slice_get_within xs h.0.number h.0.rect h.0.at in record {
+
+  one_in_each : IsInUnion xs c × IsInUnion ys c → IsInTwo (xs ++ ys) c
+  one_in_each h = let w = slice_get_within xs h.0.number h.0.rect h.0.at in record {
     first = h.0.number;
     second = length xs + h.1.number;
     differ = omega arith;
@@ -72,6 +76,11 @@ module _ (c : Cell) (xs ys : List Rect) where
     one_has = h.0.has;
     other_has = h.1.has;
   }
+
+  two_from : TwoOfBoth → IsInTwo (xs ++ ys) c
+  two_from (inl t) = two_in_front t
+  two_from (inr (inl t)) = two_behind t
+  two_from (inr (inr h)) = one_in_each h
 
   two_append : IsInTwo (xs ++ ys) c ↔ TwoOfBoth
   two_append = (λ t. two_cases t (number_cases xs ys t.first t.one t.one_at) (number_cases xs ys t.second t.other t.other_at), two_from)

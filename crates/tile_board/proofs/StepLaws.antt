@@ -10,11 +10,28 @@ use Rattle.tile_board.specs.declared.views.Limits.{Limits}
 use Rattle.tile_board.specs.declared.views.View.{View}
 use Rattle.tile_board.specs.Counts.{times, Drew, times_credited, credited}
 use Rattle.tile_board.specs.Machine.{BoardState, draw, credit, split, fresh, view_at, with_draw, with_credit, without_draws, MayCredit, after_event}
-use Rattle.tile_board.specs.Sound.{IsSound, CreditsFit}
+use Rattle.tile_board.specs.Sound.{IsSound, DrawsAddUp, CreditsFit}
 use Rattle.tile_board.proofs.CountLaws.{times-append, times-drawn, fit_more_tickets, times_credited-push, credited-push}
 
 ticket_list : (tickets number : ℕ) → length (if nat_lt number tickets then number ∷ [] else []) ≤ 1
 ticket_list tickets number = grind (arith, nat_tests)
+
+-- one draw more
+drawn_add_up : (limits : Limits) (s : BoardState) (h : ℕ) → h < length s.views → 0 < (view_at s h).left → DrawsAddUp limits s → DrawsAddUp limits (after_event limits s (draw h))
+drawn_add_up limits s h within left draws =
+    let v : View = view_at s h in
+    let w : View = with_draw limits.tickets s.next v in
+    let drawn : List ℕ = if nat_lt s.next limits.tickets then s.next ∷ [] else [] in
+    record {
+      made = omega (arith, sum_by-set (λ (u : View). u.made) s.views h w (fresh 0) within, draws.made);
+      all = omega (arith, sum_by-set (λ (u : View). u.made + u.left) s.views h w (fresh 0) within, draws.all);
+      few = All-set (λ u. length u.tickets ≤ u.made) s.views h w (omega (
+        arith,
+        All-get_or (λ u. length u.tickets ≤ u.made) s.views h (fresh 0) within draws.few,
+        length-append v.tickets drawn,
+        ticket_list limits.tickets s.next,
+      )) draws.few;
+    }
 
 pub draw_keeps : (limits : Limits) (s : BoardState) (h : ℕ) → h < length s.views → 0 < (view_at s h).left → IsSound limits s → IsSound limits (after_event limits s (draw h))
 draw_keeps limits s h within left sound =
@@ -22,17 +39,7 @@ draw_keeps limits s h within left sound =
     let w : View = with_draw limits.tickets s.next v in
     let drawn : List ℕ = if nat_lt s.next limits.tickets then s.next ∷ [] else [] in
     record {
-      draws = record {
-        made = omega (arith, sum_by-set (λ (u : View). u.made) s.views h w (fresh 0) within, sound.draws.made);
-        all = omega (arith, sum_by-set (λ (u : View). u.made + u.left) s.views h w (fresh 0) within, sound.draws.all);
-        few = All-set (λ u. length u.tickets ≤ u.made) s.views h w (omega (
-          arith,
-          All-get_or (λ u. length u.tickets ≤ u.made) s.views h
-              (fresh 0) within sound.draws.few,
-          length-append v.tickets drawn,
-          ticket_list limits.tickets s.next,
-        )) sound.draws.few;
-      };
+      draws = drawn_add_up limits s h within left sound.draws;
       tickets = λ number. omega (
         arith,
         sum_by-set (λ (u : View). times u.tickets number) s.views h w
@@ -113,6 +120,19 @@ fresh_fits limits draws = record {
   once = λ t s. omega arith;
 }
 
+-- some draws given away
+split_draws_add_up : (limits : Limits) (s : BoardState) (h draws : ℕ) → h < length s.views → draws ≤ (view_at s h).left → DrawsAddUp limits s
+    → DrawsAddUp limits (after_event limits s (split h draws))
+split_draws_add_up limits s h draws within enough sums =
+    let w : View = without_draws draws (view_at s h) in
+    let views : List View = set s.views h w in
+    record {
+      made = omega (arith, sum_by-set (λ (u : View). u.made) s.views h w (fresh 0) within, sum_by_push (λ (u : View). u.made) views (fresh draws), sums.made);
+      all = omega (arith, sum_by-set (λ (u : View). u.made + u.left) s.views h w (fresh 0) within, sum_by_push (λ (u : View). u.made + u.left) views (fresh draws), sums.all);
+      few = All-push (λ u. length u.tickets ≤ u.made) views (fresh draws)
+          (All-set (λ u. length u.tickets ≤ u.made) s.views h w (All-get_or (λ u. length u.tickets ≤ u.made) s.views h (fresh 0) within sums.few) sums.few) (omega arith);
+    }
+
 pub split_keeps : (limits : Limits) (s : BoardState) (h draws : ℕ) → h < length s.views → draws ≤ (view_at s h).left → IsSound limits s → IsSound limits (after_event limits s (split h draws))
 split_keeps limits s h draws within enough sound =
     let v : View = view_at s h in
@@ -120,12 +140,7 @@ split_keeps limits s h draws within enough sound =
     let views : List View = set s.views h w in
     let fits = All-get_or (CreditsFit limits) s.views h (fresh 0) within sound.credits in
     record {
-      draws = record {
-        made = omega (arith, sum_by-set (λ (u : View). u.made) s.views h w (fresh 0) within, sum_by_push (λ (u : View). u.made) views (fresh draws), sound.draws.made);
-        all = omega (arith, sum_by-set (λ (u : View). u.made + u.left) s.views h w (fresh 0) within, sum_by_push (λ (u : View). u.made + u.left) views (fresh draws), sound.draws.all);
-        few = All-push (λ u. length u.tickets ≤ u.made) views (fresh draws)
-            (All-set (λ u. length u.tickets ≤ u.made) s.views h w (All-get_or (λ u. length u.tickets ≤ u.made) s.views h (fresh 0) within sound.draws.few) sound.draws.few) (omega arith);
-      };
+      draws = split_draws_add_up limits s h draws within enough sound.draws;
       tickets = λ number. omega (
         arith,
         sum_by-set (λ (u : View). times u.tickets number) s.views h w (fresh 0) within,
