@@ -9,7 +9,7 @@ use Rattle.library_model.specs.declared.element.Reference.{Reference}
 use Rattle.library_model.specs.declared.library.Structure.{Structure}
 use Rattle.flatten.specs.Structures.{all_references, numbers_of, offset_of}
 use Rattle.flatten.specs.ReferenceChains.{IsEndless}
-use Rattle.flatten.specs.inside.Parts.{IsKnown, MakesParts}
+use Rattle.flatten.specs.inside.FollowedParts.{IsKnown, MakesParts}
 use Rattle.flatten.specs.inside.Plans.{Chooses, IsChosen}
 use Rattle.flatten.specs.Tops.{HasTop, IsNoOtherTop}
 use Rattle.flatten.specs.Placements.{LibraryCheck, has_its_target, leads_to_no_cycle, has_top, is_no_other_top, LibraryHolds, library_checks, library_fault}

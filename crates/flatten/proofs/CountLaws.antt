@@ -7,7 +7,7 @@ use Rattle.library_model.specs.declared.element.Reference.{Reference}
 use Rattle.library_model.specs.declared.library.Structure.{Structure}
 use Rattle.map_model.specs.MapNames.{LayerMap}
 use Rattle.flatten.specs.Routes.{Route, routes, mapped_routes}
-use Rattle.flatten.specs.inside.Parts.{AreNodes, LeadsTo, parts_at}
+use Rattle.flatten.specs.inside.FollowedParts.{AreNodes, LeadsTo, parts_at}
 use Rattle.flatten.specs.inside.Weights.{Weight, no_weight, both_weights, times_weight, weight_of, weight_over, Weighs, weighs, copies_of}
 use Rattle.flatten.specs.inside.Ends.{node_routes, part_routes, routes_below}
 use Rattle.flatten.specs.declared.part.Part.{Part}

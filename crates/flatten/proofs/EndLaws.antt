@@ -8,7 +8,7 @@ use Rattle.map_model.specs.MapNames.{LayerMap}
 use Rattle.flatten.specs.Structures.{is_mapped}
 use Rattle.flatten.specs.Steps.{Step, steps_of}
 use Rattle.flatten.specs.Routes.{Route, behind_step, routes_at, mapped_routes}
-use Rattle.flatten.specs.inside.Parts.{AreParts, no_more, passed_over, ends_there, goes_on}
+use Rattle.flatten.specs.inside.FollowedParts.{AreParts, no_more, passed_over, ends_there, goes_on}
 use Rattle.flatten.specs.inside.Ends.{part_routes, route_to}
 use Rattle.flatten.specs.declared.part.Part.{Part}
 use Rattle.flatten.specs.declared.part.Part.TheVariants.{Copies}

@@ -6,7 +6,7 @@ use Rattle.library_model.specs.Names.{names_of}
 use Rattle.library_model.specs.declared.library.Structure.{Structure}
 use Rattle.library_model.specs.declared.element.Reference.{Reference}
 use Rattle.map_model.specs.MapNames.{LayerMap}
-use Rattle.flatten.specs.inside.Parts.{AreNodes, parts_at}
+use Rattle.flatten.specs.inside.FollowedParts.{AreNodes, parts_at}
 use Rattle.flatten.specs.Steps.{steps_of, steps_in_row, rows_of, columns_of}
 use Rattle.flatten.specs.Routes.{behind_step}
 use Rattle.flatten.specs.inside.Ends.{node_routes, part_routes, routes_below}

@@ -9,7 +9,7 @@ use Rattle.library_model.proofs.NameLaws.{stands_where_found}
 use Rattle.map_model.specs.MapNames.{LayerMap, IsMappedTo}
 use Rattle.flatten.specs.Structures.{elements_of, references_among, references_in, target_of, targets_of}
 use Rattle.flatten.specs.ReferenceChains.{StartsChain, IsEndless}
-use Rattle.flatten.specs.inside.Parts.{AreParts, AreNodes, no_more, passed_over, ends_there, goes_on, LeadsTo, parts_at, Leads}
+use Rattle.flatten.specs.inside.FollowedParts.{AreParts, AreNodes, no_more, passed_over, ends_there, goes_on, LeadsTo, parts_at, Leads}
 use Rattle.flatten.specs.inside.Weights.{Weight, weight_of, weight_over, Weighs, weighs}
 use Rattle.flatten.specs.declared.part.Part.{Part}
 use Rattle.flatten.specs.declared.part.Part.TheVariants.{End, Copies}

@@ -13,7 +13,7 @@ use Rattle.flatten.specs.Routes.{Route, behind_step}
 use Rattle.flatten.specs.Motions.{MovesAlong}
 use Rattle.flatten.specs.Placed.{IsEndOf}
 use Rattle.flatten.specs.Placements.{PlacesInRange}
-use Rattle.flatten.specs.inside.Parts.{Nodes, parts_at}
+use Rattle.flatten.specs.inside.FollowedParts.{Nodes, parts_at}
 use Rattle.flatten.specs.inside.Ends.{node_routes, part_routes, route_to}
 use Rattle.flatten.specs.inside.Expansions.{AddsEnds, Expands, HaveLayers, PlacesEach, behind_steps}
 use Rattle.flatten.specs.declared.fault.PlaceFault.{PlaceFault}

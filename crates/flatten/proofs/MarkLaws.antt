@@ -1,7 +1,7 @@
 -- marks and the parts that lead to what is marked
 use Rattle.std.proofs.Common.{ℕ, ◌+◌, ◌<◌, ◌≡◌, ◌⊎◌, ◌↔◌, inl, inr, Bool, true, false, List, [], ◌∷◌, ◌++◌, length, get_or, set, take, Vec, subst, Contains, get_or-set_same, get_or-set_other, MatchOption, Option, Some, None, is_some}
 use Rattle.lists.proofs.Words.{Bor, Contains-append_left, Contains-append_right, Contains-append_cases, Global, option_map_or, cases_lt, slice_get_past}
-use Rattle.flatten.specs.inside.Parts.{LeadsTo, parts_at}
+use Rattle.flatten.specs.inside.FollowedParts.{LeadsTo, parts_at}
 use Rattle.library_model.specs.declared.library.Structure.{Structure}
 use Rattle.flatten.specs.declared.fault.PlaceFault.TheVariants.{ManyTops}
 use Rattle.flatten.specs.Structures.{offset_of}

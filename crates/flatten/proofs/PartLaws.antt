@@ -5,7 +5,7 @@ use Rattle.lists.proofs.Reading.{taken_more}
 use Rattle.map_model.specs.MapNames.{LayerMap}
 use Rattle.library_model.specs.declared.element.Element.{Element}
 use Rattle.flatten.specs.declared.part.Part.{Part}
-use Rattle.flatten.specs.inside.Parts.{AreParts, no_more, passed_over, ends_there, goes_on}
+use Rattle.flatten.specs.inside.FollowedParts.{AreParts, no_more, passed_over, ends_there, goes_on}
 
 module _ (names : List (List ℕ)) (layer_map : LayerMap) where
   AreParts-append : {elements others : List (ℕ × Element)} {parts rest : List Part} → AreParts names layer_map elements parts → AreParts names layer_map others rest

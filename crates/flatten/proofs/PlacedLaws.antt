@@ -14,7 +14,7 @@ use Rattle.flatten.specs.Placed.{ArePlaced, IsEndOf}
 use Rattle.flatten.specs.inside.Ends.{node_routes}
 use Rattle.flatten.specs.inside.Plans.{IsPlan}
 use Rattle.flatten.specs.inside.Expansions.{AddsEnds, HasLibrary, HaveLayers, PlacesEach, behind_steps}
-use Rattle.flatten.specs.inside.Parts.{AreNodesBelow, Nodes}
+use Rattle.flatten.specs.inside.FollowedParts.{AreNodesBelow, Nodes}
 use Rattle.flatten.specs.inside.Prunings.{AreNodesDone, IsPruned}
 use Rattle.flatten.specs.declared.fault.PlaceFault.{PlaceFault}
 use Rattle.flatten.specs.declared.fault.PlaceFault.TheVariants.{OutOfRange, Memory}

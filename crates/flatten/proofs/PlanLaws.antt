@@ -6,7 +6,7 @@ use Rattle.library_model.specs.Names.{names_of}
 use Rattle.library_model.specs.declared.library.Structure.{Structure}
 use Rattle.map_model.specs.MapNames.{LayerMap}
 use Rattle.flatten.specs.Structures.{all_references}
-use Rattle.flatten.specs.inside.Parts.{AreNodes, IsKnown, AreNodesBelow}
+use Rattle.flatten.specs.inside.FollowedParts.{AreNodes, IsKnown, AreNodesBelow}
 use Rattle.flatten.specs.inside.Surveys.{AreAllDone, SurveysAll}
 use Rattle.flatten.specs.inside.Plans.{AreSurveyed, Chooses}
 use Rattle.flatten.specs.declared.part.Part.{Part}

@@ -10,10 +10,10 @@ use Rattle.library_model.specs.declared.element.Lattice.{Lattice}
 use Rattle.library_model.specs.declared.element.Reference.{Reference}
 use Rattle.flatten.specs.Steps.{Step, steps_of, rows_of, columns_of}
 use Rattle.flatten.specs.Routes.{Route, behind_step}
-use Rattle.flatten.specs.inside.Parts.{Nodes, parts_at}
+use Rattle.flatten.specs.inside.FollowedParts.{Nodes, parts_at}
 use Rattle.flatten.specs.inside.Weights.{Weight, weight_over, Weighs, weighs, copies_of}
 use Rattle.flatten.specs.inside.Ends.{node_routes, part_routes, routes_below}
-use Rattle.flatten.specs.inside.Parts.{AreNodesBelow}
+use Rattle.flatten.specs.inside.FollowedParts.{AreNodesBelow}
 use Rattle.flatten.specs.inside.Expansions.{HaveLayers}
 use Rattle.flatten.specs.inside.Prunings.{AreNodesDone, IsPrunedTo, IsBarren, IsBarrenPart, IsPruned, Prunes, TellsBarren, no_more, goes, stays}
 use Rattle.flatten.specs.inside.Surveys.{AreDone, AreTrue, state_of}

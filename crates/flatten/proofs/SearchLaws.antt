@@ -7,7 +7,7 @@ use Rattle.flatten.specs.declared.part.Part.{Part}
 use Rattle.flatten.specs.declared.summary.Summary.{Summary}
 use Rattle.flatten.specs.declared.summary.State.{State}
 use Rattle.flatten.specs.declared.summary.State.TheVariants.{New, Open, Done}
-use Rattle.flatten.specs.inside.Parts.{AreBelow, AreNodesBelow, LeadsTo, parts_at, Leads}
+use Rattle.flatten.specs.inside.FollowedParts.{AreBelow, AreNodesBelow, LeadsTo, parts_at, Leads}
 use Rattle.flatten.specs.inside.Weights.{Weight, no_weight, weight_over, Weighs, weighs, IsKept}
 use Rattle.flatten.specs.inside.Surveys.{state_of, AreDone, AreTrue, AreWeighed, AreSettled, KeepsDone}
 use Rattle.flatten.specs.inside.Searches.{IsDoneBefore, IsSaid, IsWay, IsSearch, steps_left, steps_of_state}

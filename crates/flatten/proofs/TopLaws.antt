@@ -11,7 +11,7 @@ use Rattle.flatten.specs.Structures.{numbers_of, targets_of}
 use Rattle.flatten.specs.ReferenceChains.{IsEndless}
 use Rattle.flatten.specs.Tops.{IsTop, IsUnnamed, IsOnlyUnnamed, IsNoOtherTop, HasTop}
 use Rattle.flatten.specs.inside.Marks.{IsMarked, IsOnlyUnmarked, IsTopFault, all_marked, second_unmarked}
-use Rattle.flatten.specs.inside.Parts.{LeadsTo, parts_at}
+use Rattle.flatten.specs.inside.FollowedParts.{LeadsTo, parts_at}
 use Rattle.flatten.specs.inside.Plans.{AreSurveyed, Chooses, IsChosen}
 use Rattle.flatten.specs.declared.part.Part.{Part}
 use Rattle.flatten.specs.declared.fault.PlaceFault.{PlaceFault}

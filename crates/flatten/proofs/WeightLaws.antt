@@ -5,7 +5,7 @@ use Rattle.library_model.specs.declared.element.Reference.{Reference}
 use Rattle.flatten.specs.declared.part.Part.{Part}
 use Rattle.flatten.specs.declared.part.Part.TheVariants.{Copies}
 use Rattle.flatten.specs.declared.summary.State.{State}
-use Rattle.flatten.specs.inside.Parts.{AreBelow}
+use Rattle.flatten.specs.inside.FollowedParts.{AreBelow}
 use Rattle.flatten.specs.inside.Weights.{Weight, no_weight, both_weights, weight_of, weight_over}
 use Rattle.flatten.specs.inside.Surveys.{AreWeighed}
 use Rattle.lists.proofs.Containing.{Contains-one}

@@ -1,7 +1,7 @@
 pub mod Ends
 pub mod Expansions
+pub mod FollowedParts
 pub mod Marks
-pub mod Parts
 pub mod Plans
 pub mod Prunings
 pub mod Searches

@@ -5,7 +5,7 @@ ghost use Rattle.first_refusal.specs.Answers.{Answers};
 ghost use Rattle.map_model.specs.LayerMap.{IsMappedTo};
 ghost use Rattle.flatten.specs.Steps.{Step, columns_of, rows_of, steps_in_row, steps_of};
 ghost use Rattle.flatten.specs.Motions.{MovesAlong};
-ghost use Rattle.flatten.specs.inside.Parts.{AreNodesBelow, parts_at};
+ghost use Rattle.flatten.specs.inside.FollowedParts.{AreNodesBelow, parts_at};
 ghost use Rattle.flatten.specs.inside.Ends.{node_routes, part_routes, route_to, routes_below};
 ghost use Rattle.flatten.specs.inside.Expansions.{Expands, PlacesEach, copy_routes};
 

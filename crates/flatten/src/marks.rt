@@ -1,5 +1,5 @@
 ghost use Rattle.std.specs.Prelude.{ℕ, [], ◌∷◌, ◌⊎◌, ◌≡◌, ◌<◌, IfOk, length, true};
-ghost use Rattle.flatten.specs.inside.Parts.{AreBelow, AreNodesBelow, LeadsTo, parts_at};
+ghost use Rattle.flatten.specs.inside.FollowedParts.{AreBelow, AreNodesBelow, LeadsTo, parts_at};
 ghost use Rattle.flatten.specs.inside.Marks.{IsMarked};
 
 use super::part::Part;

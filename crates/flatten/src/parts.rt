@@ -4,7 +4,7 @@ ghost use Rattle.first_refusal.specs.Answers.{Answers};
 ghost use Rattle.first_refusal.specs.Checks.{IsRefusalOfFirst};
 ghost use Rattle.map_model.specs.MapView.{layer_map_of};
 ghost use Rattle.flatten.specs.Structures.{all_references, references_among, references_in};
-ghost use Rattle.flatten.specs.inside.Parts.{AreNodes, AreParts, IsKnown, MakesParts};
+ghost use Rattle.flatten.specs.inside.FollowedParts.{AreNodes, AreParts, IsKnown, MakesParts};
 ghost use Rattle.flatten.specs.declared.fault.PlaceFault.TheVariants.{UnknownStructure};
 
 use super::fault::PlaceFault;

@@ -1,7 +1,7 @@
 //! What places nothing leaves the graph, so that an expansion walks only what it places.
 
 ghost use Rattle.std.specs.Prelude.{◌≡◌};
-ghost use Rattle.flatten.specs.inside.Parts.{Nodes};
+ghost use Rattle.flatten.specs.inside.FollowedParts.{Nodes};
 ghost use Rattle.flatten.specs.inside.Surveys.{AreDone, AreTrue, state_of};
 ghost use Rattle.flatten.specs.inside.Prunings.{AreNodesDone, IsPruned, Prunes, TellsBarren};
 

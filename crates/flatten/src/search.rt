@@ -1,6 +1,6 @@
 ghost use Rattle.std.specs.Prelude.{ℕ, [], ◌∷◌, ◌++◌, ◌≡◌, ◌≢◌, ◌≤◌, ◌<◌, length, IfOk, IfSome, IfNone};
 ghost use Rattle.std.specs.Bool.{OnTrue, OnFalse};
-ghost use Rattle.flatten.specs.inside.Parts.{AreBelow, AreNodesBelow, LeadsTo, Leads};
+ghost use Rattle.flatten.specs.inside.FollowedParts.{AreBelow, AreNodesBelow, LeadsTo, Leads};
 ghost use Rattle.flatten.specs.inside.Surveys.{AreSettled, KeepsDone, state_of};
 ghost use Rattle.flatten.specs.inside.Searches.{IsDoneBefore, IsSearch, steps_left};
 ghost use Rattle.flatten.specs.declared.summary.Summary.{Summary};

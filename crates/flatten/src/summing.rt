@@ -1,5 +1,5 @@
 ghost use Rattle.std.specs.Prelude.{ℕ, [], ◌∷◌, ◌+◌, ◌≡◌, ◌≤◌, ◌<◌, ◌*◌, ◌^◌, length};
-ghost use Rattle.flatten.specs.inside.Parts.{AreBelow};
+ghost use Rattle.flatten.specs.inside.FollowedParts.{AreBelow};
 ghost use Rattle.flatten.specs.inside.Weights.{Weight, IsKept, StandsFor, both_weights, copies_of, kept_of, no_weight, weight_of, times_weight, weight_over};
 ghost use Rattle.flatten.specs.inside.Surveys.{AreWeighed};
 

@@ -1,7 +1,7 @@
 ghost use Rattle.std.specs.Prelude.{ℕ, ◌≡◌, ◌<◌, ◌^◌, length, IfOk};
 ghost use Rattle.std.specs.Bool.{OnTrue, OnFalse};
 ghost use Rattle.first_refusal.specs.Answers.{Answers};
-ghost use Rattle.flatten.specs.inside.Parts.{AreNodesBelow, Leads};
+ghost use Rattle.flatten.specs.inside.FollowedParts.{AreNodesBelow, Leads};
 ghost use Rattle.flatten.specs.inside.Surveys.{AreSettled, KeepsDone, SurveysAll, state_of};
 ghost use Rattle.flatten.specs.declared.summary.Summary.{Summary};
 ghost use Rattle.flatten.specs.declared.summary.State.TheVariants.{Done};

@@ -4,7 +4,7 @@ use Rattle.lists.specs.Words.{Global}
 use Rattle.library_model.specs.declared.element.Shape.{Shape}
 use Rattle.flatten.specs.Steps.{Step, steps_of}
 use Rattle.flatten.specs.Routes.{Route, behind_step}
-use Rattle.flatten.specs.inside.Parts.{parts_at}
+use Rattle.flatten.specs.inside.FollowedParts.{parts_at}
 use Rattle.flatten.specs.declared.part.Part.{Part}
 use Rattle.flatten.specs.declared.part.Part.TheVariants.{End, Copies}
 

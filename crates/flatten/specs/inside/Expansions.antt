@@ -8,7 +8,7 @@ use Rattle.first_refusal.specs.Checks.{Checks}
 use Rattle.first_refusal.specs.Outcomes.{Outcome}
 use Rattle.flatten.specs.Steps.{Step}
 use Rattle.flatten.specs.Routes.{Route, behind_step}
-use Rattle.flatten.specs.inside.Parts.{Nodes, parts_at}
+use Rattle.flatten.specs.inside.FollowedParts.{Nodes, parts_at}
 use Rattle.flatten.specs.inside.Ends.{node_routes}
 use Rattle.flatten.specs.Placed.{IsEndOf}
 use Rattle.flatten.specs.Placements.{PlacesInRange}

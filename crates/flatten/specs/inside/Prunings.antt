@@ -1,6 +1,6 @@
 -- what is left of a graph once all that places nothing has gone
 use Rattle.std.specs.Prelude.{ℕ, Bool, false, ◌↔◌, List, [], ◌∷◌, ◌≡◌, ◌<◌, ◌≤◌, length}
-use Rattle.flatten.specs.inside.Parts.{Nodes, parts_at}
+use Rattle.flatten.specs.inside.FollowedParts.{Nodes, parts_at}
 use Rattle.flatten.specs.inside.Ends.{node_routes}
 use Rattle.flatten.specs.inside.Surveys.{AreDone, AreTrue}
 use Rattle.flatten.specs.declared.part.Part.{Part}

@@ -1,7 +1,7 @@
 -- what a search is that surveys one structure and all to which it leads
 use Rattle.std.specs.Prelude.{ℕ, suc, List, ◌≡◌, ◌≢◌, ◌+◌, ◌<◌, length, take, All, Contains, sum_by, slice_get, Some, Vec}
 use Rattle.lists.specs.Words.{Global}
-use Rattle.flatten.specs.inside.Parts.{LeadsTo, parts_at}
+use Rattle.flatten.specs.inside.FollowedParts.{LeadsTo, parts_at}
 use Rattle.flatten.specs.inside.Weights.{Weight, Weighs, IsKept}
 use Rattle.flatten.specs.inside.Surveys.{AreDone, state_of}
 use Rattle.flatten.specs.declared.part.Part.{Part}

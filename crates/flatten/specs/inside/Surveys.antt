@@ -6,7 +6,7 @@ use Rattle.first_refusal.specs.Outcomes.{Outcome, value, refused}
 use Rattle.library_model.specs.declared.element.Reference.{Reference}
 use Rattle.library_model.specs.declared.library.Structure.{Structure}
 use Rattle.flatten.specs.Structures.{offset_of}
-use Rattle.flatten.specs.inside.Parts.{Leads}
+use Rattle.flatten.specs.inside.FollowedParts.{Leads}
 use Rattle.flatten.specs.inside.Weights.{IsKept, Weighs, Weight}
 use Rattle.flatten.specs.declared.fault.PlaceFault.{PlaceFault}
 use Rattle.flatten.specs.declared.fault.PlaceFault.TheVariants.{Cycle}

@@ -3,7 +3,7 @@ use Rattle.std.specs.Prelude.{ℕ, suc, List, [], ◌∷◌, ◌≡◌, ◌+◌,
 use Rattle.lists.specs.Words.{Global}
 use Rattle.library_model.specs.declared.element.Reference.{Reference}
 use Rattle.flatten.specs.Steps.{columns_of, rows_of}
-use Rattle.flatten.specs.inside.Parts.{LeadsTo, parts_at}
+use Rattle.flatten.specs.inside.FollowedParts.{LeadsTo, parts_at}
 use Rattle.flatten.specs.declared.part.Part.{Part}
 use Rattle.flatten.specs.declared.part.Part.TheVariants.{End, Copies}
 use Rattle.flatten.specs.declared.summary.Summary.{Summary}

@@ -1,5 +1,5 @@
 use Rattle.std.proofs.Common.{inl, inr, take_all, sym, subst}
-use Rattle.flatten.specs.inside.Parts.{AreBelow}
+use Rattle.flatten.specs.inside.FollowedParts.{AreBelow}
 use Rattle.flatten.proofs.WeightLaws.{below_one}
 use Rattle.flatten.proofs.MarkLaws.{leads_more}
 use Rattle.flatten.proofs.marks.mark_targets.Goals as goal

@@ -1,5 +1,5 @@
 use Rattle.std.proofs.Common.{ℕ, ◌⊎◌, take}
-use Rattle.flatten.specs.inside.Parts.{LeadsTo}
+use Rattle.flatten.specs.inside.FollowedParts.{LeadsTo}
 use Rattle.flatten.specs.inside.Marks.{IsMarked}
 use Rattle.flatten.proofs.marks.mark_targets.Given as goal
 

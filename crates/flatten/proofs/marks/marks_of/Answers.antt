@@ -1,6 +1,6 @@
 use Rattle.std.proofs.Common.{◌≡◌, ◌<◌, inl, inr, false, length, sym, ap, subst, ◌∙◌, arith}
 use Rattle.lists.proofs.Words.{cases_lt, length-replicate}
-use Rattle.flatten.specs.inside.Parts.{AreBelow, LeadsTo, parts_at}
+use Rattle.flatten.specs.inside.FollowedParts.{AreBelow, LeadsTo, parts_at}
 use Rattle.flatten.proofs.SearchLaws.{as_made, parts_read}
 use Rattle.flatten.proofs.MarkLaws.{leads_within}
 use Rattle.flatten.proofs.marks.marks_of.Goals as goal

@@ -1,5 +1,5 @@
 use Rattle.std.proofs.Common.{ℕ, ◌≡◌, ◌<◌, length}
-use Rattle.flatten.specs.inside.Parts.{LeadsTo, parts_at}
+use Rattle.flatten.specs.inside.FollowedParts.{LeadsTo, parts_at}
 use Rattle.flatten.specs.inside.Marks.{IsMarked}
 use Rattle.flatten.proofs.marks.marks_of.Given as goal
 

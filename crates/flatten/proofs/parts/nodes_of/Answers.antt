@@ -5,7 +5,7 @@ use Rattle.first_refusal.proofs.AnswerLaws.{handed_on}
 use Rattle.first_refusal.proofs.JudgeLaws.{given, passed}
 use Rattle.lists.proofs.Words.{All-nil}
 use Rattle.flatten.specs.Structures.{references_among}
-use Rattle.flatten.specs.inside.Parts.{IsKnown}
+use Rattle.flatten.specs.inside.FollowedParts.{IsKnown}
 use Rattle.flatten.specs.declared.fault.PlaceFault.TheVariants.{UnknownStructure}
 use Rattle.flatten.proofs.FirstLaws.{refused_at, hold_at}
 use Rattle.flatten.proofs.parts.nodes_of.Goals as goal

@@ -1,7 +1,7 @@
 use Rattle.std.proofs.Common.{[], ◌≡◌, Some, refl, sym}
 use Rattle.first_refusal.proofs.CheckLaws.{fails_at_once}
 use Rattle.map_model.specs.MapNames.{layer_map_of}
-use Rattle.flatten.specs.inside.Parts.{IsKnown, no_more, passed_over, ends_there, goes_on}
+use Rattle.flatten.specs.inside.FollowedParts.{IsKnown, no_more, passed_over, ends_there, goes_on}
 use Rattle.flatten.proofs.LayerLaws.{is_mapped-none}
 use Rattle.flatten.proofs.parts.part_of.Goals as goal
 use Rattle.flatten.proofs.parts.part_of.Goals.{in-None, in-Some}

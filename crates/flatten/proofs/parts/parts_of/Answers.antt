@@ -6,7 +6,7 @@ use Rattle.first_refusal.proofs.AnswerLaws.{handed_on}
 use Rattle.first_refusal.proofs.JudgeLaws.{given, passed}
 use Rattle.map_model.specs.MapNames.{layer_map_of}
 use Rattle.flatten.specs.Structures.{references_in}
-use Rattle.flatten.specs.inside.Parts.{IsKnown, no_more}
+use Rattle.flatten.specs.inside.FollowedParts.{IsKnown, no_more}
 use Rattle.flatten.specs.declared.fault.PlaceFault.TheVariants.{UnknownStructure}
 use Rattle.flatten.proofs.FirstLaws.{refused_at, hold_at}
 use Rattle.flatten.proofs.PartLaws.{one_element_more}

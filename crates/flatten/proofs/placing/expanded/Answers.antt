@@ -4,7 +4,7 @@ use Rattle.first_refusal.specs.Checks.{all_hold}
 use Rattle.first_refusal.proofs.AnswerLaws.{handed_on}
 use Rattle.first_refusal.proofs.JudgeLaws.{given, passed, unread}
 use Rattle.lists.proofs.Reading.{put_back}
-use Rattle.flatten.specs.inside.Parts.{Nodes}
+use Rattle.flatten.specs.inside.FollowedParts.{Nodes}
 use Rattle.flatten.specs.inside.Prunings.{IsPruned}
 use Rattle.flatten.proofs.PlacedLaws.{all_done, still_below, still_there, routes_behind_none}
 use Rattle.flatten.proofs.PruningLaws.{pruned_layers}
