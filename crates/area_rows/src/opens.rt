@@ -1,0 +1,7 @@
+//! Which defects part terminals, and from how many cells.
+
+mod areas;
+mod cells;
+mod drawn;
+mod links;
+mod partings;

@@ -1,0 +1,81 @@
+use super::drawn::{CORNER, Drawn, FRAME, NECK, Spot, WIRE, islands_of};
+use crate::sides::are_near;
+use fault_model::Island;
+use geo_core::Cell;
+use open_grid::parted;
+use std::alloc::Global;
+
+/// What is drawn, a radius, a cell, and whether the defect there parts two terminals.
+type Row = (Drawn, u32, Spot, bool);
+
+/// A wire that ends where shapes may end at most.
+const FAR: Drawn = Drawn {
+    rects: &[(999_999_980, 999_999_998, 1_000_000_000, 1_000_000_000)],
+    terminals: &[(999_999_980, 999_999_998), (999_999_999, 999_999_999)],
+};
+
+const ROWS: &[Row] = &[
+    // a terminal that is covered, and one of which half squares are left
+    (WIRE, 1, (0, 0), true),
+    (WIRE, 1, (1, 0), false),
+    (WIRE, 2, (1, -1), true),
+    (WIRE, 2, (2, -1), false),
+    // the wire is cut, from both of its rows; from the row above, half of its first row is left
+    (WIRE, 2, (10, 0), true),
+    (WIRE, 2, (10, 1), true),
+    (WIRE, 2, (10, 2), false),
+    // one side of a frame may go, and all of it may not
+    (FRAME, 2, (10, 0), false),
+    (FRAME, 2, (10, 1), false),
+    (FRAME, 2, (0, 10), true),
+    (FRAME, 2, (2, 10), false),
+    (FRAME, 11, (10, 10), true),
+    // the first is joined to the third over half of the second, and to neither where the second is covered
+    (NECK, 1, (10, 1), false),
+    (NECK, 1, (10, -1), false),
+    (NECK, 1, (10, 0), true),
+    // half of the second is left, and joined to one of the others alone
+    (NECK, 1, (9, 0), true),
+    (NECK, 1, (11, 0), true),
+    (NECK, 1, (8, 0), false),
+    // without the way round, the squares meet at a corner alone
+    (CORNER, 2, (4, 10), true),
+    (CORNER, 2, (4, 11), true),
+    (CORNER, 1, (4, 10), false),
+    (CORNER, 2, (3, 3), false),
+    // the greatest radius, from the farthest cell at which it covers a terminal, from the next, and from beyond all rectangles
+    (FAR, 1_000_000, (1_000_999_998, 1_000_999_998), true),
+    (FAR, 1_000_000, (1_000_999_999, 1_000_999_998), false),
+    (FAR, 1_000_000, (1_001_000_000, 1_000_999_998), false),
+];
+
+/// Whether the one island is parted there, or not, as it should be.
+fn is_parted(alloc: Global, islands: &[Island], radius: u32, spot: Spot, wanted: bool) -> bool {
+    if radius == 0 || radius > 1_000_000 {
+        return false;
+    }
+    let (i, j) = spot;
+    match islands {
+        [island] => {
+            are_near(island.pieces.as_slice())
+                && parted(alloc, island, Cell { i, j }, radius) == Ok(wanted)
+        }
+        _ => false,
+    }
+}
+
+/// Whether the one island that is drawn is.
+fn is_right(alloc: Global, row: &Row) -> bool {
+    let (drawn, radius, spot, wanted) = row;
+    match islands_of(alloc, drawn) {
+        Some(islands) => is_parted(alloc, islands.as_slice(), *radius, *spot, *wanted),
+        None => false,
+    }
+}
+
+#[test]
+fn terminals_are_parted(rt: HostRuntime) {
+    for (number, row) in ROWS.iter().enumerate() {
+        assert!(rt; is_right(rt.alloc(), row), "row {number}");
+    }
+}

@@ -1,0 +1,4 @@
+//! Runs: rectangles without common cells that have the cells of a list, or the cells of two of its rectangles.
+
+mod counting;
+mod rows;

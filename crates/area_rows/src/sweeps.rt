@@ -1,0 +1,4 @@
+//! The calls that count by columns: rows of nodes and the tree of counts.
+
+mod area_rows;
+mod tree_rows;

@@ -1,0 +1,4 @@
+//! Areas of unions and of vias.
+
+mod unions;
+mod vias;
