@@ -1,7 +1,7 @@
 //! Totals for several numbers of workers.
 
 use super::jobs::SumJob;
-use lists::NoMemory;
+use crate::totals::are_totals;
 use std::alloc::Global;
 use std::thread::Threads;
 use tile_board::Board;
@@ -29,10 +29,10 @@ const ROWS: &[Row] = &[
 ];
 
 /// Whether the totals of a row come out.
-fn is_right(rt: &(impl Threads + Sync), alloc: Global, row: Row) -> Result<bool, NoMemory> {
-    let (tickets, cap, workers, wanted) = row;
+fn is_right(rt: &(impl Threads + Sync), alloc: Global, row: &Row) -> bool {
+    let (tickets, cap, workers, wanted) = *row;
     if workers < 1 || workers > 64 || u64::from(tickets) > cap || cap > 1000 {
-        return Ok(false);
+        return false;
     }
     let job = SumJob {
         tickets,
@@ -41,17 +41,18 @@ fn is_right(rt: &(impl Threads + Sync), alloc: Global, row: Row) -> Result<bool,
     };
     let tickets = u64::from(tickets);
     let draws = u64::from(workers) * (tickets + 1);
-    let (board, mut hand) = Board::new(alloc, tickets, 2, cap, draws)?;
-    run_tiles(rt, alloc, &job, &NoGate, &board, &mut hand, workers)?;
-    let totals = close_sums(alloc, &job, board, hand)?;
-    Ok(totals.as_slice() == wanted.as_slice())
+    let Ok((board, mut hand)) = Board::new(alloc, tickets, 2, cap, draws) else {
+        return false;
+    };
+    match run_tiles(rt, alloc, &job, &NoGate, &board, &mut hand, workers) {
+        Ok(()) => are_totals(close_sums(alloc, &job, board, hand), wanted.as_slice()),
+        Err(_) => false,
+    }
 }
 
 #[test]
 fn totals_are_the_same_for_any_number_of_workers(rt: HostRuntime) {
-    let mut all = true;
     for row in ROWS {
-        all = all && is_right(&rt, rt.alloc(), *row) == Ok(true);
+        assert!(rt; is_right(&rt, rt.alloc(), row));
     }
-    assert!(rt; all);
 }

@@ -1,7 +1,7 @@
 //! Want of memory at one ticket.
 
 use super::jobs::SumJob;
-use lists::NoMemory;
+use crate::totals::are_totals;
 use std::alloc::Global;
 use std::thread::Threads;
 use tile_board::Board;
@@ -24,10 +24,10 @@ const ROWS: &[Row] = &[
 ];
 
 /// Whether a row comes out.
-fn is_right(rt: &(impl Threads + Sync), alloc: Global, row: Row) -> Result<bool, NoMemory> {
-    let (refused, workers, left, wanted) = row;
+fn is_right(rt: &(impl Threads + Sync), alloc: Global, row: &Row) -> bool {
+    let (refused, workers, left, wanted) = *row;
     if workers < 1 || workers > 64 {
-        return Ok(false);
+        return false;
     }
     let job = SumJob {
         tickets: 3,
@@ -35,18 +35,18 @@ fn is_right(rt: &(impl Threads + Sync), alloc: Global, row: Row) -> Result<bool,
         refused: Some(refused),
     };
     let draws = u64::from(workers) * 4;
-    let (board, mut hand) = Board::new(alloc, 3, 2, 3, draws)?;
+    let Ok((board, mut hand)) = Board::new(alloc, 3, 2, 3, draws) else {
+        return false;
+    };
     let outcome = run_tiles(rt, alloc, &job, &NoGate, &board, &mut hand, workers);
     let hand_left = hand.left();
-    let totals = board.close(alloc, hand)?;
-    Ok(outcome == Err(NoMemory) && hand_left == left && totals.as_slice() == wanted.as_slice())
+    let sums = are_totals(board.close(alloc, hand), wanted.as_slice());
+    sums && outcome.is_err() && hand_left == left
 }
 
 #[test]
 fn want_of_memory_is_answered(rt: HostRuntime) {
-    let mut all = true;
     for row in ROWS {
-        all = all && is_right(&rt, rt.alloc(), *row) == Ok(true);
+        assert!(rt; is_right(&rt, rt.alloc(), row));
     }
-    assert!(rt; all);
 }

@@ -1,6 +1,6 @@
 use Rattle.std.proofs.Common.{arith}
 use Rattle.std.proofs.lemmas.Bool.Decides.{nat_tests}
-use Rattle.board_rows.proofs.working.work.Goals as goal
+use Rattle.tile_rows.proofs.boards.working.work.Goals as goal
 
 pub credit-requires-in-loop-hand-clause-first : goal.credit-requires-in-loop-hand-clause-first
 credit-requires-in-loop-hand-clause-first c =

@@ -5,7 +5,7 @@ ghost use Rattle.std.specs.Thread.{IsSync};
 ghost use Rattle.tile_board.specs.Hands.{limits_of, BelongsTo};
 
 use super::working::work;
-use lists::NoMemory;
+use crate::totals::are_totals;
 use std::alloc::Global;
 use std::thread;
 use std::thread::Threads;
@@ -61,22 +61,21 @@ const ROWS: &[Row] = &[
 ];
 
 /// Whether the totals of a row come out.
-fn is_right(rt: &(impl Threads + Sync), alloc: Global, row: Row) -> Result<bool, NoMemory> {
-    let (tickets, draws, halvings, wanted) = row;
+fn is_right(rt: &(impl Threads + Sync), alloc: Global, row: &Row) -> bool {
+    let (tickets, draws, halvings, wanted) = *row;
     if tickets > 1_000_000 || draws < 1 || draws > 1_000_000 {
-        return Ok(false);
+        return false;
     }
-    let (board, hand) = Board::new(alloc, tickets, 2, 7, draws)?;
+    let Ok((board, hand)) = Board::new(alloc, tickets, 2, 7, draws) else {
+        return false;
+    };
     let hand = work_in_parts(rt, &board, hand, halvings);
-    let totals = board.close(alloc, hand)?;
-    Ok(totals.as_slice() == wanted.as_slice())
+    are_totals(board.close(alloc, hand), wanted.as_slice())
 }
 
 #[test]
 fn totals_are_exact_whatever_the_order(rt: HostRuntime) {
-    let mut all = true;
     for row in ROWS {
-        all = all && is_right(&rt, rt.alloc(), *row) == Ok(true);
+        assert!(rt; is_right(&rt, rt.alloc(), row));
     }
-    assert!(rt; all);
 }

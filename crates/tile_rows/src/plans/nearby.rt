@@ -1,3 +1,4 @@
+use super::found::{near_in_order, so_many_near};
 use super::sides::{Sides, have_labels, pieces_of, rect_of, rects_of};
 use geo_core::{Labelled, Rect};
 use std::alloc::Global;
@@ -72,37 +73,38 @@ fn are_near(alloc: Global, pieces: &[Labelled], tile: Rect, reach: u32, labels: 
     }
 }
 
-/// Whether an index finds these near the tile, in any order.
-fn are_found(alloc: Global, pieces: &[Labelled], tile: Rect, reach: u32, labels: &[usize]) -> bool {
-    let Ok(index) = NearIndex::new(alloc, pieces) else {
-        return false;
-    };
-    let Ok(mut found) = index.near(alloc, tile, reach) else {
-        return false;
-    };
-    found.sort_unstable_by_key(|piece| piece.label);
-    have_labels(found.as_slice(), labels)
+/// Whether the index finds these near the tile, in any order.
+fn has_near(
+    alloc: Global,
+    index: &NearIndex<Labelled>,
+    tile: Rect,
+    reach: u32,
+    labels: &[usize],
+) -> bool {
+    match near_in_order(alloc, index, tile, reach) {
+        Ok(found) => have_labels(found.as_slice(), labels),
+        Err(_) => false,
+    }
 }
 
-/// How many of the rectangles, without labels, are near the tile, and how many of them an index finds.
-fn counts(alloc: Global, rects: &[Rect], tile: Rect, reach: u32) -> Option<(usize, usize)> {
-    let found = near(alloc, rects, tile, reach).ok()?;
-    let index = NearIndex::new(alloc, rects).ok()?;
-    let also = index.near(alloc, tile, reach).ok()?;
-    Some((found.len(), also.len()))
+/// Whether an index finds these near the tile, in any order.
+fn are_found(alloc: Global, pieces: &[Labelled], tile: Rect, reach: u32, labels: &[usize]) -> bool {
+    match NearIndex::new(alloc, pieces) {
+        Ok(index) => has_near(alloc, &index, tile, reach, labels),
+        Err(_) => false,
+    }
 }
 
 /// Whether what is near in a row is as the row says.
 fn is_right(alloc: Global, row: &Row) -> bool {
-    let (table, tile, reach, labels) = row;
-    let Some(pieces) = pieces_of(alloc, table) else {
+    let (table, sides, reach, labels) = row;
+    let Some(tile) = rect_of(sides) else {
         return false;
     };
-    let pieces = pieces.as_slice();
-    match rect_of(tile) {
-        Some(tile) => {
-            are_near(alloc, pieces, tile, *reach, labels)
-                && are_found(alloc, pieces, tile, *reach, labels)
+    match pieces_of(alloc, table) {
+        Some(pieces) => {
+            are_near(alloc, pieces.as_slice(), tile, *reach, labels)
+                && are_found(alloc, pieces.as_slice(), tile, *reach, labels)
         }
         None => false,
     }
@@ -110,28 +112,21 @@ fn is_right(alloc: Global, row: &Row) -> bool {
 
 /// Whether as many rectangles without labels are near.
 fn is_right_without_labels(alloc: Global, row: &Row) -> bool {
-    let (table, tile, reach, labels) = row;
-    let Some(rects) = rects_of(alloc, table) else {
+    let (table, sides, reach, labels) = row;
+    let Some(tile) = rect_of(sides) else {
         return false;
     };
-    match rect_of(tile) {
-        Some(tile) => {
-            counts(alloc, rects.as_slice(), tile, *reach) == Some((labels.len(), labels.len()))
-        }
+    match rects_of(alloc, table) {
+        Some(rects) => so_many_near(alloc, rects.as_slice(), tile, *reach, labels.len()),
         None => false,
     }
 }
 
+/// Each row holds of pieces, and of rectangles without labels, of which as many are near.
 #[test]
-fn finds_near_pieces(rt: HostRuntime) {
+fn finds_near_pieces_and_rectangles(rt: HostRuntime) {
     for (number, row) in ROWS.iter().enumerate() {
-        assert!(rt; is_right(rt.alloc(), row), "row {number}");
-    }
-}
-
-#[test]
-fn finds_near_rectangles(rt: HostRuntime) {
-    for (number, row) in ROWS.iter().enumerate() {
-        assert!(rt; is_right_without_labels(rt.alloc(), row), "row {number}");
+        let right = is_right(rt.alloc(), row) && is_right_without_labels(rt.alloc(), row);
+        assert!(rt; right, "row {number}");
     }
 }

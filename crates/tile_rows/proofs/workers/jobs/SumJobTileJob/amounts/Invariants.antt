@@ -1,5 +1,5 @@
 use Rattle.std.proofs.Common.{ℕ, ◌+◌, ◌<◌, ◌≡◌, length, slice_index}
-use Rattle.work_rows.proofs.jobs.SumJobTileJob.amounts.Given as goal
+use Rattle.tile_rows.proofs.workers.jobs.SumJobTileJob.amounts.Given as goal
 
 -- the list holds the amounts of the slots so far
 abbrev pub invariant-loop-slot : goal.invariant-loop-slot

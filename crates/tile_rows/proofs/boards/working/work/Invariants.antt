@@ -1,5 +1,5 @@
 use Rattle.tile_board.specs.Hands.{view_of, BelongsTo}
-use Rattle.board_rows.proofs.working.work.Given as goal
+use Rattle.tile_rows.proofs.boards.working.work.Given as goal
 
 abbrev pub invariant-loop-hand : goal.invariant-loop-hand
 invariant-loop-hand l = BelongsTo l.board l.hand

@@ -1,5 +1,5 @@
 use Rattle.std.proofs.Common.{◌+◌, ◌*◌}
-use Rattle.board_rows.proofs.threads.+fn-work_in_parts-join+arg2+fn-work_in_parts-join+arg3+work_in_parts.Given as goal
+use Rattle.tile_rows.proofs.boards.threads.+fn-work_in_parts-join+arg2+fn-work_in_parts-join+arg3+work_in_parts.Given as goal
 
 -- a part has one halving less, and its closure comes between
 abbrev pub decreases-join+arg2 : goal.decreases-join+arg2
