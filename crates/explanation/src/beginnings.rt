@@ -4,7 +4,7 @@
 const GDSII: &[u8] = b"\x00\x06\x00\x02";
 
 /// Beginnings, and what has them.
-const KNOWN: [(&[u8], &str); 21] = [
+const KNOWN: &[(&[u8], &str)] = &[
     (GDSII, "a GDSII layout"),
     (b"%SEMI-OASIS", "an OASIS layout: export it as GDSII"),
     (b"\x1F\x8B", "a gzip file: unpack it with gunzip"),
@@ -37,8 +37,8 @@ const KNOWN: [(&[u8], &str); 21] = [
 /// What a file that begins with these bytes is, where this is known.
 pub fn format_of(bytes: &[u8]) -> Option<&'static str> {
     for (beginning, what) in KNOWN {
-        if bytes.starts_with(beginning) {
-            return Some(what);
+        if bytes.starts_with(*beginning) {
+            return Some(*what);
         }
     }
     None
@@ -49,11 +49,17 @@ pub fn is_gdsii(bytes: &[u8]) -> bool {
     bytes.starts_with(GDSII)
 }
 
+/// Whether the byte is one of a text: a sign of ASCII, a space or another white one.
+fn is_of_text(byte: u8) -> bool {
+    matches!(byte, b'\t' | b'\n' | b'\x0C' | b'\r' | b' '..=b'~')
+}
+
 /// Whether the bytes begin as a text does, with four printable bytes.
 pub fn begins_as_text(bytes: &[u8]) -> bool {
-    match bytes.get(..4) {
-        Some(first) => first.iter().all(|byte| byte.is_ascii_graphic()
-            || byte.is_ascii_whitespace()),
-        None => false,
+    for byte in bytes.iter().take(4) {
+        if !is_of_text(*byte) {
+            return false;
+        }
     }
+    bytes.len() >= 4
 }

@@ -79,7 +79,25 @@ fn map_of(
     }
 }
 
-/// Tells of the layout that is asked for.
+/// Tells of the layout that is asked for, by a good map.
+fn tell_mapped<F: Files, P: Paths>(
+    alloc: Global,
+    told: &mut Telling,
+    map: &Map,
+    request: &Request,
+    files: &mut F,
+    paths: &P,
+) -> Result<(), NoMemory> {
+    match &request.task {
+        Task::OneMetal { layout, top, .. } | Task::Mapped { layout, top, .. } => {
+            let top = top.as_ref().map(Name::as_slice);
+            tell_file(alloc, told, map, layout.as_slice(), top, files, paths)
+        }
+        Task::Generated { columns } => tell_generated(alloc, told, map, *columns),
+    }
+}
+
+/// Tells of the map or the layout that is asked for.
 fn tell_request<F: Files, P: Paths>(
     alloc: Global,
     told: &mut Telling,
@@ -87,15 +105,9 @@ fn tell_request<F: Files, P: Paths>(
     files: &mut F,
     paths: &P,
 ) -> Result<(), NoMemory> {
-    let Some(map) = map_for(alloc, told, request, files, paths)? else {
-        return Ok(());
-    };
-    match &request.task {
-        Task::OneMetal { layout, top, .. } | Task::Mapped { layout, top, .. } => {
-            let top = top.as_ref().map(Name::as_slice);
-            tell_file(alloc, told, &map, layout.as_slice(), top, files, paths)
-        }
-        Task::Generated { columns } => tell_generated(alloc, told, &map, *columns),
+    match map_for(alloc, told, request, files, paths)? {
+        Some(map) => tell_mapped(alloc, told, &map, request, files, paths),
+        None => Ok(()),
     }
 }
 
@@ -118,6 +130,26 @@ fn tell_generated(
     tell_layout(alloc, told, map, &layout)
 }
 
+/// Tells of the layout that these bytes are.
+fn tell_bytes(
+    alloc: Global,
+    told: &mut Telling,
+    map: &Map,
+    name: &[u8],
+    top: Option<&[u8]>,
+    bytes: &[u8],
+) -> Result<(), NoMemory> {
+    if bytes.len() > LONGEST_LAYOUT {
+        return Ok(());
+    }
+    let layout = Layout {
+        origin: Origin::File(name),
+        bytes,
+        top,
+    };
+    tell_layout(alloc, told, map, &layout)
+}
+
 /// Tells of the layout in the file of this name, of which this top is wanted, or any.
 fn tell_file<F: Files, P: Paths>(
     alloc: Global,
@@ -128,18 +160,25 @@ fn tell_file<F: Files, P: Paths>(
     files: &mut F,
     paths: &P,
 ) -> Result<(), NoMemory> {
-    let Some(bytes) = read_again(alloc, told, files, paths, Input::Layout, name)? else {
-        return Ok(());
-    };
-    if bytes.len() > LONGEST_LAYOUT {
-        return Ok(());
+    match read_again(alloc, told, files, paths, Input::Layout, name)? {
+        Some(bytes) => tell_bytes(alloc, told, map, name, top, bytes.as_slice()),
+        None => Ok(()),
     }
-    let layout = Layout {
-        origin: Origin::File(name),
-        bytes: bytes.as_slice(),
-        top,
-    };
-    tell_layout(alloc, told, map, &layout)
+}
+
+/// Tells of the run of these words on these files.
+fn tell<F: Files, P: Paths>(
+    alloc: Global,
+    told: &mut Telling,
+    words: &[Word],
+    files: &mut F,
+    paths: &P,
+) -> Result<(), NoMemory> {
+    match read_words(alloc, words) {
+        Ok(request) => tell_request(alloc, told, &request, files, paths),
+        Err(WordsFault::Usage) => tell_words(alloc, told, words),
+        Err(WordsFault::Memory) => Err(NoMemory),
+    }
 }
 
 /// What is to be said of the run of these words on these files.
@@ -153,11 +192,7 @@ pub fn explain<F: Files, P: Paths>(
         status: 0,
         text: Text::new(alloc),
     };
-    match read_words(alloc, words) {
-        Ok(request) => tell_request(alloc, &mut told, &request, files, paths)?,
-        Err(WordsFault::Usage) => tell_words(alloc, &mut told, words)?,
-        Err(WordsFault::Memory) => return Err(NoMemory),
-    }
+    tell(alloc, &mut told, words, files, paths)?;
     let Telling { status, text } = told;
     Ok(Explanation {
         status,

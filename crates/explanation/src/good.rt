@@ -1,13 +1,13 @@
 //! What is told of a run that gives a report.
 
-use crate::graph::{graph_of, tops_of};
+use crate::graph::{Graph, first_top, graph_of};
 use crate::layer_names::{layer_count, tell_layer};
 use crate::layouts::Layout;
 use crate::shapes::Held;
 use crate::terminals::tell_terminal_counts;
 use crate::text::Text;
 use crate::unit::tell_unit;
-use library_model::Library;
+use library_model::{Library, Structure};
 use lists::NoMemory;
 use map_model::Map;
 use std::alloc::Global;
@@ -19,30 +19,29 @@ fn tell_held(text: &mut Text, map: &Map, number: usize, held: &Held) {
         points,
         bounds,
     } = *held;
-    text.say("  ");
-    tell_layer(text, map, number);
+    tell_layer(text, "  ", map, number);
     if shapes == 0 {
         text.say(": no shapes; are its layers and datatypes those of the layout?\n");
         return;
     }
-    text.say(": ");
-    text.number(shapes);
-    text.say(" shapes with ");
-    text.number(points);
-    text.say(" points");
+    text.number(": ", shapes, " shapes with ");
+    text.number("", points, " points");
     match bounds {
         Some((left, bottom, right, top)) => {
-            text.say(", from (");
-            text.signed(left as i64);
-            text.say(", ");
-            text.signed(bottom as i64);
-            text.say(") to (");
-            text.signed(right as i64);
-            text.say(", ");
-            text.signed(top as i64);
-            text.say(")\n");
+            text.point(", from ", left as i64, bottom as i64, " to ");
+            text.point("", right as i64, top as i64, "\n");
         }
         None => text.say(", which cover nothing\n"),
+    }
+}
+
+/// Tells the name of the first structure that no reference names.
+fn tell_first(text: &mut Text, structures: &[Structure], graph: &Graph) {
+    let Some(top) = first_top(graph) else {
+        return;
+    };
+    if let Some(structure) = structures.get(top) {
+        text.name("top ", structure.name.as_slice(), "");
     }
 }
 
@@ -55,17 +54,10 @@ fn tell_top(
 ) -> Result<(), NoMemory> {
     let structures = library.structures.as_slice();
     if let Some(top) = layout.top {
-        text.say("top ");
-        text.name(top);
+        text.name("top ", top, "");
         return Ok(());
     }
-    let tops = tops_of(alloc, &graph_of(alloc, structures)?)?;
-    if let Some(top) = tops.first() {
-        if let Some(structure) = structures.get(*top) {
-            text.say("top ");
-            text.name(structure.name.as_slice());
-        }
-    }
+    tell_first(text, structures, &graph_of(alloc, structures)?);
     Ok(())
 }
 
@@ -79,13 +71,9 @@ fn tell_library(
     let count = library.structures.as_slice().len();
     layout.tell(text);
     text.say(": nothing is wrong, and the run gives its report\n");
-    text.say("  library ");
-    text.name(library.name.as_slice());
-    text.say(", ");
+    text.name("  library ", library.name.as_slice(), ", ");
     tell_unit(text, library.units);
-    text.say(", ");
-    text.number(count as u64);
-    text.say(" structures, ");
+    text.number(", ", count as u64, " structures, ");
     tell_top(alloc, text, layout, library)?;
     text.say("\n");
     Ok(())

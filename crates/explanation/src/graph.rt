@@ -7,14 +7,14 @@ use lists::NoMemory;
 use std::alloc::Global;
 
 /// A reference: the number of the structure that it places, and how often it does.
-#[derive(Clone, Copy, Debug, PartialEq, Eq)]
+#[derive(Clone, Copy)]
 pub struct Link {
     pub target: usize,
     pub copies: u64,
 }
 
 /// What is known of a structure.
-#[derive(Clone, Copy, Debug, PartialEq, Eq)]
+#[derive(Clone, Copy)]
 pub struct Node {
     /// How many of its references lead to structures that are not known to lead to an end.
     pub waiting: usize,
@@ -57,6 +57,18 @@ fn copies_of(reference: &Reference) -> u64 {
     }
 }
 
+/// The reference that an element is, where it is one to a structure of the library.
+fn link_of(names: &IndexSet<&[u8]>, element: &Element) -> Option<Link> {
+    let Element::Reference(reference) = element else {
+        return None;
+    };
+    let target = names.get_index_of(reference.target.as_slice())?;
+    Some(Link {
+        target,
+        copies: copies_of(reference),
+    })
+}
+
 /// The references of a structure.
 fn links_of(
     alloc: Global,
@@ -65,11 +77,8 @@ fn links_of(
 ) -> Result<Vec<Link>, NoMemory> {
     let mut links = Vec::new(alloc);
     for element in structure.elements.as_slice() {
-        if let Element::Reference(reference) = element {
-            if let Some(target) = names.get_index_of(reference.target.as_slice()) {
-                let copies = copies_of(reference);
-                links.push(Link { target, copies })?;
-            }
+        if let Some(link) = link_of(names, element) {
+            links.push(link)?;
         }
     }
     Ok(links)
@@ -154,6 +163,26 @@ fn node_after(node: Node, next: usize, height: usize) -> Node {
     Node { waiting, ..node }
 }
 
+/// How many references the longest known chain from the structure has.
+fn height_of(nodes: &[Node], one: usize) -> usize {
+    match nodes.get(one) {
+        Some(node) => node.height,
+        None => 0,
+    }
+}
+
+/// Tells one that refers to a structure that the latter leads to an end, in a chain of so many. Whether it waits for no
+/// other.
+fn pass_on(nodes: &mut Vec<Node>, source: usize, one: usize, height: usize) -> bool {
+    match nodes.get_mut(source) {
+        Some(node) => {
+            *node = node_after(*node, one, height);
+            node.waiting == 0
+        }
+        None => false,
+    }
+}
+
 /// Tells those that refer to a structure that it leads to an end. Those that wait for no other become ready.
 fn settle(
     nodes: &mut Vec<Node>,
@@ -161,16 +190,30 @@ fn settle(
     sources: &[usize],
     one: usize,
 ) -> Result<(), NoMemory> {
-    let height = match nodes.get(one) {
-        Some(node) => node.height.saturating_add(1),
-        None => 1,
-    };
+    let height = height_of(nodes.as_slice(), one).saturating_add(1);
     for source in sources {
-        if let Some(node) = nodes.get_mut(*source) {
-            *node = node_after(*node, one, height);
-            if node.waiting == 0 {
-                ready.push(*source)?;
-            }
+        if pass_on(nodes, *source, one, height) {
+            ready.push(*source)?;
+        }
+    }
+    Ok(())
+}
+
+/// Takes a structure that is ready, and tells those that refer to it.
+fn settle_next(graph: &mut Graph, ready: &mut Vec<usize>, one: usize) -> Result<(), NoMemory> {
+    graph.order.push(one)?;
+    match graph.sources.get(one) {
+        Some(sources) => settle(&mut graph.nodes, ready, sources.as_slice(), one),
+        None => Ok(()),
+    }
+}
+
+/// Takes one structure after another that is ready, the last first.
+fn settle_all(graph: &mut Graph, ready: &mut Vec<usize>) -> Result<(), NoMemory> {
+    for _ in 0..graph.nodes.len() {
+        match ready.pop() {
+            Some(one) => settle_next(graph, ready, one)?,
+            None => return Ok(()),
         }
     }
     Ok(())
@@ -180,24 +223,24 @@ fn settle(
 pub fn graph_of(alloc: Global, structures: &[Structure]) -> Result<Graph, NoMemory> {
     let links = all_links(alloc, structures)?;
     let sources = sources_of(alloc, links.as_slice())?;
-    let mut nodes = nodes_of(alloc, links.as_slice())?;
+    let nodes = nodes_of(alloc, links.as_slice())?;
     let mut ready = ready_of(alloc, nodes.as_slice())?;
-    let mut order = Vec::new(alloc);
-    for _ in 0..structures.len() {
-        let Some(one) = ready.pop() else {
-            break;
-        };
-        order.push(one)?;
-        if let Some(list) = sources.get(one) {
-            settle(&mut nodes, &mut ready, list.as_slice(), one)?;
-        }
-    }
-    Ok(Graph {
+    let mut graph = Graph {
         links,
         sources,
         nodes,
-        order,
-    })
+        order: Vec::new(alloc),
+    };
+    settle_all(&mut graph, &mut ready)?;
+    Ok(graph)
+}
+
+/// The references of the structure.
+fn links_at(graph: &Graph, one: usize) -> &[Link] {
+    match graph.links.get(one) {
+        Some(links) => links.as_slice(),
+        None => &[],
+    }
 }
 
 /// Whether references lead on from the structure without end.
@@ -210,9 +253,22 @@ fn is_endless(graph: &Graph, one: usize) -> bool {
 
 /// A structure to which the structure refers, and from which references lead on without end.
 fn endless_target(graph: &Graph, one: usize) -> Option<usize> {
-    let links = graph.links.get(one)?;
-    let link = links.iter().find(|link| is_endless(graph, link.target))?;
-    Some(link.target)
+    for link in links_at(graph, one) {
+        if is_endless(graph, link.target) {
+            return Some(link.target);
+        }
+    }
+    None
+}
+
+/// A structure of a circle to which references lead from the structure: after as many steps as there are structures a walk
+/// goes round one.
+fn in_circle(graph: &Graph, one: usize) -> usize {
+    let mut at = one;
+    for _ in 0..graph.nodes.len() {
+        at = endless_target(graph, at).unwrap_or(at);
+    }
+    at
 }
 
 /// The structures of a circle to which references lead from the structure, in their order, at most so many.
@@ -222,22 +278,12 @@ pub fn circle_from(
     one: usize,
     most: usize,
 ) -> Result<Vec<usize>, NoMemory> {
-    let mut at = one;
-    // After as many steps as there are structures the walk goes round a circle.
-    for _ in 0..graph.nodes.len() {
-        match endless_target(graph, at) {
-            Some(target) => at = target,
-            None => break,
-        }
-    }
-    let first = at;
+    let first = in_circle(graph, one);
+    let mut at = first;
     let mut circle = Vec::new(alloc);
     for _ in 0..most {
         circle.push(at)?;
-        match endless_target(graph, at) {
-            Some(target) => at = target,
-            None => break,
-        }
+        at = endless_target(graph, at).unwrap_or(first);
         if at == first {
             break;
         }
@@ -245,29 +291,23 @@ pub fn circle_from(
     Ok(circle)
 }
 
+/// The structure to which the first reference of the longest chain from the structure leads.
+fn next_in_chain(graph: &Graph, one: usize) -> Option<usize> {
+    graph.nodes.get(one)?.next
+}
+
 /// The last structure of the longest chain from the structure.
 pub fn chain_end(graph: &Graph, one: usize) -> usize {
     let mut at = one;
     for _ in 0..graph.nodes.len() {
-        match graph.nodes.get(at) {
-            Some(
-                Node {
-                    next: Some(next),
-                    ..
-                },
-            ) => at = *next,
-            _ => break,
-        }
+        at = next_in_chain(graph, at).unwrap_or(at);
     }
     at
 }
 
 /// How many references the longest chain from the structure has.
 pub fn chain_length(graph: &Graph, one: usize) -> usize {
-    match graph.nodes.get(one) {
-        Some(node) => node.height,
-        None => 0,
-    }
+    height_of(graph.nodes.as_slice(), one)
 }
 
 /// The numbers of the structures that no reference names.
@@ -281,12 +321,38 @@ pub fn tops_of(alloc: Global, graph: &Graph) -> Result<Vec<usize>, NoMemory> {
     Ok(tops)
 }
 
+/// A count with so many copies more, each placed so often.
+fn with_copies(count: u64, copies: u64, of_one: u64) -> u64 {
+    count.saturating_add(of_one.saturating_mul(copies))
+}
+
+/// The first structure that no reference names, where there is one.
+pub fn first_top(graph: &Graph) -> Option<usize> {
+    for (number, sources) in graph.sources.iter().enumerate() {
+        if sources.is_empty() {
+            return Some(number);
+        }
+    }
+    None
+}
+
 /// Adds to each target of the links as often as it is placed by a structure that is placed so often.
 fn add_copies(times: &mut Vec<u64>, links: &[Link], of_one: u64) {
     for link in links {
         if let Some(count) = times.get_mut(link.target) {
-            *count = count.saturating_add(of_one.saturating_mul(link.copies));
+            *count = with_copies(*count, link.copies, of_one);
         }
+    }
+}
+
+/// Adds to each structure as often as the top places it.
+fn add_all_copies(times: &mut Vec<u64>, graph: &Graph, top: usize) {
+    if let Some(count) = times.get_mut(top) {
+        *count = 1;
+    }
+    for one in graph.order.iter().rev() {
+        let of_one = times.get(*one).copied().unwrap_or(0);
+        add_copies(times, links_at(graph, *one), of_one);
     }
 }
 
@@ -294,14 +360,6 @@ fn add_copies(times: &mut Vec<u64>, links: &[Link], of_one: u64) {
 /// the greatest that they do.
 pub fn times_placed(alloc: Global, graph: &Graph, top: usize) -> Result<Vec<u64>, NoMemory> {
     let mut times = vec![in alloc; 0u64; graph.nodes.len()]?;
-    if let Some(count) = times.get_mut(top) {
-        *count = 1;
-    }
-    for one in graph.order.iter().rev() {
-        let of_one = times.get(*one).copied().unwrap_or(0);
-        if let Some(links) = graph.links.get(*one) {
-            add_copies(&mut times, links.as_slice(), of_one);
-        }
-    }
+    add_all_copies(&mut times, graph, top);
     Ok(times)
 }

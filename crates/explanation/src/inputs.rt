@@ -21,7 +21,7 @@ pub const LONGEST_LAYOUT: usize = 268_435_456;
 const LONGEST_MAP: usize = 1_048_576;
 
 /// What a file is to a run.
-#[derive(Clone, Copy, Debug, PartialEq, Eq)]
+#[derive(Clone, Copy)]
 pub enum Input {
     Map,
     Layout,
@@ -73,14 +73,9 @@ fn words_of(kind: PathKind) -> &'static str {
 
 /// Tells why a file could not be read.
 fn tell_unread(told: &mut Telling, input: Input, name: &[u8], kind: PathKind) {
-    let what = input.word();
-    let why = words_of(kind);
-    told.text.say(what);
-    told.text.say(" ");
-    told.text.name(name);
-    told.text.say(": ");
-    told.text.say(why);
-    told.text.say("\n");
+    told.text.say(input.word());
+    told.text.name(" ", name, ": ");
+    told.text.word("", words_of(kind), "\n");
 }
 
 /// Tells that a file is too long.
@@ -88,13 +83,25 @@ fn tell_too_long(told: &mut Telling, input: Input, name: &[u8]) {
     let limit = input.limit();
     let (status, number) = input.too_long();
     told.refuse(status, number, limit as u64);
-    let what = input.word();
-    told.text.say(what);
-    told.text.say(" ");
-    told.text.name(name);
-    told.text.say(": it has more than ");
-    told.text.number(limit as u64);
-    told.text.say(" bytes\n");
+    told.text.say(input.word());
+    told.text.name(" ", name, ": it has more than ");
+    told.text.number("", limit as u64, " bytes\n");
+}
+
+/// Tells what went wrong when a file was read.
+fn tell_read_error(
+    told: &mut Telling,
+    input: Input,
+    name: &[u8],
+    kind: PathKind,
+    error: ReadError,
+) {
+    if matches!(error, ReadError::TooLong) {
+        tell_too_long(told, input, name);
+        return;
+    }
+    told.status = FAILED;
+    tell_unread(told, input, name, kind);
 }
 
 /// What the file contains, where it can be read a second time and is not too long. Else it is told why not.
@@ -107,19 +114,17 @@ pub fn read_again<F: Files, P: Paths>(
     name: &[u8],
 ) -> Result<Option<Vec<u8>>, NoMemory> {
     let kind = paths.kind(name);
-    if kind == PathKind::Pipe || kind == PathKind::Device {
+    if matches!(kind, PathKind::Pipe | PathKind::Device) {
         told.status = READ_ONCE;
         tell_unread(told, input, name, kind);
         return Ok(None);
     }
     match read_whole(alloc, files, name, input.limit()) {
-        Ok(bytes) => return Ok(Some(bytes)),
-        Err(ReadError::Memory) => return Err(NoMemory),
-        Err(ReadError::TooLong) => tell_too_long(told, input, name),
-        Err(ReadError::Fault) => {
-            told.status = FAILED;
-            tell_unread(told, input, name, kind);
+        Ok(bytes) => Ok(Some(bytes)),
+        Err(ReadError::Memory) => Err(NoMemory),
+        Err(error) => {
+            tell_read_error(told, input, name, kind, error);
+            Ok(None)
         }
     }
-    Ok(None)
 }

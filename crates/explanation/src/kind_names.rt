@@ -2,8 +2,11 @@
 
 use gds_records::kinds;
 
-/// The names of the kinds of records, by their numbers, and nothing for numbers that no kind has here.
-const NAMES: [&str; 60] = [
+/// What a record is called whose kind has no name here.
+const UNKNOWN: &str = "an unknown kind";
+
+/// The names of the kinds of records, by their numbers.
+const NAMES: &[&str] = &[
     "HEADER",
     "BGNLIB",
     "LIBNAME",
@@ -28,13 +31,13 @@ const NAMES: [&str; 60] = [
     "NODE",
     "TEXTTYPE",
     "PRESENTATION",
-    "",
+    UNKNOWN,
     "STRING",
     "STRANS",
     "MAG",
     "ANGLE",
-    "",
-    "",
+    UNKNOWN,
+    UNKNOWN,
     "REFLIBS",
     "FONTS",
     "PATHTYPE",
@@ -44,8 +47,8 @@ const NAMES: [&str; 60] = [
     "STRTYPE",
     "ELFLAGS",
     "ELKEY",
-    "",
-    "",
+    UNKNOWN,
+    UNKNOWN,
     "NODETYPE",
     "PROPATTR",
     "PROPVALUE",
@@ -57,7 +60,7 @@ const NAMES: [&str; 60] = [
     "TAPENUM",
     "TAPECODE",
     "STRCLASS",
-    "",
+    UNKNOWN,
     "FORMAT",
     "MASK",
     "ENDMASKS",
@@ -69,8 +72,8 @@ const NAMES: [&str; 60] = [
 /// The name of a kind of records.
 pub fn record_name(kind: u8) -> &'static str {
     match NAMES.get(kind as usize) {
-        Some(name) if !name.is_empty() => name,
-        _ => "an unknown kind",
+        Some(name) => *name,
+        None => UNKNOWN,
     }
 }
 

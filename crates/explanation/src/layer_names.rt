@@ -11,16 +11,15 @@ pub fn layer_count(map: &Map) -> usize {
         .saturating_add(map.cuts.as_slice().len())
 }
 
-/// Tells which layer has this number: which metal, or which cut.
-pub fn tell_layer(text: &mut Text, map: &Map, number: usize) {
+/// Tells behind some words which layer has this number: which metal, or which cut.
+pub fn tell_layer(text: &mut Text, before: &str, map: &Map, number: usize) {
+    text.say(before);
     let metals = map.metals.as_slice();
     if let Some(metal) = metals.get(number) {
-        text.say("metal ");
-        text.name(metal.name.as_slice());
+        text.name("metal ", metal.name.as_slice(), "");
         return;
     }
     if let Some(cut) = map.cuts.as_slice().get(number.saturating_sub(metals.len())) {
-        text.say("cut ");
-        text.name(cut.name.as_slice());
+        text.name("cut ", cut.name.as_slice(), "");
     }
 }

@@ -52,10 +52,7 @@ impl Layout<'_> {
     /// Tells which layout it is.
     pub fn tell(&self, text: &mut Text) {
         match self.origin {
-            Origin::File(name) => {
-                text.say("layout ");
-                text.name(name);
-            }
+            Origin::File(name) => text.name("layout ", name, ""),
             Origin::Generated => text.say("the generated layout"),
         }
     }
@@ -65,14 +62,11 @@ impl Layout<'_> {
 pub fn tell_number(told: &mut Telling, layout: &Layout<'_>, number: u8, place: u64) {
     told.refuse(REFUSED, number, place);
     let (what, remedy) = meaning(number);
-    layout.tell(&mut told.text);
-    told.text.say(", byte ");
-    told.text.number(place);
-    told.text.say(": ");
-    told.text.say(what);
-    told.text.say("; ");
-    told.text.say(remedy);
-    told.text.say("\n");
+    let text = &mut told.text;
+    layout.tell(text);
+    text.number(", byte ", place, ": ");
+    text.word("", what, "; ");
+    text.word("", remedy, "\n");
 }
 
 /// Tells of a file that is no GDSII layout from its beginning on.
@@ -84,15 +78,30 @@ fn tell_no_gdsii(told: &mut Telling, layout: &Layout<'_>, number: u8, place: u64
     if layout.bytes.is_empty() {
         text.say(", but empty");
     } else if let Some(format) = format_of(layout.bytes) {
-        text.say(", but ");
-        text.say(format);
+        text.word(", but ", format, "");
     } else if begins_as_text(layout.bytes) {
-        text.say("; it begins as a text does, with ");
-        text.name(&layout.bytes[..layout.bytes.len().min(16)]);
+        let beginning = &layout.bytes[..layout.bytes.len().min(16)];
+        text.name("; it begins as a text does, with ", beginning, "");
     } else {
         text.say("; it is compressed or of another format, so unpack it, or export it as GDSII");
     }
     text.say("\n");
+}
+
+/// Tells what is at fault with a record.
+fn tell_record_fault(text: &mut Text, fault: SyntaxFault) {
+    match fault {
+        SyntaxFault::Unexpected { kind, .. } => text.word("", record_name(kind), " "),
+        SyntaxFault::Record(RecordFault::BadLength { len, .. }) => {
+            text.number("length ", len as u64, ", ");
+        }
+        SyntaxFault::Record(RecordFault::BadRecord { kind, form, .. }) => {
+            text.word("", record_name(kind), ", ");
+            text.number("", u64::from(kind), ", with data of form ");
+            text.number("", form as u64, ", ");
+        }
+        _ => {}
+    }
 }
 
 /// Tells of a fault of a record, or of a record that may not stand where it does.
@@ -101,32 +110,9 @@ fn tell_record(told: &mut Telling, layout: &Layout<'_>, fault: SyntaxFault) {
     let text = &mut told.text;
     let spot = spot_before(layout.bytes, fault.place() as u32);
     text.say("  ");
-    match fault {
-        SyntaxFault::Unexpected { kind, .. } => {
-            let name = record_name(kind);
-            text.say(name);
-            text.say(" ");
-        }
-        SyntaxFault::Record(RecordFault::BadLength { len, .. }) => {
-            text.say("length ");
-            text.number(len as u64);
-            text.say(", ");
-        }
-        SyntaxFault::Record(RecordFault::BadRecord { kind, form, .. }) => {
-            let name = record_name(kind);
-            text.say(name);
-            text.say(", ");
-            text.number(u64::from(kind));
-            text.say(", with data of form ");
-            text.number(form as u64);
-            text.say(", ");
-        }
-        _ => {}
-    }
+    tell_record_fault(text, fault);
     tell_before(text, &spot);
-    text.say(", ");
-    tell_place(text, &spot);
-    text.say("\n");
+    tell_place(text, ", ", &spot, "\n");
 }
 
 /// Tells of a fault of an element, or of a name that stands twice.
@@ -134,12 +120,9 @@ fn tell_element_fault(told: &mut Telling, layout: &Layout<'_>, fault: SyntaxFaul
     tell_number(told, layout, fault.number(), fault.place());
     let text = &mut told.text;
     let spot = spot_at(layout.bytes, fault.place() as u32);
-    text.say("  ");
-    tell_place(text, &spot);
+    tell_place(text, "  ", &spot, "");
     if let SyntaxFault::Missing { kind, .. } = fault {
-        let name = record_name(kind);
-        text.say("; it lacks ");
-        text.say(name);
+        text.word("; it lacks ", record_name(kind), "");
     }
     text.say("\n");
 }
@@ -173,13 +156,13 @@ fn tell_off_metal(
     first: Known,
 ) {
     told.refuse(REFUSED, 50, first.index as u64);
-    layout.tell(&mut told.text);
-    told.text.say(": no shape of its metal covers ");
-    tell_terminal(&mut told.text, map, first);
-    told.text.say(
+    let text = &mut told.text;
+    layout.tell(text);
+    tell_terminal(text, ": no shape of its metal covers ", map, first);
+    text.say(
         "; move the terminal onto one, or see whether the metal has the right layers and datatypes\n",
     );
-    tell_others(&mut told.text, map, known, first);
+    tell_others(text, map, known, first);
 }
 
 /// Tells of a library all of whose placed shapes have covers.

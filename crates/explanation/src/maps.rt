@@ -2,7 +2,7 @@
 
 use crate::beginnings::{format_of, is_gdsii};
 use crate::map_spot::{
-    DOCUMENT_KEYS, List, Spot, items_of, member, spot_of, text_in, value_at, wanted,
+    DOCUMENT_KEYS, Key, List, Spot, items_of, member, spot_of, text_in, value_at, wanted,
 };
 use crate::position::{front, last_line, line_ends};
 use crate::telling::Telling;
@@ -12,6 +12,12 @@ use lists::NoMemory;
 use std::alloc::Global;
 use toml::{Table, Value};
 
+/// The path of the radii.
+const RADII: u32 = 3;
+
+/// The path of the list of terminals.
+const TERMINALS: u32 = 7;
+
 /// Tells what the reader of TOML says of a text, and where.
 fn tell_syntax(text: &mut Text, bytes: &[u8], error: &toml::de::Error) {
     let Some(span) = error.span() else {
@@ -20,27 +26,22 @@ fn tell_syntax(text: &mut Text, bytes: &[u8], error: &toml::de::Error) {
     let before = front(bytes, span.start);
     let line = line_ends(before).saturating_add(1);
     let column = last_line(before).saturating_add(1);
-    text.say("  line ");
-    text.number(line as u64);
-    text.say(", column ");
-    text.number(column as u64);
-    text.say(": ");
+    text.number("  line ", line as u64, ", column ");
+    text.number("", column as u64, ": ");
     text.raw(error.message().as_bytes());
     text.say("\n");
 }
 
 /// Tells of a map that is no TOML document.
 fn tell_no_document(text: &mut Text, name: &[u8], bytes: &[u8], error: &toml::de::Error) {
-    text.say("map ");
-    text.name(name);
+    text.name("map ", name, "");
     if is_gdsii(bytes) {
         text.say(": it is a GDSII layout; were the layout and the map exchanged?\n");
         return;
     }
     text.say(": it is no TOML document");
     if let Some(format) = format_of(bytes) {
-        text.say(", but ");
-        text.say(format);
+        text.word(", but ", format, "");
     }
     text.say("\n");
     tell_syntax(text, bytes, error);
@@ -48,75 +49,77 @@ fn tell_no_document(text: &mut Text, name: &[u8], bytes: &[u8], error: &toml::de
 
 /// Tells which place of the map is meant, as the beginning of a line.
 fn tell_spot(text: &mut Text, document: &Table, name: &[u8], spot: Spot) {
-    text.say("map ");
-    text.name(name);
-    text.say(", ");
+    text.name("map ", name, ", ");
     match spot {
         Spot::Document => text.say("the document"),
-        Spot::Key(key) => {
-            text.say("`");
-            text.say(key);
-            text.say("`");
-        }
+        Spot::Key(key) => text.word("`", key.name, "`"),
         Spot::Item(list, number) => tell_item(text, document, list, number),
         Spot::ItemKey(list, number, key) => {
-            text.say("`");
-            text.say(key);
-            text.say("` of ");
+            text.word("`", key.name, "` of ");
             tell_item(text, document, list, number);
         }
     }
     text.say(": ");
 }
 
+/// Tells behind some words the name of a metal or a cut, where it has one.
+fn tell_name(text: &mut Text, before: &str, item: &Value) {
+    if let Some(name) = text_in(item, "name") {
+        text.name(before, name.as_bytes(), "");
+    }
+}
+
 /// Tells which table of a list is meant, by its number from 1 and by its name, where it has one.
 fn tell_item(text: &mut Text, document: &Table, list: List, number: usize) {
-    let key = list.key();
-    let count = number.saturating_add(1);
-    text.say("[[");
-    text.say(key);
-    text.say("]] number ");
-    text.number(count as u64);
+    text.word("[[", list.key(), "]] number ");
+    text.number("", number.saturating_add(1) as u64, "");
     if let Some(item) = items_of(document, list).get(number) {
-        if let Some(name) = text_in(item, "name") {
-            text.say(", ");
-            text.name(name.as_bytes());
-        }
+        tell_name(text, ", ", item);
     }
 }
 
 /// Tells what stands at a place.
 fn tell_value(alloc: Global, text: &mut Text, value: Option<&Value>) -> Result<(), NoMemory> {
-    match value {
-        None => text.say("  there stands nothing\n"),
-        Some(value) => {
-            let kind = value.type_str();
-            let shown = format!(in alloc; "{value}")?;
-            text.say("  there stands, of the kind ");
-            text.say(kind);
-            text.say(": ");
-            text.raw(shown.as_str().as_bytes());
-            text.say("\n");
-        }
-    }
+    let Some(value) = value else {
+        text.say("  there stands nothing\n");
+        return Ok(());
+    };
+    let shown = format!(in alloc; "{value}")?;
+    text.word("  there stands, of the kind ", value.type_str(), ": ");
+    text.raw(shown.as_str().as_bytes());
+    text.say("\n");
     Ok(())
 }
 
-/// Tells the keys of a table that are not known, and those that are.
-fn tell_keys(text: &mut Text, table: &Table, known: &[&str]) {
-    text.say("  not known:");
-    for key in table.keys() {
-        if !known.iter().any(|other| *other == key.as_str()) {
-            text.say(" ");
-            text.name(key.as_str().as_bytes());
+/// Whether the key is one of those that are known.
+fn is_known(known: &[Key], name: &str) -> bool {
+    for key in known {
+        if key.name == name {
+            return true;
         }
     }
+    false
+}
+
+/// Tells the keys that are known.
+fn tell_known(text: &mut Text, known: &[Key]) {
     text.say("\n  known:");
     for key in known {
-        text.say(" ");
-        text.say(key);
+        text.word(" ", key.name, "");
     }
     text.say("\n");
+}
+
+/// Tells the keys of a table that are not known, and those that are.
+fn tell_keys(text: &mut Text, table: &Table, known: &[Key]) {
+    text.say("  not known:");
+    for key in table.keys() {
+        let name = key.as_str();
+        if !is_known(known, name) {
+            text.name(" ", name.as_bytes(), "");
+        }
+    }
+    tell_known(text, known);
 }
 
 /// Tells of the keys of a table that has one that is not known.
@@ -127,8 +130,18 @@ fn tell_bad_key(text: &mut Text, document: &Table, spot: Spot) {
             Some(Value::Table(table)) => tell_keys(text, table, list.known()),
             _ => {}
         },
-        _ => tell_keys(text, document, &DOCUMENT_KEYS),
+        _ => tell_keys(text, document, DOCUMENT_KEYS),
     }
+}
+
+/// Two whole numbers of which the other is not greater than the one, where these are such.
+fn fall_of(one: &Value, other: &Value) -> Option<(i64, i64)> {
+    let one = one.as_integer()?;
+    let other = other.as_integer()?;
+    if other > one {
+        return None;
+    }
+    Some((one, other))
 }
 
 /// Tells which whole number of a list is the first that is not greater than the one before it.
@@ -136,20 +149,12 @@ fn tell_fall(text: &mut Text, value: Option<&Value>) {
     let Some(Value::Array(items)) = value else {
         return;
     };
-    let mut before = None;
-    for item in items {
-        let number = item.as_integer();
-        if let (Some(before), Some(number)) = (before, number) {
-            if number <= before {
-                text.say("  not greater than the one before it, ");
-                text.signed(before);
-                text.say(": ");
-                text.signed(number);
-                text.say("\n");
-                return;
-            }
+    for k in 1..items.len() {
+        if let Some((before, number)) = fall_of(&items[k - 1], &items[k]) {
+            text.signed("  not greater than the one before it, ", before, ": ");
+            text.signed("", number, "\n");
+            return;
         }
-        before = number;
     }
 }
 
@@ -158,31 +163,37 @@ fn tell_bad_value(
     alloc: Global,
     text: &mut Text,
     document: &Table,
+    path: u32,
     spot: Spot,
 ) -> Result<(), NoMemory> {
-    let wanted = wanted(spot);
+    let value = value_at(document, spot);
     text.say("this may not stand there, or is missing\n");
-    tell_value(alloc, text, value_at(document, spot))?;
-    text.say("  there may stand: ");
-    text.say(wanted);
-    text.say("\n");
-    if spot == Spot::Key("radii") {
-        tell_fall(text, value_at(document, spot));
+    tell_value(alloc, text, value)?;
+    text.word("  there may stand: ", wanted(spot), "\n");
+    if path == RADII {
+        tell_fall(text, value);
     }
     Ok(())
 }
 
 /// A layer and a datatype, where the value is such a pair.
 fn pair_of(value: &Value) -> Option<(u16, u16)> {
-    match value.as_array()?.as_slice() {
-        [layer, datatype] => Some((number_of(layer)?, number_of(datatype)?)),
-        _ => None,
+    let pair = value.as_array()?.as_slice();
+    if pair.len() != 2 {
+        return None;
     }
+    Some((number_of(&pair[0])?, number_of(&pair[1])?))
 }
 
 /// A layer or a datatype.
 fn number_of(value: &Value) -> Option<u16> {
     u16::try_from(value.as_integer()?).ok()
+}
+
+/// Tells a pair that stands twice.
+fn tell_twice(text: &mut Text, (layer, datatype): (u16, u16)) {
+    text.number("  twice: layer ", layer as u64, ", datatype ");
+    text.number("", datatype as u64, "\n");
 }
 
 /// Tells each of the pairs of an item that stands in an earlier one or earlier in itself. Those so far are `seen`.
@@ -198,15 +209,23 @@ fn tell_pairs(
     for pair in pairs {
         if let Some(pair) = pair_of(pair) {
             if is_meant && seen.as_slice().contains(&pair) {
-                let (layer, datatype) = pair;
-                text.say("  twice: layer ");
-                text.number(layer as u64);
-                text.say(", datatype ");
-                text.number(datatype as u64);
-                text.say("\n");
+                tell_twice(text, pair);
             }
             seen.push(pair)?;
         }
+    }
+    Ok(())
+}
+
+/// Tells the pairs that stand twice of the item of this number. Those so far are `seen`.
+fn tell_item_pairs(
+    text: &mut Text,
+    seen: &mut Vec<(u16, u16)>,
+    items: &[Value],
+    number: usize,
+) -> Result<(), NoMemory> {
+    for (place, item) in items.iter().enumerate() {
+        tell_pairs(text, seen, item, place == number)?;
     }
     Ok(())
 }
@@ -222,19 +241,17 @@ fn tell_repeated_pair(
     let Spot::ItemKey(list, number, _) = spot else {
         return Ok(());
     };
+    let metals = items_of(document, List::Metal);
+    let cuts = items_of(document, List::Cut);
+    // A number behind all items means none.
+    let (metal, cut) = match list {
+        List::Metal => (number, cuts.len()),
+        List::Cut => (metals.len(), number),
+        List::Terminal => (metals.len(), cuts.len()),
+    };
     let mut seen = Vec::new(alloc);
-    for (place, item) in items_of(document, List::Metal).iter().enumerate() {
-        tell_pairs(
-            text,
-            &mut seen,
-            item,
-            list == List::Metal && place == number,
-        )?;
-    }
-    for (place, item) in items_of(document, List::Cut).iter().enumerate() {
-        tell_pairs(text, &mut seen, item, list == List::Cut && place == number)?;
-    }
-    Ok(())
+    tell_item_pairs(text, &mut seen, metals, metal)?;
+    tell_item_pairs(text, &mut seen, cuts, cut)
 }
 
 /// The first item of a list that has this name.
@@ -249,6 +266,13 @@ fn first_named(document: &Table, list: List, name: &str) -> Option<usize> {
     None
 }
 
+/// Tells in a line which metal or cut is an earlier one.
+fn tell_earlier(text: &mut Text, document: &Table, list: List, number: usize) {
+    text.say("  earlier: ");
+    tell_item(text, document, list, number);
+    text.say("\n");
+}
+
 /// Tells which metal or cut is the first to have the name that stands at a place.
 fn tell_first_named(text: &mut Text, document: &Table, spot: Spot) {
     text.say("an earlier metal or cut has this name; give each one of its own\n");
@@ -256,22 +280,25 @@ fn tell_first_named(text: &mut Text, document: &Table, spot: Spot) {
         return;
     };
     let name = name.as_str();
-    for list in [List::Metal, List::Cut] {
-        if let Some(number) = first_named(document, list, name) {
-            text.say("  earlier: ");
-            tell_item(text, document, list, number);
-            text.say("\n");
-            return;
-        }
+    if let Some(number) = first_named(document, List::Metal, name) {
+        tell_earlier(text, document, List::Metal, number);
+    } else if let Some(number) = first_named(document, List::Cut, name) {
+        tell_earlier(text, document, List::Cut, number);
     }
+}
+
+/// The whole number at the key of a table.
+fn integer_in(value: &Value, key: &str) -> Option<i64> {
+    member(value, key)?.as_integer()
 }
 
 /// The metal and the cell of a terminal, where the value is one.
 fn terminal_of(value: &Value) -> Option<(&str, i64, i64)> {
-    let metal = text_in(value, "metal")?;
-    let x = member(value, "x")?.as_integer()?;
-    let y = member(value, "y")?.as_integer()?;
-    Some((metal, x, y))
+    Some((
+        text_in(value, "metal")?,
+        integer_in(value, "x")?,
+        integer_in(value, "y")?,
+    ))
 }
 
 /// The first terminal that has this cell of this metal.
@@ -286,54 +313,49 @@ fn first_terminal(document: &Table, terminal: (&str, i64, i64)) -> Option<usize>
     None
 }
 
+/// Tells in a line which terminal is the first to have this cell of this metal.
+fn tell_same(text: &mut Text, document: &Table, terminal: (&str, i64, i64)) {
+    let (metal, x, y) = terminal;
+    if let Some(number) = first_terminal(document, terminal) {
+        text.say("  earlier: ");
+        tell_item(text, document, List::Terminal, number);
+        text.point(", the cell ", x, y, " of ");
+        text.name("", metal.as_bytes(), "\n");
+    }
+}
+
 /// Tells which terminal is the first to have the cell and the metal of the one at a place.
 fn tell_first_terminal(text: &mut Text, document: &Table, spot: Spot) {
     text.say("an earlier terminal is the same cell of the same metal; leave one out\n");
-    let Some((metal, x, y)) = value_at(document, spot).and_then(terminal_of) else {
-        return;
-    };
-    let Some(number) = first_terminal(document, (metal, x, y)) else {
-        return;
-    };
-    text.say("  earlier: ");
-    tell_item(text, document, List::Terminal, number);
-    text.say(", the cell (");
-    text.signed(x);
-    text.say(", ");
-    text.signed(y);
-    text.say(") of ");
-    text.name(metal.as_bytes());
-    text.say("\n");
+    if let Some(value) = value_at(document, spot) {
+        if let Some(terminal) = terminal_of(value) {
+            tell_same(text, document, terminal);
+        }
+    }
 }
 
 /// Tells the names of the metals.
 fn tell_metals(text: &mut Text, document: &Table) {
     text.say("  metals:");
     for item in items_of(document, List::Metal) {
-        if let Some(name) = text_in(item, "name") {
-            text.say(" ");
-            text.name(name.as_bytes());
-        }
+        tell_name(text, " ", item);
     }
     text.say("\n");
 }
 
-/// Tells how long a list is that is too long.
-fn tell_limit(text: &mut Text, document: &Table, spot: Spot) {
-    let most = match spot {
-        Spot::Key("radii") => 32,
-        Spot::Key("terminal") => 10_000,
+/// Tells how long a list is that is too long, the one at this path.
+fn tell_limit(text: &mut Text, document: &Table, path: u32, spot: Spot) {
+    let most = match path {
+        RADII => 32,
+        TERMINALS => 10_000,
         _ => 16,
     };
     let count = match value_at(document, spot) {
         Some(Value::Array(items)) => items.len(),
         _ => 0,
     };
-    text.say("it has ");
-    text.number(count as u64);
-    text.say(" items, and at most ");
-    text.number(most as u64);
-    text.say(" are taken; shorten it, or make two maps\n");
+    text.number("it has ", count as u64, " items, and at most ");
+    text.number("", most, " are taken; shorten it, or make two maps\n");
 }
 
 /// Tells what is wrong at a place of a document.
@@ -346,7 +368,7 @@ fn tell_fault(
 ) -> Result<(), NoMemory> {
     match fault {
         MapFault::BadKey { .. } => tell_bad_key(text, document, spot),
-        MapFault::BadValue { .. } => tell_bad_value(alloc, text, document, spot)?,
+        MapFault::BadValue { path } => tell_bad_value(alloc, text, document, path, spot)?,
         MapFault::RepeatedPair { .. } => tell_repeated_pair(alloc, text, document, spot)?,
         MapFault::RepeatedName { .. } => tell_first_named(text, document, spot),
         MapFault::UnknownMetal { .. } => {
@@ -355,7 +377,7 @@ fn tell_fault(
             tell_metals(text, document);
         }
         MapFault::RepeatedTerminal { .. } => tell_first_terminal(text, document, spot),
-        MapFault::LimitPassed { .. } => tell_limit(text, document, spot),
+        MapFault::LimitPassed { path } => tell_limit(text, document, path, spot),
         MapFault::Syntax | MapFault::Memory => {}
     }
     Ok(())

@@ -6,7 +6,7 @@ use std::os::unix::fs::FileTypeExt;
 use std::rt::Files;
 
 /// What stands at a name.
-#[derive(Clone, Copy, Debug, PartialEq, Eq)]
+#[derive(Clone, Copy)]
 pub enum PathKind {
     /// Nothing.
     Missing,
@@ -31,7 +31,7 @@ pub trait Paths {
 }
 
 /// What the operating system says.
-#[derive(Clone, Copy)]
+#[derive(Drop)]
 pub struct OsPaths<'a, R: Files> {
     rt: &'a R,
 }

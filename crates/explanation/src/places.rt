@@ -7,10 +7,7 @@ use crate::text::Text;
 /// Tells which structure it is.
 fn tell_structure(text: &mut Text, spot: &Spot<'_>) {
     match spot.structure {
-        Some(name) => {
-            text.say("structure ");
-            text.name(name);
-        }
+        Some(name) => text.name("structure ", name, ""),
         None => text.say("in front of the first structure's name"),
     }
 }
@@ -18,54 +15,41 @@ fn tell_structure(text: &mut Text, spot: &Spot<'_>) {
 /// Tells the layer and the datatype, where they are known.
 fn tell_layer(text: &mut Text, spot: &Spot<'_>) {
     if let Some(layer) = spot.layer {
-        text.say(" on layer ");
-        text.number(layer as u64);
+        text.number(" on layer ", layer as u64, "");
     }
     if let Some(datatype) = spot.datatype {
-        text.say(", datatype ");
-        text.number(datatype as u64);
+        text.number(", datatype ", datatype as u64, "");
     }
 }
 
 /// Tells which element it is, where it is in one.
 fn tell_element(text: &mut Text, spot: &Spot<'_>) {
-    let number = spot.element;
     let Some(kind) = spot.kind else {
         return;
     };
-    let kind = element_name(kind);
-    text.say(", element ");
-    text.number(number as u64);
-    text.say(": ");
-    text.say(kind);
+    text.number(", element ", spot.element as u64, ": ");
+    text.say(element_name(kind));
     if let Some(target) = spot.target {
-        text.say(" to ");
-        text.name(target);
+        text.name(" to ", target, "");
     }
     tell_layer(text, spot);
     if let Some((x, y)) = spot.point {
-        text.say(", first point (");
-        text.signed(x as i64);
-        text.say(", ");
-        text.signed(y as i64);
-        text.say(")");
+        text.point(", first point ", x as i64, y as i64, "");
     }
 }
 
-/// Tells which structure and which element stand at a place, without the end of a line.
-pub fn tell_place(text: &mut Text, spot: &Spot<'_>) {
+/// Tells behind some words which structure and which element stand at a place, and then others.
+pub fn tell_place(text: &mut Text, before: &str, spot: &Spot<'_>, after: &str) {
+    text.say(before);
     tell_structure(text, spot);
-    tell_element(text, spot)
+    tell_element(text, spot);
+    text.say(after);
 }
 
 /// Tells which record stands in front of a place.
 pub fn tell_before(text: &mut Text, spot: &Spot<'_>) {
     match spot.before {
-        Some(kind) => {
-            let name = record_name(kind);
-            text.say("behind ");
-            text.say(name);
-        }
+        Some(kind) => text.word("behind ", record_name(kind), ""),
         None => text.say("at the file's beginning"),
     }
 }

@@ -7,7 +7,7 @@ ghost use Rattle.rect_cover.specs.Coverings.{IsWellPlaced};
 use crate::layer_names::{layer_count, tell_layer};
 use crate::layouts::Layout;
 use crate::places::tell_place;
-use crate::refused::short_meaning;
+use crate::refused::{SHORT_MEANINGS, short_meaning};
 use crate::spot::spot_at;
 use crate::terminals::{Known, known_terminals, note_covered};
 use crate::text::Text;
@@ -21,9 +21,6 @@ use std::alloc::Global;
 
 /// The most shapes that are told each in a line.
 const MOST_LINES: usize = 20;
-
-/// The numbers of shapes without a cover.
-const NUMBERS: [u8; 7] = [30, 31, 32, 33, 34, 35, 36];
 
 /// A placed shape that has no cover.
 #[derive(Clone, Copy)]
@@ -85,6 +82,29 @@ fn with_shape(held: Held, points: usize, rects: &[Rect]) -> Held {
     }
 }
 
+/// Notes a shape that covers these rectangles.
+fn note_rects(shapes: &mut Shapes, library: &Library, one: &Placed, rects: &[Rect]) {
+    if let Some(held) = shapes.held.get_mut(one.layer as usize) {
+        *held = with_shape(*held, point_count(library, one), rects);
+    }
+    for rect in rects {
+        note_covered(&mut shapes.terminals, one.layer, *rect);
+    }
+}
+
+/// Notes a shape that has no cover.
+fn note_fault(shapes: &mut Shapes, one: &Placed, fault: CoverFault) -> Result<(), NoMemory> {
+    if fault == CoverFault::Memory {
+        return Err(NoMemory);
+    }
+    let uncovered = Uncovered {
+        number: fault.number(),
+        layer: one.layer,
+        at: one.at,
+    };
+    Ok(shapes.uncovered.push(uncovered)?)
+}
+
 /// Notes a shape with its cover, or that it has none.
 fn note(
     shapes: &mut Shapes,
@@ -94,21 +114,11 @@ fn note(
 ) -> Result<(), NoMemory> {
     match answer {
         Ok(rects) => {
-            if let Some(held) = shapes.held.get_mut(one.layer as usize) {
-                *held = with_shape(*held, point_count(library, one), rects.as_slice());
-            }
-            for rect in &rects {
-                note_covered(&mut shapes.terminals, one.layer, *rect);
-            }
+            note_rects(shapes, library, one, rects.as_slice());
+            Ok(())
         }
-        Err(CoverFault::Memory) => return Err(NoMemory),
-        Err(fault) => shapes.uncovered.push(Uncovered {
-            number: fault.number(),
-            layer: one.layer,
-            at: one.at,
-        })?,
+        Err(fault) => note_fault(shapes, one, fault),
     }
-    Ok(())
 }
 
 /// Looks at all placed shapes. The terminals come in the order of the map.
@@ -138,43 +148,42 @@ pub fn shapes_of(
     Ok(shapes)
 }
 
+/// How many shapes of a layer have no cover for the reason with this number.
+fn count_of(found: &[Uncovered], number: u8, layer: usize) -> u64 {
+    let mut count = 0u64;
+    for one in found {
+        if one.number == number && one.layer as usize == layer {
+            count = count.saturating_add(1);
+        }
+    }
+    count
+}
+
 /// Tells how many shapes of a layer have no cover for the reason with this number.
 fn tell_count(text: &mut Text, map: &Map, found: &[Uncovered], number: u8, layer: usize) {
-    let count = found
-        .iter()
-        .filter(|one| one.number == number && one.layer as usize == layer)
-        .count();
+    let count = count_of(found, number, layer);
     if count > 0 {
-        text.say("  ");
-        text.number(count as u64);
-        text.say(" placed shapes of ");
-        tell_layer(text, map, layer);
-        text.say(": ");
-        text.number(u64::from(number));
-        text.say(", ");
-        text.say(short_meaning(number));
-        text.say("\n");
+        text.number("  ", count, " placed shapes of ");
+        tell_layer(text, "", map, layer);
+        text.number(": ", u64::from(number), ", ");
+        text.word("", short_meaning(number), "\n");
     }
 }
 
 /// Tells how many shapes of each layer have no cover.
 fn tell_uncovered_counts(text: &mut Text, map: &Map, found: &[Uncovered]) {
-    for number in NUMBERS {
+    for (number, _) in SHORT_MEANINGS {
         for layer in 0..layer_count(map) {
-            tell_count(text, map, found, number, layer);
+            tell_count(text, map, found, *number, layer);
         }
     }
 }
 
 /// Tells of a shape in a line.
 fn tell_line(text: &mut Text, layout: &Layout<'_>, one: &Uncovered) {
-    text.say("  byte ");
-    text.number(u64::from(one.at));
-    text.say(": ");
-    tell_place(text, &spot_at(layout.bytes, one.at));
-    text.say(": ");
-    text.say(short_meaning(one.number));
-    text.say("\n");
+    text.number("  byte ", u64::from(one.at), ": ");
+    tell_place(text, "", &spot_at(layout.bytes, one.at), ": ");
+    text.word("", short_meaning(one.number), "\n");
 }
 
 /// Tells of the first shapes, each in a line. One that is placed many times has one line.

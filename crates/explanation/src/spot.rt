@@ -78,76 +78,51 @@ fn first_point(body: &[u8]) -> Option<(i32, i32)> {
 }
 
 impl<'a> Spot<'a> {
-    /// The place behind a record that opens a structure.
-    fn in_structure(self) -> Spot<'a> {
-        Spot {
-            structure: None,
-            element: 0,
-            ..self.outside()
-        }
+    /// Goes out of the element.
+    fn leave(&mut self) {
+        self.kind = None;
+        self.layer = None;
+        self.datatype = None;
+        self.point = None;
+        self.target = None;
     }
 
-    /// The place outside of the element.
-    fn outside(self) -> Spot<'a> {
-        Spot {
-            structure: self.structure,
-            element: self.element,
-            kind: None,
-            layer: None,
-            datatype: None,
-            point: None,
-            target: None,
-            before: self.before,
-        }
+    /// Goes behind a record that opens a structure.
+    fn enter_structure(&mut self) {
+        self.leave();
+        self.structure = None;
+        self.element = 0;
     }
 
-    /// The place behind a record that opens an element.
-    fn in_element(self, kind: u8) -> Spot<'a> {
-        Spot {
-            element: self.element.saturating_add(1),
-            kind: Some(kind),
-            ..self.outside()
-        }
+    /// Goes behind a record that opens an element.
+    fn enter_element(&mut self, kind: u8) {
+        self.leave();
+        self.element = self.element.saturating_add(1);
+        self.kind = Some(kind);
     }
 
-    /// The place behind a record within an element.
-    fn with_field(self, record: &Record<'a>) -> Spot<'a> {
+    /// Goes behind a record that tells something.
+    fn pass_field(&mut self, record: &Record<'a>) {
         match record.kind {
-            kinds::LAYER => Spot {
-                layer: first_u16(record.body),
-                ..self
-            },
-            kinds::DATATYPE | kinds::TEXTTYPE | kinds::NODETYPE | kinds::BOXTYPE => Spot {
-                datatype: first_u16(record.body),
-                ..self
-            },
-            kinds::XY => Spot {
-                point: first_point(record.body),
-                ..self
-            },
-            kinds::SNAME => Spot {
-                target: Some(text(record)),
-                ..self
-            },
-            _ => self,
+            kinds::STRNAME => self.structure = Some(text(record)),
+            kinds::SNAME => self.target = Some(text(record)),
+            kinds::LAYER => self.layer = first_u16(record.body),
+            kinds::DATATYPE | kinds::TEXTTYPE | kinds::NODETYPE | kinds::BOXTYPE => {
+                self.datatype = first_u16(record.body);
+            }
+            kinds::XY => self.point = first_point(record.body),
+            _ => {}
         }
     }
 
-    /// The place behind a record.
-    fn behind(self, record: &Record<'a>) -> Spot<'a> {
-        let next = match record.kind {
-            kinds::BGNSTR => self.in_structure(),
-            kinds::STRNAME => Spot {
-                structure: Some(text(record)),
-                ..self
-            },
-            kinds::ENDEL | kinds::ENDSTR => self.outside(),
-            kind if opens_element(kind) => self.in_element(kind),
-            _ => self.with_field(record),
-        };
-        Spot {
-            before: Some(record.kind),
-            ..next
+    /// Goes behind a record.
+    fn pass(&mut self, record: &Record<'a>) {
+        self.before = Some(record.kind);
+        match record.kind {
+            kinds::BGNSTR => self.enter_structure(),
+            kinds::ENDEL | kinds::ENDSTR => self.leave(),
+            kind if opens_element(kind) => self.enter_element(kind),
+            _ => self.pass_field(record),
         }
     }
 }
@@ -160,40 +135,37 @@ fn next_record<'a>(records: &mut Records<'a>) -> Option<Record<'a>> {
     }
 }
 
-/// What stands in front of the record at this offset of the bytes.
-pub fn spot_before(bytes: &[u8], place: u32) -> Spot<'_> {
+/// Whether the record stands behind what is told of a place: at it or further on, or, where what the record there opens is
+/// told too, behind that.
+fn is_behind(record: &Record<'_>, place: u32, with_opened: bool) -> bool {
+    if with_opened {
+        return record.at > place && is_border(record.kind);
+    }
+    record.at >= place
+}
+
+/// What the records tell up to a place.
+fn spot_up_to(bytes: &[u8], place: u32, with_opened: bool) -> Spot<'_> {
     let mut spot = BEGINNING;
     if bytes.len() > u32::MAX as usize {
         return spot;
     }
     let mut records = Records::new(bytes);
     for _ in 0..bytes.len() {
-        let Some(record) = next_record(&mut records) else {
-            return spot;
-        };
-        if record.at >= place {
-            return spot;
+        match next_record(&mut records) {
+            Some(record) if !is_behind(&record, place, with_opened) => spot.pass(&record),
+            _ => return spot,
         }
-        spot = spot.behind(&record);
     }
     spot
 }
 
+/// What stands in front of the record at this offset of the bytes.
+pub fn spot_before(bytes: &[u8], place: u32) -> Spot<'_> {
+    spot_up_to(bytes, place, false)
+}
+
 /// What the record at this offset of the bytes opens: an element with what its records tell, or a structure with its name.
 pub fn spot_at(bytes: &[u8], place: u32) -> Spot<'_> {
-    let mut spot = BEGINNING;
-    if bytes.len() > u32::MAX as usize {
-        return spot;
-    }
-    let mut records = Records::new(bytes);
-    for _ in 0..bytes.len() {
-        let Some(record) = next_record(&mut records) else {
-            return spot;
-        };
-        if record.at > place && is_border(record.kind) {
-            return spot;
-        }
-        spot = spot.behind(&record);
-    }
-    spot
+    spot_up_to(bytes, place, true)
 }

@@ -8,7 +8,7 @@ use crate::spot::spot_at;
 use crate::telling::Telling;
 use crate::text::Text;
 use flatten::PlaceFault;
-use library_model::{Element, Library, Structure};
+use library_model::{Element, Library, Shape, Structure};
 use lists::NoMemory;
 use map_model::Map;
 use std::alloc::Global;
@@ -21,43 +21,58 @@ const HIDDEN: &[u8] = b"$$$";
 
 /// The number of the structure that begins at this offset.
 fn structure_at(structures: &[Structure], place: u64) -> Option<usize> {
-    structures
-        .iter()
-        .position(|structure| u64::from(structure.at) == place)
+    for (number, structure) in structures.iter().enumerate() {
+        if u64::from(structure.at) == place {
+            return Some(number);
+        }
+    }
+    None
 }
 
-/// Tells the name of the structure with this number.
-fn tell_name(text: &mut Text, structures: &[Structure], number: usize) {
+/// Tells behind some words the name of the structure with this number, and then others.
+fn tell_name(text: &mut Text, before: &str, structures: &[Structure], number: usize, after: &str) {
+    text.say(before);
     if let Some(structure) = structures.get(number) {
-        text.name(structure.name.as_slice());
+        text.name("", structure.name.as_slice(), "");
     }
+    text.say(after);
 }
 
 /// Tells a structure whose name differs from this in nothing but capital letters, where there is one.
 fn tell_alike(text: &mut Text, structures: &[Structure], name: &[u8]) {
-    let alike = structures.iter().find(|structure| structure
-        .name
-        .as_slice()
-        .eq_ignore_ascii_case(name));
-    if let Some(structure) = alike {
-        text.say("  there is ");
-        text.name(structure.name.as_slice());
-        text.say(", with other capital letters\n");
+    for structure in structures {
+        let other = structure.name.as_slice();
+        if other.eq_ignore_ascii_case(name) {
+            text.name("  there is ", other, ", with other capital letters\n");
+            return;
+        }
     }
 }
 
 /// Tells which reference names no structure.
-fn tell_unknown(told: &mut Telling, layout: &Layout<'_>, structures: &[Structure], place: u32) {
+fn tell_unknown(text: &mut Text, layout: &Layout<'_>, structures: &[Structure], place: u32) {
     let spot = spot_at(layout.bytes, place);
-    told.text.say("  ");
-    tell_place(&mut told.text, &spot);
-    told.text.say("\n");
+    tell_place(text, "  ", &spot, "\n");
     if let Some(target) = spot.target {
-        told.text.say("  no structure is named ");
-        told.text.name(target);
-        told.text.say("\n");
-        tell_alike(&mut told.text, structures, target);
+        text.name("  no structure is named ", target, "\n");
+        tell_alike(text, structures, target);
     }
+}
+
+/// Tells the structures of a circle in their order, and that it ends where it begins.
+fn tell_around(text: &mut Text, structures: &[Structure], circle: &[usize]) {
+    for number in circle {
+        tell_name(text, " ", structures, *number, " ->");
+    }
+    if circle.len() >= MOST_NAMED {
+        text.say(" ..\n");
+        return;
+    }
+    text.say(" ");
+    if let Some(first) = circle.first() {
+        tell_name(text, "", structures, *first, "");
+    }
+    text.say("\n");
 }
 
 /// Tells the circle to which a structure leads.
@@ -69,36 +84,21 @@ fn tell_circle(
     one: usize,
 ) -> Result<(), NoMemory> {
     let circle = circle_from(alloc, graph, one, MOST_NAMED)?;
-    text.say("  structure ");
-    tell_name(text, structures, one);
-    text.say("; the circle:");
-    for number in &circle {
-        text.say(" ");
-        tell_name(text, structures, *number);
-        text.say(" ->");
-    }
-    if circle.len() < MOST_NAMED {
-        text.say(" ");
-        if let Some(first) = circle.first() {
-            tell_name(text, structures, *first);
-        }
-    } else {
-        text.say(" ..");
-    }
-    text.say("\n");
+    tell_name(text, "  structure ", structures, one, "; the circle:");
+    tell_around(text, structures, circle.as_slice());
     Ok(())
 }
 
 /// Tells the longest chain from the top.
 fn tell_chain(text: &mut Text, structures: &[Structure], graph: &Graph, top: usize) {
     let length = chain_length(graph, top);
-    text.say("  the longest chain has ");
-    text.number(length as u64);
-    text.say(" references, from ");
-    tell_name(text, structures, top);
-    text.say(" to ");
-    tell_name(text, structures, chain_end(graph, top));
-    text.say("\n");
+    text.number(
+        "  the longest chain has ",
+        length as u64,
+        " references, from ",
+    );
+    tell_name(text, "", structures, top, " to ");
+    tell_name(text, "", structures, chain_end(graph, top), "\n");
 }
 
 /// Whether editors hide the structure with this number.
@@ -121,22 +121,17 @@ fn tell_some_tops(
     for top in tops {
         if is_hidden(structures, *top) == hidden {
             if count == 0 {
-                text.say("  ");
-                text.say(words);
-                text.say(":");
+                text.word("  ", words, ":");
             }
             if count < MOST_NAMED {
-                text.say(" ");
-                tell_name(text, structures, *top);
+                tell_name(text, " ", structures, *top, "");
             }
             count = count.saturating_add(1);
         }
     }
     if count > MOST_NAMED {
-        text.say(", the first ");
-        text.number(MOST_NAMED as u64);
-        text.say(" of ");
-        text.number(count as u64);
+        text.number(", the first ", MOST_NAMED as u64, " of ");
+        text.number("", count as u64, "");
     }
     if count > 0 {
         text.say("\n");
@@ -164,26 +159,46 @@ fn tell_tops(
 }
 
 /// How many shapes and points are placed on a layer.
-#[derive(Clone, Copy, Debug, PartialEq, Eq)]
+#[derive(Clone, Copy)]
 struct Count {
     shapes: u64,
     points: u64,
+}
+
+/// A count with one shape more of so many points, which is placed so often.
+fn with_shape(count: Count, points: usize, times: u64) -> Count {
+    Count {
+        shapes: count.shapes.saturating_add(times),
+        points: count
+            .points
+            .saturating_add(times.saturating_mul(points as u64)),
+    }
+}
+
+/// Adds a shape that is placed so often.
+fn add_shape(counts: &mut Vec<Count>, map: &Map, shape: &Shape, times: u64) {
+    if let Some(number) = map.layer_of(shape.layer, shape.datatype) {
+        if let Some(count) = counts.get_mut(number as usize) {
+            *count = with_shape(*count, shape.points.as_slice().len(), times);
+        }
+    }
 }
 
 /// Adds the shapes of a structure that is placed so often.
 fn add_shapes(counts: &mut Vec<Count>, map: &Map, structure: &Structure, times: u64) {
     for element in structure.elements.as_slice() {
         if let Element::Shape(shape) = element {
-            if let Some(number) = map.layer_of(shape.layer, shape.datatype) {
-                if let Some(count) = counts.get_mut(number as usize) {
-                    let points = times.saturating_mul(shape.points.as_slice().len() as u64);
-                    *count = Count {
-                        shapes: count.shapes.saturating_add(times),
-                        points: count.points.saturating_add(points),
-                    };
-                }
-            }
+            add_shape(counts, map, shape, times);
         }
+    }
+}
+
+/// Tells how many shapes and points there are on each layer.
+fn tell_each_count(text: &mut Text, map: &Map, counts: &[Count]) {
+    for (number, count) in counts.iter().enumerate() {
+        tell_layer(text, "  ", map, number);
+        text.number(": ", count.shapes, " shapes with ");
+        text.number("", count.points, " points\n");
     }
 }
 
@@ -203,21 +218,12 @@ fn tell_counts(
     };
     let mut counts = vec![in alloc; none; layer_count(map)]?;
     for (number, structure) in structures.iter().enumerate() {
-        match times.get(number) {
-            Some(times) if *times > 0 => add_shapes(&mut counts, map, structure, *times),
-            _ => {}
+        let times = times.get(number).copied().unwrap_or(0);
+        if times > 0 {
+            add_shapes(&mut counts, map, structure, times);
         }
     }
-    for (number, count) in counts.iter().enumerate() {
-        let Count { shapes, points } = *count;
-        text.say("  ");
-        tell_layer(text, map, number);
-        text.say(": ");
-        text.number(shapes);
-        text.say(" shapes with ");
-        text.number(points);
-        text.say(" points\n");
-    }
+    tell_each_count(text, map, counts.as_slice());
     Ok(())
 }
 
@@ -238,9 +244,7 @@ fn tell_no_top(
     }
     let top = layout.top.unwrap_or(b"");
     layout.tell(text);
-    text.say(": no structure has the name ");
-    text.name(top);
-    text.say(" that --top gives\n");
+    text.name(": no structure has the name ", top, " that --top gives\n");
     tell_alike(text, structures, top);
     tell_tops(alloc, text, structures, graph)
 }
@@ -265,13 +269,36 @@ fn tell_at_structure(
         }
         PlaceFault::ManyTops { .. } => tell_tops(alloc, text, structures, graph),
         PlaceFault::TooManyShapes { .. } => {
-            text.say("  the top is ");
-            tell_name(text, structures, one);
-            text.say("\n");
+            tell_name(text, "  the top is ", structures, one, "\n");
             tell_counts(alloc, text, map, structures, graph, one)
         }
         _ => Ok(()),
     }
+}
+
+/// Tells why the shapes of structures with this graph are not placed.
+fn tell_with_graph(
+    alloc: Global,
+    told: &mut Telling,
+    map: &Map,
+    layout: &Layout<'_>,
+    structures: &[Structure],
+    graph: &Graph,
+    fault: PlaceFault,
+) -> Result<(), NoMemory> {
+    if fault == PlaceFault::NoTop {
+        return tell_no_top(alloc, told, layout, structures, graph);
+    }
+    tell_number(told, layout, fault.number(), fault.place());
+    let text = &mut told.text;
+    match fault {
+        PlaceFault::UnknownStructure { at } => tell_unknown(text, layout, structures, at),
+        PlaceFault::OutOfRange { at } => {
+            tell_place(text, "  ", &spot_at(layout.bytes, at), "\n");
+        }
+        _ => return tell_at_structure(alloc, text, map, structures, graph, fault),
+    }
+    Ok(())
 }
 
 /// Tells why the shapes of a library are not placed.
@@ -288,22 +315,5 @@ pub fn tell_place_fault(
         return Err(NoMemory);
     }
     let graph = graph_of(alloc, structures)?;
-    if fault == PlaceFault::NoTop {
-        return tell_no_top(alloc, told, layout, structures, &graph);
-    }
-    tell_number(told, layout, fault.number(), fault.place());
-    match fault {
-        PlaceFault::UnknownStructure { at } => {
-            tell_unknown(told, layout, structures, at);
-            Ok(())
-        }
-        PlaceFault::OutOfRange { at } => {
-            let spot = spot_at(layout.bytes, at);
-            told.text.say("  ");
-            tell_place(&mut told.text, &spot);
-            told.text.say("\n");
-            Ok(())
-        }
-        _ => tell_at_structure(alloc, &mut told.text, map, structures, &graph, fault),
-    }
+    tell_with_graph(alloc, told, map, layout, structures, &graph, fault)
 }

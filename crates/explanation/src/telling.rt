@@ -15,10 +15,7 @@ impl Telling {
     /// Says the line of a refusal, and keeps its status.
     pub fn refuse(&mut self, status: u8, number: u8, place: u64) {
         self.status = status;
-        self.text.say("error ");
-        self.text.number(u64::from(number));
-        self.text.say(" at ");
-        self.text.number(place);
-        self.text.say("\n");
+        self.text.number("error ", u64::from(number), " at ");
+        self.text.number("", place, "\n");
     }
 }

@@ -62,17 +62,16 @@ pub fn first_off(known: &[Known]) -> Option<Known> {
     None
 }
 
-/// Tells which terminal is meant: its number in the map, counted from 1, its metal and its cell.
-pub fn tell_terminal(text: &mut Text, map: &Map, one: Known) {
-    text.say("[[terminal]] number ");
-    text.number((one.index as u64).saturating_add(1));
-    text.say(", ");
-    tell_layer(text, map, one.metal as usize);
-    text.say(", cell (");
-    text.signed(one.cell.i as i64);
-    text.say(", ");
-    text.signed(one.cell.j as i64);
-    text.say(")");
+/// Tells behind some words which terminal is meant: its number in the map, counted from 1, its metal and its cell.
+pub fn tell_terminal(text: &mut Text, before: &str, map: &Map, one: Known) {
+    text.say(before);
+    text.number(
+        "[[terminal]] number ",
+        (one.index as u64).saturating_add(1),
+        "",
+    );
+    tell_layer(text, ", ", map, one.metal as usize);
+    text.point(", cell ", one.cell.i as i64, one.cell.j as i64, "");
 }
 
 /// Tells of the terminals behind the first that no shape of their metals covers either, each in a line.
@@ -86,32 +85,31 @@ pub fn tell_others(text: &mut Text, map: &Map, known: &[Known], first: Known) {
             text.say("  and others\n");
             return;
         }
-        text.say("  nor does one cover ");
-        tell_terminal(text, map, *one);
+        tell_terminal(text, "  nor does one cover ", map, *one);
         text.say("\n");
         count = count.saturating_add(1);
     }
 }
 
+/// How many terminals the metal has.
+fn count_of(map: &Map, metal: usize) -> u64 {
+    let mut count = 0u64;
+    for terminal in map.terminals.as_slice() {
+        if terminal.metal as usize == metal {
+            count = count.saturating_add(1);
+        }
+    }
+    count
+}
+
 /// Tells how many terminals each metal has. Where there are none, an open of area 0 says nothing of its wires.
 pub fn tell_terminal_counts(text: &mut Text, map: &Map) {
     for metal in 0..map.metals.as_slice().len() {
-        let count = map
-            .terminals
-            .as_slice()
-            .iter()
-            .filter(|terminal| terminal.metal as usize == metal)
-            .count();
-        text.say("  ");
-        tell_layer(text, map, metal);
-        match count {
+        tell_layer(text, "  ", map, metal);
+        match count_of(map, metal) {
             0 => text.say(": no terminals, so its opens are 0, which says nothing of its wires\n"),
             1 => text.say(": 1 terminal, so its opens are 0: an open parts two of one island\n"),
-            _ => {
-                text.say(": ");
-                text.number(count as u64);
-                text.say(" terminals\n");
-            }
+            count => text.number(": ", count, " terminals\n"),
         }
     }
 }

@@ -1,11 +1,11 @@
 //! Text that is put together piece by piece.
 
-use crate::quoted::{Quoted, Shown};
+use crate::quoted::{MOST_SHOWN, digit, is_shown};
 use lists::NoMemory;
 use std::alloc::Global;
 
 /// A text. Where no memory is left for a piece, it stays without it and keeps that in mind, so that whoever writes pieces
-/// has no failure to pass on.
+/// has no failure to pass on. Most pieces come with what stands in front of them and behind them.
 #[derive(Drop)]
 pub struct Text {
     text: String,
@@ -28,32 +28,64 @@ impl Text {
         }
     }
 
+    /// Puts a word behind it.
+    pub fn word(&mut self, before: &str, word: &str, after: &str) {
+        self.say(before);
+        self.say(word);
+        self.say(after);
+    }
+
     /// Puts a number behind it.
-    pub fn number(&mut self, number: u64) {
+    pub fn number(&mut self, before: &str, number: u64, after: &str) {
+        self.say(before);
         if write!(self.text, "{number}").is_err() {
             self.is_cut = true;
         }
+        self.say(after);
     }
 
     /// Puts a number with its sign behind it.
-    pub fn signed(&mut self, number: i64) {
+    pub fn signed(&mut self, before: &str, number: i64, after: &str) {
+        self.say(before);
         if write!(self.text, "{number}").is_err() {
             self.is_cut = true;
         }
+        self.say(after);
+    }
+
+    /// Puts a point or a cell behind it.
+    pub fn point(&mut self, before: &str, x: i64, y: i64, after: &str) {
+        self.say(before);
+        self.signed("(", x, ", ");
+        self.signed("", y, ")");
+        self.say(after);
     }
 
     /// Puts a name behind it, in quotes.
-    pub fn name(&mut self, name: &[u8]) {
-        let name = Quoted(name);
-        if write!(self.text, "{name}").is_err() {
-            self.is_cut = true;
+    pub fn name(&mut self, before: &str, name: &[u8], after: &str) {
+        self.say(before);
+        self.say("'");
+        self.raw(name);
+        self.say("'");
+        self.say(after);
+    }
+
+    /// Puts what a file says behind it: printable ASCII as it is, and each other byte, a quote and a backslash as `\x` with
+    /// its two digits. Of many bytes the first are shown, and two dots behind them.
+    pub fn raw(&mut self, bytes: &[u8]) {
+        for byte in bytes.iter().take(MOST_SHOWN) {
+            self.byte(*byte);
+        }
+        if bytes.len() > MOST_SHOWN {
+            self.say("..");
         }
     }
 
-    /// Puts what a file says behind it.
-    pub fn raw(&mut self, bytes: &[u8]) {
-        let shown = Shown(bytes);
-        if write!(self.text, "{shown}").is_err() {
+    /// Puts a byte behind it.
+    fn byte(&mut self, byte: u8) {
+        if !is_shown(byte) {
+            self.word("\\x", digit(byte / 16), digit(byte % 16));
+        } else if self.text.push(char::from(byte)).is_err() {
             self.is_cut = true;
         }
     }

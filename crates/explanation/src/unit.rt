@@ -36,7 +36,7 @@ fn tell_fraction(text: &mut Text, millionths: u64) {
         if rest == 0 {
             return;
         }
-        text.number(rest / 100_000);
+        text.number("", rest / 100_000, "");
         rest = (rest % 100_000) * 10;
     }
 }
@@ -47,8 +47,7 @@ pub fn tell_unit(text: &mut Text, units: [u8; 16]) {
         text.say("a database unit that is no length below a metre");
         return;
     };
-    text.say("a database unit of ");
-    text.number(unit / 1_000_000);
+    text.number("a database unit of ", unit / 1_000_000, "");
     if unit % 1_000_000 != 0 {
         text.say(".");
         tell_fraction(text, unit % 1_000_000);
