@@ -46,7 +46,7 @@ fn mark_all(marks: &mut [bool], pairs: &[(usize, usize)]) -> bool {
             return false;
         }
     }
-    marks.iter().all(|marked| *marked)
+    !marks.contains(&false)
 }
 
 /// Marks for boxes that are not joined to the next one yet. The last has no next one.
