@@ -1,6 +1,6 @@
 //! Shapes as a stream of one structure.
 
-use crate::stream::{BGNSTR, Corner, ENDLIB, ENDSTR, HEAD, push_points, push_records};
+use crate::stream::{BGNSTR, Corner, ENDLIB, ENDSTR, HEAD, push_points};
 use gds_syntax::ShapeKind;
 use std::alloc::{AllocError, Global};
 
@@ -35,14 +35,26 @@ const BOX: &[u8] = b"\x00\x04\x2D\x00\x00\x06\x0D\x02\x00\x01\x00\x06\x2E\x02\x0
 
 const PATH: &[u8] = b"\x00\x04\x09\x00\x00\x06\x0D\x02\x00\x01\x00\x06\x0E\x02\x00\x00";
 
-/// What opens a path's PATHTYPE, WIDTH, BGNEXTN and ENDEXTN.
-const PATHTYPE: &[u8] = b"\x00\x06\x21\x02";
+/// One more record with a number of four bytes.
+fn push_number(bytes: &mut Vec<u8>, head: &[u8], number: i32) -> Result<(), AllocError> {
+    bytes.extend_from_slice(head)?;
+    bytes.extend_from_slice(number.to_be_bytes().as_slice())
+}
 
-const WIDTH: &[u8] = b"\x00\x08\x0F\x03";
-
-const BGNEXTN: &[u8] = b"\x00\x08\x30\x03";
-
-const ENDEXTN: &[u8] = b"\x00\x08\x31\x03";
+/// The records of a path's PATHTYPE, WIDTH, BGNEXTN and ENDEXTN.
+fn push_style(
+    bytes: &mut Vec<u8>,
+    pathtype: i16,
+    width: i32,
+    begin: i32,
+    end: i32,
+) -> Result<(), AllocError> {
+    bytes.extend_from_slice(b"\x00\x06\x21\x02".as_slice())?;
+    bytes.extend_from_slice(pathtype.to_be_bytes().as_slice())?;
+    push_number(bytes, b"\x00\x08\x0F\x03".as_slice(), width)?;
+    push_number(bytes, b"\x00\x08\x30\x03".as_slice(), begin)?;
+    push_number(bytes, b"\x00\x08\x31\x03".as_slice(), end)
+}
 
 /// The records of a shape in front of its points.
 fn push_kind(bytes: &mut Vec<u8>, kind: ShapeKind) -> Result<(), AllocError> {
@@ -55,22 +67,22 @@ fn push_kind(bytes: &mut Vec<u8>, kind: ShapeKind) -> Result<(), AllocError> {
             begin,
             end,
         } => {
-            push_records(bytes, &[PATH, PATHTYPE, &pathtype.to_be_bytes()])?;
-            push_records(bytes, &[WIDTH, &width.to_be_bytes()])?;
-            push_records(bytes, &[BGNEXTN, &begin.to_be_bytes()])?;
-            push_records(bytes, &[ENDEXTN, &end.to_be_bytes()])
+            bytes.extend_from_slice(PATH)?;
+            push_style(bytes, pathtype, width, begin, end)
         }
     }
 }
 
 /// A structure of these shapes, and the end of the library.
 fn push_forms(bytes: &mut Vec<u8>, forms: &[Form<'_>]) -> Result<(), AllocError> {
-    push_records(bytes, &[BGNSTR, STRNAME])?;
+    bytes.extend_from_slice(BGNSTR)?;
+    bytes.extend_from_slice(STRNAME)?;
     for form in forms {
         push_kind(bytes, form.kind)?;
         push_points(bytes, form.corners)?;
     }
-    push_records(bytes, &[ENDSTR, ENDLIB])
+    bytes.extend_from_slice(ENDSTR)?;
+    bytes.extend_from_slice(ENDLIB)
 }
 
 /// A stream of one structure that has these shapes.
