@@ -25,14 +25,6 @@ pub const ENDSTR: &[u8] = b"\x00\x04\x07\x00";
 
 pub const ENDLIB: &[u8] = b"\x00\x04\x04\x00";
 
-/// These records, one behind the other.
-pub fn push_records(bytes: &mut Vec<u8>, records: &[&[u8]]) -> Result<(), AllocError> {
-    for record in records {
-        bytes.extend_from_slice(record)?;
-    }
-    Ok(())
-}
-
 /// The coordinates of these points.
 fn push_corners(bytes: &mut Vec<u8>, corners: &[Corner]) -> Result<(), AllocError> {
     for corner in corners {

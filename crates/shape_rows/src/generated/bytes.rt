@@ -1,5 +1,5 @@
 use super::records::*;
-use crate::stream::{BGNSTR, ENDEL, ENDLIB, ENDSTR, push_records};
+use crate::stream::{BGNSTR, ENDEL, ENDLIB, ENDSTR};
 use layout_gen::{MOST_COLUMNS, generate};
 use std::alloc::{AllocError, Global};
 
@@ -45,7 +45,9 @@ const LAYOUTS: &[(u32, &[&[u8]])] = &[
 /// These records, one behind the other.
 fn joined(alloc: Global, records: &[&[u8]]) -> Result<Vec<u8>, AllocError> {
     let mut bytes = Vec::new(alloc);
-    push_records(&mut bytes, records)?;
+    for record in records {
+        bytes.extend_from_slice(record)?;
+    }
     Ok(bytes)
 }
 

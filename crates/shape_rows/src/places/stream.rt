@@ -1,6 +1,6 @@
 //! Streams of a few structures, and what they place.
 
-use crate::stream::{BGNSTR, Corner, ENDLIB, ENDSTR, HEAD, push_points, push_records};
+use crate::stream::{BGNSTR, Corner, ENDLIB, ENDSTR, HEAD, push_points};
 use flatten::{PlaceFault, Placed, place};
 use gds_syntax::read_library;
 use map_model::{Map, one_metal};
@@ -52,7 +52,9 @@ const STRNAME: &[u8] = b"\x00\x08\x06\x06";
 fn push_part(bytes: &mut Vec<u8>, part: &Part<'_>) -> Result<(), AllocError> {
     match part {
         Part::Shape { layer, corners } => {
-            push_records(bytes, &[BOUNDARY, &[*layer], DATATYPE])?;
+            bytes.extend_from_slice(BOUNDARY)?;
+            bytes.push(*layer)?;
+            bytes.extend_from_slice(DATATYPE)?;
             push_points(bytes, corners)
         }
         Part::Copies {
@@ -62,8 +64,13 @@ fn push_part(bytes: &mut Vec<u8>, part: &Part<'_>) -> Result<(), AllocError> {
             rows,
             points,
         } => {
-            push_records(bytes, &[AREF, target, STRANS, angle, COLROW])?;
-            push_records(bytes, &[&columns.to_be_bytes(), &rows.to_be_bytes()])?;
+            bytes.extend_from_slice(AREF)?;
+            bytes.extend_from_slice(target.as_slice())?;
+            bytes.extend_from_slice(STRANS)?;
+            bytes.extend_from_slice(angle.as_slice())?;
+            bytes.extend_from_slice(COLROW)?;
+            bytes.extend_from_slice(columns.to_be_bytes().as_slice())?;
+            bytes.extend_from_slice(rows.to_be_bytes().as_slice())?;
             push_points(bytes, points.as_slice())
         }
     }
@@ -75,7 +82,9 @@ pub fn push_structure(
     name: Name,
     parts: &[Part<'_>],
 ) -> Result<(), AllocError> {
-    push_records(bytes, &[BGNSTR, STRNAME, &name])?;
+    bytes.extend_from_slice(BGNSTR)?;
+    bytes.extend_from_slice(STRNAME)?;
+    bytes.extend_from_slice(name.as_slice())?;
     for part in parts {
         push_part(bytes, part)?;
     }
