@@ -17,49 +17,66 @@ const STANDS: Stands<'static> = Stands {
     others: OTHERS,
 };
 
-/// Names of a layout, statuses, and what is told.
-const LAYOUTS: &[(&str, u8, &str)] = &[
-    ("none", 5, "layout 'none': there is no such file\n"),
+/// What is told of the generated layout of one column and one row: its cell has two bars of 12 by 4 cells and two terminals on
+/// the lower metal, one bar of 4 by 12 on the upper, and a contact of 2 by 2 between them.
+const GENERATED: &str = "the generated layout: nothing is wrong, and the run gives its report\n  \
+     library 'GEN', a database unit that is no length below a metre, 2 structures, top 'TOP'\n  \
+     metal 'm1': 2 shapes with 10 points, from (0, 0) to (12, 12)\n  \
+     metal 'm2': 1 shapes with 5 points, from (0, 0) to (4, 12)\n  \
+     cut 'v1': 1 shapes with 5 points, from (0, 0) to (2, 2)\n  \
+     metal 'm1': 2 terminals\n  \
+     metal 'm2': no terminals, so its opens are 0, which says nothing of its wires\n";
+
+/// Words with a bar between two of them, statuses, and what is told.
+const ROWS: &[(&str, u8, &str)] = &[
     (
-        "folder",
+        "none|--layer|1|--datatype|0|--radius|3",
+        5,
+        "layout 'none': there is no such file\n",
+    ),
+    (
+        "folder|--layer|1|--datatype|0|--radius|3",
         5,
         "layout 'folder': this is a folder, and a file is wanted\n",
     ),
     (
-        "pipe",
+        "pipe|--layer|1|--datatype|0|--radius|3",
         8,
         "layout 'pipe': this is a pipe, which cannot be read a second time; save it as a file to be told more\n",
     ),
     (
-        "terminal",
+        "terminal|--layer|1|--datatype|0|--radius|3",
         8,
         "layout 'terminal': this is a device, which cannot be read a second time; save it as a file to be told more\n",
     ),
     (
-        "closed",
+        "closed|--layer|1|--datatype|0|--radius|3",
         5,
         "layout 'closed': the system does not let it be looked at; see who may enter its folder\n",
     ),
     (
-        "broken",
+        "broken|--layer|1|--datatype|0|--radius|3",
         5,
         "layout 'broken': the file is there and cannot be read; see who may read it\n",
     ),
-    ("far", 5, "layout 'far': the system cannot reach it\n"),
+    (
+        "far|--layer|1|--datatype|0|--radius|3",
+        5,
+        "layout 'far': the system cannot reach it\n",
+    ),
+    // maps_come_first
+    (
+        "none|--map|folder",
+        5,
+        "map 'folder': this is a folder, and a file is wanted\n",
+    ),
+    // a_generated_layout_is_told: it is read from no file
+    ("--generate|1", 0, GENERATED),
 ];
 
 #[test]
 fn layouts_that_cannot_be_read_are_told(rt: HostRuntime) {
-    for (name, status, told) in LAYOUTS {
-        let Ok(line) = format!(in rt.alloc(); "{name}|--layer|1|--datatype|0|--radius|3") else {
-            return;
-        };
-        expect(&rt, rt.alloc(), line.as_str(), &STANDS, *status, told);
+    for (line, status, told) in ROWS {
+        expect(&rt, rt.alloc(), line, &STANDS, *status, ["", *told, ""]);
     }
-}
-
-#[test]
-fn maps_come_first(rt: HostRuntime) {
-    let told = "map 'folder': this is a folder, and a file is wanted\n";
-    expect(&rt, rt.alloc(), "none|--map|folder", &STANDS, 5, told);
 }

@@ -109,28 +109,8 @@ fn changed_layouts_are_told(rt: HostRuntime) {
             others: &[],
         };
         let words = "a|--layer|1|--datatype|0|--radius|3";
-        expect(&rt, rt.alloc(), words, &stands, *status, told);
+        expect(&rt, rt.alloc(), words, &stands, *status, ["", *told, ""]);
     }
-}
-
-/// What is told of the generated layout of one column and one row: its cell has two bars of 12 by 4 cells and two terminals on
-/// the lower metal, one bar of 4 by 12 on the upper, and a contact of 2 by 2 between them.
-const GENERATED: &str = "the generated layout: nothing is wrong, and the run gives its report\n  \
-     library 'GEN', a database unit that is no length below a metre, 2 structures, top 'TOP'\n  \
-     metal 'm1': 2 shapes with 10 points, from (0, 0) to (12, 12)\n  \
-     metal 'm2': 1 shapes with 5 points, from (0, 0) to (4, 12)\n  \
-     cut 'v1': 1 shapes with 5 points, from (0, 0) to (2, 2)\n  \
-     metal 'm1': 2 terminals\n  \
-     metal 'm2': no terminals, so its opens are 0, which says nothing of its wires\n";
-
-#[test]
-fn a_generated_layout_is_told(rt: HostRuntime) {
-    let stands = Stands {
-        map: &[],
-        layout: &[],
-        others: &[],
-    };
-    expect(&rt, rt.alloc(), "--generate|1", &stands, 0, GENERATED);
 }
 
 /// Maps of the two bars with terminals, the status, and what is told.
@@ -175,6 +155,13 @@ fn terminals_are_told(rt: HostRuntime) {
             layout: TWO_BARS,
             others: &[],
         };
-        expect(&rt, rt.alloc(), "a|--map|m", &stands, *status, told);
+        expect(
+            &rt,
+            rt.alloc(),
+            "a|--map|m",
+            &stands,
+            *status,
+            ["", *told, ""],
+        );
     }
 }

@@ -90,6 +90,6 @@ fn maps_are_told(rt: HostRuntime) {
             layout: &[],
             others: &[],
         };
-        expect(&rt, rt.alloc(), "none|--map|m", &stands, 3, told);
+        expect(&rt, rt.alloc(), "none|--map|m", &stands, 3, ["", *told, ""]);
     }
 }

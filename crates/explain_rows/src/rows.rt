@@ -24,16 +24,28 @@ impl Paths for Stands<'_> {
     }
 }
 
+/// A word.
+fn word_of(alloc: Global, text: &str) -> Result<Word, NoMemory> {
+    Ok(Word::from_string(String::from_str(alloc, text)?))
+}
+
 /// The words of a line, with a bar between two of them. An empty line has none.
 fn words_of(alloc: Global, line: &str) -> Result<Vec<Word>, NoMemory> {
-    let mut words = Vec::new(alloc);
     if line.is_empty() {
-        return Ok(words);
+        return Ok(Vec::new(alloc));
     }
+    let mut words = Vec::new(alloc);
     for word in line.split('|') {
-        words.push(Word::from_string(String::from_str(alloc, word)?))?;
+        words.push(word_of(alloc, word)?)?;
     }
     Ok(words)
+}
+
+/// A file.
+fn file_of(alloc: Global, name: &str, bytes: &[u8]) -> Result<(Name, Vec<u8>), NoMemory> {
+    let name = Vec::from_slice(alloc, name.as_bytes())?;
+    let bytes = Vec::from_slice(alloc, bytes)?;
+    Ok((Name::from_vec(name), bytes))
 }
 
 /// Adds a file, unless it is empty.
@@ -43,11 +55,9 @@ fn add_file(
     name: &str,
     bytes: &[u8],
 ) -> Result<(), NoMemory> {
-    if bytes.is_empty() {
-        return Ok(());
+    if !bytes.is_empty() {
+        files.push(file_of(alloc, name, bytes)?)?;
     }
-    let name = Name::from_vec(Vec::from_slice(alloc, name.as_bytes())?);
-    files.push((name, Vec::from_slice(alloc, bytes)?))?;
     Ok(())
 }
 
@@ -59,27 +69,61 @@ fn files_of(alloc: Global, stands: &Stands<'_>) -> Result<MemFiles, NoMemory> {
     Ok(MemFiles::new(files, Vec::new(alloc)))
 }
 
+/// What is told of words.
+fn explained(alloc: Global, words: &[Word], stands: &Stands<'_>) -> Result<Explanation, NoMemory> {
+    let mut files = files_of(alloc, stands)?;
+    explain(alloc, words, &mut files, stands)
+}
+
 /// What is told of the words of a line.
 fn explanation_of(alloc: Global, line: &str, stands: &Stands<'_>) -> Result<Explanation, NoMemory> {
     let words = words_of(alloc, line)?;
-    let mut files = files_of(alloc, stands)?;
-    explain(alloc, words.as_slice(), &mut files, stands)
+    explained(alloc, words.as_slice(), stands)
 }
 
-/// Checks that the words of a line are told so: the status and the text.
+/// Whether a text is these pieces, one behind the other.
+fn is_text(text: &str, pieces: &[&str]) -> bool {
+    let mut rest = text;
+    for piece in pieces {
+        match rest.strip_prefix(*piece) {
+            Some(behind) => rest = behind,
+            None => return false,
+        }
+    }
+    rest.is_empty()
+}
+
+/// Whether this status and the pieces of this text are told.
+fn is_told(told: &Explanation, status: u8, pieces: &[&str]) -> bool {
+    told.status == status && is_text(told.text.as_str(), pieces)
+}
+
+/// Whether the words of a line are told so: the status and the pieces of the text.
+fn is_explained(
+    alloc: Global,
+    line: &str,
+    stands: &Stands<'_>,
+    status: u8,
+    pieces: &[&str],
+) -> bool {
+    match explanation_of(alloc, line, stands) {
+        Ok(told) => is_told(&told, status, pieces),
+        Err(_) => false,
+    }
+}
+
+/// Checks that the words of a line are told so: the status, and the text with what stands in front of it and behind it.
 pub fn expect<R: Abort>(
     rt: &R,
     alloc: Global,
     line: &str,
     stands: &Stands<'_>,
     status: u8,
-    text: &str,
+    pieces: [&str; 3],
 ) {
-    match explanation_of(alloc, line, stands) {
-        Ok(told) => {
-            assert_eq!(rt; told.text.as_str(), text, "{line}");
-            assert_eq!(rt; told.status, status, "{line}");
-        }
-        Err(_) => assert!(rt; false, "no memory"),
-    }
+    let text = pieces[1];
+    assert!(rt;
+        is_explained(alloc, line, stands, status, &pieces),
+        "{line}: {text}"
+    );
 }
