@@ -1,10 +1,10 @@
-//! Worked rows on the calls of reports: products, and texts to the last byte. Each answer was worked out by hand. The
-//! crate has tests alone.
+//! Worked rows on reports and gauges: products, texts to the last byte, what becomes of gauges where one of them refuses,
+//! and who drops them. Each answer was worked out by hand. The crate has tests alone.
 #![tactic(auto)]
 
 #[cfg(test)]
-mod products;
+mod gauged;
+#[cfg(test)]
+mod reports;
 #[cfg(test)]
 mod rows;
-#[cfg(test)]
-mod texts;

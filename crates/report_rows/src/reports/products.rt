@@ -1,4 +1,4 @@
-use super::rows::{GREATEST_AREA, row};
+use crate::rows::{GREATEST_AREA, row};
 use report::{Kind, product};
 
 /// Areas, weights and their products.

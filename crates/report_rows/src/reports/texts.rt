@@ -1,4 +1,4 @@
-use super::rows::{GREATEST_AREA, Said, row};
+use crate::rows::{GREATEST_AREA, Said, TWO_METALS, rows_of};
 use lists::NoMemory;
 use report::{Kind, MOST_ROWS, Row, write_report};
 use std::alloc::Global;
@@ -9,19 +9,6 @@ const ONE_OF_EACH: &[Said<'static>] = &[
     (Kind::Short, "m", 3, 32, 1),
     (Kind::Open, "m", 3, 7, 2),
     (Kind::Via, "cut_12", 3, 5, 1_000),
-];
-
-const TWO_METALS: &[Said<'static>] = &[
-    (Kind::Short, "m1", 2, 0, 10),
-    (Kind::Short, "m1", 5, 72_788, 1),
-    (Kind::Short, "m2", 2, 0, 10),
-    (Kind::Short, "m2", 5, 10_640, 1),
-    (Kind::Open, "m1", 2, 18, 10),
-    (Kind::Open, "m1", 5, 174, 1),
-    (Kind::Open, "m2", 2, 0, 10),
-    (Kind::Open, "m2", 5, 0, 1),
-    (Kind::Via, "v1", 2, 1_600, 10),
-    (Kind::Via, "v1", 5, 25_600, 1),
 ];
 
 /// What stood before, rows, and what stands there after the report of these rows.
@@ -140,17 +127,6 @@ fn is_report(alloc: Global, before: &str, rows: &[Row], after: &[u8]) -> Result<
     let mut into = Vec::from_slice(alloc, before.as_bytes())?;
     write_report(alloc, rows, &mut into)?;
     Ok(into.as_slice() == after)
-}
-
-/// The rows that say this, without those that may not stand.
-fn rows_of(alloc: Global, said: &[Said<'_>]) -> Result<Vec<Row>, NoMemory> {
-    let mut rows = Vec::new(alloc);
-    for one in said {
-        if let Some(row) = row(one) {
-            rows.push(row)?;
-        }
-    }
-    Ok(rows)
 }
 
 /// Whether the report of what is said, behind what stood before, is as it is written out.

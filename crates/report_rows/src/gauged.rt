@@ -1,0 +1,6 @@
+//! Gauges: what they print to the last byte, what becomes of them where one of them refuses, and who drops them.
+
+mod drops;
+mod kinds;
+mod refusals;
+mod texts;

@@ -1,0 +1,4 @@
+//! Reports: products, and texts to the last byte.
+
+mod products;
+mod texts;
