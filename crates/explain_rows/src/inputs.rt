@@ -64,13 +64,13 @@ const ROWS: &[(&str, u8, &str)] = &[
         5,
         "layout 'far': the system cannot reach it\n",
     ),
-    // maps_come_first
+    // the map is looked at first
     (
         "none|--map|folder",
         5,
         "map 'folder': this is a folder, and a file is wanted\n",
     ),
-    // a_generated_layout_is_told: it is read from no file
+    // a generated layout is read from no file
     ("--generate|1", 0, GENERATED),
 ];
 
