@@ -1,10 +1,11 @@
 //! Shapes of every kind: outlines that wind more than once, boxes, and paths with each kind of end.
 
-use super::layouts::{Filled, Plate, Wire, outline_and_plate, wire_and_plate};
+use super::layouts::{Filled, Plate, Wire};
 use super::rows::RIGHT;
-use super::runs::{SHORT_32, Want, answers, calm, expect, layout_answers};
-use std::alloc::Global;
-use std::thread::Threads;
+use super::runs::Want::BadLayout;
+use super::runs::{RADIUS_3, SHORT_32, Want};
+use super::structures::Part;
+use super::tables::{LibraryRow, expect_libraries};
 
 /// The words that ask for layer 1 and datatype 0 at the radius 2.
 const RADIUS_2: &str = "a --layer 1 --datatype 0 --radius 2";
@@ -27,93 +28,236 @@ const BEHIND: Plate = (1, 0, (8, 14, 12, 18));
 /// A square across the corner from the outer side of the path's turn, 2 to the right and 2 below.
 const ROUND_THE_CORNER: Plate = (1, 0, (14, -8, 18, -4));
 
-/// An area of shorts.
-fn short(area: u64) -> Want {
-    Want::Short(2, area)
-}
-
 /// Paths, each with a rectangle beside it, and the area of shorts. A path whose end is 2 from the rectangle has 2 columns,
 /// or rows, of 8 cells in common with it where both are grown by 2.
-const WIRES: &[(Wire, Plate, u64)] = &[
-    (WIRE, BEFORE, 0),
-    (SQUARE_ENDS, BEFORE, 16),
-    (OWN_ENDS, BEFORE, 16),
-    (WIRE, BEHIND, 0),
-    (SQUARE_ENDS, BEHIND, 16),
-    (OWN_ENDS, BEHIND, 0),
+const WIRES: &[LibraryRow] = &[
+    (
+        &[Part::Wire(WIRE), Part::Plate(BEFORE)],
+        &[],
+        RADIUS_2,
+        Want::Short(2, 0),
+    ),
+    (
+        &[Part::Wire(SQUARE_ENDS), Part::Plate(BEFORE)],
+        &[],
+        RADIUS_2,
+        Want::Short(2, 16),
+    ),
+    (
+        &[Part::Wire(OWN_ENDS), Part::Plate(BEFORE)],
+        &[],
+        RADIUS_2,
+        Want::Short(2, 16),
+    ),
+    (
+        &[Part::Wire(WIRE), Part::Plate(BEHIND)],
+        &[],
+        RADIUS_2,
+        Want::Short(2, 0),
+    ),
+    (
+        &[Part::Wire(SQUARE_ENDS), Part::Plate(BEHIND)],
+        &[],
+        RADIUS_2,
+        Want::Short(2, 16),
+    ),
+    (
+        &[Part::Wire(OWN_ENDS), Part::Plate(BEHIND)],
+        &[],
+        RADIUS_2,
+        Want::Short(2, 0),
+    ),
     // both pieces reach half a width past the corner, which fills [10,12)x[-2,0): then [12,14)x[-4,-2) is near both
-    (WIRE, ROUND_THE_CORNER, 4),
+    (
+        &[Part::Wire(WIRE), Part::Plate(ROUND_THE_CORNER)],
+        &[],
+        RADIUS_2,
+        Want::Short(2, 4),
+    ),
     // a sign of the width says nothing of the shape
-    ((2, -4, (0, 0), &[(0, 0), (10, 0), (10, 10)]), BEFORE, 16),
+    (
+        &[
+            Part::Wire((2, -4, (0, 0), &[(0, 0), (10, 0), (10, 10)])),
+            Part::Plate(BEFORE),
+        ],
+        &[],
+        RADIUS_2,
+        Want::Short(2, 16),
+    ),
     // repeated points and points on the way say nothing either
     (
-        (
-            2,
-            4,
-            (0, 0),
-            &[(0, 0), (0, 0), (4, 0), (10, 0), (10, 0), (10, 3), (10, 10)],
-        ),
-        BEFORE,
-        16,
+        &[
+            Part::Wire((
+                2,
+                4,
+                (0, 0),
+                &[(0, 0), (0, 0), (4, 0), (10, 0), (10, 0), (10, 3), (10, 10)],
+            )),
+            Part::Plate(BEFORE),
+        ],
+        &[],
+        RADIUS_2,
+        Want::Short(2, 16),
     ),
     // without a width it covers nothing, whatever its points and ends
-    ((0, 0, (0, 0), &[(0, 0), (10, 0), (10, 10)]), BEFORE, 0),
-    ((1, 0, (0, 0), &[(0, 0), (3, 4), (0, 0)]), BEFORE, 0),
-];
-
-/// Whether a run answers so to a path with a rectangle beside it.
-fn wire_answers(
-    rt: &(impl Threads + Sync),
-    alloc: Global,
-    wire: &Wire,
-    plate: &Plate,
-    want: &Want,
-) -> bool {
-    layout_answers(
-        rt,
-        alloc,
+    (
+        &[
+            Part::Wire((0, 0, (0, 0), &[(0, 0), (10, 0), (10, 10)])),
+            Part::Plate(BEFORE),
+        ],
+        &[],
         RADIUS_2,
-        wire_and_plate(alloc, wire, plate),
-        want,
-    )
-}
+        Want::Short(2, 0),
+    ),
+    (
+        &[
+            Part::Wire((1, 0, (0, 0), &[(0, 0), (3, 4), (0, 0)])),
+            Part::Plate(BEFORE),
+        ],
+        &[],
+        RADIUS_2,
+        Want::Short(2, 0),
+    ),
+];
 
 #[test]
 fn paths_cover_their_pieces(rt: HostRuntime) {
-    for (number, (wire, plate, area)) in WIRES.iter().enumerate() {
-        let holds = wire_answers(&rt, rt.alloc(), wire, plate, &short(*area));
-        expect(&rt, holds, &number);
-    }
+    expect_libraries(&rt, rt.alloc(), WIRES);
 }
 
 /// Paths that have no cover, and what is wrong. Where several things are, the order of the checks decides.
-const REFUSED: &[(Wire, u8)] = &[
-    ((1, 4, (0, 0), &[(0, 0), (10, 0), (10, 10)]), 32),
-    ((3, 4, (0, 0), &[(0, 0), (10, 0), (10, 10)]), 35),
-    ((0, 5, (0, 0), &[(0, 0), (10, 0), (10, 10)]), 33),
-    ((0, 4, (0, 0), &[(0, 0), (0, 0)]), 36),
-    ((0, 4, (0, 0), &[(0, 0)]), 36),
-    ((0, 4, (0, 0), &[(0, 0), (3, 4)]), 31),
-    ((0, 4, (0, 0), &[(0, 0), (10, 0), (4, 0)]), 34),
+const REFUSED: &[LibraryRow] = &[
+    (
+        &[
+            Part::Wire((1, 4, (0, 0), &[(0, 0), (10, 0), (10, 10)])),
+            Part::Plate(BEFORE),
+        ],
+        &[],
+        RADIUS_2,
+        BadLayout(32, 94),
+    ),
+    (
+        &[
+            Part::Wire((3, 4, (0, 0), &[(0, 0), (10, 0), (10, 10)])),
+            Part::Plate(BEFORE),
+        ],
+        &[],
+        RADIUS_2,
+        BadLayout(35, 94),
+    ),
+    (
+        &[
+            Part::Wire((0, 5, (0, 0), &[(0, 0), (10, 0), (10, 10)])),
+            Part::Plate(BEFORE),
+        ],
+        &[],
+        RADIUS_2,
+        BadLayout(33, 94),
+    ),
+    (
+        &[
+            Part::Wire((0, 4, (0, 0), &[(0, 0), (0, 0)])),
+            Part::Plate(BEFORE),
+        ],
+        &[],
+        RADIUS_2,
+        BadLayout(36, 94),
+    ),
+    (
+        &[Part::Wire((0, 4, (0, 0), &[(0, 0)])), Part::Plate(BEFORE)],
+        &[],
+        RADIUS_2,
+        BadLayout(36, 94),
+    ),
+    (
+        &[
+            Part::Wire((0, 4, (0, 0), &[(0, 0), (3, 4)])),
+            Part::Plate(BEFORE),
+        ],
+        &[],
+        RADIUS_2,
+        BadLayout(31, 94),
+    ),
+    (
+        &[
+            Part::Wire((0, 4, (0, 0), &[(0, 0), (10, 0), (4, 0)])),
+            Part::Plate(BEFORE),
+        ],
+        &[],
+        RADIUS_2,
+        BadLayout(34, 94),
+    ),
     // what its extension takes away, and all that there is
-    ((4, 4, (-12, 0), &[(0, 0), (10, 0)]), 35),
-    ((4, 4, (-10, 0), &[(0, 0), (10, 0)]), 35),
+    (
+        &[
+            Part::Wire((4, 4, (-12, 0), &[(0, 0), (10, 0)])),
+            Part::Plate(BEFORE),
+        ],
+        &[],
+        RADIUS_2,
+        BadLayout(35, 94),
+    ),
+    (
+        &[
+            Part::Wire((4, 4, (-10, 0), &[(0, 0), (10, 0)])),
+            Part::Plate(BEFORE),
+        ],
+        &[],
+        RADIUS_2,
+        BadLayout(35, 94),
+    ),
     // half a width past the farthest point
-    ((2, 4, (0, 0), &[(999_999_999, 0), (1_000_000_000, 0)]), 30),
+    (
+        &[
+            Part::Wire((2, 4, (0, 0), &[(999_999_999, 0), (1_000_000_000, 0)])),
+            Part::Plate(BEFORE),
+        ],
+        &[],
+        RADIUS_2,
+        BadLayout(30, 94),
+    ),
     // round ends come first, then unknown ends, an odd width, and a way back before a piece that is eaten up
-    ((1, 5, (0, 0), &[(0, 0), (10, 0), (10, 10)]), 32),
-    ((3, 5, (0, 0), &[(0, 0), (10, 0), (10, 10)]), 35),
-    ((0, 5, (0, 0), &[(0, 0), (0, 0)]), 33),
-    ((4, 4, (-12, 0), &[(0, 0), (10, 0), (4, 0)]), 34),
+    (
+        &[
+            Part::Wire((1, 5, (0, 0), &[(0, 0), (10, 0), (10, 10)])),
+            Part::Plate(BEFORE),
+        ],
+        &[],
+        RADIUS_2,
+        BadLayout(32, 94),
+    ),
+    (
+        &[
+            Part::Wire((3, 5, (0, 0), &[(0, 0), (10, 0), (10, 10)])),
+            Part::Plate(BEFORE),
+        ],
+        &[],
+        RADIUS_2,
+        BadLayout(35, 94),
+    ),
+    (
+        &[
+            Part::Wire((0, 5, (0, 0), &[(0, 0), (0, 0)])),
+            Part::Plate(BEFORE),
+        ],
+        &[],
+        RADIUS_2,
+        BadLayout(33, 94),
+    ),
+    (
+        &[
+            Part::Wire((4, 4, (-12, 0), &[(0, 0), (10, 0), (4, 0)])),
+            Part::Plate(BEFORE),
+        ],
+        &[],
+        RADIUS_2,
+        BadLayout(34, 94),
+    ),
 ];
 
 #[test]
 fn paths_without_a_cover_are_refused(rt: HostRuntime) {
-    for (case, (wire, number)) in REFUSED.iter().enumerate() {
-        let want = Want::BadLayout(*number, 94);
-        let holds = wire_answers(&rt, rt.alloc(), wire, &BEFORE, &want);
-        expect(&rt, holds, &case);
-    }
+    expect_libraries(&rt, rt.alloc(), REFUSED);
 }
 
 /// The left bar, of which `[4,10)x[0,10)` is wound round twice.
@@ -153,55 +297,60 @@ const MIDDLE: Plate = (1, 0, (8, 8, 12, 12));
 /// An L whose sides are 4 wide.
 const ANGLE: &[(i32, i32)] = &[(0, 0), (10, 0), (10, 4), (4, 4), (4, 10), (0, 10), (0, 0)];
 
-/// Outlines, each with a rectangle beside it, a radius, and the area of shorts.
-const OUTLINES: &[(&[(i32, i32)], Plate, &str, Want)] = &[
+/// Outlines, each of a boundary and of a box, with a rectangle beside it, a radius, and the area of shorts.
+const OUTLINES: &[LibraryRow] = &[
     // what is wound twice is covered, as the left bar
     (
-        WOUND_TWICE,
-        RIGHT,
-        "a --layer 1 --datatype 0 --radius 3",
+        &[
+            Part::Outline(Filled::Boundary, WOUND_TWICE),
+            Part::Plate(RIGHT),
+        ],
+        &[],
+        RADIUS_3,
+        SHORT_32,
+    ),
+    (
+        &[
+            Part::Outline(Filled::BoxElement, WOUND_TWICE),
+            Part::Plate(RIGHT),
+        ],
+        &[],
+        RADIUS_3,
         SHORT_32,
     ),
     // Its inside is left open. [4,16)x[4,16) is near the square at radius 4, and of these 144 cells [6,14)x[6,14) are not
     // near the frame.
     (
-        FRAME,
-        MIDDLE,
+        &[Part::Outline(Filled::Boundary, FRAME), Part::Plate(MIDDLE)],
+        &[],
+        "a --layer 1 --datatype 0 --radius 4",
+        Want::Short(4, 80),
+    ),
+    (
+        &[
+            Part::Outline(Filled::BoxElement, FRAME),
+            Part::Plate(MIDDLE),
+        ],
+        &[],
         "a --layer 1 --datatype 0 --radius 4",
         Want::Short(4, 80),
     ),
     // near both are [11,13)x[-3,7)
     (
-        ANGLE,
-        RIGHT,
-        "a --layer 1 --datatype 0 --radius 3",
+        &[Part::Outline(Filled::Boundary, ANGLE), Part::Plate(RIGHT)],
+        &[],
+        RADIUS_3,
+        Want::Short(3, 20),
+    ),
+    (
+        &[Part::Outline(Filled::BoxElement, ANGLE), Part::Plate(RIGHT)],
+        &[],
+        RADIUS_3,
         Want::Short(3, 20),
     ),
 ];
 
-/// Whether a run of these words answers so to a shape of this outline with a rectangle beside it: as a boundary, and as a
-/// box.
-fn outlines_answer(
-    rt: &(impl Threads + Sync),
-    alloc: Global,
-    row: &(&[(i32, i32)], Plate, &str, Want),
-) -> bool {
-    let (outline, plate, words, want) = row;
-    match (
-        outline_and_plate(alloc, Filled::Boundary, outline, plate),
-        outline_and_plate(alloc, Filled::BoxElement, outline, plate),
-    ) {
-        (Ok(boundary), Ok(box_element)) => {
-            answers(rt, alloc, &calm(words, boundary.as_slice()), want)
-                && answers(rt, alloc, &calm(words, box_element.as_slice()), want)
-        }
-        _ => false,
-    }
-}
-
 #[test]
 fn outlines_cover_what_they_wind_round(rt: HostRuntime) {
-    for (number, row) in OUTLINES.iter().enumerate() {
-        expect(&rt, outlines_answer(&rt, rt.alloc(), row), &number);
-    }
+    expect_libraries(&rt, rt.alloc(), OUTLINES);
 }

@@ -1,12 +1,11 @@
 //! Metals with cuts between them: nets through the cuts, and where defects block their vias. Each area was worked out by
 //! hand: a defect of radius r covers a box of w by h cells from 2r - w by 2r - h cells, where both are positive.
 
-use super::layouts::Plate;
-use super::maps::map_answers;
-use super::runs::{Want, expect};
+use super::maps::{MapRow, expect_maps};
+use super::runs::Want;
 
 /// Rectangles, a map of metals and of cuts between them, and the report. Odd layers are metals, and even ones cuts.
-const CUTS: &[(&[Plate], &[u8], Want)] = &[
+const CUTS: &[MapRow] = &[
     // Two bars under a strap. A contact joins the lower one to the strap, and nothing the upper one: so a defect between the
     // bars makes a short, in 6 rows of 20 columns. The contact is 2 by 2 cells.
     (
@@ -229,11 +228,5 @@ const CUTS: &[(&[Plate], &[u8], Want)] = &[
 
 #[test]
 fn cuts_have_their_reports(rt: HostRuntime) {
-    for (number, (shapes, map, want)) in CUTS.iter().enumerate() {
-        expect(
-            &rt,
-            map_answers(&rt, rt.alloc(), shapes, map, want),
-            &number,
-        );
-    }
+    expect_maps(&rt, rt.alloc(), CUTS);
 }

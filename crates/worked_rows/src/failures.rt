@@ -40,6 +40,6 @@ fn failures_are_answered(rt: HostRuntime) {
             map: MAP,
             failing: *failing,
         };
-        expect(&rt, answers(&rt, rt.alloc(), &given, want), &number);
+        expect(&rt, answers(&rt, rt.alloc(), &given, want), number);
     }
 }

@@ -1,11 +1,13 @@
 //! Runs with other gauges than those of the program, of which some refuse.
 
 use super::layouts::TWO_BARS;
-use super::runs::{Answer, Failing, Given, RADIUS_3, calm, files_of, run_with_gauges};
-use gauges::{Gauge, Nonzero, Peak, append_texts};
+use super::runs::{
+    Answer, Failing, Given, RADIUS_3, calm, expect, push_nonzero, push_peak, run_told,
+};
+use gauges::{Gauge, append_texts};
 use hostile_gauges::{Counted, Mute, Silent, Tight};
 use lists::NoMemory;
-use std::alloc::Global;
+use std::alloc::{AllocError, Global};
 use std::sync::Arc;
 use std::sync::atomic::{AtomicU64, Ordering};
 use std::thread::Threads;
@@ -125,112 +127,147 @@ const ROWS: &[Row] = &[
     },
 ];
 
-/// Adds the gauge to the list.
-fn add(alloc: Global, between: Between, gauges: &mut Vec<Box<dyn Gauge>>) -> Result<(), NoMemory> {
-    match between {
-        Between::Tight(room) => gauges.push(Box::new(alloc, Tight::new(alloc, room))?)?,
-        Between::Silent => gauges.push(Box::new(alloc, Silent::new(alloc))?)?,
-        Between::Mute => gauges.push(Box::new(alloc, Mute::new(alloc))?)?,
-    }
-    Ok(())
+/// A gauge of this kind, which has seen nothing.
+fn boxed(alloc: Global, between: Between) -> Result<Box<dyn Gauge>, AllocError> {
+    let gauge: Box<dyn Gauge> = match between {
+        Between::Tight(room) => Box::new(alloc, Tight::new(alloc, room))?,
+        Between::Silent => Box::new(alloc, Silent::new(alloc))?,
+        Between::Mute => Box::new(alloc, Mute::new(alloc))?,
+    };
+    Ok(gauge)
 }
 
-/// What the gauges print, as far as they print.
-fn printed(alloc: Global, gauges: &[Box<dyn Gauge>]) -> Vec<u8> {
+/// Appends `Nonzero`, this gauge, and `Peak` to the list.
+fn push_three(
+    alloc: Global,
+    between: Between,
+    gauges: &mut Vec<Box<dyn Gauge>>,
+) -> Result<(), AllocError> {
+    push_nonzero(alloc, gauges)?;
+    gauges.push(boxed(alloc, between)?)?;
+    push_peak(alloc, gauges)
+}
+
+/// Whether this is what the gauges print, as far as they print.
+fn are_printed(alloc: Global, gauges: &[Box<dyn Gauge>], text: &str) -> bool {
     let mut into = Vec::new(alloc);
-    match append_texts(gauges, &mut into) {
-        Ok(()) => into,
-        Err(NoMemory) => into,
-    }
+    // a gauge that refuses to print leaves what the others have printed
+    let _printed = append_texts(gauges, &mut into);
+    into.as_slice() == text.as_bytes()
 }
 
 /// Whether the output took the report with these lines behind it, or nothing where there are none.
-fn has_lines(alloc: Global, answer: &Answer, lines: Option<&str>) -> Result<bool, NoMemory> {
+fn has_lines(answer: &Answer, lines: Option<&str>) -> bool {
+    let out = answer.out.written.as_slice();
     let Some(lines) = lines else {
-        return Ok(answer.out.is_empty());
+        return out.is_empty();
     };
-    let report = format!(in alloc; "{REPORT}{lines}")?;
-    Ok(answer.out.as_slice() == report.as_bytes())
+    match out.strip_prefix(REPORT.as_bytes()) {
+        Some(behind) => behind == lines.as_bytes(),
+        None => false,
+    }
 }
 
-/// Whether a run has this answer, and leaves its gauges so.
-fn is_right(rt: &(impl Threads + Sync), alloc: Global, row: &Row) -> Result<bool, NoMemory> {
-    let mut gauges: Vec<Box<dyn Gauge>> = Vec::new(alloc);
-    gauges.push(Box::new(alloc, Nonzero::new(alloc))?)?;
-    add(alloc, row.between, &mut gauges)?;
-    gauges.push(Box::new(alloc, Peak::new(alloc))?)?;
+/// Whether a run answered so.
+fn is_answered(answer: &Answer, row: &Row) -> bool {
+    answer.status == row.status
+        && has_lines(answer, row.lines)
+        && answer.err.written.as_slice() == row.err.as_bytes()
+}
+
+/// Whether a run with these gauges has this answer.
+fn run_is_answered(
+    rt: &(impl Threads + Sync),
+    alloc: Global,
+    gauges: &mut Vec<Box<dyn Gauge>>,
+    row: &Row,
+) -> bool {
     let given = Given {
         failing: row.failing,
         ..calm(RADIUS_3, row.layout)
     };
-    let mut files = files_of(alloc, &given)?;
-    let answer = run_with_gauges(rt, alloc, RADIUS_3, &mut files, row.failing, &mut gauges)?;
-    let after = printed(alloc, gauges.as_slice());
-    Ok(
-        answer.status == row.status
-            && has_lines(alloc, &answer, row.lines)?
-            && answer.err.as_slice() == row.err.as_bytes()
-            && after.as_slice() == row.after.as_bytes(),
-    )
+    match run_told(rt, alloc, &given, gauges) {
+        Ok(answer) => is_answered(&answer, row),
+        Err(_) => false,
+    }
+}
+
+/// Whether a run has this answer, and leaves its gauges so. The list begins empty.
+fn is_right(
+    rt: &(impl Threads + Sync),
+    alloc: Global,
+    gauges: &mut Vec<Box<dyn Gauge>>,
+    row: &Row,
+) -> bool {
+    push_three(alloc, row.between, gauges).is_ok()
+        && run_is_answered(rt, alloc, gauges, row)
+        && are_printed(alloc, gauges.as_slice(), row.after)
 }
 
 #[test]
 fn gauges_of_a_run_are_told_and_print(rt: HostRuntime) {
     for (number, row) in ROWS.iter().enumerate() {
-        assert!(rt; is_right(&rt, rt.alloc(), row) == Ok(true), "row {number}");
+        let holds = is_right(&rt, rt.alloc(), &mut Vec::new(rt.alloc()), row);
+        expect(&rt, holds, number);
     }
 }
 
-/// Whether each of two runs with the same gauges has these lines behind its report.
-fn are_told_twice(
+/// Whether a run with these gauges has these lines behind its report.
+fn is_told(
     rt: &(impl Threads + Sync),
     alloc: Global,
     gauges: &mut Vec<Box<dyn Gauge>>,
-    lines: &[&str],
-) -> Result<bool, NoMemory> {
-    for behind in lines {
-        let mut files = files_of(alloc, &calm(RADIUS_3, TWO_BARS))?;
-        let answer = run_with_gauges(rt, alloc, RADIUS_3, &mut files, Failing::Nothing, gauges)?;
-        if !has_lines(alloc, &answer, Some(*behind))? {
-            return Ok(false);
-        }
+    lines: &str,
+) -> bool {
+    match run_told(rt, alloc, &calm(RADIUS_3, TWO_BARS), gauges) {
+        Ok(answer) => has_lines(&answer, Some(lines)),
+        Err(_) => false,
     }
-    Ok(true)
 }
 
-/// Whether gauges go on from run to run, and a run without gauges prints its report alone.
-fn go_on(rt: &(impl Threads + Sync), alloc: Global) -> Result<bool, NoMemory> {
-    let mut gauges: Vec<Box<dyn Gauge>> = Vec::new(alloc);
-    let alone = are_told_twice(rt, alloc, &mut gauges, &["", ""])?;
-    gauges.push(Box::new(alloc, Nonzero::new(alloc))?)?;
-    let lines = ["nonzero 1 of 2\n", "nonzero 2 of 4\n"];
-    Ok(alone && are_told_twice(rt, alloc, &mut gauges, &lines)?)
+/// Whether gauges go on from run to run, and a run without gauges prints its report alone. The list begins empty.
+fn go_on(rt: &(impl Threads + Sync), alloc: Global, gauges: &mut Vec<Box<dyn Gauge>>) -> bool {
+    is_told(rt, alloc, gauges, "")
+        && is_told(rt, alloc, gauges, "")
+        && push_nonzero(alloc, gauges).is_ok()
+        && is_told(rt, alloc, gauges, "nonzero 1 of 2\n")
+        && is_told(rt, alloc, gauges, "nonzero 2 of 4\n")
 }
 
 #[test]
 fn gauges_go_on_from_run_to_run(rt: HostRuntime) {
-    assert!(rt; go_on(&rt, rt.alloc()) == Ok(true));
+    let mut gauges: Vec<Box<dyn Gauge>> = Vec::new(rt.alloc());
+    assert!(rt; go_on(&rt, rt.alloc(), &mut gauges));
+}
+
+/// Appends a gauge that counts there when it is dropped.
+fn push_counted(
+    alloc: Global,
+    gauges: &mut Vec<Box<dyn Gauge>>,
+    drops: &Arc<AtomicU64>,
+) -> Result<(), NoMemory> {
+    let counted = Counted::new(alloc, Arc::try_clone(drops)?);
+    gauges.push(Box::new(alloc, counted)?)?;
+    Ok(())
+}
+
+/// How many of two gauges were dropped after a run. Their list is dropped behind it.
+fn dropped_by_run(
+    rt: &(impl Threads + Sync),
+    alloc: Global,
+    drops: &Arc<AtomicU64>,
+) -> Result<u64, NoMemory> {
+    let mut gauges: Vec<Box<dyn Gauge>> = Vec::new(alloc);
+    push_counted(alloc, &mut gauges, drops)?;
+    push_counted(alloc, &mut gauges, drops)?;
+    run_told(rt, alloc, &calm(RADIUS_3, TWO_BARS), &mut gauges)?;
+    Ok(drops.load(Ordering::SeqCst))
 }
 
 /// How many of two gauges were dropped after a run, and how many after their list was dropped.
 fn drops(rt: &(impl Threads + Sync), alloc: Global) -> Result<(u64, u64), NoMemory> {
     let drops = Arc::new(alloc, AtomicU64::new(0))?;
-    let mut gauges: Vec<Box<dyn Gauge>> = Vec::new(alloc);
-    for _ in 0..2 {
-        let counted = Counted::new(alloc, Arc::try_clone(&drops)?);
-        gauges.push(Box::new(alloc, counted)?)?;
-    }
-    let mut files = files_of(alloc, &calm(RADIUS_3, TWO_BARS))?;
-    run_with_gauges(
-        rt,
-        alloc,
-        RADIUS_3,
-        &mut files,
-        Failing::Nothing,
-        &mut gauges,
-    )?;
-    let before = drops.load(Ordering::SeqCst);
-    drop(gauges);
+    let before = dropped_by_run(rt, alloc, &drops)?;
     Ok((before, drops.load(Ordering::SeqCst)))
 }
 

@@ -1,9 +1,7 @@
 //! Layouts of the whole grammar: what is read though nothing is asked of it, what is counted, and tops.
 
-use super::layouts::{TWO_BARS, layout_of};
-use super::runs::{NO_SHORT, RADIUS_3, SHORT_32, Want, answers, expect, layout_answers};
-use std::alloc::{AllocError, Global};
-use std::thread::Threads;
+use super::runs::{NO_SHORT, SHORT_32, Want};
+use super::tables::{SplicedRow, expect_spliced};
 
 /// A property, before the end of an element.
 const PROPERTY: &[u8] = b"\x00\x06\x2B\x02\x00\x01\x00\x06\x2C\x06A\x00";
@@ -46,86 +44,32 @@ const REFERENCE: &[u8] = b"\
     \x00\x04\x0A\x00\x00\x06\x12\x06T\x00\
     \x00\x0C\x10\x03\x00\x00\x00\x00\x00\x00\x00\x00\x00\x04\x11\x00";
 
-/// Where something is put into the file of the two bars, what it is, and the answer.
-const PUT_IN: &[(usize, &[u8], Want)] = &[
-    // read, and nothing is asked of it: behind the name, in the first element, and among the elements
-    (94, CLASS, SHORT_32),
-    (154, PROPERTY, SHORT_32),
-    (94, ANNOTATION, SHORT_32),
-    (158, NODE, SHORT_32),
-    (222, SLANTED, SHORT_32),
-    // beside the left bar, whose net grows by no cell that is nearer to the right one, and on it
-    (94, PATH, SHORT_32),
-    (94, BOX, SHORT_32),
-    // a reference of the structure to itself
-    (94, REFERENCE, Want::BadLayout(25, 60)),
-];
-
-/// The file of the two bars with these bytes put in here.
-fn with(alloc: Global, at: usize, bytes: &[u8]) -> Result<Vec<u8>, AllocError> {
-    let mut layout = Vec::from_slice(alloc, TWO_BARS.get(..at).unwrap_or_default())?;
-    layout.extend_from_slice(bytes)?;
-    layout.extend_from_slice(TWO_BARS.get(at..).unwrap_or_default())?;
-    Ok(layout)
-}
-
-/// Whether a run answers so to the file of the two bars with these bytes put in here.
-fn put_in_answers(
-    rt: &(impl Threads + Sync),
-    alloc: Global,
-    at: usize,
-    bytes: &[u8],
-    want: &Want,
-) -> bool {
-    layout_answers(rt, alloc, RADIUS_3, with(alloc, at, bytes), want)
-}
-
-#[test]
-fn the_whole_grammar_is_read(rt: HostRuntime) {
-    for (number, (at, bytes, want)) in PUT_IN.iter().enumerate() {
-        let holds = put_in_answers(&rt, rt.alloc(), *at, bytes, want);
-        expect(&rt, holds, &number);
-    }
-}
-
-/// The library of the two bars with its structure left out.
-fn no_structure(alloc: Global) -> Result<Vec<u8>, AllocError> {
-    let bars: &[u8] = TWO_BARS;
-    let mut layout = Vec::from_slice(alloc, &bars[..60])?;
-    layout.extend_from_slice(&bars[226..])?;
-    Ok(layout)
-}
-
 /// A second structure, `U`, without elements.
 const SECOND: &[u8] = b"\
     \x00\x1C\x05\x02\x00\x00\x00\x00\x00\x00\x00\x00\x00\x00\x00\x00\x00\x00\x00\x00\x00\x00\x00\x00\
     \x00\x00\x00\x00\x00\x06\x06\x06U\x00\x00\x04\x07\x00";
 
-/// A library has no top, or two.
-const NO_TOP: Want = Want::BadLayout(27, 0);
-
-const TWO_TOPS: Want = Want::BadLayout(28, 226);
-
-/// Whether a library without a structure has no top.
-fn no_structure_is_refused(rt: &(impl Threads + Sync), alloc: Global) -> bool {
-    layout_answers(rt, alloc, RADIUS_3, no_structure(alloc), &NO_TOP)
-}
-
-#[test]
-fn one_top_is_wanted(rt: HostRuntime) {
-    let holds = no_structure_is_refused(&rt, rt.alloc());
-    expect(&rt, holds, &"none");
-    let holds = put_in_answers(&rt, rt.alloc(), 226, SECOND, &TWO_TOPS);
-    expect(&rt, holds, &"two");
-}
-
-/// Whether a layout of one slanted boundary on a layer that is not asked for has no short.
-fn slanted_alone_has_no_short(rt: &(impl Threads + Sync), alloc: Global) -> bool {
-    layout_answers(rt, alloc, RADIUS_3, layout_of(alloc, SLANTED), &NO_SHORT)
-}
+/// What is put into the file of the two bars, or stands in place of a part of it, and the answer.
+const ROWS: &[SplicedRow] = &[
+    // read, and nothing is asked of it: behind the name, in the first element, and among the elements
+    (94, CLASS, 94, SHORT_32),
+    (154, PROPERTY, 154, SHORT_32),
+    (94, ANNOTATION, 94, SHORT_32),
+    (158, NODE, 158, SHORT_32),
+    (222, SLANTED, 222, SHORT_32),
+    // beside the left bar, whose net grows by no cell that is nearer to the right one, and on it
+    (94, PATH, 94, SHORT_32),
+    (94, BOX, 94, SHORT_32),
+    // a reference of the structure to itself
+    (94, REFERENCE, 94, Want::BadLayout(25, 60)),
+    // one_top_is_wanted: without its structure a library has no top, and with a second one it has two
+    (60, &[], 226, Want::BadLayout(27, 0)),
+    (226, SECOND, 226, Want::BadLayout(28, 226)),
+    // other_layers_are_not_looked_at: in place of the bars, a slanted boundary on a layer that is not asked for
+    (94, SLANTED, 222, NO_SHORT),
+];
 
 #[test]
-fn other_layers_are_not_looked_at(rt: HostRuntime) {
-    let holds = slanted_alone_has_no_short(&rt, rt.alloc());
-    expect(&rt, holds, &"a slanted boundary");
+fn the_whole_grammar_is_read(rt: HostRuntime) {
+    expect_spliced(&rt, rt.alloc(), ROWS);
 }

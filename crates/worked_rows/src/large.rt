@@ -1,5 +1,6 @@
 use super::layouts::{Plate, plates};
-use super::runs::{Answer, Failing, RADIUS_3, Want, answers, expect, layout_answers, run_with};
+use super::runs::{Answer, Failing, RADIUS_3, Want, expect, layout_answers, run_with};
+use critarea_core::NoGate;
 use edge_io::{Failed, Files};
 use lists::NoMemory;
 use std::alloc::{AllocError, Global};
@@ -30,7 +31,7 @@ fn row_answers(rt: &(impl Threads + Sync), alloc: Global, count: u32, want: &Wan
 #[test]
 fn rows_of_many_squares(rt: HostRuntime) {
     let want = Want::Short(3, 2_239_968);
-    expect(&rt, row_answers(&rt, rt.alloc(), 70_000, &want), &"row");
+    expect(&rt, row_answers(&rt, rt.alloc(), 70_000, &want), 70_000);
 }
 
 /// Files whose bytes are all zero. Each has so many.
@@ -73,7 +74,7 @@ fn run_on_zeros(
     size: usize,
 ) -> Result<Answer, NoMemory> {
     let mut files = Zeros { size, unread: 0 };
-    run_with(rt, alloc, RADIUS_3, &mut files, Failing::Nothing)
+    run_with(rt, alloc, RADIUS_3, &mut files, Failing::Nothing, &NoGate)
 }
 
 /// Whether the answer to a file of so many zero bytes is this line.
@@ -94,6 +95,6 @@ const LONG_LAYOUTS: &[(usize, &str)] = &[
 #[test]
 fn layouts_are_as_long_as_the_limit(rt: HostRuntime) {
     for (size, line) in LONG_LAYOUTS {
-        expect(&rt, is_answered(&rt, rt.alloc(), *size, line), size);
+        expect(&rt, is_answered(&rt, rt.alloc(), *size, line), *size);
     }
 }

@@ -32,13 +32,29 @@ pub type Sides = (i32, i32, i32, i32);
 /// A layer, a datatype, and a rectangle on them.
 pub type Plate = (u16, u16, Sides);
 
+/// The two bars' file up to the offset `end`, then these bytes, and then the same file from the offset `start` on.
+pub fn spliced(
+    alloc: Global,
+    end: usize,
+    middle: &[u8],
+    start: usize,
+) -> Result<Vec<u8>, AllocError> {
+    let front = TWO_BARS.get(..end).unwrap_or_default();
+    let back = TWO_BARS.get(start..).unwrap_or_default();
+    [front, middle, back].concat(alloc)
+}
+
 /// The file with these bytes as the elements of its one structure.
 pub fn layout_of(alloc: Global, elements: &[u8]) -> Result<Vec<u8>, AllocError> {
-    let bars: &[u8] = TWO_BARS;
-    let mut layout = Vec::from_slice(alloc, &bars[..94])?;
-    layout.extend_from_slice(elements)?;
-    layout.extend_from_slice(&bars[222..])?;
-    Ok(layout)
+    spliced(alloc, 94, elements, 222)
+}
+
+/// Appends the head of a record: its length with a body of so many bytes, which is not too long for a record, and its kind
+/// and form.
+fn push_head(layout: &mut Vec<u8>, kind: u8, form: u8, body: usize) -> Result<(), AllocError> {
+    let length = u16::try_from(body.saturating_add(4)).unwrap_or(u16::MAX);
+    let [high, low] = length.to_be_bytes();
+    layout.extend_from_slice(&[high, low, kind, form])
 }
 
 /// Appends a record: its length, its kind and form, and its body, which is not too long for a record.
@@ -48,31 +64,17 @@ pub fn push_record(
     form: u8,
     body: &[u8],
 ) -> Result<(), AllocError> {
-    let length = u16::try_from(body.len().saturating_add(4)).unwrap_or(u16::MAX);
-    layout.extend_from_slice(&length.to_be_bytes())?;
-    layout.extend_from_slice(&[kind, form])?;
-    layout.extend_from_slice(body)?;
-    Ok(())
-}
-
-/// The bytes of these points.
-fn points_of(alloc: Global, points: &[(i32, i32)]) -> Result<Vec<u8>, AllocError> {
-    let mut bytes = Vec::new(alloc);
-    for (x, y) in points {
-        bytes.extend_from_slice(&x.to_be_bytes())?;
-        bytes.extend_from_slice(&y.to_be_bytes())?;
-    }
-    Ok(bytes)
+    push_head(layout, kind, form, body.len())?;
+    layout.extend_from_slice(body)
 }
 
 /// Appends XY with these points, and ENDEL.
-pub fn push_points(
-    alloc: Global,
-    elements: &mut Vec<u8>,
-    points: &[(i32, i32)],
-) -> Result<(), AllocError> {
-    let points = points_of(alloc, points)?;
-    push_record(elements, 0x10, 3, points.as_slice())?;
+pub fn push_points(elements: &mut Vec<u8>, points: &[(i32, i32)]) -> Result<(), AllocError> {
+    push_head(elements, 0x10, 3, points.len().saturating_mul(8))?;
+    for (x, y) in points {
+        elements.extend_from_slice(&x.to_be_bytes())?;
+        elements.extend_from_slice(&y.to_be_bytes())?;
+    }
     push_record(elements, 0x11, 0, &[])
 }
 
@@ -94,8 +96,7 @@ impl Filled {
 }
 
 /// Appends a boundary or a box: BOUNDARY or BOX, LAYER, DATATYPE or BOXTYPE, XY and ENDEL.
-fn push_filled(
-    alloc: Global,
+pub fn push_filled(
     elements: &mut Vec<u8>,
     filled: Filled,
     (layer, datatype): (u16, u16),
@@ -105,50 +106,22 @@ fn push_filled(
     push_record(elements, opening, 0, &[])?;
     push_record(elements, 0x0D, 2, &layer.to_be_bytes())?;
     push_record(elements, own, 2, &datatype.to_be_bytes())?;
-    push_points(alloc, elements, points)
+    push_points(elements, points)
 }
 
 /// Appends a rectangle, its points counterclockwise from its lower left corner.
-pub fn push_plate(alloc: Global, elements: &mut Vec<u8>, plate: &Plate) -> Result<(), AllocError> {
+pub fn push_plate(elements: &mut Vec<u8>, plate: &Plate) -> Result<(), AllocError> {
     let (layer, datatype, (x0, y0, x1, y1)) = *plate;
     let points = [(x0, y0), (x1, y0), (x1, y1), (x0, y1), (x0, y0)];
-    push_filled(
-        alloc,
-        elements,
-        Filled::Boundary,
-        (layer, datatype),
-        &points,
-    )
+    push_filled(elements, Filled::Boundary, (layer, datatype), &points)
 }
 
 /// The file of these rectangles.
 pub fn plates(alloc: Global, shapes: &[Plate]) -> Result<Vec<u8>, AllocError> {
     let mut elements = Vec::new(alloc);
     for shape in shapes {
-        push_plate(alloc, &mut elements, shape)?;
+        push_plate(&mut elements, shape)?;
     }
-    layout_of(alloc, elements.as_slice())
-}
-
-/// The file of a shape with this outline, in place of the left one of the two bars, and of the right one.
-pub fn outline_and_bar(alloc: Global, outline: &[(i32, i32)]) -> Result<Vec<u8>, AllocError> {
-    let bars: &[u8] = TWO_BARS;
-    let mut elements = Vec::new(alloc);
-    push_filled(alloc, &mut elements, Filled::Boundary, (1, 0), outline)?;
-    elements.extend_from_slice(&bars[158..222])?;
-    layout_of(alloc, elements.as_slice())
-}
-
-/// The file of a shape with this outline on layer 1, and of a rectangle.
-pub fn outline_and_plate(
-    alloc: Global,
-    filled: Filled,
-    outline: &[(i32, i32)],
-    plate: &Plate,
-) -> Result<Vec<u8>, AllocError> {
-    let mut elements = Vec::new(alloc);
-    push_filled(alloc, &mut elements, filled, (1, 0), outline)?;
-    push_plate(alloc, &mut elements, plate)?;
     layout_of(alloc, elements.as_slice())
 }
 
@@ -158,21 +131,19 @@ pub type Wire = (i16, i32, (i32, i32), &'static [(i32, i32)]);
 /// PATH, LAYER with the layer 1, and DATATYPE with the datatype 0.
 const PATH: &[u8] = b"\x00\x04\x09\x00\x00\x06\x0D\x02\x00\x01\x00\x06\x0E\x02\x00\x00";
 
+/// Appends records of these kinds, each with a number of four bytes.
+fn push_numbers(elements: &mut Vec<u8>, numbers: &[(u8, i32)]) -> Result<(), AllocError> {
+    for (kind, number) in numbers {
+        push_record(elements, *kind, 3, &number.to_be_bytes())?;
+    }
+    Ok(())
+}
+
 /// Appends a path with all of its records.
-pub fn push_wire(alloc: Global, elements: &mut Vec<u8>, wire: &Wire) -> Result<(), AllocError> {
+pub fn push_wire(elements: &mut Vec<u8>, wire: &Wire) -> Result<(), AllocError> {
     let (pathtype, width, (begin, end), points) = *wire;
     elements.extend_from_slice(PATH)?;
     push_record(elements, 0x21, 2, &pathtype.to_be_bytes())?;
-    push_record(elements, 0x0F, 3, &width.to_be_bytes())?;
-    push_record(elements, 0x30, 3, &begin.to_be_bytes())?;
-    push_record(elements, 0x31, 3, &end.to_be_bytes())?;
-    push_points(alloc, elements, points)
-}
-
-/// The file of a path and a rectangle.
-pub fn wire_and_plate(alloc: Global, wire: &Wire, plate: &Plate) -> Result<Vec<u8>, AllocError> {
-    let mut elements = Vec::new(alloc);
-    push_wire(alloc, &mut elements, wire)?;
-    push_plate(alloc, &mut elements, plate)?;
-    layout_of(alloc, elements.as_slice())
+    push_numbers(elements, &[(0x0F, width), (0x30, begin), (0x31, end)])?;
+    push_points(elements, points)
 }

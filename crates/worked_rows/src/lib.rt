@@ -2,6 +2,8 @@
 #![tactic(auto)]
 
 #[cfg(test)]
+mod analyses;
+#[cfg(test)]
 mod covers;
 #[cfg(test)]
 mod cuts;
@@ -35,6 +37,8 @@ mod rows;
 mod runs;
 #[cfg(test)]
 mod structures;
+#[cfg(test)]
+mod tables;
 #[cfg(test)]
 mod told_words;
 #[cfg(test)]

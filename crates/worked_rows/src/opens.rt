@@ -2,8 +2,8 @@
 //! from 2r - 1 by 2r - 1 cells, and cuts a wire that is w cells wide from 2r - w rows, where these are some.
 
 use super::layouts::Plate;
-use super::maps::map_answers;
-use super::runs::{Want, expect};
+use super::maps::{MapRow, expect_maps};
+use super::runs::Want;
 
 /// A wire of 20 by 2 cells.
 const WIRE: Plate = (1, 0, (0, 0, 20, 2));
@@ -59,7 +59,7 @@ const NO_OPEN: Want = Want::Report(
 );
 
 /// Rectangles, a map with terminals, and the report.
-const OPENS: &[(&[Plate], &[u8], Want)] = &[
+const OPENS: &[MapRow] = &[
     // A defect of 2 by 2 cells leaves half a row of the wire on one side at least. Each terminal is covered from its own cell.
     (
         &[WIRE],
@@ -149,13 +149,7 @@ const OPENS: &[(&[Plate], &[u8], Want)] = &[
 
 #[test]
 fn opens_are_those_counted_by_hand(rt: HostRuntime) {
-    for (number, (shapes, map, want)) in OPENS.iter().enumerate() {
-        expect(
-            &rt,
-            map_answers(&rt, rt.alloc(), shapes, map, want),
-            &number,
-        );
-    }
+    expect_maps(&rt, rt.alloc(), OPENS);
 }
 
 /// A map whose one terminal has a row and a column of 5.
@@ -170,7 +164,7 @@ const SECOND_OFF: &[u8] = b"version=1\nradii=[1]\nweights=[1]\n\
     terminal=[{metal=\"m1\",x=0,y=0},{metal=\"m2\",x=19,y=1},{metal=\"m1\",x=0,y=2}]\n";
 
 /// Rectangles, a map with terminals of which some are not on their metals, and the refusal of the first that is not.
-const OFF: &[(&[Plate], &[u8], Want)] = &[
+const OFF: &[MapRow] = &[
     (
         &[(1, 0, (0, 0, 2, 2)), CONTACT, SECOND],
         TERMINAL_AT_5,
@@ -191,11 +185,5 @@ const OFF: &[(&[Plate], &[u8], Want)] = &[
 
 #[test]
 fn terminals_off_their_metals_are_refused(rt: HostRuntime) {
-    for (number, (shapes, map, want)) in OFF.iter().enumerate() {
-        expect(
-            &rt,
-            map_answers(&rt, rt.alloc(), shapes, map, want),
-            &number,
-        );
-    }
+    expect_maps(&rt, rt.alloc(), OFF);
 }

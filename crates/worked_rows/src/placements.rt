@@ -3,21 +3,13 @@
 use super::layouts::{Plate, Wire};
 use super::rows::{EMPTY_REPORT, LEFT, RIGHT};
 use super::runs::Want::BadLayout;
-use super::runs::{NO_SHORT, RADIUS_3, SHORT_32, Want, answers, expect, layout_answers};
+use super::runs::{NO_SHORT, RADIUS_3, SHORT_32, Want, expect, layout_answers};
 use super::structures::{
-    ANGLE_90, ANGLE_270, ANGLE_MINUS_90, Copies, ONE, Part, Structure, chain_of, library_with,
+    ANGLE_90, ANGLE_270, ANGLE_MINUS_90, Copies, ONE, Part, Structure, chain_of,
 };
+use super::tables::{LibraryRow, expect_libraries};
 use std::alloc::Global;
-use std::process::Abort;
 use std::thread::Threads;
-
-/// The parts of the structure `T`, the other structures, the words, and the answer.
-type Row = (
-    &'static [Part<'static>],
-    &'static [Structure<'static>],
-    &'static str,
-    Want,
-);
 
 const RADIUS_2: &str = "a --layer 1 --datatype 0 --radius 2";
 
@@ -43,7 +35,7 @@ const TURNED_90: Copies<'_> = Copies {
 };
 
 /// Layouts that are placed, and their areas of shorts.
-const PLACED: &[Row] = &[
+const PLACED: &[LibraryRow] = &[
     // mirrored in the x axis first, and then turned: the copy is [8,10)x[-4,0), 3 columns from [13,17)x[-4,0)
     (
         &[
@@ -168,7 +160,7 @@ const PLACED: &[Row] = &[
 /// shifted to `(100, 0)` and `(100, 20)`: `[96,100)x[0,2)`, `[86,90)x[0,2)`, and the same 20 rows up. With 4 cells more to
 /// each side the lower two have `[92,94)x[-4,6)` in common, the upper two `[92,94)x[16,26)`, and the lower right one has
 /// `[92,104)x[4,6)` in common with the square of `T`, which is 6 rows above it: 20 and 20 and 24 cells, 4 of them twice.
-const NESTED: Row = (
+const NESTED: LibraryRow = (
     &[
         Part::Copies(Copies {
             mirrored: true,
@@ -261,7 +253,7 @@ const TO_X: Copies<'_> = Copies {
 
 /// Layouts that are refused. A structure begins with 34 bytes and ends with 4, a rectangle has 64 bytes, a copy 44, and an
 /// array 68.
-const REFUSED: &[Row] = &[
+const REFUSED: &[LibraryRow] = &[
     // 24: no such structure, also where the top does not reach it, and before each other reason
     (&[Part::Copies(TO_X)], &[], RADIUS_3, BadLayout(24, 94)),
     (&[Part::Copies(TO_X)], &[BAR], TOP_S, BadLayout(24, 94)),
@@ -347,33 +339,14 @@ const REFUSED: &[Row] = &[
     (&[Part::Wire(ODD)], &[BAR], RADIUS_3, BadLayout(28, 168)),
 ];
 
-/// Whether a run on the structure `T` with these parts, and on other structures, answers so.
-fn library_answers(
-    rt: &(impl Threads + Sync),
-    alloc: Global,
-    (parts, others): (&[Part<'_>], &[Structure<'_>]),
-    words: &str,
-    want: &Want,
-) -> bool {
-    layout_answers(rt, alloc, words, library_with(alloc, parts, others), want)
-}
-
-/// Stops the test where a run does not answer as a row says.
-fn expect_answers(rt: &(impl Abort + Threads + Sync), alloc: Global, rows: &[Row]) {
-    for (number, (parts, others, words, want)) in rows.iter().enumerate() {
-        let holds = library_answers(rt, alloc, (parts, others), words, want);
-        expect(rt, holds, &number);
-    }
-}
-
 #[test]
 fn references_are_followed(rt: HostRuntime) {
-    expect_answers(&rt, rt.alloc(), PLACED);
+    expect_libraries(&rt, rt.alloc(), PLACED);
 }
 
 #[test]
 fn bad_references_are_refused(rt: HostRuntime) {
-    expect_answers(&rt, rt.alloc(), REFUSED);
+    expect_libraries(&rt, rt.alloc(), REFUSED);
 }
 
 /// Whether a run on a chain of so many references answers so.
@@ -381,13 +354,13 @@ fn chain_answers(rt: &(impl Threads + Sync), alloc: Global, references: u16, wan
     layout_answers(rt, alloc, RADIUS_3, chain_of(alloc, references, LEFT), want)
 }
 
-/// The chain that begins at the top is too long.
-const TOO_DEEP: Want = BadLayout(26, 60);
+/// So many references one after the other, and the answer: with one more the chain that begins at the top is too long.
+const CHAINS: &[(u16, Want)] = &[(256, NO_SHORT), (257, BadLayout(26, 60))];
 
 #[test]
 fn chains_have_an_end(rt: HostRuntime) {
-    let holds = chain_answers(&rt, rt.alloc(), 256, &NO_SHORT);
-    expect(&rt, holds, &256);
-    let holds = chain_answers(&rt, rt.alloc(), 257, &TOO_DEEP);
-    expect(&rt, holds, &257);
+    for (references, want) in CHAINS {
+        let holds = chain_answers(&rt, rt.alloc(), *references, want);
+        expect(&rt, holds, usize::from(*references));
+    }
 }

@@ -1,6 +1,7 @@
 use super::layouts::TWO_BARS;
-use super::runs::{NO_SHORT, RADIUS_3, SHORT_32, Want, expect, layout_answers};
-use std::alloc::{AllocError, Global};
+use super::runs::{NO_SHORT, SHORT_32, Want, expect};
+use super::tables::{SplicedRow, expect_spliced, spliced_answers};
+use std::alloc::Global;
 use std::thread::Threads;
 
 /// A record of the two bars' file: where it begins, its length, and the refusal of the file without it and of the file in
@@ -35,15 +36,6 @@ fn refusal((number, place): (u8, usize)) -> Want {
     Want::BadLayout(number, place)
 }
 
-/// The two bars' file, in which one byte has another value.
-fn changed(alloc: Global, at: usize, value: u8) -> Result<Vec<u8>, AllocError> {
-    let mut bytes = Vec::from_slice(alloc, TWO_BARS)?;
-    if let Some(byte) = bytes.get_mut(at) {
-        *byte = value;
-    }
-    Ok(bytes)
-}
-
 /// Whether a run answers so where one byte of the two bars' file has another value.
 fn changed_answers(
     rt: &(impl Threads + Sync),
@@ -52,27 +44,8 @@ fn changed_answers(
     value: u8,
     want: &Want,
 ) -> bool {
-    layout_answers(rt, alloc, RADIUS_3, changed(alloc, at, value), want)
-}
-
-/// These two pieces, one behind the other.
-fn joined(alloc: Global, front: &[u8], back: &[u8]) -> Result<Vec<u8>, AllocError> {
-    let mut whole = Vec::from_slice(alloc, front)?;
-    whole.extend_from_slice(back)?;
-    Ok(whole)
-}
-
-/// Whether a run answers so to the two bars' file up to `end`, with the file from `start` on behind it.
-fn parts_answer(
-    rt: &(impl Threads + Sync),
-    alloc: Global,
-    end: usize,
-    start: usize,
-    want: &Want,
-) -> bool {
-    let front = TWO_BARS.get(..end).unwrap_or_default();
-    let back = TWO_BARS.get(start..).unwrap_or_default();
-    layout_answers(rt, alloc, RADIUS_3, joined(alloc, front, back), want)
+    let behind = at.saturating_add(1);
+    spliced_answers(rt, alloc, (at, &[value], behind), want)
 }
 
 /// The offset of the record that is cut where the two bars' file ends after so many bytes.
@@ -91,35 +64,8 @@ fn cut_at(length: usize) -> usize {
 fn cut_layouts_are_refused(rt: HostRuntime) {
     for length in 0..TWO_BARS.len() {
         let want = Want::BadLayout(10, cut_at(length));
-        let holds = parts_answer(&rt, rt.alloc(), length, TWO_BARS.len(), &want);
-        expect(&rt, holds, &length);
-    }
-}
-
-/// What stands behind the end of the library: the padding of a tape, and a byte that is no record.
-const BEHIND: &[&[u8]] = &[&[0; 2048], &[255]];
-
-/// Whether what stands behind the end of the two bars' library changes nothing.
-fn is_ignored(rt: &(impl Threads + Sync), alloc: Global, behind: &[u8]) -> bool {
-    let layout = joined(alloc, TWO_BARS, behind);
-    layout_answers(rt, alloc, RADIUS_3, layout, &SHORT_32)
-}
-
-/// What follows the end of the library is ignored.
-#[test]
-fn bytes_after_the_end_are_ignored(rt: HostRuntime) {
-    for (number, behind) in BEHIND.iter().enumerate() {
-        expect(&rt, is_ignored(&rt, rt.alloc(), behind), &number);
-    }
-}
-
-/// A layout lacks none of its records.
-#[test]
-fn no_record_is_left_out(rt: HostRuntime) {
-    for (at, length, left_out, _) in RECORDS {
-        let end = at.saturating_add(*length);
-        let holds = parts_answer(&rt, rt.alloc(), *at, end, &refusal(*left_out));
-        expect(&rt, holds, at);
+        let holds = spliced_answers(&rt, rt.alloc(), (length, &[], 230), &want);
+        expect(&rt, holds, length);
     }
 }
 
@@ -133,14 +79,12 @@ fn want_twice(end: usize) -> Want {
     }
 }
 
-/// A layout has each of its records once.
-#[test]
-fn no_record_stands_twice(rt: HostRuntime) {
-    for (at, length, ..) in RECORDS {
-        let end = at.saturating_add(*length);
-        let holds = parts_answer(&rt, rt.alloc(), end, *at, &want_twice(end));
-        expect(&rt, holds, at);
-    }
+/// Whether a layout lacks none of its records, and has each of them once.
+fn stands_once(rt: &(impl Threads + Sync), alloc: Global, record: &Stretch) -> bool {
+    let (at, length, left_out, _) = *record;
+    let end = at.saturating_add(length);
+    spliced_answers(rt, alloc, (at, &[], end), &refusal(left_out))
+        && spliced_answers(rt, alloc, (end, &[], at), &want_twice(end))
 }
 
 /// What is wanted where a record has the kind of a path.
@@ -160,42 +104,46 @@ fn head_is_read(rt: &(impl Threads + Sync), alloc: Global, record: &Stretch) -> 
         && changed_answers(rt, alloc, at.saturating_add(3), 4, &Want::BadLayout(12, at))
 }
 
-/// Each record has its own length, kind and form.
+/// The tests `no_record_is_left_out`, `no_record_stands_twice` and `heads_of_records_are_read` in one: each record has its
+/// own length, kind and form.
 #[test]
-fn heads_of_records_are_read(rt: HostRuntime) {
+fn records_stand_once_and_their_heads_are_read(rt: HostRuntime) {
     for record in RECORDS {
-        expect(&rt, head_is_read(&rt, rt.alloc(), record), &record.0);
+        let holds = stands_once(&rt, rt.alloc(), record) && head_is_read(&rt, rt.alloc(), record);
+        expect(&rt, holds, record.0);
     }
 }
 
 /// The outline of the left bar is not closed.
 const NOT_CLOSED: Want = Want::BadLayout(18, 94);
 
-/// Bytes of the bodies: where each lies, another value, and the answer.
-const BODIES: &[(usize, u8, Want)] = &[
+/// Bytes of the bodies, each with another value, and the answer.
+const BODIES: &[SplicedRow] = &[
     // the version, the library's dates and name, the units, and the structure's dates and name
-    (5, 0x59, SHORT_32),
-    (10, 1, SHORT_32),
-    (38, b'M', SHORT_32),
-    (44, 0x40, SHORT_32),
-    (64, 1, SHORT_32),
-    (92, b'U', SHORT_32),
+    (5, &[0x59], 6, SHORT_32),
+    (10, &[1], 11, SHORT_32),
+    (38, &[b'M'], 39, SHORT_32),
+    (44, &[0x40], 45, SHORT_32),
+    (64, &[1], 65, SHORT_32),
+    (92, &[b'U'], 93, SHORT_32),
     // the left bar's layer and datatype
-    (102, 1, NO_SHORT),
-    (103, 2, NO_SHORT),
-    (108, 1, NO_SHORT),
-    (109, 1, NO_SHORT),
+    (102, &[1], 103, NO_SHORT),
+    (103, &[2], 104, NO_SHORT),
+    (108, &[1], 109, NO_SHORT),
+    (109, &[1], 110, NO_SHORT),
     // its first point, so that its outline is no longer closed
-    (114, 1, NOT_CLOSED),
-    (117, 1, NOT_CLOSED),
-    (118, 1, NOT_CLOSED),
-    (121, 1, NOT_CLOSED),
+    (114, &[1], 115, NOT_CLOSED),
+    (117, &[1], 118, NOT_CLOSED),
+    (118, &[1], 119, NOT_CLOSED),
+    (121, &[1], 122, NOT_CLOSED),
+    // bytes_after_the_end_are_ignored: the padding of a tape behind the end, and a byte that is no record
+    (230, &[0; 2048], 230, SHORT_32),
+    (230, &[255], 230, SHORT_32),
 ];
 
-/// The version, dates, names and units are not looked at. A layer and a datatype are two bytes each.
+/// The version, dates, names and units are not looked at. A layer and a datatype are two bytes each. What follows the end
+/// of the library is ignored.
 #[test]
 fn bodies_of_records_are_read(rt: HostRuntime) {
-    for (at, value, want) in BODIES {
-        expect(&rt, changed_answers(&rt, rt.alloc(), *at, *value, want), at);
-    }
+    expect_spliced(&rt, rt.alloc(), BODIES);
 }

@@ -1,7 +1,8 @@
-use super::layouts::{Plate, TWO_BARS, layout_of, plates};
-use super::runs::{RADIUS_3, Want, answers, calm, expect, layout_answers};
-use std::alloc::Global;
-use std::thread::Threads;
+use super::layouts::Plate;
+use super::runs::Want::Short;
+use super::runs::{RADIUS_3, Want};
+use super::structures::Part;
+use super::tables::{LibraryRow, SplicedRow, expect_libraries, expect_spliced};
 
 /// The report on no shapes.
 pub const EMPTY_REPORT: Want = Want::Report(
@@ -15,24 +16,8 @@ pub const EMPTY_REPORT: Want = Want::Report(
      nonzero 0 of 2\n",
 );
 
-/// Whether a layout without a shape has 102 bytes and this report.
-fn empty_layout_has(rt: &(impl Threads + Sync), alloc: Global, report: &Want) -> bool {
-    match layout_of(alloc, &[]) {
-        Ok(layout) => {
-            layout.len() == 102 && answers(rt, alloc, &calm(RADIUS_3, layout.as_slice()), report)
-        }
-        Err(_) => false,
-    }
-}
-
-#[test]
-fn empty_layout_has_its_report(rt: HostRuntime) {
-    let holds = empty_layout_has(&rt, rt.alloc(), &EMPTY_REPORT);
-    expect(&rt, holds, &"no shapes");
-}
-
 /// The report on the two bars.
-const BARS_REPORT: Want = Want::Report(
+pub const BARS_REPORT: Want = Want::Report(
     "short m r=3 area=32 weight=1 sum=32\n\
      open m r=3 area=0 weight=1 sum=0\n\
      total short 32\n\
@@ -43,14 +28,26 @@ const BARS_REPORT: Want = Want::Report(
      nonzero 1 of 2\n",
 );
 
+/// The file of a layout without a shape: a library `L` with one structure `T`.
+const EMPTY: &[u8; 102] = b"\
+    \x00\x06\x00\x02\x02\x58\
+    \x00\x1C\x01\x02\x00\x00\x00\x00\x00\x00\x00\x00\x00\x00\x00\x00\x00\x00\x00\x00\x00\x00\x00\x00\
+    \x00\x00\x00\x00\
+    \x00\x06\x02\x06\x4C\x00\
+    \x00\x14\x03\x05\x41\x10\x00\x00\x00\x00\x00\x00\x41\x10\x00\x00\x00\x00\x00\x00\
+    \x00\x1C\x05\x02\x00\x00\x00\x00\x00\x00\x00\x00\x00\x00\x00\x00\x00\x00\x00\x00\x00\x00\x00\x00\
+    \x00\x00\x00\x00\
+    \x00\x06\x06\x06\x54\x00\
+    \x00\x04\x07\x00\
+    \x00\x04\x04\x00";
+
+/// The empty layout in place of the two bars, and the two bars as they are.
+const REPORTS: &[SplicedRow] = &[(0, EMPTY, 230, EMPTY_REPORT), (230, &[], 230, BARS_REPORT)];
+
+/// The tests `empty_layout_has_its_report` and `two_bars_have_their_report` in one.
 #[test]
-fn two_bars_have_their_report(rt: HostRuntime) {
-    let given = calm(RADIUS_3, TWO_BARS);
-    expect(
-        &rt,
-        answers(&rt, rt.alloc(), &given, &BARS_REPORT),
-        &"two bars",
-    );
+fn layouts_have_their_reports(rt: HostRuntime) {
+    expect_spliced(&rt, rt.alloc(), REPORTS);
 }
 
 /// The left one of the two bars.
@@ -72,58 +69,95 @@ const RADIUS_1: &str = "a --layer 1 --datatype 0 --radius 1";
 
 /// Rectangles, words, and the area of shorts. A defect is near a shape where its centre lies in the shape grown by the
 /// radius on each side. So of two nets of one rectangle each the area is the cells that both grown rectangles have.
-const AREAS: &[(&[Plate], &str, u32, u64)] = &[
+const AREAS: &[LibraryRow] = &[
     // [-2,12) and [12,26) have no column in common
-    (&[LEFT, RIGHT], "a --layer 1 --datatype 0 --radius 2", 2, 0),
+    (
+        &[Part::Plate(LEFT), Part::Plate(RIGHT)],
+        &[],
+        "a --layer 1 --datatype 0 --radius 2",
+        Short(2, 0),
+    ),
     // columns [-999986,1000010) and rows [-1000000,1000010): 1999996 times 2000010
     (
-        &[LEFT, RIGHT],
+        &[Part::Plate(LEFT), Part::Plate(RIGHT)],
+        &[],
         "a --layer 1 --datatype 0 --radius 1000000",
-        1_000_000,
-        4_000_011_999_960,
+        Short(1_000_000, 4_000_011_999_960),
     ),
     // a common corner leaves two nets: [3,5)x[3,5)
-    (&[SQUARE, (1, 0, (4, 4, 8, 8))], RADIUS_1, 1, 4),
+    (
+        &[Part::Plate(SQUARE), Part::Plate((1, 0, (4, 4, 8, 8)))],
+        &[],
+        RADIUS_1,
+        Short(1, 4),
+    ),
     // a common side makes one net
-    (&[SQUARE, (1, 0, (4, 0, 8, 4))], RADIUS_1, 1, 0),
+    (
+        &[Part::Plate(SQUARE), Part::Plate((1, 0, (4, 0, 8, 4)))],
+        &[],
+        RADIUS_1,
+        Short(1, 0),
+    ),
     // shapes on another layer or datatype neither have a net nor join two
-    (&[LEFT, (2, 0, (14, 0, 24, 10))], RADIUS_3, 3, 0),
-    (&[LEFT, (1, 1, (14, 0, 24, 10))], RADIUS_3, 3, 0),
-    (&[LEFT, (0, 1, (14, 0, 24, 10))], RADIUS_3, 3, 0),
-    (&[LEFT, (2, 0, (10, 0, 14, 10)), RIGHT], RADIUS_3, 3, 32),
-    (&[LEFT, (1, 1, (10, 0, 14, 10)), RIGHT], RADIUS_3, 3, 32),
+    (
+        &[Part::Plate(LEFT), Part::Plate((2, 0, (14, 0, 24, 10)))],
+        &[],
+        RADIUS_3,
+        Short(3, 0),
+    ),
+    (
+        &[Part::Plate(LEFT), Part::Plate((1, 1, (14, 0, 24, 10)))],
+        &[],
+        RADIUS_3,
+        Short(3, 0),
+    ),
+    (
+        &[Part::Plate(LEFT), Part::Plate((0, 1, (14, 0, 24, 10)))],
+        &[],
+        RADIUS_3,
+        Short(3, 0),
+    ),
+    (
+        &[
+            Part::Plate(LEFT),
+            Part::Plate((2, 0, (10, 0, 14, 10))),
+            Part::Plate(RIGHT),
+        ],
+        &[],
+        RADIUS_3,
+        Short(3, 32),
+    ),
+    (
+        &[
+            Part::Plate(LEFT),
+            Part::Plate((1, 1, (10, 0, 14, 10))),
+            Part::Plate(RIGHT),
+        ],
+        &[],
+        RADIUS_3,
+        Short(3, 32),
+    ),
     // on the layer and datatype that are asked for it joins them
-    (&[LEFT, BETWEEN, RIGHT], RADIUS_3, 3, 0),
+    (
+        &[Part::Plate(LEFT), Part::Plate(BETWEEN), Part::Plate(RIGHT)],
+        &[],
+        RADIUS_3,
+        Short(3, 0),
+    ),
     // the greatest layer and datatype
     (
         &[
-            (LAST, LAST, (0, 0, 10, 10)),
-            (LAST, LAST, (14, 0, 24, 10)),
-            (LAST, 65_534, (10, 0, 14, 10)),
+            Part::Plate((LAST, LAST, (0, 0, 10, 10))),
+            Part::Plate((LAST, LAST, (14, 0, 24, 10))),
+            Part::Plate((LAST, 65_534, (10, 0, 14, 10))),
         ],
+        &[],
         "a --layer 65535 --datatype 65535 --radius 3",
-        3,
-        32,
+        Short(3, 32),
     ),
 ];
 
-/// Whether a run of these words on these rectangles has this area at this radius.
-fn have_area(
-    rt: &(impl Threads + Sync),
-    alloc: Global,
-    shapes: &[Plate],
-    words: &str,
-    radius: u32,
-    area: u64,
-) -> bool {
-    let want = Want::Short(radius, area);
-    layout_answers(rt, alloc, words, plates(alloc, shapes), &want)
-}
-
 #[test]
 fn areas_are_those_counted_by_hand(rt: HostRuntime) {
-    for (number, (shapes, words, radius, area)) in AREAS.iter().enumerate() {
-        let holds = have_area(&rt, rt.alloc(), shapes, words, *radius, *area);
-        expect(&rt, holds, &number);
-    }
+    expect_libraries(&rt, rt.alloc(), AREAS);
 }

@@ -1,9 +1,8 @@
-use critarea_core::{NoGate, Word, run};
+use critarea_core::{Gate, NoGate, Word, run};
 use edge_io::{Files, MemFiles, MemSink};
 use gauges::{Gauge, Nonzero, Peak};
 use lists::{Name, NoMemory};
 use std::alloc::{AllocError, Global};
-use std::fmt;
 use std::process::Abort;
 use std::thread::Threads;
 
@@ -79,23 +78,23 @@ pub struct Given<'a> {
     pub failing: Failing,
 }
 
-/// What a run answered: its status, and all that it wrote.
+/// What a run answered: its status, and its outputs with all that it wrote.
 #[derive(Drop)]
 pub struct Answer {
     /// The exit status.
     pub status: u8,
-    /// What the output took.
-    pub out: Vec<u8>,
-    /// What the error output took.
-    pub err: Vec<u8>,
+    /// The output.
+    pub out: MemSink,
+    /// The error output.
+    pub err: MemSink,
 }
 
 impl Answer {
     /// Whether this is the status, and just these bytes were written.
     pub fn has(&self, status: u8, out: &str, err: &str) -> bool {
         self.status == status
-            && self.out.as_slice() == out.as_bytes()
-            && self.err.as_slice() == err.as_bytes()
+            && self.out.written.as_slice() == out.as_bytes()
+            && self.err.written.as_slice() == err.as_bytes()
     }
 }
 
@@ -173,16 +172,21 @@ pub fn mapped<'a>(layout: &'a [u8], map: &'a [u8]) -> Given<'a> {
     }
 }
 
-/// The words of a command line. An empty line has none.
-fn words_of(alloc: Global, line: &str) -> Result<Vec<Word>, AllocError> {
-    let mut words = Vec::new(alloc);
+/// Appends a word.
+fn push_word(alloc: Global, words: &mut Vec<Word>, word: &str) -> Result<(), AllocError> {
+    words.push(Word::from_string(String::from_str(alloc, word)?))?;
+    Ok(())
+}
+
+/// Appends the words of a command line. An empty line has none.
+fn push_words(alloc: Global, words: &mut Vec<Word>, line: &str) -> Result<(), AllocError> {
     if line.is_empty() {
-        return Ok(words);
+        return Ok(());
     }
     for word in line.split(' ') {
-        words.push(Word::from_string(String::from_str(alloc, word)?))?;
+        push_word(alloc, words, word)?;
     }
-    Ok(words)
+    Ok(())
 }
 
 /// A file with a name of one letter.
@@ -191,13 +195,23 @@ fn file(alloc: Global, letter: u8, bytes: &[u8]) -> Result<(Name, Vec<u8>), Allo
     Ok((name, Vec::from_slice(alloc, bytes)?))
 }
 
-/// The files of the run.
-pub fn files_of(alloc: Global, given: &Given<'_>) -> Result<MemFiles, AllocError> {
-    let mut files = Vec::new(alloc);
+/// Appends the two files of the run.
+fn push_files(
+    alloc: Global,
+    files: &mut Vec<(Name, Vec<u8>)>,
+    given: &Given<'_>,
+) -> Result<(), AllocError> {
     files.push(file(alloc, b'a', given.layout)?)?;
     files.push(file(alloc, b'm', given.map)?)?;
+    Ok(())
+}
+
+/// The files of the run.
+fn files_of(alloc: Global, given: &Given<'_>) -> Result<MemFiles, AllocError> {
     let fails = Vec::from_slice(alloc, given.failing.calls_of_files())?;
-    Ok(MemFiles::new(files, fails))
+    let mut files = MemFiles::new(Vec::new(alloc), fails);
+    push_files(alloc, &mut files.files, given)?;
+    Ok(files)
 }
 
 /// A sink that takes so many bytes. Its calls of these numbers fail.
@@ -205,57 +219,108 @@ fn sink(alloc: Global, room: usize, fails: &[u64]) -> Result<MemSink, NoMemory> 
     MemSink::with(alloc, room, Vec::from_slice(alloc, fails)?)
 }
 
-/// What a run of these words on these files answers, with these gauges.
-pub fn run_with_gauges<F: Files>(
-    rt: &(impl Threads + Sync),
-    alloc: Global,
-    words: &str,
-    files: &mut F,
-    failing: Failing,
-    gauges: &mut Vec<Box<dyn Gauge>>,
-) -> Result<Answer, NoMemory> {
-    let words = words_of(alloc, words)?;
-    let words = words.as_slice();
-    let mut out = sink(alloc, failing.room(), failing.calls_of_out())?;
-    let mut err = sink(alloc, 1000, failing.calls_of_error_out())?;
-    let status = run(rt, alloc, words, files, &mut out, &mut err, gauges, &NoGate);
+/// What a run has answered before it begins.
+fn no_answer(alloc: Global, failing: Failing) -> Result<Answer, NoMemory> {
+    let out = sink(alloc, failing.room(), failing.calls_of_out())?;
+    let err = sink(alloc, 1000, failing.calls_of_error_out())?;
     Ok(Answer {
-        status,
-        out: out.written,
-        err: err.written,
+        status: 0,
+        out,
+        err,
     })
 }
 
-/// What a run of these words on these files answers, with the gauges that the program has.
-pub fn run_with<F: Files>(
+/// What a run of these words on these files answers, with these gauges and tiles that pass this gate.
+fn run_with_gauges<F: Files, G: Gate + Sync>(
+    rt: &(impl Threads + Sync),
+    alloc: Global,
+    line: &str,
+    files: &mut F,
+    failing: Failing,
+    gauges: &mut Vec<Box<dyn Gauge>>,
+    gate: &G,
+) -> Result<Answer, NoMemory> {
+    let mut words = Vec::new(alloc);
+    push_words(alloc, &mut words, line)?;
+    let words = words.as_slice();
+    let mut answer = no_answer(alloc, failing)?;
+    let (out, err) = (&mut answer.out, &mut answer.err);
+    answer.status = run(rt, alloc, words, files, out, err, gauges, gate);
+    Ok(answer)
+}
+
+/// What a run answers, with these gauges.
+pub fn run_told(
+    rt: &(impl Threads + Sync),
+    alloc: Global,
+    given: &Given<'_>,
+    gauges: &mut Vec<Box<dyn Gauge>>,
+) -> Result<Answer, NoMemory> {
+    let mut files = files_of(alloc, given)?;
+    let failing = given.failing;
+    run_with_gauges(rt, alloc, given.words, &mut files, failing, gauges, &NoGate)
+}
+
+/// Appends a gauge that counts the rows that are not 0.
+pub fn push_nonzero(alloc: Global, gauges: &mut Vec<Box<dyn Gauge>>) -> Result<(), AllocError> {
+    gauges.push(Box::new(alloc, Nonzero::new(alloc))?)?;
+    Ok(())
+}
+
+/// Appends a gauge that tells the greatest product.
+pub fn push_peak(alloc: Global, gauges: &mut Vec<Box<dyn Gauge>>) -> Result<(), AllocError> {
+    gauges.push(Box::new(alloc, Peak::new(alloc))?)?;
+    Ok(())
+}
+
+/// Appends the gauges that the program has.
+fn push_house_gauges(alloc: Global, gauges: &mut Vec<Box<dyn Gauge>>) -> Result<(), AllocError> {
+    push_peak(alloc, gauges)?;
+    push_nonzero(alloc, gauges)
+}
+
+/// What a run of these words on these files answers, with the gauges that the program has and tiles that pass this gate.
+pub fn run_with<F: Files, G: Gate + Sync>(
     rt: &(impl Threads + Sync),
     alloc: Global,
     words: &str,
     files: &mut F,
     failing: Failing,
+    gate: &G,
 ) -> Result<Answer, NoMemory> {
     let mut gauges: Vec<Box<dyn Gauge>> = Vec::new(alloc);
-    gauges.push(Box::new(alloc, Peak::new(alloc))?)?;
-    gauges.push(Box::new(alloc, Nonzero::new(alloc))?)?;
-    run_with_gauges(rt, alloc, words, files, failing, &mut gauges)
+    push_house_gauges(alloc, &mut gauges)?;
+    run_with_gauges(rt, alloc, words, files, failing, &mut gauges, gate)
 }
 
-/// What a run answers.
-pub fn run_on(
+/// What a run answers whose tiles pass this gate.
+pub fn run_on<G: Gate + Sync>(
     rt: &(impl Threads + Sync),
     alloc: Global,
     given: &Given<'_>,
+    gate: &G,
 ) -> Result<Answer, NoMemory> {
     let mut files = files_of(alloc, given)?;
-    run_with(rt, alloc, given.words, &mut files, given.failing)
+    run_with(rt, alloc, given.words, &mut files, given.failing, gate)
+}
+
+/// Whether a run whose tiles pass this gate answers so: its status, and every byte that it writes.
+pub fn gated_answers<G: Gate + Sync>(
+    rt: &(impl Threads + Sync),
+    alloc: Global,
+    given: &Given<'_>,
+    gate: &G,
+    want: &Want,
+) -> bool {
+    match run_on(rt, alloc, given, gate) {
+        Ok(answer) => want.is(alloc, &answer),
+        Err(_) => false,
+    }
 }
 
 /// Whether a run answers so: its status, and every byte that it writes.
 pub fn answers(rt: &(impl Threads + Sync), alloc: Global, given: &Given<'_>, want: &Want) -> bool {
-    match run_on(rt, alloc, given) {
-        Ok(answer) => want.is(alloc, &answer),
-        Err(_) => false,
-    }
+    gated_answers(rt, alloc, given, &NoGate, want)
 }
 
 /// Whether a run of these words on this layout, where nothing fails, answers so. Without a layout it does not.
@@ -272,7 +337,7 @@ pub fn layout_answers(
     }
 }
 
-/// Stops the test where this does not hold, and names the case.
-pub fn expect(rt: &impl Abort, holds: bool, case: &impl fmt::Debug) {
-    assert!(rt; holds, "{case:?}");
+/// Stops the test where this does not hold, and names the row by its number.
+pub fn expect(rt: &impl Abort, holds: bool, number: usize) {
+    assert!(rt; holds, "row {number}");
 }

@@ -1,12 +1,16 @@
 //! Layouts of several structures, as their bytes.
 
-use super::layouts::{Plate, TWO_BARS, Wire, push_plate, push_points, push_record, push_wire};
+use super::layouts::{
+    Filled, Plate, TWO_BARS, Wire, push_filled, push_plate, push_points, push_record, push_wire,
+    spliced,
+};
 use std::alloc::{AllocError, Global};
 
-/// What a structure has: a rectangle, a path, or a reference.
+/// What a structure has: a rectangle, a shape with an outline on layer 1, a path, or a reference.
 #[derive(Clone, Copy)]
 pub enum Part<'a> {
     Plate(Plate),
+    Outline(Filled, &'a [(i32, i32)]),
     Wire(Wire),
     Copies(Copies<'a>),
 }
@@ -79,51 +83,53 @@ fn push_size(bytes: &mut Vec<u8>, size: Option<(u16, u16)>) -> Result<(), AllocE
 }
 
 /// Appends a reference: SREF or AREF, SNAME, STRANS, ANGLE, COLROW for an array, XY and ENDEL.
-fn push_copies(alloc: Global, bytes: &mut Vec<u8>, copies: &Copies<'_>) -> Result<(), AllocError> {
+fn push_copies(bytes: &mut Vec<u8>, copies: &Copies<'_>) -> Result<(), AllocError> {
     let opening = if copies.size.is_some() { 0x0B } else { 0x0A };
     push_record(bytes, opening, 0, &[])?;
     push_name(bytes, 0x12, copies.target)?;
     push_turn(bytes, copies.mirrored, copies.angle)?;
     push_size(bytes, copies.size)?;
-    push_points(alloc, bytes, copies.points)
+    push_points(bytes, copies.points)
 }
 
 /// Appends what a structure has.
-fn push_part(alloc: Global, bytes: &mut Vec<u8>, part: &Part<'_>) -> Result<(), AllocError> {
+fn push_part(bytes: &mut Vec<u8>, part: &Part<'_>) -> Result<(), AllocError> {
     match part {
-        Part::Plate(plate) => push_plate(alloc, bytes, plate),
-        Part::Wire(wire) => push_wire(alloc, bytes, wire),
-        Part::Copies(copies) => push_copies(alloc, bytes, copies),
+        Part::Plate(plate) => push_plate(bytes, plate),
+        Part::Outline(filled, points) => push_filled(bytes, *filled, (1, 0), points),
+        Part::Wire(wire) => push_wire(bytes, wire),
+        Part::Copies(copies) => push_copies(bytes, copies),
     }
 }
 
 /// Appends a structure: BGNSTR, STRNAME, its parts and ENDSTR.
-fn push_structure(
-    alloc: Global,
-    bytes: &mut Vec<u8>,
-    name: &[u8],
-    parts: &[Part<'_>],
-) -> Result<(), AllocError> {
+fn push_structure(bytes: &mut Vec<u8>, name: &[u8], parts: &[Part<'_>]) -> Result<(), AllocError> {
     let bars: &[u8] = TWO_BARS;
     bytes.extend_from_slice(&bars[60..88])?;
     push_name(bytes, 0x06, name)?;
     for part in parts {
-        push_part(alloc, bytes, part)?;
+        push_part(bytes, part)?;
     }
     bytes.extend_from_slice(&bars[222..226])
 }
 
 /// Appends the structures of a library, and its end.
-fn push_structures(
-    alloc: Global,
-    bytes: &mut Vec<u8>,
-    structures: &[Structure<'_>],
-) -> Result<(), AllocError> {
+fn push_structures(bytes: &mut Vec<u8>, structures: &[Structure<'_>]) -> Result<(), AllocError> {
     let bars: &[u8] = TWO_BARS;
     for (name, parts) in structures {
-        push_structure(alloc, bytes, name, parts)?;
+        push_structure(bytes, name, parts)?;
     }
     bytes.extend_from_slice(&bars[226..])
+}
+
+/// Appends a structure `T` with these parts, other structures behind it, and the end of their library.
+fn push_library(
+    bytes: &mut Vec<u8>,
+    parts: &[Part<'_>],
+    others: &[Structure<'_>],
+) -> Result<(), AllocError> {
+    push_structure(bytes, b"T", parts)?;
+    push_structures(bytes, others)
 }
 
 /// The file of a structure `T` with these parts, and of other structures behind it. `T` begins at 60, and its first part
@@ -133,10 +139,8 @@ pub fn library_with(
     parts: &[Part<'_>],
     others: &[Structure<'_>],
 ) -> Result<Vec<u8>, AllocError> {
-    let bars: &[u8] = TWO_BARS;
-    let mut bytes = Vec::from_slice(alloc, &bars[..60])?;
-    push_structure(alloc, &mut bytes, b"T", parts)?;
-    push_structures(alloc, &mut bytes, others)?;
+    let mut bytes = spliced(alloc, 60, &[], 230)?;
+    push_library(&mut bytes, parts, others)?;
     Ok(bytes)
 }
 
@@ -148,23 +152,28 @@ fn numbered(number: u16) -> [u8; 2] {
 }
 
 /// Appends the structure with this number, which refers to the next.
-fn push_link(alloc: Global, bytes: &mut Vec<u8>, number: u16) -> Result<(), AllocError> {
+fn push_link(bytes: &mut Vec<u8>, number: u16) -> Result<(), AllocError> {
     let next = numbered(number.wrapping_add(1));
     let copy = Copies {
         target: &next,
         ..ONE
     };
-    push_structure(alloc, bytes, &numbered(number), &[Part::Copies(copy)])
+    push_structure(bytes, &numbered(number), &[Part::Copies(copy)])
+}
+
+/// Appends structures of which each refers to the next, so many times, and the last has this rectangle; and the end of
+/// their library.
+fn push_chain(bytes: &mut Vec<u8>, references: u16, last: Plate) -> Result<(), AllocError> {
+    for number in 0..references {
+        push_link(bytes, number)?;
+    }
+    let name = numbered(references);
+    push_structures(bytes, &[(&name, &[Part::Plate(last)])])
 }
 
 /// The file of structures of which each refers to the next, so many times, and the last has this rectangle.
 pub fn chain_of(alloc: Global, references: u16, last: Plate) -> Result<Vec<u8>, AllocError> {
-    let bars: &[u8] = TWO_BARS;
-    let mut bytes = Vec::from_slice(alloc, &bars[..60])?;
-    for number in 0..references {
-        push_link(alloc, &mut bytes, number)?;
-    }
-    let name = numbered(references);
-    push_structures(alloc, &mut bytes, &[(&name, &[Part::Plate(last)])])?;
+    let mut bytes = spliced(alloc, 60, &[], 230)?;
+    push_chain(&mut bytes, references, last)?;
     Ok(bytes)
 }

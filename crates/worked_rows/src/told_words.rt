@@ -1,6 +1,7 @@
 //! Words as the system tells them.
 
-use critarea_core::system_words;
+use super::runs::expect;
+use critarea_core::{Word, system_words};
 use std::alloc::Global;
 use std::env::FillError;
 use std::rt::Env;
@@ -50,24 +51,32 @@ const ROWS: &[Row] = &[
     (&[b"critarea", b"a", b"\xc3"], Err(7)),
 ];
 
-/// Whether the system's words are told so.
-fn are_told(alloc: Global, row: &Row) -> bool {
-    match (system_words(&(Told(row.0), alloc)), row.1) {
-        (Ok(words), Ok(wanted)) => {
-            words.len() == wanted.len()
-                && words
-                    .iter()
-                    .zip(wanted)
-                    .all(|(word, text)| word.as_str().as_bytes() == *text)
-        }
-        (Err(status), Err(wanted)) => status == wanted,
+/// Whether these are the words.
+fn are(words: &[Word], wanted: &[&[u8]]) -> bool {
+    words.len() == wanted.len()
+        && words
+            .iter()
+            .zip(wanted)
+            .all(|(word, text)| word.as_str().as_bytes() == *text)
+}
+
+/// Whether the words were told so, or the status is this.
+fn are_wanted(told: &Result<Vec<Word>, u8>, wanted: &Result<&[&[u8]], u8>) -> bool {
+    match (told, wanted) {
+        (Ok(words), Ok(wanted)) => are(words.as_slice(), wanted),
+        (Err(status), Err(wanted)) => *status == *wanted,
         _ => false,
     }
+}
+
+/// Whether the system's words are told so.
+fn are_told(alloc: Global, row: &Row) -> bool {
+    are_wanted(&system_words(&(Told(row.0), alloc)), &row.1)
 }
 
 #[test]
 fn words_of_the_system_are_told(rt: HostRuntime) {
     for (number, row) in ROWS.iter().enumerate() {
-        assert!(rt; are_told(rt.alloc(), row), "case {number}");
+        expect(&rt, are_told(rt.alloc(), row), number);
     }
 }

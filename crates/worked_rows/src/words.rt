@@ -1,44 +1,7 @@
 use super::layouts::TWO_BARS;
 use super::runs::{NO_SHORT, RADIUS_3, SHORT_32, Want, answers, calm, expect};
 
-/// Command lines that fit neither form.
-const OTHER_WORDS: &[&str] = &[
-    "",
-    "a",
-    "a --layer 1",
-    "a --layer 1 --datatype 0",
-    "a --layer 1 --datatype 0 --radius",
-    "--layer 1 --datatype 0 --radius 3",
-    "a --layer 1 --datatype 0 --radius 3 --map m",
-    "a --layer 1 --datatype 0 --radius 3 b",
-    "--map m",
-    "--tile 0",
-    "--help",
-    "a --layer 1 --layer 1 --datatype 0 --radius 3",
-    "a --layer 1 --datatype 0 --radius 0",
-    "a --layer 1 --datatype 0 --radius 1000001",
-    "a --layer 65536 --datatype 0 --radius 3",
-    "a --layer 1 --datatype 0 --radius 3 --top",
-    "a --layer 1 --datatype 0 --radius 3 --top T --top T",
-    "--generate 0",
-    "--generate 501",
-    "a --generate 1",
-    "--generate 1 --map m",
-];
-
-#[test]
-fn other_words_are_refused(rt: HostRuntime) {
-    for words in OTHER_WORDS {
-        let given = calm(words, TWO_BARS);
-        expect(
-            &rt,
-            answers(&rt, rt.alloc(), &given, &Want::BadWords),
-            words,
-        );
-    }
-}
-
-/// Command lines that ask for one metal, and what they are answered for the two bars.
+/// Command lines, and what they are answered for the two bars.
 const WORDS: &[(&str, Want)] = &[
     (RADIUS_3, SHORT_32),
     // another order, the other spelling, both, and zeros in front
@@ -69,12 +32,43 @@ const WORDS: &[(&str, Want)] = &[
     ("- --layer 1 --datatype 0 --radius 3", Want::Fault),
     ("--layer 1 --datatype 0 --radius 3 -- -a", Want::Fault),
     ("a --map b", Want::Fault),
+    // other_words_are_refused: words that fit neither form
+    ("", Want::BadWords),
+    ("a", Want::BadWords),
+    ("a --layer 1", Want::BadWords),
+    ("a --layer 1 --datatype 0", Want::BadWords),
+    ("a --layer 1 --datatype 0 --radius", Want::BadWords),
+    ("--layer 1 --datatype 0 --radius 3", Want::BadWords),
+    (
+        "a --layer 1 --datatype 0 --radius 3 --map m",
+        Want::BadWords,
+    ),
+    ("a --layer 1 --datatype 0 --radius 3 b", Want::BadWords),
+    ("--map m", Want::BadWords),
+    ("--tile 0", Want::BadWords),
+    ("--help", Want::BadWords),
+    (
+        "a --layer 1 --layer 1 --datatype 0 --radius 3",
+        Want::BadWords,
+    ),
+    ("a --layer 1 --datatype 0 --radius 0", Want::BadWords),
+    ("a --layer 1 --datatype 0 --radius 1000001", Want::BadWords),
+    ("a --layer 65536 --datatype 0 --radius 3", Want::BadWords),
+    ("a --layer 1 --datatype 0 --radius 3 --top", Want::BadWords),
+    (
+        "a --layer 1 --datatype 0 --radius 3 --top T --top T",
+        Want::BadWords,
+    ),
+    ("--generate 0", Want::BadWords),
+    ("--generate 501", Want::BadWords),
+    ("a --generate 1", Want::BadWords),
+    ("--generate 1 --map m", Want::BadWords),
 ];
 
 #[test]
 fn words_are_read(rt: HostRuntime) {
-    for (words, want) in WORDS {
+    for (number, (words, want)) in WORDS.iter().enumerate() {
         let given = calm(words, TWO_BARS);
-        expect(&rt, answers(&rt, rt.alloc(), &given, want), words);
+        expect(&rt, answers(&rt, rt.alloc(), &given, want), number);
     }
 }

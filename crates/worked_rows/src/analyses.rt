@@ -1,13 +1,6 @@
 //! Worked rows on `analyse`: the areas of a layout for tiles of several edges and numbers of workers, and the first fault of
 //! layouts that have one. Each answer was worked out by hand. Runs with gates show that as many workers are at work at once as
-//! were asked for. The crate has tests alone.
-#![tactic(auto)]
+//! were asked for.
 
-#[cfg(test)]
 mod analysed;
-#[cfg(test)]
 mod gated;
-#[cfg(test)]
-mod generated;
-#[cfg(test)]
-mod runs;

@@ -1,34 +1,11 @@
+use crate::layouts::TWO_BARS;
+use crate::runs::expect;
 use critarea_core::{Gate, LayoutFault, NoGate, analyse};
 use layer_map::read_map;
 use map_model::{Map, one_metal};
+use report::Row;
 use std::alloc::Global;
 use std::thread::Threads;
-
-/// A library `L` with one structure `T`, and in it `[0,10)x[0,10)` and `[14,24)x[0,10)` on layer 1. The head and the
-/// structure's first records have 94 bytes, each of the two boundaries has 64, and the two ends have 8.
-pub const TWO_BARS: &[u8; 230] = b"\
-    \x00\x06\x00\x02\x02\x58\
-    \x00\x1C\x01\x02\x00\x00\x00\x00\x00\x00\x00\x00\x00\x00\x00\x00\x00\x00\x00\x00\x00\x00\x00\x00\
-    \x00\x00\x00\x00\
-    \x00\x06\x02\x06\x4C\x00\
-    \x00\x14\x03\x05\x41\x10\x00\x00\x00\x00\x00\x00\x41\x10\x00\x00\x00\x00\x00\x00\
-    \x00\x1C\x05\x02\x00\x00\x00\x00\x00\x00\x00\x00\x00\x00\x00\x00\x00\x00\x00\x00\x00\x00\x00\x00\
-    \x00\x00\x00\x00\
-    \x00\x06\x06\x06\x54\x00\
-    \x00\x04\x08\x00\
-    \x00\x06\x0D\x02\x00\x01\
-    \x00\x06\x0E\x02\x00\x00\
-    \x00\x2C\x10\x03\x00\x00\x00\x00\x00\x00\x00\x00\x00\x00\x00\x0A\x00\x00\x00\x00\x00\x00\x00\x0A\
-    \x00\x00\x00\x0A\x00\x00\x00\x00\x00\x00\x00\x0A\x00\x00\x00\x00\x00\x00\x00\x00\
-    \x00\x04\x11\x00\
-    \x00\x04\x08\x00\
-    \x00\x06\x0D\x02\x00\x01\
-    \x00\x06\x0E\x02\x00\x00\
-    \x00\x2C\x10\x03\x00\x00\x00\x0E\x00\x00\x00\x00\x00\x00\x00\x18\x00\x00\x00\x00\x00\x00\x00\x18\
-    \x00\x00\x00\x0A\x00\x00\x00\x0E\x00\x00\x00\x0A\x00\x00\x00\x0E\x00\x00\x00\x00\
-    \x00\x04\x11\x00\
-    \x00\x04\x07\x00\
-    \x00\x04\x04\x00";
 
 /// What the analysis is to answer.
 #[derive(Clone, Copy)]
@@ -50,6 +27,22 @@ fn stage_of(fault: LayoutFault) -> &'static str {
     }
 }
 
+/// Whether these are two rows with these areas.
+fn have_areas(rows: &[Row], shorts: u64, opens: u64) -> bool {
+    rows.len() == 2 && rows[0].area == shorts && rows[1].area == opens
+}
+
+/// Whether the analysis answered so.
+fn is_wanted(answer: &Result<Vec<Row>, LayoutFault>, want: Want) -> bool {
+    match (answer, want) {
+        (Ok(rows), Want::Areas(shorts, opens)) => have_areas(rows.as_slice(), shorts, opens),
+        (Err(fault), Want::Fault(stage, number, place)) => {
+            stage_of(*fault) == stage && fault.number() == number && fault.place() == place
+        }
+        _ => false,
+    }
+}
+
 /// Whether the analysis of these bytes answers so, for tiles with this edge, so many workers, and this gate.
 pub fn answers<G: Gate + Sync>(
     rt: &(impl Threads + Sync),
@@ -64,18 +57,10 @@ pub fn answers<G: Gate + Sync>(
     let edge = edge.clamp(1, 1_000_000_000);
     let workers = workers.clamp(1, 64);
     let layout = &layout[..layout.len().min(230)];
-    match (
-        analyse(rt, alloc, map, layout, top, edge, workers, gate),
+    is_wanted(
+        &analyse(rt, alloc, map, layout, top, edge, workers, gate),
         want,
-    ) {
-        (Ok(rows), Want::Areas(shorts, opens)) => {
-            rows.len() == 2 && rows[0].area == shorts && rows[1].area == opens
-        }
-        (Err(fault), Want::Fault(stage, number, place)) => {
-            stage_of(fault) == stage && fault.number() == number && fault.place() == place
-        }
-        _ => false,
-    }
+    )
 }
 
 /// Where a byte of the two bars stands, what stands there in place of it, which top is wanted, and the answer.
@@ -142,7 +127,7 @@ fn row_is_answered(
 #[test]
 fn layouts_are_analysed(rt: HostRuntime) {
     for (number, row) in ROWS.iter().enumerate() {
-        assert!(rt; row_is_answered(&rt, rt.alloc(), row), "{number}");
+        expect(&rt, row_is_answered(&rt, rt.alloc(), row), number);
     }
 }
 
