@@ -116,6 +116,30 @@ found_none entries by_column = record {
 pub later_in_order : (left : List Numbered) (x : Numbered) (rest : List Numbered) → left ≡ x ∷ rest → IsByColumn left → IsByColumn rest
 later_in_order left x rest e by_column = AllPairs-tail (λ a b. a.one.columns.low ≤ℤ b.one.columns.low) x rest (subst IsByColumn e by_column)
 
+-- of two that touch and are left, the first one has its pair told with a later one, and later ones are left
+told_or_later : (x : Numbered) (rest : List Numbered) (old new : List (ℕ × ℕ)) → Adds x rest old new → (a b : Numbered) → TouchHalves a.one b.one
+    → (x ≡ a) ⊎ Contains rest a → (x ≡ b) ⊎ Contains rest b → (a.number ≡ b.number) ⊎ (IsPair new a.number b.number ⊎ (Contains rest a × Contains rest b))
+told_or_later x rest old new adds a b t (inl p) (inl q) = inl (ap (λ (y : Numbered). y.number) (sym p ∙ q))
+told_or_later x rest old new adds a b t (inl p) (inr d) =
+    inr (inl (inl (subst (λ (y : Numbered). Contains new (y.number, b.number)) p (adds.all _ (record {
+      other = b;
+      among = d;
+      match = record {
+        touch = subst (λ (y : Numbered). TouchHalves y.one b.one) (sym p) t;
+        numbers = refl;
+      };
+    })))))
+told_or_later x rest old new adds a b t (inr c) (inl q) =
+    inr (inl (inr (subst (λ (y : Numbered). Contains new (y.number, a.number)) q (adds.all _ (record {
+      other = a;
+      among = c;
+      match = record {
+        touch = subst (λ (y : Numbered). TouchHalves y.one a.one) (sym q) (TouchHalves-sym a.one b.one t);
+        numbers = refl;
+      };
+    })))))
+told_or_later x rest old new adds a b t (inr c) (inr d) = inr (inr (c, d))
+
 pub found_next : (entries left : List Numbered) (x : Numbered) (rest : List Numbered) (old new : List (ℕ × ℕ)) → left ≡ x ∷ rest
     → AreFound entries left old → Adds x rest old new → AreFound entries rest new
 found_next entries left x rest old new e found adds = record {
@@ -129,7 +153,7 @@ found_next entries left x rest old new e found adds = record {
     | inl same ↦ inl same
     | inr (inl (inl pair)) ↦ inr (inl (inl (adds.kept _ pair)))
     | inr (inl (inr pair)) ↦ inr (inl (inr (adds.kept _ pair)))
-    | inr (inr h) ↦ of_left a b t (Contains-cons_cases x rest a (subst (λ ys. Contains ys a) e h.0)) (Contains-cons_cases x rest b (subst (λ ys. Contains ys b) e h.1))
+    | inr (inr h) ↦ told_or_later x rest old new adds a b t (Contains-cons_cases x rest a (subst (λ ys. Contains ys a) e h.0)) (Contains-cons_cases x rest b (subst (λ ys. Contains ys b) e h.1))
   ];
   short = let one = ap (λ (ys : List Numbered). length ys) e in let s = found.short in omega arith;
   few = let one = ap (λ (ys : List Numbered). length ys) e in let s = found.short in let f = found.few in let g = adds.few in
@@ -137,29 +161,6 @@ found_next entries left x rest old new e found adds = record {
 } where
   among : (y : Numbered) → Contains (x ∷ rest) y → Contains entries y
   among y c = found.among y (subst (λ ys. Contains ys y) (sym e) c)
-
-  of_left : (a b : Numbered) → TouchHalves a.one b.one → (x ≡ a) ⊎ Contains rest a → (x ≡ b) ⊎ Contains rest b
-      → (a.number ≡ b.number) ⊎ (IsPair new a.number b.number ⊎ (Contains rest a × Contains rest b))
-  of_left a b t (inl p) (inl q) = inl (ap (λ (y : Numbered). y.number) (sym p ∙ q))
-  of_left a b t (inl p) (inr d) =
-      inr (inl (inl (subst (λ (y : Numbered). Contains new (y.number, b.number)) p (adds.all _ (record {
-        other = b;
-        among = d;
-        match = record {
-          touch = subst (λ (y : Numbered). TouchHalves y.one b.one) (sym p) t;
-          numbers = refl;
-        };
-      })))))
-  of_left a b t (inr c) (inl q) =
-      inr (inl (inr (subst (λ (y : Numbered). Contains new (y.number, a.number)) q (adds.all _ (record {
-        other = a;
-        among = c;
-        match = record {
-          touch = subst (λ (y : Numbered). TouchHalves y.one a.one) (sym q) (TouchHalves-sym a.one b.one t);
-          numbers = refl;
-        };
-      })))))
-  of_left a b t (inr c) (inr d) = inr (inr (c, d))
 
 pub none_left : (entries left : List Numbered) (pairs : List (ℕ × ℕ)) → length left ≡ 0 → AreFound entries left pairs → AreFound entries [] pairs
 none_left entries [] pairs e found = found

@@ -6,6 +6,7 @@ use Rattle.std.specs.List.Sorted.{IsStrictlySortedBy}
 use Rattle.std.specs.Ordering.{nat_cmp, ordering_then, eq_by_cmp}
 use Rattle.std.proofs.lemmas.Cmp.{ranked, on_total, then_total}
 use Rattle.std.proofs.lemmas.List.Kept.{IsStrictlySortedBy-dedup}
+use Rattle.geo_core.specs.Cells.{Touch}
 use Rattle.geo_core.specs.Plane.{IsIn}
 use Rattle.geo_core.specs.declared.plane.Rect.{Rect}
 use Rattle.geo_core.proofs.RectLaws.{Touch-sym}
@@ -95,6 +96,16 @@ touching_from_match rects entries all a b m = by_numbers m.match.match.numbers w
     touch = Touch-sym one.rect other.rect m.match.match.touch;
   })
 
+-- a point and a span that touch, of which the point begins no earlier
+match_of_point : (entries : List Numbered) (low high : ℤ) → All (λ e. IsIn low high e.rect.x0) entries → {p : ℕ × ℕ} (point span : Numbered)
+    → Contains entries point → Contains entries span → Touch point.rect span.rect → IsPairOf point.number span.number p → span.rect.x0 ≤ℤ point.rect.x0
+    → IsMatchFrom low high entries entries p
+match_of_point entries low high within point span has_point has_span touch numbers reached = record {
+  found = record { point = point; among = has_point; match = record { other = span; among = has_span; match = record { touch = touch; numbers = numbers } } };
+  begins = All-contains (λ e. IsIn low high e.rect.x0) entries point within has_point;
+  reached = reached;
+}
+
 -- of two that touch, the one that begins no earlier is the point, and the other one is the span
 pub match_from_touching : (rects : List Rect) (entries : List Numbered) (low high : ℤ) → AreNumbered rects entries → All (λ e. IsIn low high e.rect.x0) entries
     → (a b : ℕ) → AreTouching rects a b → IsMatchFrom low high entries entries (a, b)
@@ -112,26 +123,10 @@ match_from_touching rects entries low high all within a b t = by_lt_z t.one.x0 t
   has_second = (all second).1 t.other_at
 
   second_begins : t.one.x0 ≤ℤ t.other.x0 → IsMatchFrom low high entries entries (a, b)
-  second_begins reached = record {
-    found = record {
-      point = second;
-      among = has_second;
-      match = record { other = first; among = has_first; match = record { touch = Touch-sym t.one t.other t.touch; numbers = inr (t.lesser, refl) } };
-    };
-    begins = All-contains (λ e. IsIn low high e.rect.x0) entries second within has_second;
-    reached = reached;
-  }
+  second_begins = match_of_point entries low high within second first has_second has_first (Touch-sym t.one t.other t.touch) (inr (t.lesser, refl))
 
   first_begins : t.other.x0 ≤ℤ t.one.x0 → IsMatchFrom low high entries entries (a, b)
-  first_begins reached = record {
-    found = record {
-      point = first;
-      among = has_first;
-      match = record { other = second; among = has_second; match = record { touch = t.touch; numbers = inl (t.lesser, refl) } };
-    };
-    begins = All-contains (λ e. IsIn low high e.rect.x0) entries first within has_first;
-    reached = reached;
-  }
+  first_begins = match_of_point entries low high within first second has_first has_second t.touch (inl (t.lesser, refl))
 
 -- what was found are the pairs of rectangles that touch, where these are the same pairs in order
 pub exact_pairs : (rects : List Rect) (entries : List Numbered) (low high : ℤ) (found pairs : List (ℕ × ℕ)) → AreNumbered rects entries → All (λ e. IsIn low high e.rect.x0) entries

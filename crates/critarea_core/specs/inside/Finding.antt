@@ -15,7 +15,8 @@ use Rattle.questions.specs.declared.row.Row.{Row}
 use Rattle.questions.specs.declared.row.TheConstants.{MOST_ROWS}
 use Rattle.critarea_core.specs.Contents.{MayContain, MayHave}
 use Rattle.critarea_core.specs.Refusals.{refusal_text}
-use Rattle.critarea_core.specs.Run.{AreToldAll, AreToldSome, AreUntold, Change, HasRisen, IsCalm, IsIdle, MayComeTo, NameSomeFile, Output, Takes, FailsWithin}
+use Rattle.critarea_core.specs.Run.{AreToldAll, AreToldSome, AreUntold, Change, FailsWithin, HasRisen}
+use Rattle.critarea_core.specs.Run.{IsCalm, IsIdle, MayComeTo, NameSomeFile, Output, Takes}
 use Rattle.critarea_core.specs.Layout.{Subject}
 use Rattle.critarea_core.specs.Verdict.{LayoutComesTo, MapComesTo, AreRowsOn, whole_report}
 use Rattle.critarea_core.specs.declared.layout_fault.LayoutFault.{LayoutFault}
