@@ -1,9 +1,11 @@
 -- the parts that come of nets
-use Rattle.std.proofs.Common.{arith, ◌+◌, ◌/◌, Some, slice_get, ◌≡◌, ◌<◌, ℕ, List, [], map, length, sym, subst, ap, ◌∙◌, ◌↔◌, Contains, slice_index_or, Ok, Err}
+use Rattle.std.proofs.Common.{arith, ◌+◌, ◌/◌, Some, slice_get, ◌≡◌, ◌<◌, ℕ, List, [], map, length, sym, subst, ap, ◌∙◌, ◌↔◌, Contains, slice_index_or, Result, Ok, Err}
+use Rattle.std.specs.Prelude.{IfErr, IfOk}
 use Rattle.lists.proofs.Words.{slice_get_within, length-enumerate_from, length-map}
 use Rattle.std.proofs.Math.ListN.{get_or-map}
-use Rattle.first_refusal.specs.Answers.{Answers, gives, refuses, no_memory}
-use Rattle.first_refusal.specs.Checks.{all_hold, one_fails}
+use Rattle.first_refusal.specs.Answers.{gives, no_memory}
+use Rattle.first_refusal.specs.Checks.{all_hold}
+use Rattle.first_refusal.proofs.JudgeLaws.{Judges}
 use Rattle.geo_core.specs.Plane.{Has, IsCoveredIn}
 use Rattle.geo_core.specs.declared.plane.Cell.{Cell}
 use Rattle.geo_core.specs.declared.plane.Half.{Half}
@@ -14,17 +16,15 @@ use Rattle.lists.proofs.Mapping.{Contains-map, Contains-map_from}
 use Rattle.map_model.specs.MapNames.{LayerMap}
 use Rattle.net_extract.specs.AnchoredIslands.{AreAnchoredIslands}
 use Rattle.net_extract.specs.Cuts.{cut_of, cuts_of, numbered_cuts, terminal_cuts_of}
-use Rattle.net_extract.specs.Extraction.{AreNetsOf, ComeToNets}
+use Rattle.net_extract.specs.Extraction.{AreNetsOf}
 use Rattle.net_extract.specs.NetLists.{NetLists, IsPieceCell, IsNetCell, pieces_on}
-use Rattle.net_extract.specs.declared.fault.NetFault.{NetFault}
-use Rattle.net_extract.specs.declared.fault.NetFault.TheVariants.{Memory}
 use Rattle.net_extract.proofs.ClusterLaws.{carry_clusters}
 use Rattle.net_extract.proofs.OpenLaws.{opens_are_of_islands}
 use Rattle.questions.specs.Questions.{questions}
 use Rattle.via_clusters.specs.Blocks.{CoversSomeBox}
 use Rattle.via_clusters.specs.Clusters.{AreClusterBoxes}
 use Rattle.via_clusters.proofs.BlockLaws.{block_is_box}
-use Rattle.critical_areas.specs.AreaParts.{AreBoxesOf, AreIslandsOf, ArePartsOf, ArePiecesOf, ComeToParts, IsInPieces, by_net}
+use Rattle.critical_areas.specs.AreaParts.{AreBoxesOf, AreIslandsOf, ArePartsOf, ArePiecesOf, IsInPieces, by_net}
 use Rattle.critical_areas.specs.inside.LayerParts.{AreAllBoxes, AreAllIslands}
 use Rattle.critical_areas.specs.declared.parts.Parts.{Parts}
 
@@ -95,13 +95,9 @@ parts_are layer_map lists made parts are asked metals anchored boxed cells_alone
       boxes_of_cut layer_map lists made are number cut there _ (boxed.each number (omega (arith, are.cuts, among)));
 }
 
-module _ (layer_map : LayerMap) (lists : List (List Rect)) where
-  -- parts that are made from nets are what the layers come to
-  pub prepared : (made : NetLists) (parts : Parts) → Answers Memory (ComeToNets layer_map lists) (Ok made) → (AreNetsOf layer_map lists made → ArePartsOf layer_map lists parts)
-      → Answers Memory (ComeToParts layer_map lists) (Ok parts)
-  prepared made parts (gives (all_hold all are)) from = gives (all_hold all (from are))
-
-  -- and so is a fault
-  pub refused_too : (fault : NetFault) → Answers Memory (ComeToNets layer_map lists) (Err fault) → Answers Memory (ComeToParts layer_map lists) (Err fault)
-  refused_too fault (refuses (one_fails q)) = refuses (one_fails q)
-  refused_too fault no_memory = no_memory
+-- where checks were answered with a thing, and what is made from it lacks nothing but memory, they are answered with what is made
+pub made_from : {N T U F : Type 0} {memory : F} {Holds : N → Type 0} {checks : List N} {fault_of : N → F} (Is : T → Type 0) (Js : U → Type 0) (thing : T) (result : Result U F)
+    → Judges memory Holds checks fault_of Is (Ok thing) → (Is thing → IfOk result Js) → IfErr result (λ fault. fault ≡ memory) → Judges memory Holds checks fault_of Js result
+made_from Is Js thing (Ok made) (gives (all_hold all is)) from same = gives (all_hold all (from is))
+made_from {memory = memory} {Holds = Holds} {checks = checks} {fault_of = fault_of} Is Js thing (Err fault) answered from same =
+    subst (λ f. Judges memory Holds checks fault_of Js (Err f)) (sym same) no_memory

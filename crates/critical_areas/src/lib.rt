@@ -34,7 +34,7 @@ use questions::Row;
 use std::alloc::Global;
 use std::thread::Threads;
 pub use tile_work::{Gate, NoGate};
-use tiles::tiled_amounts;
+use tiles::tiled_rows;
 use window::{reach, window_of};
 
 /// The rows of the report on what the rectangles cover, of which there is one list for each layer of the map: shorts of
@@ -48,7 +48,6 @@ use window::{reach, window_of};
 ///
 /// The error is 50 with the number, counted from 0, of the first terminal whose cell its metal does not cover, or that no
 /// memory is left.
-#[tactic(auto, using(first_refusal::proofs::AnswerLaws::out_of_memory))]
 pub fn critical_areas<G: Gate + Sync>(
     rt: &(impl Threads + Sync),
     alloc: Global,
@@ -69,6 +68,5 @@ pub fn critical_areas<G: Gate + Sync>(
 {
     let window = window_of(layers.lists.as_slice(), reach(map));
     let parts = prepare(alloc, map, layers)?;
-    let amounts = tiled_amounts(rt, alloc, &parts, window, edge, workers, gate)?;
-    Ok(rows(alloc, &parts, &amounts)?)
+    tiled_rows(rt, alloc, &parts, window, edge, workers, gate)
 }

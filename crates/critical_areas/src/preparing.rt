@@ -1,7 +1,9 @@
-ghost use Rattle.std.specs.Prelude.{◌≡◌, ◌<◌, ◌+◌, ◌^◌, IfOk, length, map};
+ghost use Rattle.std.specs.Prelude.{List, ◌≡◌, ◌<◌, ◌+◌, ◌^◌, IfErr, IfOk, length, map};
 ghost use Rattle.first_refusal.specs.Answers.{Answers};
+ghost use Rattle.geo_core.specs.declared.plane.Rect.{Rect as Rectangle};
 ghost use Rattle.map_model.specs.MapView.{layer_map_of};
-ghost use Rattle.critical_areas.specs.AreaParts.{ComeToParts, by_net};
+ghost use Rattle.net_extract.specs.Extraction.{AreNetsOf};
+ghost use Rattle.critical_areas.specs.AreaParts.{ArePartsOf, ComeToParts, by_net};
 ghost use Rattle.critical_areas.specs.inside.LayerParts.{AreAllBoxes, AreAllIslands};
 
 use super::parts::{IslandList, Parts, PieceList};
@@ -15,16 +17,26 @@ use via_clusters::clusters;
 
 /// Makes what all areas of these layers need, of which there is one list of rectangles for each metal of the map, and
 /// then one for each cut. The error is the first terminal that is not on its metal, or that no memory is left.
-#[tactic(auto, using(first_refusal::proofs::AnswerLaws::out_of_memory))]
 pub fn prepare(alloc: Global, map: &Map, layers: &Layers) -> Result<Parts, NetFault>
     requires { length layers.now.lists.items ≡ length map.now.metals + length map.now.cuts }
     ensures { Answers NetFault.Memory (ComeToParts (layer_map_of map.now) layers.now.lists.items) result }
 {
     let nets = extract(alloc, layers, map)?;
+    parts_of(alloc, map, &nets)
+}
+
+/// What all areas of the map are counted from, by the nets of its layers. The only error is that no memory is left.
+fn parts_of(alloc: Global, map: &Map, nets: &Nets) -> Result<Parts, NetFault>
+    requires metals { length nets.now.pieces ≡ length map.now.metals }
+    requires cuts { length nets.now.contacts ≡ length map.now.cuts }
+    ensures parts { (lists : List (List Rectangle)) → AreNetsOf (layer_map_of map.now) lists nets.now →
+        IfOk result (ArePartsOf (layer_map_of map.now) lists) }
+    ensures memory { IfErr result (λ fault. fault ≡ NetFault.Memory) }
+{
     let questions = questions_of(alloc, map)?;
-    let metals = pieces_by_net(alloc, &nets, map.metals.as_slice().len())?;
-    let islands = anchored_islands(alloc, &nets, map.metals.as_slice().len())?;
-    let cuts = boxes_of_clusters(alloc, &nets, map.cuts.as_slice().len())?;
+    let metals = pieces_by_net(alloc, nets, map.metals.as_slice().len())?;
+    let islands = anchored_islands(alloc, nets, map.metals.as_slice().len())?;
+    let cuts = boxes_of_clusters(alloc, nets, map.cuts.as_slice().len())?;
     Ok(Parts {
         questions: Items::from_vec(questions),
         metals,

@@ -1,4 +1,4 @@
-ghost use Rattle.std.specs.Prelude.{List, pos, ◌≡◌, ◌<◌, ◌≤◌, ◌≤ℤ◌, ◌+◌, ◌/◌, ◌^◌, IfOk, All, length};
+ghost use Rattle.std.specs.Prelude.{List, pos, ◌≡◌, ◌<◌, ◌≤◌, ◌≤ℤ◌, ◌+◌, ◌/◌, ◌^◌, IfErr, IfOk, All, length};
 ghost use Rattle.fault_model.specs.Areas.{Tally, cells_of, cells_of_window};
 ghost use Rattle.geo_core.specs.Unions.{IsCoveredIn, IsInUnion};
 ghost use Rattle.geo_core.specs.declared.bounds.TheConstants.{GREATEST_REACH};
@@ -10,9 +10,10 @@ ghost use Rattle.short_area.specs.Labels.{TouchesTwoLabels};
 ghost use Rattle.questions.specs.declared.row.TheConstants.{MOST_ROWS};
 ghost use Rattle.via_clusters.specs.Blocks.{CoversSomeBox};
 ghost use Rattle.critical_areas.specs.AreaParts.{ArePartsOf};
-ghost use Rattle.critical_areas.specs.Rows.{AreAmounts};
+ghost use Rattle.critical_areas.specs.Rows.{AreAmounts, AreRows, IsWindowFor};
 ghost use Rattle.critical_areas.specs.inside.Sharing.{AreCounted, IsCounted};
 
+use super::answering::rows;
 use super::counting::amounts;
 use super::edges::sensible_edge;
 use super::parts::Parts;
@@ -22,7 +23,8 @@ use super::whole::amounts_of_whole;
 use geo_core::{Labelled, Rect};
 use lists::NoMemory;
 use map_model::Measure;
-use questions::Kind;
+use net_extract::NetFault;
+use questions::{Kind, Row};
 use short_area::short_area;
 use std::alloc::Global;
 use std::thread::Threads;
@@ -32,10 +34,35 @@ use tile_work::{Gate, TileJob, close_sums, run_tiles};
 use union_area::union_area;
 use via_clusters::via_area;
 
+/// The rows of the report on the parts, with what is counted over the window, as `tiled_amounts` counts it. The only error is
+/// that no memory is left.
+pub fn tiled_rows<G: Gate + Sync>(
+    rt: &(impl Threads + Sync),
+    alloc: Global,
+    parts: &Parts,
+    window: Option<Rect>,
+    edge: u32,
+    workers: u32,
+    gate: &G,
+) -> Result<Vec<Row>, NetFault>
+    requires some { 1 ≤ edge }
+    requires short { edge ≤ 1000000000 }
+    requires some_workers { 1 ≤ workers }
+    requires few_workers { workers ≤ 64 }
+    ensures rows { (layer_map : LayerMap) (lists : List (List Rectangle)) → ArePartsOf layer_map lists parts.now →
+        IsWindowFor layer_map (IsCoveredIn lists) window →
+        IfOk result (λ rows. AreRows layer_map (IsCoveredIn lists) rows.items) }
+    ensures few { IfOk result (λ rows. length rows.items ≤ MOST_ROWS) }
+    ensures memory { IfErr result (λ fault. fault ≡ NetFault.Memory) }
+{
+    let amounts = tiled_amounts(rt, alloc, parts, window, edge, workers, gate)?;
+    Ok(rows(alloc, parts, &amounts)?)
+}
+
 /// For each question of the parts, in order, how many cells of the window, where there is one, have its fault. They are counted
 /// over tiles with this edge, or a longer one where pieces or defects are long, by so many workers at once, and each tile
 /// passes the gate. Where one tile is all of the window nothing is made for tiles.
-pub fn tiled_amounts<G: Gate + Sync>(
+fn tiled_amounts<G: Gate + Sync>(
     rt: &(impl Threads + Sync),
     alloc: Global,
     parts: &Parts,

@@ -1,17 +1,16 @@
 use Rattle.std.proofs.Common.{Global, subst, Vec}
 use Rattle.lists.proofs.Words.{enumerate_from}
 use Rattle.first_refusal.proofs.AnswerLaws.{handed_on}
-use Rattle.first_refusal.proofs.JudgeLaws.{given, passed, passes, unread}
-use Rattle.fault_model.specs.FaultNames.{IsWindowOf, cells_of_window}
+use Rattle.first_refusal.proofs.JudgeLaws.{unread}
+use Rattle.fault_model.specs.FaultNames.{IsWindowOf}
 use Rattle.geo_core.specs.Plane.{IsCoveredIn}
 use Rattle.map_model.specs.MapNames.{layer_map_of}
 use Rattle.net_extract.specs.Extraction.{IsOnItsMetal, off_metal}
 use Rattle.net_extract.specs.declared.fault.NetFault.TheVariants.{Memory}
-use Rattle.questions.specs.Questions.{questions}
 use Rattle.questions.specs.declared.row.Row.{Row}
 use Rattle.critical_areas.specs.AreaParts.{ArePartsOf}
-use Rattle.critical_areas.specs.Rows.{AreRows, AreRowsOf}
-use Rattle.critical_areas.proofs.RowLaws.{rows_answer}
+use Rattle.critical_areas.specs.Rows.{AreRows}
+use Rattle.critical_areas.proofs.PartLaws.{made_from}
 use Rattle.critical_areas.proofs.WindowLaws.{Covered}
 use Rattle.critical_areas.proofs.critical_areas.Goals as goal
 
@@ -28,14 +27,7 @@ returns-clause-rows g c =
     let layer_map = layer_map_of c.args.map.now in
     let lists = c.args.layers.now.lists.items in
     let window = c.window_of-window.result in
-    let cells = cells_of_window window in
     let by_reach = subst (λ ls. IsWindowOf (Covered ls) c.reach.result window) c.as_slice.ensures.value c.window_of-window.ensures in
     let is_window = subst (λ r. IsWindowOf (Covered lists) r window) c.reach.ensures.reach by_reach in
-    let parts_are = given c.in_ok-parts.ensures in
-    let counted = c.in_ok-amounts.ensures.tallies layer_map lists parts_are in
-    let rows = c.in_ok-rows.field-0 in
-    let by_amounts = subst (λ ns. AreRowsOf c.in_ok-parts.parts.questions ns rows.items) c.deref.ensures.value c.in_ok-rows.ensures in
-    let by_questions = subst (λ qs. AreRowsOf qs c.in_ok-amounts.amounts.items rows.items) parts_are.asked by_amounts in
-    let answers = rows_answer layer_map (IsCoveredIn lists) cells (questions layer_map) c.in_ok-amounts.amounts.items rows.items by_questions counted in
-    passes (IsOnItsMetal lists) off_metal (λ (found : Vec Row Global). AreRows layer_map (IsCoveredIn lists) found.items) (enumerate_from 0 layer_map.terminals) rows (passed c.in_ok-parts.ensures)
-    (record { window = window; is_window = is_window; answers = answers })
+    made_from (ArePartsOf layer_map lists) (λ (found : Vec Row Global). AreRows layer_map (IsCoveredIn lists) found.items) c.in_ok-parts.parts c.tiled_rows.result c.in_ok-parts.ensures
+    (λ are. c.tiled_rows.ensures.rows layer_map lists are is_window) c.tiled_rows.ensures.memory
