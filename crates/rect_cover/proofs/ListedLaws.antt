@@ -1,5 +1,5 @@
 -- the covers of many shapes, taken in their order
-use Rattle.std.proofs.Common.{Global, ◌≡◌, ◌≢◌, refl, sym, ap, subst, ◌∙◌, List, [], ◌∷◌, ◌++◌, Vec, Result, Ok, Err, append_assoc, length, arith, All}
+use Rattle.std.proofs.Common.{Global, ◌≡◌, ◌≢◌, refl, sym, ap, subst, ◌∙◌, List, [], ◌∷◌, ◌++◌, Vec, Ok, Err, append_assoc, length, arith, All}
 use Rattle.lists.proofs.Words.{append-nil, AllZip, All-nil, All-cons}
 use Rattle.first_refusal.specs.Answers.{Answers, gives, refuses, no_memory}
 use Rattle.first_refusal.specs.Outcomes.{value}
@@ -9,17 +9,11 @@ use Rattle.flatten.specs.declared.placed.Placed.{Placed}
 use Rattle.rect_cover.specs.declared.fault.CoverFault.{CoverFault}
 use Rattle.rect_cover.specs.declared.fault.CoverFault.TheVariants.{Memory}
 use Rattle.rect_cover.specs.Coverings.{AllComeTo, all_covered, one_refused, IsFirstCoverFault, PlacedComesTo, IsCoverable, with_items}
+use Rattle.rect_cover.specs.inside.ShapeAnswers.{Answer, IsAnswerFor}
 use Rattle.rect_cover.proofs.AgreeLaws.{covered_or_refused}
 use Rattle.lists.proofs.Pairing.{AllZip-append}
 
-abbrev pub Answer : Type 0
-Answer = Result (Vec Rect Global) CoverFault
-
 module _ (structures : List Structure) where
-  -- the answer says what the cover of the shape comes to
-  abbrev pub IsAnswerFor : Placed → Answer → Type 0
-  IsAnswerFor one = Answers Memory (λ outcome. PlacedComesTo structures one (with_items outcome))
-
   abbrev pub IsListed : Placed → List Rect → Type 0
   IsListed one list = PlacedComesTo structures one (value list)
 
@@ -29,9 +23,9 @@ module _ (structures : List Structure) where
     pub back : List Placed
     pub parts : placed ≡ front ++ back
     pub listed : AllZip IsListed front lists
-    pub answered : AllZip IsAnswerFor back left
+    pub answered : AllZip (IsAnswerFor structures) back left
 
-  pub none_listed : (placed : List Placed) (left : List Answer) → AllZip IsAnswerFor placed left → AreListedBut placed left []
+  pub none_listed : (placed : List Placed) (left : List Answer) → AllZip (IsAnswerFor structures) placed left → AreListedBut placed left []
   none_listed placed left h = record { front = []; back = placed; parts = refl; listed = tt; answered = h }
 
   -- the shape of the next answer
@@ -39,14 +33,14 @@ module _ (structures : List Structure) where
     one : Placed
     behind : List Placed
     parts : back ≡ one ∷ behind
-    is_answer : IsAnswerFor one answer
-    answered : AllZip IsAnswerFor behind rest
+    is_answer : IsAnswerFor structures one answer
+    answered : AllZip (IsAnswerFor structures) behind rest
 
-  next : (back : List Placed) (answer : Answer) (rest : List Answer) → AllZip IsAnswerFor back (answer ∷ rest) → IsNext back answer rest
+  next : (back : List Placed) (answer : Answer) (rest : List Answer) → AllZip (IsAnswerFor structures) back (answer ∷ rest) → IsNext back answer rest
   next [] answer rest h = absurd h
   next (one ∷ behind) answer rest h = record { one = one; behind = behind; parts = refl; is_answer = h.0; answered = h.1 }
 
-  as_listed : (one : Placed) (rects : Vec Rect Global) → IsAnswerFor one (Ok rects) → IsListed one rects.items
+  as_listed : (one : Placed) (rects : Vec Rect Global) → IsAnswerFor structures one (Ok rects) → IsListed one rects.items
   as_listed one rects (gives comes) = comes
 
   coverable : (placed : List Placed) (lists : List (List Rect)) → AllZip IsListed placed lists → All (IsCoverable structures) placed
@@ -56,7 +50,7 @@ module _ (structures : List Structure) where
 
   module _ (placed : List Placed) (left rest : List Answer) (lists : List (List Rect)) (answer : Answer) (is_left : left ≡ answer ∷ rest) (so_far : AreListedBut placed left lists) where
     its : IsNext so_far.back answer rest
-    its = next so_far.back answer rest (subst (AllZip IsAnswerFor so_far.back) is_left so_far.answered)
+    its = next so_far.back answer rest (subst (AllZip (IsAnswerFor structures) so_far.back) is_left so_far.answered)
 
     parted : placed ≡ so_far.front ++ its.one ∷ its.behind
     parted = so_far.parts ∙ ap (λ back. so_far.front ++ back) its.parts
@@ -69,15 +63,15 @@ module _ (structures : List Structure) where
       parts = parted ∙ sym (append_assoc so_far.front (its.one ∷ []) its.behind);
       listed = subst (AllZip IsListed (so_far.front ++ its.one ∷ [])) (sym more)
           (AllZip-append IsListed so_far.front (its.one ∷ []) lists (list ∷ []) so_far.listed
-          (subst (IsListed its.one) (sym same) (as_listed its.one rects (subst (IsAnswerFor its.one) ok its.is_answer)), tt));
+          (subst (IsListed its.one) (sym same) (as_listed its.one rects (subst (IsAnswerFor structures its.one) ok its.is_answer)), tt));
       answered = its.answered;
     }
 
     -- or its fault is the first
     pub refused_first : (fault : CoverFault) → answer ≡ Err fault → Answers Memory (λ outcome. AllComeTo structures placed (with_items outcome)) (Err fault)
-    refused_first fault err = by_answer fault (subst (IsAnswerFor its.one) err its.is_answer)
+    refused_first fault err = by_answer fault (subst (IsAnswerFor structures its.one) err its.is_answer)
       where
-        by_answer : (fault : CoverFault) → IsAnswerFor its.one (Err fault) → Answers Memory (λ outcome. AllComeTo structures placed (with_items outcome)) (Err fault)
+        by_answer : (fault : CoverFault) → IsAnswerFor structures its.one (Err fault) → Answers Memory (λ outcome. AllComeTo structures placed (with_items outcome)) (Err fault)
         by_answer fault (refuses comes) = refuses (one_refused (record {
           one = its.one;
           is_first = record {
@@ -96,7 +90,7 @@ module _ (structures : List Structure) where
   all_listed placed [] lists none h =
       subst (λ shapes. AllZip IsListed shapes lists) (sym (h.parts ∙ ap (λ back. h.front ++ back) (none_behind h.back h.answered) ∙ append-nil h.front)) h.listed
     where
-      none_behind : (back : List Placed) → AllZip IsAnswerFor back [] → back ≡ []
+      none_behind : (back : List Placed) → AllZip (IsAnswerFor structures) back [] → back ≡ []
       none_behind [] h = refl
       none_behind (one ∷ back) h = absurd h
   all_listed placed (answer ∷ left) lists none h = absurd (omega arith)

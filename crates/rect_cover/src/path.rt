@@ -80,7 +80,6 @@ fn check_boxes(boxes: &[PieceBox], at: u32) -> Result<(), CoverFault>
 }
 
 /// One rectangle for each straight piece of the path through these points, of a shape that begins at this offset.
-#[tactic(auto, using(first_refusal::proofs::AnswerLaws::out_of_memory))]
 pub fn cover_path(
     alloc: Global,
     style: PathStyle,
