@@ -1,6 +1,6 @@
-ghost use Rattle.std.specs.Prelude.{◌≤◌, ◌↔◌, IfOk, IsTrue};
+ghost use Rattle.std.specs.Prelude.{◌≡◌, ◌<◌, ◌≤◌, ◌↔◌, IfOk, IsTrue, false};
 ghost use Rattle.half_boxes.specs.declared.footprints.TheConstants.{GREATEST_SIDE};
-ghost use Rattle.open_grid.specs.inside.ZoneSteps.{HasSeveral, IsSingle, IsStepOf};
+ghost use Rattle.open_grid.specs.inside.ZoneSteps.{HasSeveral, IsSingle, IsStepOf, IsToHalve};
 
 use super::changes::{changes_of, span_along};
 use super::looked::Looked;
@@ -69,17 +69,43 @@ fn all_open_boxes(looked: &[Looked], axis: Axis, reach: HalfBox, side: u32) -> u
     count
 }
 
-/// Whether the zone, which has changes along both axes, is rather halved by columns: where more boxes stay open along this axis,
+/// Whether the zone is halved by columns. Where it has changes along both axes, it is where more boxes stay open along this axis,
 /// or as many and there are more changes along it. Where thousands of rows end in one strip of columns, a cut through the strip
 /// decides them all, and one between two rows leaves as many open.
 fn prefers_columns(looked: &[Looked], zone: Rect, side: u32, columns: usize, rows: usize) -> bool
     requires some { 1 ≤ side }
     requires few { side ≤ GREATEST_SIDE }
+    requires any { columns ≡ 0 → 0 < rows }
+    ensures columns { IsTrue result → 0 < columns }
+    ensures rows { result ≡ false → 0 < rows }
 {
+    if columns == 0 || rows == 0 {
+        return rows == 0;
+    }
     let reach = reach_of(zone, side);
     let across = all_open_boxes(looked, Axis::X, reach, side);
     let up = all_open_boxes(looked, Axis::Y, reach, side);
     up < across || up == across && rows < columns
+}
+
+/// The places at which the zone may be halved along the axis, which are its changes, or nothing where it has several columns, or
+/// rows, and none of these changes.
+fn places_to_halve(
+    alloc: Global,
+    looked: &[Looked],
+    axis: Axis,
+    zone: Rect,
+    side: u32,
+) -> Result<Option<Vec<i32>>, NoMemory>
+    requires some { 1 ≤ side }
+    requires few { side ≤ GREATEST_SIDE }
+    ensures { IfOk result (IsToHalve axis zone side looked.now) }
+{
+    let places = changes_of(alloc, looked, axis, zone, side)?;
+    if places.is_empty() && has_several(zone, axis) {
+        return Ok(None);
+    }
+    Ok(Some(places))
 }
 
 /// What comes next of a zone for which these islands are looked at. It is halved at the middle one of its changes along an
@@ -90,21 +116,13 @@ pub fn next_step(alloc: Global, looked: &[Looked], zone: Rect, side: u32) -> Res
     requires several { IsSingle zone → ⊥ }
     ensures { IfOk result (IsStepOf zone side looked.now) }
 {
-    let columns = changes_of(alloc, looked, Axis::X, zone, side)?;
-    if columns.is_empty() && has_several(zone, Axis::X) {
+    let Some(columns) = places_to_halve(alloc, looked, Axis::X, zone, side)? else {
         return Ok(Step::Repeat(Axis::X));
-    }
-    let rows = changes_of(alloc, looked, Axis::Y, zone, side)?;
-    if rows.is_empty() && has_several(zone, Axis::Y) {
+    };
+    let Some(rows) = places_to_halve(alloc, looked, Axis::Y, zone, side)? else {
         return Ok(Step::Repeat(Axis::Y));
-    }
-    if columns.is_empty() && rows.is_empty() {
-        // Then there are no changes at all, and the zone is one cell.
-        unreachable!();
-    }
-    if rows.is_empty()
-        || !columns.is_empty() && prefers_columns(looked, zone, side, columns.len(), rows.len())
-    {
+    };
+    if prefers_columns(looked, zone, side, columns.len(), rows.len()) {
         return Ok(Step::Halve(Axis::X, columns[columns.len() / 2]));
     }
     Ok(Step::Halve(Axis::Y, rows[rows.len() / 2]))

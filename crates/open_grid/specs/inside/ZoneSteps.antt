@@ -1,5 +1,6 @@
 -- what becomes of a zone when islands are looked at
-use Rattle.std.specs.Prelude.{ℤ, pos, ℕ, List, [], Contains, All, Option, Some, None, ◌≡◌, ◌≢◌, ◌⊎◌, ◌↔◌, ◌+ℤ◌, ◌<ℤ◌, ⊤}
+use Rattle.std.specs.Prelude.{ℤ, pos, ℕ, List, [], Contains, All, Option, Some, None, Vec, length, ◌<◌, ◌≡◌, ◌≢◌, ◌⊎◌, ◌↔◌, ◌+ℤ◌, ◌<ℤ◌, ⊤}
+use Rattle.lists.specs.Words.{Global}
 use Rattle.geo_core.specs.Plane.{Has, IsInUnion, low_along, high_along}
 use Rattle.geo_core.specs.declared.axis.Axis.{Axis}
 use Rattle.geo_core.specs.Intervals.{IsIn, IsWithin}
@@ -122,6 +123,12 @@ abbrev pub IsStepOf : Rect → ℕ → List Looked → Step → Type 0
 IsStepOf zone side looked (Repeat axis) =
     HasSeveral axis zone × ((seen : Looked) → Contains looked seen → IsSteady axis zone side seen.near)
 IsStepOf zone side looked (Halve axis place) = IsInsideAlong axis zone place
+
+-- nothing changes along the axis, along which the zone has several places; or these are the places at which it may be halved
+abbrev pub IsToHalve : Axis → Rect → ℕ → List Looked → Option (Vec ℤ Global) → Type 0
+IsToHalve axis zone side looked None = IsStepOf zone side looked (Repeat axis)
+IsToHalve axis zone side looked (Some places) =
+    All (IsInsideAlong axis zone) places.items × (HasSeveral axis zone → 0 < length places.items)
 
 -- the rectangle has all places of the zone along the axis, in the lines in which the other one has cells
 pub record IsStretched (axis : Axis) (zone line rect : Rect) : Type 0 where
