@@ -82,7 +82,7 @@ later a b c (inl l) other (inr m) = grind (arith, nat_tests)
 later a b c (inr l) other (inl m) = grind (arith, nat_tests)
 later a b c (inr l) other (inr m) = grind (arith, nat_tests)
 
-AreByIslands-drop : (xs : List ContactPiece) (start : ℕ) → AreByIslands xs → AreByIslands (drop start xs)
+pub AreByIslands-drop : (xs : List ContactPiece) (start : ℕ) → AreByIslands xs → AreByIslands (drop start xs)
 AreByIslands-drop xs start up i j d before within =
     let far : start + j < length xs = omega (arith, length-drop start xs) in
     rw (get_or-drop, get_or-drop) (up (start + i) (start + j) d (omega arith) far)

@@ -16,3 +16,4 @@ pub mod ContactGroupLaws
 pub mod ClusterLaws
 pub mod OpenLaws
 pub mod SlimLaws
+pub mod SoFarLaws

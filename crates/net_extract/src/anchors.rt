@@ -19,7 +19,6 @@ use map_model::Terminal;
 use std::alloc::Global;
 
 /// The terminals in order, each as an anchor of an island of its metal.
-#[tactic(auto, using(first_refusal::proofs::AnswerLaws::out_of_memory))]
 pub fn anchors_of(
     alloc: Global,
     terminals: &[Terminal],

@@ -17,18 +17,21 @@ mod pieces;
 mod slimming;
 
 ghost use Rattle.std.specs.Prelude.{◌≡◌, ◌+◌, IfOk, length, map};
+ghost use Rattle.std.specs.List.{AllZip};
 ghost use Rattle.map_model.specs.MapView.{layer_map_of};
 ghost use Rattle.first_refusal.specs.Answers.{Answers};
-ghost use Rattle.net_extract.specs.Extraction.{ComeToNets};
+ghost use Rattle.net_extract.specs.Extraction.{AreNetsOf, ComeToNets};
+ghost use Rattle.net_extract.specs.inside.Anchoring.{IsAnchorOf};
+ghost use Rattle.net_extract.specs.inside.Numbering.{AreIslandsOf};
 
 use anchors::anchors_of;
 use contacts::contact_lists;
 pub use fault::NetFault;
 pub use fault_model::Island;
-use geo_core::{Items, NoMemory};
+use geo_core::{Items, NoMemory, RectList};
 pub use map_model::Layers;
 use map_model::{Cut, Map};
-use metals::metal_islands;
+use metals::{MetalIslands, metal_islands};
 pub use nets::Nets;
 use numbers::{net_numbers, piece_lists};
 pub use pieces::{Anchor, ContactGroup, ContactList, ContactPiece, Piece, PieceList};
@@ -49,10 +52,26 @@ pub fn extract(alloc: Global, layers: &Layers, map: &Map) -> Result<Nets, NetFau
     ensures cuts { IfOk result (λ nets. length nets.contacts ≡ length map.now.cuts) }
 {
     let lists = layers.lists.as_slice();
-    let cuts = map.cuts.as_slice();
     let metals = metal_islands(alloc, lists, map.metals.as_slice().len())?;
+    let anchors = anchors_of(alloc, map.terminals.as_slice(), metals.islands.as_slice())?;
+    Ok(nets_of(alloc, lists, map, &metals, anchors)?)
+}
+
+/// The nets to which the cuts join the islands of the metals, with anchors on these islands.
+fn nets_of(
+    alloc: Global,
+    lists: &[RectList],
+    map: &Map,
+    metals: &MetalIslands,
+    anchors: Items<Anchor>,
+) -> Result<Nets, NoMemory>
+    requires one_each { length lists.now ≡ length map.now.metals + length map.now.cuts }
+    requires islands { AreIslandsOf lists.now (length map.now.metals) metals.now.count metals.now.islands }
+    requires anchors { AllZip (IsAnchorOf metals.now.islands) map.now.terminals anchors }
+    ensures { IfOk result (AreNetsOf (layer_map_of map.now) lists.now) }
+{
     let islands = metals.islands.as_slice();
-    let anchors = anchors_of(alloc, map.terminals.as_slice(), islands)?;
+    let cuts = map.cuts.as_slice();
     let contacts = contact_lists(alloc, cuts, lists, islands)?;
     let nets = net_numbers(alloc, metals.count, contacts.as_slice())?;
     let pieces = piece_lists(alloc, islands, &nets)?;

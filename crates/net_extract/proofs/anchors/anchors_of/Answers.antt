@@ -5,9 +5,17 @@ use Rattle.map_model.specs.MapNames.{terminal_of}
 use Rattle.map_model.specs.declared.layers.Terminal.{Terminal}
 use Rattle.net_extract.specs.inside.Anchoring.{IsAnchorOf, IsOnIsland}
 use Rattle.first_refusal.specs.Answers.{gives, refuses}
+use Rattle.first_refusal.proofs.AnswerLaws.{out_of_memory}
+use Rattle.net_extract.specs.declared.fault.NetFault.TheVariants.{Memory}
 use Rattle.lists.proofs.Pairing.{AllZip-push}
 use Rattle.net_extract.proofs.AnchorLaws.{one_checked, first_off}
 use Rattle.net_extract.proofs.anchors.anchors_of.Goals as goal
+
+pub returns-in_err-found : goal.returns-in_err-found
+returns-in_err-found c = out_of_memory Memory _ c.from_residual.result c.from_residual.ensures.1
+
+pub returns-in_err-push-in-Some : goal.returns-in_err-push-in-Some
+returns-in_err-push-in-Some c = out_of_memory Memory _ c.from_residual-in_err-push-in-Some.result c.from_residual-in_err-push-in-Some.ensures.1
 
 pub loop-index-init : goal.loop-index-init
 loop-index-init c = record {

@@ -6,6 +6,9 @@ use Rattle.net_extract.specs.declared.pieces.ContactGroup.{ContactGroup}
 use Rattle.net_extract.proofs.ContactGroupLaws.{groups_by_sort}
 use Rattle.net_extract.proofs.contact_groups.group_contacts.Goals as goal
 
+pub groups_in-requires : goal.groups_in-requires
+groups_in-requires c = rw c.deref.ensures.value c.in_ok-sorted.ensures.ordered
+
 pub returns : goal.returns
 returns c =
     let contacts = c.args.contacts.now in

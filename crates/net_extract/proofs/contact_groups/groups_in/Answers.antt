@@ -1,7 +1,11 @@
 use Rattle.std.proofs.Common.{◌≡◌, ◌-◌, ◌<◌, ◌∙◌, refl, drop, take, length, arith}
 use Rattle.lists.proofs.Words.{length-drop, slice_get_read, take_rest}
-use Rattle.net_extract.proofs.ContactGroupLaws.{one_group, all_groups}
+use Rattle.net_extract.proofs.ContactGroupLaws.{AreByIslands-drop, one_group, all_groups}
 use Rattle.net_extract.proofs.contact_groups.groups_in.Goals as goal
+
+pub front_of-count-requires-clause-ordered : goal.front_of-count-requires-clause-ordered
+front_of-count-requires-clause-ordered c =
+    rw (take_rest c.args.sorted.now c.loop-start.start) (AreByIslands-drop c.args.sorted.now c.loop-start.start c.requires)
 
 pub loop-start-preserved : goal.loop-start-preserved
 loop-start-preserved c =

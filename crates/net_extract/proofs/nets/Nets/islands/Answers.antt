@@ -9,6 +9,9 @@ use Rattle.net_extract.proofs.nets.Nets.islands.Goals.{then-len-ge2+in_ok-pieces
 pub loop-number-init : goal.loop-number-init
 loop-number-init c = rw c.new-islands.ensures.items tt
 
+pub part_of-requires : goal.part_of-requires
+part_of-requires c = rw c.deref.ensures.value c.in_ok-sorted.ensures.rising
+
 pub invariant_of-push : goal.invariant_of-push
 invariant_of-push c =
     let nets = c.args.self.now in
