@@ -1,10 +1,11 @@
 -- active rectangles that are joined with their neighbours, and parts of rectangles
-use Rattle.std.proofs.Common.{refl, sym, subst, inl, inr, arith, ◌∙◌, ◌≡◌, ◌⊎◌, ℤ, List, Contains, Some, ◌≤ℤ◌, ◌<ℤ◌, ◌↔◌}
+use Rattle.std.proofs.Common.{ap, refl, sym, subst, inl, inr, arith, of_z, to_z, w32, ◌∙◌, ◌≡◌, ◌⊎◌, ℤ, List, Contains, Some, ◌≤ℤ◌, ◌<ℤ◌, ◌↔◌}
 use Rattle.std.specs.BTreeMap.{get}
 use Rattle.std.specs.Ordering.{int_cmp}
 use Rattle.lists.proofs.Words.{ints, by_lt_z}
 use Rattle.geo_core.proofs.IntervalLaws.{IsIn-at}
-use Rattle.geo_core.specs.Plane.{Has, IsIn}
+use Rattle.geo_core.specs.Plane.{Has, IsIn, IsInterval}
+use Rattle.geo_core.specs.declared.bounds.TheConstants.{FARTHEST_GROWN}
 use Rattle.geo_core.specs.declared.plane.Cell.{Cell}
 use Rattle.geo_core.specs.declared.plane.Rect.{Rect}
 use Rattle.depth_sweep.specs.inside.Skylines.{Activates, HasRoom, IsActiveIn, IsActiveOver, IsDoneIn, IsInPart, IsSkyline, Joins, TakesOut}
@@ -87,6 +88,26 @@ has_both one other both c h = (
     | inr i ↦ record { across = (h.columns c.i).1 (inr i.across); up = IsIn-at both.y0 both.y1 c.j i.up (sym h.other_low) (sym h.other_high) refl }
   ],
 )
+
+-- each side of a rectangle is what its bits are read as
+as_read : (low high : ℤ) → IsInterval FARTHEST_GROWN low high → (to_z w32 (of_z w32 low) ≡ low) × (to_z w32 (of_z w32 high) ≡ high)
+as_read low high i = let a = i.some in let b = i.least in let d = i.most in (omega (arith, ints), omega (arith, ints))
+
+-- two rectangles side by side, of which sides are read as bits
+module _ (one other : Rect) (meet : one.x1 ≡ other.x0) where
+  pub across_both : IsInterval FARTHEST_GROWN (to_z w32 (of_z w32 one.x0)) (to_z w32 (of_z w32 other.x1))
+  across_both =
+      let a = one.across.some in let b = other.across.some in
+      rw ((as_read one.x0 one.x1 one.across).0, (as_read other.x0 other.x1 other.across).1)
+      (record { some = omega (arith, ints); least = one.across.least; most = other.across.most })
+
+  pub both_read : (both : Rect) → of_z w32 other.y0 ≡ of_z w32 one.y0 → of_z w32 other.y1 ≡ of_z w32 one.y1 → both.x0 ≡ to_z w32 (of_z w32 one.x0) → both.y0 ≡ to_z w32 (of_z w32 one.y0)
+      → both.x1 ≡ to_z w32 (of_z w32 other.x1) → both.y1 ≡ to_z w32 (of_z w32 one.y1) → IsBoth one other both
+  both_read both low high left bottom right top =
+      let rows = as_read one.y0 one.y1 one.up in let others = as_read other.y0 other.y1 other.up in
+      let one_low = sym rows.0 ∙ sym bottom in let one_high = sym rows.1 ∙ sym top in
+      both_abutting one other both meet (left ∙ (as_read one.x0 one.x1 one.across).0) (right ∙ (as_read other.x0 other.x1 other.across).1) one_low one_high
+      (sym others.0 ∙ (ap (to_z w32) low ∙ sym bottom)) (sym others.1 ∙ (ap (to_z w32) high ∙ sym top))
 
 -- a neighbour that was taken out, and the rectangle, are one
 module _ (old new : Skyline) (neighbour rect both : Rect) (room : HasRoom old rect.x0 rect.x1 rect) (out : TakesOut old new neighbour) (h : IsBoth neighbour rect both)
