@@ -69,3 +69,26 @@ cross-requires-in-loop-row-clause-begun c =
     let further : row <ℤ next = climbs swept (omega (arith, ints, c.loop-row-test.true)) c.as_slice.ensures.value c.next_end-next.ensures.further in
     let same : to_z w32 (of_z w32 next) ≡ next = omega (arith, ints) in
     rw same (All-weaker (Begins row) (Begins next) (λ s k. omega (arith, ints)) c.loop-row.crossing.items swept.at_row.begun)
+
+pub cross-requires-clause-by_low : goal.cross-requires-clause-by_low
+cross-requires-clause-by_low c = c.requires.by_low
+
+pub next_end-next-requires : goal.next_end-next-requires
+next_end-next-requires c = c.loop-row.invariant.at_row.by_low
+
+pub cross-requires-in-loop-row-clause-by_low : goal.cross-requires-in-loop-row-clause-by_low
+cross-requires-in-loop-row-clause-by_low c = c.loop-row.invariant.at_row.by_low
+
+pub invariant_of-rows : goal.invariant_of-rows
+invariant_of-rows c =
+    let row = to_z w32 c.loop-row.row-bits in let next = c.next_end-next.result in
+    let swept = c.loop-row.invariant in
+    let further : row <ℤ next = climbs swept (omega (arith, ints, c.loop-row-test.true)) c.as_slice.ensures.value c.next_end-next.ensures.further in
+    let most = c.next_end-next.ensures.within in let least = swept.least in
+    record { within = record { some = omega (arith, ints); least = omega (arith, ints); most = omega (arith, ints) } }
+
+pub add_band-requires-clause-within : goal.add_band-requires-clause-within
+add_band-requires-clause-within c = c.loop-row.invariant.filled.within
+
+pub finish-requires : goal.finish-requires
+finish-requires c = c.loop-row.invariant.filled.within
