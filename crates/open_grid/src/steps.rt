@@ -69,9 +69,9 @@ fn all_open_boxes(looked: &[Looked], axis: Axis, reach: HalfBox, side: u32) -> u
     count
 }
 
-/// Whether the zone is halved by columns. Where it has changes along both axes, it is where more boxes stay open along this axis,
-/// or as many and there are more changes along it. Where thousands of rows end in one strip of columns, a cut through the strip
-/// decides them all, and one between two rows leaves as many open.
+/// Whether the zone is rather halved by columns: where changes along this axis are all that there are, where more boxes stay
+/// open along it, or where as many do and there are more changes along it. Where thousands of rows end in one strip of columns,
+/// a cut through the strip decides them all, and one between two rows leaves as many open.
 fn prefers_columns(looked: &[Looked], zone: Rect, side: u32, columns: usize, rows: usize) -> bool
     requires some { 1 ≤ side }
     requires few { side ≤ GREATEST_SIDE }
@@ -88,8 +88,8 @@ fn prefers_columns(looked: &[Looked], zone: Rect, side: u32, columns: usize, row
     up < across || up == across && rows < columns
 }
 
-/// The places at which the zone may be halved along the axis, which are its changes, or nothing where it has several columns, or
-/// rows, and none of these changes.
+/// The places at which the zone may be halved along the axis, which are its changes; or nothing where there are no changes, and
+/// the zone has several columns, or rows.
 fn places_to_halve(
     alloc: Global,
     looked: &[Looked],
