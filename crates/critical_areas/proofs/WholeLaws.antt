@@ -9,8 +9,7 @@ use Rattle.map_model.specs.MapNames.{LayerMap}
 use Rattle.questions.specs.Questions.{questions}
 use Rattle.questions.specs.declared.question.Question.{Question}
 use Rattle.tile_board.specs.Closing.{sum_below}
-use Rattle.tile_board.specs.declared.views.Limits.{Limits}
-use Rattle.tile_work.specs.Crediting.{IsMadeFor, IsSumOfAmounts}
+use Rattle.tile_work.specs.Crediting.{IsSumOfAmounts}
 use Rattle.critical_areas.proofs.CountingLaws.{zipped_by}
 use Rattle.critical_areas.specs.AreaParts.{ArePartsOf}
 use Rattle.critical_areas.specs.Rows.{AreAmounts, IsAmount}
@@ -28,15 +27,6 @@ sum_of_one : (f : ℕ → ℕ) → sum_below 1 f ≡ f 0
 sum_of_one f = omega arith
 
 module _ (parts : Parts) (window : Rect) where
-  -- a board of one ticket, a slot for each question and the greatest amount is made for the window
-  pub made_for_whole : (limits : Limits) → limits ≡ record { tickets = 1; slots = length parts.questions; cap = 9223372036854775807; draws = 2 }
-      → IsMadeFor limits 1 (length parts.questions) (λ ticket slot n. IsAmountOfWhole parts window slot n)
-  made_for_whole limits is = record {
-    tickets_are = ap (λ (l : Limits). l.tickets) is;
-    slots_are = ap (λ (l : Limits). l.slots) is;
-    fits = λ ticket slot n less few amount. let small = amount.small in let cap = ap (λ (l : Limits). l.cap) is in omega arith;
-  }
-
   abbrev AreTallies : List ℕ → Type 0
   AreTallies ns = (layer_map : LayerMap) (lists : List (List Rect)) → ArePartsOf layer_map lists parts → AreAmounts layer_map (IsCoveredIn lists) (cells_of window) ns
 
