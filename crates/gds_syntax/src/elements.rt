@@ -19,7 +19,6 @@ use library_model::element::Element;
 use std::alloc::Global;
 
 /// Reads the own records of an element, and gives the record behind them, which ends them.
-#[tactic(auto, using(first_refusal::proofs::AnswerLaws::out_of_memory, crate::proofs::ReaderLaws::one_less_left))]
 fn read_own<'a>(
     records: &mut Records<'a>,
     kind: ElementKind,
@@ -113,7 +112,6 @@ fn keep(elements: &mut Vec<Element>, kept: Option<Element>) -> Result<(), NoMemo
 }
 
 /// Reads the elements of a structure behind its name, and its end.
-#[tactic(auto, using(first_refusal::proofs::AnswerLaws::out_of_memory))]
 pub fn read_elements<'a>(
     alloc: Global,
     records: &mut Records<'a>,

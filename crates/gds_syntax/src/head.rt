@@ -60,7 +60,6 @@ fn behind_head_records<'a>(records: &mut Records<'a>, kind: u8) -> Result<Record
 }
 
 /// The head of a library, up to its structures.
-#[tactic(auto, using(first_refusal::proofs::AnswerLaws::out_of_memory))]
 pub fn read_head(alloc: Global, records: &mut Records<'_>) -> Result<Head, SyntaxFault>
     requires { IsReady records.old }
     ensures { Answers SyntaxFault.Memory (ReadsOrStops (λ head. ReadsHead records.old records.new head.name head.units)

@@ -21,7 +21,6 @@ use library_model::element::{Element, Reference, Shape, ShapeKind};
 use std::alloc::Global;
 
 /// The shape of this kind that begins at `at`, if it is closed. Its datatype is in the record of kind `datatype`.
-#[tactic(auto, using(first_refusal::proofs::AnswerLaws::out_of_memory))]
 fn outline_of(
     alloc: Global,
     at: u32,
@@ -41,7 +40,6 @@ fn outline_of(
 }
 
 /// The reference that begins at `at` and is not repeated, if its checks hold.
-#[tactic(auto, using(first_refusal::proofs::AnswerLaws::out_of_memory))]
 fn single_of(alloc: Global, at: u32, own: &OwnRecords<'_>) -> Result<Reference, SyntaxFault>
     requires { 0 < length (points_of own.now) }
     ensures { Judges at own.now (checks_of_sort reference)
@@ -52,7 +50,6 @@ fn single_of(alloc: Global, at: u32, own: &OwnRecords<'_>) -> Result<Reference, 
 }
 
 /// The reference that begins at `at` and is repeated, if its checks hold.
-#[tactic(auto, using(first_refusal::proofs::AnswerLaws::out_of_memory))]
 fn array_of(alloc: Global, at: u32, own: &OwnRecords<'_>) -> Result<Reference, SyntaxFault>
     requires { length (points_of own.now) ≡ 3 }
     ensures { Judges at own.now (checks_of_sort array)
@@ -64,7 +61,6 @@ fn array_of(alloc: Global, at: u32, own: &OwnRecords<'_>) -> Result<Reference, S
 }
 
 /// What is kept of an element that has enough points, once the checks of its sort hold.
-#[tactic(auto, using(first_refusal::proofs::AnswerLaws::out_of_memory, library_grammar::proofs::SizeLaws::sizes))]
 fn kept_by_sort(
     alloc: Global,
     at: u32,

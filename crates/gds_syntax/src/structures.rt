@@ -18,7 +18,6 @@ use library_model::name_index::NameIndex;
 use std::alloc::Global;
 
 /// Reads a structure behind the record that opens it, and puts its name behind those of the structures before it.
-#[tactic(auto, using(first_refusal::proofs::AnswerLaws::out_of_memory))]
 fn read_structure<'a>(
     alloc: Global,
     records: &mut Records<'a>,
@@ -48,7 +47,6 @@ fn read_structure<'a>(
 }
 
 /// Reads the structures of a library behind its head, and its end. The index of names has none yet.
-#[tactic(auto, using(first_refusal::proofs::AnswerLaws::out_of_memory))]
 fn collect_structures<'a>(
     alloc: Global,
     records: &mut Records<'a>,

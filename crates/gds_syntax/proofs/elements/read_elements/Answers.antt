@@ -3,7 +3,7 @@ use Rattle.gds_syntax.specs.inside.ElementKinds.{form_for}
 use Rattle.library_grammar.specs.GrammarNames.{between_elements}
 use Rattle.gds_syntax.specs.LibraryReaders.{standing}
 use Rattle.gds_syntax.proofs.ElementsReading.{elements_go_on, elements_stop, elements_end, element_further, element_fault_stops, opens}
-use Rattle.first_refusal.proofs.AnswerLaws.{handed_on}
+use Rattle.first_refusal.proofs.AnswerLaws.{handed_on, out_of_memory}
 use Rattle.first_refusal.specs.Answers.{gives, refuses}
 use Rattle.library_grammar.specs.declared.fault.SyntaxFault.TheVariants.{Memory}
 use Rattle.gds_syntax.proofs.ReaderLaws.{has_less_left, passed_on, read, stops_later}
@@ -48,3 +48,9 @@ returns-in_err-found c = handed_on Memory _ c.from_residual.result _ c.from_resi
 
 pub next_record-requires : goal.next_record-requires
 next_record-requires c = (read c.in_ok-kept.ensures).ready
+
+pub returns-in_err-keep : goal.returns-in_err-keep
+returns-in_err-keep c = out_of_memory _ _ c.from_residual-in_err-keep.result c.from_residual-in_err-keep.ensures.1
+
+pub loop-found-init : goal.loop-found-init
+loop-found-init c = rw c.new-elements.ensures.items c.in_ok-found.ensures.found

@@ -4,10 +4,10 @@ use Rattle.gds_syntax.specs.inside.ElementKinds.{form_for}
 use Rattle.library_grammar.specs.GrammarNames.{among_own}
 use Rattle.gds_syntax.specs.LibraryReaders.{standing}
 use Rattle.gds_syntax.proofs.OwnReading.{own_begins, own_is_ready, own_further, own_goes_on, own_stops}
-use Rattle.first_refusal.proofs.AnswerLaws.{handed_on}
+use Rattle.first_refusal.proofs.AnswerLaws.{handed_on, out_of_memory}
 use Rattle.first_refusal.specs.Answers.{gives, refuses}
 use Rattle.library_grammar.specs.declared.fault.SyntaxFault.TheVariants.{Memory}
-use Rattle.gds_syntax.proofs.ReaderLaws.{stops_later}
+use Rattle.gds_syntax.proofs.ReaderLaws.{stops_later, one_less_left}
 use Rattle.gds_syntax.proofs.elements.read_own.Goals as goal
 use Rattle.gds_syntax.proofs.elements.read_own.Goals.{then-loop-own-test+else-not-has, else-loop-own-test}
 
@@ -43,3 +43,12 @@ returns-then-found-ne-ENDEL c = rw c.unexpected.ensures (refuses (own_stops
 
 pub returns : goal.returns
 returns c = gives (record { so_far = c.loop-own.invariant; ends = elim c.else-found-ne-PROPATTR.either [ inl w ↦ inr w.1 | inr is ↦ inl is ] })
+
+pub returns-in_err-push : goal.returns-in_err-push
+returns-in_err-push c = out_of_memory _ _ c.from_residual-in_err-push.result c.from_residual-in_err-push.ensures.1
+
+pub push-requires : goal.push-requires
+push-requires c = c.loop-own.invariant.takes.in_profile
+
+pub loop-own-smaller : goal.loop-own-smaller
+loop-own-smaller c = one_less_left c.in_ok-found-2.ensures.found

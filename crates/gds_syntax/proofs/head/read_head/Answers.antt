@@ -4,7 +4,7 @@ use Rattle.library_grammar.specs.GrammarNames.{entry_of, AreBytes, before_header
 use Rattle.gds_syntax.specs.LibraryReaders.{standing, ReadsHead}
 use Rattle.gds_syntax.proofs.HeadLaws.{text_fits, begins, names, reads_head}
 use Rattle.library_grammar.proofs.PlainKinds.{plain}
-use Rattle.first_refusal.proofs.AnswerLaws.{handed_on}
+use Rattle.first_refusal.proofs.AnswerLaws.{handed_on, out_of_memory}
 use Rattle.first_refusal.specs.Answers.{gives, refuses}
 use Rattle.library_grammar.specs.declared.fault.SyntaxFault.TheVariants.{Memory}
 use Rattle.gds_syntax.proofs.ReaderLaws.{stops_later, advances_kind, only_one}
@@ -54,3 +54,6 @@ invariant_of-result c =
       units_count = ap length c.copy_from_slice.ensures.after ∙ sizes.units (entry_of c.in_ok-found.found) units.in_profile units.of_kind;
       units_fit = subst AreBytes (sym c.copy_from_slice.ensures.after) units.in_profile.spelled.body;
     }
+
+pub returns-in_err-name-2 : goal.returns-in_err-name-2
+returns-in_err-name-2 c = out_of_memory _ _ c.from_residual-in_err-name-2.result c.from_residual-in_err-name-2.ensures.1

@@ -2,6 +2,8 @@ use Rattle.std.proofs.Common.{refl, inl, inr}
 use Rattle.gds_records.specs.declared.kinds.TheConstants as kind
 use Rattle.library_grammar.specs.GrammarNames.{IsShape, path_kind, boundary, path, text, node, box}
 use Rattle.gds_syntax.proofs.JudgedLaws.{without_checks, keeps, keeps_none, has_fault}
+use Rattle.first_refusal.proofs.AnswerLaws.{out_of_memory}
+use Rattle.library_grammar.proofs.SizeLaws.{sizes}
 use Rattle.gds_syntax.proofs.kept.kept_by_sort.Goals as goal
 
 pub returns-in_err-boundary-in-Boundary : goal.returns-in_err-boundary-in-Boundary
@@ -46,3 +48,18 @@ returns-in-Text c =
       | inl e ↦ keeps_none c.args.at c.args.own.now e refl text
       | inr e ↦ keeps_none c.args.at c.args.own.now e refl node
     ]
+
+pub returns-in_err-path-in-Path : goal.returns-in_err-path-in-Path
+returns-in_err-path-in-Path c = out_of_memory _ _ c.from_residual-in_err-path-in-Path.result c.from_residual-in_err-path-in-Path.ensures.1
+
+pub outline_of-requires-clause-two_bytes : goal.outline_of-requires-clause-two_bytes
+outline_of-requires-clause-two_bytes c = sizes.datatype
+
+pub outline_of-requires-in-BoxElement-clause-two_bytes : goal.outline_of-requires-in-BoxElement-clause-two_bytes
+outline_of-requires-in-BoxElement-clause-two_bytes c = sizes.boxtype
+
+pub shape_of-requires-in-Path-clause-two_bytes : goal.shape_of-requires-in-Path-clause-two_bytes
+shape_of-requires-in-Path-clause-two_bytes c = sizes.datatype
+
+pub shape_of-requires-in-Path-clause-range : goal.shape_of-requires-in-Path-clause-range
+shape_of-requires-in-Path-clause-range c = c.path_kind_of.ensures.range

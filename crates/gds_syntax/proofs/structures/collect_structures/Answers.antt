@@ -1,7 +1,7 @@
 use Rattle.std.proofs.Common.{ℕ, [], ◌∷◌, ap, sym, ◌∙◌, arith}
 use Rattle.library_grammar.specs.GrammarNames.{between_structures, behind, entry_of}
 use Rattle.gds_syntax.specs.LibraryReaders.{standing}
-use Rattle.first_refusal.proofs.AnswerLaws.{handed_on}
+use Rattle.first_refusal.proofs.AnswerLaws.{handed_on, out_of_memory}
 use Rattle.first_refusal.specs.Answers.{gives, refuses}
 use Rattle.library_grammar.specs.declared.fault.SyntaxFault.TheVariants.{Memory}
 use Rattle.gds_syntax.proofs.ReaderLaws.{passed_on, read, stops_later, has_less_left}
@@ -54,3 +54,6 @@ returns-then-found-ne-ENDLIB c =
 pub returns : goal.returns
 returns c =
     gives (structures_end c.if-found-ne-ENDLIB.false c.requires.ready c.loop-found.invariant)
+
+pub returns-in_err-push : goal.returns-in_err-push
+returns-in_err-push c = out_of_memory _ _ c.from_residual-in_err-push.result c.from_residual-in_err-push.ensures.1

@@ -1,9 +1,10 @@
-use Rattle.std.proofs.Common.{[], ◌∷◌, ◌++◌, refl, ◌∙◌, arith}
+use Rattle.std.proofs.Common.{[], ◌∷◌, ◌++◌, refl, sym, subst, ◌∙◌, arith}
 use Rattle.gds_records.specs.declared.kinds.TheConstants as kind
-use Rattle.library_grammar.specs.GrammarNames.{before_strname, behind_strname}
+use Rattle.library_grammar.specs.GrammarNames.{AreBytes, before_strname, behind_strname}
 use Rattle.gds_syntax.specs.LibraryReaders.{standing}
+use Rattle.gds_syntax.proofs.HeadLaws.{text_fits}
 use Rattle.gds_syntax.proofs.StructureReading.{name_further, name_stops, structure_read}
-use Rattle.first_refusal.proofs.AnswerLaws.{handed_on}
+use Rattle.first_refusal.proofs.AnswerLaws.{handed_on, out_of_memory}
 use Rattle.first_refusal.specs.Answers.{gives, refuses}
 use Rattle.library_grammar.specs.declared.fault.SyntaxFault.TheVariants.{Memory}
 use Rattle.gds_syntax.proofs.ReaderLaws.{passed_on, read, stops_later, only_one}
@@ -37,3 +38,14 @@ returns c =
     c.requires.opens c.requires.place c.in_ok-found.ensures.found c.in_ok-found.ensures.of_kind c.text-name.ensures (c.in_ok-add.ensures.fresh.0 c.if-not-branch.false)
     (read c.in_ok-elements.ensures)
     refl (c.from_vec.ensures ∙ c.in_ok-name.ensures.items) c.from_vec-2.ensures))
+
+pub returns-in_err-add : goal.returns-in_err-add
+returns-in_err-add c = out_of_memory _ _ c.from_residual-in_err-add.result c.from_residual-in_err-add.ensures.1
+
+pub returns-in_err-name : goal.returns-in_err-name
+returns-in_err-name c = out_of_memory _ _ c.from_residual-in_err-name.result c.from_residual-in_err-name.ensures.1
+
+pub invariant_of-result : goal.invariant_of-result
+invariant_of-result c =
+    let fits = text_fits c.in_ok-found.found.body.now c.text-name.result.now c.in_ok-found.ensures.found.in_profile.spelled.body c.text-name.ensures in
+    record { name_fits = subst AreBytes (sym (c.from_vec.ensures ∙ c.in_ok-name.ensures.items)) fits }
