@@ -98,6 +98,15 @@ pub record AreParts (part outer : HalfBox) (low high near far : Option HalfBox) 
   pub left : (h : Half) → HasHalfIn near h ↔ (HasHalf part h × IsIn outer.rows.low outer.rows.high h.v × (h.u <ℤ outer.columns.low))
   pub right : (h : Half) → HasHalfIn far h ↔ (HasHalf part h × IsIn outer.rows.low outer.rows.high h.v × (outer.columns.high ≤ℤ h.u))
 
+-- what the part and `outer` have in common may stay loose
+pub common_kept : (inner : Option HalfBox) (outer part common : HalfBox) → ((h : Half) → HasHalf common h ↔ (HasHalf part h × HasHalf outer h)) → IsKeptPart inner outer part (Some common)
+common_kept inner outer part common is =
+    record { of_part = λ h c. ((is h).0 c).0; in_outer = λ h c. ((is h).0 c).1; all = λ h p o. inl ((is h).1 (p, o)) }
+
+-- or nothing of it, where all that they have in common is in `inner`
+pub none_kept : (inner : Option HalfBox) (outer part : HalfBox) → ((h : Half) → HasHalf part h → HasHalf outer h → HasHalfIn inner h) → IsKeptPart inner outer part None
+none_kept inner outer part all = record { of_part = λ h c. absurd c; in_outer = λ h c. absurd c; all = λ h p o. inr (all h p o) }
+
 module _ (inner : Option HalfBox) (outer part : HalfBox) (below above left right kept : Option HalfBox) (parts : AreParts part outer below above left right)
     (keeps : IsKeptPart inner outer part kept) where
   -- a half square of the box lies in one of the parts, or in what may stay loose, or in `inner`

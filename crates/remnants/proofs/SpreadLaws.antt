@@ -2,7 +2,11 @@
 use Rattle.std.proofs.Common.{ℕ, List, [], ◌∷◌, ◌++◌, ◌+◌, ◌<◌, ◌≤◌, ◌≡◌, ◌≢◌, refl, subst, sym, ap, ◌∙◌, arith, inl, inr, ◌⊎◌, ◌↔◌, length, take, get_or, All, Contains, Option, Some, None, slice_get, suc}
 use Rattle.std.specs.List.Sorted.{IsNonDecreasingBy}
 use Rattle.lists.proofs.Containing.{all_of_each, Contains-none, Contains-take_cases}
-use Rattle.lists.proofs.Words.{All-contains, Contains-push, Contains-push_cases, Contains-append_left, Contains-get_or, get_or-take, get_or_default, length-take-le, same_Some}
+use Rattle.lists.proofs.Words.{All-contains, Contains-push, Contains-push_cases, Contains-append_left, Contains-get_or, get_or-take, get_or_default, length-take-le, same_Some, slice_get-get_or, slice_get_within, get_or_from_slice_get}
+use Rattle.lists.proofs.Comparing.{equal_or_not}
+use Rattle.std.proofs.Math.ListN.{set, length-set}
+use Rattle.std.proofs.lemmas.List.{get_or-set_other}
+use Rattle.std.proofs.lemmas.Grind.{get_or-set_at}
 use Rattle.remnants.specs.declared.parts.Loose.{Loose}
 use Rattle.remnants.specs.declared.parts.Mark.{Mark}
 use Rattle.remnants.specs.inside.Marking.{IsMarked}
@@ -180,6 +184,38 @@ module _ (terminals : List ℕ) (loose : List Loose) (marks gathered : List Mark
         other_alone = alone o.leader o.head (heads_are.marked o.leader o.head o.at_leader);
         stays = λ g. head_stays o.leader o.head o.at_leader (gone_are o.head g);
       }
+
+-- ---- heads of leaders
+
+pub no_heads : (leaders : ℕ) (marks : List Mark) (heads : List (Option ℕ)) → length heads ≡ leaders → ((k : ℕ) (d : Option ℕ) → k < leaders → get_or heads k d ≡ None)
+    → AreHeads leaders marks heads
+no_heads leaders marks heads count none = record {
+  one_each = count;
+  marked = λ leader terminal at. let small = slice_get_within heads leader (Some terminal) at in cc (sym (get_or_from_slice_get heads leader (Some terminal) None at) ∙ none leader None (omega arith));
+}
+
+pub head_more : (leaders : ℕ) (marks : List Mark) (heads : List (Option ℕ)) (k : ℕ) (d : Mark) → k < length marks → AreHeads leaders marks heads
+    → AreHeads leaders marks (set heads (get_or marks k d).leader (Some (get_or marks k d).terminal))
+head_more leaders marks heads k d small so_far =
+    let mark = get_or marks k d in
+    let new = set heads mark.leader (Some mark.terminal) in
+    let long : length new ≡ length heads = length-set heads mark.leader (Some mark.terminal) in
+    record {
+      one_each = long ∙ so_far.one_each;
+      marked = λ leader terminal at.
+          let within : leader < length new = slice_get_within new leader (Some terminal) at in
+          let read : get_or new leader None ≡ Some terminal = get_or_from_slice_get new leader (Some terminal) None at in
+          elim (equal_or_not leader mark.leader) [
+            | inl e ↦ record {
+              mark = mark;
+              among = Contains-get_or marks k d small;
+              of_terminal = same_Some mark.terminal terminal (sym (get_or-set_at heads mark.leader leader (Some mark.terminal) None e (omega arith)) ∙ read);
+              at_leader = sym e;
+            }
+            | inr other ↦ so_far.marked leader terminal
+                (slice_get-get_or heads leader None (omega arith) ∙ ap Some (sym (get_or-set_other heads mark.leader leader (Some mark.terminal) None other) ∙ read))
+          ];
+    }
 
 -- ---- what stays without the terminals that go
 

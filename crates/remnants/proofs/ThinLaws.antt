@@ -5,7 +5,7 @@ use Rattle.lists.proofs.Containing.{Contains-cons_cases, Contains-head, Contains
 use Rattle.paths.specs.Paths.{stay, step}
 use Rattle.geo_core.specs.declared.plane.Half.{Half}
 use Rattle.half_boxes.specs.declared.boxes.HalfBox.{HalfBox}
-use Rattle.remnants.specs.Remnants.{RemnantLists, HasFixed, HasLoose, Stays, IsStep, Way, IsAt, IsSplit, IsLeader, IsJoined}
+use Rattle.remnants.specs.Remnants.{RemnantLists, HasFixed, Stays, IsStep, Way, IsAt, IsSplit, IsLeader, IsJoined}
 use Rattle.remnants.specs.declared.parts.Mark.{Mark}
 use Rattle.remnants.specs.inside.Thinning.{IsAlone, IsStoodFor}
 use Rattle.remnants.proofs.FollowLaws.{at_stays}

@@ -1,6 +1,5 @@
 use Rattle.std.proofs.Common.{◌∙◌, sym}
 use Rattle.lists.proofs.Words.{false≢true}
-use Rattle.remnants.specs.declared.parts.Mark.{Mark}
 use Rattle.remnants.proofs.SpreadLaws.{gathered_more}
 use Rattle.remnants.proofs.thinning.gathered_marks.Goals as goal
 use Rattle.remnants.proofs.thinning.gathered_marks.Goals.{then-has+then-not-has+in_ok-push, else-has}

@@ -1,7 +1,6 @@
-use Rattle.std.proofs.Common.{◌≡◌, get_or, subst, sym, take_all, Option}
+use Rattle.std.proofs.Common.{◌≡◌, get_or, subst, take_all, Option}
 use Rattle.lists.proofs.Words.{get_or_default}
 use Rattle.remnants.specs.declared.parts.Mark.{Mark}
-use Rattle.remnants.specs.inside.Thinning.{AreOneLeaders}
 use Rattle.remnants.proofs.SpreadLaws.{AreOneLeadersTo, first_mark, mark_divided, mark_alike}
 use Rattle.remnants.proofs.thinning.with_divided.Goals as goal
 use Rattle.remnants.proofs.thinning.with_divided.Goals.{in-Some+then-before-mark+then-before-mark-2+in_ok-push, in-Some+else-before-mark, else-before-mark-via-then-before-mark+else-before-mark-2, else-before-mark-via-else-before-mark, in_default}
