@@ -1,5 +1,5 @@
 -- weights of parts
-use Rattle.std.proofs.Common.{ℕ, ◌+◌, ◌≤◌, ◌<◌, ◌≡◌, max, List, [], ◌∷◌, length, get_or, drop, sym, subst, ◌∙◌, arith, Contains}
+use Rattle.std.proofs.Common.{ℕ, ◌+◌, ◌≤◌, ◌<◌, ◌≡◌, List, [], ◌∷◌, length, get_or, drop, sym, subst, ◌∙◌, arith, Contains}
 use Rattle.lists.proofs.Words.{Bor, drop_all, drop_more}
 use Rattle.library_model.specs.declared.element.Reference.{Reference}
 use Rattle.flatten.specs.declared.part.Part.{Part}

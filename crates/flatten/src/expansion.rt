@@ -17,7 +17,6 @@ use super::way::Way;
 use library_model::{Reference, Shape};
 
 /// Places the shape that is this element of this structure. The way leads to the structure.
-#[tactic(auto, using(first_refusal::proofs::AnswerLaws::out_of_memory))]
 fn place_shape(
     placed: &mut Vec<Placed>,
     way: Way,

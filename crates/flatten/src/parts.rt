@@ -42,7 +42,6 @@ fn part_of<'a>(
 }
 
 /// Puts the part that the element at this place is, if it is one, behind the others.
-#[tactic(auto, using(first_refusal::proofs::AnswerLaws::out_of_memory))]
 fn push_part<'a>(
     parts: &mut Vec<Part<'a>>,
     place: usize,
@@ -64,7 +63,6 @@ fn push_part<'a>(
 }
 
 /// The parts of a structure.
-#[tactic(auto, using(first_refusal::proofs::AnswerLaws::out_of_memory))]
 pub fn parts_of<'a>(
     alloc: Global,
     structure: &'a Structure,
@@ -83,7 +81,6 @@ pub fn parts_of<'a>(
 }
 
 /// The parts of every structure.
-#[tactic(auto, using(first_refusal::proofs::AnswerLaws::out_of_memory))]
 pub fn nodes_of<'a>(
     alloc: Global,
     structures: &'a [Structure],

@@ -34,7 +34,6 @@ fn shape_count(plan: &Plan<'_>) -> usize
 }
 
 /// All that the top places. What places nothing leaves the plan.
-#[tactic(auto, using(first_refusal::proofs::AnswerLaws::out_of_memory))]
 fn expanded(alloc: Global, plan: &mut Plan<'_>) -> Result<Vec<Placed>, PlaceFault>
     requires { HasLibrary plan.old }
     ensures { Answers PlaceFault.Memory (PlacesEach (λ layer_map. HaveLayers layer_map plan.old.nodes.items)

@@ -18,7 +18,6 @@ use map_model::Map;
 use std::alloc::Global;
 
 /// The number of the top: the structure of the wanted name, or the only one to which no reference leads.
-#[tactic(auto, using(first_refusal::proofs::AnswerLaws::out_of_memory))]
 fn top_of(
     alloc: Global,
     structures: &[Structure],
@@ -74,7 +73,6 @@ fn plan_with<'a>(
 
 /// The plan of a library. The fault is that of the first check of the library that fails. A library of 2^32 structures,
 /// which no stream can have, is answered as one for which no memory is left.
-#[tactic(auto, using(first_refusal::proofs::AnswerLaws::out_of_memory))]
 pub fn plan_of<'a>(
     alloc: Global,
     library: &'a Library,

@@ -41,7 +41,6 @@ fn survey_from(
 }
 
 /// Surveys all structures: each is done in the end. The fault is that of the first structure that leads to a cycle.
-#[tactic(auto, using(first_refusal::proofs::AnswerLaws::out_of_memory))]
 pub fn survey(
     alloc: Global,
     structures: &[Structure],

@@ -1,7 +1,7 @@
 use Rattle.std.proofs.Common.{take_all}
 use Rattle.first_refusal.specs.Answers.{gives}
 use Rattle.first_refusal.specs.Checks.{all_hold}
-use Rattle.first_refusal.proofs.AnswerLaws.{handed_on}
+use Rattle.first_refusal.proofs.AnswerLaws.{handed_on, out_of_memory}
 use Rattle.first_refusal.proofs.JudgeLaws.{given, passed}
 use Rattle.lists.proofs.Words.{All-nil}
 use Rattle.flatten.specs.Structures.{references_among}
@@ -34,3 +34,6 @@ pub returns : goal.returns
 returns c =
     let all = take_all c.loop-structure.structure-index c.args.structures.now c.loop-structure-test.false in
     gives (all_hold (rw all at c.loop-structure.invariant.known) (rw all at c.loop-structure.invariant.nodes))
+
+pub returns-in_err-push : goal.returns-in_err-push
+returns-in_err-push c = out_of_memory _ _ c.from_residual-in_err-push.result c.from_residual-in_err-push.ensures.1

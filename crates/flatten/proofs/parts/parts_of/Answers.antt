@@ -2,7 +2,7 @@ use Rattle.std.proofs.Common.{take_all}
 use Rattle.lists.proofs.Words.{enumerate_from, All-nil, length-enumerate_from}
 use Rattle.first_refusal.specs.Answers.{gives}
 use Rattle.first_refusal.specs.Checks.{all_hold}
-use Rattle.first_refusal.proofs.AnswerLaws.{handed_on}
+use Rattle.first_refusal.proofs.AnswerLaws.{handed_on, out_of_memory}
 use Rattle.first_refusal.proofs.JudgeLaws.{given, passed}
 use Rattle.map_model.specs.MapNames.{layer_map_of}
 use Rattle.flatten.specs.Structures.{references_in}
@@ -44,3 +44,6 @@ returns c =
     let past = rw c.as_slice-elements.ensures at c.loop-place-test.false in
     let numbered = take_all c.loop-place.place (enumerate_from 0 elements) (rw (length-enumerate_from 0 elements) past) in
     gives (all_hold (rw (take_all c.loop-place.place elements past) at c.loop-place.invariant.known) (rw numbered at c.loop-place.invariant.parts))
+
+pub returns-in_err-parts : goal.returns-in_err-parts
+returns-in_err-parts c = out_of_memory _ _ c.from_residual.result c.from_residual.ensures.1

@@ -1,7 +1,7 @@
 use Rattle.std.proofs.Common.{ℕ, [], ◌++◌, ◌≡◌, ◌∙◌, drop, length, sym, subst, take}
 use Rattle.first_refusal.specs.Answers.{gives}
 use Rattle.first_refusal.specs.Checks.{all_hold}
-use Rattle.first_refusal.proofs.AnswerLaws.{handed_on}
+use Rattle.first_refusal.proofs.AnswerLaws.{handed_on, out_of_memory}
 use Rattle.first_refusal.proofs.JudgeLaws.{given, passed, unread}
 use Rattle.lists.proofs.Reading.{put_back}
 use Rattle.flatten.specs.inside.FollowedParts.{Nodes}
@@ -39,3 +39,6 @@ returns c =
     let is = pruned c.as_mut_slice.ensures.value c.prune.ensures c.as_slice-2.ensures.value (c.prune.auto.nodes ∙ c.as_mut_slice.ensures.len) in
     let told = rw (c.at_top.ensures.left, routes_behind_none c.args.plan.now c.requires is 256, c.in_ok-placed.ensures.items) at (c.in_ok-expand.ensures [] c.at_top.ensures.moves) in
     gives (all_hold (passed told) (λ layer_map have. given told layer_map (pruned_layers c.args.plan.now.nodes.items c.as_slice-2.result.now is layer_map have)))
+
+pub returns-in_err-placed : goal.returns-in_err-placed
+returns-in_err-placed c = out_of_memory _ _ c.from_residual.result c.from_residual.ensures.1

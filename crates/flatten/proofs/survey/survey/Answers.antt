@@ -6,6 +6,7 @@ use Rattle.flatten.specs.declared.fault.PlaceFault.TheVariants.{Cycle}
 use Rattle.flatten.specs.declared.summary.State.TheVariants.{New}
 use Rattle.flatten.proofs.SearchLaws.{nothing_surveyed}
 use Rattle.flatten.proofs.LimitLaws.{at_offset}
+use Rattle.first_refusal.proofs.AnswerLaws.{out_of_memory}
 use Rattle.flatten.proofs.survey.survey.Goals as goal
 use Rattle.lists.proofs.Reading.{put_back}
 
@@ -43,3 +44,9 @@ loop-root-init c = rw (c.in_ok-states.ensures.items_if_clones_equal (λ y e. e))
 
 pub returns-clause-answers : goal.returns-clause-answers
 returns-clause-answers c = gives (record { settled = c.loop-root.invariant.settled; done = λ one h. c.loop-root.invariant.done one (omega arith) })
+
+pub returns-in_err-states-clause-answers : goal.returns-in_err-states-clause-answers
+returns-in_err-states-clause-answers c = out_of_memory _ _ c.from_residual.result c.from_residual.ensures.1
+
+pub returns-in_err-survey_from-clause-answers : goal.returns-in_err-survey_from-clause-answers
+returns-in_err-survey_from-clause-answers c = out_of_memory _ _ c.from_residual-in_err-survey_from.result c.from_residual-in_err-survey_from.ensures.1
