@@ -1,11 +1,12 @@
 -- the zones of pieces have the cells at which defects touch the pieces
-use Rattle.std.proofs.Common.{ℕ, ◌+◌, ◌<◌, ◌≤◌, ◌≡◌, sym, subst, List, [], ◌∷◌, ◌++◌, length, take, take_all, get_or, inl, inr, ◌⊎◌, ◌↔◌, arith, pos, Option}
-use Rattle.lists.proofs.Words.{ints, Contains-append_left, Contains-push, Contains-push_cases}
-use Rattle.geo_core.specs.Plane.{Has}
+use Rattle.std.proofs.Common.{ℕ, ◌+◌, ◌<◌, ◌≤◌, ◌≡◌, sym, subst, List, [], ◌∷◌, ◌++◌, length, take, take_all, get_or, inl, inr, ◌⊎◌, ◌↔◌, arith, pos, Option, ℤ, ◌+ℤ◌, ◌-ℤ◌, to_z, of_z, w32}
+use Rattle.lists.proofs.Words.{clamps, int_max, int_min, ints, Contains-append_left, Contains-push, Contains-push_cases}
+use Rattle.geo_core.specs.Plane.{Has, IsRadius}
 use Rattle.geo_core.specs.declared.plane.Cell.{Cell}
 use Rattle.geo_core.specs.declared.plane.Labelled.{Labelled}
 use Rattle.geo_core.specs.declared.plane.Rect.{Rect}
 use Rattle.geo_core.specs.declared.plane.Half.{Half}
+use Rattle.geo_core.specs.declared.interval.Interval.{Interval}
 use Rattle.geo_core.proofs.RectLaws.{comes_near}
 use Rattle.fault_model.specs.FaultNames.{IsOn, IsInFootprint}
 use Rattle.fault_model.proofs.SizeLaws.{footprint_near}
@@ -72,3 +73,13 @@ zones_more radius positive window pieces i piece found old new small is inside g
 pub zones_all : (radius : ℕ) (window : Rect) (pieces : List Labelled) (i : ℕ) (zones : List Labelled) → length pieces ≤ i → AreZonesOf (take i pieces) radius window zones
     → AreZonesOf pieces radius window zones
 zones_all radius window pieces i zones past h = subst (λ (ys : List Labelled). AreZonesOf ys radius window zones) (take_all i pieces past) h
+
+-- the ends of the places at most the radius from some: in 32 bits no sum wraps
+module _ (places within : Interval) (radius : ℕ) (is_radius : IsRadius radius) where
+  pub near_low : (low : ℤ) → low ≡ int_max (to_z w32 (of_z w32 (to_z w32 (of_z w32 places.low) -ℤ to_z w32 radius))) (to_z w32 (of_z w32 within.low))
+      → to_z w32 (of_z w32 low) ≡ int_max (places.low -ℤ pos radius) within.low
+  near_low low is = omega (arith, ints, clamps)
+
+  pub near_high : (high : ℤ) → high ≡ int_min (to_z w32 (of_z w32 (to_z w32 (of_z w32 places.high) +ℤ to_z w32 radius))) (to_z w32 (of_z w32 within.high))
+      → to_z w32 (of_z w32 high) ≡ int_min (places.high +ℤ pos radius) within.high
+  near_high high is = omega (arith, ints, clamps)

@@ -1,6 +1,6 @@
 -- labels at a cell, as lists of zones grow
-use Rattle.std.proofs.Common.{ℕ, ◌+◌, ◌<◌, ◌≤◌, ◌≡◌, ◌≢◌, ◌∙◌, sym, subst, List, [], ◌∷◌, ◌++◌, length, take, take_all, get_or, inl, inr, ◌⊎◌, ◌↔◌, refl, ◌≤ℤ◌, Option, Some, None, IfSome, IfNone, All}
-use Rattle.lists.proofs.Words.{All-contains, Contains-append_left, Contains-append_right, Contains-append_cases, Contains-push, Contains-push_cases}
+use Rattle.std.proofs.Common.{ℕ, ◌+◌, ◌<◌, ◌≤◌, ◌≡◌, ◌≢◌, ◌∙◌, sym, subst, List, [], ◌∷◌, ◌++◌, length, take, take_all, get_or, inl, inr, ◌⊎◌, ◌↔◌, refl, Option, Some, None, IfSome, IfNone, All, false, arith, to_z, of_z, w32}
+use Rattle.lists.proofs.Words.{ints, lt_z, All-contains, Contains-append_left, Contains-append_right, Contains-append_cases, Contains-push, Contains-push_cases}
 use Rattle.geo_core.specs.Plane.{Has}
 use Rattle.geo_core.proofs.IntervalLaws.{in_ends}
 use Rattle.geo_core.specs.declared.plane.Cell.{Cell}
@@ -189,9 +189,10 @@ pub whole_one : (zones : List Labelled) (k : ℕ) (zone : Labelled) (window : Re
 whole_one zones k zone window small is all c at = record { zone = zone; among = (k, small, sym is); labelled = refl; has = all c at }
 
 -- a rectangle round another one, by their sides
-pub sides_round : (rect window : Rect) → rect.x0 ≤ℤ window.x0 → window.x1 ≤ℤ rect.x1 → rect.y0 ≤ℤ window.y0 → window.y1 ≤ℤ rect.y1 → (c : Cell) → Has window c → Has rect c
+pub sides_round : (rect window : Rect) → lt_z (to_z w32 (of_z w32 window.x0)) (to_z w32 (of_z w32 rect.x0)) ≡ false → lt_z (to_z w32 (of_z w32 rect.x1)) (to_z w32 (of_z w32 window.x1)) ≡ false
+    → lt_z (to_z w32 (of_z w32 window.y0)) (to_z w32 (of_z w32 rect.y0)) ≡ false → lt_z (to_z w32 (of_z w32 rect.y1)) (to_z w32 (of_z w32 window.y1)) ≡ false
+    → (c : Cell) → Has window c → Has rect c
 sides_round rect window left right bottom top c at = record {
-  across = in_ends window.x0 window.x1 rect.x0 rect.x1 left right c.i at.across;
-  up = in_ends window.y0 window.y1 rect.y0 rect.y1 bottom
-      top c.j at.up;
+  across = in_ends window.x0 window.x1 rect.x0 rect.x1 (omega (arith, ints)) (omega (arith, ints)) c.i at.across;
+  up = in_ends window.y0 window.y1 rect.y0 rect.y1 (omega (arith, ints)) (omega (arith, ints)) c.j at.up;
 }

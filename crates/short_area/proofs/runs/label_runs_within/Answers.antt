@@ -3,9 +3,12 @@ use Rattle.lists.proofs.Words.{IsPermutation}
 use Rattle.geo_core.specs.declared.plane.Labelled.{Labelled}
 use Rattle.geo_core.specs.declared.plane.Rect.{Rect}
 use Rattle.short_area.specs.inside.LabelRuns.{AreRunsTo, GainsRuns}
-use Rattle.short_area.proofs.RunLaws.{runs_all, runs_next, runs_same}
+use Rattle.short_area.proofs.RunLaws.{runs_all, runs_begun, runs_next, runs_same}
 use Rattle.short_area.proofs.runs.label_runs_within.Goals as goal
 use Rattle.short_area.proofs.runs.label_runs_within.Goals.{then-zone-label+in_ok-add_runs_within+else-not-branch, else-zone-label}
+
+pub loop-zone-init : goal.loop-zone-init
+loop-zone-init c = rw (c.new-runs.ensures.items, c.new-listed.ensures.items) (runs_begun c.as_slice-zone-items.result.now)
 
 pub loop-zone-preserved : goal.loop-zone-preserved
 loop-zone-preserved c =
