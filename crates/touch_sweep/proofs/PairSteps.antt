@@ -64,6 +64,18 @@ same_pairs found sorted pairs moved e a b = (
 
 -- ---- the pairs of numbers of rectangles that touch
 
+-- of two that touch, the one with the lesser number is told first
+touch_in_order : (rects : List Rect) (entries : List Numbered) → AreNumbered rects entries → (one other : Numbered) → Contains entries one → Contains entries other
+    → Touch one.rect other.rect → one.number < other.number → AreTouching rects one.number other.number
+touch_in_order rects entries all one other has_one has_other touch lesser = record {
+  lesser = lesser;
+  one = one.rect;
+  other = other.rect;
+  one_at = (all one).0 has_one;
+  other_at = (all other).0 has_other;
+  touch = touch;
+}
+
 pub touching_from_match : (rects : List Rect) (entries : List Numbered) → AreNumbered rects entries → (a b : ℕ) → IsMatchOf entries entries (a, b) → AreTouching rects a b
 touching_from_match rects entries all a b m = by_numbers m.match.match.numbers where
   one : Numbered
@@ -72,29 +84,12 @@ touching_from_match rects entries all a b m = by_numbers m.match.match.numbers w
   other : Numbered
   other = m.match.other
 
-  one_at : slice_get rects one.number ≡ Some one.rect
-  one_at = (all one).0 m.among
-
-  other_at : slice_get rects other.number ≡ Some other.rect
-  other_at = (all other).0 m.match.among
-
   by_numbers : IsPairOf one.number other.number (a, b) → AreTouching rects a b
-  by_numbers (inl (less, e)) = subst (λ (p : ℕ × ℕ). AreTouching rects p.0 p.1) (sym e) (record {
-    lesser = less;
-    one = one.rect;
-    other = other.rect;
-    one_at = one_at;
-    other_at = other_at;
-    touch = m.match.match.touch;
-  })
-  by_numbers (inr (less, e)) = subst (λ (p : ℕ × ℕ). AreTouching rects p.0 p.1) (sym e) (record {
-    lesser = less;
-    one = other.rect;
-    other = one.rect;
-    one_at = other_at;
-    other_at = one_at;
-    touch = Touch-sym one.rect other.rect m.match.match.touch;
-  })
+  by_numbers (inl (less, e)) =
+      subst (λ (p : ℕ × ℕ). AreTouching rects p.0 p.1) (sym e) (touch_in_order rects entries all one other m.among m.match.among m.match.match.touch less)
+  by_numbers (inr (less, e)) =
+      subst (λ (p : ℕ × ℕ). AreTouching rects p.0 p.1) (sym e)
+      (touch_in_order rects entries all other one m.match.among m.among (Touch-sym one.rect other.rect m.match.match.touch) less)
 
 -- a point and a span that touch, of which the point begins no earlier
 match_of_point : (entries : List Numbered) (low high : ℤ) → All (λ e. IsIn low high e.rect.x0) entries → {p : ℕ × ℕ} (point span : Numbered)

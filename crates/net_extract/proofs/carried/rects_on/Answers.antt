@@ -12,7 +12,8 @@ loop-piece-preserved c =
     let k = c.loop-piece.piece-index in
     elim c.if-piece-island.branch [
       | then-piece-island+in_ok-push w ↦ rw w.rects-is
-          (kept_next rect_of c.args.pieces.now k test c.piece-item.result _ _ c.loop-piece-test.true c.piece-item.is (eq-eqb _ _ w.if-piece-island.true) c.loop-piece.invariant w.in_ok-push.ensures.items)
+          (kept_next rect_of c.args.pieces.now k test c.piece-item.result _ _ c.loop-piece-test.true c.piece-item.is (eq-eqb _ _ w.if-piece-island.true)
+          c.loop-piece.invariant w.in_ok-push.ensures.items)
       | else-piece-island w ↦ rw w.rects-is
           (left_out rect_of c.args.pieces.now k test c.piece-item.result _ c.loop-piece-test.true c.piece-item.is (ne_eqb _ _ w.if-piece-island.false) c.loop-piece.invariant)
     ]

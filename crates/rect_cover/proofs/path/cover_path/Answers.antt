@@ -22,7 +22,8 @@ pub returns-in_err-check_style : goal.returns-in_err-check_style
 returns-in_err-check_style c =
     let points = c.args.points.now in
     handed_on Memory _ c.from_residual.result c.in_err-check_style.field-0.0 c.from_residual.ensures.1
-    (refuses (path_refused c.args.style points c.args.at (is_wide _ c.if-style-eq0.false) [] (style_checks c.args.style) (point_checks ++ has_no_reversal ∷ box_checks c.args.style) refl _ (All-nil (ShapeHolds points))
+    (refuses (path_refused c.args.style points c.args.at (is_wide _ c.if-style-eq0.false) [] (style_checks c.args.style)
+    (point_checks ++ has_no_reversal ∷ box_checks c.args.style) refl _ (All-nil (ShapeHolds points))
     (c.in_err-check_style.ensures.refused points)))
 
 pub returns-in_err-check_points : goal.returns-in_err-check_points
@@ -36,7 +37,8 @@ pub returns-then-not-goes_on : goal.returns-then-not-goes_on
 returns-then-not-goes_on c =
     let points = c.args.points.now in
     let same : c.as_slice-corners.result.now ≡ corners_of points = c.as_slice-corners.ensures.value ∙ c.in_ok-corners.ensures in
-    refuses (path_refused c.args.style points c.args.at (is_wide _ c.if-style-eq0.false) (style_checks c.args.style ++ point_checks) (has_no_reversal ∷ []) (box_checks c.args.style) refl (Reversal c.args.at)
+    refuses (path_refused c.args.style points c.args.at (is_wide _ c.if-style-eq0.false) (style_checks c.args.style ++ point_checks)
+    (has_no_reversal ∷ []) (box_checks c.args.style) refl (Reversal c.args.at)
     (All-append (ShapeHolds points) (style_checks c.args.style) point_checks (c.in_ok-check_style.ensures.fits points) c.in_ok-check_points.ensures.fits)
     (fails_behind (ShapeHolds points) _ [] has_no_reversal [] tt (λ all. let told = c.goes_on.ensures.1 (rw same all) in cc)))
 
