@@ -1,5 +1,5 @@
 -- lines of cells: where a property does not change along an axis, the window's tally is that of its first line, so many times
-use Rattle.std.proofs.Common.{ℕ, suc, ◌+◌, ◌*◌, ◌<◌, ◌≤◌, ◌≡◌, refl, sym, ap, subst, List, [], ◌∷◌, ◌++◌, length, arith, ℤ, pos, ◌+ℤ◌, ◌-ℤ◌, ◌<ℤ◌, Contains, map, ◌↔◌}
+use Rattle.std.proofs.Common.{ℕ, suc, ◌+◌, ◌*◌, ◌<◌, ◌≤◌, ◌≡◌, refl, ap, subst, List, [], ◌∷◌, length, arith, ℤ, pos, ◌+ℤ◌, ◌-ℤ◌, ◌<ℤ◌, Contains, map, ◌↔◌}
 use Rattle.std.proofs.lemmas.List.{append-nil}
 use Rattle.lists.proofs.Words.{flat_map, ints, mul-le}
 use Rattle.lists.proofs.Containing.{Contains-head, Contains-tail}
@@ -13,7 +13,7 @@ use Rattle.fault_model.specs.FaultNames.{Tally, none, hit, miss, from, or_zero, 
 use Rattle.fault_model.proofs.RangeLaws.{Contains-range, Tally-all, Tally-never, Tally-times, or_zero_is, length-range}
 use Rattle.fault_model.proofs.TallyLaws.{Tally-append, Tally-unique}
 use Rattle.window_parts.proofs.PartLaws.{Always, HasEnds, all_of, by_ends, from_ends, some_cell}
-use Rattle.window_parts.specs.WindowParts.{AreInLine, IsFirstLine, count_along, place_along}
+use Rattle.window_parts.specs.WindowParts.{AreInLine, IsFirstLine, count_along}
 
 abbrev cell : ℤ → ℤ → Cell
 cell j i = record { i = i; j = j }

@@ -1,8 +1,10 @@
 -- tallies of parts add up, no tally of a rectangle is large, and a part has fewer cells than the whole
-use Rattle.std.proofs.Common.{ℕ, ◌+◌, ◌*◌, ◌^◌, ◌<◌, ◌≤◌, ◌≡◌, refl, sym, subst, List, [], ◌∷◌, ◌++◌, length, arith, inl, inr, ◌⊎◌, ℤ, ◌-ℤ◌, ◌<ℤ◌, ◌↔◌, Contains}
-use Rattle.lists.proofs.Words.{ints, by_lt_z, length-map, mul-le}
+use Rattle.std.proofs.Common.{ℕ, ◌+◌, ◌*◌, ◌^◌, ◌<◌, ◌≤◌, ◌≡◌, refl, sym, subst, List, [], ◌∷◌, ◌++◌, length, arith, inl, inr, ◌⊎◌, ℤ, ◌-ℤ◌, ◌↔◌, Contains, IsTrue, nat_le, leb-true}
+use Rattle.lists.proofs.Words.{ints, by_lt_z, length-map, mul-le, le-leb}
 use Rattle.geo_core.specs.Plane.{Has, IsIn, IsInterval}
 use Rattle.geo_core.specs.declared.bounds.TheConstants.{FARTHEST_GROWN}
+use Rattle.geo_core.specs.declared.axis.Axis.{Axis}
+use Rattle.geo_core.specs.declared.axis.Axis.TheVariants.{X, Y}
 use Rattle.geo_core.specs.declared.plane.Cell.{Cell}
 use Rattle.geo_core.specs.declared.plane.Rect.{Rect}
 use Rattle.geo_core.proofs.IntervalLaws.{IsIn-at, in_or_not}
@@ -12,7 +14,7 @@ use Rattle.fault_model.proofs.OrderLaws.{Tally-as_often}
 use Rattle.fault_model.proofs.RangeLaws.{or_zero_is, length-range, length-times}
 use Rattle.fault_model.proofs.TallyLaws.{Tally-append, Tally-counts, Tally-le-length, Tally-unique}
 use Rattle.lists.proofs.Containing.{Contains-head, Contains-tail}
-use Rattle.window_parts.specs.WindowParts.{AreParts}
+use Rattle.window_parts.specs.WindowParts.{AreCutAt, AreParts, IsBetween, IsBroad, count_along, place_along}
 
 -- ---- parts
 
@@ -43,16 +45,6 @@ module _ (window first second : Rect) (parts : AreParts window first second) whe
 
 -- ---- the two parts before a place and behind it
 
-module _ (low place high : ℤ) (above : low <ℤ place) (below : place <ℤ high) (x : ℤ) where
-  parts_of_interval : IsIn low high x ↔ (IsIn low place x ⊎ IsIn place high x)
-  parts_of_interval = (
-    λ h. let a = h.from in let b = h.before in by_lt_z x place (λ l. inl (record { from = a; before = l })) (λ l. inr (record { from = l; before = b })),
-    λ h. elim h [
-      | inl k ↦ let a = k.from in let b = k.before in record { from = a; before = omega (arith, ints) }
-      | inr k ↦ let a = k.from in let b = k.before in record { from = omega (arith, ints); before = b }
-    ],
-  )
-
 -- the sides of a rectangle
 pub record HasEnds (rect : Rect) (x0 y0 x1 y1 : ℤ) : Type 0 where
   pub left : x0 ≡ rect.x0
@@ -68,31 +60,49 @@ module _ {rect : Rect} {x0 y0 x1 y1 : ℤ} (s : HasEnds rect x0 y0 x1 y1) (c : C
   from_ends across up = record { across = IsIn-at rect.x0 rect.x1 c.i across (sym s.left) (sym s.right) refl; up = IsIn-at rect.y0 rect.y1 c.j up (sym s.bottom) (sym s.top) refl }
 
 module _ (window first second : Rect) (place : ℤ) where
-  pub parts_across : window.x0 <ℤ place → place <ℤ window.x1 → HasEnds first window.x0 window.y0 place window.y1 → HasEnds second place window.y0 window.x1 window.y1 → AreParts window first second
-  parts_across above below s t = record {
-    cells = λ c.
-        let split = parts_of_interval window.x0 place window.x1 above below c.i in (
-          λ h. elim (split.0 h.across) [ inl a ↦ inl (from_ends s c a h.up) | inr b ↦ inr (from_ends t c b h.up) ],
-          λ h. elim h [
-            | inl k ↦ let e = by_ends s c k in record { across = split.1 (inl e.0); up = e.1 }
-            | inr k ↦ let e = by_ends t c k in record { across = split.1 (inr e.0); up = e.1 }
-          ],
+  pub cut_across : IsBetween window.x0 window.x1 place → HasEnds first window.x0 window.y0 place window.y1
+      → HasEnds second place window.y0 window.x1 window.y1 → AreCutAt X place window first second
+  cut_across between s t =
+      let above = between.above in let below = between.below in
+      record {
+        before = λ c. (
+          λ h. let e = by_ends s c h in let a = e.0.from in let b = e.0.before in
+              (record { across = record { from = a; before = omega (arith, ints) }; up = e.1 }, b),
+          λ h. let a = h.0.across.from in from_ends s c (record { from = a; before = h.1 }) h.0.up,
         );
-    apart = λ c h k. let a = (by_ends s c h).0.before in let b = (by_ends t c k).0.from in absurd (omega (arith, ints));
-  }
+        behind = λ c. (
+          λ h. let e = by_ends t c h in let a = e.0.from in let b = e.0.before in
+              (record { across = record { from = omega (arith, ints); before = b }; up = e.1 }, a),
+          λ h. let b = h.0.across.before in from_ends t c (record { from = h.1; before = b }) h.0.up,
+        );
+      }
 
-  pub parts_up : window.y0 <ℤ place → place <ℤ window.y1 → HasEnds first window.x0 window.y0 window.x1 place → HasEnds second window.x0 place window.x1 window.y1 → AreParts window first second
-  parts_up above below s t = record {
-    cells = λ c.
-        let split = parts_of_interval window.y0 place window.y1 above below c.j in (
-          λ h. elim (split.0 h.up) [ inl a ↦ inl (from_ends s c h.across a) | inr b ↦ inr (from_ends t c h.across b) ],
-          λ h. elim h [
-            | inl k ↦ let e = by_ends s c k in record { across = e.0; up = split.1 (inl e.1) }
-            | inr k ↦ let e = by_ends t c k in record { across = e.0; up = split.1 (inr e.1) }
-          ],
+  pub cut_up : IsBetween window.y0 window.y1 place → HasEnds first window.x0 window.y0 window.x1 place
+      → HasEnds second window.x0 place window.x1 window.y1 → AreCutAt Y place window first second
+  cut_up between s t =
+      let above = between.above in let below = between.below in
+      record {
+        before = λ c. (
+          λ h. let e = by_ends s c h in let a = e.1.from in let b = e.1.before in
+              (record { across = e.0; up = record { from = a; before = omega (arith, ints) } }, b),
+          λ h. let a = h.0.up.from in from_ends s c h.0.across (record { from = a; before = h.1 }),
         );
-    apart = λ c h k. let a = (by_ends s c h).1.before in let b = (by_ends t c k).1.from in absurd (omega (arith, ints));
-  }
+        behind = λ c. (
+          λ h. let e = by_ends t c h in let a = e.1.from in let b = e.1.before in
+              (record { across = e.0; up = record { from = omega (arith, ints); before = b } }, a),
+          λ h. let b = h.0.up.before in from_ends t c h.0.across (record { from = h.1; before = b }),
+        );
+      }
+
+-- what a place cuts in two has these two as its parts
+pub parts_of_cut : (axis : Axis) (place : ℤ) (window first second : Rect) → AreCutAt axis place window first second → AreParts window first second
+parts_of_cut axis place window first second cut = record {
+  cells = λ c. (
+    λ h. by_lt_z (place_along axis c) place (λ l. inl ((cut.before c).1 (h, l))) (λ l. inr ((cut.behind c).1 (h, l))),
+    λ h. elim h [ inl k ↦ ((cut.before c).0 k).0 | inr k ↦ ((cut.behind c).0 k).0 ],
+  );
+  apart = λ c h k. let a = ((cut.before c).0 h).1 in let b = ((cut.behind c).0 k).1 in absurd (omega (arith, ints));
+}
 
 -- ---- how many cells
 
@@ -155,3 +165,20 @@ few_cells rect =
 
 pub few_tallied : {P : Cell → Type 0} (rect : Rect) (n : ℕ) → Tally P (cells_of rect) n → n < 2 ^ 63
 few_tallied rect n t = let a = few_cells rect in let b = Tally-le-length (cells_of rect) n t in omega arith
+
+-- ---- which rectangles are broad
+
+module _ (rect : Rect) (width height : ℕ) (across : count_along X rect ≡ width) (up : count_along Y rect ≡ height) where
+  -- one whose width is no more than four times its height is broad just where its height is no more than four times its width
+  pub broad_by : width ≤ 4 * height → IsTrue (nat_le height (4 * width)) ↔ IsBroad rect
+  broad_by wide = (
+    λ t. let h = leb-true height (4 * width) t in record { wide = rw (across, up) wide; high = rw (across, up) h },
+    λ broad. le-leb height (4 * width) (rw (across, up) at broad.high),
+  )
+
+  -- and no other is
+  pub not_broad : 4 * height < width → IsTrue (nat_le width (4 * height)) ↔ IsBroad rect
+  not_broad narrow = (
+    λ t. let h = leb-true width (4 * height) t in absurd (omega arith),
+    λ broad. let wide = rw (across, up) at broad.wide in absurd (omega arith),
+  )

@@ -1,5 +1,6 @@
 -- parts of a window
-use Rattle.std.specs.Prelude.{ℕ, ℤ, ◌≡◌, ◌<ℤ◌, ◌↔◌, ◌⊎◌, length}
+use Rattle.std.specs.Prelude.{ℕ, ℤ, pos, ◌≡◌, ◌*◌, ◌≤◌, ◌+ℤ◌, ◌-ℤ◌, ◌<ℤ◌, ◌≤ℤ◌, ◌↔◌, ◌⊎◌, length, unsigned_abs}
+use Rattle.geo_core.specs.Intervals.{IsWithin}
 use Rattle.geo_core.specs.Plane.{Has, low_along, high_along}
 use Rattle.geo_core.specs.declared.axis.Axis.{Axis}
 use Rattle.geo_core.specs.declared.axis.Axis.TheVariants.{X, Y}
@@ -17,6 +18,14 @@ pub record IsBetween (low high place : ℤ) : Type 0 where
   pub above : low <ℤ place
   pub below : place <ℤ high
 
+-- the place lies half way between two others: neither side of it is longer than the other by more than one
+abbrev pub IsHalfWay : ℤ → ℤ → ℤ → Type 0
+IsHalfWay low high place = IsWithin (place -ℤ low) (high -ℤ place) (pos 1)
+
+-- twice the distance of the place from the middle of two others, which may lie between two places
+abbrev pub twice_from_middle : ℤ → ℤ → ℤ → ℕ
+twice_from_middle low high place = unsigned_abs ((place +ℤ place) -ℤ (low +ℤ high))
+
 -- the cells lie in one line along the axis: in one row for X, which goes from left to right, and in one column for Y
 abbrev pub AreInLine : Axis → Cell → Cell → Type 0
 AreInLine X c d = c.j ≡ d.j
@@ -27,6 +36,17 @@ abbrev pub place_along : Axis → Cell → ℤ
 place_along X c = c.i
 place_along Y c = c.j
 
+-- the window is cut at the place along the axis: the first rectangle has its cells before the place, and the second the others
+pub record AreCutAt (axis : Axis) (place : ℤ) (window first second : Rect) : Type 0 where
+  pub before : (c : Cell) → Has first c ↔ (Has window c × (place_along axis c <ℤ place))
+  pub behind : (c : Cell) → Has second c ↔ (Has window c × (place ≤ℤ place_along axis c))
+
+-- it is cut half way along the axis
+pub record AreHalves (axis : Axis) (window first second : Rect) : Type 0 where
+  pub place : ℤ
+  pub half_way : IsHalfWay (low_along axis window) (high_along axis window) place
+  pub cut : AreCutAt axis place window first second
+
 -- the line has the cells of the window that stand first along the axis: its left column, or its bottom row
 pub record IsFirstLine (axis : Axis) (window line : Rect) : Type 0 where
   pub cells : (c : Cell) → Has line c ↔ (Has window c × (place_along axis c ≡ low_along axis window))
@@ -34,3 +54,8 @@ pub record IsFirstLine (axis : Axis) (window line : Rect) : Type 0 where
 -- how many places the window has along the axis: its columns, or its rows
 abbrev pub count_along : Axis → Rect → ℕ
 count_along axis window = length (range (low_along axis window) (high_along axis window))
+
+-- neither side of the rectangle is longer than four times the other
+pub record IsBroad (rect : Rect) : Type 0 where
+  pub wide : count_along X rect ≤ 4 * count_along Y rect
+  pub high : count_along Y rect ≤ 4 * count_along X rect

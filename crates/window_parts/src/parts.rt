@@ -1,7 +1,7 @@
 ghost use Rattle.std.specs.Prelude.{ℤ, ◌≡◌, ◌<◌, ◌≤◌, ◌^◌, IfNone, IfSome, length};
 ghost use Rattle.geo_core.specs.Axes.{low_along, high_along};
 ghost use Rattle.fault_model.specs.Areas.{cells_of};
-ghost use Rattle.window_parts.specs.WindowParts.{AreParts, IsBetween, IsFirstLine, count_along};
+ghost use Rattle.window_parts.specs.WindowParts.{AreCutAt, AreHalves, AreParts, IsBetween, IsFirstLine, count_along};
 
 use super::middles::inner_half_way;
 use geo_core::{Axis, Interval, Rect};
@@ -28,7 +28,8 @@ pub fn count_of(window: Rect) -> u64
 /// The columns of the window before the place and the others, or its rows.
 pub fn parts_at(window: Rect, axis: Axis, place: i32) -> (Rect, Rect)
     requires { IsBetween (low_along axis window) (high_along axis window) place }
-    ensures { AreParts window result.0 result.1 }
+    ensures parts { AreParts window result.0 result.1 }
+    ensures cut { AreCutAt axis place window result.0 result.1 }
 {
     let places = window.along(axis);
     let before = Interval {
@@ -54,6 +55,7 @@ pub fn parts_at(window: Rect, axis: Axis, place: i32) -> (Rect, Rect)
 /// Two parts of the window, cut half way along the axis. There are none where it has one column, or one row.
 pub fn halved_along(window: Rect, axis: Axis) -> Option<(Rect, Rect)>
     ensures some { IfSome result (λ parts. AreParts window parts.0 parts.1) }
+    ensures half { IfSome result (λ parts. AreHalves axis window parts.0 parts.1) }
     ensures none { IfNone result ((place : ℤ) → IsBetween (low_along axis window) (high_along axis window) place → ⊥) }
 {
     let place = inner_half_way(window.along(axis))?;

@@ -39,13 +39,13 @@ open_parts-requires t c =
     (omega (arith, fewer), (c.requires.some, c.requires.few))
 
 pub open_parts-requires-in-Halve : goal.open_parts-requires-in-Halve
-open_parts-requires-in-Halve t c = let fewer = fewer_cells c.args.zone _ _ c.parts_at.ensures in (omega (arith, fewer.0), (c.requires.some, c.requires.few))
+open_parts-requires-in-Halve t c = let fewer = fewer_cells c.args.zone _ _ c.parts_at.ensures.parts in (omega (arith, fewer.0), (c.requires.some, c.requires.few))
 
 pub open_parts-requires-in-Halve-2 : goal.open_parts-requires-in-Halve-2
-open_parts-requires-in-Halve-2 t c = let fewer = fewer_cells c.args.zone _ _ c.parts_at.ensures in (omega (arith, fewer.1), (c.requires.some, c.requires.few))
+open_parts-requires-in-Halve-2 t c = let fewer = fewer_cells c.args.zone _ _ c.parts_at.ensures.parts in (omega (arith, fewer.1), (c.requires.some, c.requires.few))
 
 pub returns : goal.returns
 returns t c = λ islands stand. rw (c.in_ok-extend_from_slice-in-Halve.ensures.items, c.deref-in-Halve.ensures.value)
     (open_in_halves c.args.zone c.args.side islands c.in-Of.left _ _ c.in_ok-both-in-Halve.both.items c.in_ok-others-in-Halve.others.items
-    (rw c.in-Of.is at (c.in_ok-look_closer.ensures.left islands stand)) c.parts_at.ensures (rw c.as_slice-in-Halve.ensures at c.in_ok-both-in-Halve.ensures)
+    (rw c.in-Of.is at (c.in_ok-look_closer.ensures.left islands stand)) c.parts_at.ensures.parts (rw c.as_slice-in-Halve.ensures at c.in_ok-both-in-Halve.ensures)
     (rw c.as_slice-in-Halve-2.ensures at c.in_ok-others-in-Halve.ensures))

@@ -2,7 +2,8 @@ use Rattle.std.proofs.Common.{ap, ◌∙◌, ◌≡◌, arith}
 use Rattle.lists.proofs.Words.{ints}
 use Rattle.geo_core.specs.Plane.{low_along, high_along}
 use Rattle.geo_core.specs.declared.axis.Axis.{Axis}
-use Rattle.window_parts.proofs.PartLaws.{HasEnds, parts_across, parts_up}
+use Rattle.geo_core.specs.declared.axis.Axis.TheVariants.{X, Y}
+use Rattle.window_parts.proofs.PartLaws.{HasEnds, cut_across, cut_up, parts_of_cut}
 use Rattle.window_parts.proofs.parts.parts_at.Goals as goal
 
 pub returns-in-X : goal.returns-in-X
@@ -22,7 +23,8 @@ returns-in-X c =
       right = omega (arith, ints);
       top = omega (arith, ints);
     } in
-    parts_across window _ _ c.args.place (rw c.in-X.is at c.requires.above) (rw c.in-X.is at c.requires.below) first second
+    let cut = cut_across window _ _ c.args.place (rw c.in-X.is at c.requires) first second in
+    rw c.in-X.is (record { parts = parts_of_cut X c.args.place window _ _ cut; cut = cut })
 
 pub returns-in-Y : goal.returns-in-Y
 returns-in-Y c =
@@ -41,4 +43,5 @@ returns-in-Y c =
       right = omega (arith, ints);
       top = omega (arith, ints);
     } in
-    parts_up window _ _ c.args.place (rw c.in-Y.is at c.requires.above) (rw c.in-Y.is at c.requires.below) first second
+    let cut = cut_up window _ _ c.args.place (rw c.in-Y.is at c.requires) first second in
+    rw c.in-Y.is (record { parts = parts_of_cut Y c.args.place window _ _ cut; cut = cut })
