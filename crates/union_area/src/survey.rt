@@ -1,3 +1,6 @@
+ghost use Rattle.std.specs.Prelude.{◌≡◌, ◌⊎◌, ◌↔◌, IsTrue};
+ghost use Rattle.window_parts.specs.WindowParts.{IsAsCentral, IsBetween, IsHalfWay};
+
 use geo_core::{Axis, Interval, Rect};
 use std::marker::Model;
 use window_parts::{
@@ -41,7 +44,11 @@ impl Model for Survey {
 }
 
 /// The one of two places that is nearer to the middle.
-fn nearer(places: Interval, place: i32, other: i32) -> i32 {
+fn nearer(places: Interval, place: i32, other: i32) -> i32
+    ensures one { (result ≡ place) ⊎ (result ≡ other) }
+    ensures first { IsAsCentral places.low places.high result place }
+    ensures second { IsAsCentral places.low places.high result other }
+{
     if distance_from_middle(places, other) < distance_from_middle(places, place) {
         return other;
     }
@@ -58,7 +65,10 @@ fn more_if(is_so: bool, count: usize) -> usize {
 
 impl Middle {
     /// The middle of these places.
-    fn of(places: Interval) -> Middle {
+    fn of(places: Interval) -> Middle
+        ensures places { result.places ≡ places }
+        ensures half_way { IsHalfWay places.low places.high result.at }
+    {
         Middle {
             places,
             at: half_way(places),
@@ -68,12 +78,22 @@ impl Middle {
     }
 
     /// Whether these lie on both sides.
-    fn is_in(self, places: Interval) -> bool {
+    fn is_in(self, places: Interval) -> bool
+        ensures { IsTrue result ↔ IsBetween places.low places.high self.at }
+    {
         places.low < self.at && self.at < places.high
     }
 
     /// The same with these places of one more rectangle.
-    fn with(self, places: Interval) -> Middle {
+    fn with(self, places: Interval) -> Middle
+        ensures places { result.places ≡ self.places }
+        ensures middle { result.at ≡ self.at }
+
+        // No edge that was seen is nearer to the middle than the one that is kept.
+        ensures kept { IsAsCentral self.places.low self.places.high result.edge self.edge }
+        ensures low { IsAsCentral self.places.low self.places.high result.edge places.low }
+        ensures high { IsAsCentral self.places.low self.places.high result.edge places.high }
+    {
         let edge = nearer(self.places, self.edge, places.low);
         Middle {
             places: self.places,
@@ -86,7 +106,8 @@ impl Middle {
 
 impl Survey {
     ghost use Rattle.std.specs.Prelude.{◌≡◌, IfSome};
-    ghost use Rattle.window_parts.specs.WindowParts.{AreParts};
+    ghost use Rattle.geo_core.specs.declared.axis.Axis.{Axis};
+    ghost use Rattle.window_parts.specs.WindowParts.{AreHalves, AreParts};
 
     /// Of no rectangles so far.
     pub fn of(window: Rect) -> Survey
@@ -144,7 +165,8 @@ impl Survey {
 
     /// Two parts, cut in the middle along one of the axes.
     fn halved(&self) -> Option<(Rect, Rect)>
-        ensures { IfSome result (λ parts. AreParts self.now parts.0 parts.1) }
+        ensures parts { IfSome result (λ parts. AreParts self.now parts.0 parts.1) }
+        ensures half { IfSome result (λ parts. (axis : Axis) × AreHalves axis self.now parts.0 parts.1) }
     {
         let (first, second) = self.clearer_first();
         match halved_along(self.window, first) {

@@ -1,7 +1,8 @@
-ghost use Rattle.std.specs.Prelude.{◌↔◌, IfOk, IsTrue};
+ghost use Rattle.std.specs.Prelude.{◌↔◌, Contains, IfOk, IsTrue};
 ghost use Rattle.geo_core.specs.Cells.{Has};
 ghost use Rattle.geo_core.specs.Unions.{IsInUnion};
 ghost use Rattle.geo_core.specs.declared.plane.Cell.{Cell};
+ghost use Rattle.geo_core.specs.declared.plane.Rect.{Rect};
 
 use geo_core::{NoMemory, Rect, clip};
 use std::alloc::Global;
@@ -24,7 +25,7 @@ pub fn clipped(alloc: Global, rects: &[Rect], window: Rect) -> Result<Vec<Rect>,
 
 /// Whether the rectangle has all of the window.
 fn has_all(rect: Rect, window: Rect) -> bool
-    ensures { IsTrue result → (c : Cell) → Has window c → Has rect c }
+    ensures { IsTrue result ↔ ((c : Cell) → Has window c → Has rect c) }
 {
     if window.x0 < rect.x0 {
         return false;
@@ -43,7 +44,10 @@ fn has_all(rect: Rect, window: Rect) -> bool
 
 /// Whether one of the rectangles has all of the window.
 pub fn is_filled(rects: &[Rect], window: Rect) -> bool
-    ensures { IsTrue result → (c : Cell) → Has window c → IsInUnion rects.now c }
+    ensures filled { IsTrue result → (c : Cell) → Has window c → IsInUnion rects.now c }
+
+    // Without this one no window might ever count as filled, and each be parted down to its cells.
+    ensures by_one { (rect : Rect) → Contains rects.now rect → ((c : Cell) → Has window c → Has rect c) → IsTrue result }
 {
     for rect in rects {
         if has_all(*rect, window) {

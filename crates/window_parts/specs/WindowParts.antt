@@ -26,6 +26,10 @@ IsHalfWay low high place = IsWithin (place -ℤ low) (high -ℤ place) (pos 1)
 abbrev pub twice_from_middle : ℤ → ℤ → ℤ → ℕ
 twice_from_middle low high place = unsigned_abs ((place +ℤ place) -ℤ (low +ℤ high))
 
+-- it is no farther from their middle than another place
+abbrev pub IsAsCentral : ℤ → ℤ → ℤ → ℤ → Type 0
+IsAsCentral low high place other = twice_from_middle low high place ≤ twice_from_middle low high other
+
 -- the cells lie in one line along the axis: in one row for X, which goes from left to right, and in one column for Y
 abbrev pub AreInLine : Axis → Cell → Cell → Type 0
 AreInLine X c d = c.j ≡ d.j

@@ -14,7 +14,7 @@ returns-then-is_empty-clause-tally t c =
 pub returns-then-is_filled-clause-tally : goal.returns-then-is_filled-clause-tally
 returns-then-is_filled-clause-tally t c =
     let those = subst (AreClipped c.args.rects.now c.args.window) (sym c.as_slice-inside.ensures.value) c.in_ok-inside.ensures in
-    rw c.count_of.ensures.count (tally_all c.args.rects.now c.args.window c.as_slice-inside.result.now those (c.if-is_filled.ensures refl))
+    rw c.count_of.ensures.count (tally_all c.args.rects.now c.args.window c.as_slice-inside.result.now those (c.if-is_filled.ensures.filled refl))
 
 pub returns-in-None-clause-tally : goal.returns-in-None-clause-tally
 returns-in-None-clause-tally t c =
