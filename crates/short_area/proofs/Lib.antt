@@ -4,3 +4,4 @@ pub mod Counting
 pub mod RunLaws
 pub mod KeptLaws
 pub mod Ordering
+pub mod PlaceLaws

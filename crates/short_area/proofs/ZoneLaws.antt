@@ -10,7 +10,7 @@ use Rattle.lists.proofs.Comparing.{equal_or_not}
 use Rattle.lists.proofs.Containing.{Contains-none}
 use Rattle.lists.proofs.Reading.{taken_more}
 use Rattle.fault_model.proofs.UnionLaws.{union_none, union_push}
-use Rattle.short_area.specs.inside.Zones.{AreAlikeIn, AreSplit, GainsZone, HaveNoThird, IsInLabel, IsInOthers, IsInside, IsInTwoLabels, IsWholeIn}
+use Rattle.short_area.specs.inside.Zones.{AreAlikeIn, AreSplit, GainsZone, HasAllOf, HaveNoThird, IsInLabel, IsInOthers, IsInside, IsInTwoLabels, IsWholeIn}
 
 module _ (c : Cell) where
   pub label_none : (label : ℕ) → IsInLabel [] label c → ⊥
@@ -187,6 +187,10 @@ split_all zones i label own others past h = subst (λ (ys : List Labelled). AreS
 pub whole_one : (zones : List Labelled) (k : ℕ) (zone : Labelled) (window : Rect) → k < length zones → zone ≡ get_or zones k zone → ((c : Cell) → Has window c → Has zone.rect c)
     → IsWholeIn window zones zone.label
 whole_one zones k zone window small is all c at = record { zone = zone; among = (k, small, sym is); labelled = refl; has = all c at }
+
+-- the zone has this label, or not all of the window
+abbrev pub IsNoOtherWhole : Rect → ℕ → Labelled → Type 0
+IsNoOtherWhole window label zone = zone.label ≢ label → HasAllOf window zone.rect → ⊥
 
 -- a rectangle round another one, by their sides
 pub sides_round : (rect window : Rect) → lt_z (to_z w32 (of_z w32 window.x0)) (to_z w32 (of_z w32 rect.x0)) ≡ false → lt_z (to_z w32 (of_z w32 rect.x1)) (to_z w32 (of_z w32 window.x1)) ≡ false

@@ -1,15 +1,15 @@
-ghost use Rattle.std.specs.Prelude.{ℕ, ◌≡◌, ◌≢◌, All, IfNone, IfOk, IfSome, IsTrue};
-ghost use Rattle.geo_core.specs.Cells.{Has};
+ghost use Rattle.std.specs.Prelude.{ℕ, ◌≡◌, ◌≢◌, ◌↔◌, All, Contains, IfNone, IfOk, IfSome, IsTrue};
 ghost use Rattle.geo_core.specs.declared.plane.Cell.{Cell};
 ghost use Rattle.geo_core.specs.declared.plane.Labelled.{Labelled};
-ghost use Rattle.short_area.specs.inside.Zones.{AreSplit, HaveNoThird, IsInTwoLabels, IsWholeIn};
+ghost use Rattle.short_area.specs.inside.Zones.{AreSplit, HasAllOf, HaveNoThird, IsInTwoLabels, IsWholeIn};
 
 use geo_core::{Labelled, NoMemory, Rect};
 use std::alloc::Global;
 
 /// The label of the first zone that has another one than this.
 fn other_label(zones: &[Labelled], label: usize) -> Option<usize>
-    ensures { IfNone result (All (λ zone. zone.label ≡ label) zones.now) }
+    ensures some { IfSome result (λ other. other ≢ label) }
+    ensures none { IfNone result (All (λ zone. zone.label ≡ label) zones.now) }
 {
     for zone in zones {
         if zone.label != label {
@@ -21,7 +21,8 @@ fn other_label(zones: &[Labelled], label: usize) -> Option<usize>
 
 /// Two of the labels, where there are two.
 pub fn two_labels(zones: &[Labelled]) -> Option<(usize, usize)>
-    ensures { IfNone result ((c : Cell) → IsInTwoLabels zones.now c → ⊥) }
+    ensures some { IfSome result (λ labels. labels.0 ≢ labels.1) }
+    ensures none { IfNone result ((c : Cell) → IsInTwoLabels zones.now c → ⊥) }
 {
     let label = match zones.first() {
         None => 0,
@@ -35,7 +36,7 @@ pub fn two_labels(zones: &[Labelled]) -> Option<(usize, usize)>
 
 /// Whether each zone has one of these two labels.
 pub fn have_no_third(zones: &[Labelled], one: usize, other: usize) -> bool
-    ensures { IsTrue result → HaveNoThird zones.now one other }
+    ensures { IsTrue result ↔ HaveNoThird zones.now one other }
 {
     for zone in zones {
         if zone.label != one && zone.label != other {
@@ -47,7 +48,7 @@ pub fn have_no_third(zones: &[Labelled], one: usize, other: usize) -> bool
 
 /// Whether the rectangle has all cells of the window.
 fn is_whole(rect: Rect, window: Rect) -> bool
-    ensures { IsTrue result → (c : Cell) → Has window c → Has rect c }
+    ensures { IsTrue result ↔ HasAllOf window rect }
 {
     if window.x0 < rect.x0 || rect.x1 < window.x1 {
         return false;
@@ -60,7 +61,10 @@ fn is_whole(rect: Rect, window: Rect) -> bool
 
 /// The label of a zone that has all cells of the window.
 pub fn whole_label(zones: &[Labelled], window: Rect) -> Option<usize>
-    ensures { IfSome result (λ label. IsWholeIn window zones.now label) }
+    ensures some { IfSome result (λ label. IsWholeIn window zones.now label) }
+
+    // Without this one no zone might ever count as whole, and each window be halved down to its cells.
+    ensures none { IfNone result (All (λ zone. HasAllOf window zone.rect → ⊥) zones.now) }
 {
     for zone in zones {
         if is_whole(zone.rect, window) {
@@ -72,7 +76,9 @@ pub fn whole_label(zones: &[Labelled], window: Rect) -> Option<usize>
 
 /// Whether a zone of another label has all cells of the window.
 pub fn is_other_whole(zones: &[Labelled], window: Rect, label: usize) -> bool
-    ensures { IsTrue result → (other : ℕ) × (label ≢ other) × IsWholeIn window zones.now other }
+    ensures whole { IsTrue result → (other : ℕ) × (label ≢ other) × IsWholeIn window zones.now other }
+    ensures by_one { (zone : Labelled) → Contains zones.now zone → zone.label ≢ label → HasAllOf window zone.rect
+        → IsTrue result }
 {
     for zone in zones {
         if zone.label != label && is_whole(zone.rect, window) {

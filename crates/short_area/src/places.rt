@@ -1,7 +1,6 @@
-ghost use Rattle.std.specs.Prelude.{◌≡◌, ◌⊎◌, IfSome};
-ghost use Rattle.geo_core.specs.Axes.{low_along, high_along};
-ghost use Rattle.geo_core.specs.declared.axis.Axis.{Axis};
+ghost use Rattle.std.specs.Prelude.{ℤ, ◌≡◌, ◌⊎◌, IfSome};
 ghost use Rattle.window_parts.specs.WindowParts.{IsBetween};
+ghost use Rattle.short_area.specs.inside.AreaSteps.{AreNoNearer, IsCentralCut, IsMiddleCut, IsNoNearer};
 
 use geo_core::{Axis, Interval, Labelled, Rect};
 use window_parts::{distance_from_middle, half_way, inner_half_way, is_broad, longer_first};
@@ -97,7 +96,10 @@ pub fn lead(zones: &[Labelled]) -> usize {
 /// This place, where it lies between the ends of the places and nearer to their middle than the one found before.
 fn more_central(places: Interval, found: Option<i32>, place: i32) -> Option<i32>
     requires { IfSome found (IsBetween places.low places.high) }
-    ensures { IfSome result (IsBetween places.low places.high) }
+    ensures within { IfSome result (IsBetween places.low places.high) }
+    ensures kept { (edge : ℤ) → IsNoNearer places.low places.high found edge
+        → IsNoNearer places.low places.high result edge }
+    ensures one_more { IsNoNearer places.low places.high result place }
 {
     if place <= places.low || places.high <= place {
         return found;
@@ -113,7 +115,8 @@ fn more_central(places: Interval, found: Option<i32>, place: i32) -> Option<i32>
 
 /// Of the edges of zones that lie between the ends of the places, one that is nearest to their middle.
 fn central_edge(zones: &[Labelled], axis: Axis, places: Interval) -> Option<i32>
-    ensures { IfSome result (IsBetween places.low places.high) }
+    ensures within { IfSome result (IsBetween places.low places.high) }
+    ensures central { AreNoNearer zones.now axis places.low places.high result }
 {
     let mut nearest = None;
     for zone in zones {
@@ -137,7 +140,7 @@ fn less_crossed_first(window: Rect, spread: Spread) -> (Axis, Axis) {
 
 /// The edge of a zone at which to halve the window: nearest to the middle of its longer side, or else of the other.
 fn edge_to_halve_at(zones: &[Labelled], window: Rect) -> Option<(Axis, i32)>
-    ensures { IfSome result (λ cut. IsBetween (low_along cut.0 window) (high_along cut.0 window) cut.1) }
+    ensures { IfSome result (λ cut. IsCentralCut zones.now window cut.0 cut.1) }
 {
     let (longer, shorter) = longer_first(window);
     if let Some(place) = central_edge(zones, longer, window.along(longer)) {
@@ -151,7 +154,7 @@ fn edge_to_halve_at(zones: &[Labelled], window: Rect) -> Option<(Axis, i32)>
 
 /// The middle at which to halve the window: along the axis with fewer zones on both sides, or else along the other.
 fn middle_to_halve_at(window: Rect, spread: Spread) -> Option<(Axis, i32)>
-    ensures { IfSome result (λ cut. IsBetween (low_along cut.0 window) (high_along cut.0 window) cut.1) }
+    ensures { IfSome result (λ cut. IsMiddleCut window cut.0 cut.1) }
 {
     let (first, second) = less_crossed_first(window, spread);
     if let Some(place) = inner_half_way(window.along(first)) {
@@ -166,7 +169,7 @@ fn middle_to_halve_at(window: Rect, spread: Spread) -> Option<(Axis, i32)>
 /// Where to halve the window, along which axis: in the middle where few zones lie on both sides of it. Else at the edge of
 /// a zone, since zones that reach over all of a part soon decide it. There is no place where there is one cell.
 pub fn place_to_halve(zones: &[Labelled], window: Rect, spread: Spread) -> Option<(Axis, i32)>
-    ensures { IfSome result (λ cut. IsBetween (low_along cut.0 window) (high_along cut.0 window) cut.1) }
+    ensures { IfSome result (λ cut. IsCentralCut zones.now window cut.0 cut.1) }
 {
     if !spread.is_parted() {
         if let Some(cut) = edge_to_halve_at(zones, window) {

@@ -7,5 +7,5 @@ pub loop-zone-preserved : goal.loop-zone-preserved
 loop-zone-preserved c =
     All-read (λ (zone : Labelled). zone.label ≡ c.args.label) _ _ _ c.loop-zone-test.true c.zone-item.is c.loop-zone.invariant c.if-zone-label.false
 
-pub returns : goal.returns
-returns c = All-read_all (λ (zone : Labelled). zone.label ≡ c.args.label) _ _ c.loop-zone-test.false c.loop-zone.invariant
+pub returns-clause-none : goal.returns-clause-none
+returns-clause-none c = All-read_all (λ (zone : Labelled). zone.label ≡ c.args.label) _ _ c.loop-zone-test.false c.loop-zone.invariant
