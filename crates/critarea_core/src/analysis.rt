@@ -1,4 +1,4 @@
-ghost use Rattle.std.specs.Prelude.{◌≡◌, ◌≤◌, ◌+◌, IfOk, All, length, option_copied};
+ghost use Rattle.std.specs.Prelude.{◌≡◌, ◌≤◌, ◌<◌, ◌+◌, ◌^◌, IfOk, All, length, option_copied};
 ghost use Rattle.lists.specs.Differing.{AreDifferent};
 ghost use Rattle.first_refusal.specs.Answers.{Answers};
 ghost use Rattle.first_refusal.specs.Outcomes.{Then};
@@ -43,6 +43,8 @@ fn layers_of_library(
     library: Library,
 ) -> Result<Layers, LayoutFault>
     requires differ { AreDifferent (names_of library.structures) }
+    requires few_structures { length library.structures < 2 ^ 32 }
+    requires few_elements { All (λ structure. length structure.elements < 2 ^ 32) library.structures }
     requires pointed { AreWellPointed library.structures }
     ensures { Analyses (LibraryComesTo (layer_map_of map.now) (option_copied top.entry) library) (AreLayersFor (layer_map_of map.now)) result }
 {
@@ -89,6 +91,8 @@ fn rows_of_library<G: Gate + Sync>(
     requires some_workers { 1 ≤ workers }
     requires few_workers { workers ≤ 64 }
     requires differ { AreDifferent (names_of library.structures) }
+    requires few_structures { length library.structures < 2 ^ 32 }
+    requires few_elements { All (λ structure. length structure.elements < 2 ^ 32) library.structures }
     requires pointed { AreWellPointed library.structures }
     ensures { Analyses (Then (LibraryComesTo (layer_map_of map.now) (option_copied top.entry) library) TerminalsComeTo) HasRows result }
 {

@@ -25,8 +25,7 @@ pub enum PlaceFault {
     /// A point of the shape at this offset is placed more than 1,000,000,000 from 0 in a coordinate: the first such, in
     /// the order of the placed shapes.
     OutOfRange { at: u32 },
-    /// No memory is left, which says nothing of the library. A library or a structure with more parts than 32 bits number, as no
-    /// stream has, is answered so, too.
+    /// No memory is left, which says nothing of the library.
     Memory,
 }
 

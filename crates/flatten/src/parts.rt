@@ -1,4 +1,4 @@
-ghost use Rattle.std.specs.Prelude.{List, ◌≡◌, IfOk, IfErr, All, [], ◌∷◌, ◌++◌, option_to_list};
+ghost use Rattle.std.specs.Prelude.{List, ◌≡◌, ◌<◌, ◌^◌, IfOk, IfErr, All, [], ◌∷◌, ◌++◌, length, option_to_list};
 ghost use Rattle.std.specs.List.{enumerate_from};
 ghost use Rattle.first_refusal.specs.Answers.{Answers};
 ghost use Rattle.first_refusal.specs.Checks.{IsRefusalOfFirst};
@@ -49,14 +49,12 @@ fn push_part<'a>(
     map: &Map,
     index: &NameIndex<'_>,
 ) -> Result<(), PlaceFault>
+    requires { place < 2 ^ 32 }
     ensures { Answers PlaceFault.Memory (MakesParts index.now (references_in element.now)
         (λ _. (more : List Part) × (parts.new.items ≡ parts.old.items ++ more)
         × AreParts index.now (layer_map_of map.now) ((place, element.now) ∷ []) more)) result }
 {
-    let Ok(number) = u32::try_from(place) else {
-        return Err(PlaceFault::Memory);
-    };
-    if let Some(part) = part_of(number, element, map, index)? {
+    if let Some(part) = part_of(place as u32, element, map, index)? {
         parts.push(part)?;
     }
     Ok(())
@@ -69,6 +67,7 @@ pub fn parts_of<'a>(
     map: &Map,
     index: &NameIndex<'_>,
 ) -> Result<Vec<Part<'a>>, PlaceFault>
+    requires { length structure.now.elements < 2 ^ 32 }
     ensures { Answers PlaceFault.Memory (MakesParts index.now (references_among structure.now.elements)
         (λ parts. AreParts index.now (layer_map_of map.now) (enumerate_from 0 structure.now.elements) parts.items)) result }
 {
@@ -87,6 +86,7 @@ pub fn nodes_of<'a>(
     map: &Map,
     index: &NameIndex<'_>,
 ) -> Result<Vec<Vec<Part<'a>>>, PlaceFault>
+    requires { All (λ structure. length structure.elements < 2 ^ 32) structures.now }
     ensures { Answers PlaceFault.Memory (MakesParts index.now (all_references structures.now)
         (λ nodes. AreNodes index.now (layer_map_of map.now) structures.now nodes.items)) result }
 {

@@ -1,4 +1,4 @@
-ghost use Rattle.std.specs.Prelude.{[], ◌≡◌, ◌≢◌, IfOk, IfErr, option_copied};
+ghost use Rattle.std.specs.Prelude.{[], ◌≡◌, ◌≢◌, ◌<◌, ◌^◌, All, IfOk, IfErr, length, option_copied};
 ghost use Rattle.first_refusal.specs.Answers.{Answers};
 ghost use Rattle.first_refusal.specs.Outcomes.{refused};
 ghost use Rattle.lists.specs.Differing.{AreDifferent};
@@ -53,6 +53,9 @@ fn expanded(alloc: Global, plan: &mut Plan<'_>) -> Result<Vec<Placed>, PlaceFaul
 /// after the other: those of SREF and AREF, with STRANS, ANGLE and COLROW, in the GDSII Stream Format Manual, Release 6.0.
 /// Shapes on other layers are neither placed nor counted, wherever they lie.
 ///
+/// No two structures have one name, and there are fewer than 2^32 structures, each with fewer than 2^32 elements, as in each
+/// library that was read.
+///
 /// The fault is that of the first check that fails; `PlaceFault` has their order. References, cycles and the choice of the
 /// top are checked in the whole library, whether the top reaches them or not. How deep the top is and how much it places is
 /// known before any array is walked.
@@ -63,6 +66,8 @@ pub fn place(
     top: Option<&[u8]>,
 ) -> Result<Vec<Placed>, PlaceFault>
     requires differ { AreDifferent (names_of library.now.structures) }
+    requires few_structures { length library.now.structures < 2 ^ 32 }
+    requires few_elements { All (λ structure. length structure.elements < 2 ^ 32) library.now.structures }
     ensures placed { IfOk result (λ placed. ArePlaced library.now.structures (layer_map_of map.now) (option_copied top.entry) placed.items) }
     ensures refused { IfErr result (λ fault. fault ≢ Memory →
         Placing library.now.structures (layer_map_of map.now) (option_copied top.entry) (refused fault)) }

@@ -1,4 +1,4 @@
-ghost use Rattle.std.specs.Prelude.{option_copied};
+ghost use Rattle.std.specs.Prelude.{◌<◌, ◌^◌, All, length, option_copied};
 ghost use Rattle.lists.specs.Differing.{AreDifferent};
 ghost use Rattle.library_model.specs.Names.{names_of};
 ghost use Rattle.map_model.specs.LayerMap.{LayerMap};
@@ -61,7 +61,8 @@ fn plan_with<'a>(
     index: &NameIndex<'_>,
     wanted: Option<&[u8]>,
 ) -> Result<Plan<'a>, PlaceFault>
-    requires { AreIndexed structures.now index.now }
+    requires indexed { AreIndexed structures.now index.now }
+    requires few_elements { All (λ structure. length structure.elements < 2 ^ 32) structures.now }
     ensures { Answers PlaceFault.Memory (Chooses structures.now (option_copied wanted.entry)
         (IsPlan structures.now (layer_map_of map.now) (option_copied wanted.entry))) result }
 {
@@ -71,22 +72,20 @@ fn plan_with<'a>(
     Ok(Plan { nodes, states, top })
 }
 
-/// The plan of a library. The fault is that of the first check of the library that fails. A library of 2^32 structures,
-/// which no stream can have, is answered as one for which no memory is left.
+/// The plan of a library. The fault is that of the first check of the library that fails.
 pub fn plan_of<'a>(
     alloc: Global,
     library: &'a Library,
     map: &Map,
     wanted: Option<&[u8]>,
 ) -> Result<Plan<'a>, PlaceFault>
-    requires { AreDifferent (names_of library.now.structures) }
+    requires differ { AreDifferent (names_of library.now.structures) }
+    requires few_structures { length library.now.structures < 2 ^ 32 }
+    requires few_elements { All (λ structure. length structure.elements < 2 ^ 32) library.now.structures }
     ensures { Answers PlaceFault.Memory (Chooses library.now.structures (option_copied wanted.entry)
         (IsPlan library.now.structures (layer_map_of map.now) (option_copied wanted.entry))) result }
 {
     let structures = library.structures.as_slice();
-    if structures.len() > u32::MAX as usize {
-        return Err(PlaceFault::Memory);
-    }
     let index = library.index(alloc)?;
     plan_with(alloc, structures, map, &index, wanted)
 }

@@ -1,4 +1,3 @@
-use Rattle.first_refusal.specs.Answers.{no_memory}
 use Rattle.first_refusal.proofs.AnswerLaws.{out_of_memory}
 use Rattle.flatten.proofs.plan.plan_of.Goals as goal
 
@@ -7,6 +6,3 @@ returns c = rw c.as_slice-structures.ensures at c.plan_with.ensures
 
 pub returns-in_err-index : goal.returns-in_err-index
 returns-in_err-index c = out_of_memory _ _ c.from_residual.result c.from_residual.ensures.1
-
-pub returns-then-structures : goal.returns-then-structures
-returns-then-structures c = no_memory

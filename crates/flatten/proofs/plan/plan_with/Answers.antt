@@ -8,28 +8,28 @@ use Rattle.flatten.proofs.plan.plan_with.Goals as goal
 
 pub returns-in_err-nodes : goal.returns-in_err-nodes
 returns-in_err-nodes c = handed_on _ _ c.from_residual.result _ c.from_residual.ensures.1
-    (unknown_refused c.args.structures.now (option_copied c.args.wanted) _ _ c.in_err-nodes.field-0.0 (rw c.requires.names at c.in_err-nodes.ensures))
+    (unknown_refused c.args.structures.now (option_copied c.args.wanted) _ _ c.in_err-nodes.field-0.0 (rw c.requires.indexed.names at c.in_err-nodes.ensures))
 
 pub survey-requires-clause-below : goal.survey-requires-clause-below
 survey-requires-clause-below c =
-    let told = rw c.requires.names at c.in_ok-nodes.ensures in
+    let told = rw c.requires.indexed.names at c.in_ok-nodes.ensures in
     rw c.deref.ensures.value (nodes_below c.args.structures.now (layer_map_of c.args.map.now) c.in_ok-nodes.nodes.items (given told))
 
 pub survey-requires-clause-long : goal.survey-requires-clause-long
 survey-requires-clause-long c =
-    let told = rw c.requires.names at c.in_ok-nodes.ensures in
+    let told = rw c.requires.indexed.names at c.in_ok-nodes.ensures in
     rw c.deref.ensures.value (nodes_long c.args.structures.now (layer_map_of c.args.map.now) c.in_ok-nodes.nodes.items (given told))
 
 pub returns-in_err-states : goal.returns-in_err-states
 returns-in_err-states c =
-    let told = rw c.requires.names at c.in_ok-nodes.ensures in
+    let told = rw c.requires.indexed.names at c.in_ok-nodes.ensures in
     handed_on _ _ c.from_residual-in_err-states.result _ c.from_residual-in_err-states.ensures.1
     (cycle_of c.args.structures.now (layer_map_of c.args.map.now) c.in_ok-nodes.nodes.items (given told) (passed told) (option_copied c.args.wanted) _ c.in_err-states.field-0.0
     (rw c.deref.ensures.value at c.in_err-states.ensures.answers))
 
 pub top_of-requires-clause-surveyed : goal.top_of-requires-clause-surveyed
 top_of-requires-clause-surveyed c =
-    let told = rw c.requires.names at c.in_ok-nodes.ensures in
+    let told = rw c.requires.indexed.names at c.in_ok-nodes.ensures in
     let done = done_by (rw c.deref.ensures.value at c.in_ok-states.ensures.answers) in
     (layer_map_of c.args.map.now, rw c.deref-2.ensures.value (surveyed_of c.args.structures.now _ c.in_ok-nodes.nodes.items (given told) (passed told) c.in_ok-states.states.items done))
 
@@ -38,7 +38,7 @@ returns-in_err-top c = handed_on _ _ c.from_residual-in_err-top.result _ c.from_
 
 pub returns : goal.returns
 returns c =
-    let told = rw c.requires.names at c.in_ok-nodes.ensures in
+    let told = rw c.requires.indexed.names at c.in_ok-nodes.ensures in
     let done = done_by (rw c.deref.ensures.value at c.in_ok-states.ensures.answers) in
     let long = nodes_long c.args.structures.now (layer_map_of c.args.map.now) c.in_ok-nodes.nodes.items (given told) in
     chosen_by c.args.structures.now _ (given c.in_ok-top.ensures) (record {
