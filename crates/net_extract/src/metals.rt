@@ -1,4 +1,5 @@
 ghost use Rattle.std.specs.Prelude.{◌+◌, ◌^◌, ◌<◌, ◌≤◌, IfOk, length};
+ghost use Rattle.map_model.specs.declared.limits.TheConstants.{MOST_METALS};
 ghost use Rattle.net_extract.specs.inside.Numbering.{AreIslandsFrom, AreIslandsOf};
 
 use super::slimming::slim;
@@ -26,21 +27,18 @@ pub fn metal_islands(
     lists: &[RectList],
     metals: usize,
 ) -> Result<MetalIslands, NoMemory>
-    requires { metals ≤ length lists.now }
+    requires listed { metals ≤ length lists.now }
+    requires few { metals ≤ MOST_METALS }
     ensures { IfOk result (λ made. AreIslandsOf lists.now metals made.count made.islands) }
 {
     let mut islands = Vec::new(alloc);
     let mut count: usize = 0;
     for metal in 0..metals {
         let rects = lists[metal].as_slice();
-        match count.checked_add(rects.len()) {
-            Some(next) => {
-                islands.push(islands_from(alloc, rects, count)?)?;
-                count = next;
-            }
-            // No memory holds more rectangles than can be numbered.
-            None => return Err(NoMemory),
-        }
+        // No list holds 2^59 rectangles, which take 16 bytes each, and there are at most 16 lists. So the sum fits.
+        let next = count + rects.len();
+        islands.push(islands_from(alloc, rects, count)?)?;
+        count = next;
     }
     Ok(MetalIslands {
         islands: Items::from_vec(islands),
