@@ -1,5 +1,6 @@
 pub mod BoxLaws
 pub mod FootprintLaws
+pub mod GrowthLaws
 pub mod NumberLaws
 pub mod OutsideLaws
 pub mod RankLaws

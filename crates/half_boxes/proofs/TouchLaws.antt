@@ -81,7 +81,7 @@ all_alike columns rows boxes made across up each = record {
 
 -- ---- pairs
 
-boxes_sym : (boxes : List HalfBox) (a b : ℕ) → AreTouchingBoxes boxes a b → AreTouchingBoxes boxes b a
+pub boxes_sym : (boxes : List HalfBox) (a b : ℕ) → AreTouchingBoxes boxes a b → AreTouchingBoxes boxes b a
 boxes_sym boxes a b t = record { one = t.other; other = t.one; one_at = t.other_at; other_at = t.one_at; touch = TouchHalves-sym t.one t.other t.touch }
 
 module _ (boxes : List HalfBox) (made : List Rect) (same : TouchAlike boxes made) (pairs : List (ℕ × ℕ)) where

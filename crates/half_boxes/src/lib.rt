@@ -5,6 +5,7 @@
 
 pub mod boxes;
 pub mod footprints;
+pub mod growth;
 pub mod outside;
 mod ranks;
 mod scan;
@@ -13,6 +14,7 @@ pub mod touching;
 
 pub use boxes::HalfBox;
 pub use footprints::{GREATEST_SIDE, core_of, reach_of};
+pub use growth::grown_links;
 pub use outside::Outside;
 pub use span::{FARTHEST_HALF, HalfSpan};
 pub use touching::links_of;

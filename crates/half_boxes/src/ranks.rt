@@ -1,7 +1,7 @@
 //! Boxes as rectangles of the plane of cells. Whether boxes touch depends on the order of their edges alone, so each edge
 //! may be replaced by its number among all edges.
 
-ghost use Rattle.std.specs.Prelude.{◌≡◌, All, Contains, IfOk};
+ghost use Rattle.std.specs.Prelude.{◌≡◌, All, Contains, IfOk, IfSome};
 ghost use Rattle.lists.specs.Words.{AllZip};
 ghost use Rattle.half_boxes.specs.inside.Ranks.{AreEnds, HasEnds, HaveRanks, IsRank, IsRankedBox, IsRankedSpan, TouchAlike};
 ghost use Rattle.half_boxes.specs.HalfBoxes.{span_along};
@@ -11,33 +11,37 @@ use super::span::HalfSpan;
 use geo_core::{Axis, FARTHEST_GROWN, Interval, NoMemory, Rect};
 use std::alloc::{AllocError, Global};
 
-/// The most ends that have ranks up to the greatest coordinate of a rectangle.
+/// The most ends that have ranks up to the greatest coordinate of a rectangle: those of some 500,000,000 boxes at least.
 const MOST_ENDS: usize = 1_001_000_000;
 
 const _: () = prove!(MOST_ENDS == FARTHEST_GROWN as usize);
 
-/// A rectangle for each box, of which two touch exactly where the two boxes do.
-pub fn ranked(alloc: Global, boxes: &[HalfBox]) -> Result<Vec<Rect>, NoMemory>
-    ensures { IfOk result (λ rects. TouchAlike boxes.now rects.items) }
+/// A rectangle for each box, of which two touch exactly where the two boxes do; none where the boxes have more ends along
+/// an axis than there are ranks.
+pub fn ranked(alloc: Global, boxes: &[HalfBox]) -> Result<Option<Vec<Rect>>, NoMemory>
+    ensures { IfOk result (λ made. IfSome made (λ rects. TouchAlike boxes.now rects.items)) }
 {
-    let columns = ends_along(alloc, boxes, Axis::X)?;
-    let rows = ends_along(alloc, boxes, Axis::Y)?;
+    let Some(columns) = ends_along(alloc, boxes, Axis::X)? else {
+        return Ok(None);
+    };
+    let Some(rows) = ends_along(alloc, boxes, Axis::Y)? else {
+        return Ok(None);
+    };
     let rects = ranked_among(alloc, boxes, columns.as_slice(), rows.as_slice())?;
-    Ok(rects)
+    Ok(Some(rects))
 }
 
-/// The ends of the boxes along the axis, in rising order and each once.
-fn ends_along(alloc: Global, boxes: &[HalfBox], axis: Axis) -> Result<Vec<i32>, NoMemory>
-    ensures { IfOk result (λ ends. AreEnds axis boxes.now ends.items) }
+/// The ends of the boxes along the axis, in rising order and each once, unless there are more of them than ranks.
+fn ends_along(alloc: Global, boxes: &[HalfBox], axis: Axis) -> Result<Option<Vec<i32>>, AllocError>
+    ensures { IfOk result (λ made. IfSome made (λ ends. AreEnds axis boxes.now ends.items)) }
 {
     let mut ends = all_ends_along(alloc, boxes, axis)?;
     ends.sort_unstable();
     ends.dedup();
-    // More ends than that are those of over 500,000,000 boxes, whose rectangles are taken to find no memory.
     if ends.len() > MOST_ENDS {
-        return Err(NoMemory);
+        return Ok(None);
     }
-    Ok(ends)
+    Ok(Some(ends))
 }
 
 /// The ends of the boxes along the axis, box by box.

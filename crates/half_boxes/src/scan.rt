@@ -36,7 +36,7 @@ fn by_column(alloc: Global, boxes: &[HalfBox]) -> Result<Vec<Numbered>, AllocErr
 }
 
 /// The boxes with their numbers.
-fn with_numbers(alloc: Global, boxes: &[HalfBox]) -> Result<Vec<Numbered>, AllocError>
+pub fn with_numbers(alloc: Global, boxes: &[HalfBox]) -> Result<Vec<Numbered>, AllocError>
     ensures numbered { IfOk result (λ entries. AreNumbered boxes.now entries.items) }
     ensures as_many { IfOk result (λ entries. length entries.items ≡ length boxes.now) }
 {

@@ -3,6 +3,7 @@ ghost use Rattle.classes.specs.Classes.{AreJoined};
 ghost use Rattle.half_boxes.specs.HalfBoxes.{AreTouchingBoxes};
 
 use super::boxes::HalfBox;
+use super::growth::grown_links;
 use super::ranks::ranked;
 use super::scan::touching_pairs;
 use geo_core::NoMemory;
@@ -17,9 +18,10 @@ const SHORT_LIST: usize = 400;
 /// edge; a common corner alone is not enough.
 ///
 /// Pairs come in no order, and may come more than once. Numbers are counted from 0. The only error is that no memory is
-/// left; it is the answer, too, where the boxes have more than 1,001,000,000 different edges along an axis.
+/// left.
 ///
-/// For n boxes there are at most 51 n (levels + 1) pairs, where n is at most 2 to the power of the levels.
+/// For n boxes there are at most 51 n (levels + 1) pairs, where n is at most 2 to the power of the levels. Where the boxes
+/// have more than 1,001,000,000 different edges along an axis it may take n times n steps.
 pub fn links_of(alloc: Global, boxes: &[HalfBox]) -> Result<Vec<(usize, usize)>, NoMemory>
     ensures touching { IfOk result (λ pairs. (a b : ℕ) → Contains pairs.items (a, b) → AreTouchingBoxes boxes.now a b) }
     ensures joined { IfOk result (λ pairs. (a b : ℕ) → AreTouchingBoxes boxes.now a b →
@@ -30,6 +32,8 @@ pub fn links_of(alloc: Global, boxes: &[HalfBox]) -> Result<Vec<(usize, usize)>,
     if boxes.len() <= SHORT_LIST {
         return touching_pairs(alloc, boxes);
     }
-    let rects = ranked(alloc, boxes)?;
-    touch_links(alloc, rects.as_slice())
+    match ranked(alloc, boxes)? {
+        Some(rects) => touch_links(alloc, rects.as_slice()),
+        None => grown_links(alloc, boxes),
+    }
 }
