@@ -21,9 +21,21 @@ module _ (workers half each : ℕ) (some : 0 < workers) (part : half ≤ workers
       let kept : workers * each - draws ≡ (workers - half) * each = omega (arith, both, is) in
       after ∙ ap (without_draws draws) before ∙ ap fresh kept
 
+  -- the same of a hand that has made no draw
+  pub left_draws : (v w : View) (draws : ℕ) → v.made ≡ 0 → v.left ≡ workers * each → draws ≡ half * each →
+      w ≡ without_draws draws v → w.made + w.left ≡ (workers - half) * each
+  left_draws v w draws none all is after =
+      omega (arith, both, none, all, is, ap (λ (u : View). u.made) after, ap (λ (u : View). u.left) after)
+
   pub joined_draws : (v other w : View) → w ≡ with_all_of other v → v.made + v.left ≡ (workers - half) * each → other.made + other.left ≡ half * each → w.made + w.left ≡ workers * each
   joined_draws v other w joined first second =
       omega (arith, both, first, second, ap (λ (u : View). u.made) joined, ap (λ (u : View). u.left) joined)
+
+-- so many workers have as many draws as their part of all draws
+pub part_draws : (workers some each all draws : ℕ) → 1 ≤ workers → all ≡ workers * each → draws ≡ some * (all / workers) →
+    draws ≡ some * each
+part_draws workers some each all draws any is part =
+    part ∙ ap (λ n. some * n) (ap (λ n. n / workers) is ∙ mul-div_cancel_left each any)
 
 -- what follows where both answers are `Ok`
 pub both_ok : {E P Q R : Type 0} (a b r : Result (Unit {0}) E) → r ≡ result_and a b → (P → Q → R) → OnOk a P → OnOk b Q → OnOk r R

@@ -1,4 +1,4 @@
-ghost use Rattle.std.specs.Prelude.{◌+◌, ◌*◌, ◌≡◌, ◌≤◌, ◌<◌, OnOk, length};
+ghost use Rattle.std.specs.Prelude.{◌+◌, ◌*◌, ◌≡◌, ◌≤◌, ◌<◌, OnOk, length, max, min};
 ghost use Rattle.std.specs.Thread.{IsSync};
 ghost use Rattle.tile_board.specs.Closing.{HasAllDraws};
 ghost use Rattle.tile_board.specs.Hands.{limits_of, view_of, BelongsTo};
@@ -19,10 +19,11 @@ pub const MOST_WORKERS: u32 = 64;
 
 const _: () = prove!(MOST_WORKERS == 64);
 
-/// Draws all tickets of the board and credits the amounts of the job, by so many workers at once. The caller is one of them,
-/// and the others are in threads of their own where these can be started: where one cannot be, the thread that was to start it
-/// does its part too. All of them have ended when it answers, and the hand has all that they drew and credited. A worker draws
-/// until it is told that no ticket is left, and lets each ticket pass the gate before it asks for its amounts.
+/// Draws all tickets of the board and credits the amounts of the job, by so many workers at once, or by one for each ticket where
+/// there are fewer tickets. The caller is one of them, and the others are in threads of their own where these can be started:
+/// where one cannot be, the thread that was to start it does its part too. All of them have ended when it answers, and the hand
+/// has all that they drew and credited. A worker draws until it is told that no ticket is left, and lets each ticket pass the
+/// gate before it asks for its amounts.
 ///
 /// The only error is that no memory is left. The worker that finds none stops, and the others go on to their end. Then
 /// some tickets may be without credits.
@@ -48,11 +49,20 @@ pub fn run_tiles<R: Threads + Sync, J: TileJob + Sync, G: Gate + Sync>(
     ensures none_left { OnOk result (length (view_of hand.new).tickets < (view_of hand.new).made) }
     ensures credits { OnOk result (HasCredits (J.slots job.now) (J.is_amount job.now) (view_of hand.new)) }
 {
-    let draws = hand.left();
-    let own = board.split(hand, draws);
-    let (own, outcome) = work_in_halves(rt, alloc, job, gate, board, own, workers);
+    // One draw more than there are tickets. The draws of workers who do not start stay with the hand.
+    let each = hand.left() / u64::from(workers);
+    let starting = starting_workers(workers, each - 1);
+    let own = board.split(hand, u64::from(starting) * each);
+    let (own, outcome) = work_in_halves(rt, alloc, job, gate, board, own, starting);
     board.join(hand, own);
     outcome
+}
+
+// How many of the workers start: no more than there are tickets, but one where there are none.
+fn starting_workers(workers: u32, tickets: u64) -> u32
+    ensures { result ≡ max 1 (min workers tickets) }
+{
+    u64::from(workers).min(tickets).max(1) as u32
 }
 
 // Halves the workers until there is one, and lets both halves work at once, each with draws for its own.
