@@ -12,7 +12,7 @@ pub const USUAL_TURNS: u64 = 1_000_000_000;
 pub const FEW_TURNS: u64 = 100_000_000;
 
 /// How many tickets the gate can tell apart: the numbers below this.
-pub const MOST_TICKETS: usize = 4;
+pub const MOST_TICKETS: usize = 64;
 
 /// A gate that holds the tickets that come first, whichever they are, until all have come, and counts how often each of them
 /// comes. Of more than `MOST_TICKETS` tickets it counts the others together, and cannot see where one of those comes twice in
@@ -27,17 +27,17 @@ pub struct HoldFirst {
     turns: u64,
     /// How many have come.
     come: AtomicU64,
-    /// How often each has come that can be told apart.
-    times: [AtomicU64; MOST_TICKETS],
+    /// Which have come of those that can be told apart: a bit for each.
+    seen: AtomicU64,
+    /// How often one of these came that had come before.
+    again: AtomicU64,
     /// How many held tickets looked in vain.
     given_up: AtomicU64,
 }
 
 impl Gate for HoldFirst {
     fn pass(&self, ticket: u64) {
-        if ticket < MOST_TICKETS as u64 {
-            self.times[ticket as usize].fetch_add(1, Ordering::SeqCst);
-        }
+        self.note(ticket);
         if self.come.fetch_add(1, Ordering::SeqCst) < self.held {
             self.hold();
         }
@@ -58,13 +58,20 @@ impl HoldFirst {
             held,
             turns,
             come: AtomicU64::new(0),
-            times: [
-                AtomicU64::new(0),
-                AtomicU64::new(0),
-                AtomicU64::new(0),
-                AtomicU64::new(0),
-            ],
+            seen: AtomicU64::new(0),
+            again: AtomicU64::new(0),
             given_up: AtomicU64::new(0),
+        }
+    }
+
+    /// Keeps in mind that the ticket has come, if it can be told apart.
+    fn note(&self, ticket: u64) {
+        if ticket >= MOST_TICKETS as u64 {
+            return;
+        }
+        let bit = 1 << ticket;
+        if self.seen.fetch_or(bit, Ordering::SeqCst) & bit != 0 {
+            self.again.fetch_add(1, Ordering::SeqCst);
         }
     }
 
@@ -80,16 +87,19 @@ impl HoldFirst {
 
     /// Whether the ticket has come. It answers no for one that it cannot tell from others.
     pub fn has_come(&self, ticket: u64) -> bool {
-        ticket < MOST_TICKETS as u64 && self.times[ticket as usize].load(Ordering::SeqCst) > 0
+        ticket < MOST_TICKETS as u64 && self.seen.load(Ordering::SeqCst) & (1 << ticket) != 0
     }
 
     /// Whether each ticket has come once and nothing else has, and each that was held saw the others come.
     pub fn is_content(&self) -> bool {
-        let mut once = self.come.load(Ordering::SeqCst) == self.tickets;
-        for ticket in 0..MOST_TICKETS {
-            let wanted = if (ticket as u64) < self.tickets { 1 } else { 0 };
-            once = once && self.times[ticket].load(Ordering::SeqCst) == wanted;
-        }
-        once && self.given_up.load(Ordering::SeqCst) == 0
+        let all = if self.tickets < MOST_TICKETS as u64 {
+            !(u64::MAX << self.tickets)
+        } else {
+            u64::MAX
+        };
+        self.come.load(Ordering::SeqCst) == self.tickets
+            && self.seen.load(Ordering::SeqCst) == all
+            && self.again.load(Ordering::SeqCst) == 0
+            && self.given_up.load(Ordering::SeqCst) == 0
     }
 }
