@@ -12,6 +12,7 @@ pub fn plan(window: Rect, edge: u32) -> TilePlan
     requires short { edge ≤ 1000000000 }
     ensures window { result.window ≡ window }
     ensures edge { IsDoubledEdge window edge result.edge }
+    ensures kept { HasFewTiles window edge → result.edge ≡ edge }
 {
     match plan_with(window, edge) {
         Some(plan) => plan,
