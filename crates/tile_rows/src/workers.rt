@@ -3,5 +3,6 @@
 
 mod held;
 mod jobs;
+mod many;
 mod refusals;
 mod rows;

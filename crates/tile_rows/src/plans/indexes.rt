@@ -1,25 +1,36 @@
+ghost use Rattle.std.specs.Prelude.{◌<◌};
+
 use super::found::{near_in_order, so_many_near};
 use geo_core::{Labelled, Rect};
 use std::alloc::{AllocError, Global};
 use tile_plan::{NearIndex, TilePlan, near, plan};
 
-/// Four hundred pieces, more than one band of an index has.
+/// Pieces, more than one band of an index has.
 #[derive(Clone, Copy)]
 enum Layout {
     /// Squares of 4 by 4 cells, 10 apart, in twenty rows of twenty.
     Squares,
-    /// Bars of many sizes, wide ones and high ones, that lie about and over one another.
+    /// Such squares, in 200 rows of 350: 70,000, more than 16 bits number.
+    ManySquares,
+    /// Four hundred bars of many sizes, wide ones and high ones, that lie about and over one another.
     Bars,
+}
+
+/// The square in this column and this row.
+fn square_at(column: usize, row: usize) -> Rect
+    requires across { column < 1000 }
+    requires up { row < 1000 }
+{
+    let x = 10 * column as i32;
+    let y = 10 * row as i32;
+    Rect::new(x, y, x + 4, y + 4)
 }
 
 /// The rectangle of this number.
 fn rect_at(layout: Layout, number: usize) -> Rect {
     match layout {
-        Layout::Squares => {
-            let x = 10 * (number % 20) as i32;
-            let y = 10 * (number / 20 % 20) as i32;
-            Rect::new(x, y, x + 4, y + 4)
-        }
+        Layout::Squares => square_at(number % 20, number / 20 % 20),
+        Layout::ManySquares => square_at(number % 350, number / 350 % 200),
         Layout::Bars => {
             let x = (number % 400 * 37 % 401) as i32;
             let y = (number % 400 * 53 % 397) as i32;
@@ -30,10 +41,18 @@ fn rect_at(layout: Layout, number: usize) -> Rect {
     }
 }
 
+/// How many pieces the layout has.
+fn count_of(layout: Layout) -> usize {
+    match layout {
+        Layout::Squares | Layout::Bars => 400,
+        Layout::ManySquares => 70_000,
+    }
+}
+
 /// All of them, with their numbers as labels.
-fn four_hundred(alloc: Global, layout: Layout) -> Result<Vec<Labelled>, AllocError> {
+fn pieces_of(alloc: Global, layout: Layout) -> Result<Vec<Labelled>, AllocError> {
     let mut pieces = Vec::new(alloc);
-    for label in 0..400 {
+    for label in 0..count_of(layout) {
         let rect = rect_at(layout, label);
         pieces.push(Labelled { rect, label })?;
     }
@@ -43,7 +62,7 @@ fn four_hundred(alloc: Global, layout: Layout) -> Result<Vec<Labelled>, AllocErr
 /// Whether so many of the squares are near the tile of 50 by 50 cells whose lower left is at 50, 50.
 fn squares_are_near(alloc: Global, reach: u32, count: usize) -> bool {
     let tile = Rect::new(50, 50, 100, 100);
-    match four_hundred(alloc, Layout::Squares) {
+    match pieces_of(alloc, Layout::Squares) {
         Ok(pieces) => so_many_near(alloc, pieces.as_slice(), tile, reach, count),
         Err(_) => false,
     }
@@ -59,6 +78,40 @@ fn finds_squares_round_a_tile(rt: HostRuntime) {
         assert!(rt;
             squares_are_near(rt.alloc(), *reach, *count),
             "reach {reach}"
+        );
+    }
+}
+
+/// Whether so many of the 70,000 squares are near the tile with this number, of two: the left one of 2,000 by 2,000 cells, and
+/// the right one of 1,500 by 2,000.
+fn many_are_near(alloc: Global, number: u64, reach: u32, count: usize) -> bool {
+    let tiles = plan(Rect::new(0, 0, 3500, 2000), 2000);
+    if tiles.count() != 2 || number >= 2 {
+        return false;
+    }
+    let tile = tiles.tile(number);
+    match pieces_of(alloc, Layout::ManySquares) {
+        Ok(pieces) => so_many_near(alloc, pieces.as_slice(), tile, reach, count),
+        Err(_) => false,
+    }
+}
+
+/// The number of a tile, a reach, and how many of the 70,000 squares are near. Each column has 200. Columns 0 to 199 lie in the
+/// left tile and 200 to 349 in the right one. Column 349 begins 1,490 cells behind the left one, and column 50 ends 1,496 cells
+/// before the right one, but column 49 ends 1,506 before it.
+const MANY_NEAR: &[(u64, u32, usize)] = &[
+    (0, 0, 40_000),
+    (1, 0, 30_000),
+    (0, 1500, 70_000),
+    (1, 1500, 60_000),
+];
+
+#[test]
+fn finds_many_squares_near_a_tile(rt: HostRuntime) {
+    for (number, reach, count) in MANY_NEAR {
+        assert!(rt;
+            many_are_near(rt.alloc(), *number, *reach, *count),
+            "tile {number}"
         );
     }
 }
@@ -121,7 +174,7 @@ fn index_finds_all(alloc: Global, pieces: &[Labelled], edge: u32, reach: u32) ->
 
 /// Whether it does for the pieces of this layout.
 fn finds_all(alloc: Global, layout: Layout, edge: u32, reach: u32) -> bool {
-    match four_hundred(alloc, layout) {
+    match pieces_of(alloc, layout) {
         Ok(pieces) => index_finds_all(alloc, pieces.as_slice(), edge, reach),
         Err(_) => false,
     }

@@ -34,8 +34,8 @@ impl TileJob for HeldJob<'_> {
     }
 }
 
-/// How many workers there are, how many tickets, at most four, how many of these the gate holds and for how many turns, whether
-/// it is content, and what the totals of two slots come to.
+/// How many workers there are, how many tickets, at most 64, how many of these the gate holds and for how many turns, whether it
+/// is content, and what the totals of two slots come to.
 type Row = (u32, u32, u64, u64, bool, [u64; 2]);
 
 const ROWS: &[Row] = &[
@@ -43,6 +43,11 @@ const ROWS: &[Row] = &[
     (2, 4, 1, USUAL_TURNS, true, [6, 10]),
     // three are held until the fourth comes, which takes a worker for each
     (4, 4, 3, USUAL_TURNS, true, [6, 10]),
+    // seven until the eighth, and of more workers than tickets there is one for each
+    (8, 8, 7, USUAL_TURNS, true, [28, 36]),
+    (64, 8, 7, USUAL_TURNS, true, [28, 36]),
+    // as many as may be: the numbers below 64 come to 63 times 32
+    (64, 64, 63, USUAL_TURNS, true, [2016, 2080]),
     // one worker is held in vain, and then counts as ever
     (1, 2, 1, FEW_TURNS, false, [1, 3]),
 ];
@@ -50,7 +55,7 @@ const ROWS: &[Row] = &[
 /// Whether a row comes out, by a gate that was made for it.
 fn is_held(rt: &(impl Threads + Sync), alloc: Global, gate: &HoldFirst, row: &Row) -> bool {
     let (workers, tickets, _, _, content, wanted) = *row;
-    if workers < 1 || workers > 64 || tickets > 4 {
+    if workers < 1 || workers > 64 || tickets > 64 {
         return false;
     }
     let sums = SumJob {
@@ -60,7 +65,7 @@ fn is_held(rt: &(impl Threads + Sync), alloc: Global, gate: &HoldFirst, row: &Ro
     };
     let job = HeldJob { sums, gate };
     let draws = u64::from(workers) * (u64::from(tickets) + 1);
-    let Ok((board, mut hand)) = Board::new(alloc, u64::from(tickets), 2, 4, draws) else {
+    let Ok((board, mut hand)) = Board::new(alloc, u64::from(tickets), 2, 64, draws) else {
         return false;
     };
     match run_tiles(rt, alloc, &job, gate, &board, &mut hand, workers) {
