@@ -11,3 +11,4 @@ pub mod NearLaws
 pub mod SharingLaws
 pub mod CountingLaws
 pub mod WholeLaws
+pub mod LengtheningLaws

@@ -1,9 +1,10 @@
-ghost use Rattle.std.specs.Prelude.{◌≤◌};
+ghost use Rattle.std.specs.Prelude.{◌≡◌, ◌≤◌};
+ghost use Rattle.critical_areas.specs.inside.Lengthening.{IsDoubled};
 
 use super::parts::Parts;
 use geo_core::Rect;
 use questions::Question;
-use tile_plan::Rectangular;
+use tile_plan::{Rectangular, TilePlan, plan};
 
 /// A longer edge is not doubled.
 const LONG_EDGE: u32 = 500_000_000;
@@ -11,14 +12,26 @@ const LONG_EDGE: u32 = 500_000_000;
 /// So many looks at pieces beyond two at each are always spared.
 const SPARED_LOOKS: u64 = 100_000;
 
-/// The edge of the tiles to count over: the one that is asked for, doubled until tiles look at each piece about twice on average,
-/// and in all about 100,000 times more. Each tile looks at all pieces that come near it, so over short tiles the work of wires as
-/// long as the layout would grow with the square of their number, and so would that of large defects.
-pub fn sensible_edge(parts: &Parts, edge: u32) -> u32
+/// The tiles of the window to count over. Their edge is the one that is asked for, doubled where tiles would be too many or would
+/// take too many looks at pieces.
+pub fn sensible_plan(parts: &Parts, window: Rect, edge: u32) -> TilePlan
+    requires some { 1 ≤ edge }
+    requires short { edge ≤ 1000000000 }
+    ensures window { result.window ≡ window }
+    ensures edge { IsDoubled edge result.edge }
+{
+    plan(window, sensible_edge(parts, edge))
+}
+
+/// The edge that is asked for, doubled until tiles look at each piece about twice on average, and in all about 100,000 times more.
+/// Each tile looks at all pieces that come near it, so over short tiles the work of wires as long as the layout would grow with
+/// the square of their number, and so would that of large defects.
+fn sensible_edge(parts: &Parts, edge: u32) -> u32
     requires some { 1 ≤ edge }
     requires short { edge ≤ 1000000000 }
     ensures some { 1 ≤ result }
     ensures short { result ≤ 1000000000 }
+    ensures edge { IsDoubled edge result }
 {
     doubled(parts, greatest_reach(parts.questions.as_slice()), edge)
 }
@@ -38,6 +51,7 @@ fn doubled(parts: &Parts, reach: u32, edge: u32) -> u32
     requires short { edge ≤ 1000000000 }
     ensures some { 1 ≤ result }
     ensures short { result ≤ 1000000000 }
+    ensures edge { IsDoubled edge result }
 {
     if edge > LONG_EDGE || further_looks(parts, reach, edge) <= SPARED_LOOKS {
         return edge;

@@ -15,7 +15,7 @@ ghost use Rattle.critical_areas.specs.inside.Sharing.{AreCounted, IsCounted};
 
 use super::answering::rows;
 use super::counting::amounts;
-use super::edges::sensible_edge;
+use super::edges::sensible_plan;
 use super::parts::Parts;
 use super::shared::{Asked, Shared};
 use super::sharing::share;
@@ -29,7 +29,7 @@ use short_area::short_area;
 use std::alloc::Global;
 use std::thread::Threads;
 use tile_board::Board;
-use tile_plan::{NearIndex, TilePlan, plan};
+use tile_plan::{NearIndex, TilePlan};
 use tile_work::{Gate, TileJob, close_sums, run_tiles};
 use union_area::union_area;
 use via_clusters::via_area;
@@ -83,7 +83,7 @@ fn tiled_amounts<G: Gate + Sync>(
     let Some(whole) = window else {
         return amounts(alloc, parts, window);
     };
-    let plan = plan(whole, sensible_edge(parts, edge));
+    let plan = sensible_plan(parts, whole, edge);
     if plan.count() == 1 {
         return amounts_of_whole(rt, alloc, parts, whole, gate);
     }

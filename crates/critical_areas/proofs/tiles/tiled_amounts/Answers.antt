@@ -14,6 +14,8 @@ returns-then-count-eq1-clause-tallies g c =
 pub returns-clause-tallies : goal.returns-clause-tallies
 returns-clause-tallies g c =
     λ layer_map lists are.
-    let same : cells_of c.plan-plan.result.window ≡ cells_of_window c.args.window = ap cells_of c.plan-plan.ensures.window ∙ sym (ap cells_of_window c.in-Some.is) in
+    let window = c.sensible_plan-plan.ensures.window in
+    let same : cells_of c.sensible_plan-plan.result.window ≡ cells_of_window c.args.window =
+    ap cells_of window ∙ sym (ap cells_of_window c.in-Some.is) in
     subst (λ (cells : List Cell). IfOk c.amounts_by_tiles.result (λ amounts. AreAmounts layer_map (IsCoveredIn lists) cells amounts.items)) same
     (c.amounts_by_tiles.ensures.tallies layer_map lists are)
