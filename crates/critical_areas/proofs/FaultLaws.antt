@@ -1,14 +1,13 @@
 -- faults of a layer map: its terminals are cells, and what is covered alike has the same faults
-use Rattle.std.proofs.Common.{ℕ, ◌+◌, ◌≡◌, refl, sym, ap, subst, List, [], ◌∷◌, ◌↔◌, Contains, map, filter, length}
-use Rattle.lists.proofs.Words.{enumerate_from}
+use Rattle.std.proofs.Common.{ℕ, ◌+◌, ◌≡◌, refl, sym, ap, subst, false, List, [], ◌∷◌, ◌↔◌, All, Contains, map, filter, length}
+use Rattle.lists.proofs.Words.{All-head, All-map, All-tail, enumerate_from}
 use Rattle.geo_core.specs.declared.plane.Cell.{Cell}
 use Rattle.fault_model.specs.FaultNames.{IsViasOpen}
 use Rattle.fault_model.specs.Faults.{IsCellsOpen}
 use Rattle.fault_model.proofs.AlikeLaws.{block_alike, open_alike, short_alike}
 use Rattle.fault_model.proofs.TallyLaws.{Tally-same_all}
 use Rattle.fault_model.proofs.TerminalLaws.{no_vias}
-use Rattle.map_model.specs.MapNames.{LayerMap, layer_map_of, mapped_cut, side_of}
-use Rattle.map_model.specs.declared.layers.Cut.{Cut}
+use Rattle.map_model.specs.MapNames.{LayerMap, MappedCut, layer_map_of, mapped_cut, side_of}
 use Rattle.map_model.specs.declared.map.Map.{Map}
 use Rattle.net_extract.specs.Cuts.{cut_of, cuts_of, terminal_cuts_of}
 use Rattle.critical_areas.specs.FaultKinds.{IsFault}
@@ -28,13 +27,22 @@ opens_of_cells layer_map cells_alone covers m s c =
       λ f. same.0 (subst (λ cuts. IsViasOpen covers cuts named m s c) cells_alone f),
     )
 
--- no cut of a map says that its clusters are terminals
-none_numbered : (cuts : List Cut) (first : ℕ) → filter (λ numbered. numbered.1.has_terminals) (enumerate_from first (map mapped_cut cuts)) ≡ []
-none_numbered [] first = refl
-none_numbered (cut ∷ cuts) first = none_numbered cuts (first + 1)
+-- the clusters of the cut are no terminals
+abbrev HasNone : MappedCut → Type 0
+HasNone cut = cut.has_terminals ≡ false
 
+none_numbered : (cuts : List MappedCut) (first : ℕ) → All HasNone cuts → filter (λ numbered. numbered.1.has_terminals) (enumerate_from first cuts) ≡ []
+none_numbered [] first none = refl
+none_numbered (cut ∷ cuts) first none =
+    let here : cut.has_terminals ≡ false = All-head HasNone cut cuts none in
+    rw here (none_numbered cuts (first + 1) (All-tail HasNone cut cuts none))
+
+pub no_cut_has_terminals : (layer_map : LayerMap) → All HasNone layer_map.cuts → terminal_cuts_of layer_map ≡ []
+no_cut_has_terminals layer_map none = ap (map cut_of) (none_numbered layer_map.cuts (length layer_map.metals) none)
+
+-- no cut of a map says that its clusters are terminals
 pub no_terminal_cuts : (given : Map) → terminal_cuts_of (layer_map_of given) ≡ []
-no_terminal_cuts given = ap (map cut_of) (none_numbered given.cuts (length (layer_map_of given).metals))
+no_terminal_cuts given = no_cut_has_terminals (layer_map_of given) (All-map HasNone mapped_cut given.cuts (λ k d within. refl))
 
 module _ (layer_map : LayerMap) where
   fault_follows : (one other : ℕ → Cell → Type 0) → ((m : ℕ) (c : Cell) → one m c ↔ other m c) → (kind : Kind) (m s : ℕ) (c : Cell) → IsFault layer_map one kind m s c

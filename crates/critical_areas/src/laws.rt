@@ -1,9 +1,10 @@
 //! Facts about the definitions, each the contract of a function that does nothing else.
 
-ghost use Rattle.std.specs.Prelude.{ℕ, List, ◌/◌, ◌≤◌, ◌↔◌};
+ghost use Rattle.std.specs.Prelude.{ℕ, List, All, Contains, false, ◌/◌, ◌≤◌, ◌≡◌, ◌↔◌};
 ghost use Rattle.critical_areas.specs.AreaParts.{ArePiecesOf};
+ghost use Rattle.critical_areas.specs.FaultKinds.{IsFault};
 ghost use Rattle.critical_areas.specs.Rows.{AreRows};
-ghost use Rattle.fault_model.specs.Faults.{IsShort};
+ghost use Rattle.fault_model.specs.Faults.{IsCellsOpen, IsShort};
 ghost use Rattle.fault_model.specs.Nets.{Cut};
 ghost use Rattle.first_refusal.specs.Laws.{IsUnique};
 ghost use Rattle.geo_core.specs.Cells.{Has};
@@ -11,6 +12,7 @@ ghost use Rattle.geo_core.specs.declared.plane.Cell.{Cell};
 ghost use Rattle.geo_core.specs.declared.plane.Labelled.{Labelled};
 ghost use Rattle.geo_core.specs.declared.plane.Rect.{Rect};
 ghost use Rattle.map_model.specs.LayerMap.{LayerMap};
+ghost use Rattle.questions.specs.declared.kind.Kind.TheVariants.{Open};
 ghost use Rattle.tile_plan.specs.Near.{HasExactlyNear, HitsTwoLabels};
 
 use fault_model::Layout;
@@ -27,4 +29,12 @@ pub fn near_pieces_decide_shorts<L: Layout>()
     ensures { (cuts : List Cut) (metal : ℕ) (pieces near : List Labelled) (tile : Rect) (reach s : ℕ) (c : Cell) →
         ArePiecesOf L.covers cuts metal pieces → HasExactlyNear (λ piece. piece.rect) tile reach pieces near → Has tile c →
         s / 2 ≤ reach → HitsTwoLabels near s c ↔ IsShort L.covers cuts metal s c }
+{}
+
+/// Where no cut of a layer map has its clusters as terminals, what rows count as opens are opens between cells: a defect makes
+/// one of a metal exactly where it parts two of the cells that the map names as the metal's terminals.
+pub fn opens_are_of_cells<L: Layout>()
+    ensures { (layer_map : LayerMap) (metal s : ℕ) (c : Cell) → All (λ cut. cut.has_terminals ≡ false) layer_map.cuts →
+        IsFault layer_map L.covers Open metal s c ↔
+        IsCellsOpen (L.covers metal) (λ d. Contains layer_map.terminals (metal, d)) s c }
 {}
