@@ -4,6 +4,7 @@ pub mod LayerLaws
 pub mod LayoutLaws
 pub mod ReadingLaws
 pub mod VerdictLaws
+pub mod MapLaws
 pub mod TerminalLaws
 pub mod AnalysisLaws
 pub mod RunLaws

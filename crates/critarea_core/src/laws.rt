@@ -1,12 +1,13 @@
 //! Facts about the definitions, each the contract of a function that does nothing else.
 
-ghost use Rattle.std.specs.Prelude.{ℕ, ◌≡◌, List, Option, Vec};
+ghost use Rattle.std.specs.Prelude.{ℕ, ◌≡◌, false, All, List, Option, Vec};
 ghost use Rattle.first_refusal.specs.Laws.{IsUnique, CannotLack};
 ghost use Rattle.first_refusal.specs.Outcomes.{Outcome, refused, value};
 ghost use Rattle.critarea_core.specs.Analysis.{AnalysisComesTo};
 ghost use Rattle.critarea_core.specs.Contents.{Contents, file, layout_source};
 ghost use Rattle.command_line.specs.Requests.{Ask};
 ghost use Rattle.command_line.specs.declared.request.Request.{Request};
+ghost use Rattle.command_line.specs.declared.task.Task.{Task};
 ghost use Rattle.gauges.specs.GaugeViews.{GaugeView};
 ghost use Rattle.lists.specs.ByteLists.{AreBytes};
 ghost use Rattle.lists.specs.Words.{Global};
@@ -72,4 +73,11 @@ pub fn rows_agree()
 /// A subject has one report at most with gauges of which this is known.
 pub fn reports_agree()
     ensures { (subject : Subject) (gauges : List GaugeView) → IsUnique (IsReportOn subject gauges) }
+{}
+
+/// In the map of a task no cut has its clusters as terminals. So what its rows count as opens are those of
+/// `critical_areas::laws::opens_are_of_cells`: a defect parts two cells that the map names as terminals.
+pub fn maps_name_terminals()
+    ensures { (task : Task) (bytes : List ℕ → List ℕ) (layer_map : LayerMap) →
+        MapComesTo task bytes (value layer_map) → All (λ cut. cut.has_terminals ≡ false) layer_map.cuts }
 {}
