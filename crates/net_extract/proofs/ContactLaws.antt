@@ -1,6 +1,7 @@
 -- contact pieces of cuts
 use Rattle.std.proofs.Common.{ℕ, ◌+◌, ◌<◌, ◌≡◌, refl, sym, ap, ◌∙◌, subst, List, [], ◌∷◌, ◌++◌, length, get_or, map, arith, inl, inr, Contains, Some, slice_get}
-use Rattle.lists.proofs.Words.{slice_get_within, length_push}
+use Rattle.lists.proofs.Words.{get_or_past, slice_get_within, length_push}
+use Rattle.lists.specs.Differing.{AreDifferent}
 use Rattle.geo_core.specs.Plane.{Has, IsInUnion}
 use Rattle.geo_core.specs.declared.plane.Cell.{Cell}
 use Rattle.geo_core.specs.declared.plane.Labelled.{Labelled}
@@ -66,19 +67,22 @@ module _ (lists : List (List Rect)) (islands : List (List Labelled)) (cuts : Lis
     pub one_each : length contacts ≡ count
     pub exact : (k : ℕ) (cut : Cut) → k < count → slice_get cuts k ≡ Some cut →
         AreContactsOf (get_or lists (length islands + k) []) (islands_on islands cut.lower) (islands_on islands cut.upper) (get_or contacts k [])
+    pub once : (k : ℕ) → AreDifferent (get_or contacts k [])
 
   pub no_cuts : AreFirstContacts 0 []
-  no_cuts = record { one_each = refl; exact = λ k cut small at. absurd (omega arith) }
+  no_cuts = record { one_each = refl; exact = λ k cut small at. absurd (omega arith); once = λ k i j d before within. absurd (omega arith) }
 
   pub all_cuts : (count : ℕ) (contacts : List (List ContactPiece)) → count ≡ length cuts → AreFirstContacts count contacts → AreContactLists lists islands cuts contacts
   all_cuts count contacts e are = record {
     one_each = are.one_each ∙ e;
     exact = λ k cut at. let small = slice_get_within cuts k cut at in are.exact k cut (omega arith) at;
+    once = are.once;
   }
 
   pub one_cut_more : (count : ℕ) (old : List (List ContactPiece)) (cut : Cut) (new : List ContactPiece) → AreFirstContacts count old → slice_get cuts count ≡ Some cut
-      → AreContactsOf (get_or lists (length islands + count) []) (islands_on islands cut.lower) (islands_on islands cut.upper) new → AreFirstContacts (count + 1) (old ++ new ∷ [])
-  one_cut_more count old cut new are at is = record {
+      → AreContactsOf (get_or lists (length islands + count) []) (islands_on islands cut.lower) (islands_on islands cut.upper) new → AreDifferent new
+      → AreFirstContacts (count + 1) (old ++ new ∷ [])
+  one_cut_more count old cut new are at is differ = record {
     one_each = length_push old new ∙ ap (λ n. n + 1) are.one_each;
     exact = λ k other small other_at.
         let one_each = are.one_each in
@@ -92,5 +96,14 @@ module _ (lists : List (List Rect)) (islands : List (List Labelled)) (cuts : Lis
               (subst (λ n. AreContactsOf (get_or lists (length islands + n) []) (islands_on islands other.lower) (islands_on islands other.upper) new) (sym e)
               (subst (λ (x : Cut). AreContactsOf (get_or lists (length islands + count) []) (islands_on islands x.lower) (islands_on islands x.upper) new) same is))
           | inr (inr past) ↦ absurd (omega arith)
+        ];
+    once = λ k.
+        let one_each = are.one_each in
+        elim (before_or_past k count) [
+          | inl less ↦ subst AreDifferent (sym (at_old old new k (omega arith))) (are.once k)
+          | inr (inl e) ↦ subst AreDifferent (sym (at_new old new k (omega arith))) differ
+          | inr (inr past) ↦
+              let none = get_or_past (old ++ new ∷ []) k [] (omega (arith, length_push old new)) in
+              subst AreDifferent (sym none) (λ i j d before within. absurd (omega arith))
         ];
   }

@@ -47,6 +47,18 @@ module _ (island : ℕ) where
       rw get_or-drop (grind (arith, nat_tests, h))) in
       sym (both_parts xs i ∙ ap (λ ys. filter carries (take i xs) ++ ys) none ∙ append-nil (filter carries (take i xs)))
 
+-- what stands between the lesser islands and the greater ones is of this island
+pub alone : (island : ℕ) (sorted : List Piece) (first count : ℕ)
+    → AllWithin (λ piece. ltb piece.island island ≡ false) sorted first (length sorted)
+    → AllWithin (λ piece. leb piece.island island ≡ true) (drop first sorted) 0 count
+    → All (λ piece. piece.island ≡ island) (take count (drop first sorted))
+alone island sorted first count no_less no_more k d within =
+    let lt : k < count = omega (arith, length-take count (drop first sorted)) in
+    let far : first + k < length sorted = omega (arith, length-take count (drop first sorted), length-drop first sorted) in
+    let at_least = no_less (first + k) d (omega arith) far in
+    let at_most = rw get_or-drop at (no_more k d (omega arith) lt) in
+    rw (get_or-take, get_or-drop) (grind (arith, nat_tests, at_least, at_most))
+
 -- a cell, for a piece of any island
 pub unit : Rect
 unit = record {

@@ -2,6 +2,7 @@ pub mod LinkLaws
 pub mod IslandLaws
 pub mod MetalLaws
 pub mod MeetingLaws
+pub mod OnceLaws
 pub mod ContactLaws
 pub mod SpotLaws
 pub mod FoundLaws

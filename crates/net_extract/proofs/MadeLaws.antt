@@ -203,6 +203,7 @@ module _ (islands : List (List Labelled)) (nets : List ℕ) (contacts : List (Li
       connected = connected;
       ends = ap length e ∙ length-map given ends_at ∙ sym lists_are.one_each;
       contacts = lies_on_islands e;
+      contacts_differ = lists_are.once;
       anchored = λ anchor among.
           let number = number_of anchors anchor among in
           let found = zip_at (IsAnchorOf islands) terminals anchors number.0 anchor zip number.1 in

@@ -1,4 +1,5 @@
 ghost use Rattle.std.specs.Prelude.{◌≡◌, ◌+◌, ◌≤◌, All, IfOk, length, map};
+ghost use Rattle.lists.specs.Differing.{AreDifferent};
 ghost use Rattle.map_model.specs.Layers.{JoinsMetals};
 ghost use Rattle.net_extract.specs.inside.LabelledCells.{AreContactsOf, ArePartsIn};
 ghost use Rattle.net_extract.specs.inside.Numbering.{AreContactLists};
@@ -33,14 +34,15 @@ pub fn contact_lists(
 }
 
 /// The contact pieces of a cut with these rectangles: where one of them, one of the lower metal and one of the upper
-/// metal have cells in common.
+/// metal have cells in common. No two are the same.
 fn contacts_in(
     alloc: Global,
     cut: &[Rect],
     lower: &[Labelled],
     upper: &[Labelled],
 ) -> Result<ContactList, NoMemory>
-    ensures { IfOk result (λ contacts. AreContactsOf cut.now lower.now upper.now contacts) }
+    ensures exact { IfOk result (λ contacts. AreContactsOf cut.now lower.now upper.now contacts) }
+    ensures once { IfOk result (λ contacts. AreDifferent contacts) }
 {
     let parts = slim(alloc, parts_in(alloc, cut, lower)?)?;
     Ok(ContactList::from_vec(meetings(alloc, &parts, upper)?))

@@ -1,4 +1,4 @@
-ghost use Rattle.std.specs.Prelude.{ℕ, ◌≡◌, ◌==◌, IfOk, filter};
+ghost use Rattle.std.specs.Prelude.{ℕ, ◌≡◌, ◌==◌, All, IfOk, filter};
 ghost use Rattle.std.specs.List.Sorted.{IsNonDecreasingBy};
 
 use super::pieces::Piece;
@@ -16,10 +16,11 @@ pub fn by_island(alloc: Global, pieces: &[Piece]) -> Result<Vec<Piece>, NoMemory
     Ok(sorted)
 }
 
-/// The part of such a list in which the pieces of the island stand.
+/// The part of such a list in which the pieces of the island stand, and no others.
 pub fn part_of(sorted: &[Piece], island: usize) -> &[Piece]
     requires { IsNonDecreasingBy (λ piece. piece.island) sorted.now }
-    ensures { filter (λ piece. piece.island == island) result.now ≡ filter (λ piece. piece.island == island) sorted.now }
+    ensures all { filter (λ piece. piece.island == island) result.now ≡ filter (λ piece. piece.island == island) sorted.now }
+    ensures alone { All (λ piece. piece.island ≡ island) result.now }
 {
     let first = sorted.partition_point(|piece| piece.island < island);
     let rest = &sorted[first..];

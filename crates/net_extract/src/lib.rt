@@ -41,9 +41,9 @@ use std::alloc::Global;
 ///
 /// Half squares of a metal are of one island where a walk over edges joins them within the metal. A net goes on from one
 /// metal to another at each half square that a cut and both of its metals have. The contact pieces of a cut have exactly
-/// these half squares, and the pieces of a metal exactly its cells; neither come in a promised order. The anchors are the
-/// map's terminals in order. The error is 50 with the number of the first terminal whose cell its metal does not cover,
-/// or that no memory is left.
+/// these half squares, and no two of them are the same; the pieces of a metal have exactly its cells; neither come in a
+/// promised order. The anchors are the map's terminals in order. The error is 50 with the number of the first terminal
+/// whose cell its metal does not cover, or that no memory is left.
 #[tactic(auto, using(first_refusal::proofs::AnswerLaws::out_of_memory))]
 pub fn extract(alloc: Global, layers: &Layers, map: &Map) -> Result<Nets, NetFault>
     requires { length layers.now.lists.items ≡ length map.now.metals + length map.now.cuts }

@@ -1,5 +1,6 @@
 ghost use Rattle.std.specs.Prelude.{ℕ, ◌≡◌, ◌↔◌, Contains, IfOk, map};
 ghost use Rattle.std.specs.Option.{option_to_list};
+ghost use Rattle.lists.specs.Differing.{AreDifferent};
 ghost use Rattle.geo_core.specs.declared.plane.Cell.{Cell};
 ghost use Rattle.net_extract.specs.inside.LabelledCells.{AreMeetings, HasContact, AreAt};
 ghost use Rattle.net_extract.specs.declared.pieces.ContactPiece.{ContactPiece as AnyContact};
@@ -8,13 +9,14 @@ use super::pieces::ContactPiece;
 use geo_core::{Labelled, NoMemory, Rect, clip};
 use std::alloc::Global;
 
-/// Contact pieces where rectangles of both lists have cells in common, with the labels of the two.
+/// Contact pieces where rectangles of both lists have cells in common, with the labels of the two. No two are the same.
 pub fn meetings(
     alloc: Global,
     lower: &[Labelled],
     upper: &[Labelled],
 ) -> Result<Vec<ContactPiece>, NoMemory>
-    ensures { IfOk result (λ contacts. AreMeetings lower.now upper.now contacts.items) }
+    ensures exact { IfOk result (λ contacts. AreMeetings lower.now upper.now contacts.items) }
+    ensures once { IfOk result (λ contacts. AreDifferent contacts.items) }
 {
     let lower_rects = rects_of(alloc, lower)?;
     let upper_rects = rects_of(alloc, upper)?;
@@ -28,10 +30,11 @@ pub fn meetings(
     Ok(each_once(contacts))
 }
 
-/// The same contact pieces in some order. Of equal ones one stays, which rows of tests show and no clause says: without it,
-/// equal and nested rectangles of a cut and of both its metals would come to as many pieces as there are triples of them.
+/// The same contact pieces in some order. Of equal ones one stays: without it, equal and nested rectangles of a cut and of both
+/// its metals would come to as many pieces as there are triples of them.
 fn each_once(mut contacts: Vec<ContactPiece>) -> Vec<ContactPiece>
-    ensures { (contact : AnyContact) → Contains result.items contact ↔ Contains contacts.items contact }
+    ensures same { (contact : AnyContact) → Contains result.items contact ↔ Contains contacts.items contact }
+    ensures once { AreDifferent result.items }
 {
     contacts.sort_unstable_by_key(|contact| {
         let ContactPiece { rect, lower, upper } = *contact;

@@ -12,9 +12,9 @@ use std::marker::Model;
 /// The nets of a layout, which `extract` makes.
 ///
 /// They are the pieces of each metal, the contact pieces of each cut and the anchors. The pieces that carry one island are
-/// connected; each contact piece lies on the two islands that it carries, of its cut's lower and upper metal; each anchor
-/// lies on a piece of its island; and no two anchors of one metal are the same cell. The number of an island tells it
-/// from other islands of its metal, and the number of a net tells it from all other nets.
+/// connected; each contact piece lies on the two islands that it carries, of its cut's lower and upper metal, and no two of a
+/// cut are the same; each anchor lies on a piece of its island; and no two anchors of one metal are the same cell. The
+/// number of an island tells it from other islands of its metal, and the number of a net tells it from all other nets.
 #[derive(Debug, Drop)]
 pub struct Nets {
     pieces: Items<PieceList>,

@@ -1,5 +1,6 @@
 -- islands and nets by numbers that go through all metals
 use Rattle.std.specs.Prelude.{ℕ, List, [], Contains, Some, length, slice_get, slice_index, slice_index_or, ◌+◌, ◌<◌, ◌≤◌, ◌≡◌, ◌↔◌, ◌⊎◌}
+use Rattle.lists.specs.Differing.{AreDifferent}
 use Rattle.paths.specs.Paths.{Path}
 use Rattle.geo_core.specs.declared.plane.Cell.{Cell}
 use Rattle.geo_core.specs.declared.plane.Half.{Half}
@@ -34,13 +35,14 @@ pub record AreIslandsOf (lists : List (List Rect)) (metals high : ℕ) (islands 
       (i ≡ k) ↔ ((m ≡ n) × IsSameIsland (IsCoveredIn lists m) p q)
   pub below : (metal i : ℕ) (c : Cell) → HasLabelled (islands_on islands metal) i c → i < high
 
--- the contact pieces of each cut, whose list of rectangles follows those of all metals
+-- the contact pieces of each cut, whose list of rectangles follows those of all metals; no two of a cut are the same
 pub record AreContactLists (lists : List (List Rect)) (islands : List (List Labelled)) (cuts : List Cut)
     (contacts : List (List ContactPiece)) : Type 0 where
   pub one_each : length contacts ≡ length cuts
   pub exact : (k : ℕ) (cut : Cut) → slice_get cuts k ≡ Some cut →
       AreContactsOf (slice_index_or lists (length islands + k) []) (islands_on islands cut.lower) (islands_on islands cut.upper)
       (slice_index_or contacts k [])
+  pub once : (k : ℕ) → AreDifferent (slice_index_or contacts k [])
 
 -- a contact piece carries the two islands
 pub record IsLink (contacts : List (List ContactPiece)) (lower upper : ℕ) : Type 0 where

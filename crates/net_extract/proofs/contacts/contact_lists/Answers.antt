@@ -22,12 +22,12 @@ loop-k-preserved c =
     let rects_are = c.as_slice-rects.ensures ∙ get_or_read lists (length islands + k) c.index-lists-islands.result listed c.index-lists-islands.is [] in
     let lower_are = c.as_slice-lower.ensures ∙ get_or_read islands cut.lower c.index-islands-cut.result joins.lower c.index-islands-cut.is [] in
     let upper_are = c.as_slice-upper.ensures ∙ get_or_read islands cut.upper c.index-islands-cut-in-loop-k.result joins.upper c.index-islands-cut-in-loop-k.is [] in
-    let exact : AreContactsOf c.as_slice-rects.result.now c.as_slice-lower.result.now c.as_slice-upper.result.now new = c.in_ok-contacts_in.ensures in
+    let exact : AreContactsOf c.as_slice-rects.result.now c.as_slice-lower.result.now c.as_slice-upper.result.now new = c.in_ok-contacts_in.ensures.exact in
     rw c.in_ok-push.ensures.items (one_cut_more lists islands cuts k c.loop-k.contacts.items cut new c.loop-k.invariant
     (slice_get_read cuts (length cuts) k cut refl c.loop-k-test.true c.index-cuts-k.is)
     (subst (λ rects. AreContactsOf rects (get_or islands cut.lower []) (get_or islands cut.upper []) new) rects_are
     (subst (λ lower. AreContactsOf c.as_slice-rects.result.now lower (get_or islands cut.upper []) new) lower_are
-    (subst (λ upper. AreContactsOf c.as_slice-rects.result.now c.as_slice-lower.result.now upper new) upper_are exact))))
+    (subst (λ upper. AreContactsOf c.as_slice-rects.result.now c.as_slice-lower.result.now upper new) upper_are exact))) c.in_ok-contacts_in.ensures.once)
 
 pub returns : goal.returns
 returns c = rw c.from_vec.ensures (all_cuts c.args.lists.now c.args.islands.now c.args.cuts.now c.loop-k.k _ (omega arith) c.loop-k.invariant)

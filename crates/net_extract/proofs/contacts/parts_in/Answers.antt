@@ -10,5 +10,5 @@ loop-part-preserved c =
 pub returns : goal.returns
 returns c =
     let all = take_all c.loop-part.part-index c.deref-part-items.result.now c.loop-part-test.false ∙ c.deref-part-items.ensures.value in
-    parts_are c.args.cut.now c.args.rects.now c.deref.result.now _ c.in_ok-met.met.items (c.deref.ensures.value ∙ c.in_ok-cut.ensures) c.in_ok-met.ensures (c.loop-part.invariant
+    parts_are c.args.cut.now c.args.rects.now c.deref.result.now _ c.in_ok-met.met.items (c.deref.ensures.value ∙ c.in_ok-cut.ensures) c.in_ok-met.ensures.exact (c.loop-part.invariant
     ∙ ap (map part_of) all)

@@ -61,13 +61,16 @@ loop-a-preserved c =
       | in_default w ↦ rw w.contacts-is (subst (AreMetBy lower upper (take (i + 1) pairs)) (append-nil old) (next None (subst (IsFound one other) w.in_default.is c.meeting.ensures)))
     ]
 
-pub returns : goal.returns
-returns c =
+pub returns-clause-exact : goal.returns-clause-exact
+returns-clause-exact c =
     let lower = c.args.lower.now in
     let upper = c.args.upper.now in
     let pairs = c.deref-a-items.result.now in
     let contacts = c.loop-a.contacts.items in
     let exact = exact_of lower upper c.deref.result.now c.deref-2.result.now c.in_ok-pairs.pairs.items pairs
     (c.deref.ensures.value ∙ c.in_ok-lower_rects.ensures) (c.deref-2.ensures.value ∙ c.in_ok-upper_rects.ensures) c.deref-a-items.ensures.value c.in_ok-pairs.ensures.exact in
-    meetings_once lower upper contacts _ c.each_once.ensures
+    meetings_once lower upper contacts _ c.each_once.ensures.same
     (all_met lower upper pairs exact contacts (subst (λ ps. AreMetBy lower upper ps contacts) (take_all c.loop-a.a-index pairs c.loop-a-test.false) c.loop-a.invariant))
+
+pub returns-clause-once : goal.returns-clause-once
+returns-clause-once c = c.each_once.ensures.once

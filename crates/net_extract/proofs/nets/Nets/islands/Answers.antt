@@ -19,7 +19,7 @@ invariant_of-push c =
     let number = get_or c.deref-number-items.result.now c.loop-number.number-index 0 in
     let cells_are : c.in_ok-anchors.anchors.items ≡ anchors_of_island nets metal number = rw c.anchors-in-loop-number.ensures.anchors at c.in_ok-anchors.ensures in
     let rects_are : c.in_ok-pieces.pieces.items ≡ rects_of_island nets metal number = rects_of_part nets metal number c.pieces.result.now c.in_ok-sorted.sorted.items c.deref.result.now
-    c.part_of.result.now _ c.pieces.ensures.pieces (c.in_ok-sorted.ensures.kept number) c.deref.ensures.value c.part_of.ensures c.in_ok-pieces.ensures in
+    c.part_of.result.now _ c.pieces.ensures.pieces (c.in_ok-sorted.ensures.kept number) c.deref.ensures.value c.part_of.ensures.all c.in_ok-pieces.ensures in
     rw (c.from_vec.ensures, rects_are, c.from_vec-then-len-ge2.ensures, cells_are) (one_island nets metal number c.pieces.ensures.sound)
 
 pub loop-number-preserved : goal.loop-number-preserved
@@ -36,7 +36,7 @@ loop-number-preserved c =
       | then-len-ge2+in_ok-pieces+in_ok-push w ↦
           let rects_are : w.in_ok-pieces.pieces.items ≡ rects_of_island nets metal number =
           rects_of_part nets metal number c.pieces.result.now c.in_ok-sorted.sorted.items w.deref.result.now w.part_of.result.now _ c.pieces.ensures.pieces (c.in_ok-sorted.ensures.kept number)
-          w.deref.ensures.value w.part_of.ensures w.in_ok-pieces.ensures in
+          w.deref.ensures.value w.part_of.ensures.all w.in_ok-pieces.ensures in
           let many : 2 ≤ length (anchors_of_island nets metal number) = omega (arith, w.if-len-ge2.true) in
           rw (w.islands-is, w.in_ok-push.ensures.items)
           (island_more nets metal numbers k old _ c.loop-number-test.true many (record { pieces = w.from_vec.ensures ∙ rects_are; anchors = w.from_vec-then-len-ge2.ensures ∙ cells_are })
