@@ -1,7 +1,8 @@
 //! Boxes in a row, of which each touches the next, and by which pairs they are joined.
 
 use crate::sides::rect_of;
-use half_boxes::{HalfBox, links_of};
+use geo_core::NoMemory;
+use half_boxes::{HalfBox, grown_links, links_of};
 use std::alloc::{AllocError, Global};
 
 /// So few are compared one with another.
@@ -66,12 +67,19 @@ fn join(alloc: Global, pairs: &[(usize, usize)], count: u16) -> bool {
     }
 }
 
-/// Whether so many boxes in a row are joined by their pairs.
-fn have_links(alloc: Global, boxes: &[HalfBox], count: u16) -> bool {
-    match links_of(alloc, boxes) {
+/// Whether the pairs were found, and join so many boxes in a row.
+fn are_links(alloc: Global, found: Result<Vec<(usize, usize)>, NoMemory>, count: u16) -> bool {
+    match found {
         Ok(pairs) => join(alloc, pairs.as_slice(), count),
         Err(_) => false,
     }
+}
+
+/// Whether so many boxes in a row are joined by their pairs, and by those of trees that grow from box to box, which only
+/// lists with more edges than ranks need.
+fn have_links(alloc: Global, boxes: &[HalfBox], count: u16) -> bool {
+    are_links(alloc, links_of(alloc, boxes), count)
+        && are_links(alloc, grown_links(alloc, boxes), count)
 }
 
 /// Whether all pairs are neighbours, and each box is joined to the next.
