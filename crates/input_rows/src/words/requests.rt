@@ -1,11 +1,14 @@
-use super::rows::{Asked, Row, TopRow, ask_for, ask_for_top};
-use std::alloc::Global;
+use super::rows::{Asked, Row, TopRow, ask_for};
+use std::alloc::{AllocError, Global};
 use std::process::Abort;
 
 /// Stops the test at a row whose words ask for something else.
 fn expect_asked(rt: &impl Abort, alloc: Global, rows: &[Row]) {
     for (line, asked, edge, workers) in rows {
-        assert!(rt; ask_for(alloc, line, asked, *edge, *workers), "{line}");
+        assert!(rt;
+            ask_for(alloc, line, asked, None, *edge, *workers),
+            "{line}"
+        );
     }
 }
 
@@ -121,27 +124,72 @@ const TOP_ROWS: &[TopRow] = &[
         "a|--layer|1|--datatype|0|--radius|3|--top|S",
         Asked::Metal("a", (1, 0, 3)),
         "S",
+        65_536,
+        4,
     ),
     (
         "--top=S|--layer=1|--datatype=0|--radius=3|a",
         Asked::Metal("a", (1, 0, 3)),
         "S",
+        65_536,
+        4,
     ),
-    ("a|--map|m|--top|S", Asked::Map("a", "m"), "S"),
+    // as many words as may be: all options of the form, each in two words, and the layout, also behind two dashes
+    (
+        "--layer|1|--datatype|0|--radius|3|--top|S|--tile|7|--workers|2|a",
+        Asked::Metal("a", (1, 0, 3)),
+        "S",
+        7,
+        2,
+    ),
+    (
+        "--workers|2|--tile|7|--top|S|--radius|3|--datatype|0|--layer|1|--|--a",
+        Asked::Metal("--a", (1, 0, 3)),
+        "S",
+        7,
+        2,
+    ),
+    ("a|--map|m|--top|S", Asked::Map("a", "m"), "S", 65_536, 4),
     (
         "--tile|7|--top|CELL_1|--workers|2|--map=m|a",
         Asked::Map("a", "m"),
         "CELL_1",
+        7,
+        2,
     ),
     // any text names a structure, and what looks like a number is one, too
-    ("a|--map|m|--top|7", Asked::Map("a", "m"), "7"),
-    ("a|--map|m|--top|top", Asked::Map("a", "m"), "top"),
-    ("a|--map|m|--top=--map=n", Asked::Map("a", "m"), "--map=n"),
-    ("a|--map|m|--top==", Asked::Map("a", "m"), "="),
-    ("a|--map|m|--top|-", Asked::Map("a", "m"), "-"),
-    ("a|--map|m|--top|a b", Asked::Map("a", "m"), "a b"),
+    ("a|--map|m|--top|7", Asked::Map("a", "m"), "7", 65_536, 4),
+    (
+        "a|--map|m|--top|top",
+        Asked::Map("a", "m"),
+        "top",
+        65_536,
+        4,
+    ),
+    (
+        "a|--map|m|--top=--map=n",
+        Asked::Map("a", "m"),
+        "--map=n",
+        65_536,
+        4,
+    ),
+    ("a|--map|m|--top==", Asked::Map("a", "m"), "=", 65_536, 4),
+    ("a|--map|m|--top|-", Asked::Map("a", "m"), "-", 65_536, 4),
+    (
+        "a|--map|m|--top|a b",
+        Asked::Map("a", "m"),
+        "a b",
+        65_536,
+        4,
+    ),
     // behind two dashes it is a word like any other
-    ("--map|m|--top|S|--|--top", Asked::Map("--top", "m"), "S"),
+    (
+        "--map|m|--top|S|--|--top",
+        Asked::Map("--top", "m"),
+        "S",
+        65_536,
+        4,
+    ),
 ];
 
 /// The four arguments of a command in each of their orders, spelled in one word and in two.
@@ -191,13 +239,51 @@ fn a_map_is_asked_for(rt: HostRuntime) {
 fn arguments_come_in_any_order(rt: HostRuntime) {
     let asked = Asked::Metal("a", (1, 0, 3));
     for line in ORDERS {
-        assert!(rt; ask_for(rt.alloc(), line, &asked, 65_536, 4), "{line}");
+        assert!(rt;
+            ask_for(rt.alloc(), line, &asked, None, 65_536, 4),
+            "{line}"
+        );
     }
 }
 
 #[test]
 fn a_structure_is_wanted(rt: HostRuntime) {
-    for (line, asked, top) in TOP_ROWS {
-        assert!(rt; ask_for_top(rt.alloc(), line, asked, top), "{line}");
+    for (line, asked, top, edge, workers) in TOP_ROWS {
+        assert!(rt;
+            ask_for(rt.alloc(), line, asked, Some(top), *edge, *workers),
+            "{line}"
+        );
+    }
+}
+
+/// A name of 70,000 bytes.
+fn long_name(alloc: Global) -> Result<String, AllocError> {
+    let mut name = String::new(alloc);
+    for _ in 0..7_000 {
+        name.push_str("long_name_")?;
+    }
+    Ok(name)
+}
+
+/// What stands before the map's name in a line, and behind it.
+type Around = (&'static str, &'static str);
+
+/// Lines for a long name: in one word with its option, and in a word of its own.
+const LONG_ROWS: &[Around] = &[("a|--map=", ""), ("--map=", "|--|a"), ("--map|", "|a")];
+
+/// Whether the words of the line ask for the map with the long name.
+fn ask_for_long(alloc: Global, (front, back): &Around) -> Result<bool, AllocError> {
+    let name = long_name(alloc)?;
+    let name = name.as_str();
+    let line = format!(in alloc; "{front}{name}{back}")?;
+    let asked = Asked::Map("a", name);
+    Ok(ask_for(alloc, line.as_str(), &asked, None, 65_536, 4))
+}
+
+/// A name may be longer than the names of files are.
+#[test]
+fn long_names_are_read(rt: HostRuntime) {
+    for row in LONG_ROWS {
+        assert!(rt; ask_for_long(rt.alloc(), row) == Ok(true), "{}", row.0);
     }
 }

@@ -3,20 +3,20 @@ use std::alloc::{AllocError, Global};
 
 /// What is asked for, but for the tile and the workers.
 #[derive(Clone, Copy)]
-pub enum Asked {
+pub enum Asked<'a> {
     /// One metal: the layout, and the layer, the datatype and the radius.
-    Metal(&'static str, (u16, u16, u32)),
+    Metal(&'a str, (u16, u16, u32)),
     /// A map: the layout and the map.
-    Map(&'static str, &'static str),
+    Map(&'a str, &'a str),
     /// A generated layout of so many columns.
     Generated(u32),
 }
 
 /// A line of words, and what they ask for: the task, the tile and the workers. They want no structure.
-pub type Row = (&'static str, Asked, u32, u32);
+pub type Row = (&'static str, Asked<'static>, u32, u32);
 
-/// A line of words, and what they ask for: the task, and the structure that they want.
-pub type TopRow = (&'static str, Asked, &'static str);
+/// The same with the structure that they want, behind the task.
+pub type TopRow = (&'static str, Asked<'static>, &'static str, u32, u32);
 
 /// Adds the words of a line, with a bar between two of them.
 fn add_words(alloc: Global, words: &mut Vec<Word>, line: &str) -> Result<(), AllocError> {
@@ -74,7 +74,7 @@ fn is_generated(task: &Task, count: u32) -> bool {
 }
 
 /// Whether the task is this.
-fn is_task(task: &Task, asked: &Asked) -> bool {
+fn is_task(task: &Task, asked: &Asked<'_>) -> bool {
     match asked {
         Asked::Metal(layout, numbers) => is_metal(task, layout, *numbers),
         Asked::Map(layout, map) => is_mapped(task, layout, map),
@@ -92,31 +92,35 @@ fn top_of(task: &Task) -> Option<&[u8]> {
     }
 }
 
-/// Whether this is asked for with this tile and these workers, and no structure is wanted.
-fn is_asked(request: &Request, asked: &Asked, edge: u32, workers: u32) -> bool {
+/// Whether this is asked for, with this structure where one is wanted, this tile and these workers.
+fn is_asked(
+    request: &Request,
+    asked: &Asked<'_>,
+    top: Option<&str>,
+    edge: u32,
+    workers: u32,
+) -> bool {
+    let name = match top {
+        Some(top) => Some(top.as_bytes()),
+        None => None,
+    };
     is_task(&request.task, asked)
-        && top_of(&request.task).is_none()
+        && top_of(&request.task) == name
         && request.edge == edge
         && request.workers == workers
 }
 
-/// Whether the words of a line ask for this, and want no structure.
-pub fn ask_for(alloc: Global, line: &str, asked: &Asked, edge: u32, workers: u32) -> bool {
+/// Whether the words of a line ask for this, and for this structure where one is wanted.
+pub fn ask_for(
+    alloc: Global,
+    line: &str,
+    asked: &Asked<'_>,
+    top: Option<&str>,
+    edge: u32,
+    workers: u32,
+) -> bool {
     match answer(alloc, line) {
-        Ok(request) => is_asked(&request, asked, edge, workers),
-        Err(_) => false,
-    }
-}
-
-/// Whether this is asked for, and this structure is wanted.
-fn wants(request: &Request, asked: &Asked, top: &str) -> bool {
-    is_task(&request.task, asked) && top_of(&request.task) == Some(top.as_bytes())
-}
-
-/// Whether the words of a line ask for this, and want this structure.
-pub fn ask_for_top(alloc: Global, line: &str, asked: &Asked, top: &str) -> bool {
-    match answer(alloc, line) {
-        Ok(request) => wants(&request, asked, top),
+        Ok(request) => is_asked(&request, asked, top, edge, workers),
         Err(_) => false,
     }
 }
