@@ -14,6 +14,9 @@ const SECOND: Plate = (3, 0, (0, 0, 2, 2));
 /// A contact between the two.
 const CONTACT: Plate = (2, 0, (0, 0, 2, 2));
 
+/// Another one, at the end of the wire.
+const FAR_CONTACT: Plate = (2, 0, (18, 0, 20, 2));
+
 /// Two metals with a cut between them, the radius 1, and a terminal at either end of the wire.
 const RADIUS_1: &[u8] = b"version=1\nradii=[1]\nweights=[1]\n\
     metal=[{name=\"m1\",pairs=[[1,0]]},{name=\"m2\",pairs=[[3,0]]}]\n\
@@ -58,6 +61,21 @@ const NO_OPEN: Want = Want::Report(
      nonzero 0 of 5\n",
 );
 
+/// Where defects of radius 2 cut the wire: the second row of the table below says how these are 50 cells.
+const WIRE_CUT: Want = Want::Report(
+    "short m1 r=2 area=0 weight=1 sum=0\n\
+     short m2 r=2 area=0 weight=1 sum=0\n\
+     open m1 r=2 area=50 weight=1 sum=50\n\
+     open m2 r=2 area=0 weight=1 sum=0\n\
+     via v1 r=2 area=0 weight=1 sum=0\n\
+     total short 0\n\
+     total open 50\n\
+     total via 0\n\
+     total 50\n\
+     peak open m1 r=2 sum=50\n\
+     nonzero 1 of 5\n",
+);
+
 /// Rectangles, a map with terminals, and the report.
 const OPENS: &[MapRow] = &[
     // A defect of 2 by 2 cells leaves half a row of the wire on one side at least. Each terminal is covered from its own cell.
@@ -80,22 +98,21 @@ const OPENS: &[MapRow] = &[
     ),
     // A defect of 4 by 4 cells cuts the wire from rows 0 and 1: in columns 0 to 19 these are 40 cells. Each terminal is
     // covered from 3 by 3 cells, of which 5 at either end are not among the 40.
+    (&[WIRE], RADIUS_2, WIRE_CUT),
+    // a_way_round_through_another_metal: the second metal leads from the one end of the wire to the other, through a contact at
+    // either end and far from all defects that cut the wire. An open is judged on its own metal, so the same 50 cells count. The
+    // two contacts are of one cluster, and no defect covers both.
     (
-        &[WIRE],
+        &[
+            WIRE,
+            (3, 0, (0, 0, 2, 20)),
+            (3, 0, (2, 18, 18, 20)),
+            (3, 0, (18, 0, 20, 20)),
+            CONTACT,
+            FAR_CONTACT,
+        ],
         RADIUS_2,
-        Want::Report(
-            "short m1 r=2 area=0 weight=1 sum=0\n\
-             short m2 r=2 area=0 weight=1 sum=0\n\
-             open m1 r=2 area=50 weight=1 sum=50\n\
-             open m2 r=2 area=0 weight=1 sum=0\n\
-             via v1 r=2 area=0 weight=1 sum=0\n\
-             total short 0\n\
-             total open 50\n\
-             total via 0\n\
-             total 50\n\
-             peak open m1 r=2 sum=50\n\
-             nonzero 1 of 5\n",
-        ),
+        WIRE_CUT,
     ),
     // One terminal is parted from no other.
     (&[WIRE], ONE_TERMINAL, NO_OPEN),
@@ -144,6 +161,32 @@ const OPENS: &[MapRow] = &[
         &[(1, 0, (0, 0, 9, 2)), (1, 0, (13, 0, 20, 2))],
         RADIUS_2,
         NO_OPEN,
+    ),
+    // terminals_on_two_islands_of_one_net: a bar of the second metal makes them one net, through a contact on each. Still no
+    // defect parts them, though it covers the one or cuts its island, and none that touches both islands makes a short. The
+    // contacts lie on two islands, so they are two clusters, and each is covered from 2 by 2 cells.
+    (
+        &[
+            (1, 0, (0, 0, 9, 2)),
+            (1, 0, (11, 0, 20, 2)),
+            (3, 0, (0, 0, 20, 2)),
+            CONTACT,
+            FAR_CONTACT,
+        ],
+        RADIUS_2,
+        Want::Report(
+            "short m1 r=2 area=0 weight=1 sum=0\n\
+             short m2 r=2 area=0 weight=1 sum=0\n\
+             open m1 r=2 area=0 weight=1 sum=0\n\
+             open m2 r=2 area=0 weight=1 sum=0\n\
+             via v1 r=2 area=8 weight=1 sum=8\n\
+             total short 0\n\
+             total open 0\n\
+             total via 8\n\
+             total 8\n\
+             peak via v1 r=2 sum=8\n\
+             nonzero 1 of 5\n",
+        ),
     ),
 ];
 
