@@ -36,6 +36,8 @@ mod rows;
 #[cfg(test)]
 mod runs;
 #[cfg(test)]
+mod standard_files;
+#[cfg(test)]
 mod structures;
 #[cfg(test)]
 mod tables;
