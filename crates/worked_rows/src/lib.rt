@@ -24,6 +24,8 @@ mod long_reports;
 #[cfg(test)]
 mod maps;
 #[cfg(test)]
+mod most_rows;
+#[cfg(test)]
 mod opens;
 #[cfg(test)]
 mod outline_runs;
