@@ -70,6 +70,26 @@ const TWO_HUNDRED: Want = Want::Report(
      nonzero 6 of 10\n",
 );
 
+/// The report on 500 columns and 500 rows, the most that may be: 1,000,000 shapes. The same formulas hold.
+const FIVE_HUNDRED: Want = Want::Report(
+    "short m1 r=2 area=0 weight=10 sum=0\n\
+     short m1 r=5 area=45979988 weight=1 sum=45979988\n\
+     short m2 r=2 area=0 weight=10 sum=0\n\
+     short m2 r=5 area=6986000 weight=1 sum=6986000\n\
+     open m1 r=2 area=18 weight=10 sum=180\n\
+     open m1 r=5 area=174 weight=1 sum=174\n\
+     open m2 r=2 area=0 weight=10 sum=0\n\
+     open m2 r=5 area=0 weight=1 sum=0\n\
+     via v1 r=2 area=1000000 weight=10 sum=10000000\n\
+     via v1 r=5 area=16000000 weight=1 sum=16000000\n\
+     total short 52965988\n\
+     total open 354\n\
+     total via 26000000\n\
+     total 78966342\n\
+     peak short m1 r=5 sum=45979988\n\
+     nonzero 6 of 10\n",
+);
+
 /// Command lines, and their reports. No file is started, so none fails.
 const ROWS: &[(&str, Want)] = &[
     ("--generate 1", ONE_CELL),
@@ -79,6 +99,7 @@ const ROWS: &[(&str, Want)] = &[
     // one_worker_and_eight_print_the_same: the window is 4,002 by 4,002 cells, which are 81 tiles of 500
     ("--generate 200 --workers 1", TWO_HUNDRED),
     ("--generate 200 --workers 8 --tile 500", TWO_HUNDRED),
+    ("--generate 500", FIVE_HUNDRED),
 ];
 
 #[test]
