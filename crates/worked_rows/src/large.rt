@@ -1,5 +1,7 @@
 use super::layouts::{Plate, plates};
-use super::runs::{Answer, Failing, RADIUS_3, Want, expect, layout_answers, run_with};
+use super::runs::{
+    Answer, Failing, RADIUS_3, Want, answers, expect, layout_answers, mapped, run_with,
+};
 use critarea_core::NoGate;
 use edge_io::{Failed, Files};
 use lists::NoMemory;
@@ -22,16 +24,101 @@ fn row_layout(alloc: Global, count: u32) -> Result<Vec<u8>, AllocError> {
     plates(alloc, squares.as_slice())
 }
 
-/// Whether a run on so many squares in a row answers so.
-fn row_answers(rt: &(impl Threads + Sync), alloc: Global, count: u32, want: &Want) -> bool {
-    layout_answers(rt, alloc, RADIUS_3, row_layout(alloc, count), want)
-}
+/// Words for squares in a row: for 15 tiles of the default edge, for one tile, and for two, of which 69,286 squares come near the
+/// first. The window has 980,002 by 16 cells.
+const ROW_WORDS: &[&str] = &[
+    RADIUS_3,
+    "a --layer 1 --datatype 0 --radius 3 --tile 1000000000",
+    "a --layer 1 --datatype 0 --radius 3 --tile 970000",
+];
 
 /// Between two neighbours are the 32 cells of the two bars, and no defect of radius 3 touches a third square.
 #[test]
 fn rows_of_many_squares(rt: HostRuntime) {
     let want = Want::Short(3, 2_239_968);
-    expect(&rt, row_answers(&rt, rt.alloc(), 70_000, &want), 70_000);
+    for (number, words) in ROW_WORDS.iter().enumerate() {
+        let layout = row_layout(rt.alloc(), 70_000);
+        expect(
+            &rt,
+            layout_answers(&rt, rt.alloc(), words, layout, &want),
+            number,
+        );
+    }
+}
+
+/// Two bars at either end of a layout as wide as may be.
+const FAR_BARS: &[Plate] = &[
+    (1, 0, (-1_000_000_000, 0, -999_999_990, 10)),
+    (1, 0, (-999_999_986, 0, -999_999_976, 10)),
+    (1, 0, (999_999_976, 0, 999_999_986, 10)),
+    (1, 0, (999_999_990, 0, 1_000_000_000, 10)),
+];
+
+/// Words for 3, 66,667 and 976,563 tiles in a row over the window, which has 2,000,000,006 by 16 cells. The last is what comes of
+/// an edge of 1, doubled until there are at most 1,000,000 tiles.
+const FAR_WORDS: &[&str] = &[
+    "a --layer 1 --datatype 0 --radius 3 --tile 1000000000",
+    "a --layer 1 --datatype 0 --radius 3 --tile 30000",
+    "a --layer 1 --datatype 0 --radius 3 --tile 1",
+];
+
+/// Each two bars are near one another at 32 cells, and between the two at one end and those at the other nothing is.
+#[test]
+fn tiles_are_many(rt: HostRuntime) {
+    for (number, words) in FAR_WORDS.iter().enumerate() {
+        let layout = plates(rt.alloc(), FAR_BARS);
+        let want = Want::Short(3, 64);
+        expect(
+            &rt,
+            layout_answers(&rt, rt.alloc(), words, layout, &want),
+            number,
+        );
+    }
+}
+
+/// So many squares side by side, every other one of them a cell higher, at most 100,000.
+fn touching_squares(alloc: Global, count: u32) -> Result<Vec<Plate>, AllocError> {
+    let mut squares = Vec::new(alloc);
+    for number in 0..count {
+        let x0 = 10 * (number % 100_000) as i32;
+        let y0 = (number % 2) as i32;
+        squares.push((1, 0, (x0, y0, x0 + 10, y0 + 10)))?;
+    }
+    Ok(squares)
+}
+
+/// A metal with a terminal at either end of 70,000 such squares, and radii of which the second cuts them.
+const ENDS: &[u8] = b"version=1\nradii=[3,6]\nweights=[1,1]\nmetal=[{name=\"m\",pairs=[[1,0]]}]\n\
+    terminal=[{metal=\"m\",x=0,y=0},{metal=\"m\",x=699999,y=10}]\n";
+
+/// Two squares have 9 rows in common, so at 3 nothing is cut, and each terminal is covered from 5 by 5 cells. At 6 a defect has 12
+/// by 12 cells, and so columns of some square. From row 5 it cuts any of them, in the columns from -5 to 700,004; from row 4 those
+/// that are lower, from -5 to 699,995, and from row 6 those that are higher, as many. From 9 other rows it covers the first
+/// terminal, in 11 columns, and likewise the second: 700,010 + 2 * 700,001 + 2 * 99 cells.
+const ENDS_REPORT: Want = Want::Report(
+    "short m r=3 area=0 weight=1 sum=0\n\
+     short m r=6 area=0 weight=1 sum=0\n\
+     open m r=3 area=50 weight=1 sum=50\n\
+     open m r=6 area=2100210 weight=1 sum=2100210\n\
+     total short 0\n\
+     total open 2100260\n\
+     total via 0\n\
+     total 2100260\n\
+     peak open m r=6 sum=2100210\n\
+     nonzero 2 of 4\n",
+);
+
+/// Whether a run on so many touching squares with a terminal at either end answers so.
+fn island_answers(rt: &(impl Threads + Sync), alloc: Global) -> Result<bool, AllocError> {
+    let squares = touching_squares(alloc, 70_000)?;
+    let layout = plates(alloc, squares.as_slice())?;
+    Ok(answers(rt, alloc, &mapped(layout.as_slice(), ENDS), &ENDS_REPORT))
+}
+
+/// One island of 70,000 pieces.
+#[test]
+fn islands_are_large(rt: HostRuntime) {
+    assert!(rt; island_answers(&rt, rt.alloc()) == Ok(true));
 }
 
 /// Files whose bytes are all zero. Each has so many.
