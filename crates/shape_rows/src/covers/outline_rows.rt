@@ -135,8 +135,18 @@ const OUTLINES: &[&[Corner]] = &[
     REPEATED,
 ];
 
-/// Outlines, and how many rectangles each has: a tooth of the comb is one, however many bands it reaches through.
-const COUNTS: &[(&[Corner], usize)] = &[(SQUARE, 1), (COMB, 4), (LINE, 0)];
+/// Outlines, and how many rectangles each has. No clause says how many: the fewer there are, the sooner all that comes later is
+/// done.
+const COUNTS: &[(&[Corner], usize)] = &[
+    (SQUARE, 1),
+    // three teeth and what joins them: a tooth is one, however many bands it reaches through
+    (COMB, 4),
+    (LINE, 0),
+    // columns that meet at an inner side are one run: the side of a part that is wound twice, as of all that is wound
+    (TWICE, 1),
+    // a row below what the ring leaves open, where the way to it comes and goes, two beside it, and one above
+    (RING, 4),
+];
 
 #[test]
 fn rectangles_grow_through_bands(rt: HostRuntime) {
