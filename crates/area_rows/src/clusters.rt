@@ -3,3 +3,4 @@
 mod box_rows;
 mod group_rows;
 mod layouts;
+mod many_rows;

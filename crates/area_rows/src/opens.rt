@@ -4,4 +4,6 @@ mod areas;
 mod cells;
 mod drawn;
 mod links;
+mod many_rows;
 mod partings;
+mod wire;

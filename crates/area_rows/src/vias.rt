@@ -1,4 +1,5 @@
 //! Areas of unions and of vias.
 
+mod many_rows;
 mod unions;
 mod vias;

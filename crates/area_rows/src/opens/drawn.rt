@@ -110,7 +110,7 @@ pub fn islands_of(alloc: Global, drawn: &Drawn) -> Option<Vec<Island>> {
 }
 
 /// Whether there is memory for the islands, with these appended to the others.
-fn add_islands(islands: &mut Vec<Island>, others: Vec<Island>) -> bool {
+pub fn add_islands(islands: &mut Vec<Island>, others: Vec<Island>) -> bool {
     for island in others {
         if islands.push(island).is_err() {
             return false;

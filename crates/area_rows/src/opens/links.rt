@@ -6,10 +6,13 @@ use half_boxes::{HalfBox, grown_links, links_of};
 use std::alloc::{AllocError, Global};
 
 /// So few are compared one with another.
-const FEW: u16 = 5;
+const FEW: i32 = 5;
 
 /// Of so many the edges are numbered first.
-const MANY: u16 = 500;
+const MANY: i32 = 500;
+
+/// So many are more than 16 bits count.
+const VERY_MANY: i32 = 70_000;
 
 /// Whether there is memory for the box of one cell in this column, with the box appended to the others.
 fn add(boxes: &mut Vec<HalfBox>, column: i32) -> bool {
@@ -20,9 +23,9 @@ fn add(boxes: &mut Vec<HalfBox>, column: i32) -> bool {
 }
 
 /// Boxes of one cell, side by side.
-fn boxes_in_a_row(alloc: Global, count: u16) -> Option<Vec<HalfBox>> {
+fn boxes_in_a_row(alloc: Global, count: i32) -> Option<Vec<HalfBox>> {
     let mut boxes = Vec::new(alloc);
-    for column in 0..i32::from(count) {
+    for column in 0..count {
         if !add(&mut boxes, column) {
             return None;
         }
@@ -51,7 +54,7 @@ fn mark_all(marks: &mut [bool], pairs: &[(usize, usize)]) -> bool {
 }
 
 /// Marks for boxes that are not joined to the next one yet. The last has no next one.
-fn first_marks(alloc: Global, count: u16) -> Result<Vec<bool>, AllocError> {
+fn first_marks(alloc: Global, count: i32) -> Result<Vec<bool>, AllocError> {
     let mut marks = Vec::new(alloc);
     for number in 1..=count {
         marks.push(number == count)?;
@@ -60,7 +63,7 @@ fn first_marks(alloc: Global, count: u16) -> Result<Vec<bool>, AllocError> {
 }
 
 /// Whether the pairs join so many boxes in a row.
-fn join(alloc: Global, pairs: &[(usize, usize)], count: u16) -> bool {
+fn join(alloc: Global, pairs: &[(usize, usize)], count: i32) -> bool {
     match first_marks(alloc, count) {
         Ok(mut marks) => mark_all(marks.as_mut_slice(), pairs),
         Err(_) => false,
@@ -68,24 +71,25 @@ fn join(alloc: Global, pairs: &[(usize, usize)], count: u16) -> bool {
 }
 
 /// Whether the pairs were found, and join so many boxes in a row.
-fn are_links(alloc: Global, found: Result<Vec<(usize, usize)>, NoMemory>, count: u16) -> bool {
+fn are_links(alloc: Global, found: Result<Vec<(usize, usize)>, NoMemory>, count: i32) -> bool {
     match found {
         Ok(pairs) => join(alloc, pairs.as_slice(), count),
         Err(_) => false,
     }
 }
 
-/// Whether so many boxes in a row are joined by their pairs, and by those of trees that grow from box to box, which only
-/// lists with more edges than ranks need.
-fn have_links(alloc: Global, boxes: &[HalfBox], count: u16) -> bool {
-    are_links(alloc, links_of(alloc, boxes), count)
-        && are_links(alloc, grown_links(alloc, boxes), count)
+/// Whether all pairs are neighbours, and each box is joined to the next.
+fn are_joined(alloc: Global, count: i32) -> bool {
+    match boxes_in_a_row(alloc, count) {
+        Some(boxes) => are_links(alloc, links_of(alloc, boxes.as_slice()), count),
+        None => false,
+    }
 }
 
-/// Whether all pairs are neighbours, and each box is joined to the next.
-fn are_joined(alloc: Global, count: u16) -> bool {
+/// Whether that is so of the pairs of trees that grow from box to box, which only lists with more edges than ranks need.
+fn are_grown(alloc: Global, count: i32) -> bool {
     match boxes_in_a_row(alloc, count) {
-        Some(boxes) => have_links(alloc, boxes.as_slice(), count),
+        Some(boxes) => are_links(alloc, grown_links(alloc, boxes.as_slice()), count),
         None => false,
     }
 }
@@ -94,4 +98,11 @@ fn are_joined(alloc: Global, count: u16) -> bool {
 fn boxes_in_a_row_are_joined(rt: HostRuntime) {
     assert!(rt; are_joined(rt.alloc(), FEW));
     assert!(rt; are_joined(rt.alloc(), MANY));
+    assert!(rt; are_joined(rt.alloc(), VERY_MANY));
+}
+
+#[test]
+fn trees_join_boxes_in_a_row(rt: HostRuntime) {
+    assert!(rt; are_grown(rt.alloc(), FEW));
+    assert!(rt; are_grown(rt.alloc(), MANY));
 }

@@ -40,7 +40,7 @@ fn areas_in<L: Ledger>(
 }
 
 /// Whether the two areas are these.
-fn has_areas(alloc: Global, rects: &[Rect], window: Rect, once: u64, twice: u64) -> bool {
+pub fn has_areas(alloc: Global, rects: &[Rect], window: Rect, once: u64, twice: u64) -> bool {
     areas_in::<Brand>(alloc, rects, window, Blank::new(1)) == Ok((once, twice))
 }
 
