@@ -7,6 +7,8 @@ mod chain_rows;
 #[cfg(test)]
 mod class_rows;
 #[cfg(test)]
+mod deep_areas;
+#[cfg(test)]
 mod flood;
 #[cfg(test)]
 mod flood_rows;
