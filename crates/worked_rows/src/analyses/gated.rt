@@ -1,14 +1,16 @@
 //! Runs whose tiles pass a gate that holds the first of them until the others have come. They end content where so many workers
 //! are at work at once as were asked for.
 
+ghost use Rattle.std.specs.Prelude.{◌≤◌};
+
 use super::analysed::{Want as Analysis, answers};
 use crate::generated::ONE_CELL;
 use crate::layouts::TWO_BARS;
 use crate::rows::BARS_REPORT;
-use crate::runs::{Want, calm, expect, gated_answers};
+use crate::runs::{Failing, Given, Want, calm, expect, gated_answers, mapped, run_on};
 use holding_gate::{FEW_TURNS, HoldFirst, USUAL_TURNS};
 use map_model::one_metal;
-use std::alloc::Global;
+use std::alloc::{AllocError, Global};
 use std::thread::Threads;
 
 /// The words, the report, how many tiles there are, how many of them the gate holds and for how many turns, and whether it is
@@ -31,6 +33,15 @@ const ROWS: &[Row] = &[
         BARS_REPORT,
         4,
         3,
+        USUAL_TURNS,
+        true,
+    ),
+    // seven until the eighth, each at a tile with an edge of 8
+    (
+        "a --layer 1 --datatype 0 --radius 3 --tile 8 --workers 8",
+        BARS_REPORT,
+        8,
+        7,
         USUAL_TURNS,
         true,
     ),
@@ -58,6 +69,15 @@ const ROWS: &[Row] = &[
         ONE_CELL,
         4,
         1,
+        USUAL_TURNS,
+        true,
+    ),
+    // as many workers as may be, each at a tile with an edge of 3: 8 tiles beside one another, and 8 over one another
+    (
+        "--generate 1 --tile 3 --workers 64",
+        ONE_CELL,
+        64,
+        63,
         USUAL_TURNS,
         true,
     ),
@@ -96,4 +116,87 @@ fn analysis_passes_its_gate(rt: &(impl Threads + Sync), alloc: Global) -> bool {
 #[test]
 fn an_analysis_passes_its_gate(rt: HostRuntime) {
     assert!(rt; analysis_passes_its_gate(&rt, rt.alloc()));
+}
+
+/// Two metals at the radii 1 to 32, which are 64 rows of shorts and 64 of opens.
+const MANY_QUESTIONS: &[u8] = b"\
+    version = 1\n\
+    radii = [1, 2, 3, 4, 5, 6, 7, 8, 9, 10, 11, 12, 13, 14, 15, 16, 17, 18, 19, 20, 21, 22, 23, 24, 25, \
+    26, 27, 28, 29, 30, 31, 32]\n\
+    weights = [1, 1, 1, 1, 1, 1, 1, 1, 1, 1, 1, 1, 1, 1, 1, 1, 1, 1, 1, 1, 1, 1, 1, 1, 1, 1, 1, 1, 1, 1, \
+    1, 1]\n\
+    metal = [{ name = \"m1\", pairs = [[1, 0]] }, { name = \"m2\", pairs = [[2, 0]] }]\n";
+
+/// The kinds of rows and the metals, in order, and whether the two bars have such faults.
+const BLOCKS: &[(&str, bool)] = &[
+    ("short m1", true),
+    ("short m2", false),
+    ("open m1", false),
+    ("open m2", false),
+];
+
+/// What stands behind the rows. The areas of shorts, 4 r * r + 12 r - 40 for r from 3 to 32, come to 50,840.
+const TOTALS: &str = "\
+total short 50840
+total open 0
+total via 0
+total 50840
+peak short m1 r=32 sum=4440
+nonzero 30 of 128
+";
+
+/// At how many cells a defect touches both bars: they are 4 columns apart and have 10 rows. From the radius 3 on it does in 2 r - 4
+/// columns and 2 r + 10 rows.
+fn short_of_bars(radius: u32) -> u32
+    requires { radius ≤ 32 }
+{
+    if radius < 3 {
+        return 0;
+    }
+    (2 * radius - 4) * (2 * radius + 10)
+}
+
+/// Appends the rows of a kind and a metal.
+fn push_rows(alloc: Global, text: &mut String, words: &str, bars: bool) -> Result<(), AllocError> {
+    for radius in 1..33 {
+        let area = if bars { short_of_bars(radius) } else { 0 };
+        let row = format!(in alloc; "{words} r={radius} area={area} weight=1 sum={area}\n")?;
+        text.push_str(row.as_str())?;
+    }
+    Ok(())
+}
+
+/// The report on the two bars.
+fn many_rows(alloc: Global) -> Result<String, AllocError> {
+    let mut text = String::new(alloc);
+    for (words, bars) in BLOCKS {
+        push_rows(alloc, &mut text, words, *bars)?;
+    }
+    text.push_str(TOTALS)?;
+    Ok(text)
+}
+
+/// Whether two workers write this report of four tiles, by a gate that holds the first. The window is 88 by 74 cells.
+fn many_are_written(rt: &(impl Threads + Sync), alloc: Global, report: &str) -> bool {
+    let gate = HoldFirst::new(4);
+    let given = Given {
+        words: "a --map m --tile 44 --workers 2",
+        failing: Failing::OutPast(report.len()),
+        ..mapped(TWO_BARS, MANY_QUESTIONS)
+    };
+    match run_on(rt, alloc, &given, &gate) {
+        Ok(answer) => answer.has(0, report, "") && gate.is_content(),
+        Err(_) => false,
+    }
+}
+
+/// Whether the map with many questions has its report.
+fn many_are_answered(rt: &(impl Threads + Sync), alloc: Global) -> Result<bool, AllocError> {
+    let report = many_rows(alloc)?;
+    Ok(many_are_written(rt, alloc, report.as_str()))
+}
+
+#[test]
+fn workers_share_the_tiles_of_many_questions(rt: HostRuntime) {
+    assert!(rt; many_are_answered(&rt, rt.alloc()) == Ok(true));
 }
