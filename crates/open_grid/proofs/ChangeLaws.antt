@@ -1,15 +1,18 @@
 -- the places at which defects change, by halves that are rounded down
-use Rattle.std.proofs.Common.{ℕ, ◌≤◌, ◌≡◌, sym, ap, ◌∙◌, subst, length, take, take_all, get_or, ◌+◌, ◌<◌, List, [], ◌∷◌, ◌++◌, arith, inl, inr, ◌⊎◌, ℤ, pos, ◌+ℤ◌, ◌-ℤ◌, ◌≤ℤ◌, ◌<ℤ◌, Contains}
-use Rattle.lists.proofs.Words.{ints, All-push, All-nil, IsPermutation, Contains-permutation, Contains-append_left, Contains-push}
+use Rattle.std.proofs.Common.{refl, ℕ, ◌≤◌, ◌≡◌, sym, ap, ◌∙◌, subst, length, take, take_all, get_or, ◌+◌, ◌<◌, List, [], ◌∷◌, ◌++◌, arith, inl, inr, ◌⊎◌, ℤ, pos, ◌+ℤ◌, ◌-ℤ◌, ◌≤ℤ◌, ◌<ℤ◌, Contains, ◌/◌, Some, slice_get, to_z, of_z, w32}
+use Rattle.lists.proofs.Words.{ints, All-push, All-nil, IsPermutation, Contains-permutation, Contains-append_left, Contains-push, IsSorted, int_cmp, slice_get_read}
 use Rattle.std.proofs.lemmas.List.Sorted.{All-permutation}
 use Rattle.lists.proofs.Containing.{Contains-head, Contains-none, Contains-one, Contains-take_cases}
 use Rattle.geo_core.specs.Plane.{low_along, high_along}
+use Rattle.geo_core.specs.Plane.{IsInterval}
 use Rattle.geo_core.specs.declared.axis.Axis.{Axis}
+use Rattle.geo_core.specs.declared.axis.Axis.TheVariants.{X, Y}
+use Rattle.geo_core.specs.declared.bounds.TheConstants.{FARTHEST_GROWN}
 use Rattle.geo_core.specs.declared.plane.Rect.{Rect}
 use Rattle.half_boxes.specs.declared.boxes.HalfBox.{HalfBox}
 use Rattle.severing.specs.Changes.{ChangesAt, IsChange, Passes, Reaches}
 use Rattle.half_boxes.specs.HalfBoxes.{span_along}
-use Rattle.open_grid.specs.inside.ZoneSteps.{AreChanges, GainsChanges, GainsPlace, IsInsideAlong}
+use Rattle.open_grid.specs.inside.ZoneSteps.{AreChanges, GainsChanges, GainsPlace, IsInsideAlong, IsMiddleChange}
 use Rattle.open_grid.specs.declared.looked.Looked.{Looked}
 
 -- ---- one edge
@@ -102,3 +105,24 @@ module _ (axis : Axis) (zone : Rect) (side : ℕ) where
         inside = All-permutation (IsInsideAlong axis zone) old new same whole.inside;
         complete = λ seen one x among at change. Contains-permutation old new x same (whole.complete seen one x among at change);
       }
+
+-- ---- the middle one
+
+-- a zone's sides are those of a rectangle, along each axis
+sides_along : (axis : Axis) (zone : Rect) → IsInterval FARTHEST_GROWN (low_along axis zone) (high_along axis zone)
+sides_along X zone = zone.across
+sides_along Y zone = zone.up
+
+-- a number that was read at the middle of changes in rising order
+pub middle_change : (axis : Axis) (zone : Rect) (side : ℕ) (looked : List Looked) (places : List ℤ) (i : ℕ) (place : ℤ)
+    → AreChanges axis zone side looked places → IsSorted int_cmp places → i ≡ length places / 2 → 0 < length places → place ≡ get_or places i place
+    → IsMiddleChange axis zone side looked (to_z w32 (of_z w32 place))
+middle_change axis zone side looked places i place changes rising half some is =
+    let small : i < length places = omega arith in
+    let inside : IsInsideAlong axis zone place = subst (IsInsideAlong axis zone) (sym is) (changes.inside i place small) in
+    let sides = sides_along axis zone in
+    let least = sides.least in let most = sides.most in let above = inside.above in let below = inside.below in
+    let same : to_z w32 (of_z w32 place) ≡ place = omega (arith, ints) in
+    let here = slice_get_read places (length places) i place refl small is in
+    let at : slice_get places (length places / 2) ≡ Some place = subst (λ k. slice_get places k ≡ Some place) half here in
+    subst (IsMiddleChange axis zone side looked) (sym same) (record { inside = inside; places = places; changes = changes; rising = rising; middle = at })

@@ -1,6 +1,7 @@
 //! The places at which a defect that moves along an axis comes to an edge, or past it.
 
-ghost use Rattle.std.specs.Prelude.{ℤ, pos, negsuc, [], ◌∷◌, ◌≡◌, ◌+ℤ◌, ◌≤ℤ◌, ◌≤◌, IfOk, OnOk};
+ghost use Rattle.std.specs.Prelude.{ℤ, pos, negsuc, [], ◌∷◌, ◌≡◌, ◌+ℤ◌, ◌≤ℤ◌, ◌≤◌, IfOk, IsSorted, OnOk};
+ghost use Rattle.std.specs.Ordering.{int_cmp};
 ghost use Rattle.half_boxes.specs.declared.footprints.TheConstants.{GREATEST_SIDE};
 ghost use Rattle.half_boxes.specs.HalfBoxes.{span_along as span_of};
 ghost use Rattle.severing.specs.Changes.{Passes, Reaches};
@@ -114,7 +115,8 @@ pub fn changes_of(
 ) -> Result<Vec<i32>, NoMemory>
     requires some { 1 ≤ side }
     requires few { side ≤ GREATEST_SIDE }
-    ensures { IfOk result (λ places. AreChanges axis zone side looked.now places.items) }
+    ensures changes { IfOk result (λ places. AreChanges axis zone side looked.now places.items) }
+    ensures rising { IfOk result (λ places. IsSorted int_cmp places.items) }
 {
     let mut places = Vec::new(alloc);
     for one in looked {

@@ -1,5 +1,6 @@
 -- what becomes of a zone when islands are looked at
-use Rattle.std.specs.Prelude.{ℤ, pos, ℕ, List, [], Contains, All, Option, Some, None, Vec, length, ◌<◌, ◌≡◌, ◌≢◌, ◌⊎◌, ◌↔◌, ◌+ℤ◌, ◌<ℤ◌, ⊤}
+use Rattle.std.specs.Prelude.{ℤ, pos, ℕ, List, [], Contains, All, Option, Some, None, Vec, length, slice_get, IsSorted, ◌<◌, ◌/◌, ◌≡◌, ◌≢◌, ◌⊎◌, ◌↔◌, ◌+ℤ◌, ◌<ℤ◌, ⊤}
+use Rattle.std.specs.Ordering.{int_cmp}
 use Rattle.lists.specs.Words.{Global}
 use Rattle.geo_core.specs.Plane.{Has, IsInUnion, low_along, high_along}
 use Rattle.geo_core.specs.declared.axis.Axis.{Axis}
@@ -117,18 +118,27 @@ pub record AreChanges (axis : Axis) (zone : Rect) (side : ℕ) (looked : List Lo
   pub complete : (seen : Looked) (one : HalfBox) (x : ℤ) → Contains looked seen → Contains seen.near one
       → ChangesAt axis zone side one x → Contains places x
 
+-- the place lies inside the zone along the axis, and is the middle one, in rising order, of places among which are all at which
+-- the defects change at an end of a box that is near. So no zone is halved as often as there are such places
+pub record IsMiddleChange (axis : Axis) (zone : Rect) (side : ℕ) (looked : List Looked) (place : ℤ) : Type 0 where
+  pub inside : IsInsideAlong axis zone place
+  pub places : List ℤ
+  pub changes : AreChanges axis zone side looked places
+  pub rising : IsSorted int_cmp places
+  pub middle : slice_get places (length places / 2) ≡ Some place
+
 -- what comes next of a zone that is more than one cell: one line of it stands for all, of which there is more than one; or it
--- is halved at a place inside
+-- is halved at the middle one of its changes
 abbrev pub IsStepOf : Rect → ℕ → List Looked → Step → Type 0
 IsStepOf zone side looked (Repeat axis) =
     HasSeveral axis zone × ((seen : Looked) → Contains looked seen → IsSteady axis zone side seen.near)
-IsStepOf zone side looked (Halve axis place) = IsInsideAlong axis zone place
+IsStepOf zone side looked (Halve axis place) = IsMiddleChange axis zone side looked place
 
--- nothing changes along the axis, along which the zone has several places; or these are the places at which it may be halved
+-- nothing changes along the axis, along which the zone has several places; or these are its changes, in rising order
 abbrev pub IsToHalve : Axis → Rect → ℕ → List Looked → Option (Vec ℤ Global) → Type 0
 IsToHalve axis zone side looked None = IsStepOf zone side looked (Repeat axis)
 IsToHalve axis zone side looked (Some places) =
-    All (IsInsideAlong axis zone) places.items × (HasSeveral axis zone → 0 < length places.items)
+    AreChanges axis zone side looked places.items × IsSorted int_cmp places.items × (HasSeveral axis zone → 0 < length places.items)
 
 -- the rectangle has all places of the zone along the axis, in the lines in which the other one has cells
 pub record IsStretched (axis : Axis) (zone line rect : Rect) : Type 0 where
