@@ -24,7 +24,7 @@ use Rattle.critarea_core.specs.Coverage.{IsCoveredOn}
 use Rattle.critarea_core.specs.inside.Finding.{HasFittingNumbers}
 use Rattle.critarea_core.specs.Refusals.{usage, map_limit, map_too_long, of_map_fault, layout_limit, layout_too_long, of_layout_fault}
 use Rattle.critarea_core.specs.Layout.{Subject, ShapesComeTo, ShortLayoutComesTo, TerminalsComeTo}
-use Rattle.critarea_core.specs.Verdict.{AreRowsOn, whole_report, IsShortEnough, IsReportOn, ShortMapComesTo, MapTextComesTo, MapComesTo, WordsComeTo, LayoutComesTo, IsVerdict}
+use Rattle.critarea_core.specs.Verdict.{AreRowsOn, whole_report, IsShortEnough, ShortMapComesTo, MapTextComesTo, MapComesTo, WordsComeTo, LayoutComesTo, IsVerdict}
 use Rattle.critarea_core.specs.declared.layout_fault.LayoutFault.{LayoutFault}
 use Rattle.critarea_core.specs.declared.layout_fault.LayoutFault.TheVariants.{Syntax}
 use Rattle.critarea_core.specs.declared.refusal.Refusal.{Refusal}
@@ -146,19 +146,18 @@ pub rows_on_agree : (subject : Subject) → IsUnique (AreRowsOn subject)
 rows_on_agree subject = rows_agree subject.layer_map (IsCoveredOn subject.layer_map subject.routes)
 
 -- and one report with these gauges
-pub reports_agree : (subject : Subject) (gauges : List GaugeView) → IsUnique (IsReportOn subject gauges)
-reports_agree subject gauges text other a b =
-    let rows = rows_on_agree subject a.rows b.rows a.are_rows b.are_rows in
-    a.is_text ∙ ap (λ rows. whole_report rows gauges) rows ∙ sym b.is_text
+pub reports_agree : (subject : Subject) (rows others : List Row) (gauges : List GaugeView) → AreRowsOn subject rows → AreRowsOn subject others
+    → whole_report rows gauges ≡ whole_report others gauges
+reports_agree subject rows others gauges are these = ap (λ rows. whole_report rows gauges) (rows_on_agree subject rows others are these)
 
 -- so have words that ask for the same task
 pub same_task_same_report : (words other : List (List ℕ)) (one same : Request) → Ask words one → Ask other same → one.task ≡ same.task
-    → (contents : Contents) (subject also : Subject) (gauges : List GaugeView) (text second : List ℕ) → IsVerdict words contents (value subject) → IsReportOn subject gauges text
-    → IsVerdict other contents (value also) → IsReportOn also gauges second → text ≡ second
-same_task_same_report words other one same asks too alike contents subject also gauges text second verdict report verdict_too report_too =
+    → (contents : Contents) (subject also : Subject) (rows others : List Row) (gauges : List GaugeView) → IsVerdict words contents (value subject) → AreRowsOn subject rows
+    → IsVerdict other contents (value also) → AreRowsOn also others → whole_report rows gauges ≡ whole_report others gauges
+same_task_same_report words other one same asks too alike contents subject also rows others gauges verdict are verdict_too these =
     let moved = same_task_same_verdict words other one same asks too alike contents (value subject) verdict in
     let subjects : subject ≡ also = cc (verdicts_agree other contents (value subject) (value also) moved verdict_too) in
-    reports_agree also gauges text second (subst (λ s. IsReportOn s gauges text) subjects report) report_too
+    reports_agree also rows others gauges (subst (λ s. AreRowsOn s rows) subjects are) these
 
 -- ---- what is found in the bytes of a layout
 

@@ -63,9 +63,3 @@ AreRowsOn subject = AreRows subject.layer_map (IsCoveredOn subject.layer_map sub
 -- before, followed by these
 abbrev pub whole_report : List Row → List GaugeView → List ℕ
 whole_report rows gauges = report_text rows ++ texts_after rows gauges
-
--- the text is the report on the subject with these gauges: the whole report of its rows
-pub record IsReportOn (subject : Subject) (gauges : List GaugeView) (text : List ℕ) : Type 0 where
-  pub rows : List Row
-  pub are_rows : AreRowsOn subject rows
-  pub is_text : text ≡ whole_report rows gauges

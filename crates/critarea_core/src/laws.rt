@@ -12,7 +12,7 @@ ghost use Rattle.gauges.specs.GaugeViews.{GaugeView};
 ghost use Rattle.lists.specs.ByteLists.{AreBytes};
 ghost use Rattle.lists.specs.Words.{Global};
 ghost use Rattle.critarea_core.specs.Layout.{Subject};
-ghost use Rattle.critarea_core.specs.Verdict.{AreRowsOn, IsReportOn, IsVerdict, LayoutComesTo, MapComesTo};
+ghost use Rattle.critarea_core.specs.Verdict.{AreRowsOn, IsVerdict, LayoutComesTo, MapComesTo, whole_report};
 ghost use Rattle.critarea_core.specs.declared.layout_fault.LayoutFault.{LayoutFault};
 ghost use Rattle.critarea_core.specs.declared.refusal.Refusal.{Refusal};
 ghost use Rattle.map_model.specs.LayerMap.{LayerMap};
@@ -44,12 +44,13 @@ pub fn tiles_and_workers_change_no_verdict()
         (contents : Contents) (outcome : Outcome Subject Refusal) → IsVerdict words contents outcome → IsVerdict other contents outcome }
 {}
 
-/// Words that ask for the same task have the same report where the same gauges are told of it, byte for byte.
+/// Words that ask for the same task have the same report where the same gauges are told of it, byte for byte: the whole report
+/// of rows on the subject to which the ones come is that of rows on the subject to which the others come.
 pub fn tiles_and_workers_change_no_byte()
     ensures { (words other : List (List ℕ)) (one same : Request) → Ask words one → Ask other same → one.task ≡ same.task →
-        (contents : Contents) (subject also : Subject) (gauges : List GaugeView) (text second : List ℕ) →
-        IsVerdict words contents (value subject) → IsReportOn subject gauges text →
-        IsVerdict other contents (value also) → IsReportOn also gauges second → text ≡ second }
+        (contents : Contents) (subject also : Subject) (rows others : List Row) (gauges : List GaugeView) →
+        IsVerdict words contents (value subject) → AreRowsOn subject rows →
+        IsVerdict other contents (value also) → AreRowsOn also others → whole_report rows gauges ≡ whole_report others gauges }
 {}
 
 /// A layer map, a top that is wanted or not, and the bytes of a layout come to one list of rows, or to one fault, and never to
@@ -72,7 +73,8 @@ pub fn rows_agree()
 
 /// A subject has one report at most with gauges of which this is known.
 pub fn reports_agree()
-    ensures { (subject : Subject) (gauges : List GaugeView) → IsUnique (IsReportOn subject gauges) }
+    ensures { (subject : Subject) (rows others : List Row) (gauges : List GaugeView) →
+        AreRowsOn subject rows → AreRowsOn subject others → whole_report rows gauges ≡ whole_report others gauges }
 {}
 
 /// In the map of a task no cut has its clusters as terminals. So what its rows count as opens are those of
