@@ -46,13 +46,14 @@ pub record Change (A : Type 0) : Type 0 where
 abbrev pub change : {A : Type 0} → A → A → Change A
 change before after = record { before = before; after = after }
 
--- the files: what each holds by its name and which were started, where they tell it, and how many of their calls failed
+-- the files: what each holds by its name and which were started, where they tell it, and how many of their calls failed, a
+-- count that stands still at its last value
 pub record Files : Type 0 where
   pub holds : Change (List ℕ → Option (List ℕ))
   pub starts : Change (Option (List (List ℕ)))
   pub failures : Change ℕ
 
--- an output: what it took, where it tells it, and how many of its calls failed
+-- an output: what it took, where it tells it, and how many of its calls failed, a count of the same kind
 pub record Output : Type 0 where
   pub taken : Change (Option (List ℕ))
   pub failures : Change ℕ
@@ -64,7 +65,8 @@ pub record Surroundings : Type 0 where
   pub err : Output
   pub gauges : Change (List GaugeView)
 
--- the count rose, or stands at its last value, where it cannot rise
+-- Something failed, as far as its count tells: the count rose, or it stood and stands at its last value, where it cannot rise.
+-- There this holds whether anything failed or not.
 abbrev pub HasRisen : Change ℕ → Type 0
 HasRisen failures = Rose failures.before failures.after
 
@@ -80,7 +82,7 @@ IsIdle out = (out.taken.after ≡ out.taken.before) × IsCalm out.failures
 abbrev pub Takes : Output → List ℕ → Type 0
 Takes out text = Appends out.taken.before out.taken.after text × IsCalm out.failures
 
--- the output failed, and took the first part of the text
+-- the output failed, as far as its count tells, and took the first part of the text
 abbrev pub FailsWithin : Output → List ℕ → Type 0
 FailsWithin out text = HasRisen out.failures × AppendsPrefix out.taken.before out.taken.after text
 
@@ -126,14 +128,14 @@ pub data EndsWith (words : List (List ℕ)) (met : Surroundings) : ℕ → Type 
   refused_input : {refusal : Refusal} → IsRefusalFor words met.files.holds.before refusal
       → IsCalm met.files.failures → IsIdle met.out → Takes met.err (refusal_text refusal)
       → AreUntold met.gauges → EndsWith words met refusal.status
-  -- the files failed
+  -- the files failed, as far as their count tells
   files_failed : NameSomeFile words
       → HasRisen met.files.failures → IsIdle met.out → IsIdle met.err → AreUntold met.gauges → EndsWith words met 5
-  -- the output of the report failed
+  -- the output of the report failed, as far as its count tells
   report_cut_short : {rows : List Row} → AreRowsFor words met.files.holds.before rows
       → IsCalm met.files.failures → FailsWithin met.out (whole_report rows met.gauges.before) → IsIdle met.err
       → AreToldAll met.gauges rows → EndsWith words met 5
-  -- the output of the refusal failed
+  -- the output of the refusal failed, as far as its count tells
   refusal_cut_short : {refusal : Refusal} → IsRefusalFor words met.files.holds.before refusal
       → IsCalm met.files.failures → IsIdle met.out → FailsWithin met.err (refusal_text refusal)
       → AreUntold met.gauges → EndsWith words met 5
@@ -143,7 +145,8 @@ pub data EndsWith (words : List (List ℕ)) (met : Surroundings) : ℕ → Type 
   out_of_memory_with_rows : {rows : List Row} → AreRowsFor words met.files.holds.before rows
       → IsCalm met.files.failures → IsIdle met.out → IsIdle met.err → AreToldSome met.gauges rows → EndsWith words met 6
 
--- what the words must come to comes out, or the run is out of memory, unless the files or the output failed on the way
+-- what the words must come to comes out, or the run is out of memory, unless the files or the output failed on the way, or
+-- their count stands at its last value
 pub record IsComplete (words : List (List ℕ)) (met : Surroundings) (status : ℕ) : Type 0 where
   pub report : (subject : Subject) → MustComeTo words met.files.holds.before (value subject)
       → (HasRisen met.files.failures → ⊥) → (HasRisen met.out.failures → ⊥) → (status ≡ 0) ⊎ (status ≡ 6)
@@ -167,7 +170,8 @@ pub record StartsNamed (words : List (List ℕ)) (told : List ℕ → Option (Li
 pub record RunsTo (words : List (List ℕ)) (met : Surroundings) (status : ℕ) : Type 0 where
   -- the status, what each output took, what each gauge was told, and which counts of failures moved
   pub ends : EndsWith words met status
-  -- what is due comes out, unless something failed or the run is out of memory: this follows from the status
+  -- what is due comes out, unless something failed, as far as counts tell, or the run is out of memory: this follows from the
+  -- status
   pub complete : IsComplete words met status
   -- what the gauges print for rows: this follows from the status, too
   pub texts : KeepTheirTexts met.gauges

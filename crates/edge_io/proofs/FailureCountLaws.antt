@@ -1,4 +1,4 @@
--- what a count that rose is
+-- what is known of a count that rose, or stands at its last value
 use Rattle.std.proofs.Common.{ℕ, ◌≤◌, arith}
 use Rattle.edge_io.specs.FailureCounts.{Rose}
 

@@ -8,7 +8,7 @@ use Rattle.edge_io.specs.FailureCounts.{Rose}
 use Rattle.edge_io.specs.declared.whole.ReadError.{ReadError}
 use Rattle.edge_io.specs.declared.whole.ReadError.TheVariants.{Fault, TooLong, Memory}
 
--- a call of a source failed: the count rose, no file is started, and what is unread is not told
+-- a call of a source failed: the count rose, or stands at its last value, no file is started, and what is unread is not told
 pub record HasFailed (old new : ℕ) (started : Type 0) (rest : Option (List ℕ)) : Type 0 where
   pub rose : Rose old new
   pub none_started : started → ⊥
