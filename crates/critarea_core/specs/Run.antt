@@ -178,3 +178,9 @@ pub record RunsTo (words : List (List ℕ)) (met : Surroundings) (status : ℕ) 
   -- what becomes of the files
   pub started : StartsNamed words met.files.holds.before met.files.starts
   pub holds : (name : List ℕ) → met.files.holds.after name ≡ met.files.holds.before name
+
+-- The run of these words that has such gauges to begin with met and left behind this, with this status. What became of the
+-- gauges is known to whoever made them and let them go.
+pub record RunsWith (words : List (List ℕ)) (gauges : List GaugeView) (files : Files) (out err : Output) (status : ℕ) : Type 0 where
+  pub gauges_after : List GaugeView
+  pub runs : RunsTo words (record { files = files; out = out; err = err; gauges = change gauges gauges_after }) status

@@ -2,6 +2,7 @@
 #![tactic(auto)]
 
 mod analysis;
+mod boxed;
 mod command;
 pub mod laws;
 mod layers;
@@ -13,8 +14,10 @@ mod told;
 mod unreported;
 
 pub use analysis::analyse;
+pub use boxed::run_boxed;
 pub use command::run;
 pub use command_line::{Request, Task, Word, WordsFault, read_words};
 pub use critical_areas::{Gate, NoGate};
 pub use layout_fault::LayoutFault;
+pub use printing::NO_MEMORY;
 pub use told::system_words;

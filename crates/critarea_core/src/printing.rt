@@ -20,8 +20,8 @@ const REPORTED: u8 = 0;
 /// The status where a file or an output failed.
 const FAILED: u8 = 5;
 
-/// The status where the run is out of memory.
-const NO_MEMORY: u8 = 6;
+/// The status where no memory is left.
+pub const NO_MEMORY: u8 = 6;
 
 /// Prints the line of a refusal, and gives the status.
 fn print_refusal<E: Sink>(alloc: Global, refusal: Refusal, err: &mut E) -> u8

@@ -1,12 +1,10 @@
-ghost use Rattle.std.specs.Prelude.{◌≡◌, ◌⊎◌, IfErr};
+ghost use Rattle.std.specs.Prelude.{◌≡◌, ◌≢◌, ◌⊎◌, ◌↔◌, IfErr};
 
+use super::printing::NO_MEMORY;
 use command_line::Word;
 use std::env;
 use std::io::{self, ErrorKind};
 use std::rt::Env;
-
-/// The status where the words find no memory.
-const NO_MEMORY: u8 = 6;
 
 /// The status where the system does not tell the words. `run` never answers it.
 const WORDS_UNTOLD: u8 = 7;
@@ -19,8 +17,19 @@ pub fn system_words<R: Env + AllocGlobal>(rt: &R) -> Result<Vec<Word>, u8>
 {
     match words(rt) {
         Ok(words) => Ok(words),
-        Err(error) if error.kind() == ErrorKind::OutOfMemory => Err(NO_MEMORY),
-        Err(_) => Err(WORDS_UNTOLD),
+        Err(error) => Err(status_of(error.kind())),
+    }
+}
+
+/// The status where the words are not told for such a reason.
+fn status_of(why: ErrorKind) -> u8
+    ensures memory { (result ≡ 6) ↔ (why ≡ ErrorKind.OutOfMemory) }
+    ensures untold { (result ≡ 7) ↔ (why ≢ ErrorKind.OutOfMemory) }
+{
+    if why == ErrorKind::OutOfMemory {
+        NO_MEMORY
+    } else {
+        WORDS_UNTOLD
     }
 }
 

@@ -1,5 +1,5 @@
 -- what gauges have seen, and what they print
-use Rattle.std.specs.Prelude.{ℕ, ◌≡◌, List, ◌++◌, map, flat_map, take}
+use Rattle.std.specs.Prelude.{ℕ, ◌≡◌, List, [], ◌++◌, map, flat_map, take}
 use Rattle.lists.specs.Words.{AllZip}
 use Rattle.questions.specs.declared.row.Row.{Row}
 
@@ -7,6 +7,10 @@ use Rattle.questions.specs.declared.row.Row.{Row}
 pub record GaugeView : Type 0 where
   pub seen : List Row
   pub text : List Row → List ℕ
+
+-- a gauge that has seen nothing, and prints this for a list of rows
+abbrev pub fresh : (List Row → List ℕ) → GaugeView
+fresh text = record { seen = []; text = text }
 
 -- what the gauge prints: its text for all rows that it has seen
 abbrev pub text_of : GaugeView → List ℕ

@@ -1,0 +1,44 @@
+ghost use Rattle.critarea_core.specs.Run.{RunsWith, change};
+ghost use Rattle.gauges.specs.GaugeViews.{views_of};
+
+use super::command::run;
+use super::printing::NO_MEMORY;
+use command_line::Word;
+use critical_areas::NoGate;
+use edge_io::{Files, Sink};
+use gauges::Gauge;
+use std::alloc::Global;
+use std::thread::Threads;
+
+/// Runs these words as [`run`] does, with these gauges and a gate that holds nothing, and answers the status. The gauges are
+/// dropped at the end. Where the list of them finds no memory the status is 6, and no file is started and nothing is printed.
+pub fn run_boxed<F: Files, O: Sink, E: Sink, const N: usize>(
+    rt: &(impl Threads + Sync),
+    alloc: Global,
+    words: &[Word],
+    files: &mut F,
+    out: &mut O,
+    err: &mut E,
+    gauges: [Box<dyn Gauge>; N],
+) -> u8
+    ensures { RunsWith words.now (views_of seen text gauges.entry)
+        (record {
+          holds = change (F.holds files.old) (F.holds files.new);
+          starts = change (F.starts files.old) (F.starts files.new);
+          failures = change (F.faults files.old) (F.faults files.new);
+        })
+        (record {
+          taken = change (O.written out.old) (O.written out.new);
+          failures = change (O.faults out.old) (O.faults out.new);
+        })
+        (record {
+          taken = change (E.written err.old) (E.written err.new);
+          failures = change (E.faults err.old) (E.faults err.new);
+        })
+        result }
+{
+    let Ok(mut gauges) = Vec::from_array(alloc, gauges) else {
+        return NO_MEMORY;
+    };
+    run(rt, alloc, words, files, out, err, &mut gauges, &NoGate)
+}
