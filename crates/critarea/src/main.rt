@@ -1,18 +1,22 @@
 //! The program: the words of the command line, the files of the system, its standard output and error, and the gauges `Peak`
-//! and `Nonzero`, handed to `critarea_core::run`, with a gate that holds nothing.
+//! and `Nonzero`, handed to `critarea_core::run_boxed`.
 #![tactic(auto)]
 
-use critarea_core::{NoGate, Word, run, system_words};
+ghost use Rattle.std.specs.Prelude.{◌∷◌, []};
+ghost use Rattle.gauges.specs.GaugeViews.{fresh};
+ghost use Rattle.gauges.specs.NonzeroText.{nonzero_text};
+ghost use Rattle.gauges.specs.PeakText.{peak_text};
+ghost use Rattle.critarea_core.specs.Run.{RunsWith, change};
+
+use critarea_core::{NO_MEMORY, Word, run_boxed, system_words};
 use edge_io::{Files, OsFiles, OsSink, Sink};
-use gauges::{Gauge, Nonzero, Peak};
-use std::alloc::{AllocError, Global};
+use gauges::{Nonzero, Peak};
+use std::alloc::Global;
 use std::process::ExitCode;
 use std::thread::Threads;
 
-/// The status where the boxes of the gauges find no memory.
-const NO_MEMORY: u8 = 6;
-
-/// Runs these words with the gauges, and gives the status.
+/// Runs these words with a fresh `Peak` and behind it a fresh `Nonzero`, and gives the status: 6 where a box finds no memory,
+/// and then nothing else was done.
 fn run_gauged<F: Files, O: Sink, E: Sink>(
     rt: &(impl Threads + Sync),
     alloc: Global,
@@ -20,11 +24,29 @@ fn run_gauged<F: Files, O: Sink, E: Sink>(
     files: &mut F,
     out: &mut O,
     err: &mut E,
-) -> Result<u8, AllocError> {
-    let mut gauges: Vec<Box<dyn Gauge>> = Vec::new(alloc);
-    gauges.push(Box::new(alloc, Peak::new(alloc))?)?;
-    gauges.push(Box::new(alloc, Nonzero::new(alloc))?)?;
-    Ok(run(rt, alloc, words, files, out, err, &mut gauges, &NoGate))
+) -> u8
+    ensures { RunsWith words.now (fresh peak_text ∷ fresh nonzero_text ∷ [])
+        (record {
+          holds = change (F.holds files.old) (F.holds files.new);
+          starts = change (F.starts files.old) (F.starts files.new);
+          failures = change (F.faults files.old) (F.faults files.new);
+        })
+        (record {
+          taken = change (O.written out.old) (O.written out.new);
+          failures = change (O.faults out.old) (O.faults out.new);
+        })
+        (record {
+          taken = change (E.written err.old) (E.written err.new);
+          failures = change (E.faults err.old) (E.faults err.new);
+        })
+        result }
+{
+    let peak = Box::new(alloc, Peak::new(alloc));
+    let nonzero = Box::new(alloc, Nonzero::new(alloc));
+    let (Ok(peak), Ok(nonzero)) = (peak, nonzero) else {
+        return NO_MEMORY;
+    };
+    run_boxed(rt, alloc, words, files, out, err, [peak, nonzero])
 }
 
 fn main(rt: HostRuntime) -> ExitCode {
@@ -36,8 +58,5 @@ fn main(rt: HostRuntime) -> ExitCode {
     let mut out = OsSink::new(rt.stdout());
     let mut err = OsSink::new(rt.stderr());
     let words = words.as_slice();
-    match run_gauged(&rt, rt.alloc(), words, &mut files, &mut out, &mut err) {
-        Ok(status) => ExitCode::from(status),
-        Err(AllocError) => ExitCode::from(NO_MEMORY),
-    }
+    ExitCode::from(run_gauged(&rt, rt.alloc(), words, &mut files, &mut out, &mut err))
 }
