@@ -9,7 +9,7 @@ pub const COUNT: usize = 70_000;
 /// How they lie.
 #[derive(Clone, Copy)]
 pub enum Spread {
-    /// Squares of one cell, side by side in a row.
+    /// Bars side by side, one cell wide, and one and two cells high by turns, so that no two can be joined.
     Touching,
     /// Squares of 2 by 2 in a row, with a column between neighbours.
     Apart,
@@ -23,7 +23,12 @@ pub enum Spread {
 fn rect_at(spread: Spread, number: usize) -> Rect {
     let at = (number % COUNT) as i32;
     match spread {
-        Spread::Touching => Rect::new(at, 0, at + 1, 1),
+        Spread::Touching => {
+            if at % 2 == 0 {
+                return Rect::new(at, 0, at + 1, 1);
+            }
+            Rect::new(at, 0, at + 1, 2)
+        }
         Spread::Apart => Rect::new(3 * at, 0, 3 * at + 2, 2),
         Spread::Overlapping => Rect::new(2 * at, 0, 2 * at + 3, 3),
         Spread::Crossing => {

@@ -1,4 +1,4 @@
-//! An island of 70,000 squares, and 70,000 islands.
+//! An island of 70,000 bars, and 70,000 islands.
 
 ghost use Rattle.std.specs.Prelude.{◌≡◌, length};
 
@@ -12,8 +12,8 @@ use net_extract::Nets;
 use open_grid::{open_area, parted};
 use std::alloc::{AllocError, Global};
 
-/// The sides of squares of one cell, side by side.
-fn squares(alloc: Global) -> Result<Vec<Sides>, AllocError> {
+/// The sides of bars, side by side.
+fn bars(alloc: Global) -> Result<Vec<Sides>, AllocError> {
     let rects = many(alloc, Spread::Touching)?;
     let mut table = Vec::new(alloc);
     for rect in &rects {
@@ -22,19 +22,21 @@ fn squares(alloc: Global) -> Result<Vec<Sides>, AllocError> {
     Ok(table)
 }
 
-/// The wire of these squares with a terminal at either end.
+/// The wire of these bars with a terminal at either end.
 fn long_wire(alloc: Global) -> Option<Vec<Island>> {
-    let table = squares(alloc).ok()?;
+    let table = bars(alloc).ok()?;
     islands_with(alloc, &table, &[(0, 0), (69_999, 0)])
 }
 
-/// Whether the wire is parted by a defect of radius 1 from each of its own cells, and by none beside it. All half squares of a
-/// cell lie under a defect round it, and half of them under one round a cell next to it.
+/// Whether the wire has so many pieces, and is parted by a defect of radius 1 from each cell of its lower row and from no other. All
+/// half squares of such a cell lie under a defect round it, and beside the upper row the wire ends. One round a cell above or below
+/// leaves half of the lower row.
 fn is_cut(alloc: Global, islands: &[Island]) -> bool {
     let [wire] = islands else {
         return false;
     };
-    are_near(wire.pieces.as_slice())
+    wire.pieces.as_slice().len() == COUNT
+        && are_near(wire.pieces.as_slice())
         && parted(alloc, wire, Cell { i: 35_000, j: 0 }, 1) == Ok(true)
         && parted(alloc, wire, Cell { i: 35_000, j: 1 }, 1) == Ok(false)
         && open_area(alloc, islands, Rect::new(-10, -10, 70_010, 10), 1) == Ok(70_000)
@@ -49,7 +51,7 @@ fn is_long_wire_cut(alloc: Global) -> bool {
 }
 
 #[test]
-fn wire_of_many_squares_is_cut(rt: HostRuntime) {
+fn wire_of_many_bars_is_cut(rt: HostRuntime) {
     assert!(rt; is_long_wire_cut(rt.alloc()));
 }
 
