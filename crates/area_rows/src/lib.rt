@@ -5,6 +5,8 @@
 #[cfg(test)]
 mod clusters;
 #[cfg(test)]
+mod depth;
+#[cfg(test)]
 mod many;
 #[cfg(test)]
 mod nets;

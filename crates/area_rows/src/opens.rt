@@ -2,6 +2,7 @@
 
 mod areas;
 mod cells;
+mod depth;
 mod drawn;
 mod links;
 mod many_rows;
