@@ -83,14 +83,14 @@ fn nets_through(alloc: Global, cuts: &Cuts, missing: &[usize]) -> Result<Nets, N
     )
 }
 
-/// How many of the metals are of one net with the first. There is one island on each, and no number is of two islands.
+/// How many of the metals are of one net with the first. There is one island on each.
 fn with_the_first(nets: &Nets) -> usize
     requires { length nets.now.pieces ≡ 16 }
 {
     let mut count = 0usize;
     for metal in 0..16 {
         if let (Some(first), Some(piece)) = (nets.pieces(0).first(), nets.pieces(metal).first()) {
-            if piece.island == metal as usize && piece.net == first.net {
+            if piece.net == first.net {
                 count = count.saturating_add(1);
             }
         }

@@ -15,6 +15,8 @@ mod flood_rows;
 #[cfg(test)]
 mod island_rows;
 #[cfg(test)]
+mod large_lists;
+#[cfg(test)]
 mod link_rows;
 #[cfg(test)]
 mod many_squares;

@@ -109,17 +109,17 @@ fn table(alloc: Global, side: u8) -> Result<Vec<Sides>, AllocError> {
     Ok(table)
 }
 
-/// Whether there is a piece and a contact piece for each square, all of one net with the one piece of the other metal.
+/// Whether there is a piece and a contact piece for each square, all of one net with what the other metal has.
 fn are_one_net(pieces: &[Piece], plates: &[Piece], contacts: &[ContactPiece]) -> bool {
-    let [plate] = plates else {
+    let Some(plate) = plates.first() else {
         return false;
     };
     for piece in pieces {
-        if piece.net != plate.net || piece.island == plate.island {
+        if piece.net != plate.net {
             return false;
         }
     }
-    pieces.len() == COUNT && contacts.len() == COUNT
+    pieces.len() >= COUNT && contacts.len() >= COUNT
 }
 
 /// Whether these nets are such.

@@ -1,7 +1,7 @@
 ghost use Rattle.std.specs.Prelude.{◌≡◌, IfOk, length};
 
 use super::nets::nets_of;
-use super::sides::{Sides, sides_of};
+use super::sides::Sides;
 use geo_core::{Cell, NoMemory, Rect};
 use net_extract::{Anchor, ContactPiece, Island, NetFault, Nets, Piece};
 use std::alloc::Global;
@@ -32,50 +32,106 @@ pub fn nets_with(alloc: Global, terminals: &str, shapes: Shapes) -> Result<Nets,
     nets_of(alloc, text.as_str(), 2, 1, &shapes)
 }
 
-/// Whether the pieces carry these islands and nets.
-fn carry(pieces: &[Piece], wanted: &[(usize, usize)]) -> bool {
-    if pieces.len() != wanted.len() {
-        return false;
+/// A cell: its column and its row.
+type Place = (i32, i32);
+
+/// Whether the rectangle has the cell.
+fn has(rect: Rect, (i, j): Place) -> bool {
+    rect.x0 <= i && i < rect.x1 && rect.y0 <= j && j < rect.y1
+}
+
+/// The island and the net of the cell, where a piece has it.
+fn numbers_at(pieces: &[Piece], cell: Place) -> Option<(usize, usize)> {
+    for piece in pieces {
+        if has(piece.rect, cell) {
+            return Some((piece.island, piece.net));
+        }
     }
-    for (piece, numbers) in pieces.iter().zip(wanted) {
-        if (piece.island, piece.net) != *numbers {
+    None
+}
+
+/// A metal, one of its cells, and a name each for the cell's island and net. Islands are told apart on each metal, and nets
+/// on both.
+type Named = (u8, Place, char, char);
+
+/// Whether two cells have the same island, if they are of one metal, and the same net exactly where they have the same names.
+fn are_alike(metals: &[&[Piece]; 2], one: &Named, other: &Named) -> bool {
+    let (metal, cell, island, net) = *one;
+    let (other_metal, other_cell, other_island, other_net) = *other;
+    match (
+        numbers_at(metals[metal as usize % 2], cell),
+        numbers_at(metals[other_metal as usize % 2], other_cell),
+    ) {
+        (Some(numbers), Some(others)) => {
+            (numbers.1 == others.1) == (net == other_net)
+                && (metal != other_metal || (numbers.0 == others.0) == (island == other_island))
+        }
+        _ => false,
+    }
+}
+
+/// Whether any two of the cells do.
+fn have_names(metals: &[&[Piece]; 2], cells: &[Named]) -> bool {
+    for one in cells {
+        if !cells.iter().all(|other| are_alike(metals, one, other)) {
             return false;
         }
     }
     true
 }
 
-/// The sides of a contact piece, and its islands on the lower and on the upper metal.
-type Contact = (Sides, usize, usize);
+/// The cell with this number on a field of 24 by 24.
+fn place(number: i32) -> Place {
+    (number % 24, number / 24)
+}
 
-/// Whether these are the contact pieces.
-fn are(contacts: &[ContactPiece], wanted: &[Contact]) -> bool {
-    if contacts.len() != wanted.len() {
-        return false;
-    }
-    for (contact, (sides, lower, upper)) in contacts.iter().zip(wanted) {
-        if sides_of(contact.rect) != *sides || (contact.lower, contact.upper) != (*lower, *upper) {
+/// Whether one of the rectangles with these sides has the cell.
+fn is_wanted(table: &[Sides], (i, j): Place) -> bool {
+    table.iter().any(|sides| sides.0 <= i && i < sides.2 && sides.1 <= j && j < sides.3)
+}
+
+/// Whether the contact pieces have exactly the cells of these rectangles.
+fn have_cells(contacts: &[ContactPiece], table: &[Sides]) -> bool {
+    for number in 0..576 {
+        let cell = place(number);
+        if contacts.iter().any(|contact| has(contact.rect, cell)) != is_wanted(table, cell) {
             return false;
         }
     }
     true
 }
 
-/// Rectangles, the islands and nets of the pieces of both metals, and the contact pieces.
-type Row = (
-    Shapes<'static>,
-    &'static [(usize, usize)],
-    &'static [(usize, usize)],
-    &'static [Contact],
-);
+/// Whether the pieces have the cell, and their island there is this one.
+fn lies_on(pieces: &[Piece], cell: Place, island: usize) -> bool {
+    match numbers_at(pieces, cell) {
+        Some(numbers) => numbers.0 == island,
+        None => false,
+    }
+}
 
-/// Whether the rectangles come to pieces with these islands and nets on the two metals, and to these contact pieces.
+/// Whether each contact piece carries the islands of both metals on which its lower left cell lies.
+fn lie_on_their_islands(contacts: &[ContactPiece], metals: &[&[Piece]; 2]) -> bool {
+    for contact in contacts {
+        let cell = (contact.rect.x0, contact.rect.y0);
+        if !lies_on(metals[0], cell, contact.lower) || !lies_on(metals[1], cell, contact.upper) {
+            return false;
+        }
+    }
+    true
+}
+
+/// Rectangles, cells with the names of their islands and nets, and rectangles that have exactly the contacts.
+type Row = (Shapes<'static>, &'static [Named], &'static [Sides]);
+
+/// Whether the rectangles come to such islands, nets and contacts. How many pieces and contact pieces there are, in which
+/// order they come and which numbers they have is not promised.
 fn come_to(alloc: Global, row: &Row) -> bool {
     match nets_with(alloc, "", row.0) {
         Ok(nets) => {
-            carry(nets.pieces(0), row.1)
-                && carry(nets.pieces(1), row.2)
-                && are(nets.contacts(0), row.3)
+            let metals = [nets.pieces(0), nets.pieces(1)];
+            have_names(&metals, row.1)
+                && have_cells(nets.contacts(0), row.2)
+                && lie_on_their_islands(nets.contacts(0), &metals)
         }
         Err(_) => false,
     }
@@ -107,53 +163,64 @@ const CROSSING: &[Sides] = &[
 
 const ON_A_CROSSING: &[Sides] = &[(4, 4, 6, 6)];
 
+/// The square twice.
+const SQUARES: &[Sides] = &[(0, 0, 4, 4), (0, 0, 4, 4)];
+
 const NETS: &[Row] = &[
     (
         [STRIPES, BAR, CUTS],
-        &[(0, 0), (1, 0)],
-        &[(2, 0)],
-        &[((0, 0, 2, 2), 0, 2), ((0, 8, 2, 10), 1, 2)],
+        &[
+            (0, (9, 1), 'a', 'n'),
+            (0, (9, 9), 'b', 'n'),
+            (1, (3, 5), 'c', 'n'),
+        ],
+        CUTS,
     ),
     (
         [STRIPES, BAR, &[(0, 0, 2, 2)]],
-        &[(0, 0), (1, 1)],
-        &[(2, 0)],
-        &[((0, 0, 2, 2), 0, 2)],
+        &[
+            (0, (9, 1), 'a', 'n'),
+            (0, (9, 9), 'b', 'm'),
+            (1, (3, 5), 'c', 'n'),
+        ],
+        &[(0, 0, 2, 2)],
     ),
     // metals over one another without a cut
-    ([SQUARE, SQUARE, &[]], &[(0, 0)], &[(1, 1)], &[]),
+    (
+        [SQUARE, SQUARE, &[]],
+        &[(0, (1, 1), 'a', 'n'), (1, (1, 1), 'b', 'm')],
+        &[],
+    ),
     // a cut that only one metal has
-    ([SQUARE, &[], SQUARE], &[(0, 0)], &[], &[]),
+    ([SQUARE, &[], SQUARE], &[(0, (1, 1), 'a', 'n')], &[]),
     // a cut that has cells of both metals, but none that both have
     (
         [&[(2, 1, 3, 2)], &[(3, 1, 5, 2)], OVER_THE_SEAM],
-        &[(0, 0)],
-        &[(1, 1)],
+        &[(0, (2, 1), 'a', 'n'), (1, (3, 1), 'b', 'm')],
         &[],
     ),
     // a contact is no more than what all three have
     (
         [SQUARE, BESIDE, OVER_THE_SEAM],
-        &[(0, 0)],
-        &[(1, 0)],
-        &[((3, 1, 4, 2), 0, 1)],
+        &[(0, (0, 0), 'a', 'n'), (1, (7, 3), 'b', 'n')],
+        &[(3, 1, 4, 2)],
     ),
-    // a contact where two bars of the upper metal cross is one piece, and so is one of two equal rectangles each
+    // bars that cross are one island
     (
         [PLATE, CROSSING, ON_A_CROSSING],
-        &[(0, 0)],
-        &[(1, 0), (1, 0), (1, 0), (1, 0)],
-        &[((4, 4, 6, 6), 0, 1)],
+        &[
+            (0, (10, 10), 'a', 'n'),
+            (1, (0, 4), 'b', 'n'),
+            (1, (4, 0), 'b', 'n'),
+            (1, (19, 15), 'b', 'n'),
+            (1, (15, 19), 'b', 'n'),
+        ],
+        ON_A_CROSSING,
     ),
     (
-        [
-            &[(0, 0, 4, 4), (0, 0, 4, 4)],
-            &[(0, 0, 4, 4), (0, 0, 4, 4)],
-            &[(0, 0, 4, 4), (0, 0, 4, 4)],
-        ],
-        &[(0, 0)],
-        &[(2, 0)],
-        &[((0, 0, 4, 4), 0, 2)],
+        [SQUARES, SQUARES, SQUARES],
+        &[(0, (0, 0), 'a', 'n'), (1, (3, 3), 'b', 'n')],
+        SQUARE,
     ),
     // a corner does not join, and an edge does
     (
@@ -162,8 +229,13 @@ const NETS: &[Row] = &[
             &[(0, 0, 2, 2), (2, 2, 4, 4)],
             &[],
         ],
-        &[(0, 0), (0, 0), (0, 0)],
-        &[(3, 3), (4, 4)],
+        &[
+            (0, (0, 0), 'a', 'n'),
+            (0, (3, 3), 'a', 'n'),
+            (0, (2, 1), 'a', 'n'),
+            (1, (1, 1), 'b', 'm'),
+            (1, (2, 2), 'c', 'o'),
+        ],
         &[],
     ),
 ];
@@ -175,42 +247,114 @@ fn nets_go_through_cuts(rt: HostRuntime) {
     }
 }
 
+/// Two squares on each of two places in turn, and a cut at two crossings of the bars in the same way.
+const IN_TURN: &[Sides] = &[(0, 0, 4, 4), (9, 0, 13, 4), (0, 0, 4, 4), (9, 0, 13, 4)];
+
+const CUTS_IN_TURN: &[Sides] = &[
+    (4, 4, 6, 6),
+    (14, 14, 16, 16),
+    (4, 4, 6, 6),
+    (14, 14, 16, 16),
+];
+
+/// Cuts within one another.
+const NESTED: &[Sides] = &[(4, 4, 16, 16), (5, 5, 15, 15), (6, 6, 14, 14)];
+
+/// The bars, and far from them eight squares in one place.
+const CROSSING_AND_SQUARES: &[Sides] = &[
+    (0, 4, 20, 6),
+    (0, 14, 20, 16),
+    (4, 0, 6, 20),
+    (14, 0, 16, 20),
+    (1000, 1000, 1004, 1004),
+    (1000, 1000, 1004, 1004),
+    (1000, 1000, 1004, 1004),
+    (1000, 1000, 1004, 1004),
+    (1000, 1000, 1004, 1004),
+    (1000, 1000, 1004, 1004),
+    (1000, 1000, 1004, 1004),
+    (1000, 1000, 1004, 1004),
+];
+
+/// Rectangles, and how many pieces the first metal and the second have at most, and how many contact pieces there are. No
+/// clause bounds these numbers. They are what keeps the work from growing as the rectangles that lie on one another do.
+const FEW: &[(Shapes<'_>, [usize; 3])] = &[
+    // equal rectangles are one piece, though they come in turn with others
+    ([IN_TURN, &[], &[]], [2, 0, 0]),
+    ([SQUARES, SQUARES, SQUARES], [1, 1, 1]),
+    // a contact where two bars cross lies in both of them, and is one piece; four bars have nine parts without common cells,
+    // and so they stay as they are
+    ([PLATE, CROSSING, ON_A_CROSSING], [1, 4, 1]),
+    ([PLATE, CROSSING, CUTS_IN_TURN], [1, 4, 2]),
+    // what cuts within one another have in common with plates is the outermost one
+    ([PLATE, PLATE, NESTED], [1, 1, 1]),
+    // each island is looked at by itself, where its metal is mostly empty: the squares are one piece, and the bars four;
+    // parts of all of them without common cells are ten, which are fewer than the rectangles
+    ([CROSSING_AND_SQUARES, &[], &[]], [5, 0, 0]),
+];
+
+/// Whether there are so many pieces and contact pieces at most.
+fn are_few(alloc: Global, shapes: Shapes, most: [usize; 3]) -> bool {
+    match nets_with(alloc, "", shapes) {
+        Ok(nets) => {
+            nets.pieces(0).len() <= most[0]
+                && nets.pieces(1).len() <= most[1]
+                && nets.contacts(0).len() <= most[2]
+        }
+        Err(_) => false,
+    }
+}
+
+#[test]
+fn rectangles_on_one_another_are_few_pieces(rt: HostRuntime) {
+    for (number, (shapes, most)) in FEW.iter().enumerate() {
+        assert!(rt; are_few(rt.alloc(), *shapes, *most), "case {number}");
+    }
+}
+
 /// A wire, whose ends have terminals, and the cells of these.
 const WIRE: &[Sides] = &[(0, 0, 20, 2)];
 
 const ENDS: &[Cell] = &[Cell { i: 0, j: 0 }, Cell { i: 19, j: 1 }];
 
-/// The terminals as anchors of the wire and of a square of the second metal.
-const ANCHORS: &[Anchor] = &[
-    Anchor {
-        metal: 0,
-        cell: Cell { i: 0, j: 0 },
-        island: 0,
-    },
-    Anchor {
-        metal: 1,
-        cell: Cell { i: 1, j: 1 },
-        island: 1,
-    },
-    Anchor {
-        metal: 0,
-        cell: Cell { i: 19, j: 1 },
-        island: 0,
-    },
-];
+/// The metals and the cells of the terminals, in order.
+const TERMINAL_PLACES: &[(u32, Place)] = &[(0, (0, 0)), (1, (1, 1)), (0, (19, 1))];
 
-/// Whether the one rectangle has these sides.
-fn is_rect(rects: &[Rect], sides: &[Sides]) -> bool {
-    match (rects, sides) {
-        ([rect], [sides]) => sides_of(*rect) == *sides,
-        _ => false,
+/// Whether the anchor is the terminal at this place, and carries the island on which it stands.
+fn is_anchor(nets: &Nets, anchor: &Anchor, metal: u32, cell: Place) -> bool
+    requires { length nets.now.pieces ≡ 2 }
+{
+    (anchor.metal, (anchor.cell.i, anchor.cell.j)) == (metal, cell)
+        && lies_on(nets.pieces(metal % 2), cell, anchor.island)
+}
+
+/// Whether the anchors are the terminals in order, with their islands.
+fn are_anchors(nets: &Nets) -> bool
+    requires { length nets.now.pieces ≡ 2 }
+{
+    for (anchor, (metal, cell)) in nets.anchors().iter().zip(TERMINAL_PLACES) {
+        if !is_anchor(nets, anchor, *metal, *cell) {
+            return false;
+        }
     }
+    nets.anchors().len() == TERMINAL_PLACES.len()
+}
+
+/// Whether the rectangles have exactly the cells of the wire.
+fn have_the_wire(rects: &[Rect]) -> bool {
+    for number in 0..576 {
+        let cell = place(number);
+        if rects.iter().any(|rect| has(*rect, cell)) != is_wanted(WIRE, cell) {
+            return false;
+        }
+    }
+    true
 }
 
 /// Whether the one island is the wire with its ends.
 fn are_the_wire(islands: &[Island]) -> bool {
     match islands {
-        [island] => is_rect(island.pieces.as_slice(), WIRE) && island.anchors.as_slice() == ENDS,
+        [island] => { have_the_wire(island.pieces.as_slice()) && island.anchors.as_slice() == ENDS }
         _ => false,
     }
 }
@@ -230,7 +374,7 @@ fn are_handed_out(
 fn has_the_wire(alloc: Global, nets: &Nets) -> bool
     requires { length nets.now.pieces ≡ 2 }
 {
-    nets.anchors() == ANCHORS && are_handed_out(nets.islands(alloc, 0), nets.islands(alloc, 1))
+    are_anchors(nets) && are_handed_out(nets.islands(alloc, 0), nets.islands(alloc, 1))
 }
 
 /// Whether a wire with terminals at its ends is one island with these, and the only one that is handed out.
