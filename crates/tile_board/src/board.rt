@@ -163,12 +163,14 @@ impl Board {
 
     /// The totals, one for each slot. The board and the hand are gone also where no memory is left.
     ///
-    /// A total is the sum of the credits of all hands to the slot, so it is at least what this hand added. Where this hand
-    /// has all draws of the board, no other hand has credited, and the total is exactly what this hand added.
+    /// They are those of a sound state of the machine in which this hand is one of the hands, so each is at least what this
+    /// hand added. Where this hand has all draws of the board, no other hand has credited, and each is exactly what this hand
+    /// added. Else no clause says that the other hands of the state are those of the board: that the credits of a hand that
+    /// was dropped count is tested.
     pub fn close(self, alloc: Global, hand: Hand) -> Result<Vec<u64>, NoMemory>
         requires belongs { BelongsTo self hand }
         ensures one_each { IfOk result (λ totals. length totals.items ≡ (limits_of self).slots) }
-        // Each total is the sum of the credits of all hands, of which this one is one.
+        // In that state each total is the sum of the credits of all hands, of which this one is one.
         ensures sound { IfOk result (λ totals. AreFinal (limits_of self) (view_of hand) totals.items) }
         ensures at_least { IfOk result (λ totals. AreAtLeast (limits_of self) (view_of hand) totals.items) }
         ensures exact { IfOk result (λ totals. HasAllDraws (limits_of self) (view_of hand) →
