@@ -1,34 +1,73 @@
 ghost use Rattle.std.specs.Prelude.{◌≡◌, length};
 
 use super::layouts::{ACROSS, STRIPES, Shapes, nets_of};
-use crate::sides::{Sides, have_sides};
-use net_extract::{ContactGroup, Nets};
+use crate::sides::Sides;
+use geo_core::Rect;
+use net_extract::{ContactGroup, Nets, Piece};
 use std::alloc::Global;
 
-/// The two islands of a group, and the sides of its rectangles.
-type Group = ((usize, usize), &'static [Sides]);
+/// A cell: its column and its row.
+type Place = (i32, i32);
 
-/// Whether the group carries the two islands and has these rectangles.
-fn is(group: &ContactGroup, wanted: &Group) -> bool {
-    (group.lower, group.upper) == wanted.0 && have_sides(group.rects.as_slice(), wanted.1)
+/// A cell of the lower island and one of the upper island of a group, and rectangles that have exactly its cells.
+type Group = (Place, Place, &'static [Sides]);
+
+/// Whether the rectangle has the cell.
+fn has(rect: Rect, (i, j): Place) -> bool {
+    rect.x0 <= i && i < rect.x1 && rect.y0 <= j && j < rect.y1
 }
 
-/// Whether the groups are these two.
-fn are(groups: &[ContactGroup], first: &Group, second: &Group) -> bool {
+/// Whether some piece has the cell, and each that has it carries this island.
+fn is_island_at(pieces: &[Piece], cell: Place, island: usize) -> bool {
+    pieces.iter().any(|piece| has(piece.rect, cell))
+        && pieces
+            .iter()
+            .all(|piece| !has(piece.rect, cell) || piece.island == island)
+}
+
+/// Whether one of the rectangles with these sides has the cell.
+fn is_wanted(table: &[Sides], (i, j): Place) -> bool {
+    table.iter().any(|sides| sides.0 <= i && i < sides.2 && sides.1 <= j && j < sides.3)
+}
+
+/// Whether the rectangles have exactly the cells of those with these sides, on a field of 12 by 12 cells.
+fn have_cells(rects: &[Rect], table: &[Sides]) -> bool {
+    for number in 0..144 {
+        let cell = (number % 12, number / 12);
+        if rects.iter().any(|rect| has(*rect, cell)) != is_wanted(table, cell) {
+            return false;
+        }
+    }
+    true
+}
+
+/// Whether the group carries the islands of these cells, and has exactly these contacts.
+fn is(group: &ContactGroup, metals: &[&[Piece]; 2], wanted: &Group) -> bool {
+    is_island_at(metals[0], wanted.0, group.lower)
+        && is_island_at(metals[1], wanted.1, group.upper)
+        && have_cells(group.rects.as_slice(), wanted.2)
+}
+
+/// Whether the groups are these two, in either order.
+fn are(groups: &[ContactGroup], metals: &[&[Piece]; 2], first: &Group, second: &Group) -> bool {
     match groups {
         [one, other] => {
-            is(one, first) && is(other, second) || is(other, first) && is(one, second)
+            is(one, metals, first) && is(other, metals, second)
+                || is(other, metals, first) && is(one, metals, second)
         }
         _ => false,
     }
 }
 
-/// Whether the one cut has these two groups.
+/// Whether the one cut has these two groups. Which numbers their islands have, in which order they come and into how many
+/// rectangles their contacts fall is not promised.
 fn have_groups(alloc: Global, nets: &Nets, first: &Group, second: &Group) -> bool
-    requires { length nets.now.contacts ≡ 1 }
+    requires metals { length nets.now.pieces ≡ 2 }
+    requires cuts { length nets.now.contacts ≡ 1 }
 {
+    let metals = [nets.pieces(0), nets.pieces(1)];
     match nets.contact_groups(alloc, 0) {
-        Ok(groups) => are(groups.as_slice(), first, second),
+        Ok(groups) => are(groups.as_slice(), &metals, first, second),
         Err(_) => false,
     }
 }
@@ -50,9 +89,17 @@ const CUTS: &[Sides] = &[(0, 0, 2, 2), (0, 8, 2, 10), (3, 9, 4, 10)];
 /// Shapes, and the two groups.
 const GROUPS: &[(Shapes<'_>, Group, Group)] = &[
     // two islands below
-    ([STRIPES, ACROSS, CUTS], ((0, 2), CUT), ((1, 2), TWO_CUTS)),
+    (
+        [STRIPES, ACROSS, CUTS],
+        ((9, 1), (1, 5), CUT),
+        ((9, 9), (1, 5), TWO_CUTS),
+    ),
     // two islands above
-    ([ACROSS, STRIPES, CUTS], ((0, 1), CUT), ((0, 2), TWO_CUTS)),
+    (
+        [ACROSS, STRIPES, CUTS],
+        ((1, 5), (9, 1), CUT),
+        ((1, 5), (9, 9), TWO_CUTS),
+    ),
 ];
 
 #[test]

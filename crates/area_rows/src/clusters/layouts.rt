@@ -16,7 +16,8 @@ pub type Shapes<'a> = [&'a [Sides]; 3];
 
 /// The nets of the rectangles.
 pub fn nets_of(alloc: Global, shapes: &Shapes) -> Result<Nets, NetFault>
-    ensures { IfOk result (λ nets. length nets.contacts ≡ 1) }
+    ensures metals { IfOk result (λ nets. length nets.pieces ≡ 2) }
+    ensures cuts { IfOk result (λ nets. length nets.contacts ≡ 1) }
 {
     nets::nets_of(alloc, METALS, 2, 1, shapes)
 }
