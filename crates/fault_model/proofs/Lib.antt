@@ -8,6 +8,7 @@ pub mod CornerLaws
 pub mod NetLaws
 pub mod SizeLaws
 pub mod FaultLaws
+pub mod ClusterLaws
 pub mod AlikeLaws
 pub mod TerminalLaws
 pub mod TallyLaws

@@ -2,10 +2,13 @@
 
 ghost use Rattle.std.specs.Prelude.{ℕ, List, ◌+◌, ◌/◌, ◌≤◌, ◌↔◌};
 ghost use Rattle.geo_core.specs.declared.plane.Cell.{Cell};
-ghost use Rattle.fault_model.specs.Nets.{Cut};
+ghost use Rattle.geo_core.specs.declared.plane.Half.{Half};
+ghost use Rattle.fault_model.specs.Halves.{IsInFootprint};
+ghost use Rattle.fault_model.specs.Walks.{IsSameIsland};
+ghost use Rattle.fault_model.specs.Nets.{Cut, IsContact};
 ghost use Rattle.fault_model.specs.Faults.{IsShort, IsCellsOpen, IsViaBlock};
-ghost use Rattle.fault_model.specs.Vias.{IsViasOpen};
-ghost use Rattle.fault_model.specs.FaultConsequences.{IsNearTwoNets, IsNearCluster};
+ghost use Rattle.fault_model.specs.Vias.{IsInClusterOf, IsViasOpen};
+ghost use Rattle.fault_model.specs.FaultConsequences.{IsEquivalenceOn, IsNearTwoNets, IsNearCluster};
 
 use super::sets::{Layout, Property};
 
@@ -14,6 +17,16 @@ use super::sets::{Layout, Property};
 pub fn shorts_are_near_two_nets<L: Layout>()
     ensures { (cuts : List Cut) (m r : ℕ) (c : Cell) → 1 ≤ r →
         IsShort L.covers cuts m (r + r) c ↔ IsNearTwoNets L.covers cuts m r c }
+{}
+
+/// The contacts of a cut fall into via clusters: contacts are of one cluster exactly where they are of one island of the
+/// lower metal and of one of the upper metal. A defect blocks a via exactly where it has all contacts of some cluster.
+pub fn clusters_are_classes<L: Layout>()
+    ensures classes { (cut : Cut) → IsEquivalenceOn (IsContact L.covers cut) (IsInClusterOf L.covers cut) }
+    ensures islands { (cut : Cut) (p q : Half) → IsContact L.covers cut p → IsContact L.covers cut q →
+        IsInClusterOf L.covers cut p q ↔ (IsSameIsland (L.covers cut.lower) p q × IsSameIsland (L.covers cut.upper) p q) }
+    ensures blocks { (cut : Cut) (s : ℕ) (c : Cell) → IsViaBlock L.covers cut s c ↔
+        ((p : Half) × IsContact L.covers cut p × ((q : Half) → IsInClusterOf L.covers cut p q → IsInFootprint c s q)) }
 {}
 
 /// A defect of radius `r` blocks a cluster exactly where all cells of its contacts are at most `r - 1` away.

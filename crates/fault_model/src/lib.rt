@@ -14,8 +14,8 @@ pub mod walks;
 pub mod windows;
 
 pub use faults::{
-    blocks_are_near_whole_clusters, larger_sides_keep_faults, shorts_are_near_two_nets,
-    sides_as_halves,
+    blocks_are_near_whole_clusters, clusters_are_classes, larger_sides_keep_faults,
+    shorts_are_near_two_nets, sides_as_halves,
 };
 pub use island::Island;
 pub use nets::{
