@@ -9,5 +9,6 @@ macro_rules! rows {
 
 mod fields;
 mod files;
+mod listed_reads;
 pub mod records;
 mod sinks;

@@ -4,7 +4,7 @@ use lists::Name;
 use std::alloc::{AllocError, Global};
 
 /// Whether a source answers so where the file of this name is read up to the limit.
-fn reads(
+pub(super) fn reads(
     alloc: Global,
     files: &mut impl Files,
     name: &[u8],
@@ -110,5 +110,39 @@ fn files_of_the_system_are_read(rt: HostRuntime) {
             reads(rt.alloc(), &mut files, name, 5000, *want),
             "case {number}"
         );
+    }
+}
+
+/// A name of `/dev/null` with so many steps within a folder: each has two bytes.
+fn name_with_steps(alloc: Global, steps: u16) -> Result<Vec<u8>, AllocError> {
+    let mut name = Vec::from_slice(alloc, b"/dev/")?;
+    for _ in 0..steps {
+        name.extend_from_slice(b"./")?;
+    }
+    name.extend_from_slice(b"null")?;
+    Ok(name)
+}
+
+/// Whether the file of such a name is read, and is empty.
+fn is_empty_by(rt: &HostRuntime, steps: u16) -> bool {
+    match name_with_steps(rt.alloc(), steps) {
+        Ok(name) => reads(
+            rt.alloc(),
+            &mut OsFiles::new(rt),
+            name.as_slice(),
+            9,
+            Ok(b""),
+        ),
+        Err(_) => false,
+    }
+}
+
+/// Names of 9, 255, 257 and 4,009 bytes. The system opens names of up to 4,095 bytes.
+const STEPS: &[u16] = &[0, 123, 124, 2000];
+
+#[test]
+fn files_with_long_names_are_read(rt: HostRuntime) {
+    for steps in STEPS {
+        assert!(rt; is_empty_by(&rt, *steps), "{steps} steps");
     }
 }

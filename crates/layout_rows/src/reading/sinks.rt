@@ -1,14 +1,28 @@
-use edge_io::{MemSink, OsFiles, OsSink, read_whole, write_all};
+ghost use Rattle.std.specs.Prelude.{◌<◌, ◌≤◌, IfOk, length};
+
+use edge_io::{Failed, Files, MemSink, OsFiles, OsSink, read_whole, write_all};
 use lists::NoMemory;
-use std::alloc::Global;
+use std::alloc::{AllocError, Global};
 use std::io::{self, ErrorKind, Write};
 use std::path::PathBuf;
 use std::test::Fail;
 use std::{env, fs, process};
 
-/// A writer that takes at most so many bytes a call, and whose flushes may fail.
+/// What the first call of a writer answers.
+#[derive(Clone, Copy)]
+enum First {
+    /// What the others answer.
+    AsOthers,
+    /// That nothing was taken.
+    Nothing,
+    /// That it failed.
+    Failure,
+}
+
+/// A writer that takes at most so many bytes a call, but perhaps none in the first one, and whose flushes may fail.
 #[derive(Drop)]
 struct Slow {
+    first: First,
     most: usize,
     flushes: bool,
     taken: Vec<u8>,
@@ -16,6 +30,13 @@ struct Slow {
 
 impl Write for Slow {
     fn write(&mut self, buf: &[u8]) -> io::Result<usize> {
+        let first = self.first;
+        self.first = First::AsOthers;
+        match first {
+            First::AsOthers => {}
+            First::Nothing => return Ok(0),
+            First::Failure => return Err(io::Error::from(ErrorKind::Interrupted)),
+        }
         let count = buf.len().min(self.most);
         self.taken.extend_from_slice(&buf[..count])?;
         Ok(count)
@@ -32,6 +53,8 @@ impl Write for Slow {
 
 /// What a writer does, and what is written to it.
 struct Written {
+    /// What its first call answers.
+    first: First,
     /// How many bytes it takes a call at most.
     most: usize,
     /// Whether its flushes pass.
@@ -47,6 +70,7 @@ struct Written {
 /// Whether a sink over such a writer answers so, and the writer took so much.
 fn writer_takes(alloc: Global, case: &Written) -> bool {
     let mut sink = OsSink::new(Slow {
+        first: case.first,
         most: case.most,
         flushes: case.flushes,
         taken: Vec::new(alloc),
@@ -57,6 +81,7 @@ fn writer_takes(alloc: Global, case: &Written) -> bool {
 
 /// A writer that takes three bytes at once.
 const TAKEN: Written = Written {
+    first: First::AsOthers,
     most: 9,
     flushes: true,
     bytes: b"abc",
@@ -87,6 +112,19 @@ const WRITERS: &[Written] = &[
         flushes: false,
         passes: false,
         taken: b"a",
+        ..TAKEN
+    },
+    // nothing is tried again
+    Written {
+        first: First::Nothing,
+        passes: false,
+        taken: b"",
+        ..TAKEN
+    },
+    Written {
+        first: First::Failure,
+        passes: false,
+        taken: b"",
         ..TAKEN
     },
     // where there is nothing to write, nothing is asked of it
@@ -169,9 +207,9 @@ fn is_read(rt: &HostRuntime, path: &str, wanted: &[u8]) -> bool {
     }
 }
 
-/// The path of a file for this test alone.
-fn path_of_a_file(rt: &HostRuntime) -> Result<PathBuf, Fail> {
-    let name = format!(in rt.alloc(); "layout_rows_{}", process::id(rt.process()))?;
+/// The path of a file for the test of this name alone.
+fn path_of_a_file(rt: &HostRuntime, test: &str) -> Result<PathBuf, Fail> {
+    let name = format!(in rt.alloc(); "layout_rows_{test}_{}", process::id(rt.process()))?;
     Ok(env::temp_dir(rt)?.join(rt.alloc(), name.as_str())?)
 }
 
@@ -196,10 +234,51 @@ const CONTENTS: &[&[u8]] = &[
 
 #[test]
 fn written_files_are_read_again(rt: HostRuntime) -> Result<(), Fail> {
-    let path = path_of_a_file(&rt)?;
+    let path = path_of_a_file(&rt, "whole")?;
     for bytes in CONTENTS {
         let same = is_read_again(&rt, path.as_str(), bytes)?;
         assert!(rt; same, "{} bytes", bytes.len());
     }
+    Ok(())
+}
+
+/// So many bytes, of which none equals the next one.
+fn changing_bytes(alloc: Global, count: u32) -> Result<Vec<u8>, AllocError> {
+    let mut bytes = Vec::new(alloc);
+    for number in 0..count {
+        bytes.push((number % 251) as u8)?;
+    }
+    Ok(bytes)
+}
+
+/// Starts the file, reads into `buf` once, and answers how many bytes that gave.
+fn read_once(rt: &HostRuntime, path: &str, buf: &mut [u8]) -> Result<usize, Failed>
+    requires { 0 < length buf.old }
+    ensures { IfOk result (λ count. count ≤ length buf.new) }
+{
+    let mut files = OsFiles::new(rt);
+    files.start(path.as_bytes())?;
+    files.read(buf)
+}
+
+/// Whether one read with room for all of these bytes gives some from their front.
+fn is_read_at_once(rt: &HostRuntime, path: &str, wanted: &[u8]) -> Result<bool, Fail> {
+    let mut buf = vec![in rt.alloc(); 0u8; 70_000]?;
+    let read = read_once(rt, path, buf.as_mut_slice());
+    Ok(match read {
+        Ok(count) => count > 0 && wanted.starts_with(&buf.as_slice()[..count]),
+        Err(Failed) => false,
+    })
+}
+
+#[test]
+fn large_pieces_are_written_and_read(rt: HostRuntime) -> Result<(), Fail> {
+    let path = path_of_a_file(&rt, "large")?;
+    let bytes = changing_bytes(rt.alloc(), 70_000)?;
+    let written = is_written(&rt, path.as_str(), bytes.as_slice())?;
+    let read = is_read_at_once(&rt, path.as_str(), bytes.as_slice())?;
+    fs::remove_file(&rt, path.as_str())?;
+    assert!(rt; written, "written");
+    assert!(rt; read, "read");
     Ok(())
 }
