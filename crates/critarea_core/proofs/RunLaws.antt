@@ -246,25 +246,28 @@ module _ (words : List (List ℕ)) (met : Surroundings) where
 
 -- ---- a run with gauges that are dropped
 
+-- a gauge that has seen nothing, by the text that it prints
 fresh_view : (gauge : GaugeView) (prints : List Row → List ℕ) → gauge.seen ≡ [] → gauge.text ≡ prints → gauge ≡ fresh prints
-fresh_view gauge prints none is = ap (λ seen. record { seen = seen; text = gauge.text }) none ∙ ap (λ text. record { seen = []; text = text }) is
+fresh_view gauge prints none is =
+    ap (λ seen. record { seen = seen; text = gauge.text }) none ∙ ap (λ text. record { seen = []; text = text }) is
 
 module _ (words : List (List ℕ)) (files : Files) (out err : Output) (status : ℕ) where
   abbrev pub Runs : List GaugeView → Type 0
   Runs gauges = RunsWith words gauges files out err status
 
   -- one gauge, which has seen nothing
-  pub runs_fresh : (gauge : GaugeView) (prints : List Row → List ℕ) → Runs (gauge ∷ []) → gauge.seen ≡ [] → gauge.text ≡ prints → Runs (fresh prints ∷ [])
+  pub runs_fresh : (gauge : GaugeView) (prints : List Row → List ℕ) → Runs (gauge ∷ []) → gauge.seen ≡ [] → gauge.text ≡ prints
+      → Runs (fresh prints ∷ [])
   runs_fresh gauge prints runs none is = subst (λ view. Runs (view ∷ [])) (fresh_view gauge prints none is) runs
 
   -- two
-  pub both_run_fresh : (gauge other : GaugeView) (prints another : List Row → List ℕ) → Runs (gauge ∷ other ∷ []) → gauge.seen ≡ [] → gauge.text ≡ prints
-      → other.seen ≡ [] → other.text ≡ another → Runs (fresh prints ∷ fresh another ∷ [])
+  pub both_run_fresh : (gauge other : GaugeView) (prints another : List Row → List ℕ) → Runs (gauge ∷ other ∷ [])
+      → gauge.seen ≡ [] → gauge.text ≡ prints → other.seen ≡ [] → other.text ≡ another → Runs (fresh prints ∷ fresh another ∷ [])
   both_run_fresh gauge other prints another runs none is unseen so =
       subst (λ view. Runs (view ∷ fresh another ∷ [])) (fresh_view gauge prints none is)
       (subst (λ view. Runs (gauge ∷ view ∷ [])) (fresh_view other another unseen so) runs)
 
--- one that does not begin
+-- ---- a run that does not begin
 
 module _ (words : List (List ℕ)) (gauges : List GaugeView) (holds : List ℕ → Option (List ℕ)) (starts : Option (List (List ℕ)))
     (failures out_failures err_failures : ℕ) (out err : Option (List ℕ)) where

@@ -146,14 +146,14 @@ pub rows_on_agree : (subject : Subject) → IsUnique (AreRowsOn subject)
 rows_on_agree subject = rows_agree subject.layer_map (IsCoveredOn subject.layer_map subject.routes)
 
 -- and one report with these gauges
-pub reports_agree : (subject : Subject) (rows others : List Row) (gauges : List GaugeView) → AreRowsOn subject rows → AreRowsOn subject others
-    → whole_report rows gauges ≡ whole_report others gauges
+pub reports_agree : (subject : Subject) (rows others : List Row) (gauges : List GaugeView) → AreRowsOn subject rows
+    → AreRowsOn subject others → whole_report rows gauges ≡ whole_report others gauges
 reports_agree subject rows others gauges are these = ap (λ rows. whole_report rows gauges) (rows_on_agree subject rows others are these)
 
 -- so have words that ask for the same task
 pub same_task_same_report : (words other : List (List ℕ)) (one same : Request) → Ask words one → Ask other same → one.task ≡ same.task
-    → (contents : Contents) (subject also : Subject) (rows others : List Row) (gauges : List GaugeView) → IsVerdict words contents (value subject) → AreRowsOn subject rows
-    → IsVerdict other contents (value also) → AreRowsOn also others → whole_report rows gauges ≡ whole_report others gauges
+    → (contents : Contents) (subject also : Subject) (rows others : List Row) (gauges : List GaugeView)
+    → IsVerdict words contents (value subject) → AreRowsOn subject rows → IsVerdict other contents (value also) → AreRowsOn also others → whole_report rows gauges ≡ whole_report others gauges
 same_task_same_report words other one same asks too alike contents subject also rows others gauges verdict are verdict_too these =
     let moved = same_task_same_verdict words other one same asks too alike contents (value subject) verdict in
     let subjects : subject ≡ also = cc (verdicts_agree other contents (value subject) (value also) moved verdict_too) in

@@ -8,7 +8,7 @@ use Rattle.csv_report.proofs.run_gauged.Goals as goal
 pub returns-in_default : goal.returns-in_default
 returns-in_default g c = runs_nowhere c.args.words.now _ _ _ _ _ _ _ _
 
--- what a box tells of itself is what the gauge in it tells: `own-1` has the types that this function boxes
+-- what a box tells of itself is what the gauge in it tells: `own-1` has the type that this function boxes, at this place
 pub returns : goal.returns
 returns g c =
     let none : c.in-Ok.csv.value.rows.items ≡ [] = ap (λ gauge. gauge.rows.items) c.in-Ok.ensures.ok ∙ c.new.ensures in
