@@ -12,8 +12,11 @@ pub doubled_once_more : (given edge : ℕ) → IsDoubled (given * 2) edge → Is
 doubled_once_more given edge rest = record { doublings = suc rest.doublings; edge_is = rest.edge_is ∙ twice given rest.doublings }
 
 -- first some times, and then some times more
-pub doubled_on : (given between edge first more : ℕ) → between ≡ given * 2 ^ first → edge ≡ between * 2 ^ more → IsDoubled given edge
+pub doubled_on : (given between edge first more : ℕ) → between ≡ given * 2 ^ first → edge ≡ between * 2 ^ more →
+    IsDoubled given edge
 doubled_on given between edge first more is then = record {
   doublings = first + more;
-  edge_is = then ∙ ap (λ n. n * 2 ^ more) is ∙ mul_assoc given (2 ^ first) (2 ^ more) ∙ ap (λ n. given * n) (sym (pow-add 2 first more));
+  edge_is =
+      let both = sym (pow-add 2 first more) in
+      then ∙ ap (λ n. n * 2 ^ more) is ∙ mul_assoc given (2 ^ first) (2 ^ more) ∙ ap (λ n. given * n) both;
 }
