@@ -119,7 +119,8 @@ pub record AreChanges (axis : Axis) (zone : Rect) (side : ℕ) (looked : List Lo
       → ChangesAt axis zone side one x → Contains places x
 
 -- the place lies inside the zone along the axis, and is the middle one, in rising order, of places among which are all at which
--- the defects change at an end of a box that is near. So no zone is halved as often as there are such places
+-- the defects change at an end of a box that is near. Any place inside serves for the answer: this is said so that halving does not
+-- go from change to change
 pub record IsMiddleChange (axis : Axis) (zone : Rect) (side : ℕ) (looked : List Looked) (place : ℤ) : Type 0 where
   pub inside : IsInsideAlong axis zone place
   pub places : List ℤ

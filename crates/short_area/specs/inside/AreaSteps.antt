@@ -23,8 +23,8 @@ pub record IsMiddleCut (window : Rect) (axis : Axis) (place : ℤ) : Type 0 wher
   pub within : IsBetween (low_along axis window) (high_along axis window) place
   pub half_way : IsHalfWay (low_along axis window) (high_along axis window) place
 
--- the place lies within the window along the axis, and no edge of a zone lies nearer to its middle. So no window is halved as
--- often as it has edges
+-- the place lies within the window along the axis, and no edge of a zone lies nearer to its middle. Any place within serves for the
+-- count: this is said so that halving does not go from edge to edge
 pub record IsCentralCut (zones : List Labelled) (window : Rect) (axis : Axis) (place : ℤ) : Type 0 where
   pub within : IsBetween (low_along axis window) (high_along axis window) place
   pub central : AreNoNearer zones axis (low_along axis window) (high_along axis window) (Some place)
