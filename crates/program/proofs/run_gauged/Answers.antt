@@ -3,8 +3,8 @@ use Rattle.std.proofs.Common.{[], ◌≡◌, ◌∙◌, refl}
 use Rattle.gauges.specs.NonzeroText.{nonzero_text}
 use Rattle.gauges.specs.PeakText.{peak_text}
 use Rattle.critarea_core.proofs.RunLaws.{both_run_fresh, runs_nowhere}
-use Rattle.critarea.proofs.run_gauged.OwnLists.{own-1, at-1-1, at-1-2}
-use Rattle.critarea.proofs.run_gauged.Goals as goal
+use Rattle.program.proofs.run_gauged.OwnLists.{own-1, at-1-1, at-1-2}
+use Rattle.program.proofs.run_gauged.Goals as goal
 
 pub returns-in_default : goal.returns-in_default
 returns-in_default g c = runs_nowhere c.args.words.now _ _ _ _ _ _ _ _
