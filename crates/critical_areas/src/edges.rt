@@ -1,9 +1,10 @@
-ghost use Rattle.std.specs.Prelude.{◌≡◌, ◌≤◌};
+ghost use Rattle.std.specs.Prelude.{◌≡◌, ◌≤◌, length};
+ghost use Rattle.questions.specs.Questions.{IsAskable};
 ghost use Rattle.critical_areas.specs.inside.Lengthening.{IsDoubled};
 
 use super::parts::Parts;
 use geo_core::Rect;
-use questions::Question;
+use questions::{Kind, Question};
 use tile_plan::{Rectangular, TilePlan, plan};
 
 /// A longer edge is not doubled.
@@ -12,28 +13,33 @@ const LONG_EDGE: u32 = 500_000_000;
 /// So many looks at pieces beyond two at each are always spared.
 const SPARED_LOOKS: u64 = 100_000;
 
-/// The tiles of the window to count over. Their edge is the one that is asked for, doubled where tiles would be too many or would
-/// take too many looks at pieces.
+/// So many times tiles may ask questions, beside twice for each piece of each question. Where nothing is near, to ask takes about
+/// as long as a look at a piece.
+const SPARED_ASKS: u64 = 1_000_000;
+
+/// The tiles of the window to count over. Their edge is the one that is asked for, doubled where tiles would be too many, would
+/// take too many looks at pieces or would ask too often.
 pub fn sensible_plan(parts: &Parts, window: Rect, edge: u32) -> TilePlan
     requires some { 1 ≤ edge }
     requires short { edge ≤ 1000000000 }
     ensures window { result.window ≡ window }
     ensures edge { IsDoubled edge result.edge }
 {
-    plan(window, sensible_edge(parts, edge))
+    plan(window, sensible_edge(parts, window, edge))
 }
 
-/// The edge that is asked for, doubled until tiles look at each piece about twice on average, and in all about 100,000 times more.
-/// Each tile looks at all pieces that come near it, so over short tiles the work of wires as long as the layout would grow with
-/// the square of their number, and so would that of large defects.
-fn sensible_edge(parts: &Parts, edge: u32) -> u32
+/// The edge that is asked for, doubled until tiles look at each piece about twice on average, and in all about 100,000 times more,
+/// and until they ask questions about twice for each piece, and 1,000,000 times more. Each tile looks at all pieces that come near
+/// it, so over short tiles the work of wires as long as the layout would grow with the square of their number, and so would that of
+/// large defects. And each tile asks all questions, so a few pieces far apart would take as long as a layout that fills the plane.
+fn sensible_edge(parts: &Parts, window: Rect, edge: u32) -> u32
     requires some { 1 ≤ edge }
     requires short { edge ≤ 1000000000 }
     ensures some { 1 ≤ result }
     ensures short { result ≤ 1000000000 }
     ensures edge { IsDoubled edge result }
 {
-    doubled(parts, greatest_reach(parts.questions.as_slice()), edge)
+    doubled(parts, window, greatest_reach(parts.questions.as_slice()), edge)
 }
 
 /// How far a defect that is asked for reaches at most.
@@ -45,18 +51,69 @@ fn greatest_reach(questions: &[Question]) -> u32 {
     reach
 }
 
-/// The edge, doubled while it takes too many looks at pieces.
-fn doubled(parts: &Parts, reach: u32, edge: u32) -> u32
+/// The edge, doubled while it is too short.
+fn doubled(parts: &Parts, window: Rect, reach: u32, edge: u32) -> u32
     requires some { 1 ≤ edge }
     requires short { edge ≤ 1000000000 }
     ensures some { 1 ≤ result }
     ensures short { result ≤ 1000000000 }
     ensures edge { IsDoubled edge result }
 {
-    if edge > LONG_EDGE || further_looks(parts, reach, edge) <= SPARED_LOOKS {
+    if edge > LONG_EDGE || !is_too_short(parts, window, reach, edge) {
         return edge;
     }
-    doubled(parts, reach, edge * 2)
+    doubled(parts, window, reach, edge * 2)
+}
+
+/// Whether tiles with this edge would take too many looks at pieces, or would ask too often.
+fn is_too_short(parts: &Parts, window: Rect, reach: u32, edge: u32) -> bool
+    requires { 1 ≤ edge }
+{
+    if further_looks(parts, reach, edge) > SPARED_LOOKS {
+        return true;
+    }
+    let spared = pieces_asked(parts).saturating_mul(2);
+    asks(parts, window, edge) > spared.saturating_add(SPARED_ASKS)
+}
+
+/// How often tiles with this edge ask a question.
+fn asks(parts: &Parts, window: Rect, edge: u32) -> u64
+    requires { 1 ≤ edge }
+{
+    let columns = tiles_along(window.x1.abs_diff(window.x0), edge);
+    let rows = tiles_along(window.y1.abs_diff(window.y0), edge);
+    let tiles = columns.saturating_mul(rows);
+    tiles.saturating_mul(parts.questions.len() as u64)
+}
+
+/// How many tiles lie along so many places.
+fn tiles_along(places: u32, edge: u32) -> u64
+    requires { 1 ≤ edge }
+{
+    u64::from(places).div_ceil(u64::from(edge))
+}
+
+/// How many pieces or boxes the questions are asked about, each as often as there are questions about it.
+fn pieces_asked(parts: &Parts) -> u64 {
+    let mut asked = 0_u64;
+    for question in parts.questions.as_slice() {
+        asked = asked.saturating_add(pieces_of(parts, question) as u64);
+    }
+    asked
+}
+
+/// How many pieces the metal of the question has, or how many boxes its cut.
+fn pieces_of(parts: &Parts, question: &Question) -> usize
+    requires { IsAskable (length parts.now.metals) (length parts.now.cuts) question.now }
+{
+    let number = question.number as usize;
+    match question.kind {
+        Kind::Short | Kind::Open => parts.metals.as_slice()[number].len(),
+        Kind::Via => {
+            let cut = number - parts.metals.len();
+            parts.cuts.as_slice()[cut].len()
+        }
+    }
 }
 
 /// About how many looks at the pieces and boxes of the parts tiles with this edge take beyond two at each, for defects that reach

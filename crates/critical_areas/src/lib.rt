@@ -42,9 +42,10 @@ use window::{reach, window_of};
 ///
 /// An area is a number of cells of the window: the bounds of what all layers cover, grown by the greatest radius. It is counted
 /// tile by tile: `edge` is the width and the height of a tile, 1 to 1,000,000,000 database units, and is doubled until there
-/// are at most 1,000,000 tiles, and until long pieces, or all for large defects, are looked at in few tiles each. So many
-/// workers, 1 to 64, but no more than there are tiles, share these, in threads of their own where these can be started, and each
-/// tile passes the gate before its amounts are asked for. The rows are the same for each edge and for any number of workers.
+/// are at most 1,000,000 tiles, until long pieces, or all for large defects, are looked at in few tiles each, and until tiles ask
+/// about as many questions as there are pieces, or few. So many workers, 1 to 64, but no more than there are tiles, share these,
+/// in threads of their own where these can be started, and each tile passes the gate before its amounts are asked for. The rows
+/// are the same for each edge and for any number of workers.
 ///
 /// The error is 50 with the number, counted from 0, of the first terminal whose cell its metal does not cover, or that no
 /// memory is left.

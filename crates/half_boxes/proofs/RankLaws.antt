@@ -2,19 +2,21 @@
 use Rattle.std.proofs.Common.{ℕ, ◌+◌, ◌<◌, ◌≤◌, ◌≡◌, refl, sym, ap, subst, arith, take, inl, inr, List, [], ◌∷◌}
 use Rattle.std.proofs.Common.{◌++◌, length, get_or, true, false, ℤ, pos, ◌≤ℤ◌, ◌<ℤ◌, int_lt, All, AllPairs, Contains, Some, slice_get}
 use Rattle.lists.proofs.Words.{MatchOrdering, Ordering, Less, Equal, Greater, ints, by_lt_z, int_eq, int_cmp, int_cmp_total, int_ranked, dedup, IsPermutation}
-use Rattle.lists.proofs.Words.{IsSorted, All-from_recursion, All-weaker, AllPairs-cons, Contains-append_left, Contains-dedup}
+use Rattle.lists.proofs.Words.{IsSorted, All-contains, All-from_recursion, All-push, All-weaker, AllPairs-cons, Contains-from_dedup, Contains-append_left, Contains-dedup}
 use Rattle.lists.proofs.Words.{Contains-permutation, Contains-push, cases_lt, get_or_from_slice_get, slice_get_read, slice_get_within}
 use Rattle.lists.proofs.Reading.{All-read}
 use Rattle.std.specs.Ordering.{eq_by_cmp}
 use Rattle.std.specs.List.Sorted.{IsStrictlySortedBy, IsPartitionPoint, IsPartitionedBy}
 use Rattle.std.proofs.lemmas.Cmp.{int_eq_equiv}
+use Rattle.std.proofs.lemmas.List.Elements.{All-contains_itself}
 use Rattle.std.proofs.lemmas.List.Kept.{IsStrictlySortedBy-dedup}
+use Rattle.std.proofs.lemmas.List.Sorted.{All-permutation}
 use Rattle.geo_core.specs.Plane.{IsInterval}
 use Rattle.geo_core.specs.declared.axis.Axis.{Axis}
 use Rattle.geo_core.specs.declared.interval.Interval.{Interval}
 use Rattle.geo_core.specs.declared.plane.Rect.{Rect}
 use Rattle.geo_core.proofs.RectLaws.{HasSides}
-use Rattle.half_boxes.specs.inside.Ranks.{AreEnds, HasEnds, HaveRanks, IsRank, IsRankedBox, IsRankedSpan}
+use Rattle.half_boxes.specs.inside.Ranks.{AreCrowded, AreEnds, HasEnds, HaveRanks, IsAnEnd, IsRank, IsRankedBox, IsRankedSpan}
 use Rattle.half_boxes.specs.HalfBoxes.{span_along}
 use Rattle.half_boxes.specs.declared.boxes.HalfBox.{HalfBox}
 
@@ -38,6 +40,17 @@ ends_next axis boxes k next old mid new low high small at e f first second all =
       high = still_there mid new _ high second (still_there old mid _ low first h.high);
     }) (take k boxes) all)
     (record { low = still_there mid new span.low high second (pushed_there old mid span.low low first e); high = pushed_there mid new span.high high second f })
+
+-- and they are ends of the boxes
+pub theirs_next : (axis : Axis) (boxes : List HalfBox) (k : ℕ) (next : HalfBox) (old mid new : List ℤ) (low high : ℤ) → k < length boxes → next ≡ get_or boxes k next
+    → low ≡ (span_along axis next).low → high ≡ (span_along axis next).high → mid ≡ old ++ low ∷ [] → new ≡ mid ++ high ∷ [] → All (IsAnEnd axis boxes) old
+    → All (IsAnEnd axis boxes) new
+theirs_next axis boxes k next old mid new low high small at e f first second all =
+    let among : Contains boxes next = (k, small, sym at) in
+    let P : ℤ → Type 0 = IsAnEnd axis boxes in
+    subst (All P) (sym second) (All-push P mid high
+    (subst (All P) (sym first) (All-push P old low all (record { one = next; among = among; at = inl e })))
+    (record { one = next; among = among; at = inr f }))
 
 -- ---- sorted, and each once
 
@@ -66,9 +79,19 @@ module _ (found sorted ends : List ℤ) (moves : IsPermutation found sorted) (up
   kept : (x : ℤ) → Contains found x → Contains ends x
   kept x c = subst (λ xs. Contains xs x) (sym once) (Contains-dedup int_eq_equiv same_int sorted x (Contains-permutation found sorted x moves c))
 
+  pub ends_rise : AllPairs (λ a b. a <ℤ b) ends
+  ends_rise = subst (AllPairs (λ a b. a <ℤ b)) (sym once) (rising (dedup int_eq sorted) (IsStrictlySortedBy-dedup int_cmp_total ties sorted up))
+
+  pub ends_keep : (P : ℤ → Type 0) → All P found → All P ends
+  ends_keep P all =
+      let rest = dedup int_eq sorted in
+      let kept : All P rest = All-weaker (Contains rest) P (λ x c. All-contains P sorted x (All-permutation P found sorted moves all) (Contains-from_dedup int_eq sorted x c))
+        rest (All-contains_itself rest) in
+      subst (All P) (sym once) kept
+
   pub ends_are : (axis : Axis) (boxes : List HalfBox) → length ends ≤ 1001000000 → All (λ one. HasEnds found (span_along axis one)) boxes → AreEnds axis boxes ends
   ends_are axis boxes few all = record {
-    rising = record { rising = subst (AllPairs (λ a b. a <ℤ b)) (sym once) (rising (dedup int_eq sorted) (IsStrictlySortedBy-dedup int_cmp_total ties sorted up)); few = few };
+    rising = record { rising = ends_rise; few = few };
     all = All-weaker (λ one. HasEnds found (span_along axis one)) (λ one. HasEnds ends (span_along axis one))
         (λ one h. record { low = kept (span_along axis one).low h.low; high = kept (span_along axis one).high h.high }) boxes all;
   }

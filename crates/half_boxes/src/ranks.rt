@@ -1,9 +1,9 @@
 //! Boxes as rectangles of the plane of cells. Whether boxes touch depends on the order of their edges alone, so each edge
 //! may be replaced by its number among all edges.
 
-ghost use Rattle.std.specs.Prelude.{◌≡◌, All, Contains, IfOk, IfSome};
+ghost use Rattle.std.specs.Prelude.{◌≡◌, ◌⊎◌, All, Contains, IfNone, IfOk, IfSome};
 ghost use Rattle.lists.specs.Words.{AllZip};
-ghost use Rattle.half_boxes.specs.inside.Ranks.{AreEnds, HasEnds, HaveRanks, IsRank, IsRankedBox, IsRankedSpan, TouchAlike};
+ghost use Rattle.half_boxes.specs.inside.Ranks.{AreCrowded, AreEnds, HasEnds, HaveRanks, IsAnEnd, IsRank, IsRankedBox, IsRankedSpan, TouchAlike};
 ghost use Rattle.half_boxes.specs.HalfBoxes.{span_along};
 
 use super::boxes::HalfBox;
@@ -19,7 +19,8 @@ const _: () = prove!(MOST_ENDS == FARTHEST_GROWN as usize);
 /// A rectangle for each box, of which two touch exactly where the two boxes do; none where the boxes have more ends along
 /// an axis than there are ranks.
 pub fn ranked(alloc: Global, boxes: &[HalfBox]) -> Result<Option<Vec<Rect>>, NoMemory>
-    ensures { IfOk result (λ made. IfSome made (λ rects. TouchAlike boxes.now rects.items)) }
+    ensures some { IfOk result (λ made. IfSome made (λ rects. TouchAlike boxes.now rects.items)) }
+    ensures none { IfOk result (λ made. IfNone made (AreCrowded Axis.X boxes.now ⊎ AreCrowded Axis.Y boxes.now)) }
 {
     let Some(columns) = ends_along(alloc, boxes, Axis::X)? else {
         return Ok(None);
@@ -33,7 +34,8 @@ pub fn ranked(alloc: Global, boxes: &[HalfBox]) -> Result<Option<Vec<Rect>>, NoM
 
 /// The ends of the boxes along the axis, in rising order and each once, unless there are more of them than ranks.
 fn ends_along(alloc: Global, boxes: &[HalfBox], axis: Axis) -> Result<Option<Vec<i32>>, AllocError>
-    ensures { IfOk result (λ made. IfSome made (λ ends. AreEnds axis boxes.now ends.items)) }
+    ensures some { IfOk result (λ made. IfSome made (λ ends. AreEnds axis boxes.now ends.items)) }
+    ensures none { IfOk result (λ made. IfNone made (AreCrowded axis boxes.now)) }
 {
     let mut ends = all_ends_along(alloc, boxes, axis)?;
     ends.sort_unstable();
@@ -46,7 +48,8 @@ fn ends_along(alloc: Global, boxes: &[HalfBox], axis: Axis) -> Result<Option<Vec
 
 /// The ends of the boxes along the axis, box by box.
 fn all_ends_along(alloc: Global, boxes: &[HalfBox], axis: Axis) -> Result<Vec<i32>, AllocError>
-    ensures { IfOk result (λ ends. All (λ one. HasEnds ends.items (span_along axis one)) boxes.now) }
+    ensures all { IfOk result (λ ends. All (λ one. HasEnds ends.items (span_along axis one)) boxes.now) }
+    ensures theirs { IfOk result (λ ends. All (IsAnEnd axis boxes.now) ends.items) }
 {
     let mut ends = Vec::new(alloc);
     for one in boxes {

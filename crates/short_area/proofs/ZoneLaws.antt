@@ -10,7 +10,8 @@ use Rattle.lists.proofs.Comparing.{equal_or_not}
 use Rattle.lists.proofs.Containing.{Contains-none}
 use Rattle.lists.proofs.Reading.{taken_more}
 use Rattle.fault_model.proofs.UnionLaws.{union_none, union_push}
-use Rattle.short_area.specs.inside.Zones.{AreAlikeIn, AreSplit, GainsZone, HasAllOf, HaveNoThird, IsInLabel, IsInOthers, IsInside, IsInTwoLabels, IsWholeIn}
+use Rattle.window_parts.specs.WindowParts.{HasAllOf}
+use Rattle.short_area.specs.inside.Zones.{AreAlikeIn, AreSplit, GainsZone, HaveNoThird, IsInLabel, IsInOthers, IsInside, IsInTwoLabels, IsWholeIn}
 
 module _ (c : Cell) where
   pub label_none : (label : ℕ) → IsInLabel [] label c → ⊥
@@ -191,12 +192,3 @@ whole_one zones k zone window small is all c at = record { zone = zone; among = 
 -- the zone has this label, or not all of the window
 abbrev pub IsNoOtherWhole : Rect → ℕ → Labelled → Type 0
 IsNoOtherWhole window label zone = zone.label ≢ label → HasAllOf window zone.rect → ⊥
-
--- a rectangle round another one, by their sides
-pub sides_round : (rect window : Rect) → lt_z (to_z w32 (of_z w32 window.x0)) (to_z w32 (of_z w32 rect.x0)) ≡ false → lt_z (to_z w32 (of_z w32 rect.x1)) (to_z w32 (of_z w32 window.x1)) ≡ false
-    → lt_z (to_z w32 (of_z w32 window.y0)) (to_z w32 (of_z w32 rect.y0)) ≡ false → lt_z (to_z w32 (of_z w32 rect.y1)) (to_z w32 (of_z w32 window.y1)) ≡ false
-    → (c : Cell) → Has window c → Has rect c
-sides_round rect window left right bottom top c at = record {
-  across = in_ends window.x0 window.x1 rect.x0 rect.x1 (omega (arith, ints)) (omega (arith, ints)) c.i at.across;
-  up = in_ends window.y0 window.y1 rect.y0 rect.y1 (omega (arith, ints)) (omega (arith, ints)) c.j at.up;
-}

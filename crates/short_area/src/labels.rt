@@ -1,10 +1,12 @@
 ghost use Rattle.std.specs.Prelude.{ℕ, ◌≡◌, ◌≢◌, ◌↔◌, All, Contains, IfNone, IfOk, IfSome, IsTrue};
 ghost use Rattle.geo_core.specs.declared.plane.Cell.{Cell};
 ghost use Rattle.geo_core.specs.declared.plane.Labelled.{Labelled};
-ghost use Rattle.short_area.specs.inside.Zones.{AreSplit, HasAllOf, HaveNoThird, IsInTwoLabels, IsWholeIn};
+ghost use Rattle.window_parts.specs.WindowParts.{HasAllOf};
+ghost use Rattle.short_area.specs.inside.Zones.{AreSplit, HaveNoThird, IsInTwoLabels, IsWholeIn};
 
 use geo_core::{Labelled, NoMemory, Rect};
 use std::alloc::Global;
+use window_parts::fills;
 
 /// The label of the first zone that has another one than this.
 fn other_label(zones: &[Labelled], label: usize) -> Option<usize>
@@ -46,19 +48,6 @@ pub fn have_no_third(zones: &[Labelled], one: usize, other: usize) -> bool
     true
 }
 
-/// Whether the rectangle has all cells of the window.
-fn is_whole(rect: Rect, window: Rect) -> bool
-    ensures { IsTrue result ↔ HasAllOf window rect }
-{
-    if window.x0 < rect.x0 || rect.x1 < window.x1 {
-        return false;
-    }
-    if window.y0 < rect.y0 || rect.y1 < window.y1 {
-        return false;
-    }
-    true
-}
-
 /// The label of a zone that has all cells of the window.
 pub fn whole_label(zones: &[Labelled], window: Rect) -> Option<usize>
     ensures some { IfSome result (λ label. IsWholeIn window zones.now label) }
@@ -67,7 +56,7 @@ pub fn whole_label(zones: &[Labelled], window: Rect) -> Option<usize>
     ensures none { IfNone result (All (λ zone. HasAllOf window zone.rect → ⊥) zones.now) }
 {
     for zone in zones {
-        if is_whole(zone.rect, window) {
+        if fills(zone.rect, window) {
             return Some(zone.label);
         }
     }
@@ -81,7 +70,7 @@ pub fn is_other_whole(zones: &[Labelled], window: Rect, label: usize) -> bool
         → IsTrue result }
 {
     for zone in zones {
-        if zone.label != label && is_whole(zone.rect, window) {
+        if zone.label != label && fills(zone.rect, window) {
             return true;
         }
     }

@@ -1,10 +1,8 @@
 -- rectangles that are clipped to a window, one by one, and tallies over what is left of them
-use Rattle.std.proofs.Common.{ℕ, ◌+◌, ◌<◌, ◌≤◌, ◌≡◌, subst, arith, List, [], ◌∷◌, ◌++◌, length, take, take_all, get_or, inl, inr, ◌↔◌, ◌≤ℤ◌}
+use Rattle.std.proofs.Common.{ℕ, ◌+◌, ◌<◌, ◌≤◌, ◌≡◌, subst, arith, List, [], ◌∷◌, ◌++◌, length, take, take_all, get_or, inl, inr, ◌↔◌}
 use Rattle.geo_core.specs.Plane.{Has, IsInUnion}
 use Rattle.geo_core.specs.declared.plane.Cell.{Cell}
 use Rattle.geo_core.specs.declared.plane.Rect.{Rect}
-use Rattle.geo_core.proofs.IntervalLaws.{ends_in}
-use Rattle.geo_core.proofs.RectLaws.{columns_in, rows_in}
 use Rattle.fault_model.specs.FaultNames.{Tally, cells_of}
 use Rattle.fault_model.proofs.CellLaws.{Contains-cells_of}
 use Rattle.fault_model.proofs.TallyLaws.{Tally-none, Tally-same}
@@ -64,15 +62,3 @@ module _ (rects : List Rect) (window : Rect) (inside : List Rect) (clipped : Are
   -- all of the window is left
   pub tally_all : ((c : Cell) → Has window c → IsInUnion inside c) → Tally (IsInUnion rects) (cells_of window) (length (cells_of window))
   tally_all filled = tally_clipped (length (cells_of window)) (whole_tally window filled)
-
--- ---- rectangles that have all of the window
-
-abbrev pub HasAllOf : Rect → Rect → Type 0
-HasAllOf window rect = (c : Cell) → Has window c → Has rect c
-
--- such a rectangle reaches as far as the window does
-pub ends_across : (window rect : Rect) → HasAllOf window rect → (rect.x0 ≤ℤ window.x0) × (window.x1 ≤ℤ rect.x1)
-ends_across window rect all = ends_in window.x0 window.x1 rect.x0 rect.x1 window.across.some (columns_in window rect all)
-
-pub ends_up : (window rect : Rect) → HasAllOf window rect → (rect.y0 ≤ℤ window.y0) × (window.y1 ≤ℤ rect.y1)
-ends_up window rect all = ends_in window.y0 window.y1 rect.y0 rect.y1 window.up.some (rows_in window rect all)

@@ -3,9 +3,11 @@ ghost use Rattle.geo_core.specs.Cells.{Has};
 ghost use Rattle.geo_core.specs.Unions.{IsInUnion};
 ghost use Rattle.geo_core.specs.declared.plane.Cell.{Cell};
 ghost use Rattle.geo_core.specs.declared.plane.Rect.{Rect};
+ghost use Rattle.window_parts.specs.WindowParts.{HasAllOf};
 
 use geo_core::{NoMemory, Rect, clip};
 use std::alloc::Global;
+use window_parts::fills;
 
 /// What each of the rectangles has in common with the window, if anything, in their order. The one error is that no
 /// memory is left.
@@ -23,34 +25,15 @@ pub fn clipped(alloc: Global, rects: &[Rect], window: Rect) -> Result<Vec<Rect>,
     Ok(inside)
 }
 
-/// Whether the rectangle has all of the window.
-fn has_all(rect: Rect, window: Rect) -> bool
-    ensures { IsTrue result ↔ ((c : Cell) → Has window c → Has rect c) }
-{
-    if window.x0 < rect.x0 {
-        return false;
-    }
-    if window.x1 > rect.x1 {
-        return false;
-    }
-    if window.y0 < rect.y0 {
-        return false;
-    }
-    if window.y1 > rect.y1 {
-        return false;
-    }
-    true
-}
-
 /// Whether one of the rectangles has all of the window.
 pub fn is_filled(rects: &[Rect], window: Rect) -> bool
     ensures filled { IsTrue result → (c : Cell) → Has window c → IsInUnion rects.now c }
 
     // Without this one no window might ever count as filled, and each be parted down to its cells.
-    ensures by_one { (rect : Rect) → Contains rects.now rect → ((c : Cell) → Has window c → Has rect c) → IsTrue result }
+    ensures by_one { (rect : Rect) → Contains rects.now rect → HasAllOf window rect → IsTrue result }
 {
     for rect in rects {
-        if has_all(*rect, window) {
+        if fills(*rect, window) {
             return true;
         }
     }

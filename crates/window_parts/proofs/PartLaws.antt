@@ -1,5 +1,5 @@
 -- tallies of parts add up, no tally of a rectangle is large, and a part has fewer cells than the whole
-use Rattle.std.proofs.Common.{ℕ, ◌+◌, ◌*◌, ◌^◌, ◌<◌, ◌≤◌, ◌≡◌, refl, sym, subst, List, [], ◌∷◌, ◌++◌, length, arith, inl, inr, ◌⊎◌, ℤ, ◌-ℤ◌, ◌↔◌, Contains, IsTrue, nat_le, leb-true}
+use Rattle.std.proofs.Common.{ℕ, ◌+◌, ◌*◌, ◌^◌, ◌<◌, ◌≤◌, ◌≡◌, refl, sym, subst, List, [], ◌∷◌, ◌++◌, length, arith, inl, inr, ◌⊎◌, ℤ, ◌-ℤ◌, ◌≤ℤ◌, ◌↔◌, Contains, IsTrue, nat_le, leb-true}
 use Rattle.lists.proofs.Words.{ints, by_lt_z, length-map, mul-le, le-leb}
 use Rattle.geo_core.specs.Plane.{Has, IsIn, IsInterval}
 use Rattle.geo_core.specs.declared.bounds.TheConstants.{FARTHEST_GROWN}
@@ -7,14 +7,15 @@ use Rattle.geo_core.specs.declared.axis.Axis.{Axis}
 use Rattle.geo_core.specs.declared.axis.Axis.TheVariants.{X, Y}
 use Rattle.geo_core.specs.declared.plane.Cell.{Cell}
 use Rattle.geo_core.specs.declared.plane.Rect.{Rect}
-use Rattle.geo_core.proofs.IntervalLaws.{IsIn-at, in_or_not}
+use Rattle.geo_core.proofs.IntervalLaws.{IsIn-at, ends_in, in_or_not}
+use Rattle.geo_core.proofs.RectLaws.{columns_in, rows_in}
 use Rattle.fault_model.specs.FaultNames.{Tally, none, hit, or_zero, range, row, cells_of}
 use Rattle.fault_model.proofs.CellLaws.{Contains-cells_of, once, never}
 use Rattle.fault_model.proofs.OrderLaws.{Tally-as_often}
 use Rattle.fault_model.proofs.RangeLaws.{or_zero_is, length-range, length-times}
 use Rattle.fault_model.proofs.TallyLaws.{Tally-append, Tally-counts, Tally-le-length, Tally-unique}
 use Rattle.lists.proofs.Containing.{Contains-head, Contains-tail}
-use Rattle.window_parts.specs.WindowParts.{AreCutAt, AreParts, IsBetween, IsBroad, count_along, place_along}
+use Rattle.window_parts.specs.WindowParts.{AreCutAt, AreParts, HasAllOf, IsBetween, IsBroad, count_along, place_along}
 
 -- ---- parts
 
@@ -182,3 +183,11 @@ module _ (rect : Rect) (width height : ℕ) (across : count_along X rect ≡ wid
     λ t. let h = leb-true width (4 * height) t in absurd (omega arith),
     λ broad. let wide = rw (across, up) at broad.wide in absurd (omega arith),
   )
+
+-- ---- a rectangle that has all of the window reaches as far as the window does
+
+pub ends_across : (window rect : Rect) → HasAllOf window rect → (rect.x0 ≤ℤ window.x0) × (window.x1 ≤ℤ rect.x1)
+ends_across window rect all = ends_in window.x0 window.x1 rect.x0 rect.x1 window.across.some (columns_in window rect all)
+
+pub ends_up : (window rect : Rect) → HasAllOf window rect → (rect.y0 ≤ℤ window.y0) × (window.y1 ≤ℤ rect.y1)
+ends_up window rect all = ends_in window.y0 window.y1 rect.y0 rect.y1 window.up.some (rows_in window rect all)

@@ -13,6 +13,10 @@ pub record AreParts (window first second : Rect) : Type 0 where
   pub cells : (c : Cell) → Has window c ↔ (Has first c ⊎ Has second c)
   pub apart : (c : Cell) → Has first c → Has second c → ⊥
 
+-- the rectangle has each cell of the window
+abbrev pub HasAllOf : Rect → Rect → Type 0
+HasAllOf window rect = (c : Cell) → Has window c → Has rect c
+
 -- the place lies between two others
 pub record IsBetween (low high place : ℤ) : Type 0 where
   pub above : low <ℤ place

@@ -1,4 +1,5 @@
-//! Parts of a window: how many cells it has, where it is halved, and how the tallies of its parts make its own.
+//! Parts of a window: how many cells it has, what has all of it, where it is halved, and how the tallies of its parts make
+//! its own.
 #![tactic(auto)]
 
 pub mod laws;
@@ -10,4 +11,4 @@ pub use laws::{
     tallies_of_whole_windows,
 };
 pub use middles::{distance_from_middle, half_way, inner_half_way, is_broad, longer_first};
-pub use parts::{count_of, first_line, halved_along, parts_at, places_along};
+pub use parts::{count_of, fills, first_line, halved_along, parts_at, places_along};

@@ -1,7 +1,7 @@
-ghost use Rattle.std.specs.Prelude.{ℤ, ◌≡◌, ◌<◌, ◌≤◌, ◌^◌, IfNone, IfSome, length};
+ghost use Rattle.std.specs.Prelude.{ℤ, ◌≡◌, ◌<◌, ◌≤◌, ◌^◌, ◌↔◌, IfNone, IfSome, IsTrue, length};
 ghost use Rattle.geo_core.specs.Axes.{low_along, high_along};
 ghost use Rattle.fault_model.specs.Areas.{cells_of};
-ghost use Rattle.window_parts.specs.WindowParts.{AreCutAt, AreHalves, AreParts, IsBetween, IsFirstLine, count_along};
+ghost use Rattle.window_parts.specs.WindowParts.{AreCutAt, AreHalves, AreParts, HasAllOf, IsBetween, IsFirstLine, count_along};
 
 use super::middles::inner_half_way;
 use geo_core::{Axis, Interval, Rect};
@@ -23,6 +23,25 @@ pub fn count_of(window: Rect) -> u64
     ensures small { result < 2 ^ 63 }
 {
     places_along(window, Axis::Y) * places_along(window, Axis::X)
+}
+
+/// Whether the rectangle has all cells of the window.
+pub fn fills(rect: Rect, window: Rect) -> bool
+    ensures { IsTrue result ↔ HasAllOf window rect }
+{
+    if window.x0 < rect.x0 {
+        return false;
+    }
+    if window.x1 > rect.x1 {
+        return false;
+    }
+    if window.y0 < rect.y0 {
+        return false;
+    }
+    if window.y1 > rect.y1 {
+        return false;
+    }
+    true
 }
 
 /// The columns of the window before the place and the others, or its rows.

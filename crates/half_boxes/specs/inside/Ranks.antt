@@ -1,5 +1,5 @@
 -- edges of boxes, replaced by their numbers among all edges in rising order
-use Rattle.std.specs.Prelude.{ℕ, List, Some, All, AllPairs, Contains, length, slice_get, ℤ, pos, ◌≡◌, ◌≤◌, ◌↔◌, ◌<ℤ◌}
+use Rattle.std.specs.Prelude.{ℕ, List, Some, All, AllPairs, Contains, length, slice_get, ℤ, pos, ◌≡◌, ◌<◌, ◌≤◌, ◌↔◌, ◌⊎◌, ◌<ℤ◌}
 use Rattle.geo_core.specs.Plane.{Touch}
 use Rattle.geo_core.specs.declared.axis.Axis.{Axis}
 use Rattle.geo_core.specs.declared.interval.Interval.{Interval}
@@ -22,6 +22,19 @@ pub record HaveRanks (ends : List ℤ) : Type 0 where
 pub record AreEnds (axis : Axis) (boxes : List HalfBox) (ends : List ℤ) : Type 0 where
   pub rising : HaveRanks ends
   pub all : All (λ one. HasEnds ends (span_along axis one)) boxes
+
+-- one of the boxes begins or ends at this place along the axis
+pub record IsAnEnd (axis : Axis) (boxes : List HalfBox) (end : ℤ) : Type 0 where
+  pub one : HalfBox
+  pub among : Contains boxes one
+  pub at : (end ≡ (span_along axis one).low) ⊎ (end ≡ (span_along axis one).high)
+
+-- the boxes have more different ends along the axis than there are ranks
+pub record AreCrowded (axis : Axis) (boxes : List HalfBox) : Type 0 where
+  pub ends : List ℤ
+  pub rising : AllPairs (λ one later. one <ℤ later) ends
+  pub theirs : All (IsAnEnd axis boxes) ends
+  pub many : 1001000000 < length ends
 
 -- `rank` is the number, counted from 0, that the end has in the list
 pub record IsRank (ends : List ℤ) (end rank : ℤ) : Type 0 where

@@ -56,10 +56,6 @@ AreZonesOf pieces radius window zones =
 abbrev pub AreAlikeIn : Rect → List Labelled → List Labelled → Type 0
 AreAlikeIn part zones others = (c : Cell) → Has part c → (label : ℕ) → IsInLabel others label c ↔ IsInLabel zones label c
 
--- the rectangle has each cell of the window
-abbrev pub HasAllOf : Rect → Rect → Type 0
-HasAllOf window rect = (c : Cell) → Has window c → Has rect c
-
 -- each cell of the window lies in a zone of this label
 abbrev pub IsWholeIn : Rect → List Labelled → ℕ → Type 0
 IsWholeIn window zones label = (c : Cell) → Has window c → IsInLabel zones label c

@@ -8,17 +8,17 @@ use Rattle.half_boxes.proofs.touching.links_of.Goals as goal
 
 pub returns-in-Some-clause-touching : goal.returns-in-Some-clause-touching
 returns-in-Some-clause-touching c =
-    let same : TouchAlike c.args.boxes.now c.as_slice.result.now = rw c.as_slice.ensures.value (rw c.in-Some.is at c.in_ok-rects.ensures) in
+    let same : TouchAlike c.args.boxes.now c.as_slice.result.now = rw c.as_slice.ensures.value (rw c.in-Some.is at c.in_ok-rects.ensures.some) in
     IfOk-weaker _ _ _ (λ (pairs : Vec (ℕ × ℕ) Global) s. link_touches c.args.boxes.now c.as_slice.result.now same pairs.items s) c.touch_links.ensures.touching
 
 pub returns-in-Some-clause-joined : goal.returns-in-Some-clause-joined
 returns-in-Some-clause-joined c =
-    let same : TouchAlike c.args.boxes.now c.as_slice.result.now = rw c.as_slice.ensures.value (rw c.in-Some.is at c.in_ok-rects.ensures) in
+    let same : TouchAlike c.args.boxes.now c.as_slice.result.now = rw c.as_slice.ensures.value (rw c.in-Some.is at c.in_ok-rects.ensures.some) in
     IfOk-weaker _ _ _ (λ (pairs : Vec (ℕ × ℕ) Global) s. touching_joined c.args.boxes.now c.as_slice.result.now same pairs.items s) c.touch_links.ensures.joined
 
 pub returns-in-Some-clause-few : goal.returns-in-Some-clause-few
 returns-in-Some-clause-few c =
-    let same : TouchAlike c.args.boxes.now c.as_slice.result.now = rw c.as_slice.ensures.value (rw c.in-Some.is at c.in_ok-rects.ensures) in
+    let same : TouchAlike c.args.boxes.now c.as_slice.result.now = rw c.as_slice.ensures.value (rw c.in-Some.is at c.in_ok-rects.ensures.some) in
     IfOk-weaker _ _ _ (λ (pairs : Vec (ℕ × ℕ) Global) s. subst (λ n. (levels : ℕ) → n ≤ 2 ^ levels → length pairs.items ≤ 51 * n * (levels + 1)) same.one_each s) c.touch_links.ensures.few
 
 pub returns-in-None-clause-few : goal.returns-in-None-clause-few

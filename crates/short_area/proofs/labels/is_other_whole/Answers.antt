@@ -3,20 +3,20 @@ use Rattle.lists.proofs.Reading.{All-read, All-read_all}
 use Rattle.lists.proofs.Words.{All-contains, false≢true}
 use Rattle.short_area.proofs.ZoneLaws.{IsNoOtherWhole, whole_one}
 use Rattle.short_area.proofs.labels.is_other_whole.Goals as goal
-use Rattle.short_area.proofs.labels.is_other_whole.Goals.{else-zone-label-via-then-zone-label+else-is_whole, else-zone-label-via-else-zone-label}
+use Rattle.short_area.proofs.labels.is_other_whole.Goals.{else-zone-label-via-then-zone-label+else-fills, else-zone-label-via-else-zone-label}
 
-pub returns-then-is_whole-clause-whole : goal.returns-then-is_whole-clause-whole
-returns-then-is_whole-clause-whole c = λ t. (
+pub returns-then-fills-clause-whole : goal.returns-then-fills-clause-whole
+returns-then-fills-clause-whole c = λ t. (
   c.zone-item.result.label,
   λ e. c.if-zone-label.true (sym e),
-  whole_one _ _ _ _ c.loop-zone-test.true c.zone-item.is (c.if-is_whole.ensures.0 refl),
+  whole_one _ _ _ _ c.loop-zone-test.true c.zone-item.is (c.if-fills.ensures.0 refl),
 )
 
 pub loop-zone-preserved : goal.loop-zone-preserved
 loop-zone-preserved c =
     All-read (IsNoOtherWhole c.args.window c.args.label) _ _ _ c.loop-zone-test.true c.zone-item.is c.loop-zone.invariant
     (elim c.else-zone-label.branch [
-      | else-zone-label-via-then-zone-label+else-is_whole w ↦ λ other all. false≢true (sym w.if-is_whole.false ∙ w.is_whole.ensures.1 all)
+      | else-zone-label-via-then-zone-label+else-fills w ↦ λ other all. false≢true (sym w.if-fills.false ∙ w.fills.ensures.1 all)
       | else-zone-label-via-else-zone-label w ↦ λ other all. absurd (other w.if-zone-label.false)
     ])
 

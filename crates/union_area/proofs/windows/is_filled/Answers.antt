@@ -3,18 +3,18 @@ use Rattle.lists.proofs.Reading.{All-read, All-read_all}
 use Rattle.lists.proofs.Words.{All-contains, false≢true}
 use Rattle.geo_core.specs.declared.plane.Rect.{Rect}
 use Rattle.fault_model.proofs.UnionLaws.{in_union}
-use Rattle.union_area.proofs.ClipLaws.{HasAllOf}
+use Rattle.window_parts.specs.WindowParts.{HasAllOf}
 use Rattle.union_area.proofs.windows.is_filled.Goals as goal
 
-pub returns-then-has_all-clause-filled : goal.returns-then-has_all-clause-filled
-returns-then-has_all-clause-filled c true_now d has =
+pub returns-then-fills-clause-filled : goal.returns-then-fills-clause-filled
+returns-then-fills-clause-filled c true_now d has =
     in_union c.args.rects.now c.rect-item.result d (c.loop-rect.rect-index, c.loop-rect-test.true, sym c.rect-item.is)
-    (c.if-has_all.ensures.0 refl d has)
+    (c.if-fills.ensures.0 refl d has)
 
 pub loop-rect-preserved : goal.loop-rect-preserved
 loop-rect-preserved c =
     All-read (λ (rect : Rect). HasAllOf c.args.window rect → ⊥) _ _ _ c.loop-rect-test.true c.rect-item.is c.loop-rect.invariant
-    (λ all. false≢true (c.if-has_all.ensures.1 all))
+    (λ all. false≢true (c.if-fills.ensures.1 all))
 
 pub returns-clause-by_one : goal.returns-clause-by_one
 returns-clause-by_one c rect among all =

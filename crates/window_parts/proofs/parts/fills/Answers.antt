@@ -2,8 +2,8 @@ use Rattle.std.proofs.Common.{arith, refl}
 use Rattle.lists.proofs.Words.{ints, false≢true}
 use Rattle.geo_core.proofs.IntervalLaws.{in_ends}
 use Rattle.geo_core.proofs.RectLaws.{all_in}
-use Rattle.union_area.proofs.ClipLaws.{ends_across, ends_up}
-use Rattle.union_area.proofs.windows.has_all.Goals as goal
+use Rattle.window_parts.proofs.PartLaws.{ends_across, ends_up}
+use Rattle.window_parts.proofs.parts.fills.Goals as goal
 
 pub returns-then-window-rect : goal.returns-then-window-rect
 returns-then-window-rect c = (
