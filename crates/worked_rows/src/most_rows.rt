@@ -129,6 +129,12 @@ fn push_report(report: &mut String) -> Result<(), AllocError> {
     report.push_str(END)
 }
 
+/// Squares at two corners of the plane. Each is alone, so that they add nothing but empty cells to the window.
+const FAR_CORNERS: [Plate; 2] = [
+    (10, 0, (-1_000_000_000, -1_000_000_000, -999_999_990, -999_999_990)),
+    (25, 0, (999_999_990, 999_999_990, 1_000_000_000, 1_000_000_000)),
+];
+
 /// The two bars on each metal, and a contact at each cut.
 fn shapes(alloc: Global) -> Result<Vec<Plate>, AllocError> {
     let mut shapes = Vec::new(alloc);
@@ -160,9 +166,15 @@ fn is_written(
     }
 }
 
-/// Whether the map has its report where these are the words.
-fn is_reported(rt: &(impl Threads + Sync), alloc: Global, words: &str) -> Result<bool, AllocError> {
-    let shapes = shapes(alloc)?;
+/// Whether the map has its report where these are the words, and these shapes lie beside the others.
+fn is_reported(
+    rt: &(impl Threads + Sync),
+    alloc: Global,
+    words: &str,
+    beside: &[Plate],
+) -> Result<bool, AllocError> {
+    let mut shapes = shapes(alloc)?;
+    shapes.extend_from_slice(beside)?;
     let layout = plates(alloc, shapes.as_slice())?;
     let (mut map, mut report) = (String::new(alloc), String::new(alloc));
     push_map(&mut map)?;
@@ -177,6 +189,14 @@ const WORDS: &[&str] = &["a --map m", "a --map m --tile 1000"];
 #[test]
 fn most_rows_are_written(rt: HostRuntime) {
     for (number, words) in WORDS.iter().enumerate() {
-        expect(&rt, is_reported(&rt, rt.alloc(), words) == Ok(true), number);
+        let written = is_reported(&rt, rt.alloc(), words, &[]);
+        expect(&rt, written == Ok(true), number);
     }
+}
+
+/// Over all of the plane there would be 910,116 tiles, each of which asks all 1,536 questions: it has fewer of them.
+#[test]
+fn most_questions_are_asked_of_few_tiles(rt: HostRuntime) {
+    let written = is_reported(&rt, rt.alloc(), "a --map m", &FAR_CORNERS);
+    assert!(rt; written == Ok(true));
 }
