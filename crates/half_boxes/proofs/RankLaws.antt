@@ -16,7 +16,7 @@ use Rattle.geo_core.specs.declared.axis.Axis.{Axis}
 use Rattle.geo_core.specs.declared.interval.Interval.{Interval}
 use Rattle.geo_core.specs.declared.plane.Rect.{Rect}
 use Rattle.geo_core.proofs.RectLaws.{HasSides}
-use Rattle.half_boxes.specs.inside.Ranks.{AreCrowded, AreEnds, HasEnds, HaveRanks, IsAnEnd, IsRank, IsRankedBox, IsRankedSpan}
+use Rattle.half_boxes.specs.inside.Ranks.{AreEnds, HasEnds, HaveRanks, IsAnEnd, IsRank, IsRankedBox, IsRankedSpan}
 use Rattle.half_boxes.specs.HalfBoxes.{span_along}
 use Rattle.half_boxes.specs.declared.boxes.HalfBox.{HalfBox}
 

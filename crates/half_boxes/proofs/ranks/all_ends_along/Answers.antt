@@ -1,13 +1,13 @@
 use Rattle.std.proofs.Common.{rules, ◌∙◌, FitsSigned, w32}
 use Rattle.lists.proofs.Words.{to_z-of_z, All-nil}
 use Rattle.lists.proofs.Reading.{All-read_all}
-use Rattle.half_boxes.specs.inside.Ranks.{HasEnds}
+use Rattle.half_boxes.specs.inside.Ranks.{HasEnds, IsAnEnd}
 use Rattle.half_boxes.specs.HalfBoxes.{span_along}
 use Rattle.half_boxes.proofs.RankLaws.{ends_next, theirs_next}
 use Rattle.half_boxes.proofs.ranks.all_ends_along.Goals as goal
 
 pub loop-one-init : goal.loop-one-init
-loop-one-init c = record { all = All-nil _; theirs = All-nil _ }
+loop-one-init c = record { all = All-nil _; theirs = rw c.new-ends.ensures.items (All-nil (IsAnEnd c.args.axis c.args.boxes.now)) }
 
 pub loop-one-preserved : goal.loop-one-preserved
 loop-one-preserved c =

@@ -9,8 +9,8 @@ returns-clause-some c =
     ends_are _ _ _ c.sort_unstable.ensures.permutation c.sort_unstable.ensures.sorted (dedup_is int_eq _ _ c.dedup.ensures.filtered) c.args.axis c.args.boxes.now
     (omega arith) c.in_ok-ends.ensures.all
 
-pub returns-then-ends-MOST_ENDS-clause-none : goal.returns-then-ends-MOST_ENDS-clause-none
-returns-then-ends-MOST_ENDS-clause-none c =
+pub returns-then-len-gt-MOST_ENDS-clause-none : goal.returns-then-len-gt-MOST_ENDS-clause-none
+returns-then-len-gt-MOST_ENDS-clause-none c =
     let once = dedup_is int_eq _ _ c.dedup.ensures.filtered in
     record {
       ends = c.dedup.new.self.items;
