@@ -83,7 +83,7 @@ fn asks(parts: &Parts, window: Rect, edge: u32) -> u64
     let columns = tiles_along(window.x1.abs_diff(window.x0), edge);
     let rows = tiles_along(window.y1.abs_diff(window.y0), edge);
     let tiles = columns.saturating_mul(rows);
-    tiles.saturating_mul(parts.questions.len() as u64)
+    tiles.saturating_mul(parts.questions.as_slice().len() as u64)
 }
 
 /// How many tiles lie along so many places.
@@ -108,10 +108,10 @@ fn pieces_of(parts: &Parts, question: &Question) -> usize
 {
     let number = question.number as usize;
     match question.kind {
-        Kind::Short | Kind::Open => parts.metals.as_slice()[number].len(),
+        Kind::Short | Kind::Open => parts.metals.as_slice()[number].as_slice().len(),
         Kind::Via => {
-            let cut = number - parts.metals.len();
-            parts.cuts.as_slice()[cut].len()
+            let cut = number - parts.metals.as_slice().len();
+            parts.cuts.as_slice()[cut].as_slice().len()
         }
     }
 }
