@@ -40,6 +40,15 @@ module _ (P Q R : Cell → Type 0) (either : (c : Cell) → R c ↔ (P c ⊎ Q c
   Tally-both (c ∷ cs) m n k (miss p s) (miss q t) (miss r u) =
       let rest = Tally-both cs m n k s t u in let e = rest.sum in record { both = rest.both; tally = miss (λ h. p h.0) rest.tally; sum = omega arith }
 
+-- where a property holds where two others do, its tally is that of the one and that of the other, less that of either
+pub tally_of_both : (P Q R S : Cell → Type 0) (cells : List Cell) (m n k : ℕ) → ((c : Cell) → R c ↔ (P c ⊎ Q c)) → ((c : Cell) → (P c × Q c) ↔ S c)
+    → Tally P cells m → Tally Q cells n → Tally R cells k → (k ≤ m + n) × Tally S cells (m + n - k)
+tally_of_both P Q R S cells m n k either both s t u =
+    let found = Tally-both P Q R either cells m n k s t u in
+    let sum = found.sum in
+    let same : found.both ≡ m + n - k = omega arith in
+    (omega arith, subst (Tally S cells) same (Tally-same_all {P = λ c. P c × Q c} {Q = S} cells found.both both found.tally))
+
 -- ---- counts
 
 pub count_of_none : (zones : List Labelled) (window : Rect) → ((c : Cell) → IsInTwoLabels zones c → ⊥) → IsCountOf zones window 0
@@ -100,14 +109,10 @@ pub count_apart : (zones : List Labelled) (window : Rect) (one other : ℕ) (own
     → ((c : Cell) → IsInUnion all c ↔ (IsInUnion own c ⊎ IsInUnion others c))
     → Tally (IsInUnion own) (cells_of window) m → Tally (IsInUnion others) (cells_of window) n → Tally (IsInUnion all) (cells_of window) k → (k ≤ m + n) × IsCountOf zones window (m + n - k)
 count_apart zones window one other own others all m n k alone split either s t u =
-    let both = Tally-both (IsInUnion own) (IsInUnion others) (IsInUnion all) either (cells_of window) m n k s t u in
-    let sum = both.sum in
-    let same : both.both ≡ m + n - k = omega arith in
-    let tally = Tally-same_all {P = λ c. IsInUnion own c × IsInUnion others c} {Q = IsInTwoLabels zones} (cells_of window) both.both (λ c.
+    let tallied = tally_of_both (IsInUnion own) (IsInUnion others) (IsInUnion all) (IsInTwoLabels zones) (cells_of window) m n k either (λ c.
     let two = both_of_two c zones one other alone in
-    (λ h. two.0 ((split.own_cells c).0 h.0, (split.other_cells c).0 h.1), λ h. let p = two.1 h in ((split.own_cells c).1 p.0, (split.other_cells c).1 p.1))) both.tally in
-    let moved = subst (Tally (IsInTwoLabels zones) (cells_of window)) same tally in
-    (omega arith, record { tally = moved; small = few_tallied window (m + n - k) moved })
+    (λ h. two.0 ((split.own_cells c).0 h.0, (split.other_cells c).0 h.1), λ h. let p = two.1 h in ((split.own_cells c).1 p.0, (split.other_cells c).1 p.1))) s t u in
+    (tallied.0, record { tally = tallied.1; small = few_tallied window (m + n - k) tallied.1 })
 
 -- the same, where the lists are known by other names
 pub count_by_union : (zones : List Labelled) (window : Rect) (one other : ℕ) (own others first second third joined all : List Rect) (m n k : ℕ) → HaveNoThird zones one other

@@ -82,7 +82,7 @@ module _ (c : Cell) (xs ys : List Rect) where
   two_from (inr (inl t)) = two_behind t
   two_from (inr (inr h)) = one_in_each h
 
-  two_append : IsInTwo (xs ++ ys) c ↔ TwoOfBoth
+  pub two_append : IsInTwo (xs ++ ys) c ↔ TwoOfBoth
   two_append = (λ t. two_cases t (number_cases xs ys t.first t.one t.one_at) (number_cases xs ys t.second t.other t.other_at), two_from)
 
 -- rectangles without common cells

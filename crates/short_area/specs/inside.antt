@@ -1,3 +1,4 @@
 pub mod Zones
 pub mod LabelRuns
+pub mod Leaders
 pub mod AreaSteps

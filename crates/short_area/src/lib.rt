@@ -9,6 +9,7 @@
 mod areas;
 mod halves;
 mod labels;
+mod leaders;
 mod places;
 mod runs;
 mod steps;

@@ -14,7 +14,7 @@ use union_area::union_area;
 use window_parts::count_of;
 
 /// So many looks for each zone are few.
-const LOOKS_EACH: usize = 4;
+pub const LOOKS_EACH: usize = 4;
 
 /// The count, where it needs no halving and no sweep for two: fewer than two labels, or a label that has all cells of the
 /// window. Then the other labels count, each cell once.
@@ -76,7 +76,7 @@ pub fn counted_by_runs(alloc: Global, zones: &[Labelled], window: Rect) -> Resul
     ensures { IfOk result (λ n. IsCountOf zones.now window n) }
 {
     let runs = label_runs(alloc, zones)?;
-    area_of_two::<Brand>(alloc, runs.as_slice(), window, Blank::new(1))
+    area_of_two(alloc, runs.as_slice(), window)
 }
 
 /// The count by runs of each label, where these are found with few looks.
@@ -91,7 +91,7 @@ pub fn counted_by_few_looks(
     let Some(runs) = label_runs_within(alloc, zones, most)? else {
         return Ok(None);
     };
-    let count = area_of_two::<Brand>(alloc, runs.as_slice(), window, Blank::new(1))?;
+    let count = area_of_two(alloc, runs.as_slice(), window)?;
     Ok(Some(count))
 }
 
@@ -103,8 +103,16 @@ pub fn counted_of_few(alloc: Global, zones: &[Labelled], window: Rect) -> Result
     counted_by_runs(alloc, kept.as_slice(), window)
 }
 
-/// How many cells of the window lie in two of the rectangles, with a counter of steps of its own.
-fn area_of_two<L: Ledger>(
+/// How many cells of the window lie in two of the rectangles.
+pub fn area_of_two(alloc: Global, rects: &[Rect], window: Rect) -> Result<u64, NoMemory>
+    ensures tally { IfOk result (λ n. Tally (IsInTwo rects.now) (cells_of window) n) }
+    ensures small { IfOk result (λ n. n < 2 ^ 63) }
+{
+    counted_area_of_two::<Brand>(alloc, rects, window, Blank::new(1))
+}
+
+/// The same, with a counter of its own for steps, which nobody reads.
+fn counted_area_of_two<L: Ledger>(
     alloc: Global,
     rects: &[Rect],
     window: Rect,

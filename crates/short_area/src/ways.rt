@@ -2,7 +2,8 @@ ghost use Rattle.std.specs.Prelude.{IfOk};
 ghost use Rattle.short_area.specs.inside.AreaSteps.{IsStepOf};
 
 use super::labels::{have_no_third, two_labels};
-use super::places::{Spread, lead, place_to_halve, spread_of};
+use super::leaders::counted_by_leader;
+use super::places::{Lead, Spread, lead_of, place_to_halve, spread_of};
 use super::steps::Step;
 use super::sweeps::{
     counted_apart, counted_at_once, counted_by_few_looks, counted_by_runs, counted_of_few,
@@ -35,21 +36,35 @@ pub fn next_step(
     if spread.is_few() {
         return Ok(Step::Count(counted_of_few(alloc, zones, window)?));
     }
-    if spread.is_parted() || has_hopeless_leader(zones, hopeless) {
+    if spread.is_parted() {
+        return halved(alloc, zones, window, spread, hopeless);
+    }
+    let lead = lead_of(zones);
+    if leads_by_half(zones, lead) {
+        if let Some(count) = counted_by_leader(alloc, zones, window, lead.label)? {
+            return Ok(Step::Count(count));
+        }
+    }
+    if has_hopeless_leader(zones, lead, hopeless) {
         return halved(alloc, zones, window, spread, hopeless);
     }
     swept_or_halved(alloc, zones, window, spread, hopeless)
 }
 
-/// Whether one label leads so far that its runs are not tried. Those of a mesh are mostly as many as its holes, and where its
+/// Whether the label leads by half of the zones.
+fn leads_by_half(zones: &[Labelled], lead: Lead) -> bool {
+    zones.len() - zones.len() / 2 <= lead.zones
+}
+
+/// Whether the label leads so far that its runs are not tried. Those of a mesh are mostly as many as its holes, and where its
 /// zones close the holes they are few. So they are tried once, unless other labels have hardly any zone.
-fn has_hopeless_leader(zones: &[Labelled], hopeless: usize) -> bool {
+fn has_hopeless_leader(zones: &[Labelled], lead: Lead, hopeless: usize) -> bool {
     let others = if hopeless == NONE_TRIED {
         zones.len() / 16
     } else {
         zones.len() / 2
     };
-    zones.len() - others <= lead(zones)
+    zones.len() - others <= lead.zones
 }
 
 /// The place at which to halve the window. Where there is none, the count by runs.
