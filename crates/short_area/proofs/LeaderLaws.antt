@@ -1,5 +1,6 @@
 -- where one label has most of the zones: the others, what lies within their bounds, and their runs
-use Rattle.std.proofs.Common.{ℕ, ◌+◌, ◌-◌, ◌^◌, ◌<◌, ◌≤◌, ◌≡◌, ◌≢◌, ◌∙◌, ap, refl, sym, subst, List, [], ◌∷◌, ◌++◌, length, take, take_all, get_or, inl, inr, ◌⊎◌, ◌↔◌, Result, IfOk}
+use Rattle.std.proofs.Common.{ℕ, ◌+◌, ◌-◌, ◌^◌, ◌<◌, ◌≤◌, ◌≡◌, ◌≢◌, ◌∙◌, ap, refl, sym, subst, inl, inr, ◌⊎◌, ◌↔◌}
+use Rattle.std.proofs.Common.{List, [], ◌∷◌, ◌++◌, length, take, take_all, get_or, Result, IfOk}
 use Rattle.geo_core.specs.Plane.{Has, IsInUnion, IsJoin}
 use Rattle.geo_core.specs.declared.plane.Cell.{Cell}
 use Rattle.geo_core.specs.declared.plane.Labelled.{Labelled}
@@ -97,7 +98,8 @@ parts_more zones i zone label bounds old new small is gains so_far c =
       λ h. (gains c).1 (elim (more.0 h.0) [ inl k ↦ inl ((so_far c).1 (k, h.1)) | inr k ↦ inr (k.0, k.1, h.1) ]),
     )
 
-pub parts_all : (zones : List Labelled) (i label : ℕ) (bounds : Rect) (parts : List Rect) → length zones ≤ i → ArePartsIn (take i zones) label bounds parts → ArePartsIn zones label bounds parts
+pub parts_all : (zones : List Labelled) (i label : ℕ) (bounds : Rect) (parts : List Rect) → length zones ≤ i
+    → ArePartsIn (take i zones) label bounds parts → ArePartsIn zones label bounds parts
 parts_all zones i label bounds parts past h = subst (λ (ys : List Labelled). ArePartsIn ys label bounds parts) (take_all i zones past) h
 
 -- ---- a list of rectangles that stands beside runs
@@ -131,8 +133,8 @@ module _ (c : Cell) (own runs : List Rect) where
   both_with = (λ h. record { in_run = h.1; beside = twice_with.0 h.0 }, λ b. (twice_with.1 b.beside, b.in_run))
 
 -- the tally of the list twice and the runs once, and that of the runs, less that of both together
-pub tally_beside_runs : (window : Rect) (own runs first second either third thrice : List Rect) (m n k : ℕ) → first ≡ own → second ≡ first ++ runs → either ≡ second → third ≡ second ++ own
-    → thrice ≡ third
+pub tally_beside_runs : (window : Rect) (own runs first second either third thrice : List Rect) (m n k : ℕ) → first ≡ own → second ≡ first ++ runs
+    → either ≡ second → third ≡ second ++ own → thrice ≡ third
     → Tally (IsInTwo thrice) (cells_of window) m → Tally (IsInUnion runs) (cells_of window) n → Tally (IsInUnion either) (cells_of window) k
     → (k ≤ m + n) × Tally (IsBesideRun own runs) (cells_of window) (m + n - k) × (m + n - k < 2 ^ 63)
 tally_beside_runs window own runs first second either third thrice m n k is_own is_second is_either is_third is_thrice s t u =
