@@ -17,6 +17,8 @@ mod island_rows;
 #[cfg(test)]
 mod large_lists;
 #[cfg(test)]
+mod led_areas;
+#[cfg(test)]
 mod link_rows;
 #[cfg(test)]
 mod many_squares;

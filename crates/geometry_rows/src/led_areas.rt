@@ -1,0 +1,190 @@
+//! Areas of shorts where one label has most of the zones: bars that cross, with squares of other labels beside them.
+
+use super::sides::{Sides, rect_of};
+use geo_core::{Labelled, Rect};
+use short_area::short_area;
+use std::alloc::Global;
+
+/// Adds the piece with these sides.
+fn add(pieces: &mut Vec<Labelled>, label: usize, sides: Sides) -> Option<()> {
+    let rect = rect_of(&sides)?;
+    pieces.push(Labelled { rect, label }).ok()
+}
+
+/// From each bar of a mesh to the next.
+const PITCH: i32 = 20;
+
+/// No mesh has more bars in a direction.
+const MOST_BARS: usize = 80_000;
+
+/// A mesh of bars of one column and of one row, with cells of other labels in some of its holes.
+#[derive(Clone, Copy)]
+struct Mesh {
+    /// How many bars in each direction.
+    bars: usize,
+    /// How many holes with cells in each direction.
+    holes: usize,
+    /// From each of these holes to the next.
+    apart: usize,
+}
+
+/// The side of the square that the bars cross.
+fn side_of(mesh: Mesh) -> i32 {
+    PITCH * mesh.bars.min(MOST_BARS) as i32
+}
+
+/// Adds the bars, with the label 0.
+fn add_bars(pieces: &mut Vec<Labelled>, mesh: Mesh) -> Option<()> {
+    let side = side_of(mesh);
+    for bar in 0..mesh.bars {
+        let at = PITCH * (bar % MOST_BARS) as i32;
+        add(pieces, 0, (at, 0, at + 1, side))?;
+        add(pieces, 0, (0, at, side, at + 1))?;
+    }
+    Some(())
+}
+
+/// The cell that lies so far to the right of one bar, and so far above another.
+fn cell(column: usize, row: usize, right: u8, up: u8) -> Sides {
+    let x = PITCH * (column % MOST_BARS) as i32 + i32::from(right);
+    let y = PITCH * (row % MOST_BARS) as i32 + i32::from(up);
+    (x, y, x + 1, y + 1)
+}
+
+/// Adds three cells in the hole, of which the first two have one label.
+fn add_cells(pieces: &mut Vec<Labelled>, label: usize, column: usize, row: usize) -> Option<()> {
+    add(pieces, label, cell(column, row, 3, 3))?;
+    add(pieces, label, cell(column, row, 8, 10))?;
+    add(pieces, label.saturating_add(1), cell(column, row, 12, 10))
+}
+
+/// Adds the cells in the holes, with labels from 1 on.
+fn add_holes(pieces: &mut Vec<Labelled>, mesh: Mesh) -> Option<()> {
+    let holes = mesh.holes.max(1);
+    for hole in 0..holes.saturating_mul(holes) {
+        let column = mesh.apart.saturating_mul(hole % holes);
+        let row = mesh.apart.saturating_mul(hole / holes);
+        let label = hole.saturating_mul(2).saturating_add(1);
+        add_cells(pieces, label, column, row)?;
+    }
+    Some(())
+}
+
+/// The area of the mesh for the radius 3.
+fn area_of_mesh(alloc: Global, mesh: Mesh) -> Option<u64> {
+    let mut pieces = Vec::new(alloc);
+    add_bars(&mut pieces, mesh)?;
+    add_holes(&mut pieces, mesh)?;
+    let side = side_of(mesh);
+    let window = rect_of(&(0, 0, side, side))?;
+    short_area(alloc, pieces.as_slice(), window, 3).ok()
+}
+
+/// In a hole, counted from the left end of the bar to its left and from the lower end of the bar below: grown by 3, the bars
+/// have what lies before 4 and from 17 on, along either axis. The first cell becomes the square from 0 to before 7, of which all
+/// but 3 by 3 cells lie on bars. The second becomes the columns from 5 to before 12, and the third those from 9 to before 16, both
+/// in the rows from 7 to before 14: they share 3 by 7 cells with one another, and none with bars or with the first.
+const IN_A_HOLE: u64 = 40 + 21;
+
+/// 300 bars and 75 cells in 25 holes. The last 29 bars in each direction lie beyond all that is near these cells.
+#[test]
+fn a_small_mesh_with_cells_has_its_area(rt: HostRuntime) {
+    let mesh = Mesh {
+        bars: 150,
+        holes: 5,
+        apart: 30,
+    };
+    assert!(rt; area_of_mesh(rt.alloc(), mesh) == Some(25 * IN_A_HOLE));
+}
+
+/// 160,000 bars and 30,000 cells in 10,000 holes. Each half of such a mesh has most of its bars again.
+#[test]
+fn a_large_mesh_with_cells_has_its_area(rt: HostRuntime) {
+    let mesh = Mesh {
+        bars: 80_000,
+        holes: 100,
+        apart: 800,
+    };
+    assert!(rt; area_of_mesh(rt.alloc(), mesh) == Some(10_000 * IN_A_HOLE));
+}
+
+/// Where bars lie of which many are equal.
+const BARS_AT: [i32; 3] = [5, 30, 52];
+
+/// 220 bars with the label 5 on three columns and three rows, and 70 cells of nine other labels.
+fn crowd(alloc: Global) -> Option<Vec<Labelled>> {
+    let mut pieces = Vec::new(alloc);
+    for bar in 0..110_usize {
+        let at = BARS_AT[bar % 3];
+        let low = (bar % 9) as i32;
+        let high = 60 - (bar % 7) as i32;
+        add(&mut pieces, 5, (low, at, high, at + 1))?;
+        add(&mut pieces, 5, (at, low, at + 1, high))?;
+    }
+    for number in 0..70_usize {
+        let label = number % 9;
+        let x = (13 * number % 48) as i32;
+        let y = ((29 * number + 7) % 48) as i32;
+        let label = if label < 5 { label } else { label + 1 };
+        add(&mut pieces, label, (x, y, x + 1, y + 1))?;
+    }
+    Some(pieces)
+}
+
+/// Whether the cell of this column and row is at most the radius from the rectangle, in both directions.
+fn is_near(rect: Rect, i: i32, j: i32, radius: u8) -> bool {
+    let (i, j, radius) = (i64::from(i), i64::from(j), i64::from(radius));
+    i64::from(rect.x0) - radius <= i
+        && i < i64::from(rect.x1) + radius
+        && i64::from(rect.y0) - radius <= j
+        && j < i64::from(rect.y1) + radius
+}
+
+/// Whether pieces of two labels are near the cell.
+fn is_near_two(pieces: &[Labelled], i: i32, j: i32, radius: u8) -> bool {
+    let mut found = None;
+    for piece in pieces {
+        if is_near(piece.rect, i, j, radius) {
+            if *found.get_or_insert(piece.label) != piece.label {
+                return true;
+            }
+        }
+    }
+    false
+}
+
+/// How many cells from 0 to before 60 in either direction are near two labels, one by one.
+fn counted(pieces: &[Labelled], radius: u8) -> u64 {
+    let mut count: u64 = 0;
+    for j in 0..60 {
+        for i in 0..60 {
+            if is_near_two(pieces, i, j, radius) {
+                count = count.saturating_add(1);
+            }
+        }
+    }
+    count
+}
+
+/// Whether the area of the crowd is the one that is counted, for this radius.
+fn agrees(alloc: Global, radius: u8) -> bool {
+    let radius = radius.clamp(1, 5);
+    let Some(pieces) = crowd(alloc) else {
+        return false;
+    };
+    let area = short_area(
+        alloc,
+        pieces.as_slice(),
+        Rect::new(0, 0, 60, 60),
+        u32::from(radius),
+    );
+    area == Ok(counted(pieces.as_slice(), radius))
+}
+
+/// For the radius 1 the last bars in each direction have no cell in common with what is near the cells of other labels.
+#[test]
+fn a_crowd_has_the_area_that_is_counted(rt: HostRuntime) {
+    for radius in 1..6 {
+        assert!(rt; agrees(rt.alloc(), radius), "radius {radius}");
+    }
+}
