@@ -30,3 +30,4 @@ pub mod ExpansionLaws
 pub mod GrowthLaws
 pub mod ShapeLaws
 pub mod PlacedLaws
+pub mod HopLaws

@@ -26,7 +26,7 @@ use Rattle.flatten.proofs.PlanLaws.{nodes_long}
 use Rattle.flatten.proofs.PruningLaws.{pruned_below, pruned_routes}
 
 -- routes behind no steps
-behind_none : (routes : List Route) → map (behind_steps []) routes ≡ routes
+pub behind_none : (routes : List Route) → map (behind_steps []) routes ≡ routes
 behind_none [] = refl
 behind_none (route ∷ routes) = ap (λ rs. route ∷ rs) (behind_none routes)
 

@@ -32,7 +32,7 @@ use Rattle.lists.proofs.Containing.{Contains-cons_cases, Contains-head, Contains
 use Rattle.lists.proofs.Mapping.{flat_map-same}
 
 -- lists of which one item is set
-slice_get-set_other : {X : Type 0} (xs : List X) (i : ℕ) (x : X) (k : ℕ) → k ≢ i → slice_get (set xs i x) k ≡ slice_get xs k
+pub slice_get-set_other : {X : Type 0} (xs : List X) (i : ℕ) (x : X) (k : ℕ) → k ≢ i → slice_get (set xs i x) k ≡ slice_get xs k
 slice_get-set_other xs i x k apart = grind (arith, gets, get_or-set_other, length-set)
 
 -- the parts of one structure are set: those, and the others as they were

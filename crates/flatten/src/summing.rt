@@ -9,7 +9,7 @@ use super::summary::{State, Summary};
 use library_model::Reference;
 
 /// How many copies a reference makes: one, unless it is an array.
-fn copies(reference: &Reference) -> u64
+pub fn copies(reference: &Reference) -> u64
     ensures value { result ≡ copies_of reference.now }
     ensures few { result < 2 ^ 30 }
 {
