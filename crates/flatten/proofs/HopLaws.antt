@@ -149,7 +149,10 @@ module _ (nodes : Nodes) (hops : List (Option Hop)) where
     long = omega (arith, length-append hops (next ∷ []), so_far.long);
     each = λ one hop at. elim (item_of_more hops next one (Some hop) at) [
       | inl before ↦ so_far.each one hop before
-      | inr (last, same) ↦ let here : one ≡ count = last ∙ so_far.long in rw here (subst (λ o. IfSome o (LeadsFrom parts)) same leads nodes count (rw read (below count)) (sym read))
+      | inr (last, same) ↦
+          let here : one ≡ count = last ∙ so_far.long in
+          let of_parts = subst (λ o. IfSome o (LeadsFrom parts)) same leads in
+          rw here (of_parts nodes count (rw read (below count)) (sym read))
     ];
   }
 

@@ -50,6 +50,8 @@ returns-clause-reach c steps more reach inner_reach =
     let is = turned_is c.args.self.turn inner shift c.requires.inner_reach c.turn_point-across.ensures in
     let far = turned_within c.args.self.turn inner.dx inner.dy shift (256 * 2 ^ 49) is c.requires.inner_reach.across c.requires.inner_reach.up in
     let near = turned_within c.args.self.turn inner.dx inner.dy shift (more * 2 ^ 49) is inner_reach.across inner_reach.up in
-    let across : nat_abs (to_z w64 (of_z w64 c.both_shifts.result)) ≤ (steps + more) * 2 ^ 49 = omega (arith, ints, c.both_shifts.ensures.amount, far.across, near.across, c.requires.reach.across, reach.across) in
-    let up : nat_abs (to_z w64 (of_z w64 c.both_shifts-2.result)) ≤ (steps + more) * 2 ^ 49 = omega (arith, ints, c.both_shifts-2.ensures.amount, far.up, near.up, c.requires.reach.up, reach.up) in
+    let across : nat_abs (to_z w64 (of_z w64 c.both_shifts.result)) ≤ (steps + more) * 2 ^ 49
+    = omega (arith, ints, c.both_shifts.ensures.amount, far.across, near.across, c.requires.reach.across, reach.across) in
+    let up : nat_abs (to_z w64 (of_z w64 c.both_shifts-2.result)) ≤ (steps + more) * 2 ^ 49
+    = omega (arith, ints, c.both_shifts-2.ensures.amount, far.up, near.up, c.requires.reach.up, reach.up) in
     record { across = across; up = up }
