@@ -2,6 +2,7 @@
 
 use super::rows::{A, B, CELL, MANY_OF_B, MAPPED, MILLION, TOP, UNMAPPED};
 use super::stream::{Name, Outcome, Part, begun, comes_to, push_structure};
+use flatten::PlaceFault;
 use std::alloc::{AllocError, Global};
 
 /// One copy of a structure.
@@ -63,6 +64,44 @@ fn references_to(alloc: Global, count: u16) -> Result<Vec<Part<'static>>, AllocE
         parts.push(one_of(numbered(number)))?;
     }
     Ok(parts)
+}
+
+/// A library of a million copies of a structure from which so many references lead on one by one, to a square.
+fn with_chain(alloc: Global, count: u16) -> Result<Vec<u8>, AllocError> {
+    let million = Part::Copies {
+        target: numbered(0),
+        angle: [0; 8],
+        columns: 1000,
+        rows: 1000,
+        points: [(0, 0), (10_000, 0), (0, 10_000)],
+    };
+    let mut bytes = begun(alloc)?;
+    push_structure(&mut bytes, TOP, &[million])?;
+    for number in 0..count {
+        push_structure(
+            &mut bytes,
+            numbered(number),
+            &[one_of(numbered(number + 1))],
+        )?;
+    }
+    push_structure(&mut bytes, numbered(count), &[MAPPED])?;
+    Ok(bytes)
+}
+
+/// How many references follow that to the million copies, and what the library comes to. The top begins at 60.
+const CHAINS: &[(u16, Outcome)] = &[
+    (255, Outcome::Count(1_000_000)),
+    (256, Outcome::Fault(PlaceFault::TooDeep { at: 60 })),
+];
+
+/// As many references in a row as there may be, below a million copies, and one more. Where each copy followed them one by
+/// one, these would be 256 million steps.
+#[test]
+fn references_in_a_row_are_followed_once(rt: HostRuntime) {
+    for (count, wanted) in CHAINS {
+        let made = with_chain(rt.alloc(), *count);
+        assert!(rt; comes_to(rt.alloc(), made, None, *wanted));
+    }
 }
 
 /// A library of this top and of so many structures, which have a square each.

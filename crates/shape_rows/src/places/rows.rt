@@ -57,8 +57,38 @@ const TURNED_90: Part<'static> = Part::Copies {
     points: [(0, 0), (0, 30), (-20, 0)],
 };
 
+/// A column of two copies, 50 apart.
+const TWO_OF_A: Part<'static> = Part::Copies {
+    target: A,
+    angle: [0; 8],
+    columns: 1,
+    rows: 2,
+    points: [(0, 0), (10, 0), (0, 100)],
+};
+
+/// One copy, turned by a quarter and then shifted by (3, 1).
+const TURNED_B: Part<'static> = Part::Copies {
+    target: B,
+    angle: ANGLE_90,
+    columns: 1,
+    rows: 1,
+    points: [(3, 1), (3, 11), (-7, 1)],
+};
+
+/// One copy, shifted by (10, 0).
+const SHIFTED_CELL: Part<'static> = Part::Copies {
+    target: CELL,
+    angle: [0; 8],
+    columns: 1,
+    rows: 1,
+    points: [(10, 0), (20, 0), (10, 10)],
+};
+
 /// Where its copies lie, row by row.
 const PLACES: &[(i64, i64)] = &[(0, 0), (0, 10), (0, 20), (-10, 0), (-10, 10), (-10, 20)];
+
+/// Where the copies of A lie: the shift by (10, 0) comes first, and the quarter turns it to (0, 10).
+const TURNED_LAST: &[(i64, i64)] = &[(3, 11), (3, 61)];
 
 /// Too much is placed. The top begins at 60.
 pub const TOO_MANY: Outcome = Outcome::Fault(PlaceFault::TooManyShapes { at: 60 });
@@ -84,6 +114,43 @@ const ROWS: &[Row] = &[
     (
         &[(TOP, &[TURNED_90]), (CELL, &[MAPPED])],
         Outcome::Quarters(PLACES),
+    ),
+    // two references that stand alone, one after the other, and a shape beside the first, or beside the second
+    (
+        &[
+            (TOP, &[TWO_OF_A]),
+            (A, &[TURNED_B]),
+            (B, &[SHIFTED_CELL]),
+            (CELL, &[MAPPED]),
+        ],
+        Outcome::Quarters(TURNED_LAST),
+    ),
+    (
+        &[
+            (TOP, &[TWO_OF_A]),
+            (A, &[TURNED_B, MAPPED]),
+            (B, &[SHIFTED_CELL]),
+            (CELL, &[MAPPED]),
+        ],
+        Outcome::Count(4),
+    ),
+    (
+        &[
+            (TOP, &[TWO_OF_A]),
+            (A, &[TURNED_B]),
+            (B, &[MAPPED, SHIFTED_CELL]),
+            (CELL, &[MAPPED]),
+        ],
+        Outcome::Count(4),
+    ),
+    // an array that stands alone makes all of its copies
+    (
+        &[
+            (TOP, &[TWO_OF_A]),
+            (A, &[copies!(CELL, 3)]),
+            (CELL, &[MAPPED]),
+        ],
+        Outcome::Count(18),
     ),
     // a million shapes are placed, which are a thousand times a thousand squares, and one more is too many
     (
