@@ -1,7 +1,8 @@
 //! Where the structures of a graph lead without a choice.
 
-ghost use Rattle.std.specs.Prelude.{ℕ, [], ◌∷◌, ◌<◌, IfOk, IfSome, length};
+ghost use Rattle.std.specs.Prelude.{ℕ, [], ◌∷◌, ◌≡◌, ◌<◌, ◌↔◌, IfOk, IfSome, IsTrue, length};
 ghost use Rattle.flatten.specs.inside.FollowedParts.{AreNodesBelow, Nodes};
+ghost use Rattle.flatten.specs.inside.Weights.{copies_of};
 ghost use Rattle.flatten.specs.inside.Hops.{AreHops, IsHop, LeadsFrom};
 
 use super::hop::Hop;
@@ -9,11 +10,19 @@ use super::limits::MOST_STEPS;
 use super::part::Part;
 use super::summing::copies;
 use geo_core::NoMemory;
+use library_model::Reference;
 use std::alloc::Global;
 
 /// How often hops are lengthened. Each time a hop has twice as many references or more, or all as far as they stand alone:
 /// in the end 256, which is as many as a chain from the top may have.
 const DOUBLINGS: u32 = 8;
+
+/// Whether a reference makes one copy.
+fn is_single(reference: &Reference) -> bool
+    ensures { IsTrue result ↔ (copies_of reference.now ≡ 1) }
+{
+    copies(reference) == 1
+}
 
 /// The hop of a structure that has this part alone: along it, if it is a reference that makes one copy.
 fn hop_over(part: &Part<'_>) -> Option<Hop>
@@ -22,7 +31,7 @@ fn hop_over(part: &Part<'_>) -> Option<Hop>
     match part {
         Part::End { .. } => None,
         Part::Copies { reference, target } => {
-            if copies(reference) == 1 {
+            if is_single(reference) {
                 Some(Hop::over(reference, *target))
             } else {
                 None
