@@ -1,4 +1,4 @@
--- a closed outline crosses each row as often upwards as downwards, and what lies between its sides
+-- a closed outline crosses each row as often upwards as downwards, and its turns tell what lies inside
 use Rattle.std.proofs.Common.{ℕ, ◌≡◌, ◌≢◌, sym, ap, ◌∙◌, List, ◌∷◌, arith, ℤ, pos, ◌-ℤ◌, ◌&&◌, ◌↔◌, int_le}
 use Rattle.lists.proofs.Words.{ints}
 use Rattle.geo_core.specs.declared.plane.Cell.{Cell}
@@ -7,34 +7,36 @@ use Rattle.geo_core.specs.declared.plane.Rect.{Rect}
 use Rattle.geo_core.specs.Plane.{IsClosed}
 use Rattle.outlines.specs.Fillings.{IsCover}
 use Rattle.outlines.specs.Outlines.{IsInside, edges_of, goes_up_across, goes_down_across}
-use Rattle.outlines.specs.inside.Sides.{AreSidesOf, IsBalanced, IsBetween, edges_down, edges_up, everywhere, up_to}
-use Rattle.outlines.specs.declared.side.Side.{Side}
+use Rattle.outlines.specs.inside.Turns.{AreBalanced, AreTurnsOf, IsWound, edges_down, edges_up, everywhere, up_to}
+use Rattle.outlines.specs.declared.turn.Turn.{Turn}
 use Rattle.outlines.proofs.WindLaws.{closed_rises, edges_counted, falls, lt_is_not_le, rises}
 
 -- ---- as often up as down
 
-closed_crosses : (points : List Point) (row : ℤ) → IsClosed points → edges_up everywhere row (edges_of points) ≡ edges_down everywhere row (edges_of points)
+pub closed_crosses : (points : List Point) (row : ℤ) → IsClosed points → edges_up everywhere row (edges_of points) ≡ edges_down everywhere row (edges_of points)
 closed_crosses points row closed =
     let c : Cell = record { i = pos 0; j = row } in
     edges_counted c (goes_up_across row) rises (λ p q. ap (λ t. int_le p.y row && t) (lt_is_not_le row q.y)) points
     ∙ closed_rises points (closed.first ∷ closed.between) c closed.parts
     ∙ sym (edges_counted c (goes_down_across row) falls (λ p q. ap (λ t. int_le q.y row && t) (lt_is_not_le row p.y)) points)
 
-pub closed_balanced : (points : List Point) (sides : List Side) → IsClosed points → AreSidesOf (edges_of points) sides → IsBalanced sides
-closed_balanced points sides closed are = record { same = λ row. are.up everywhere row ∙ (closed_crosses points row closed ∙ sym (are.down everywhere row)) }
+pub turns_balanced : (points : List Point) (turns : List Turn) → IsClosed points → AreTurnsOf (edges_of points) turns → AreBalanced turns
+turns_balanced points turns closed are = record {
+  level = λ row. let same = closed_crosses points row closed in let across = are.across everywhere row in omega (arith, same, across);
+  ended = are.ended;
+}
 
--- ---- what lies between the sides lies inside
+-- ---- what is wound round lies inside
 
-differ_by : (a b : ℕ) → (a ≢ b) ↔ (pos a -ℤ pos b ≢ pos 0)
+pub differ_by : (a b : ℕ) → (a ≢ b) ↔ (pos a -ℤ pos b ≢ pos 0)
 differ_by a b = (λ d e. d (omega (arith, ints)), λ d e. d (omega (arith, ints)))
 
-pub filled_is_cover : (points : List Point) (sides : List Side) (rects : List Rect) → AreSidesOf (edges_of points) sides → IsCover (IsBetween sides) rects → IsCover (IsInside points) rects
-filled_is_cover points sides rects are filling = record {
+pub wound_is_inside : (points : List Point) (turns : List Turn) (rects : List Rect) → AreTurnsOf (edges_of points) turns → IsCover (IsWound turns) rects → IsCover (IsInside points) rects
+wound_is_inside points turns rects are cover = record {
   same = λ c.
-      let up = are.up (up_to c.i) c.j in
-      let down = are.down (up_to c.i) c.j in
       let edges = edges_of points in
+      let across = are.across (up_to c.i) c.j in
       let by = differ_by (edges_up (up_to c.i) c.j edges) (edges_down (up_to c.i) c.j edges) in
-      (λ h. by.0 (λ e. (filling.same c).0 h (up ∙ (e ∙ sym down))), λ differ. (filling.same c).1 (λ e. by.1 differ (sym up ∙ (e ∙ down))));
-  within = filling.within;
+      (λ h. by.0 (λ e. (cover.same c).0 h (omega (arith, across, e))), λ differ. (cover.same c).1 (λ e. by.1 differ (omega (arith, across, e))));
+  within = cover.within;
 }

@@ -1,2 +1,5 @@
-pub mod Sides
-pub mod Sweeps
+pub mod Depths
+pub mod Turns
+pub mod Pieces
+pub mod Runs
+pub mod Fronts

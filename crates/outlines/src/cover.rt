@@ -4,8 +4,8 @@ ghost use Rattle.geo_core.specs.Circuits.{IsOutline};
 ghost use Rattle.outlines.specs.Fillings.{IsCover};
 ghost use Rattle.outlines.specs.Outlines.{IsInside};
 
-use super::sides::sides_of;
-use super::sweep::fill;
+use super::sweep::fill_turns;
+use super::turns::turns_of;
 use geo_core::{Point, Rect};
 use std::alloc::{AllocError, Global};
 
@@ -16,6 +16,6 @@ pub fn cover_outline(alloc: Global, points: &[Point]) -> Result<Vec<Rect>, Alloc
     requires in_range { All IsInRange points.now }
     ensures { IfOk result (λ rects. IsCover (IsInside points.now) rects.items) }
 {
-    let sides = sides_of(alloc, points)?;
-    fill(alloc, sides)
+    let turns = turns_of(alloc, points)?;
+    fill_turns(alloc, turns)
 }

@@ -2,14 +2,16 @@
 #![tactic(auto)]
 
 pub mod cover;
-mod crossing;
 pub mod edges;
-mod growth;
+mod filling;
+mod front;
 pub mod laws;
-mod runs;
-mod side;
-mod sides;
+mod piece;
+mod pieces;
+mod run;
 mod sweep;
+mod turn;
+mod turns;
 
 pub use cover::cover_outline;
 pub use edges::are_along_axes;

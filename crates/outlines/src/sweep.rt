@@ -1,44 +1,46 @@
-ghost use Rattle.std.specs.Prelude.{IfOk};
+ghost use Rattle.std.specs.Prelude.{pos, negsuc, cond, length, IfOk, ◌≡◌, ◌<◌, ◌^◌};
 ghost use Rattle.outlines.specs.Fillings.{IsCover};
-ghost use Rattle.outlines.specs.inside.Sides.{AreByLow, IsBalanced, IsBetween};
+ghost use Rattle.outlines.specs.inside.Turns.{AreBalanced, AreByRow, IsWound};
 
-use super::crossing::{cross, next_end};
-use super::growth::Growth;
-use super::runs::runs_between;
-use super::side::Side;
-use geo_core::{FARTHEST, Interval, Rect};
+use super::front::Front;
+use super::turn::Turn;
+use geo_core::{FARTHEST, Rect};
 use std::alloc::{AllocError, Global};
 
-/// Rectangles of the cells inside: of those that have more sides on their left going the one way than the other.
-pub fn fill(alloc: Global, mut sides: Vec<Side>) -> Result<Vec<Rect>, AllocError>
-    requires { IsBalanced sides.items }
-    ensures { IfOk result (λ rects. IsCover (IsBetween sides.items) rects.items) }
+/// Rectangles of the cells that are wound round: of those that have not as many turns that rise as turns that do not
+/// below and to the left of them.
+pub fn fill_turns(alloc: Global, mut turns: Vec<Turn>) -> Result<Vec<Rect>, AllocError>
+    requires { AreBalanced turns.items }
+    ensures { IfOk result (λ rects. IsCover (IsWound turns.items) rects.items) }
 {
-    sides.sort_unstable_by_key(|side| side.low);
-    sweep(alloc, sides.as_slice())
+    turns.sort_unstable_by_key(|turn| (turn.row, turn.column));
+    sweep_up(alloc, turns.as_slice())
 }
 
-/// The same for sides in the order of their lower ends. A sweep goes up from row to row at which a side begins or ends,
-/// and fills the runs of columns between.
-fn sweep(alloc: Global, sides: &[Side]) -> Result<Vec<Rect>, AllocError>
-    requires by_low { AreByLow sides.now }
-    requires balanced { IsBalanced sides.now }
-    ensures { IfOk result (λ rects. IsCover (IsBetween sides.now) rects.items) }
+/// The same for turns row by row, and each row from left to right. What changes between two turns of a row is changed,
+/// and nothing else is touched.
+fn sweep_up(alloc: Global, turns: &[Turn]) -> Result<Vec<Rect>, AllocError>
+    requires few { length turns.now < 2 ^ 63 }
+    requires by_row { AreByRow turns.now }
+    requires balanced { AreBalanced turns.now }
+    ensures { IfOk result (λ rects. IsCover (IsWound turns.now) rects.items) }
 {
-    let mut crossing = Vec::new(alloc);
-    let mut growth = Growth::new(alloc);
+    let mut front = Front::new(alloc);
     let mut row = -FARTHEST;
-    let mut later = cross(&mut crossing, sides, row)?;
-    while row < FARTHEST {
-        let next = next_end(crossing.as_slice(), later);
-        let runs = runs_between(alloc, crossing.as_slice())?;
-        let rows = Interval {
-            low: row,
-            high: next,
-        };
-        growth.add_band(alloc, runs.as_slice(), rows)?;
-        later = cross(&mut crossing, later, next)?;
-        row = next;
+    let mut column = -FARTHEST;
+    let mut by: i64 = 0;
+    for turn in turns {
+        front.turn(column, turn.column, by, row)?;
+        by += amount(*turn);
+        row = turn.row;
+        column = turn.column;
     }
-    growth.finish()
+    Ok(front.finish())
+}
+
+/// How much more the outline winds from the turn on.
+fn amount(turn: Turn) -> i64
+    ensures { result ≡ cond turn.rises (pos 1) (negsuc 0) }
+{
+    if turn.rises { 1 } else { -1 }
 }

@@ -1,7 +1,0 @@
-use Rattle.lists.proofs.Words.{iter_rest, zip_first, zip_second}
-use Rattle.outlines.specs.Outlines.{edges_of}
-use Rattle.outlines.proofs.SideLaws.{AreSidesBut}
-use Rattle.outlines.proofs.sides.sides_of.Given as goal
-
-abbrev pub invariant-loop-from : goal.invariant-loop-from
-invariant-loop-from l = AreSidesBut (iter_rest (zip_first l.from-iterator)) (iter_rest (zip_second l.from-iterator)) (edges_of l.points) l.sides.items
