@@ -1,8 +1,8 @@
 -- runs that begin and end, and what is filled below a row
-use Rattle.std.proofs.Common.{ℕ, zero, suc, ◌+◌, ◌<◌, ◌≤◌, ◌≡◌, ◌≢◌, ◌⊎◌, inl, inr, refl, sym, ap, subst, ◌∙◌, List, [], ◌∷◌, ◌++◌, length, get_or, arith, Bool, true, false, cond, ℤ, neg_ℤ, ◌≤ℤ◌, ◌<ℤ◌, ◌&&◌, int_le, int_lt, All, AllPairs, count_by}
+use Rattle.std.proofs.Common.{ℕ, zero, suc, ◌+◌, ◌<◌, ◌≤◌, ◌≡◌, ◌≢◌, ◌⊎◌, inl, inr, refl, sym, ap, subst, ◌∙◌, List, [], ◌∷◌, ◌++◌, append_assoc, reverse, length, get_or, arith, Bool, true, false, cond, ℤ, pos, neg_ℤ, ◌+ℤ◌, ◌≤ℤ◌, ◌<ℤ◌, ◌&&◌, int_le, int_lt, All, AllPairs, count_by}
 use Rattle.lists.proofs.Words.{and_parts, and_right, ints, by_lt_z, cases_lt, All-push, All-get_or, get_or_default, sum_by_push}
 use Rattle.std.specs.List.{AllWithin, insert, remove}
-use Rattle.std.specs.List.Sorted.{IsPartitionedBy, IsPartitionPoint}
+use Rattle.std.proofs.lemmas.List.{get_or_at, get_or_append_left, length-append, length-reverse, reverse-append}
 use Rattle.std.proofs.lemmas.List.Edits.{length-insert, length-remove}
 use Rattle.std.proofs.lemmas.List.Sums.{get_or-le-sum_by, sum_by-insert, sum_by-remove}
 use Rattle.geo_core.specs.Plane.{IsInLayout, IsInterval}
@@ -10,7 +10,7 @@ use Rattle.geo_core.specs.declared.bounds.TheConstants.{FARTHEST}
 use Rattle.geo_core.specs.declared.plane.Cell.{Cell}
 use Rattle.geo_core.specs.declared.plane.Rect.{Rect}
 use Rattle.outlines.specs.inside.Depths.{depth_at, has_cell, lies_in}
-use Rattle.outlines.specs.inside.Runs.{AddsRun, DropsRun, EndsLeft, EndsRight, Finishes, HasRoom, IsFree, IsGrowingTo, IsTaken, KeepsBelow, PutsRun, TakesRun, filled_at, has_below, runs_at, runs_of}
+use Rattle.outlines.specs.inside.Runs.{AddsRun, DropsRun, EndsLeft, EndsRight, Finishes, HasRoom, IsFree, IsGrowingTo, IsParted, IsTaken, KeepsBelow, MovesRuns, PutsRun, TakesRun, filled_at, has_below, runs_at, runs_of}
 use Rattle.outlines.specs.declared.filling.Filling.{Filling}
 use Rattle.outlines.specs.declared.run.Run.{Run}
 use Rattle.outlines.proofs.CountLaws.{le_false, le_true, lt_false, lt_true, some_passes}
@@ -45,6 +45,40 @@ nothing_above c row run h = none_of (lies_in run.low run.high c.i) (lies_in run.
 
 nothing_yet : (c : Cell) (row : ℤ) (run : Run) → row ≤ℤ run.from → one (has_below c row run) ≡ 0
 nothing_yet c row run h = none_of (lies_in run.low run.high c.i) (lies_in run.from row c.j) (lies_in_none run.from row c.j h)
+
+-- ---- runs on the left and on the right
+
+module _ {X : Type 0} where
+  turned_round : (right : List X) (x : X) → reverse (right ++ x ∷ []) ≡ x ∷ reverse right
+  turned_round right x = reverse-append right (x ∷ [])
+
+  removed_there : (left : List X) (x : X) (rest : List X) → remove (left ++ x ∷ rest) (length left) ≡ left ++ rest
+  removed_there [] x rest = refl
+  removed_there (l ∷ left) x rest = ap (λ z. l ∷ z) (removed_there left x rest)
+
+  inserted_there : (left : List X) (y : X) (rest : List X) → insert (left ++ rest) (length left) y ≡ left ++ y ∷ rest
+  inserted_there [] y rest = refl
+  inserted_there (l ∷ left) y rest = ap (λ z. l ∷ z) (inserted_there left y rest)
+
+  -- the last one on the right is the first of them
+  pub first_right : (left right rest : List X) (x d : X) → right ≡ rest ++ x ∷ [] → get_or (left ++ reverse right) (length left) d ≡ x
+  first_right left right rest x d e = ap (λ r. get_or (left ++ r) (length left) d) (ap reverse e ∙ turned_round rest x) ∙ get_or_at left x (reverse rest) d (length left) refl
+
+  pub taken_right : (left right rest : List X) (x : X) → right ≡ rest ++ x ∷ [] → left ++ reverse rest ≡ remove (left ++ reverse right) (length left)
+  taken_right left right rest x e = sym (ap (λ r. remove (left ++ r) (length left)) (ap reverse e ∙ turned_round rest x) ∙ removed_there left x (reverse rest))
+
+  pub put_on_left : (left right : List X) (x : X) → (left ++ x ∷ []) ++ reverse right ≡ insert (left ++ reverse right) (length left) x
+  put_on_left left right x = append_assoc left (x ∷ []) (reverse right) ∙ sym (inserted_there left x (reverse right))
+
+  pub put_on_right : (left right : List X) (x : X) → left ++ reverse (right ++ x ∷ []) ≡ insert (left ++ reverse right) (length left) x
+  put_on_right left right x = ap (λ r. left ++ r) (turned_round right x) ∙ sym (inserted_there left x (reverse right))
+
+  -- an item goes from the one side to the other
+  pub moved_right : (left rest right : List X) (x : X) → left ≡ rest ++ x ∷ [] → rest ++ reverse (right ++ x ∷ []) ≡ left ++ reverse right
+  moved_right left rest right x e = ap (λ r. rest ++ r) (turned_round right x) ∙ sym (append_assoc rest (x ∷ []) (reverse right)) ∙ ap (λ l. l ++ reverse right) (sym e)
+
+  pub moved_left : (left right rest : List X) (x : X) → right ≡ rest ++ x ∷ [] → (left ++ x ∷ []) ++ reverse rest ≡ left ++ reverse right
+  moved_left left right rest x e = append_assoc left (x ∷ []) (reverse rest) ∙ ap (λ r. left ++ r) (sym (ap reverse e ∙ turned_round rest x))
 
 -- ---- a run becomes a rectangle
 
@@ -110,6 +144,29 @@ module _ (number : ℕ) (run : Run) (row : ℤ) (before after : Filling) (takes 
       rw (takes.rest) (above_removed (runs_of before) number takes.number_within (λ r. run.high <ℤ r.low)
       (pairs_behind (λ a b. a.high <ℤ b.low) (runs_of before) number run takes.number_within (takes.item run) growing.apart))
 
+-- the first run on the right is taken
+pub taken_from : (run : Run) (row : ℤ) (before after : Filling) → before.right.items ≡ after.right.items ++ run ∷ [] → after.left.items ≡ before.left.items
+    → Finishes run row before.done.items after.done.items → TakesRun (length before.left.items) run row before after
+taken_from run row before after e same done =
+    let all = length-append before.left.items (reverse before.right.items) in
+    let turned = length-reverse before.right.items in
+    let longer = ap length e ∙ length-append after.right.items (run ∷ []) in
+    record {
+      number_within = omega arith;
+      item = λ d. first_right before.left.items before.right.items after.right.items run d e;
+      rest = ap (λ l. l ++ reverse after.right.items) same ∙ taken_right before.left.items before.right.items after.right.items run e;
+      done = done;
+    }
+
+pub none_right_of : (filling : Filling) → filling.right.items ≡ [] → length filling.left.items < length (runs_of filling) → ⊥
+none_right_of filling e less = let all = length-append filling.left.items (reverse filling.right.items) in let turned = length-reverse filling.right.items in let none = ap length e in omega arith
+
+pub left_within : (filling : Filling) → length filling.left.items ≤ length (runs_of filling)
+left_within filling = let all = length-append filling.left.items (reverse filling.right.items) in omega arith
+
+pub some_right_of : (filling : Filling) → length filling.left.items < length (runs_of filling) → 0 < length filling.right.items
+some_right_of filling less = let all = length-append filling.left.items (reverse filling.right.items) in let turned = length-reverse filling.right.items in omega arith
+
 -- what holds of each from a number on, told of all
 pub within_weaker : {X : Type 0} (P Q : X → Type 0) → ((x : X) → P x → Q x) → (xs : List X) (low high : ℕ) → AllWithin P xs low high → AllWithin Q xs low high
 within_weaker P Q tells xs low high h k d from before = tells (get_or xs k d) (h k d from before)
@@ -129,8 +186,20 @@ left_ended number column run row before after growing takes meets = record {
   most = let some = run.columns.some in omega (arith, ints);
 }
 
-same_kept : (row : ℤ) (filling : Filling) → IsGrowingTo row filling → KeepsBelow row filling filling
-same_kept row filling growing = record { cells = λ c. refl; growing = growing }
+-- the same runs, in their places or in others
+moved_kept : (row : ℤ) (before after : Filling) → MovesRuns before after → IsGrowingTo row before → KeepsBelow row before after
+moved_kept row before after moves growing = record {
+  cells = λ c. let done = ap (depth_at c) moves.done in let runs = ap (count_by (has_below c row)) moves.runs in omega (arith, done, runs);
+  growing = record {
+    apart = rw moves.runs growing.apart;
+    begun = rw moves.runs growing.begun;
+    below = rw moves.done growing.below;
+    within = rw moves.done growing.within;
+  };
+}
+
+pub not_moved : (filling : Filling) → MovesRuns filling filling
+not_moved filling = record { runs = refl; done = refl }
 
 none_there : (n : ℕ) (column i : ℤ) → n ≡ n + one (lies_in column column i)
 none_there n column i = let none : one (lies_in column column i) ≡ 0 = rw (lies_in_none column column i (omega (arith, ints))) refl in omega (arith, none)
@@ -152,14 +221,14 @@ passes_column runs number column apart other h k d from small =
           by_lt_z column (get_or runs k d).high (λ l. l) (λ l. absurd (differ (omega (arith, ints))))
     ]
 
-pub left_passed : (number : ℕ) (column row : ℤ) (filling : Filling) → IsGrowingTo row filling → ((d : Run) → number < length (runs_of filling) → (get_or (runs_of filling) number d).high ≢ column)
-    → EndsLeft number column column row filling filling
-left_passed number column row filling growing other = record {
-  columns = λ i. none_there (runs_at i (runs_of filling)) column i;
-  kept = same_kept row filling growing;
-  bound = λ h. h;
-  left = λ h. h;
-  right = passes_column (runs_of filling) number column growing.apart other;
+pub left_passed : (number : ℕ) (column row : ℤ) (before after : Filling) → MovesRuns before after → IsGrowingTo row before
+    → ((d : Run) → number < length (runs_of before) → (get_or (runs_of before) number d).high ≢ column) → EndsLeft number column column row before after
+left_passed number column row before after moves growing other = record {
+  columns = λ i. none_there (runs_at i (runs_of before)) column i ∙ ap (λ rs. runs_at i rs + one (lies_in column column i)) (sym moves.runs);
+  kept = moved_kept row before after moves growing;
+  bound = λ h. rw moves.runs h;
+  left = λ h. rw moves.runs h;
+  right = λ h. rw moves.runs (passes_column (runs_of before) number column growing.apart other h);
   least = λ h. h;
   most = omega (arith, ints);
 }
@@ -193,14 +262,14 @@ begins_past runs number column apart other h k d from small =
           by_lt_z column (get_or runs k d).low (λ l. l) (λ l. absurd (differ (omega (arith, ints))))
     ]
 
-pub right_passed : (number : ℕ) (column row : ℤ) (filling : Filling) → IsGrowingTo row filling → ((d : Run) → number < length (runs_of filling) → (get_or (runs_of filling) number d).low ≢ column)
-    → EndsRight number column column row filling filling
-right_passed number column row filling growing other = record {
-  columns = λ i. none_there (runs_at i (runs_of filling)) column i;
-  kept = same_kept row filling growing;
-  bound = λ h. h;
-  left = λ x h. h;
-  right = begins_past (runs_of filling) number column growing.apart other;
+pub right_passed : (number : ℕ) (column row : ℤ) (before after : Filling) → MovesRuns before after → IsGrowingTo row before
+    → ((d : Run) → number < length (runs_of before) → (get_or (runs_of before) number d).low ≢ column) → EndsRight number column column row before after
+right_passed number column row before after moves growing other = record {
+  columns = λ i. none_there (runs_at i (runs_of before)) column i ∙ ap (λ rs. runs_at i rs + one (lies_in column column i)) (sym moves.runs);
+  kept = moved_kept row before after moves growing;
+  bound = λ h. rw moves.runs h;
+  left = λ x h. rw moves.runs h;
+  right = λ h. rw moves.runs (begins_past (runs_of before) number column growing.apart other h);
   least = omega (arith, ints);
   most = λ h. h;
 }
@@ -235,32 +304,42 @@ run_put number low high row run before after a b f has some growing done put = r
 pub none_put : (number : ℕ) (low high row : ℤ) (filling : Filling) → high ≤ℤ low → IsGrowingTo row filling → PutsRun number low high row filling filling
 none_put number low high row filling none growing = record {
   columns = λ i. let e : one (lies_in low high i) ≡ 0 = rw (lies_in_none low high i none) refl in omega (arith, e);
-  kept = same_kept row filling growing;
+  kept = moved_kept row filling filling (not_moved filling) growing;
   room = λ x y less h. h;
 }
 
+-- ---- which runs stand on the left
+
+-- all on the left end before a column where the last of them does
+pub all_ended : (left rest behind : List Run) (run : Run) (column : ℤ) → left ≡ rest ++ run ∷ [] → AllPairs (λ a b. a.high <ℤ b.low) (left ++ behind) → run.high <ℤ column
+    → All (λ r. r.high <ℤ column) (rest ++ run ∷ [])
+all_ended left rest behind run column e apart ends =
+    All-push (λ r. r.high <ℤ column) rest run (λ k d small.
+    let whole : left ++ behind ≡ rest ++ run ∷ behind = ap (λ l. l ++ behind) e ∙ append_assoc rest (run ∷ []) behind in
+    let longer = length-append rest (run ∷ behind) in
+    let pair = subst (AllPairs (λ a b. a.high <ℤ b.low)) whole apart k (length rest) d small (omega arith) in
+    let next = subst (λ (r : Run). (get_or (rest ++ run ∷ behind) k d).high <ℤ r.low) (get_or_at rest run behind d (length rest) refl) pair in
+    let here = subst (λ (r : Run). r.high <ℤ run.low) (get_or_append_left rest (run ∷ behind) d k small) next in
+    let some = run.columns.some in
+    omega (arith, ints)) ends
+
+-- none on the right ends before a column where the first of them does not
+pub parted_at : (column : ℤ) (filling : Filling) → AllPairs (λ a b. a.high <ℤ b.low) (runs_of filling) → All (λ r. r.high <ℤ column) filling.left.items
+    → ((d : Run) → length filling.left.items < length (runs_of filling) → column ≤ℤ (get_or (runs_of filling) (length filling.left.items) d).high) → IsParted column filling
+parted_at column filling apart ended first = record {
+  left = λ k d low small. subst (λ (r : Run). r.high <ℤ column) (sym (get_or_append_left filling.left.items (reverse filling.right.items) d k small)) (ended k d small);
+  right = λ k d from small.
+      let head = first d (omega arith) in
+      elim (cases_lt (length filling.left.items) k) [
+        | inl less ↦
+            let next = apart (length filling.left.items) k d less small in
+            let some = (get_or (runs_of filling) k d).columns.some in
+            omega (arith, ints)
+        | inr same ↦ let e : length filling.left.items ≡ k = omega arith in subst (λ n. column ≤ℤ (get_or (runs_of filling) n d).high) e head
+      ];
+}
+
 -- ---- columns begin to be inside
-
--- what passes a test on ends, from left to right
-pub parted_below : (runs : List Run) (column : ℤ) → AllPairs (λ a b. a.high <ℤ b.low) runs → IsPartitionedBy (λ (r : Run). int_lt r.high column) runs
-parted_below runs column apart i j d before small passes = elim (cases_lt i j) [
-  | inl less ↦
-      let next = apart i j d less small in
-      let some = (get_or runs j d).columns.some in
-      let ends : (get_or runs j d).high <ℤ column = grind (arith, ints) in
-      lt_true (get_or runs i d).high column (omega (arith, ints))
-  | inr same ↦ let e : j ≡ i = omega arith in subst (λ n. int_lt (get_or runs n d).high column ≡ true) e passes
-]
-
-pub parted_by : (runs : List Run) (column : ℤ) → AllPairs (λ a b. a.high <ℤ b.low) runs → IsPartitionedBy (λ (r : Run). int_le r.high column) runs
-parted_by runs column apart i j d before small passes = elim (cases_lt i j) [
-  | inl less ↦
-      let next = apart i j d less small in
-      let some = (get_or runs j d).columns.some in
-      let ends : (get_or runs j d).high ≤ℤ column = grind (arith, ints) in
-      le_true (get_or runs i d).high column (omega (arith, ints))
-  | inr same ↦ let e : j ≡ i = omega arith in subst (λ n. int_le (get_or runs n d).high column ≡ true) e passes
-]
 
 -- a run counts at its columns
 counted_there : (runs : List Run) (k : ℕ) (d : Run) (i : ℤ) → k < length runs → (get_or runs k d).low ≤ℤ i → i <ℤ (get_or runs k d).high → 0 < runs_at i runs
@@ -285,12 +364,12 @@ free_still low high column left row number before after ends free = record { non
 
 module _ (number : ℕ) (low high left right row : ℤ) (f0 f1 f2 f3 : Filling) (some : low <ℤ high) where
   pub room_to_fill : EndsLeft number low left row f0 f1 → EndsRight number high right row f1 f2 → IsFree low high (runs_of f0)
-      → IsPartitionPoint (λ (r : Run). int_lt r.high low ≡ true) (λ r. int_lt r.high low ≡ false) (runs_of f0) number → number ≤ length (runs_of f0) → HasRoom number left right (runs_of f2)
-  room_to_fill on_left on_right free point bound = record {
+      → AllWithin (λ r. r.high <ℤ low) (runs_of f0) 0 number → AllWithin (λ r. low ≤ℤ r.high) (runs_of f0) number (length (runs_of f0)) → number ≤ length (runs_of f0)
+      → HasRoom number left right (runs_of f2)
+  room_to_fill on_left on_right free ends reaches bound = record {
     bound = on_right.bound (on_left.bound bound);
-    left = on_right.left left (on_left.left (within_weaker (λ (r : Run). int_lt r.high low ≡ true) (λ r. r.high <ℤ low) (λ r e. grind (arith, ints)) (runs_of f0) 0 number point.0));
-    right = on_right.right (free_right low high (runs_of f1) number some (free_still low high low left row number f0 f1 on_left free)
-        (on_left.right (within_weaker (λ (r : Run). int_lt r.high low ≡ false) (λ r. low ≤ℤ r.high) (λ r e. grind (arith, ints)) (runs_of f0) number (length (runs_of f0)) point.1)));
+    left = on_right.left left (on_left.left ends);
+    right = on_right.right (free_right low high (runs_of f1) number some (free_still low high low left row number f0 f1 on_left free) (on_left.right reaches));
   }
 
   pub run_added : EndsLeft number low left row f0 f1 → EndsRight number high right row f1 f2 → PutsRun number left right row f2 f3 → AddsRun low high row f0 f3
@@ -367,12 +446,12 @@ module _ (number : ℕ) (low high : ℤ) (runs : List Run) (some : low <ℤ high
                   omega (arith, ints)
             ]
 
-pub holder_at : (number : ℕ) (low high : ℤ) (runs : List Run) → low <ℤ high → IsTaken low high runs → AllPairs (λ a b. a.high <ℤ b.low) runs
-    → IsPartitionPoint (λ (r : Run). int_le r.high low ≡ true) (λ r. int_le r.high low ≡ false) runs number → IsHolder number low high runs
-holder_at number low high runs some taken apart point =
-    holder_found number low high runs some taken apart
-    (within_weaker (λ (r : Run). int_le r.high low ≡ true) (λ r. r.high ≤ℤ low) (λ r e. grind (arith, ints)) runs 0 number point.0)
-    (within_weaker (λ (r : Run). int_le r.high low ≡ false) (λ r. low <ℤ r.high) (λ r e. grind (arith, ints)) runs number (length runs) point.1)
+pub holder_right : (low high x : ℤ) (filling : Filling) → low <ℤ high → IsTaken low high (runs_of filling) → AllPairs (λ a b. a.high <ℤ b.low) (runs_of filling) → IsParted x filling
+    → x ≡ low +ℤ pos 1 → IsHolder (length filling.left.items) low high (runs_of filling)
+holder_right low high x filling some taken apart parted e =
+    holder_found (length filling.left.items) low high (runs_of filling) some taken apart
+    (within_weaker (λ r. r.high <ℤ x) (λ r. r.high ≤ℤ low) (λ r h. omega (arith, ints)) (runs_of filling) 0 (length filling.left.items) parted.left)
+    (within_weaker (λ r. x ≤ℤ r.high) (λ r. low <ℤ r.high) (λ r h. omega (arith, ints)) (runs_of filling) (length filling.left.items) (length (runs_of filling)) parted.right)
 
 module _ (number : ℕ) (low high row : ℤ) (run : Run) (f0 f1 f2 f3 : Filling) (takes : TakesRun number run row f0 f1) (growing : IsGrowingTo row f0) (some : low <ℤ high)
     (holds : IsHolder number low high (runs_of f0)) where
@@ -406,3 +485,18 @@ module _ (number : ℕ) (low high row : ℤ) (run : Run) (f0 f1 f2 f3 : Filling)
       growing = before.kept.growing;
     };
   }
+
+-- ---- runs are moved first
+
+module _ (low high row : ℤ) (before moved after : Filling) (moves : MovesRuns before moved) (growing : IsGrowingTo row before) where
+  pub grows_moved : IsGrowingTo row moved
+  grows_moved = (moved_kept row before moved moves growing).growing
+
+  kept_from : KeepsBelow row moved after → KeepsBelow row before after
+  kept_from kept = record { cells = λ c. kept.cells c ∙ (moved_kept row before moved moves growing).cells c; growing = kept.growing }
+
+  pub adds_from : AddsRun low high row moved after → AddsRun low high row before after
+  adds_from adds = record { columns = λ i. adds.columns i ∙ ap (λ rs. runs_at i rs + one (lies_in low high i)) moves.runs; kept = kept_from adds.kept }
+
+  pub drops_from : DropsRun low high row moved after → DropsRun low high row before after
+  drops_from drops = record { columns = λ i. sym (ap (runs_at i) moves.runs) ∙ drops.columns i; kept = kept_from drops.kept }

@@ -1,4 +1,4 @@
-ghost use Rattle.std.specs.Prelude.{ℤ, ℕ, neg_ℤ, ◌≡◌, ◌<◌, ◌≤ℤ◌, ◌<ℤ◌, OnOk, IfOk, vec_len, []};
+ghost use Rattle.std.specs.Prelude.{ℤ, ℕ, neg_ℤ, ◌≡◌, ◌<◌, ◌≤ℤ◌, ◌<ℤ◌, OnOk, IfOk, All, AllPairs, length, []};
 ghost use Rattle.geo_core.specs.declared.bounds.TheConstants.{FARTHEST};
 ghost use Rattle.outlines.specs.inside.Runs.{Finishes};
 
@@ -6,17 +6,19 @@ use super::run::Run;
 use geo_core::{Interval, Rect};
 use std::alloc::{AllocError, Global};
 
-/// Rectangles of what is inside: finished ones, and runs of columns that grow up the rows. These stand from left to right,
-/// and no two of them touch.
+/// Rectangles of what is inside: finished ones, and runs of columns that grow up the rows. The runs stand from left to
+/// right, and no two of them touch. Those on the right of where something changed last stand the other way round, the
+/// first of them at the end: so a change costs how far it lies from the last one, and not how many runs there are.
 #[derive(Drop)]
 pub struct Filling {
     pub done: Vec<Rect>,
-    pub growing: Vec<Run>,
+    pub left: Vec<Run>,
+    pub right: Vec<Run>,
 }
 
 impl Filling {
     ghost use Rattle.geo_core.specs.Intervals.{IsInterval};
-    ghost use Rattle.outlines.specs.inside.Runs.{IsGrowingTo, IsFree, IsTaken, HasRoom, AddsRun, DropsRun, EndsLeft, EndsRight, TakesRun, PutsRun, runs_of};
+    ghost use Rattle.outlines.specs.inside.Runs.{AddsRun, DropsRun, EndsLeft, EndsRight, HasRoom, IsFree, IsGrowingTo, IsParted, IsTaken, MovesRuns, PutsRun, TakesRun, runs_of};
 
     /// No rectangles.
     pub fn new(alloc: Global) -> Filling
@@ -25,7 +27,8 @@ impl Filling {
     {
         Filling {
             done: Vec::new(alloc),
-            growing: Vec::new(alloc),
+            left: Vec::new(alloc),
+            right: Vec::new(alloc),
         }
     }
 
@@ -39,10 +42,10 @@ impl Filling {
         requires growing { IsGrowingTo row self.old }
         ensures { OnOk result (AddsRun columns.low columns.high row self.old self.new) }
     {
-        let number = self.growing.partition_point(|run| run.high < columns.low);
-        let low = self.end_left(number, columns.low, row)?;
-        let high = self.end_right(number, columns.high, row)?;
-        self.put(number, low, high, row)
+        self.part(columns.low)?;
+        let low = self.end_left(columns.low, row)?;
+        let high = self.end_right(columns.high, row)?;
+        self.put_left(low, high, row)
     }
 
     /// From the row on these columns are no longer inside, all of which were. What is left of their run goes on by itself.
@@ -54,85 +57,155 @@ impl Filling {
         requires growing { IsGrowingTo row self.old }
         ensures { OnOk result (DropsRun columns.low columns.high row self.old self.new) }
     {
-        let number = self.growing.partition_point(|run| run.high <= columns.low);
-        let run = self.take(number, row)?;
-        self.put(number, columns.high, run.high, row)?;
-        self.put(number, run.low, columns.low, row)
+        self.part(columns.low + 1)?;
+        let run = self.take(row)?;
+        self.put_right(columns.high, run.high, row)?;
+        self.put_left(run.low, columns.low, row)
     }
 
     /// The finished rectangles.
     pub fn finish(self) -> Vec<Rect>
         ensures { result.items ≡ self.done.items }
     {
-        let Filling { done, growing: _ } = self;
+        let Filling {
+            done,
+            left: _,
+            right: _,
+        } = self;
         done
     }
 
-    /// Ends the run of this number where it stands left of the column and reaches it, and gives where it began; else the
-    /// column.
-    fn end_left(&mut self, number: usize, column: i32, row: i32) -> Result<i32, AllocError>
+    /// Moves the runs so that those which end before the column stand on the left, and the others on the right.
+    fn part(&mut self, column: i32) -> Result<(), AllocError>
+        requires { AllPairs (λ a b. a.high <ℤ b.low) (runs_of self.old) }
+        ensures moved { OnOk result (MovesRuns self.old self.new) }
+        ensures parted { OnOk result (IsParted column self.new) }
+    {
+        self.go_left(column)?;
+        self.go_right(column)
+    }
+
+    /// Moves those runs to the right that reach the column.
+    fn go_left(&mut self, column: i32) -> Result<(), AllocError>
+        requires { AllPairs (λ a b. a.high <ℤ b.low) (runs_of self.old) }
+        ensures moved { OnOk result (MovesRuns self.old self.new) }
+        ensures left { OnOk result (All (λ run. run.high <ℤ column) self.new.left.items) }
+    {
+        while let Some(run) = self.left.pop() {
+            if run.high < column {
+                self.left.push(run)?;
+                return Ok(());
+            }
+            self.right.push(run)?;
+        }
+        Ok(())
+    }
+
+    /// Moves those runs to the left that end before the column.
+    fn go_right(&mut self, column: i32) -> Result<(), AllocError>
+        requires apart { AllPairs (λ a b. a.high <ℤ b.low) (runs_of self.old) }
+        requires left { All (λ run. run.high <ℤ column) self.old.left.items }
+        ensures moved { OnOk result (MovesRuns self.old self.new) }
+        ensures parted { OnOk result (IsParted column self.new) }
+    {
+        while let Some(run) = self.right.pop() {
+            if column <= run.high {
+                self.right.push(run)?;
+                return Ok(());
+            }
+            self.left.push(run)?;
+        }
+        Ok(())
+    }
+
+    /// Ends the first run on the right where it ends at the column, and gives where it began; else the column.
+    fn end_left(&mut self, column: i32, row: i32) -> Result<i32, AllocError>
         requires top { row ≤ℤ FARTHEST }
         requires growing { IsGrowingTo row self.old }
-        ensures { IfOk result (λ low. EndsLeft number column low row self.old self.new) }
+        ensures ended { IfOk result (λ low. EndsLeft (length self.old.left.items) column low row self.old self.new) }
+        ensures left { OnOk result (self.new.left.items ≡ self.old.left.items) }
     {
-        if number >= self.growing.len() {
+        let Some(run) = self.right.pop() else {
+            return Ok(column);
+        };
+        if run.high != column {
+            self.right.push(run)?;
             return Ok(column);
         }
-        if self.growing[number].high != column {
-            return Ok(column);
-        }
-        let run = self.take(number, row)?;
+        finish_run(&mut self.done, run, row)?;
         Ok(run.low)
     }
 
-    /// Ends the run of this number where it begins at the column, and gives where it ended; else the column.
-    fn end_right(&mut self, number: usize, column: i32, row: i32) -> Result<i32, AllocError>
+    /// Ends the first run on the right where it begins at the column, and gives where it ended; else the column.
+    fn end_right(&mut self, column: i32, row: i32) -> Result<i32, AllocError>
         requires top { row ≤ℤ FARTHEST }
         requires growing { IsGrowingTo row self.old }
-        ensures { IfOk result (λ high. EndsRight number column high row self.old self.new) }
+        ensures ended { IfOk result (λ high. EndsRight (length self.old.left.items) column high row self.old self.new) }
+        ensures left { OnOk result (self.new.left.items ≡ self.old.left.items) }
     {
-        if number >= self.growing.len() {
+        let Some(run) = self.right.pop() else {
+            return Ok(column);
+        };
+        if run.low != column {
+            self.right.push(run)?;
             return Ok(column);
         }
-        if self.growing[number].low != column {
-            return Ok(column);
-        }
-        let run = self.take(number, row)?;
+        finish_run(&mut self.done, run, row)?;
         Ok(run.high)
     }
 
-    /// Takes out the run of this number, of which the part below the row is a rectangle.
-    fn take(&mut self, number: usize, row: i32) -> Result<Run, AllocError>
-        requires number { number < vec_len self.old.growing }
+    /// Takes out the first run on the right, of which the part below the row is a rectangle.
+    fn take(&mut self, row: i32) -> Result<Run, AllocError>
+        requires some { 0 < length self.old.right.items }
         requires top { row ≤ℤ FARTHEST }
-        ensures { IfOk result (λ run. TakesRun number run row self.old self.new) }
+        ensures taken { IfOk result (λ run. TakesRun (length self.old.left.items) run row self.old self.new) }
+        ensures left { OnOk result (self.new.left.items ≡ self.old.left.items) }
     {
-        let run = self.growing.remove(number);
+        let run = self.right.pop().unwrap();
         finish_run(&mut self.done, run, row)?;
         Ok(run)
     }
 
-    /// Puts in a run that begins in the row, of the columns from `low` to before `high`, if there are any.
-    fn put(&mut self, number: usize, low: i32, high: i32, row: i32) -> Result<(), AllocError>
+    /// Puts in a run on the left that begins in the row, of the columns from `low` to before `high`, if there are any.
+    fn put_left(&mut self, low: i32, high: i32, row: i32) -> Result<(), AllocError>
         requires left { neg_ℤ FARTHEST ≤ℤ low }
         requires right { high ≤ℤ FARTHEST }
         requires bottom { neg_ℤ FARTHEST ≤ℤ row }
         requires top { row ≤ℤ FARTHEST }
-        requires room { HasRoom number low high (runs_of self.old) }
+        requires room { HasRoom (length self.old.left.items) low high (runs_of self.old) }
         requires growing { IsGrowingTo row self.old }
-        ensures { OnOk result (PutsRun number low high row self.old self.new) }
+        ensures { OnOk result (PutsRun (length self.old.left.items) low high row self.old self.new) }
     {
         if low >= high {
             return Ok(());
         }
-        self.growing.insert(
-            number,
-            Run {
-                low,
-                high,
-                from: row,
-            },
-        )?;
+        self.left.push(Run {
+            low,
+            high,
+            from: row,
+        })?;
+        Ok(())
+    }
+
+    /// The same on the right.
+    fn put_right(&mut self, low: i32, high: i32, row: i32) -> Result<(), AllocError>
+        requires left { neg_ℤ FARTHEST ≤ℤ low }
+        requires right { high ≤ℤ FARTHEST }
+        requires bottom { neg_ℤ FARTHEST ≤ℤ row }
+        requires top { row ≤ℤ FARTHEST }
+        requires room { HasRoom (length self.old.left.items) low high (runs_of self.old) }
+        requires growing { IsGrowingTo row self.old }
+        ensures put { OnOk result (PutsRun (length self.old.left.items) low high row self.old self.new) }
+        ensures left { OnOk result (self.new.left.items ≡ self.old.left.items) }
+    {
+        if low >= high {
+            return Ok(());
+        }
+        self.right.push(Run {
+            low,
+            high,
+            from: row,
+        })?;
         Ok(())
     }
 }

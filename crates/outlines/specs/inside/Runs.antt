@@ -1,5 +1,5 @@
 -- runs of columns that grow up the rows, and the rectangles that come of them
-use Rattle.std.specs.Prelude.{ℕ, ℤ, neg_ℤ, ◌+◌, ◌<◌, ◌≤◌, ◌≡◌, ◌<ℤ◌, ◌≤ℤ◌, Bool, cond, ◌&&◌, List, length, All, AllPairs, count_by, slice_index_or}
+use Rattle.std.specs.Prelude.{ℕ, ℤ, neg_ℤ, ◌+◌, ◌<◌, ◌≤◌, ◌≡◌, ◌<ℤ◌, ◌≤ℤ◌, Bool, cond, ◌&&◌, List, ◌++◌, length, reverse, All, AllPairs, count_by, slice_index_or}
 use Rattle.std.specs.List.{AllWithin, remove}
 use Rattle.geo_core.specs.Plane.{IsInLayout}
 use Rattle.geo_core.specs.declared.bounds.TheConstants.{FARTHEST}
@@ -11,7 +11,7 @@ use Rattle.outlines.specs.declared.run.Run.{Run}
 
 -- the runs that grow, from left to right
 abbrev pub runs_of : Filling → List Run
-runs_of filling = filling.growing.items
+runs_of filling = filling.left.items ++ reverse filling.right.items
 
 -- how many runs have the column
 abbrev pub runs_at : ℤ → List Run → ℕ
@@ -36,6 +36,16 @@ pub record IsGrowingTo (row : ℤ) (filling : Filling) : Type 0 where
 pub record KeepsBelow (row : ℤ) (before after : Filling) : Type 0 where
   pub cells : (c : Cell) → filled_at c row after ≡ filled_at c row before
   pub growing : IsGrowingTo row after
+
+-- the same runs and rectangles, but that other runs may stand on the left
+pub record MovesRuns (before after : Filling) : Type 0 where
+  pub runs : runs_of after ≡ runs_of before
+  pub done : after.done.items ≡ before.done.items
+
+-- the runs on the left end before the column, and the others do not
+pub record IsParted (column : ℤ) (filling : Filling) : Type 0 where
+  pub left : AllWithin (λ run. run.high <ℤ column) (runs_of filling) 0 (length filling.left.items)
+  pub right : AllWithin (λ run. column ≤ℤ run.high) (runs_of filling) (length filling.left.items) (length (runs_of filling))
 
 -- no run has one of these columns
 pub record IsFree (low high : ℤ) (runs : List Run) : Type 0 where

@@ -1,20 +1,21 @@
-use Rattle.std.proofs.Common.{◌≡◌, ◌∙◌, w32, of_z, FitsSigned, sym, ap, rules, arith}
-use Rattle.lists.proofs.Words.{ints, to_z-of_z, get_or_default}
+use Rattle.std.proofs.Common.{◌≡◌, ◌∙◌, w32, of_z, FitsSigned, ◌++◌, reverse, length, sym, ap, refl, rules, arith}
+use Rattle.lists.proofs.Words.{ints, to_z-of_z}
 use Rattle.outlines.specs.declared.run.Run.{Run}
-use Rattle.outlines.proofs.FillingLaws.{right_ended, right_passed}
+use Rattle.outlines.proofs.FillingLaws.{first_right, right_ended, right_passed, taken_from}
 use Rattle.outlines.proofs.filling.Filling.end_right.Goals as goal
 
-pub returns-then-index-column : goal.returns-then-index-column
-returns-then-index-column c =
-    let runs = c.args.self.now.growing.items in
-    rw (to_z-of_z w32 c.args.column c.ranges.column) (right_passed c.args.number c.args.column c.args.row c.args.self.now c.requires.growing
-    (λ d small same. c.if-index-column.true (ap (of_z w32) (ap (λ (r : Run). r.low) (c.index.ensures ∙ get_or_default runs c.args.number c.index.result.now d small) ∙ same))))
+pub returns-then-run-column-clause-ended : goal.returns-then-run-column-clause-ended
+returns-then-run-column-clause-ended c =
+    let filling = c.args.self.now in
+    let run = c.in-Some.run' in
+    let back = c.in_ok-push.ensures.items ∙ sym c.in-Some.ensures.items in
+    rw (to_z-of_z w32 c.args.column c.ranges.column) (right_passed (length filling.left.items) c.args.column c.args.row filling _
+    (record { runs = ap (λ r. filling.left.items ++ reverse r) back; done = refl }) c.requires.growing
+    (λ d small same. c.if-run-column.true (ap (of_z w32) (ap (λ (r : Run). r.low) (sym (first_right filling.left.items filling.right.items c.pop.new.self.items run d c.in-Some.ensures.items)) ∙ same))))
 
-pub returns : goal.returns
-returns c =
-    let run = c.in_ok-run.run' in
+pub returns-clause-ended : goal.returns-clause-ended
+returns-clause-ended c =
+    let run = c.in-Some.run' in
     let high : FitsSigned w32 run.high = search rules in
-    let takes = rw (to_z-of_z w32 c.args.row c.ranges.row) at c.in_ok-run.ensures in
-    let is : c.index.result.now ≡ run = c.index.ensures ∙ takes.item c.index.result.now in
-    let begins : c.index.result.now.low ≡ c.args.column = omega (arith, ints, c.if-index-column.false) in
-    rw (to_z-of_z w32 run.high high) (right_ended c.args.number c.args.column run c.args.row c.args.self.now _ c.requires.growing takes (ap (λ (r : Run). r.low) (sym is) ∙ begins))
+    let takes = taken_from run c.args.row c.args.self.now _ c.in-Some.ensures.items refl (rw (to_z-of_z w32 c.args.row c.ranges.row) at c.in_ok-finish_run.ensures) in
+    rw (to_z-of_z w32 run.high high) (right_ended (length c.args.self.now.left.items) c.args.column run c.args.row c.args.self.now _ c.requires.growing takes (omega (arith, ints, c.if-run-column.false)))
