@@ -6,6 +6,7 @@ mod hostile;
 mod outline_rows;
 mod path_rows;
 mod rows;
+mod spirals;
 mod stream;
 mod texts;
 mod wanted;

@@ -21,18 +21,22 @@ const PATH: ShapeKind = ShapeKind::Path {
     end: 0,
 };
 
+/// A comb of 2047 teeth, each two columns wide and two from the next.
+const COMB: Walk = (
+    &[(0, 10), (2, 10), (2, 2), (4, 2)],
+    4,
+    2047,
+    &[(8188, 0), (0, 0)],
+);
+
 const ROWS: &[Row] = &[
-    // a comb of 2047 teeth, each two columns wide and two from the next
     (
         ShapeKind::Boundary,
-        (
-            &[(0, 10), (2, 10), (2, 2), (4, 2)],
-            4,
-            2047,
-            &[(8188, 0), (0, 0)],
-        ),
+        COMB,
         Wanted::OneCell((8185, 9), (8183, 9)),
     ),
+    // each tooth is a rectangle, and one is below them
+    (ShapeKind::Boundary, COMB, Wanted::Count(2048)),
     // a square walked 2047 times
     (
         ShapeKind::Boundary,

@@ -80,6 +80,17 @@ fn are_wound(rects: &[Rect], corners: &[Corner]) -> bool {
     true
 }
 
+/// Whether the rectangles have two columns in four of a row, the other way round from the middle on.
+fn is_striped(rects: &[Rect], middle: i32) -> bool {
+    for i in 0i32..middle.wrapping_mul(2) {
+        let is_wanted = (i < middle) == (i % 4 < 2);
+        if has(rects, i, middle) != is_wanted {
+            return false;
+        }
+    }
+    true
+}
+
 /// What the cover of a shape has to come to.
 #[derive(Clone, Copy)]
 pub enum Wanted<'a> {
@@ -89,6 +100,9 @@ pub enum Wanted<'a> {
     Wound(&'a [Corner]),
     /// There are so many rectangles.
     Count(usize),
+    /// Of the columns from 0 to before twice this number, two in four are covered in the row of this number: the first of
+    /// them on the left of the column of this number, and the last on its right.
+    Striped(i32),
     /// The first cell is covered, and the other is not.
     OneCell(Corner, Corner),
     /// The shape, which begins at 94, is refused with this number.
@@ -101,6 +115,7 @@ fn are_wanted(rects: &[Rect], wanted: Wanted<'_>) -> bool {
         Wanted::Cells(cells) => are_cells(rects, cells),
         Wanted::Wound(corners) => are_wound(rects, corners),
         Wanted::Count(count) => rects.len() == count,
+        Wanted::Striped(middle) => is_striped(rects, middle),
         Wanted::OneCell(one, other) => has(rects, one.0, one.1) && !has(rects, other.0, other.1),
         Wanted::Fault(_) => false,
     }
