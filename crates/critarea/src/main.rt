@@ -1,10 +1,9 @@
-//! The program: its words, the files of the system, its standard output and error, handed to `program::run_program` with the
-//! gauges `Peak` and `Nonzero`.
+//! The program: its words, the files of the system, its standard output and error, handed to `program::run_program`.
 #![tactic(auto)]
 
-use program::{PeakAndNonzero, run_program};
+use program::run_program;
 use std::process::ExitCode;
 
 fn main(rt: HostRuntime) -> ExitCode {
-    run_program(&rt, &PeakAndNonzero, rt.stdout(), rt.stderr())
+    run_program(&rt, rt.stdout(), rt.stderr())
 }

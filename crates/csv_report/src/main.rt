@@ -4,40 +4,57 @@
 
 ghost use Rattle.std.specs.Prelude.{◌∷◌, []};
 ghost use Rattle.gauges.specs.GaugeViews.{fresh};
+ghost use Rattle.critarea_core.specs.Run.{RunsWith, change};
 ghost use Rattle.csv_report.specs.CsvText.{csv_text};
 
 mod csv;
 
-use critarea_core::{NO_MEMORY, Word, run_boxed};
+use critarea_core::{NO_MEMORY, Word, run_boxed, system_words};
 use csv::Csv;
-use edge_io::{Files, Sink};
-use program::{GaugeChoice, run_program};
+use edge_io::{Files, OsFiles, OsSink, Sink};
 use std::alloc::Global;
 use std::process::ExitCode;
 use std::thread::Threads;
 
-/// The one gauge of this program, fresh.
-struct CsvAlone;
-
-impl GaugeChoice for CsvAlone {
-    ghost chosen = { fresh csv_text ∷ [] };
-
-    fn run_gauged<R: Threads + Sync, F: Files, O: Sink, E: Sink>(
-        &self,
-        rt: &R,
-        alloc: Global,
-        words: &[Word],
-        files: &mut F,
-        out: &mut O,
-        err: &mut E,
-    ) -> u8 {
-        let Ok(csv) = Box::new(alloc, Csv::new(alloc)) else {
-            return NO_MEMORY;
-        };
-        run_boxed(rt, alloc, words, files, out, err, [csv])
-    }
+/// Runs these words with a fresh gauge, and gives the status: 6 where its box finds no memory, and then nothing else was done.
+fn run_gauged<F: Files, O: Sink, E: Sink>(
+    rt: &(impl Threads + Sync),
+    alloc: Global,
+    words: &[Word],
+    files: &mut F,
+    out: &mut O,
+    err: &mut E,
+) -> u8
+    ensures { RunsWith words.now (fresh csv_text ∷ [])
+        (record {
+          holds = change (F.holds files.old) (F.holds files.new);
+          starts = change (F.starts files.old) (F.starts files.new);
+          failures = change (F.faults files.old) (F.faults files.new);
+        })
+        (record {
+          taken = change (O.written out.old) (O.written out.new);
+          failures = change (O.faults out.old) (O.faults out.new);
+        })
+        (record {
+          taken = change (E.written err.old) (E.written err.new);
+          failures = change (E.faults err.old) (E.faults err.new);
+        })
+        result }
+{
+    let Ok(csv) = Box::new(alloc, Csv::new(alloc)) else {
+        return NO_MEMORY;
+    };
+    run_boxed(rt, alloc, words, files, out, err, [csv])
 }
 
 fn main(rt: HostRuntime) -> ExitCode {
-    run_program(&rt, &CsvAlone, rt.stdout(), rt.stderr())
+    let words = match system_words(&rt) {
+        Ok(words) => words,
+        Err(status) => return ExitCode::from(status),
+    };
+    let mut files = OsFiles::new(&rt);
+    let mut out = OsSink::new(rt.stdout());
+    let mut err = OsSink::new(rt.stderr());
+    let words = words.as_slice();
+    ExitCode::from(run_gauged(&rt, rt.alloc(), words, &mut files, &mut out, &mut err))
 }

@@ -1,9 +1,9 @@
-//! What a program does with the words, the files and the outputs of the system: it hands them to a run with gauges of its choice.
-//! It stands apart from `main`, so that stored runs of more than one program can show what a whole program does.
+//! What the program does with the words, the files and the outputs of the system: it hands them to a run with the gauges `Peak`
+//! and `Nonzero`. It stands apart from `main`, so that more than one stored run can show what a whole program does.
 #![tactic(auto)]
 
-ghost use Rattle.std.specs.Prelude.{List, ◌∷◌, []};
-ghost use Rattle.gauges.specs.GaugeViews.{GaugeView, fresh};
+ghost use Rattle.std.specs.Prelude.{◌∷◌, []};
+ghost use Rattle.gauges.specs.GaugeViews.{fresh};
 ghost use Rattle.gauges.specs.NonzeroText.{nonzero_text};
 ghost use Rattle.gauges.specs.PeakText.{peak_text};
 ghost use Rattle.critarea_core.specs.Run.{RunsWith, change};
@@ -18,67 +18,44 @@ use std::rt;
 use std::rt::Env;
 use std::thread::Threads;
 
-/// The gauges that a program runs with.
-pub trait GaugeChoice {
-    ghost chosen: { List GaugeView };
-
-    /// Runs these words with such gauges, which are fresh, and gives the status: 6 where a box finds no memory, and then nothing
-    /// else was done.
-    fn run_gauged<R: Threads + Sync, F: Files, O: Sink, E: Sink>(
-        &self,
-        rt: &R,
-        alloc: Global,
-        words: &[Word],
-        files: &mut F,
-        out: &mut O,
-        err: &mut E,
-    ) -> u8
-        ensures { RunsWith words.now chosen
-            (record {
-              holds = change (F.holds files.old) (F.holds files.new);
-              starts = change (F.starts files.old) (F.starts files.new);
-              failures = change (F.faults files.old) (F.faults files.new);
-            })
-            (record {
-              taken = change (O.written out.old) (O.written out.new);
-              failures = change (O.faults out.old) (O.faults out.new);
-            })
-            (record {
-              taken = change (E.written err.old) (E.written err.new);
-              failures = change (E.faults err.old) (E.faults err.new);
-            })
-            result };
+/// Runs these words with a fresh `Peak` and behind it a fresh `Nonzero`, and gives the status: 6 where a box finds no memory,
+/// and then nothing else was done.
+pub fn run_gauged<F: Files, O: Sink, E: Sink>(
+    rt: &(impl Threads + Sync),
+    alloc: Global,
+    words: &[Word],
+    files: &mut F,
+    out: &mut O,
+    err: &mut E,
+) -> u8
+    ensures { RunsWith words.now (fresh peak_text ∷ fresh nonzero_text ∷ [])
+        (record {
+          holds = change (F.holds files.old) (F.holds files.new);
+          starts = change (F.starts files.old) (F.starts files.new);
+          failures = change (F.faults files.old) (F.faults files.new);
+        })
+        (record {
+          taken = change (O.written out.old) (O.written out.new);
+          failures = change (O.faults out.old) (O.faults out.new);
+        })
+        (record {
+          taken = change (E.written err.old) (E.written err.new);
+          failures = change (E.faults err.old) (E.faults err.new);
+        })
+        result }
+{
+    let peak = Box::new(alloc, Peak::new(alloc));
+    let nonzero = Box::new(alloc, Nonzero::new(alloc));
+    let (Ok(peak), Ok(nonzero)) = (peak, nonzero) else {
+        return NO_MEMORY;
+    };
+    run_boxed(rt, alloc, words, files, out, err, [peak, nonzero])
 }
 
-/// What `critarea` runs with: a fresh `Peak`, and behind it a fresh `Nonzero`.
-pub struct PeakAndNonzero;
-
-impl GaugeChoice for PeakAndNonzero {
-    ghost chosen = { fresh peak_text ∷ fresh nonzero_text ∷ [] };
-
-    fn run_gauged<R: Threads + Sync, F: Files, O: Sink, E: Sink>(
-        &self,
-        rt: &R,
-        alloc: Global,
-        words: &[Word],
-        files: &mut F,
-        out: &mut O,
-        err: &mut E,
-    ) -> u8 {
-        let peak = Box::new(alloc, Peak::new(alloc));
-        let nonzero = Box::new(alloc, Nonzero::new(alloc));
-        let (Ok(peak), Ok(nonzero)) = (peak, nonzero) else {
-            return NO_MEMORY;
-        };
-        run_boxed(rt, alloc, words, files, out, err, [peak, nonzero])
-    }
-}
-
-/// Runs the words of the system over its files and these outputs with such gauges, and gives the status as the program's. No
-/// clause can say what the system tells and takes: stored runs of three programs show reports and a refusal.
-pub fn run_program<R: Threads + Sync + Env + rt::Files + AllocGlobal, G: GaugeChoice>(
+/// Runs the words of the system over its files and these outputs, and gives the status as the program's. No clause can say what
+/// the system tells and takes: stored runs of two programs show a report and a refusal.
+pub fn run_program<R: Threads + Sync + Env + rt::Files + AllocGlobal>(
     rt: &R,
-    gauges: &G,
     out: Stdout,
     err: Stderr,
 ) -> ExitCode {
@@ -90,5 +67,5 @@ pub fn run_program<R: Threads + Sync + Env + rt::Files + AllocGlobal, G: GaugeCh
     let mut out = OsSink::new(out);
     let mut err = OsSink::new(err);
     let words = words.as_slice();
-    ExitCode::from(gauges.run_gauged(rt, rt.alloc(), words, &mut files, &mut out, &mut err))
+    ExitCode::from(run_gauged(rt, rt.alloc(), words, &mut files, &mut out, &mut err))
 }

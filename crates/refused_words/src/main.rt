@@ -2,9 +2,9 @@
 //! standard output stays empty.
 #![tactic(auto)]
 
-use program::{PeakAndNonzero, run_program};
+use program::run_program;
 use std::process::ExitCode;
 
 fn main(rt: HostRuntime) -> ExitCode {
-    run_program(&rt, &PeakAndNonzero, rt.stdout(), rt.stderr())
+    run_program(&rt, rt.stdout(), rt.stderr())
 }
