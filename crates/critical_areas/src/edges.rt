@@ -39,7 +39,12 @@ fn sensible_edge(parts: &Parts, window: Rect, edge: u32) -> u32
     ensures short { result ≤ 1000000000 }
     ensures edge { IsDoubled edge result }
 {
-    doubled(parts, window, greatest_reach(parts.questions.as_slice()), edge)
+    doubled(
+        parts,
+        window,
+        greatest_reach(parts.questions.as_slice()),
+        edge,
+    )
 }
 
 /// How far a defect that is asked for reaches at most.

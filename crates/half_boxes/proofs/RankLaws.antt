@@ -86,7 +86,7 @@ module _ (found sorted ends : List ℤ) (moves : IsPermutation found sorted) (up
   ends_keep P all =
       let rest = dedup int_eq sorted in
       let kept : All P rest = All-weaker (Contains rest) P (λ x c. All-contains P sorted x (All-permutation P found sorted moves all) (Contains-from_dedup int_eq sorted x c))
-        rest (All-contains_itself rest) in
+      rest (All-contains_itself rest) in
       subst (All P) (sym once) kept
 
   pub ends_are : (axis : Axis) (boxes : List HalfBox) → length ends ≤ 1001000000 → All (λ one. HasEnds found (span_along axis one)) boxes → AreEnds axis boxes ends

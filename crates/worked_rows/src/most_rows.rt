@@ -131,8 +131,16 @@ fn push_report(report: &mut String) -> Result<(), AllocError> {
 
 /// Squares at two corners of the plane. Each is alone, so that they add nothing but empty cells to the window.
 const FAR_CORNERS: [Plate; 2] = [
-    (10, 0, (-1_000_000_000, -1_000_000_000, -999_999_990, -999_999_990)),
-    (25, 0, (999_999_990, 999_999_990, 1_000_000_000, 1_000_000_000)),
+    (
+        10,
+        0,
+        (-1_000_000_000, -1_000_000_000, -999_999_990, -999_999_990),
+    ),
+    (
+        25,
+        0,
+        (999_999_990, 999_999_990, 1_000_000_000, 1_000_000_000),
+    ),
 ];
 
 /// The two bars on each metal, and a contact at each cut.
