@@ -1,6 +1,6 @@
 -- lists in which an item was put in, taken out or changed
-use Rattle.std.proofs.Common.{ℕ, zero, suc, ◌+◌, ◌<◌, ◌≤◌, ◌≡◌, ◌⊎◌, inl, inr, refl, sym, ap, subst, ◌∙◌, List, length, get_or, set, take, drop, map, arith, All, AllPairs}
-use Rattle.lists.proofs.Words.{cases_lt, length-take, length-drop, get_or-take, get_or-map, get_or_default, length-map}
+use Rattle.std.proofs.Common.{ℕ, zero, suc, ◌+◌, ◌<◌, ◌≤◌, ◌≡◌, ◌⊎◌, inl, inr, sym, ap, subst, ◌∙◌, List, length, get_or, set, take, drop, map, arith, All, AllPairs}
+use Rattle.lists.proofs.Words.{cases_lt, length-take, length-drop, get_or-take, get_or-map, get_or_default}
 use Rattle.lists.proofs.Differing.{AllPairs-map, AllPairs-unmap}
 use Rattle.std.specs.List.{AllWithin, insert, remove}
 use Rattle.std.proofs.lemmas.List.{get_or-drop, map-set, set-get_or}

@@ -1,16 +1,16 @@
 -- runs that begin and end, and what is filled below a row
-use Rattle.std.proofs.Common.{ℕ, zero, suc, ◌+◌, ◌<◌, ◌≤◌, ◌≡◌, ◌≢◌, ◌⊎◌, inl, inr, refl, sym, ap, subst, ◌∙◌, List, [], ◌∷◌, ◌++◌, append_assoc, reverse, length, get_or, arith, Bool, true, false, cond, ℤ, pos, neg_ℤ, ◌+ℤ◌, ◌≤ℤ◌, ◌<ℤ◌, ◌&&◌, int_le, int_lt, All, AllPairs, count_by}
-use Rattle.lists.proofs.Words.{and_parts, and_right, ints, by_lt_z, cases_lt, All-push, All-get_or, get_or_default, sum_by_push}
+use Rattle.std.proofs.Common.{ℕ, ◌+◌, ◌<◌, ◌≤◌, ◌≡◌, ◌≢◌, inl, inr, refl, sym, ap, subst, ◌∙◌, List, [], ◌∷◌, ◌++◌, append_assoc, reverse, length, get_or, arith, Bool, true, false, cond, ℤ, pos, ◌+ℤ◌, ◌≤ℤ◌, ◌<ℤ◌, ◌&&◌, int_le, int_lt, All, AllPairs, count_by}
+use Rattle.lists.proofs.Words.{and_right, ints, by_lt_z, cases_lt, All-push, get_or_default, sum_by_push}
 use Rattle.std.specs.List.{AllWithin, insert, remove}
 use Rattle.std.proofs.lemmas.List.{get_or_at, get_or_append_left, length-append, length-reverse, reverse-append}
 use Rattle.std.proofs.lemmas.List.Edits.{length-insert, length-remove}
 use Rattle.std.proofs.lemmas.List.Sums.{get_or-le-sum_by, sum_by-insert, sum_by-remove}
-use Rattle.geo_core.specs.Plane.{IsInLayout, IsInterval}
+use Rattle.geo_core.specs.Plane.{IsInLayout}
 use Rattle.geo_core.specs.declared.bounds.TheConstants.{FARTHEST}
 use Rattle.geo_core.specs.declared.plane.Cell.{Cell}
 use Rattle.geo_core.specs.declared.plane.Rect.{Rect}
 use Rattle.outlines.specs.inside.Depths.{depth_at, has_cell, lies_in}
-use Rattle.outlines.specs.inside.Runs.{AddsRun, DropsRun, EndsLeft, EndsRight, Finishes, HasRoom, IsFree, IsGrowingTo, IsParted, IsTaken, KeepsBelow, MovesRuns, PutsRun, TakesRun, filled_at, has_below, runs_at, runs_of}
+use Rattle.outlines.specs.inside.Runs.{AddsRun, DropsRun, EndsLeft, EndsRight, Finishes, HasRoom, IsFree, IsGrowingTo, IsParted, IsTaken, KeepsBelow, MovesRuns, PutsRun, TakesRun, has_below, runs_at, runs_of}
 use Rattle.outlines.specs.declared.filling.Filling.{Filling}
 use Rattle.outlines.specs.declared.run.Run.{Run}
 use Rattle.outlines.proofs.CountLaws.{le_false, le_true, lt_false, lt_true, some_passes}

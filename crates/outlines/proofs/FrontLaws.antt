@@ -1,15 +1,14 @@
 -- the windings in a row and the runs that grow from it, piece by piece
-use Rattle.std.proofs.Common.{ℕ, zero, suc, ◌+◌, ◌<◌, ◌≤◌, ◌≡◌, ◌≢◌, ◌↔◌, refl, sym, ap, subst, ◌∙◌, List, [], ◌∷◌, length, get_or, arith, w64, FitsSigned, Bool, true, false, cond, ℤ, pos, ◌+ℤ◌, ◌≤ℤ◌, ◌<ℤ◌, ◌&&◌, int_le, int_lt, All, AllPairs, inl, inr}
-use Rattle.lists.proofs.Words.{and_right, ints, by_lt_z, cases_lt, cases_Bool, All-head, All-tail, sum_by-cons, get_or_default, get_or_from_slice_get}
+use Rattle.std.proofs.Common.{ℕ, zero, suc, ◌+◌, ◌<◌, ◌≤◌, ◌≡◌, ◌≢◌, ◌↔◌, refl, sym, ap, subst, ◌∙◌, List, [], ◌∷◌, length, get_or, arith, Bool, true, false, cond, ℤ, pos, ◌+ℤ◌, ◌≤ℤ◌, ◌<ℤ◌, int_le, int_lt, AllPairs, inl, inr}
+use Rattle.lists.proofs.Words.{and_right, ints, by_lt_z, cases_lt, cases_Bool, sum_by-cons, get_or_default, get_or_from_slice_get}
 use Rattle.lists.proofs.Containing.{some_item}
 use Rattle.lists.proofs.Differing.{AllPairs-tail}
-use Rattle.std.specs.List.{AllWithin}
 use Rattle.geo_core.specs.Plane.{IsInterval}
 use Rattle.geo_core.specs.declared.bounds.TheConstants.{FARTHEST, FARTHEST_GROWN}
 use Rattle.geo_core.specs.declared.plane.Cell.{Cell}
 use Rattle.outlines.specs.inside.Depths.{lies_in}
 use Rattle.outlines.specs.inside.Fronts.{IsDrawn, ShiftsPiece, TurnsBetween}
-use Rattle.outlines.specs.inside.Pieces.{AddsBetween, AddsToPiece, AreRising, HasSameWindings, IsPlace, KeepsPlacesLeftOf, winding_at}
+use Rattle.outlines.specs.inside.Pieces.{AddsBetween, AddsToPiece, AreRising, HasSameWindings, IsPlace, winding_at}
 use Rattle.outlines.specs.inside.Runs.{AddsRun, DropsRun, IsFree, IsGrowingTo, IsTaken, filled_at, runs_at, runs_of}
 use Rattle.outlines.specs.declared.front.Front.{Front}
 use Rattle.outlines.specs.declared.piece.Piece.{Piece}

@@ -1,13 +1,13 @@
 -- pieces that begin and end, and the windings that they say
-use Rattle.std.proofs.Common.{ℕ, zero, suc, ◌+◌, ◌<◌, ◌≤◌, ◌≡◌, ◌≢◌, ◌⊎◌, inl, inr, refl, sym, ap, subst, ◌∙◌, List, [], ◌∷◌, ◌++◌, length, length-set, get_or, set, take, drop, map, fold, arith, Bool, true, false, cond, ℤ, pos, ◌+ℤ◌, ◌≤ℤ◌, ◌<ℤ◌, int_le, int_lt, All, AllPairs}
-use Rattle.lists.proofs.Words.{ints, by_lt_z, cases_lt, All-head, All-tail, All-weaker, take_more, drop_more, take-append-drop, get_or-map, get_or-take, length-take, get_or_default}
+use Rattle.std.proofs.Common.{ℕ, suc, ◌+◌, ◌<◌, ◌≤◌, ◌≡◌, ◌≢◌, inl, inr, refl, sym, ap, subst, ◌∙◌, List, [], ◌∷◌, ◌++◌, length, length-set, get_or, set, take, drop, map, fold, arith, true, false, cond, ℤ, pos, ◌+ℤ◌, ◌≤ℤ◌, ◌<ℤ◌, int_lt, All}
+use Rattle.lists.proofs.Words.{ints, by_lt_z, cases_lt, All-head, All-tail, take_more, drop_more, take-append-drop, get_or-map, get_or-take, length-take, get_or_default}
 use Rattle.std.specs.List.{AllWithin, insert, remove}
 use Rattle.std.specs.List.Sorted.{IsPartitionedBy, IsPartitionPoint}
 use Rattle.std.proofs.lemmas.List.{set_split}
 use Rattle.std.proofs.lemmas.List.Edits.{length-insert, length-remove, get_or-insert_at, get_or-insert_below, get_or-remove_below}
 use Rattle.std.proofs.lemmas.List.Sums.{fold-append, fold_push}
 use Rattle.outlines.specs.inside.Depths.{lies_in}
-use Rattle.outlines.specs.inside.Pieces.{AddsBetween, AddsToPiece, AreRising, HasSameWindings, IsPlace, KeepsPlacesLeftOf, StandsFor, winding_at, winding_behind}
+use Rattle.outlines.specs.inside.Pieces.{AddsToPiece, AreRising, HasSameWindings, IsPlace, KeepsPlacesLeftOf, StandsFor, winding_at, winding_behind}
 use Rattle.outlines.specs.declared.piece.Piece.{Piece}
 use Rattle.outlines.proofs.CountLaws.{le_false, le_true, lt_false, lt_true}
 use Rattle.outlines.proofs.EditLaws.{all_before, all_from, keys_kept, pairs_before, pairs_behind, pairs_inserted, pairs_kept, pairs_removed}

@@ -1,29 +1,27 @@
 -- a sweep up the rows, turn by turn
-use Rattle.std.proofs.Common.{Global, ℕ, zero, suc, ◌+◌, ◌<◌, ◌≤◌, ◌^◌, ◌≡◌, ◌≢◌, ◌⊎◌, ◌↔◌, inl, inr, refl, sym, ap, subst, ◌∙◌, List, [], ◌∷◌, ◌++◌, length, get_or, take, drop, arith, Bool, true, false, cond, not, Vec, Result, Ok, Err, IfOk, w64, FitsSigned, ℤ, pos, negsuc, neg_ℤ, ◌+ℤ◌, ◌-ℤ◌, ◌≤ℤ◌, ◌<ℤ◌, ◌&&◌, int_le, int_lt, All, AllPairs, count_by, take_all}
-use Rattle.lists.proofs.Words.{IsPermutation, IsSortedByKey, ComputesKey, Called, always_returns_same, ranks_by, sorted_far, is_lt, Ordering, int_cmp, int_cmp_total, int_ranked, and_right, ints, by_lt_z, and_parts, cases_lt, All-more, All-weaker, All-head, length-take, length-drop, get_or-take, get_or_default, sum_by_more, sum_by-IsPermutation, drop_all, take-append-drop}
+use Rattle.std.proofs.Common.{ℕ, ◌+◌, ◌<◌, ◌≤◌, ◌^◌, ◌≡◌, ◌≢◌, ◌⊎◌, ◌↔◌, inl, inr, refl, sym, ap, subst, ◌∙◌, List, [], ◌∷◌, length, get_or, take, drop, arith, Bool, true, false, cond, not, w64, FitsSigned, ℤ, pos, negsuc, neg_ℤ, ◌+ℤ◌, ◌-ℤ◌, ◌≤ℤ◌, ◌<ℤ◌, ◌&&◌, int_le, All, count_by, take_all}
+use Rattle.lists.proofs.Words.{IsPermutation, IsSortedByKey, ComputesKey, Called, always_returns_same, ranks_by, sorted_far, is_lt, Ordering, int_cmp, int_cmp_total, int_ranked, and_right, ints, by_lt_z, and_parts, cases_lt, All-more, All-weaker, length-take, length-drop, get_or_default, sum_by_more, sum_by-IsPermutation, drop_all}
 use Rattle.lists.proofs.Sorting.{not_less}
 use Rattle.lists.proofs.Containing.{Contains-head}
 use Rattle.std.specs.Ordering.{ordering_then}
 use Rattle.std.specs.Cmp.{IsTotalOrder}
-use Rattle.std.specs.declared.alloc.AllocError.{AllocError}
 use Rattle.std.proofs.Math.Bool.{and-true}
 use Rattle.std.proofs.lemmas.Cmp.{on_total, then_total, by_ranked}
 use Rattle.std.proofs.lemmas.List.{get_or-drop}
 use Rattle.std.proofs.lemmas.List.Sums.{count_by-le-length, sum_by-take-drop}
 use denote.Param.Members.{Mut}
 use denote.Ref.{Bor}
-use Rattle.geo_core.specs.Plane.{Has, IsClosed, IsIn, IsInLayout}
+use Rattle.geo_core.specs.Plane.{Has, IsIn}
 use Rattle.geo_core.specs.declared.bounds.TheConstants.{FARTHEST}
 use Rattle.geo_core.specs.declared.plane.Cell.{Cell}
 use Rattle.geo_core.specs.declared.plane.Rect.{Rect}
 use Rattle.outlines.specs.Fillings.{IsCover, IsInSome}
 use Rattle.outlines.specs.inside.Fronts.{IsDrawn, TurnsBetween}
 use Rattle.outlines.specs.inside.Pieces.{winding_at}
-use Rattle.outlines.specs.inside.Runs.{IsGrowingTo, filled_at, has_below, runs_at, runs_of}
-use Rattle.outlines.specs.inside.Turns.{edges_down, edges_up, everywhere, up_to}
+use Rattle.outlines.specs.inside.Runs.{filled_at, has_below, runs_at, runs_of}
+use Rattle.outlines.specs.inside.Turns.{everywhere, up_to}
 use Rattle.outlines.specs.inside.Depths.{depth_at, has_cell, lies_in}
-use Rattle.outlines.specs.inside.Turns.{AreBalanced, AreByRow, AreTurnsOf, IsNoLater, IsWound, falls_at, falls_below, rises_at, rises_below, turned}
-use Rattle.outlines.specs.declared.filling.Filling.{Filling}
+use Rattle.outlines.specs.inside.Turns.{AreBalanced, AreByRow, IsNoLater, IsWound, falls_at, falls_below, rises_at, rises_below, turned}
 use Rattle.outlines.specs.declared.front.Front.{Front}
 use Rattle.outlines.specs.declared.run.Run.{Run}
 use Rattle.outlines.specs.declared.turn.Turn.{Turn}

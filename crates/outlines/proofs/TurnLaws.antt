@@ -1,5 +1,5 @@
 -- the edges of an outline as turns
-use Rattle.std.proofs.Common.{ℕ, ◌+◌, ◌≡◌, refl, sym, ap, subst, ◌∙◌, List, [], ◌∷◌, ◌++◌, arith, Bool, true, false, cond, not, ℤ, ◌&&◌, int_le, int_lt, All, count_by}
+use Rattle.std.proofs.Common.{◌+◌, ◌≡◌, refl, ap, subst, ◌∙◌, List, [], ◌∷◌, ◌++◌, arith, Bool, true, false, not, ℤ, ◌&&◌, int_le, All, count_by}
 use Rattle.lists.proofs.Words.{zip, All-tail, sum_by_push, sum_by-cons}
 use Rattle.geo_core.specs.declared.plane.Point.{Point}
 use Rattle.geo_core.specs.Plane.{IsInRange}

@@ -1,9 +1,8 @@
 -- what a sweep up the rows has come to in its row
-use Rattle.std.specs.Prelude.{ℕ, ℤ, pos, ◌+◌, ◌<◌, ◌≡◌, ◌≢◌, ◌↔◌, ◌≤ℤ◌, ◌<ℤ◌, ◌+ℤ◌, ◌⊎◌, cond, int_le, List, length, take}
-use Rattle.std.specs.List.{AllWithin}
+use Rattle.std.specs.Prelude.{ℕ, ℤ, pos, ◌+◌, ◌<◌, ◌≡◌, ◌≢◌, ◌↔◌}
 use Rattle.geo_core.specs.declared.plane.Cell.{Cell}
 use Rattle.outlines.specs.inside.Pieces.{AddsBetween, AreRising, IsPlace, winding_at}
-use Rattle.outlines.specs.inside.Runs.{IsGrowingTo, KeepsBelow, filled_at, runs_at, runs_of}
+use Rattle.outlines.specs.inside.Runs.{IsGrowingTo, filled_at, runs_at, runs_of}
 use Rattle.outlines.specs.declared.front.Front.{Front}
 
 -- the runs that grow have the columns round whose cells the outline winds in the row

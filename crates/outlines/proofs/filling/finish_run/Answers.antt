@@ -1,4 +1,4 @@
-use Rattle.std.proofs.Common.{refl, arith}
+use Rattle.std.proofs.Common.{arith}
 use Rattle.lists.proofs.Words.{ints}
 use Rattle.outlines.proofs.FillingLaws.{finished, not_begun}
 use Rattle.outlines.proofs.filling.finish_run.Goals as goal

@@ -1,8 +1,7 @@
-use Rattle.std.proofs.Common.{◌≡◌, w32, w64, int_lt, to_z, of_z, true, false, sym, subst, rules, arith}
+use Rattle.std.proofs.Common.{◌≡◌, w32, w64, int_lt, true, false, sym, subst, rules}
 use Rattle.std.specs.List.Sorted.{IsPartitionPoint}
 use Rattle.std.proofs.lemmas.List.Sorted.{IsPartitionPoint-from_clause}
-use Rattle.lists.proofs.Words.{ints, to_z-of_z}
-use Rattle.outlines.specs.inside.Pieces.{IsPlace}
+use Rattle.lists.proofs.Words.{to_z-of_z}
 use Rattle.outlines.specs.declared.piece.Piece.{Piece}
 use Rattle.outlines.proofs.PieceLaws.{IsGap, cut_kept, cut_same, gap_at, parted_left}
 use Rattle.outlines.proofs.pieces.cut.Goals as goal

@@ -1,4 +1,4 @@
-use Rattle.std.proofs.Common.{◌≡◌, w64, FitsSigned, sym, rules, arith}
+use Rattle.std.proofs.Common.{◌≡◌, sym, arith}
 use Rattle.lists.proofs.Words.{ints}
 use Rattle.outlines.proofs.PieceLaws.{piece_removed, places_removed}
 use Rattle.outlines.proofs.pieces.join.Goals as goal

@@ -1,5 +1,5 @@
-use Rattle.std.proofs.Common.{◌≡◌, ◌+ℤ◌, ◌∙◌, ℤ, cond, pos, negsuc, length, w32, w64, to_z, of_z, FitsSigned, arith, rules, refl, sym, ap, subst}
-use Rattle.lists.proofs.Words.{ints, to_z-of_z}
+use Rattle.std.proofs.Common.{◌≡◌, ◌+ℤ◌, ◌∙◌, cond, pos, negsuc, w32, w64, to_z, of_z, FitsSigned, rules, sym, subst}
+use Rattle.lists.proofs.Words.{to_z-of_z}
 use Rattle.outlines.proofs.SweepLaws.{all_swept, amount_fits, still_fits, swept_none, turn_passed, turned_to}
 use Rattle.outlines.proofs.sweep.sweep_up.Goals as goal
 

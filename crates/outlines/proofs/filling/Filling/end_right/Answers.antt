@@ -1,4 +1,4 @@
-use Rattle.std.proofs.Common.{◌≡◌, ◌∙◌, w32, of_z, FitsSigned, ◌++◌, reverse, length, sym, ap, refl, rules, arith}
+use Rattle.std.proofs.Common.{◌∙◌, w32, of_z, FitsSigned, ◌++◌, reverse, length, sym, ap, refl, rules, arith}
 use Rattle.lists.proofs.Words.{ints, to_z-of_z}
 use Rattle.outlines.specs.declared.run.Run.{Run}
 use Rattle.outlines.proofs.FillingLaws.{first_right, right_ended, right_passed, taken_from}

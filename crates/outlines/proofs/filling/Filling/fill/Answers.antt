@@ -1,4 +1,4 @@
-use Rattle.std.proofs.Common.{◌≡◌, ◌∙◌, w32, FitsSigned, length, rules, arith, ap, sym, subst}
+use Rattle.std.proofs.Common.{◌∙◌, w32, FitsSigned, length, rules, arith, ap, sym, subst}
 use Rattle.lists.proofs.Words.{ints, to_z-of_z, on_ok_weaker}
 use Rattle.outlines.specs.inside.Runs.{HasRoom, EndsRight, IsFree, PutsRun, runs_of}
 use Rattle.outlines.proofs.FillingLaws.{adds_from, grows_moved, left_within, room_to_fill, run_added}

@@ -1,6 +1,6 @@
 use Rattle.std.proofs.Common.{w32, refl, arith, ap, reverse, ◌++◌, ◌∙◌}
 use Rattle.lists.proofs.Words.{ints, to_z-of_z}
-use Rattle.outlines.proofs.FillingLaws.{none_put, put_on_right, run_put}
+use Rattle.outlines.proofs.FillingLaws.{put_on_right, run_put}
 use Rattle.outlines.proofs.filling.Filling.put_right.Goals as goal
 
 pub returns-clause-put : goal.returns-clause-put

@@ -1,4 +1,4 @@
-use Rattle.std.proofs.Common.{◌≡◌, ◌≢◌, ◌<◌, ◌+◌, ◌<ℤ◌, ◌+ℤ◌, length, w32, w64, pos, to_z, of_z, FitsSigned, arith, refl, rules, sym, ap, subst}
+use Rattle.std.proofs.Common.{◌≡◌, ◌+ℤ◌, w32, w64, pos, to_z, of_z, FitsSigned, arith, refl, rules, sym, subst}
 use Rattle.lists.proofs.Words.{ints, to_z-of_z, on_ok_weaker}
 use Rattle.outlines.specs.declared.front.Front.{Front}
 use Rattle.outlines.specs.declared.piece.Piece.{Piece}

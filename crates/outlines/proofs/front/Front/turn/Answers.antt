@@ -1,4 +1,4 @@
-use Rattle.std.proofs.Common.{◌≡◌, ◌≤◌, ◌<◌, ◌<ℤ◌, ◌≤ℤ◌, ◌+ℤ◌, ◌∙◌, ℤ, length, get_or, w32, w64, to_z, of_z, FitsSigned, arith, refl, sym, ap, subst}
+use Rattle.std.proofs.Common.{◌≡◌, ◌<ℤ◌, ◌+ℤ◌, ◌∙◌, get_or, w32, w64, to_z, of_z, FitsSigned, arith, refl, sym, subst}
 use Rattle.lists.proofs.Words.{ints, to_z-of_z, get_or_default}
 use Rattle.outlines.specs.declared.front.Front.{Front}
 use Rattle.outlines.specs.inside.Pieces.{winding_at}
