@@ -1,5 +1,6 @@
 -- how many items of a list pass a test
-use Rattle.std.proofs.Common.{ℕ, inl, inr, ◌+◌, ◌*◌, ◌<◌, ◌≤◌, ◌≡◌, length, refl, sym, ap, ◌∙◌, List, [], ◌∷◌, get_or, arith, Bool, true, false, cond, ℤ, ◌≤ℤ◌, ◌<ℤ◌, int_le, int_lt, All, Contains, count_by, filter}
+use Rattle.std.proofs.Common.{ℕ, inl, inr, ◌+◌, ◌*◌, ◌<◌, ◌≤◌, ◌≡◌, length, refl, sym, ap, ◌∙◌, List, []}
+use Rattle.std.proofs.Common.{◌∷◌, get_or, arith, Bool, true, false, cond, ℤ, ◌≤ℤ◌, ◌<ℤ◌, int_le, int_lt, All, Contains, count_by, filter}
 use Rattle.lists.proofs.Words.{ints, All-head, All-tail, cases_Bool, sum_by-cons}
 use Rattle.std.proofs.lemmas.List.Sums.{get_or-le-sum_by, length-filter, sum_by-le}
 use Rattle.lists.proofs.Containing.{Contains-slice_get, some_item}

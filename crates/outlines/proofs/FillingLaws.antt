@@ -1,5 +1,6 @@
 -- runs that begin and end, and what is filled below a row
-use Rattle.std.proofs.Common.{ℕ, ◌+◌, ◌<◌, ◌≤◌, ◌≡◌, ◌≢◌, inl, inr, refl, sym, ap, subst, ◌∙◌, List, [], ◌∷◌, ◌++◌, append_assoc, reverse, length, get_or, arith, Bool, true, false, cond, ℤ, pos, ◌+ℤ◌, ◌≤ℤ◌, ◌<ℤ◌, ◌&&◌, int_le, int_lt, All, AllPairs, count_by}
+use Rattle.std.proofs.Common.{ℕ, ◌+◌, ◌<◌, ◌≤◌, ◌≡◌, ◌≢◌, inl, inr, refl, sym, ap, subst, ◌∙◌, List, [], ◌∷◌, ◌++◌, append_assoc}
+use Rattle.std.proofs.Common.{reverse, length, get_or, arith, Bool, true, false, cond, ℤ, pos, ◌+ℤ◌, ◌≤ℤ◌, ◌<ℤ◌, ◌&&◌, int_le, int_lt, All, AllPairs, count_by}
 use Rattle.lists.proofs.Words.{and_right, ints, by_lt_z, cases_lt, All-push, get_or_default, sum_by_push}
 use Rattle.std.specs.List.{AllWithin, insert, remove}
 use Rattle.std.proofs.lemmas.List.{get_or_at, get_or_append_left, length-append, length-reverse, reverse-append}
@@ -10,7 +11,8 @@ use Rattle.geo_core.specs.declared.bounds.TheConstants.{FARTHEST}
 use Rattle.geo_core.specs.declared.plane.Cell.{Cell}
 use Rattle.geo_core.specs.declared.plane.Rect.{Rect}
 use Rattle.outlines.specs.inside.Depths.{depth_at, has_cell, lies_in}
-use Rattle.outlines.specs.inside.Runs.{AddsRun, DropsRun, EndsLeft, EndsRight, Finishes, HasRoom, IsFree, IsGrowingTo, IsParted, IsTaken, KeepsBelow, MovesRuns, PutsRun, TakesRun, has_below, runs_at, runs_of}
+use Rattle.outlines.specs.inside.Runs.{AddsRun, DropsRun, EndsLeft, EndsRight, Finishes, HasRoom, IsFree, IsGrowingTo}
+use Rattle.outlines.specs.inside.Runs.{IsParted, IsTaken, KeepsBelow, MovesRuns, PutsRun, TakesRun, has_below, runs_at, runs_of}
 use Rattle.outlines.specs.declared.filling.Filling.{Filling}
 use Rattle.outlines.specs.declared.run.Run.{Run}
 use Rattle.outlines.proofs.CountLaws.{le_false, le_true, lt_false, lt_true, some_passes}
@@ -72,10 +74,6 @@ module _ {X : Type 0} where
 
   pub put_on_right : (left right : List X) (x : X) → left ++ reverse (right ++ x ∷ []) ≡ insert (left ++ reverse right) (length left) x
   put_on_right left right x = ap (λ r. left ++ r) (turned_round right x) ∙ sym (inserted_there left x (reverse right))
-
-  -- an item goes from the one side to the other
-  pub moved_right : (left rest right : List X) (x : X) → left ≡ rest ++ x ∷ [] → rest ++ reverse (right ++ x ∷ []) ≡ left ++ reverse right
-  moved_right left rest right x e = ap (λ r. rest ++ r) (turned_round right x) ∙ sym (append_assoc rest (x ∷ []) (reverse right)) ∙ ap (λ l. l ++ reverse right) (sym e)
 
   pub moved_left : (left right rest : List X) (x : X) → right ≡ rest ++ x ∷ [] → (left ++ x ∷ []) ++ reverse rest ≡ left ++ reverse right
   moved_left left right rest x e = append_assoc left (x ∷ []) (reverse rest) ∙ ap (λ r. left ++ r) (sym (ap reverse e ∙ turned_round rest x))
@@ -157,9 +155,6 @@ taken_from run row before after e same done =
       rest = ap (λ l. l ++ reverse after.right.items) same ∙ taken_right before.left.items before.right.items after.right.items run e;
       done = done;
     }
-
-pub none_right_of : (filling : Filling) → filling.right.items ≡ [] → length filling.left.items < length (runs_of filling) → ⊥
-none_right_of filling e less = let all = length-append filling.left.items (reverse filling.right.items) in let turned = length-reverse filling.right.items in let none = ap length e in omega arith
 
 pub left_within : (filling : Filling) → length filling.left.items ≤ length (runs_of filling)
 left_within filling = let all = length-append filling.left.items (reverse filling.right.items) in omega arith
@@ -359,7 +354,8 @@ free_right low high runs number some free h k d from small =
     (λ l. absurd (let w = r.columns.some in omega (arith, counted_there runs k d r.low small (omega (arith, ints)) w, free.none r.low l less))))
     (λ past. past)
 
-pub free_still : (low high column left row : ℤ) (number : ℕ) (before after : Filling) → EndsLeft number column left row before after → IsFree low high (runs_of before) → IsFree low high (runs_of after)
+pub free_still : (low high column left row : ℤ) (number : ℕ) (before after : Filling) → EndsLeft number column left row before after → IsFree low high (runs_of before)
+    → IsFree low high (runs_of after)
 free_still low high column left row number before after ends free = record { none = λ i l h. let none = free.none i l h in omega (arith, ends.columns i, none) }
 
 module _ (number : ℕ) (low high left right row : ℤ) (f0 f1 f2 f3 : Filling) (some : low <ℤ high) where

@@ -1,5 +1,6 @@
 -- the windings in a row and the runs that grow from it, piece by piece
-use Rattle.std.proofs.Common.{ℕ, zero, suc, ◌+◌, ◌<◌, ◌≤◌, ◌≡◌, ◌≢◌, ◌↔◌, refl, sym, ap, subst, ◌∙◌, List, [], ◌∷◌, length, get_or, arith, Bool, true, false, cond, ℤ, pos, ◌+ℤ◌, ◌≤ℤ◌, ◌<ℤ◌, int_le, int_lt, AllPairs, inl, inr}
+use Rattle.std.proofs.Common.{ℕ, zero, suc, ◌+◌, ◌<◌, ◌≤◌, ◌≡◌, ◌≢◌, ◌↔◌, refl, sym, ap, subst, ◌∙◌, List, [], ◌∷◌}
+use Rattle.std.proofs.Common.{length, get_or, arith, true, false, cond, ℤ, pos, ◌+ℤ◌, ◌≤ℤ◌, ◌<ℤ◌, int_le, int_lt, AllPairs, inl, inr}
 use Rattle.lists.proofs.Words.{and_right, ints, by_lt_z, cases_lt, cases_Bool, sum_by-cons, get_or_default, get_or_from_slice_get}
 use Rattle.lists.proofs.Containing.{some_item}
 use Rattle.lists.proofs.Differing.{AllPairs-tail}
@@ -196,7 +197,8 @@ turned_begun low high by row first last front begins ends le drawn = record {
   zero_more z = omega (arith, ints)
 
 -- what is added up to a column, and from it on
-adds_on : (low middle high by : ℤ) (one two three : List Piece) → low ≤ℤ middle → middle ≤ℤ high → AddsBetween low middle by one two → AddsBetween middle high by two three → AddsBetween low high by one three
+adds_on : (low middle high by : ℤ) (one two three : List Piece) → low ≤ℤ middle → middle ≤ℤ high → AddsBetween low middle by one two → AddsBetween middle high by two three
+    → AddsBetween low high by one three
 adds_on low middle high by one two three h k first second = record {
   more = λ i. second.more i ∙ ap (λ z. z +ℤ cond (lies_in middle high i) by (pos 0)) (first.more i) ∙ by_lt_z i low
       (λ l. rw (le_false low i l, le_false middle i (omega (arith, ints))) (two_zeros (winding_at i one)))
@@ -240,8 +242,11 @@ module _ (low high by row : ℤ) (first last number : ℕ) (before front : Front
       let place = place_of_item front.pieces.items number p within is in
       let same = winding_there front.pieces.items number p within is so_far.drawn.rising in
       let more = (so_far.so_far p.column place).more p.column in
-      let none = lies_in_none' low p.column in
-      (no_further front.pieces.items first number low p.column so_far.drawn.rising so_far.begins place so_far.from, sym same ∙ more ∙ rw none (zero_more (winding_at p.column before.pieces.items))) where
+      let none = lies_in_none' low p.column in (
+        no_further front.pieces.items first number low p.column so_far.drawn.rising so_far.begins place so_far.from,
+        sym same ∙ more
+            ∙ rw none (zero_more (winding_at p.column before.pieces.items)),
+      ) where
         lies_in_none' : (x y : ℤ) → lies_in x y y ≡ false
         lies_in_none' x y = and_right (int_le x y) (int_lt y y) (lt_false y y (omega (arith, ints)))
 
@@ -271,28 +276,10 @@ module _ (low high by row : ℤ) (first last number : ℕ) (before front : Front
 
 -- ---- all of a turn
 
--- nothing is turned
-pub nothing_turned : (low high by row : ℤ) (front : Front) → IsDrawn row front → ((i : ℤ) → cond (lies_in low high i) by (pos 0) ≡ pos 0) → TurnsBetween low high by row front front
-nothing_turned low high by row front drawn none = record {
-  more = record { more = λ i. rw (none i) (zero_more (winding_at i front.pieces.items)) };
-  drawn = drawn;
-  cells = λ c. refl;
-} where
-  zero_more : (z : ℤ) → z ≡ z +ℤ pos 0
-  zero_more z = omega (arith, ints)
-
-pub by_nothing : (low high by : ℤ) → by ≡ pos 0 → (i : ℤ) → cond (lies_in low high i) by (pos 0) ≡ pos 0
-by_nothing low high by none i = rw none (both (lies_in low high i)) where
-  both : (t : Bool) → cond t (pos 0) (pos 0) ≡ pos 0
-  both true = refl
-  both false = refl
-
-pub nowhere : (low high by : ℤ) → high ≤ℤ low → (i : ℤ) → cond (lies_in low high i) by (pos 0) ≡ pos 0
-nowhere low high by h i = rw (lies_in_none low high i h) refl
-
 -- pieces begin at both ends, those between are turned, and what says nothing goes
 pub all_turned : (low high by row : ℤ) (before cut turned after : Front) (first last : ℕ) → ((i : ℤ) → winding_at i cut.pieces.items ≡ winding_at i before.pieces.items)
-    → cut.filling ≡ before.filling → IsTurnedTo low high by row first last last cut turned → ((i : ℤ) → winding_at i after.pieces.items ≡ winding_at i turned.pieces.items) → AreRising after.pieces.items
+    → cut.filling ≡ before.filling → IsTurnedTo low high by row first last last cut turned → ((i : ℤ) → winding_at i after.pieces.items ≡ winding_at i turned.pieces.items)
+    → AreRising after.pieces.items
     → after.filling ≡ turned.filling → TurnsBetween low high by row before after
 all_turned low high by row before cut turned after first last as_before filling turns as_turned rising same = record {
   more = record {

@@ -1,11 +1,12 @@
 -- pieces that begin and end, and the windings that they say
-use Rattle.std.proofs.Common.{ℕ, suc, ◌+◌, ◌<◌, ◌≤◌, ◌≡◌, ◌≢◌, inl, inr, refl, sym, ap, subst, ◌∙◌, List, [], ◌∷◌, ◌++◌, length, length-set, get_or, set, take, drop, map, fold, arith, true, false, cond, ℤ, pos, ◌+ℤ◌, ◌≤ℤ◌, ◌<ℤ◌, int_lt, All}
-use Rattle.lists.proofs.Words.{ints, by_lt_z, cases_lt, All-head, All-tail, take_more, drop_more, take-append-drop, get_or-map, get_or-take, length-take, get_or_default}
+use Rattle.std.proofs.Common.{ℕ, suc, ◌+◌, ◌<◌, ◌≤◌, ◌≡◌, ◌≢◌, inl, inr, refl, sym, ap, subst, ◌∙◌, List, [], ◌∷◌, ◌++◌}
+use Rattle.std.proofs.Common.{length, length-set, get_or, set, take, drop, map, fold, arith, true, false, cond, ℤ, pos, ◌+ℤ◌, ◌≤ℤ◌, ◌<ℤ◌, int_lt, All}
+use Rattle.lists.proofs.Words.{ints, by_lt_z, cases_lt, All-head, All-tail, drop_more, take-append-drop, get_or-map, get_or_default}
 use Rattle.std.specs.List.{AllWithin, insert, remove}
 use Rattle.std.specs.List.Sorted.{IsPartitionedBy, IsPartitionPoint}
 use Rattle.std.proofs.lemmas.List.{set_split}
-use Rattle.std.proofs.lemmas.List.Edits.{length-insert, length-remove, get_or-insert_at, get_or-insert_below, get_or-remove_below}
-use Rattle.std.proofs.lemmas.List.Sums.{fold-append, fold_push}
+use Rattle.std.proofs.lemmas.List.Edits.{length-insert, length-remove, get_or-insert_below, get_or-remove_below}
+use Rattle.std.proofs.lemmas.List.Sums.{fold-append}
 use Rattle.outlines.specs.inside.Depths.{lies_in}
 use Rattle.outlines.specs.inside.Pieces.{AddsToPiece, AreRising, HasSameWindings, IsPlace, KeepsPlacesLeftOf, StandsFor, winding_at, winding_behind}
 use Rattle.outlines.specs.declared.piece.Piece.{Piece}
@@ -51,21 +52,6 @@ pub winding_there : (pieces : List Piece) (k : ℕ) (p : Piece) → k < length p
 winding_there pieces k p small is rising =
     winding_between pieces k p p.column small is (omega (arith, ints)) (pairs_behind (λ a b. a.column <ℤ b.column) pieces k p small is rising)
 
--- ---- the winding before a piece
-
-pub none_stands : StandsFor [] (pos 0)
-none_stands = record { at = λ i h. refl }
-
-pub last_stands : (pieces : List Piece) (n : ℕ) (p : Piece) → n < length pieces → get_or pieces n p ≡ p → StandsFor (take (n + 1) pieces) p.winding
-last_stands pieces n p small is = record {
-  at = λ i h.
-      let short = length-take (n + 1) pieces in
-      let from : p.column ≤ℤ i = subst (λ (q : Piece). q.column ≤ℤ i) (get_or-take (n + 1) pieces n p (omega arith) ∙ is) (h n p (omega arith)) in
-      ap (winding_at i) (take_more pieces n p small ∙ ap (λ q. take n pieces ++ q ∷ []) is)
-      ∙ fold_push (winding_behind i) (pos 0) (take n pieces) p
-      ∙ rw (le_true p.column i from) refl;
-}
-
 -- ---- a piece is put in
 
 pub parted_left : (pieces : List Piece) (column : ℤ) → AreRising pieces → IsPartitionedBy (λ (p : Piece). int_lt p.column column) pieces
@@ -102,12 +88,6 @@ module _ (pieces : List Piece) (k : ℕ) (p : Piece) (bound : k ≤ length piece
         (λ h. stands.at i (all_before (λ q. q.column ≤ℤ i) k pieces (within_weaker (λ q. q.column <ℤ p.column) (λ q. q.column ≤ℤ i) (λ q l. omega (arith, ints)) pieces 0 k left)))
         ∙ ap (winding_at i) (take-append-drop k pieces);
     rising = pairs_inserted pieces k bound p (λ a b. a.column <ℤ b.column) left right rising;
-  }
-
-  pub place_put : IsPlace (insert pieces k p) k p.column
-  place_put = record {
-    within = let longer = length-insert pieces k p bound in omega arith;
-    is = λ d. ap (λ (q : Piece). q.column) (get_or-insert_at pieces k p d bound);
   }
 
   pub places_put : KeepsPlacesLeftOf p.column pieces (insert pieces k p)
@@ -147,12 +127,6 @@ module _ (pieces : List Piece) (number : ℕ) (p : Piece) (gap : IsGap pieces nu
 
   pub cut_kept : (column : ℤ) → p.column ≡ column → KeepsPlacesLeftOf column pieces (insert pieces number p)
   cut_kept column at = subst (λ x. KeepsPlacesLeftOf x pieces (insert pieces number p)) at (places_put pieces number p gap.bound gap.left gap.right)
-
-pub same_windings : (pieces : List Piece) → AreRising pieces → HasSameWindings pieces pieces
-same_windings pieces rising = record { same = λ i. refl; rising = rising }
-
-pub same_places : (column : ℤ) (pieces : List Piece) → KeepsPlacesLeftOf column pieces pieces
-same_places column pieces = record { kept = λ n x place less. place }
 
 -- ---- a piece is taken out
 
@@ -202,7 +176,8 @@ step_more i front p p' back high by column winding far near =
       zero_more : (z : ℤ) → z ≡ z +ℤ pos 0
       zero_more z = omega (arith, ints)
 
-      told : fold (winding_behind i) (winding_behind i (winding_at i front) p') back ≡ fold (winding_behind i) (winding_behind i (winding_at i front) p) back +ℤ cond (lies_in p.column high i) by (pos 0)
+      told : fold (winding_behind i) (winding_behind i (winding_at i front) p') back ≡ fold (winding_behind i) (winding_behind i (winding_at i front) p) back
+          +ℤ cond (lies_in p.column high i) by (pos 0)
       told = by_lt_z i p.column
           (λ less. rw (column, le_false p.column i less) (zero_more _))
           (λ from. by_lt_z i high

@@ -1,6 +1,8 @@
 -- a sweep up the rows, turn by turn
-use Rattle.std.proofs.Common.{ℕ, ◌+◌, ◌<◌, ◌≤◌, ◌^◌, ◌≡◌, ◌≢◌, ◌⊎◌, ◌↔◌, inl, inr, refl, sym, ap, subst, ◌∙◌, List, [], ◌∷◌, length, get_or, take, drop, arith, Bool, true, false, cond, not, w64, FitsSigned, ℤ, pos, negsuc, neg_ℤ, ◌+ℤ◌, ◌-ℤ◌, ◌≤ℤ◌, ◌<ℤ◌, ◌&&◌, int_le, All, count_by, take_all}
-use Rattle.lists.proofs.Words.{IsPermutation, IsSortedByKey, ComputesKey, Called, always_returns_same, ranks_by, sorted_far, is_lt, Ordering, int_cmp, int_cmp_total, int_ranked, and_right, ints, by_lt_z, and_parts, cases_lt, All-more, All-weaker, length-take, length-drop, get_or_default, sum_by_more, sum_by-IsPermutation, drop_all}
+use Rattle.std.proofs.Common.{ℕ, ◌+◌, ◌<◌, ◌≤◌, ◌^◌, ◌≡◌, ◌≢◌, ◌⊎◌, ◌↔◌, inl, inr, refl, sym, ap, subst, ◌∙◌, List, [], ◌∷◌, length, get_or, take}
+use Rattle.std.proofs.Common.{drop, arith, Bool, true, false, cond, not, w64, FitsSigned, ℤ, pos, negsuc, neg_ℤ, ◌+ℤ◌, ◌-ℤ◌, ◌≤ℤ◌, ◌<ℤ◌, ◌&&◌, int_le, All, count_by, take_all}
+use Rattle.lists.proofs.Words.{IsPermutation, IsSortedByKey, ComputesKey, Called, always_returns_same, ranks_by, sorted_far, is_lt, Ordering, int_cmp, int_cmp_total, int_ranked}
+use Rattle.lists.proofs.Words.{and_right, ints, by_lt_z, and_parts, cases_lt, All-more, All-weaker, length-take, length-drop, get_or_default, sum_by_more, sum_by-IsPermutation, drop_all}
 use Rattle.lists.proofs.Sorting.{not_less}
 use Rattle.lists.proofs.Containing.{Contains-head}
 use Rattle.std.specs.Ordering.{ordering_then}
@@ -85,7 +87,8 @@ module _ (turns : List Turn) (n : ℕ) (row : ℤ) (below : All (λ t. t.row ≤
   pub passed_below : (test : Turn → Bool) → count_by (λ t. test t && int_le t.row row) turns ≡ count_by test (take n turns)
   passed_below test =
       let split = sum_by-take-drop (λ t. one (test t && int_le t.row row)) turns n in
-      let front = count_agree (λ t. test t && int_le t.row row) test (take n turns) (λ k d small. rw (le_true (get_or (take n turns) k d).row row (below k d small)) (and-true (test (get_or (take n turns) k d)))) in
+      let front = count_agree (λ t. test t && int_le t.row row) test (take n turns) (λ k d small. rw (le_true (get_or (take n turns) k d).row row (below k d small)) (and-true (test (get_or
+      (take n turns) k d)))) in
       let back = count_none (λ t. test t && int_le t.row row) (drop n turns)
       (λ k d small. and_right (test (get_or (drop n turns) k d)) (int_le (get_or (drop n turns) k d).row row) (le_false (get_or (drop n turns) k d).row row (above k d small))) in
       omega (arith, split, front, back)
@@ -241,7 +244,8 @@ module _ (turns : List Turn) (n : ℕ) (row column by : ℤ) (front : Front) (sw
         let were = swept.state.windings i in
         let more = between.more.more i in
         elim ahead_of [
-          | inl above ↦ adds_nothing (winding_at i front.pieces.items) (winding_at i after.pieces.items) by _ (int_le column i) (lies_in column t.column i) (int_le t.column i) (nothing_left above) were more
+          | inl above ↦ adds_nothing (winding_at i front.pieces.items) (winding_at i after.pieces.items) by _ (int_le column i) (lies_in column t.column i) (int_le t.column i)
+              (nothing_left above) were more
           | inr same ↦ adds_up_to (winding_at i front.pieces.items) (winding_at i after.pieces.items) by _ column t.column i same.1 were more
         ];
     drawn = between.drawn;
@@ -262,7 +266,8 @@ module _ (turns : List Turn) (n : ℕ) (row column by : ℤ) (front : Front) (sw
         let below = All-weaker (λ (x : Turn). x.row ≤ℤ row) (λ x. x.row ≤ℤ c.j) (λ x l. omega (arith, ints)) (take n turns) swept.passed in
         let wound = wound_below turns n c.j below (rows_behind turns n c.j t by_row small is less) c refl in
         let nothing = nothing_left (omega (arith, ints)) in
-        let winding : winding_at c.i after.pieces.items ≡ turned (up_to c.i) (take n turns) = with_nothing (winding_at c.i after.pieces.items) by (int_le t.column c.i) nothing ∙ state.windings c.i in (
+        let winding : winding_at c.i after.pieces.items ≡ turned (up_to c.i) (take n turns) = with_nothing (winding_at c.i after.pieces.items) by (int_le t.column c.i) nothing
+        ∙ state.windings c.i in (
           λ some. wound.1 (λ zero. (state.drawn.inside c.i).0 (rw (← same) some) (winding ∙ zero)),
           λ winds. rw same ((state.drawn.inside c.i).1 (λ zero. wound.0 winds (sym winding ∙ zero))),
         ) where
@@ -359,7 +364,8 @@ none_left (r ∷ runs) none =
     let there = passes_count (λ (s : Run). lies_in s.low s.high r.low) (r ∷ runs) r (Contains-head r runs) (rw (le_true r.low r.low (omega (arith, ints)), lt_true r.low r.high some) refl) in
     absurd (omega (arith, there, none r.low))
 
-pub all_swept : (turns : List Turn) (n : ℕ) (row column by : ℤ) (front : Front) → length turns ≤ n → AreBalanced turns → IsSweptTo turns n row column by front → IsCover (IsWound turns) front.filling.done.items
+pub all_swept : (turns : List Turn) (n : ℕ) (row column by : ℤ) (front : Front) → length turns ≤ n → AreBalanced turns → IsSweptTo turns n row column by front
+    → IsCover (IsWound turns) front.filling.done.items
 all_swept turns n row column by front past balanced swept = record {
   same = λ c.
       let told = in_some c front.filling.done.items in
@@ -379,7 +385,8 @@ all_swept turns n row column by front past balanced swept = record {
   no_runs : (runs_of front.filling) ≡ []
   no_runs = none_left (runs_of front.filling) (λ i.
       not_some (runs_at i (runs_of front.filling))
-      (λ some. (swept.state.drawn.inside i).0 some (zero_there (winding_at i front.pieces.items) by _ (int_le column i) (swept.whole ∙ level everywhere) (swept.state.windings i) (level (up_to i))))) where
+      (λ some. (swept.state.drawn.inside i).0 some (zero_there (winding_at i front.pieces.items) by _ (int_le column i) (swept.whole
+      ∙ level everywhere) (swept.state.windings i) (level (up_to i))))) where
         not_some : (m : ℕ) → (0 < m → ⊥) → m ≡ 0
         not_some m h = omega (arith, h)
 

@@ -9,4 +9,5 @@ returns-then-run-row c = not_begun c.args.run c.args.row c.args.done.now.items (
 pub returns : goal.returns
 returns c =
     rw c.in_ok-push.ensures.items
-    (finished c.args.run c.args.row c.args.done.now.items _ (omega (arith, ints)) (omega (arith, ints)) (omega (arith, ints)) (omega (arith, ints)) (omega (arith, ints, c.if-run-row.false)) c.requires)
+    (finished c.args.run c.args.row c.args.done.now.items _ (omega (arith, ints)) (omega (arith, ints)) (omega (arith, ints)) (omega (arith, ints)) (omega
+    (arith, ints, c.if-run-row.false)) c.requires)

@@ -8,13 +8,15 @@ loop-turn-init c = swept_none c.args.turns.now c.new-front.result c.new-front.en
 
 pub turn-requires-clause-fits : goal.turn-requires-clause-fits
 turn-requires-clause-fits c =
-    still_fits c.args.turns.now c.loop-turn.turn-index _ _ _ c.loop-turn.front c.loop-turn.invariant c.turn-item.result c.loop-turn-test.true (sym c.turn-item.is) c.requires.by_row c.requires.balanced c.requires.few
+    still_fits c.args.turns.now c.loop-turn.turn-index _ _ _ c.loop-turn.front c.loop-turn.invariant c.turn-item.result c.loop-turn-test.true
+    (sym c.turn-item.is) c.requires.by_row c.requires.balanced c.requires.few
 
 pub overflow_add-by : goal.overflow_add-by
 overflow_add-by c =
     let amount : FitsSigned w64 c.amount-by.result = search rules in
     rw (to_z-of_z w64 c.amount-by.result amount) (subst (λ a. FitsSigned w64 (to_z w64 c.loop-turn.by-bits +ℤ a)) (sym c.amount-by.ensures)
-    (amount_fits c.args.turns.now c.loop-turn.turn-index _ _ _ c.loop-turn.front c.loop-turn.invariant c.turn-item.result c.loop-turn-test.true (sym c.turn-item.is) c.requires.by_row c.requires.balanced c.requires.few))
+    (amount_fits c.args.turns.now c.loop-turn.turn-index _ _ _ c.loop-turn.front c.loop-turn.invariant c.turn-item.result c.loop-turn-test.true
+    (sym c.turn-item.is) c.requires.by_row c.requires.balanced c.requires.few))
 
 pub loop-turn-preserved : goal.loop-turn-preserved
 loop-turn-preserved c =

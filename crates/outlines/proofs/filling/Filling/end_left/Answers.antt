@@ -1,4 +1,4 @@
-use Rattle.std.proofs.Common.{◌∙◌, w32, of_z, FitsSigned, ◌++◌, reverse, length, sym, ap, refl, rules, arith}
+use Rattle.std.proofs.Common.{◌≡◌, ◌∙◌, w32, of_z, FitsSigned, ◌++◌, reverse, length, sym, ap, refl, rules, arith}
 use Rattle.lists.proofs.Words.{ints, to_z-of_z}
 use Rattle.outlines.specs.declared.run.Run.{Run}
 use Rattle.outlines.proofs.FillingLaws.{first_right, left_ended, left_passed, taken_from}
@@ -17,5 +17,6 @@ pub returns-clause-ended : goal.returns-clause-ended
 returns-clause-ended c =
     let run = c.in-Some.run' in
     let low : FitsSigned w32 run.low = search rules in
+    let ends : run.high ≡ c.args.column = omega (arith, ints, c.if-run-column.false) in
     let takes = taken_from run c.args.row c.args.self.now _ c.in-Some.ensures.items refl (rw (to_z-of_z w32 c.args.row c.ranges.row) at c.in_ok-finish_run.ensures) in
-    rw (to_z-of_z w32 run.low low) (left_ended (length c.args.self.now.left.items) c.args.column run c.args.row c.args.self.now _ c.requires.growing takes (omega (arith, ints, c.if-run-column.false)))
+    rw (to_z-of_z w32 run.low low) (left_ended (length c.args.self.now.left.items) c.args.column run c.args.row c.args.self.now _ c.requires.growing takes ends)
