@@ -1,9 +1,12 @@
-//! The program: its words, the files of the system, its standard output and error, handed to `program::run_program`.
+//! The program: its words, the files of the system, its standard output and error, handed to a run with the gauges `Peak` and
+//! `Nonzero`.
 #![tactic(auto)]
 
-use program::run_program;
+use program::{run_gauged, run_program};
 use std::process::ExitCode;
 
 fn main(rt: HostRuntime) -> ExitCode {
-    run_program(&rt, rt.stdout(), rt.stderr())
+    run_program(&rt, rt.stdout(), rt.stderr(), |words, files, out, err| {
+        run_gauged(&rt, rt.alloc(), words, files, out, err)
+    })
 }

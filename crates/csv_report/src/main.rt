@@ -9,9 +9,10 @@ ghost use Rattle.csv_report.specs.CsvText.{csv_text};
 
 mod csv;
 
-use critarea_core::{NO_MEMORY, Word, run_boxed, system_words};
+use critarea_core::{NO_MEMORY, Word, run_boxed};
 use csv::Csv;
-use edge_io::{Files, OsFiles, OsSink, Sink};
+use edge_io::{Files, Sink};
+use program::run_program;
 use std::alloc::Global;
 use std::process::ExitCode;
 use std::thread::Threads;
@@ -48,13 +49,7 @@ fn run_gauged<F: Files, O: Sink, E: Sink>(
 }
 
 fn main(rt: HostRuntime) -> ExitCode {
-    let words = match system_words(&rt) {
-        Ok(words) => words,
-        Err(status) => return ExitCode::from(status),
-    };
-    let mut files = OsFiles::new(&rt);
-    let mut out = OsSink::new(rt.stdout());
-    let mut err = OsSink::new(rt.stderr());
-    let words = words.as_slice();
-    ExitCode::from(run_gauged(&rt, rt.alloc(), words, &mut files, &mut out, &mut err))
+    run_program(&rt, rt.stdout(), rt.stderr(), |words, files, out, err| {
+        run_gauged(&rt, rt.alloc(), words, files, out, err)
+    })
 }

@@ -1,5 +1,6 @@
-//! What the program does with the words, the files and the outputs of the system: it hands them to a run with the gauges `Peak`
-//! and `Nonzero`. It stands apart from `main`, so that more than one stored run can show what a whole program does.
+//! What a program does with the words, the files and the outputs of the system: it hands them to a run. That of `critarea` has the
+//! gauges `Peak` and `Nonzero`. All of it stands apart from `main`, so that more than one stored run can show what a whole program
+//! does.
 #![tactic(auto)]
 
 ghost use Rattle.std.specs.Prelude.{◌∷◌, []};
@@ -52,13 +53,19 @@ pub fn run_gauged<F: Files, O: Sink, E: Sink>(
     run_boxed(rt, alloc, words, files, out, err, [peak, nonzero])
 }
 
-/// Runs the words of the system over its files and these outputs, and gives the status as the program's. No clause can say what
-/// the system tells and takes: stored runs of two programs show a report and a refusal.
-pub fn run_program<R: Threads + Sync + Env + rt::Files + AllocGlobal>(
+/// Runs the words of the system over its files and these outputs by this run, and gives its status as the program's. No clause can
+/// say what the system tells and takes: stored runs of three programs show reports and a refusal. The run is handed the words, the
+/// files and the two outputs, which have types of their own, so that none can stand for the other.
+pub fn run_program<R: Env + rt::Files + AllocGlobal, F>(
     rt: &R,
     out: Stdout,
     err: Stderr,
-) -> ExitCode {
+    run: F,
+) -> ExitCode
+where
+    F: FnOnce(&[Word], &mut OsFiles<'_, R>, &mut OsSink<Stdout>, &mut OsSink<Stderr>) -> u8,
+    requires { F.IsAlwaysCallable run }
+{
     let words = match system_words(rt) {
         Ok(words) => words,
         Err(status) => return ExitCode::from(status),
@@ -66,6 +73,5 @@ pub fn run_program<R: Threads + Sync + Env + rt::Files + AllocGlobal>(
     let mut files = OsFiles::new(rt);
     let mut out = OsSink::new(out);
     let mut err = OsSink::new(err);
-    let words = words.as_slice();
-    ExitCode::from(run_gauged(rt, rt.alloc(), words, &mut files, &mut out, &mut err))
+    ExitCode::from(run(words.as_slice(), &mut files, &mut out, &mut err))
 }

@@ -2,9 +2,11 @@
 //! standard output stays empty.
 #![tactic(auto)]
 
-use program::run_program;
+use program::{run_gauged, run_program};
 use std::process::ExitCode;
 
 fn main(rt: HostRuntime) -> ExitCode {
-    run_program(&rt, rt.stdout(), rt.stderr())
+    run_program(&rt, rt.stdout(), rt.stderr(), |words, files, out, err| {
+        run_gauged(&rt, rt.alloc(), words, files, out, err)
+    })
 }
