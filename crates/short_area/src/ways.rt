@@ -10,6 +10,7 @@ use super::sweeps::{
 };
 use geo_core::{Labelled, NoMemory, Rect};
 use std::alloc::Global;
+use window_parts::count_of;
 
 /// Runs are tried again of so many times fewer zones.
 const LESS: usize = 8;
@@ -40,7 +41,7 @@ pub fn next_step(
         return halved(alloc, zones, window, spread, hopeless);
     }
     let lead = lead_of(zones);
-    if leads_by_half(zones, lead) {
+    if is_led(zones, lead, window) {
         if let Some(count) = counted_by_leader(alloc, zones, window, lead.label)? {
             return Ok(Step::Count(count));
         }
@@ -51,9 +52,24 @@ pub fn next_step(
     swept_or_halved(alloc, zones, window, spread, hopeless)
 }
 
-/// Whether the label leads by half of the zones.
-fn leads_by_half(zones: &[Labelled], lead: Lead) -> bool {
-    zones.len() - zones.len() / 2 <= lead.zones
+/// Whether the label leads by half of the zones, and these leave holes. Where bars in both directions close them, parts of the
+/// window soon lie in one zone.
+fn is_led(zones: &[Labelled], lead: Lead, window: Rect) -> bool {
+    if zones.len() - zones.len() / 2 > lead.zones {
+        return false;
+    }
+    cells_of_label(zones, lead.label) / 2 < count_of(window)
+}
+
+/// How many cells the zones with this label have, each counted by itself.
+fn cells_of_label(zones: &[Labelled], label: usize) -> u64 {
+    let mut cells: u64 = 0;
+    for zone in zones {
+        if zone.label == label {
+            cells = cells.saturating_add(count_of(zone.rect));
+        }
+    }
+    cells
 }
 
 /// Whether the label leads so far that its runs are not tried. Those of a mesh are mostly as many as its holes, and where its
