@@ -4,8 +4,8 @@
     python3 areas_by_booleans.py LAYOUT MAP
     klayout -b -r areas_by_booleans.py -rd path=LAYOUT -rd map=MAP
 
-MAP is a layer map without terminals. The first call needs KLayout's module for Python, the second the editor. It prints
-one line for each area of shorts and of via blocks, as `short m1 3 32`.
+MAP is a layer map; terminals in it are passed over. The first call needs KLayout's module for Python, the second the
+editor. It prints one line for each area of shorts and of via blocks, as `short m1 3 32`.
 
 A net is what overlaps or shares a part of an edge, on one metal or through a cut that lies in both of its metals. Each
 net is grown by the radius, and what two nets or more have then is the area of shorts. A cluster is all that a cut joins
@@ -14,12 +14,18 @@ these is the area of blocks.
 """
 import itertools
 import sys
-import tomllib
 
 try:
     import klayout.db as db
 except ImportError:
-    import pya as db
+    try:
+        import pya as db
+    except ImportError:
+        sys.exit("areas_by_booleans.py: KLayout's module for Python is not there; install `klayout`, or call it by the editor, `klayout -b -r`")
+try:
+    import tomllib
+except ImportError:
+    sys.exit("areas_by_booleans.py: it reads maps with `tomllib`, which Python has from 3.11 on")
 
 
 def region_of(layout, pairs):
