@@ -1,24 +1,21 @@
--- the boxes of a cut's via clusters, and the blocks of its question
-use Rattle.std.proofs.Common.{ℕ, ◌+◌, ◌/◌, ◌<◌, ◌≤◌, ◌≡◌, refl, sym, ap, ◌∙◌, subst, List, [], ◌∷◌, ◌++◌, inl, inr, length, length-append, get_or, arith, ◌↔◌, Some, slice_get, slice_index_or, option_map, Contains}
+-- the boxes of a cut's via clusters, and where a defect makes the fault of its question
+use Rattle.std.proofs.Common.{ℕ, ◌+◌, ◌<◌, ◌≤◌, ◌≡◌, refl, sym, ap, ◌∙◌, subst, List, [], ◌∷◌, ◌++◌, inl, inr, length, length-append, get_or, arith, ◌↔◌, Some, slice_get, slice_index_or, option_map, Contains}
 use Rattle.lists.proofs.Words.{cases_lt, get_or_append_left, get_or_push, slice_get-get_or, slice_get-map, get_or-enumerate_from, length-enumerate_from}
 use Rattle.geo_core.specs.Plane.{IsCoveredIn}
 use Rattle.geo_core.specs.declared.plane.Cell.{Cell}
 use Rattle.geo_core.specs.declared.plane.Rect.{Rect}
-use Rattle.fault_model.specs.FaultNames.{Tally, Cut, IsViaBlock}
-use Rattle.fault_model.proofs.TallyLaws.{Tally-same_all}
+use Rattle.fault_model.specs.FaultNames.{Cut, IsViaBlock}
 use Rattle.lists.proofs.Containing.{Contains-slice_get}
 use Rattle.lists.proofs.Mapping.{Contains-map_from}
 use Rattle.lists.proofs.Numbering.{numbered_alike}
-use Rattle.map_model.specs.MapNames.{LayerMap, MappedCut, side_of}
-use Rattle.map_model.specs.declared.measure.Measure.{Measure}
+use Rattle.map_model.specs.MapNames.{LayerMap, MappedCut}
 use Rattle.net_extract.specs.Cuts.{cut_of, cuts_of, numbered_cuts}
 use Rattle.questions.specs.declared.kind.Kind.TheVariants.{Via}
 use Rattle.via_clusters.specs.Blocks.{CoversSomeBox}
 use Rattle.critical_areas.specs.AreaParts.{ArePartsOf}
 use Rattle.critical_areas.specs.FaultKinds.{IsFault}
-use Rattle.critical_areas.specs.inside.LayerParts.{AreOneEach}
+use Rattle.critical_areas.specs.LayerParts.{AreOneEach}
 use Rattle.critical_areas.specs.declared.parts.Parts.{Parts}
-use Rattle.critical_areas.proofs.PieceLaws.{even}
 
 -- an item of a list, by its number
 abbrev item_at : {X : Type 0} (xs : List X) (k : ℕ) → k < length xs → X
@@ -70,17 +67,3 @@ one_list_more Is k lists list are more = record {
             subst (Is number) (sym (get_or_push lists list [] number (are.one_each ∙ sym is))) (subst (λ n. Is n list) (sym is) more)
       ];
 }
-
--- what is counted over the boxes of a cut are its blocks
-pub blocks_are : (layer_map : LayerMap) (lists : List (List Rect)) (parts : Parts) (k number radius : ℕ) (measure : Measure) (boxes : List Rect) (cells : List Cell) (n : ℕ)
-    → ArePartsOf layer_map lists parts → k < length parts.cuts → number ≡ length parts.metals + k → boxes ≡ slice_index_or parts.cuts k [] → radius ≡ side_of measure / 2 → 1 ≤ radius
-    → Tally (CoversSomeBox boxes radius) cells n → Tally (IsFault layer_map (IsCoveredIn lists) Via number (side_of measure)) cells n
-blocks_are layer_map lists parts k number radius measure boxes cells n are small is read reach some counted =
-    let covers = IsCoveredIn lists in
-    let among : k < length layer_map.cuts = omega (arith, are.one_each_cut) in
-    let side : radius + radius ≡ side_of measure = ap (λ r. r + r) reach ∙ even measure in
-    let of_map : length layer_map.metals + k ≡ number = sym (is ∙ ap (λ m. m + k) are.one_each) in
-    let of_list = subst (λ bs. Tally (CoversSomeBox bs radius) cells n) read counted in
-    let blocked = Tally-same_all cells n (block_is layer_map k among lists parts are radius some) of_list in
-    let of_side = subst (λ s. Tally (IsFault layer_map covers Via (length layer_map.metals + k) s) cells n) side blocked in
-    subst (λ m. Tally (IsFault layer_map covers Via m (side_of measure)) cells n) of_map of_side

@@ -6,9 +6,9 @@ pub mod FaultLaws
 pub mod RowLaws
 pub mod UniqueLaws
 pub mod CutLaws
-pub mod OpenLaws
 pub mod NearLaws
-pub mod SharingLaws
+pub mod ZippedLaws
+pub mod IndexLaws
+pub mod CountedLaws
 pub mod CountingLaws
-pub mod WholeLaws
 pub mod LengtheningLaws

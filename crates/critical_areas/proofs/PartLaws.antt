@@ -25,7 +25,7 @@ use Rattle.via_clusters.specs.Blocks.{CoversSomeBox}
 use Rattle.via_clusters.specs.Clusters.{AreClusterBoxes}
 use Rattle.via_clusters.proofs.BlockLaws.{block_is_box}
 use Rattle.critical_areas.specs.AreaParts.{AreBoxesOf, AreIslandsOf, ArePartsOf, ArePiecesOf, IsInPieces, by_net}
-use Rattle.critical_areas.specs.inside.LayerParts.{AreAllBoxes, AreAllIslands}
+use Rattle.critical_areas.specs.LayerParts.{AreAllBoxes, AreAllIslands}
 use Rattle.critical_areas.specs.declared.parts.Parts.{Parts}
 
 module _ (layer_map : LayerMap) (lists : List (List Rect)) (made : NetLists) (are : AreNetsOf layer_map lists made) (metal : ℕ) where
@@ -80,20 +80,20 @@ cut_is_among layer_map number cut there =
 pub parts_are : (layer_map : LayerMap) (lists : List (List Rect)) (made : NetLists) (parts : Parts) → AreNetsOf layer_map lists made → parts.questions ≡ questions layer_map
     → parts.metals ≡ map (map by_net) made.pieces → AreAllIslands made (length made.pieces) parts.islands → AreAllBoxes made (length made.contacts) parts.cuts → terminal_cuts_of layer_map ≡ []
     → ArePartsOf layer_map lists parts
-parts_are layer_map lists made parts are asked metals anchored boxed cells_alone = record {
-  asked = asked;
-  one_each = ap length metals ∙ length-map made.pieces (map by_net) ∙ are.metals;
-  pieces = λ metal small.
-      let at = ap (λ ms. slice_index_or ms metal []) metals ∙ get_or-map (map by_net) made.pieces metal [] in
-      subst (ArePiecesOf (IsCoveredIn lists) (cuts_of layer_map) metal) (sym at) (pieces_by_net layer_map lists made are metal small);
-  islands_each = anchored.one_each ∙ are.metals;
-  islands = λ metal small. islands_of_metal layer_map lists made are metal _ (anchored.each metal (omega (arith, are.metals)));
-  cells_alone = cells_alone;
-  one_each_cut = boxed.one_each ∙ are.cuts;
-  boxes = λ number cut there.
-      let among = cut_is_among layer_map number cut there in
-      boxes_of_cut layer_map lists made are number cut there _ (boxed.each number (omega (arith, are.cuts, among)));
-}
+parts_are layer_map lists made parts are asked metals anchored boxed cells_alone =
+    let islands = subst (λ n. AreAllIslands made n parts.islands) are.metals anchored in
+    let boxes = subst (λ n. AreAllBoxes made n parts.cuts) are.cuts boxed in
+    record {
+      asked = asked;
+      one_each = ap length metals ∙ length-map made.pieces (map by_net) ∙ are.metals;
+      pieces = λ metal small.
+          let at = ap (λ ms. slice_index_or ms metal []) metals ∙ get_or-map (map by_net) made.pieces metal [] in
+          subst (ArePiecesOf (IsCoveredIn lists) (cuts_of layer_map) metal) (sym at) (pieces_by_net layer_map lists made are metal small);
+      islands = λ metal small. islands_of_metal layer_map lists made are metal _ (islands.each metal small);
+      cells_alone = cells_alone;
+      boxes = λ number cut there. boxes_of_cut layer_map lists made are number cut there _ (boxes.each number (cut_is_among layer_map number cut there));
+      each_once = record { nets = made; are_nets = are; islands = islands; boxes = boxes };
+    }
 
 -- where checks were answered with a thing, and what is made from it lacks nothing but memory, they are answered with what is made
 pub made_from : {N T U F : Type 0} {memory : F} {Holds : N → Type 0} {checks : List N} {fault_of : N → F} (Is : T → Type 0) (Js : U → Type 0) (thing : T) (result : Result U F)

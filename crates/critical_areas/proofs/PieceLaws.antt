@@ -1,22 +1,19 @@
 -- pieces labelled by nets, and where a defect touches two of them
-use Rattle.std.proofs.Common.{ℕ, ◌+◌, ◌/◌, ◌<◌, ◌≤◌, ◌≡◌, refl, sym, ap, ◌∙◌, subst, List, [], length, arith, ◌↔◌, ◌≤ℤ◌, pos, slice_index_or}
-use Rattle.geo_core.specs.Plane.{Has, IsRadius, IsCoveredIn}
+use Rattle.std.proofs.Common.{ℕ, ◌+◌, ◌/◌, ◌≤◌, ◌≡◌, refl, sym, ◌∙◌, List, arith, ◌↔◌, ◌≤ℤ◌, pos}
+use Rattle.geo_core.specs.Plane.{Has, IsRadius}
 use Rattle.geo_core.specs.declared.bounds.TheConstants.{GREATEST_REACH}
 use Rattle.geo_core.specs.declared.plane.Cell.{Cell}
 use Rattle.geo_core.specs.declared.plane.Half.{Half}
 use Rattle.geo_core.specs.declared.plane.Labelled.{Labelled}
 use Rattle.geo_core.specs.declared.plane.Rect.{Rect}
-use Rattle.fault_model.specs.FaultNames.{Tally, IsShort, IsOn, IsInFootprint, Cut}
-use Rattle.fault_model.proofs.TallyLaws.{Tally-same_all}
-use Rattle.map_model.specs.MapNames.{LayerMap, side_of}
+use Rattle.fault_model.specs.FaultNames.{IsShort, IsOn, IsInFootprint, Cut}
+use Rattle.map_model.specs.MapNames.{side_of}
 use Rattle.map_model.specs.declared.measure.Measure.{Measure}
 use Rattle.map_model.specs.declared.measure.Measure.TheVariants.{Radius}
-use Rattle.net_extract.specs.Cuts.{cuts_of}
 use Rattle.short_area.specs.Labels.{TouchesLabel, TouchesTwoLabels}
 use Rattle.tile_plan.specs.Near.{HasExactlyNear, HitsLabel, HitsTwoLabels}
 use Rattle.tile_plan.proofs.NearLaws.{same_two_labels}
-use Rattle.critical_areas.specs.AreaParts.{IsInPieces, ArePartsOf, ArePiecesOf}
-use Rattle.critical_areas.specs.declared.parts.Parts.{Parts}
+use Rattle.critical_areas.specs.AreaParts.{IsInPieces, ArePiecesOf}
 
 module _ (covers : ℕ → Cell → Type 0) (cuts : List Cut) (m : ℕ) (pieces : List Labelled) (are : ArePiecesOf covers cuts m pieces) where
   module _ (s : ℕ) (c : Cell) where
@@ -66,7 +63,7 @@ module _ (covers : ℕ → Cell → Type 0) (cuts : List Cut) (m : ℕ) (pieces 
         (λ t. short_is.0 (same.0 t), λ short. same.1 (short_is.1 short))
 
   -- a defect of a radius has the side that is twice the radius
-  touched_is : (r : ℕ) (c : Cell) → TouchesTwoLabels pieces r c ↔ IsShort covers cuts m (r + r) c
+  pub touched_is : (r : ℕ) (c : Cell) → TouchesTwoLabels pieces r c ↔ IsShort covers cuts m (r + r) c
   touched_is r c =
       let is = short_is (r + r) c in
       let hit = λ (label : ℕ) (t : TouchesLabel pieces r c label).
@@ -83,13 +80,3 @@ even (Radius radius) = omega arith
 
 pub reach_is_radius : (measure : Measure) → 1 ≤ side_of measure → pos (side_of measure / 2) ≤ℤ GREATEST_REACH → IsRadius (side_of measure / 2)
 reach_is_radius measure some within = let same = even measure in record { least = omega arith; most = within }
-
--- what is counted over the pieces of a metal are its shorts
-pub shorts_are : (layer_map : LayerMap) (lists : List (List Rect)) (parts : Parts) (metal radius : ℕ) (measure : Measure) (pieces : List Labelled) (cells : List Cell) (n : ℕ)
-    → ArePartsOf layer_map lists parts → metal < length parts.metals → pieces ≡ slice_index_or parts.metals metal [] → radius ≡ side_of measure / 2 → Tally (TouchesTwoLabels pieces radius) cells n
-    → Tally (IsShort (IsCoveredIn lists) (cuts_of layer_map) metal (side_of measure)) cells n
-shorts_are layer_map lists parts metal radius measure pieces cells n are small read reach counted =
-    let covers = IsCoveredIn lists in
-    let cuts = cuts_of layer_map in
-    let pieces_are = subst (ArePiecesOf covers cuts metal) (sym read) (are.pieces metal (omega (arith, are.one_each))) in
-    subst (λ s. Tally (IsShort covers cuts metal s) cells n) (ap (λ r. r + r) reach ∙ even measure) (Tally-same_all cells n (touched_is covers cuts metal pieces pieces_are radius) counted)

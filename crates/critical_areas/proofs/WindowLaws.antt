@@ -58,7 +58,7 @@ rects_next lists k list small is =
     ap rects_of (taken_more lists k list small is) ∙ flat_map-append (λ xs. xs) (take k lists) (list ∷ []) ∙ ap (λ rects. rects_of (take k lists) ++ rects) (append-nil list)
 
 -- a list that was read, by its number
-pub read_list : (lists : List (List Rect)) (number : ℕ) (list : List Rect) → number < length lists → list ≡ get_or lists number list → get_or lists number [] ≡ list
+pub read_list : {X : Type 0} (lists : List (List X)) (number : ℕ) (list : List X) → number < length lists → list ≡ get_or lists number list → get_or lists number [] ≡ list
 read_list lists number list small is = get_or_from_slice_get lists number list [] (slice_get-get_or lists number list small ∙ ap Some (sym is))
 
 -- a list with an item is one of the lists

@@ -13,12 +13,14 @@ use Rattle.fault_model.specs.FaultNames.{IsOn, Cut, IsSameNetOn, IsViaBlock, Isl
 use Rattle.fault_model.specs.Faults.{IsCellsOpen}
 use Rattle.map_model.specs.MapNames.{LayerMap}
 use Rattle.net_extract.specs.Cuts.{cuts_of, terminal_cuts_of}
-use Rattle.net_extract.specs.Extraction.{IsOnItsMetal, off_metal}
+use Rattle.net_extract.specs.Extraction.{AreNetsOf, IsOnItsMetal, off_metal}
+use Rattle.net_extract.specs.NetLists.{NetLists}
 use Rattle.net_extract.specs.declared.fault.NetFault.{NetFault}
 use Rattle.net_extract.specs.declared.pieces.Piece.{Piece}
 use Rattle.questions.specs.Questions.{questions}
 use Rattle.severing.specs.Severing.{IsSomeOpen}
 use Rattle.via_clusters.specs.Blocks.{CoversSomeBox}
+use Rattle.critical_areas.specs.LayerParts.{AreAllBoxes, AreAllIslands}
 use Rattle.critical_areas.specs.declared.parts.Parts.{Parts}
 
 -- one of the pieces has the cell
@@ -42,20 +44,27 @@ abbrev pub AreBoxesOf : (ℕ → Cell → Type 0) → Cut → List Rect → Type
 AreBoxesOf covers cut boxes = (radius : ℕ) (c : Cell) → 1 ≤ radius
     → CoversSomeBox boxes radius c ↔ IsViaBlock covers cut (radius + radius) c
 
+-- of the nets that the lists come to, the islands are those with two terminals or more, each once, and the boxes are those of the
+-- via clusters, one for each
+pub record AreEachOnce (layer_map : LayerMap) (lists : List (List Rect)) (parts : Parts) : Type 0 where
+  pub nets : NetLists
+  pub are_nets : AreNetsOf layer_map lists nets
+  pub islands : AreAllIslands nets (length layer_map.metals) parts.islands
+  pub boxes : AreAllBoxes nets (length layer_map.cuts) parts.cuts
+
 -- the parts are those of this layer map and of what the lists cover
 pub record ArePartsOf (layer_map : LayerMap) (lists : List (List Rect)) (parts : Parts) : Type 0 where
   pub asked : parts.questions ≡ questions layer_map
   pub one_each : length parts.metals ≡ length layer_map.metals
   pub pieces : (metal : ℕ) → metal < length layer_map.metals →
       ArePiecesOf (IsCoveredIn lists) (cuts_of layer_map) metal (slice_index_or parts.metals metal [])
-  pub islands_each : length parts.islands ≡ length layer_map.metals
   pub islands : (metal : ℕ) → metal < length layer_map.metals →
       AreIslandsOf (IsCoveredIn lists metal) (λ d. Contains layer_map.terminals (metal, d)) (slice_index_or parts.islands metal [])
   -- the terminals are cells: no cut has via clusters for terminals
   pub cells_alone : terminal_cuts_of layer_map ≡ []
-  pub one_each_cut : length parts.cuts ≡ length layer_map.cuts
   pub boxes : (number : ℕ) (cut : Cut) → slice_get (cuts_of layer_map) number ≡ Some cut →
       AreBoxesOf (IsCoveredIn lists) cut (slice_index_or parts.cuts number [])
+  pub each_once : AreEachOnce layer_map lists parts
 
 -- what layers come to: parts where all terminals are on their metals, and else the fault of the first that is not
 abbrev pub ComeToParts : LayerMap → List (List Rect) → Outcome Parts NetFault → Type 0

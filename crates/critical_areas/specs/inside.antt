@@ -1,5 +1,4 @@
 pub mod LayoutBounds
-pub mod LayerParts
-pub mod Sharing
-pub mod Whole
+pub mod Work
+pub mod Indexes
 pub mod Lengthening

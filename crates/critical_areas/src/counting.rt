@@ -1,51 +1,52 @@
-ghost use Rattle.std.specs.Prelude.{List, ◌≡◌, ◌<◌, ◌^◌, IfOk, All, length};
+ghost use Rattle.std.specs.Prelude.{◌<◌, ◌^◌, IfOk, All};
 ghost use Rattle.fault_model.specs.Areas.{cells_of_window};
-ghost use Rattle.geo_core.specs.Unions.{IsCoveredIn};
-ghost use Rattle.geo_core.specs.declared.plane.Rect.{Rect as Rectangle};
-ghost use Rattle.map_model.specs.LayerMap.{LayerMap};
-ghost use Rattle.critical_areas.specs.AreaParts.{ArePartsOf};
-ghost use Rattle.critical_areas.specs.Rows.{AreAmounts, IsAmount};
-ghost use Rattle.questions.specs.Questions.{IsAskable};
+ghost use Rattle.critical_areas.specs.Counts.{AreCounted};
 
-use super::blocks::blocks;
-use super::opens::opens;
-use super::parts::Parts;
-use super::shorts::shorts;
+use super::edges::sensible_plan;
+use super::parts::Asked;
+use super::sharing::Sharing;
+use super::tiles::Tiles;
 use geo_core::Rect;
 use lists::NoMemory;
-use questions::{Kind, Question};
 use std::alloc::Global;
+use std::thread::Threads;
+use tile_board::Board;
+use tile_work::{Gate, close_sums, run_tiles};
 
-/// For each question of the parts, in order, how many cells of the window, where there is one, have its fault. The only
-/// error is that no memory is left.
-pub fn amounts(alloc: Global, parts: &Parts, window: Option<Rect>) -> Result<Vec<u64>, NoMemory>
-    ensures tallies { (layer_map : LayerMap) (lists : List (List Rectangle)) → ArePartsOf layer_map lists parts.now →
-        IfOk result (λ amounts. AreAmounts layer_map (IsCoveredIn lists) (cells_of_window window) amounts.items) }
-    ensures one_each { IfOk result (λ amounts. length amounts.items ≡ length parts.now.questions) }
+/// For each question, in order, at how many cells of the window, where there is one, a defect of its size touches pieces of two
+/// labels of its metal, parts two anchors of an island of its metal, or covers a box of its cut, by the question's kind.
+///
+/// They are counted over tiles, which workers share. The only error is that no memory is left.
+pub fn amounts<G: Gate + Sync>(
+    rt: &(impl Threads + Sync),
+    alloc: Global,
+    asked: Asked<'_>,
+    window: Option<Rect>,
+    sharing: Sharing<'_, G>,
+) -> Result<Vec<u64>, NoMemory>
+    ensures counted { IfOk result (λ amounts.
+        AreCounted asked.entry.parts.now (cells_of_window window) asked.entry.questions.now amounts.items) }
     ensures small { IfOk result (λ amounts. All (λ amount. amount < 2 ^ 63) amounts.items) }
 {
-    let mut amounts = Vec::new(alloc);
-    for question in parts.questions.as_slice() {
-        amounts.push(amount(alloc, parts, question, window)?)?;
+    let Some(window) = window else {
+        return Ok(vec![in alloc; 0; asked.questions.len()]?);
+    };
+    if asked.questions.is_empty() {
+        return Ok(Vec::new(alloc));
     }
-    Ok(amounts)
-}
-
-/// How many cells of the window, where there is one, have the fault of the question.
-fn amount(
-    alloc: Global,
-    parts: &Parts,
-    question: &Question,
-    window: Option<Rect>,
-) -> Result<u64, NoMemory>
-    requires { IsAskable (length parts.now.metals) (length parts.now.cuts) question.now }
-    ensures tally { (layer_map : LayerMap) (lists : List (List Rectangle)) → ArePartsOf layer_map lists parts.now →
-        IfOk result (IsAmount layer_map (IsCoveredIn lists) (cells_of_window window) question.now) }
-    ensures small { IfOk result (λ n. n < 2 ^ 63) }
-{
-    match question.kind {
-        Kind::Short => shorts(alloc, parts, question.number, question.measure, window),
-        Kind::Open => opens(alloc, parts, question.number, question.measure, window),
-        Kind::Via => blocks(alloc, parts, question.number, question.measure, window),
-    }
+    let plan = sensible_plan(asked, window, sharing.edge);
+    let tiles = Tiles::new(alloc, asked, plan)?;
+    let slots = asked.questions.len() as u32;
+    let draws = u64::from(sharing.workers) * (plan.count() + 1);
+    let (board, mut hand) = Board::new(alloc, plan.count(), slots, plan.cap(), draws)?;
+    run_tiles(
+        rt,
+        alloc,
+        &tiles,
+        sharing.gate,
+        &board,
+        &mut hand,
+        sharing.workers,
+    )?;
+    close_sums(alloc, &tiles, board, hand)
 }

@@ -2,7 +2,7 @@ ghost use Rattle.std.specs.Prelude.{◌≡◌, ◌≤◌, length};
 ghost use Rattle.questions.specs.Questions.{IsAskable};
 ghost use Rattle.critical_areas.specs.inside.Lengthening.{IsDoubled};
 
-use super::parts::Parts;
+use super::parts::{Asked, Parts};
 use geo_core::Rect;
 use questions::{Kind, Question};
 use tile_plan::{Rectangular, TilePlan, plan};
@@ -19,32 +19,27 @@ const SPARED_ASKS: u64 = 1_000_000;
 
 /// The tiles of the window to count over. Their edge is the one that is asked for, doubled where tiles would be too many, would
 /// take too many looks at pieces or would ask too often.
-pub fn sensible_plan(parts: &Parts, window: Rect, edge: u32) -> TilePlan
+pub fn sensible_plan(asked: Asked<'_>, window: Rect, edge: u32) -> TilePlan
     requires some { 1 ≤ edge }
     requires short { edge ≤ 1000000000 }
     ensures window { result.window ≡ window }
     ensures edge { IsDoubled edge result.edge }
 {
-    plan(window, sensible_edge(parts, window, edge))
+    plan(window, sensible_edge(asked, window, edge))
 }
 
 /// The edge that is asked for, doubled until tiles look at each piece about twice on average, and in all about 100,000 times more,
 /// and until they ask questions about twice for each piece, and 1,000,000 times more. Each tile looks at all pieces that come near
 /// it, so over short tiles the work of wires as long as the layout would grow with the square of their number, and so would that of
 /// large defects. And each tile asks all questions, so a few pieces far apart would take as long as a layout that fills the plane.
-fn sensible_edge(parts: &Parts, window: Rect, edge: u32) -> u32
+fn sensible_edge(asked: Asked<'_>, window: Rect, edge: u32) -> u32
     requires some { 1 ≤ edge }
     requires short { edge ≤ 1000000000 }
     ensures some { 1 ≤ result }
     ensures short { result ≤ 1000000000 }
     ensures edge { IsDoubled edge result }
 {
-    doubled(
-        parts,
-        window,
-        greatest_reach(parts.questions.as_slice()),
-        edge,
-    )
+    doubled(asked, window, greatest_reach(asked.questions), edge)
 }
 
 /// How far a defect that is asked for reaches at most.
@@ -57,38 +52,38 @@ fn greatest_reach(questions: &[Question]) -> u32 {
 }
 
 /// The edge, doubled while it is too short.
-fn doubled(parts: &Parts, window: Rect, reach: u32, edge: u32) -> u32
+fn doubled(asked: Asked<'_>, window: Rect, reach: u32, edge: u32) -> u32
     requires some { 1 ≤ edge }
     requires short { edge ≤ 1000000000 }
     ensures some { 1 ≤ result }
     ensures short { result ≤ 1000000000 }
     ensures edge { IsDoubled edge result }
 {
-    if edge > LONG_EDGE || !is_too_short(parts, window, reach, edge) {
+    if edge > LONG_EDGE || !is_too_short(asked, window, reach, edge) {
         return edge;
     }
-    doubled(parts, window, reach, edge * 2)
+    doubled(asked, window, reach, edge * 2)
 }
 
 /// Whether tiles with this edge would take too many looks at pieces, or would ask too often.
-fn is_too_short(parts: &Parts, window: Rect, reach: u32, edge: u32) -> bool
+fn is_too_short(asked: Asked<'_>, window: Rect, reach: u32, edge: u32) -> bool
     requires { 1 ≤ edge }
 {
-    if further_looks(parts, reach, edge) > SPARED_LOOKS {
+    if further_looks(asked.parts, reach, edge) > SPARED_LOOKS {
         return true;
     }
-    let spared = pieces_asked(parts).saturating_mul(2);
-    asks(parts, window, edge) > spared.saturating_add(SPARED_ASKS)
+    let spared = pieces_asked(asked).saturating_mul(2);
+    asks(asked, window, edge) > spared.saturating_add(SPARED_ASKS)
 }
 
 /// How often tiles with this edge ask a question.
-fn asks(parts: &Parts, window: Rect, edge: u32) -> u64
+fn asks(asked: Asked<'_>, window: Rect, edge: u32) -> u64
     requires { 1 ≤ edge }
 {
     let columns = tiles_along(window.x1.abs_diff(window.x0), edge);
     let rows = tiles_along(window.y1.abs_diff(window.y0), edge);
     let tiles = columns.saturating_mul(rows);
-    tiles.saturating_mul(parts.questions.as_slice().len() as u64)
+    tiles.saturating_mul(asked.questions.len() as u64)
 }
 
 /// How many tiles lie along so many places.
@@ -99,12 +94,12 @@ fn tiles_along(places: u32, edge: u32) -> u64
 }
 
 /// How many pieces or boxes the questions are asked about, each as often as there are questions about it.
-fn pieces_asked(parts: &Parts) -> u64 {
-    let mut asked = 0_u64;
-    for question in parts.questions.as_slice() {
-        asked = asked.saturating_add(pieces_of(parts, question) as u64);
+fn pieces_asked(asked: Asked<'_>) -> u64 {
+    let mut pieces = 0_u64;
+    for question in asked.questions {
+        pieces = pieces.saturating_add(pieces_of(asked.parts, question) as u64);
     }
-    asked
+    pieces
 }
 
 /// How many pieces the metal of the question has, or how many boxes its cut.

@@ -1,13 +1,16 @@
 //! Facts about the definitions, each the contract of a function that does nothing else.
 
 ghost use Rattle.std.specs.Prelude.{ℕ, List, All, Contains, false, ◌/◌, ◌≤◌, ◌≡◌, ◌↔◌};
-ghost use Rattle.critical_areas.specs.AreaParts.{ArePiecesOf};
+ghost use Rattle.critical_areas.specs.AreaParts.{ArePartsOf, ArePiecesOf};
+ghost use Rattle.critical_areas.specs.Counts.{AreCounted};
+ghost use Rattle.critical_areas.specs.declared.parts.Parts.{Parts};
 ghost use Rattle.critical_areas.specs.FaultKinds.{IsFault};
-ghost use Rattle.critical_areas.specs.Rows.{AreRows};
+ghost use Rattle.critical_areas.specs.Rows.{AreAmounts, AreRows};
 ghost use Rattle.fault_model.specs.Faults.{IsCellsOpen, IsShort};
 ghost use Rattle.fault_model.specs.Nets.{Cut};
 ghost use Rattle.first_refusal.specs.Laws.{IsUnique};
 ghost use Rattle.geo_core.specs.Cells.{Has};
+ghost use Rattle.geo_core.specs.Unions.{IsCoveredIn};
 ghost use Rattle.geo_core.specs.declared.plane.Cell.{Cell};
 ghost use Rattle.geo_core.specs.declared.plane.Labelled.{Labelled};
 ghost use Rattle.geo_core.specs.declared.plane.Rect.{Rect};
@@ -37,4 +40,11 @@ pub fn opens_are_of_cells<L: Layout>()
     ensures { (layer_map : LayerMap) (metal s : ℕ) (c : Cell) → All (λ cut. cut.has_terminals ≡ false) layer_map.cuts →
         IsFault layer_map L.covers Open metal s c ↔
         IsCellsOpen (L.covers metal) (λ d. Contains layer_map.terminals (metal, d)) s c }
+{}
+
+/// What is counted over the parts of a layer map for its questions are the amounts of their faults.
+pub fn counts_are_amounts()
+    ensures { (layer_map : LayerMap) (lists : List (List Rect)) (parts : Parts) (cells : List Cell) (amounts : List ℕ) →
+        ArePartsOf layer_map lists parts → AreCounted parts cells parts.questions amounts →
+        AreAmounts layer_map (IsCoveredIn lists) cells amounts }
 {}

@@ -4,7 +4,7 @@ ghost use Rattle.geo_core.specs.declared.plane.Rect.{Rect as Rectangle};
 ghost use Rattle.map_model.specs.MapView.{layer_map_of};
 ghost use Rattle.net_extract.specs.Extraction.{AreNetsOf};
 ghost use Rattle.critical_areas.specs.AreaParts.{ArePartsOf, ComeToParts, by_net};
-ghost use Rattle.critical_areas.specs.inside.LayerParts.{AreAllBoxes, AreAllIslands};
+ghost use Rattle.critical_areas.specs.LayerParts.{AreAllBoxes, AreAllIslands};
 
 use super::parts::{IslandList, Parts, PieceList};
 use geo_core::{Labelled, RectList};
@@ -16,7 +16,9 @@ use std::alloc::Global;
 use via_clusters::clusters;
 
 /// Makes what all areas of these layers need, of which there is one list of rectangles for each metal of the map, and
-/// then one for each cut. The error is the first terminal that is not on its metal, or that no memory is left.
+/// then one for each cut. Each island with two terminals or more is there once, and there is one box for each via cluster.
+///
+/// The error is the first terminal that is not on its metal, or that no memory is left.
 pub fn prepare(alloc: Global, map: &Map, layers: &Layers) -> Result<Parts, NetFault>
     requires { length layers.now.lists.items ≡ length map.now.metals + length map.now.cuts }
     ensures { Answers NetFault.Memory (ComeToParts (layer_map_of map.now) layers.now.lists.items) result }

@@ -1,219 +1,207 @@
-ghost use Rattle.std.specs.Prelude.{List, pos, ◌≡◌, ◌<◌, ◌≤◌, ◌≤ℤ◌, ◌+◌, ◌/◌, ◌^◌, IfErr, IfOk, All, length};
-ghost use Rattle.fault_model.specs.Areas.{Tally, cells_of, cells_of_window};
-ghost use Rattle.geo_core.specs.Unions.{IsCoveredIn, IsInUnion};
-ghost use Rattle.geo_core.specs.declared.bounds.TheConstants.{GREATEST_REACH};
-ghost use Rattle.geo_core.specs.declared.plane.Rect.{Rect as Rectangle};
-ghost use Rattle.map_model.specs.LayerMap.{LayerMap};
-ghost use Rattle.map_model.specs.Measures.{side_of};
+ghost use Rattle.std.specs.Prelude.{◌≡◌, ◌+◌, ◌↔◌, IfOk, Some, length, slice_get};
+ghost use Rattle.std.specs.List.Sorted.{IsPermutation};
+ghost use Rattle.std.specs.Option.{ForSome};
+ghost use Rattle.fault_model.specs.Areas.{Tally, cells_of};
+ghost use Rattle.geo_core.specs.Bounds.{IsRadius};
+ghost use Rattle.geo_core.specs.Cells.{Has};
+ghost use Rattle.geo_core.specs.Unions.{IsInUnion};
+ghost use Rattle.geo_core.specs.declared.plane.Cell.{Cell};
 ghost use Rattle.questions.specs.Questions.{IsAskable};
+ghost use Rattle.severing.specs.Severing.{IsSomeOpen};
 ghost use Rattle.short_area.specs.Labels.{TouchesTwoLabels};
-ghost use Rattle.questions.specs.declared.row.TheConstants.{MOST_ROWS};
 ghost use Rattle.via_clusters.specs.Blocks.{CoversSomeBox};
-ghost use Rattle.critical_areas.specs.AreaParts.{ArePartsOf};
-ghost use Rattle.critical_areas.specs.Rows.{AreAmounts, AreRows, IsWindowFor};
-ghost use Rattle.critical_areas.specs.inside.Sharing.{AreCounted, IsCounted};
 
-use super::answering::rows;
-use super::counting::amounts;
-use super::edges::sensible_plan;
-use super::parts::Parts;
-use super::shared::{Asked, Shared};
-use super::sharing::share;
-use super::whole::amounts_of_whole;
+use super::indexes::{indexes_of, opens_of};
+use super::parts::Asked;
+use fault_model::Island;
 use geo_core::{Labelled, Rect};
 use lists::NoMemory;
-use map_model::Measure;
-use net_extract::NetFault;
-use questions::{Kind, Row};
+use open_grid::open_area;
+use questions::{Kind, Question};
 use short_area::short_area;
 use std::alloc::Global;
-use std::thread::Threads;
-use tile_board::Board;
+use std::marker::Model;
 use tile_plan::{NearIndex, TilePlan};
-use tile_work::{Gate, TileJob, close_sums, run_tiles};
+use tile_work::TileJob;
 use union_area::union_area;
 use via_clusters::via_area;
 
-/// The rows of the report on the parts, with what is counted over the window, as `tiled_amounts` counts it. The only error is
-/// that no memory is left.
-pub fn tiled_rows<G: Gate + Sync>(
-    rt: &(impl Threads + Sync),
-    alloc: Global,
-    parts: &Parts,
-    window: Option<Rect>,
-    edge: u32,
-    workers: u32,
-    gate: &G,
-) -> Result<Vec<Row>, NetFault>
-    requires some { 1 ≤ edge }
-    requires short { edge ≤ 1000000000 }
-    requires some_workers { 1 ≤ workers }
-    requires few_workers { workers ≤ 64 }
-    ensures rows { (layer_map : LayerMap) (lists : List (List Rectangle)) → ArePartsOf layer_map lists parts.now →
-        IsWindowFor layer_map (IsCoveredIn lists) window →
-        IfOk result (λ rows. AreRows layer_map (IsCoveredIn lists) rows.items) }
-    ensures few { IfOk result (λ rows. length rows.items ≤ MOST_ROWS) }
-    ensures memory { IfErr result (λ fault. fault ≡ NetFault.Memory) }
-{
-    let amounts = tiled_amounts(rt, alloc, parts, window, edge, workers, gate)?;
-    Ok(rows(alloc, parts, &amounts)?)
+/// The tiles of a plan as work to share: each is a ticket, and each question has a slot. Contracts see the parts, the questions
+/// and the plan.
+///
+/// Where there are several tiles, what they are counted from is put into indexes, once, so that a tile costs what is near it and
+/// not the layout. Where one tile is all of the window there is no index: all pieces and boxes count as near, as they stand in the
+/// parts, and opens are looked for when their question comes.
+#[derive(Drop)]
+pub struct Tiles<'a> {
+    asked: Asked<'a>,
+    plan: TilePlan,
+    /// For each question the cells of the window at which there is an open, where it asks for opens.
+    opens: Vec<NearIndex<Rect>>,
+    /// The pieces of each metal.
+    metals: Vec<NearIndex<Labelled>>,
+    /// The boxes of each cut.
+    cuts: Vec<NearIndex<Rect>>,
 }
 
-/// For each question of the parts, in order, how many cells of the window, where there is one, have its fault. They are counted
-/// over tiles with this edge, or a longer one where pieces or defects are long, by so many workers at once, and each tile
-/// passes the gate. Where one tile is all of the window nothing is made for tiles.
-fn tiled_amounts<G: Gate + Sync>(
-    rt: &(impl Threads + Sync),
-    alloc: Global,
-    parts: &Parts,
-    window: Option<Rect>,
-    edge: u32,
-    workers: u32,
-    gate: &G,
-) -> Result<Vec<u64>, NoMemory>
-    requires some { 1 ≤ edge }
-    requires short { edge ≤ 1000000000 }
-    requires some_workers { 1 ≤ workers }
-    requires few_workers { workers ≤ 64 }
-    ensures tallies { (layer_map : LayerMap) (lists : List (List Rectangle)) → ArePartsOf layer_map lists parts.now →
-        IfOk result (λ amounts. AreAmounts layer_map (IsCoveredIn lists) (cells_of_window window) amounts.items) }
-    ensures one_each { IfOk result (λ amounts. length amounts.items ≡ length parts.now.questions) }
-    ensures small { IfOk result (λ amounts. All (λ amount. amount < 2 ^ 63) amounts.items) }
-{
-    let Some(whole) = window else {
-        return amounts(alloc, parts, window);
-    };
-    let plan = sensible_plan(parts, whole, edge);
-    if plan.count() == 1 {
-        return amounts_of_whole(rt, alloc, parts, whole, gate);
+impl<'a> Model for Tiles<'a> {
+    ghost use Rattle.critical_areas.specs.inside.Indexes.{AreIndexesOf};
+    ghost use Rattle.critical_areas.specs.inside.Work.{Work};
+
+    ghost Value = { Work };
+
+    ghost view = { λ tiles. record {
+      parts = tiles.asked.parts.now;
+      questions = tiles.asked.questions.now;
+      plan = tiles.plan;
+    } };
+
+    ghost invariant = { λ tiles. AreIndexesOf tiles.asked.parts.now tiles.asked.questions.now tiles.plan.window
+        tiles.opens.items tiles.metals.items tiles.cuts.items };
+}
+
+impl<'a> Tiles<'a> {
+    ghost use Rattle.critical_areas.specs.Counts.{IsCounted};
+
+    /// The tiles of the plan, with what they are counted from. The only error is that no memory is left.
+    pub fn new(alloc: Global, asked: Asked<'a>, plan: TilePlan) -> Result<Tiles<'a>, NoMemory>
+        ensures { IfOk result (λ tiles. tiles ≡
+            record { parts = asked.entry.parts.now; questions = asked.entry.questions.now; plan = plan }) }
+    {
+        if plan.count() == 1 {
+            return Ok(Tiles {
+                asked,
+                plan,
+                opens: Vec::new(alloc),
+                metals: Vec::new(alloc),
+                cuts: Vec::new(alloc),
+            });
+        }
+        let opens = opens_of(alloc, asked, plan.window)?;
+        let metals = indexes_of(alloc, asked.parts.metals.as_slice())?;
+        let cuts = indexes_of(alloc, asked.parts.cuts.as_slice())?;
+        Ok(Tiles {
+            asked,
+            plan,
+            opens,
+            metals,
+            cuts,
+        })
     }
-    amounts_by_tiles(rt, alloc, parts, &plan, workers, gate)
-}
 
-/// The same over the window of a plan, by so many workers who share its tiles.
-fn amounts_by_tiles<G: Gate + Sync>(
-    rt: &(impl Threads + Sync),
-    alloc: Global,
-    parts: &Parts,
-    plan: &TilePlan,
-    workers: u32,
-    gate: &G,
-) -> Result<Vec<u64>, NoMemory>
-    requires some_workers { 1 ≤ workers }
-    requires few_workers { workers ≤ 64 }
-    ensures tallies { (layer_map : LayerMap) (lists : List (List Rectangle)) → ArePartsOf layer_map lists parts.now →
-        IfOk result (λ amounts. AreAmounts layer_map (IsCoveredIn lists) (cells_of plan.now.window) amounts.items) }
-    ensures one_each { IfOk result (λ amounts. length amounts.items ≡ length parts.now.questions) }
-    ensures small { IfOk result (λ amounts. All (λ amount. amount < 2 ^ 63) amounts.items) }
-{
-    let shared = share(alloc, parts, plan.window)?;
-    sums_over_tiles(rt, alloc, &shared, plan, workers, gate)
-}
-
-/// For each question of what is shared, in order, what is counted for it over all tiles.
-fn sums_over_tiles<G: Gate + Sync>(
-    rt: &(impl Threads + Sync),
-    alloc: Global,
-    shared: &Shared,
-    plan: &TilePlan,
-    workers: u32,
-    gate: &G,
-) -> Result<Vec<u64>, NoMemory>
-    requires some_workers { 1 ≤ workers }
-    requires few_workers { workers ≤ 64 }
-    requires few { length shared.now.asked.items ≤ MOST_ROWS }
-    ensures { IfOk result (λ sums. AreCounted shared.now (cells_of plan.now.window) sums.items) }
-{
-    if shared.asked.is_empty() {
-        return Ok(Vec::new(alloc));
+    /// How many cells of the tile are counted for the question of this slot.
+    fn amount(
+        &self,
+        alloc: Global,
+        slot: usize,
+        question: &Question,
+        tile: Rect,
+    ) -> Result<u64, NoMemory>
+        requires asked { slice_get self.now.questions slot ≡ Some question.now }
+        requires askable { IsAskable (length self.now.parts.metals) (length self.now.parts.cuts) question.now }
+        requires within { (c : Cell) → Has tile c → Has self.now.plan.window c }
+        ensures { IfOk result (Tally (IsCounted self.now.parts question.now) (cells_of tile)) }
+    {
+        let parts = self.asked.parts;
+        let number = question.number as usize;
+        let reach = question.measure.reach();
+        match question.kind {
+            Kind::Short => {
+                let pieces = parts.metals.as_slice()[number].as_slice();
+                shorts_of_tile(alloc, pieces, self.metals.get(number), tile, reach)
+            }
+            Kind::Open => {
+                let islands = parts.islands.as_slice()[number].as_slice();
+                opens_of_tile(alloc, islands, self.opens.get(slot), tile, reach)
+            }
+            Kind::Via => {
+                let cut = number - parts.metals.as_slice().len();
+                let boxes = parts.cuts.as_slice()[cut].as_slice();
+                blocks_of_tile(alloc, boxes, self.cuts.get(cut), tile, reach)
+            }
+        }
     }
-    let tiles = Tiles { shared, plan };
-    let slots = shared.asked.len() as u32;
-    let draws = u64::from(workers) * (plan.count() + 1);
-    let (board, mut hand) = Board::new(alloc, plan.count(), slots, plan.cap(), draws)?;
-    run_tiles(rt, alloc, &tiles, gate, &board, &mut hand, workers)?;
-    close_sums(alloc, &tiles, board, hand)
-}
-
-/// The tiles of a plan as work to share: each is a ticket, and each question has a slot.
-#[derive(Clone, Copy)]
-struct Tiles<'a> {
-    shared: &'a Shared,
-    plan: &'a TilePlan,
 }
 
 impl TileJob for Tiles<'_> {
     ghost use Rattle.std.specs.Prelude.{length};
     ghost use Rattle.tile_plan.specs.Tiles.{tile_count};
-    ghost use Rattle.critical_areas.specs.inside.Sharing.{IsCountedAmount};
+    ghost use Rattle.critical_areas.specs.inside.Work.{IsAmountOfTile};
 
-    ghost tickets = { λ tiles. tile_count tiles.plan.now };
+    ghost tickets = { λ work. tile_count work.plan };
 
-    ghost slots = { λ tiles. length tiles.shared.now.asked.items };
+    ghost slots = { λ work. length work.questions };
 
-    ghost is_amount = { λ tiles ticket slot n. IsCountedAmount tiles.shared.now tiles.plan.now ticket slot n };
+    ghost is_amount = { λ work ticket slot n. IsAmountOfTile work ticket slot n };
 
     fn amounts(&self, alloc: Global, ticket: u64, into: &mut Vec<u64>) -> Result<(), NoMemory> {
         into.clear();
         let tile = self.plan.tile(ticket);
-        for asked in self.shared.asked.as_slice() {
-            into.push(tile_amount(alloc, self.shared, asked, tile)?)?;
+        let questions = self.asked.questions;
+        for (slot, question) in questions.iter().enumerate() {
+            into.push(self.amount(alloc, slot, question, tile)?)?;
         }
         Ok(())
     }
 }
 
-/// How many cells of the tile have the fault of the question.
-fn tile_amount(alloc: Global, shared: &Shared, asked: &Asked, tile: Rect) -> Result<u64, NoMemory>
-    requires { IsAskable (length shared.now.metals.items) (length shared.now.cuts.items) asked.now.question }
-    ensures { IfOk result (Tally (IsCounted shared.now asked.now) (cells_of tile)) }
-{
-    let question = &asked.question;
-    let number = question.number as usize;
-    match question.kind {
-        Kind::Short => shorts_of_tile(alloc, &shared.metals[number], question.measure, tile),
-        Kind::Open => opens_of_tile(alloc, &asked.opens, tile),
-        Kind::Via => {
-            let cut = number - shared.metals.len();
-            blocks_of_tile(alloc, &shared.cuts[cut], question.measure, tile)
-        }
-    }
-}
-
-/// At how many cells of the tile a defect of this size touches pieces of two labels.
+/// At how many cells of the tile a defect that reaches so far touches pieces of two labels. Where there is an index of the pieces
+/// it tells which are near.
 fn shorts_of_tile(
     alloc: Global,
-    pieces: &NearIndex<Labelled>,
-    measure: Measure,
+    pieces: &[Labelled],
+    index: Option<&NearIndex<Labelled>>,
     tile: Rect,
+    reach: u32,
 ) -> Result<u64, NoMemory>
-    requires some { 1 ≤ side_of measure }
-    requires within { pos (side_of measure / 2) ≤ℤ GREATEST_REACH }
-    ensures { IfOk result (Tally (TouchesTwoLabels pieces.now (side_of measure / 2)) (cells_of tile)) }
+    requires radius { IsRadius reach }
+    requires index { ForSome index (λ same. IsPermutation pieces.now same.now) }
+    ensures { IfOk result (Tally (TouchesTwoLabels pieces.now reach) (cells_of tile)) }
 {
-    let near = pieces.near(alloc, tile, measure.reach())?;
-    short_area(alloc, &near, tile, measure.reach())
+    let Some(pieces) = index else {
+        return short_area(alloc, pieces, tile, reach);
+    };
+    let near = pieces.near(alloc, tile, reach)?;
+    short_area(alloc, &near, tile, reach)
 }
 
-/// How many cells of the tile are those of opens.
-fn opens_of_tile(alloc: Global, opens: &NearIndex<Rect>, tile: Rect) -> Result<u64, NoMemory>
-    ensures { IfOk result (Tally (IsInUnion opens.now) (cells_of tile)) }
+/// At how many cells of the tile a defect that reaches so far parts two anchors of an island. Where the cells of all opens are
+/// known they are counted.
+fn opens_of_tile(
+    alloc: Global,
+    islands: &[Island],
+    opens: Option<&NearIndex<Rect>>,
+    tile: Rect,
+    reach: u32,
+) -> Result<u64, NoMemory>
+    requires radius { IsRadius reach }
+    requires opens { ForSome opens (λ cells. (c : Cell) → Has tile c →
+        IsInUnion cells.now c ↔ IsSomeOpen islands.now (reach + reach) c) }
+    ensures { IfOk result (Tally (IsSomeOpen islands.now (reach + reach)) (cells_of tile)) }
 {
+    let Some(opens) = opens else {
+        return open_area(alloc, islands, tile, reach);
+    };
     let near = opens.near(alloc, tile, 0)?;
     union_area(alloc, &near, tile)
 }
 
-/// From how many cells of the tile a defect of this size covers one of the boxes.
+/// At how many cells of the tile a defect that reaches so far covers a box. Where there is an index of the boxes it tells which
+/// are near.
 fn blocks_of_tile(
     alloc: Global,
-    boxes: &NearIndex<Rect>,
-    measure: Measure,
+    boxes: &[Rect],
+    index: Option<&NearIndex<Rect>>,
     tile: Rect,
+    reach: u32,
 ) -> Result<u64, NoMemory>
-    requires some { 1 ≤ side_of measure }
-    requires within { pos (side_of measure / 2) ≤ℤ GREATEST_REACH }
-    ensures { IfOk result (Tally (CoversSomeBox boxes.now (side_of measure / 2)) (cells_of tile)) }
+    requires radius { IsRadius reach }
+    requires index { ForSome index (λ same. IsPermutation boxes.now same.now) }
+    ensures { IfOk result (Tally (CoversSomeBox boxes.now reach) (cells_of tile)) }
 {
-    let near = boxes.near(alloc, tile, measure.reach())?;
-    via_area(alloc, &near, tile, measure.reach())
+    let Some(boxes) = index else {
+        return via_area(alloc, boxes, tile, reach);
+    };
+    let near = boxes.near(alloc, tile, reach)?;
+    via_area(alloc, &near, tile, reach)
 }

@@ -6,6 +6,6 @@ use Rattle.critical_areas.proofs.answering.rows.Given as goal
 
 abbrev pub invariant-loop-k : goal.invariant-loop-k
 invariant-loop-k l = record {
-  named : AllZip IsRowFor (take l.k l.parts.questions) l.rows.items;
+  named : AllZip IsRowFor (take l.k l.asked.questions.now) l.rows.items;
   areas : map (λ (row : Row). row.area) l.rows.items ≡ take l.k l.amounts;
 }

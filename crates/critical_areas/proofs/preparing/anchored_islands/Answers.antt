@@ -1,6 +1,6 @@
 use Rattle.std.proofs.Common.{◌+◌, sym, subst}
 use Rattle.net_extract.specs.AnchoredIslands.{AreAnchoredIslands}
-use Rattle.critical_areas.specs.inside.LayerParts.{AreAllIslands}
+use Rattle.critical_areas.specs.LayerParts.{AreAllIslands}
 use Rattle.critical_areas.proofs.CutLaws.{one_list_more}
 use Rattle.critical_areas.proofs.preparing.anchored_islands.Goals as goal
 

@@ -1,4 +1,4 @@
-use Rattle.critical_areas.specs.inside.LayerParts.{AreAllIslands}
+use Rattle.critical_areas.specs.LayerParts.{AreAllIslands}
 use Rattle.critical_areas.proofs.preparing.anchored_islands.Given as goal
 
 abbrev pub invariant-loop-metal : goal.invariant-loop-metal

@@ -1,6 +1,6 @@
 use Rattle.std.proofs.Common.{◌+◌, sym, subst}
 use Rattle.via_clusters.specs.Clusters.{AreClusterBoxes}
-use Rattle.critical_areas.specs.inside.LayerParts.{AreAllBoxes}
+use Rattle.critical_areas.specs.LayerParts.{AreAllBoxes}
 use Rattle.critical_areas.proofs.CutLaws.{one_list_more}
 use Rattle.critical_areas.proofs.preparing.boxes_of_clusters.Goals as goal
 

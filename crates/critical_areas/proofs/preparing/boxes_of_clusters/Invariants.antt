@@ -1,4 +1,4 @@
-use Rattle.critical_areas.specs.inside.LayerParts.{AreAllBoxes}
+use Rattle.critical_areas.specs.LayerParts.{AreAllBoxes}
 use Rattle.critical_areas.proofs.preparing.boxes_of_clusters.Given as goal
 
 abbrev pub invariant-loop-cut : goal.invariant-loop-cut

@@ -4,7 +4,7 @@ use Rattle.map_model.specs.MapNames.{layer_map_of}
 use Rattle.questions.specs.Questions.{IsAskable}
 use Rattle.questions.specs.declared.question.Question.{Question}
 use Rattle.critical_areas.specs.AreaParts.{by_net}
-use Rattle.critical_areas.specs.inside.LayerParts.{AreAllBoxes, AreAllIslands}
+use Rattle.critical_areas.specs.LayerParts.{AreAllBoxes, AreAllIslands}
 use Rattle.critical_areas.proofs.FaultLaws.{no_terminal_cuts}
 use Rattle.critical_areas.proofs.PartLaws.{parts_are}
 use Rattle.critical_areas.proofs.preparing.parts_of.Goals as goal

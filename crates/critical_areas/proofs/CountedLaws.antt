@@ -1,0 +1,70 @@
+-- what is counted over the parts of a layer map are the cells at which a defect makes the question's fault
+use Rattle.std.proofs.Common.{ℕ, ◌+◌, ◌-◌, ◌/◌, ◌<◌, ◌≡◌, refl, subst, List, [], length, get_or, Some, slice_get, slice_index_or, ◌↔◌, arith}
+use Rattle.lists.proofs.Words.{AllZip, AllZip-long}
+use Rattle.geo_core.specs.Plane.{IsCoveredIn}
+use Rattle.geo_core.specs.declared.plane.Cell.{Cell}
+use Rattle.geo_core.specs.declared.plane.Rect.{Rect}
+use Rattle.fault_model.specs.FaultNames.{Tally, IsShort}
+use Rattle.fault_model.proofs.TallyLaws.{Tally-same_all}
+use Rattle.map_model.specs.MapNames.{LayerMap, side_of}
+use Rattle.net_extract.specs.Cuts.{cuts_of}
+use Rattle.questions.specs.Questions.{IsAskable}
+use Rattle.questions.specs.declared.kind.Kind.{Kind}
+use Rattle.questions.specs.declared.kind.Kind.TheVariants.{Short, Open, Via}
+use Rattle.questions.specs.declared.question.Question.{Question}
+use Rattle.short_area.specs.Labels.{TouchesTwoLabels}
+use Rattle.via_clusters.specs.Blocks.{CoversSomeBox}
+use Rattle.critical_areas.specs.AreaParts.{ArePartsOf}
+use Rattle.critical_areas.specs.Counts.{AreCounted, IsCounted, IsCountedAs}
+use Rattle.critical_areas.specs.FaultKinds.{IsFault}
+use Rattle.critical_areas.specs.Rows.{AreAmounts, IsAmount}
+use Rattle.critical_areas.specs.declared.parts.Parts.{Parts}
+use Rattle.critical_areas.proofs.CutLaws.{block_is}
+use Rattle.critical_areas.proofs.FaultLaws.{opens_of_cells}
+use Rattle.critical_areas.proofs.PieceLaws.{even, reach_is_radius, touched_is}
+use Rattle.critical_areas.proofs.ZippedLaws.{item_has, zipped_at, zipped_by}
+
+module _ (layer_map : LayerMap) (lists : List (List Rect)) (parts : Parts) (are : ArePartsOf layer_map lists parts) where
+  -- the fault of this kind on the metal or at the cut with this number
+  abbrev Faulty : Kind → ℕ → ℕ → Cell → Type 0
+  Faulty kind number side = IsFault layer_map (IsCoveredIn lists) kind number side
+
+  module _ (question : Question) (askable : IsAskable (length parts.metals) (length parts.cuts) question) (c : Cell) where
+    abbrev half : ℕ
+    half = side_of question.measure / 2
+
+    by_kind : (kind : Kind) → question.kind ≡ kind
+        → IsCountedAs kind parts question.number (side_of question.measure) c ↔ Faulty kind question.number (side_of question.measure) c
+    by_kind Short e =
+        let of_metal : question.number < length parts.metals = askable.of_metal (λ via. cc (e, via)) in
+        let small : question.number < length layer_map.metals = omega (arith, are.one_each) in
+        subst (λ s. TouchesTwoLabels (slice_index_or parts.metals question.number []) half c ↔ IsShort (IsCoveredIn lists) (cuts_of layer_map) question.number s c) (even question.measure)
+        (touched_is (IsCoveredIn lists) (cuts_of layer_map) question.number (slice_index_or parts.metals question.number []) (are.pieces question.number small) half c)
+    by_kind Open e =
+        let of_metal : question.number < length parts.metals = askable.of_metal (λ via. cc (e, via)) in
+        let small : question.number < length layer_map.metals = omega (arith, are.one_each) in
+        let parted = are.islands question.number small (side_of question.measure) c in
+        let fault = opens_of_cells layer_map are.cells_alone (IsCoveredIn lists) question.number (side_of question.measure) c in
+        (λ o. fault.0 (parted.0 o), λ f. parted.1 (fault.1 f))
+    by_kind Via e =
+        let k = question.number - length parts.metals in
+        let behind = askable.behind_metals e in
+        let of_cut = askable.of_cut e in
+        let small : k < length layer_map.cuts = omega (arith, are.each_once.boxes.one_each) in
+        let at : length layer_map.metals + k ≡ question.number = omega (arith, are.one_each) in
+        let least = (reach_is_radius question.measure askable.some askable.within).least in
+        let Blocks : ℕ → ℕ → Type 0 = λ number side. CoversSomeBox (slice_index_or parts.cuts k []) half c ↔ Faulty Via number side c in
+        subst (λ number. Blocks number (side_of question.measure)) at (subst (Blocks (length layer_map.metals + k)) (even question.measure) (block_is layer_map k small lists parts are half least c))
+
+    counted_is_fault : IsCounted parts question c ↔ Faulty question.kind question.number (side_of question.measure) c
+    counted_is_fault = by_kind question.kind refl
+
+  -- so numbers that are counted for the questions of the parts are the amounts of the layer map
+  pub counted_are_amounts : (cells : List Cell) (ns : List ℕ) → AreCounted parts cells parts.questions ns → AreAmounts layer_map (IsCoveredIn lists) cells ns
+  counted_are_amounts cells ns counted =
+      let Count = λ (q : Question). Tally (IsCounted parts q) cells in
+      let Amount = IsAmount layer_map (IsCoveredIn lists) cells in
+      let each = λ (i : ℕ) (q : Question) (at : slice_get parts.questions i ≡ Some q).
+      let askable = item_has (IsAskable (length parts.metals) (length parts.cuts)) parts.questions parts.askable i q at in
+      Tally-same_all cells (get_or ns i 0) (counted_is_fault q askable) (zipped_at Count parts.questions ns 0 counted i q at) in
+      subst (λ qs. AllZip Amount qs ns) are.asked (zipped_by Amount parts.questions ns (AllZip-long Count parts.questions ns counted) each)

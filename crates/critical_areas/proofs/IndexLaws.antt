@@ -1,0 +1,78 @@
+-- what is put in order for tiles, and what is found in it
+use Rattle.std.proofs.Common.{ℕ, ◌<◌, ◌≡◌, ap, sym, ◌∙◌, subst, List, [], length, get_or, ◌↔◌, Option, Some, slice_get, slice_index_or, arith}
+use Rattle.std.proofs.lemmas.List.Elements.{AllZip-get_or}
+use Rattle.std.specs.Option.{ForSome}
+use Rattle.std.specs.Slice.{IsItemAt}
+use Rattle.lists.proofs.Words.{AllZip, AllZip-long, Bor, Contains-permutation, IsPermutation, IsPermutation-sym}
+use Rattle.geo_core.specs.Plane.{IsInUnion}
+use Rattle.geo_core.specs.declared.plane.Cell.{Cell}
+use Rattle.geo_core.specs.declared.plane.Labelled.{Labelled}
+use Rattle.geo_core.specs.declared.plane.Rect.{Rect}
+use Rattle.fault_model.proofs.UnionLaws.{among_union, in_union}
+use Rattle.questions.specs.declared.kind.Kind.TheVariants.{Open}
+use Rattle.questions.specs.declared.question.Question.{Question}
+use Rattle.critical_areas.specs.declared.parts.Parts.{Parts}
+use Rattle.critical_areas.specs.inside.Indexes.{AreIndexesOf, AreOpensIn, AreReordered, HasItsOpens}
+use Rattle.critical_areas.proofs.WindowLaws.{read_list}
+use Rattle.critical_areas.proofs.ZippedLaws.{zipped_at}
+
+-- ---- what is put in order
+
+-- rectangles in another order have the same cells
+union_permuted : (xs ys : List Rect) → IsPermutation xs ys → (c : Cell) → IsInUnion ys c ↔ IsInUnion xs c
+union_permuted xs ys order c = (
+  λ v. in_union xs v.rect c (Contains-permutation ys xs v.rect (IsPermutation-sym xs ys order) (among_union ys c v)) v.has,
+  λ v. in_union ys v.rect c (Contains-permutation xs ys v.rect order (among_union xs c v)) v.has,
+)
+
+-- the opens of a question, in another order
+pub opens_permuted : (parts : Parts) (window : Rect) (question : Question) (xs ys : List Rect) → IsPermutation xs ys → AreOpensIn parts window question xs → AreOpensIn parts window question ys
+opens_permuted parts window question xs ys order are c =
+    let same = union_permuted xs ys order c in (λ v. (are c).0 (same.0 v), λ o. same.1 ((are c).1 o))
+
+reordered : {X : Type 0} (lists indexes : List (List X)) → AllZip IsPermutation lists indexes → AreReordered lists indexes
+reordered lists indexes each number small =
+    let long = AllZip-long IsPermutation lists indexes each in AllZip-get_or IsPermutation lists indexes number [] [] each (omega (arith, long))
+
+module _ (parts : Parts) (questions : List Question) (window : Rect) where
+  -- all indexes, or none
+  pub are_indexes : (opens : List (List Rect)) (metals : List (List Labelled)) (cuts : List (List Rect)) → AllZip (HasItsOpens parts window) questions opens
+      → AllZip IsPermutation parts.metals metals → AllZip IsPermutation parts.cuts cuts → AreIndexesOf parts questions window opens metals cuts
+  are_indexes opens metals cuts of_opens of_metals of_cuts = record {
+    of_opens = λ slot question small at. zipped_at (HasItsOpens parts window) questions opens [] of_opens slot question at;
+    of_metals = reordered parts.metals metals of_metals;
+    of_cuts = reordered parts.cuts cuts of_cuts;
+  }
+
+  pub no_indexes : AreIndexesOf parts questions window [] [] []
+  no_indexes = record {
+    of_opens = λ slot question small at. absurd (omega arith);
+    of_metals = λ number small. absurd (omega arith);
+    of_cuts = λ number small. absurd (omega arith);
+  }
+
+-- ---- what is found
+
+-- an item that was found by its number
+found_at : {X : Type 0} (xs : List X) (i : ℕ) (found : Option (Bor X)) → IsItemAt xs i found → (x : Bor X) → found ≡ Some x → (d : X) → (i < length xs) × (slice_index_or xs i d ≡ x.now)
+found_at xs i found at x is d =
+    let here : IsItemAt xs i (Some x) = subst (IsItemAt xs i) is at in (here.3.0, sym (here.4 (omega arith) d))
+
+-- a list that was read by its number
+pub list_read : {X : Type 0} (lists given : List (List X)) (number : ℕ) (list read : List X) → lists ≡ given → number < length lists → list ≡ get_or lists number list → read ≡ list
+    → read ≡ slice_index_or given number []
+list_read lists given number list read same small is at = at ∙ sym (read_list lists number list small is) ∙ ap (λ ls. get_or ls number []) same
+
+-- an index that was found has the items of the list
+pub reordered_at : {X : Type 0} (lists indexes read : List (List X)) (number : ℕ) (list : List X) (found : Option (Bor (List X))) → AreReordered lists indexes → list ≡ slice_index_or lists number []
+    → read ≡ indexes → IsItemAt read number found → ForSome found (λ index. IsPermutation list index.now)
+reordered_at lists indexes read number list found are is_list is_read at index is =
+    let here = found_at indexes number found (subst (λ xs. IsItemAt xs number found) is_read at) index is [] in
+    subst (λ xs. IsPermutation xs index.now) (sym is_list) (subst (IsPermutation (slice_index_or lists number [])) here.1 (are number here.0))
+
+-- opens that were found have the cells of the window at which there are some
+pub opens_at : (parts : Parts) (questions : List Question) (window : Rect) (opens : List (List Rect)) (metals : List (List Labelled)) (cuts : List (List Rect))
+    → AreIndexesOf parts questions window opens metals cuts → (slot : ℕ) (question : Question) → slice_get questions slot ≡ Some question → question.kind ≡ Open
+    → (found : Option (Bor (List Rect))) → IsItemAt opens slot found → (cells : Bor (List Rect)) → found ≡ Some cells → AreOpensIn parts window question cells.now
+opens_at parts questions window opens metals cuts are slot question at kind found item cells is =
+    let here = found_at opens slot found item cells is [] in subst (AreOpensIn parts window question) here.1 (are.of_opens slot question here.0 at kind)

@@ -1,0 +1,64 @@
+ghost use Rattle.std.specs.Prelude.{◌≡◌, IfOk, length};
+ghost use Rattle.std.specs.List.{AllZip};
+ghost use Rattle.std.specs.List.Sorted.{IsPermutation};
+ghost use Rattle.questions.specs.Questions.{IsAskable};
+ghost use Rattle.questions.specs.declared.kind.Kind.TheVariants.{Open};
+ghost use Rattle.critical_areas.specs.inside.Indexes.{AreOpensIn, HasItsOpens};
+
+use super::parts::{Asked, Parts};
+use geo_core::Rect;
+use lists::{Items, NoMemory};
+use open_grid::open_cells;
+use questions::{Kind, Question};
+use std::alloc::Global;
+use tile_plan::{NearIndex, Rectangular};
+
+/// An index for each of the lists.
+pub fn indexes_of<T: Rectangular + Drop>(
+    alloc: Global,
+    lists: &[Items<T>],
+) -> Result<Vec<NearIndex<T>>, NoMemory>
+    ensures { IfOk result (λ indexes. AllZip IsPermutation lists.now indexes.items) }
+{
+    let mut indexes = Vec::with_capacity(alloc, lists.len())?;
+    for list in lists {
+        indexes.push(NearIndex::new(alloc, list.as_slice())?)?;
+    }
+    Ok(indexes)
+}
+
+/// For each question an index of the cells of the window at which there is an open, where it asks for opens, and else of none.
+pub fn opens_of(
+    alloc: Global,
+    asked: Asked<'_>,
+    window: Rect,
+) -> Result<Vec<NearIndex<Rect>>, NoMemory>
+    ensures { IfOk result (λ opens.
+        AllZip (HasItsOpens asked.entry.parts.now window) asked.entry.questions.now opens.items) }
+{
+    let mut opens = Vec::with_capacity(alloc, asked.questions.len())?;
+    for question in asked.questions {
+        opens.push(opens_for(alloc, asked.parts, question, window)?)?;
+    }
+    Ok(opens)
+}
+
+/// An index of the cells of the window at which there is an open, where the question asks for opens, and else of none.
+fn opens_for(
+    alloc: Global,
+    parts: &Parts,
+    question: &Question,
+    window: Rect,
+) -> Result<NearIndex<Rect>, NoMemory>
+    requires { IsAskable (length parts.now.metals) (length parts.now.cuts) question.now }
+    ensures { question.now.kind ≡ Open → IfOk result (AreOpensIn parts.now window question.now) }
+{
+    match question.kind {
+        Kind::Open => {
+            let islands = parts.islands.as_slice()[question.number as usize].as_slice();
+            let cells = open_cells(alloc, islands, window, question.measure.reach())?;
+            NearIndex::new(alloc, &cells)
+        }
+        Kind::Short | Kind::Via => NearIndex::new(alloc, &[]),
+    }
+}
