@@ -66,6 +66,15 @@ const CHANGED: &[(usize, u8, u8, &str)] = &[
         "error 11 at 0\n\
          layout 'a': it is no GDSII layout; it is compressed or of another format, so unpack it, or export it as GDSII\n",
     ),
+    // a HEADER of four bytes, which is one all the same: what then seems to be a record goes past the end
+    (
+        1,
+        0x08,
+        4,
+        "error 10 at 8\n\
+         layout 'a', byte 8: the file ends here, and ENDLIB has not come; fetch or write the file anew, since it was cut short\n  \
+         behind HEADER\n",
+    ),
     // a LAYER that is a second DATATYPE
     (
         164,

@@ -1,6 +1,6 @@
 //! Formats of files that are known by how they begin.
 
-/// What a GDSII layout begins with: a HEADER.
+/// What most GDSII layouts begin with: a HEADER that has a version of two bytes.
 const GDSII: &[u8] = b"\x00\x06\x00\x02";
 
 /// Beginnings, and what has them.
@@ -44,9 +44,12 @@ pub fn format_of(bytes: &[u8]) -> Option<&'static str> {
     None
 }
 
-/// Whether a file that begins with these bytes is a GDSII layout.
+/// Whether a file that begins with these bytes is a GDSII layout: with a HEADER of any even length.
 pub fn is_gdsii(bytes: &[u8]) -> bool {
-    bytes.starts_with(GDSII)
+    match bytes {
+        [_, low, 0x00, 0x02, ..] => *low % 2 == 0,
+        _ => false,
+    }
 }
 
 /// Whether the byte is one of a text: a sign of ASCII, a space or another white one.

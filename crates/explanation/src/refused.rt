@@ -65,7 +65,7 @@ const MEANINGS: &[(u8, &str, &str)] = &[
     (
         22,
         "the array here has columns or rows below 1, as numbers of two bytes with sign",
-        "remove an empty array, and cut one with more than 32767 columns or rows in two",
+        "remove an empty array, and split one with more than 32767 columns or rows",
     ),
     (
         23,
