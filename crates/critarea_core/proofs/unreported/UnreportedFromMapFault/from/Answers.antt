@@ -5,4 +5,4 @@ pub returns-in-Memory : goal.returns-in-Memory
 returns-in-Memory c = as_memory c.in-Memory.is
 
 pub returns-in_default : goal.returns-in_default
-returns-in_default c = rw (c.of_map.ensures, c.number.ensures, c.place.ensures) (as_known c.in_default.not-Memory)
+returns-in_default c = rw (c.number.ensures, c.place.ensures) (as_known c.in_default.not-Memory)
