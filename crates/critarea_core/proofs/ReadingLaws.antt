@@ -36,16 +36,12 @@ module _ {T V F E : Type 0} (none : E) (as_error : F → E) (Stage : Outcome V F
   abbrev IsAnswer : Result T E → Type 0
   IsAnswer = Answers none (Gives as_error Stage IsFor)
 
-  told_so : {L : Type 0} (low : L) (said : L → F) (fault : L) (told : E) → IsToldAs low none (λ known. as_error (said known)) fault told
-      → (fault ≢ low → Stage (refused (said fault))) → IsAnswer (Err told)
-  told_so low said fault told (as_memory e) known = no_memory
-  told_so low said fault told (as_known other) known = refuses (gives_refusal (known other))
-
   -- the fault of another reader, where it is the refusal of the stage
   pub not_read : {L : Type 0} (low : L) (said : L → F) (fault : L) (result : Result T E)
       → IsErrAnd result (IsToldAs low none (λ known. as_error (said known)) fault) → (fault ≢ low → Stage (refused (said fault))) → IsAnswer result
   not_read low said fault (Ok thing) gave known = absurd gave
-  not_read low said fault (Err told) gave known = told_so low said fault told gave known
+  not_read low said fault (Err told) (as_memory is_low is) known = rw is no_memory
+  not_read low said fault (Err told) (as_known other is) known = rw is (refuses (gives_refusal (known other)))
 
   -- what was found is for some value of the stage
   pub found_for : (thing : T) → IsAnswer (Ok thing) → (v : V) × Stage (value v) × IsFor v thing

@@ -1,3 +1,5 @@
+#![tactic(auto, using(crate::specs::inside::Finding::as_memory, crate::specs::inside::Finding::as_known))]
+
 ghost use Rattle.std.specs.Prelude.{◌≡◌};
 ghost use Rattle.library_grammar.specs.declared.fault.SyntaxFault.TheVariants.{Memory as syntax_memory};
 ghost use Rattle.flatten.specs.declared.fault.PlaceFault.TheVariants.{Memory as place_memory};

@@ -1,3 +1,5 @@
+#![tactic(auto, using(crate::specs::inside::Finding::as_memory, crate::specs::inside::Finding::as_known))]
+
 ghost use Rattle.std.specs.Prelude.{◌≡◌};
 ghost use Rattle.command_line.specs.declared.fault.WordsFault.TheVariants.{Memory as words_memory};
 ghost use Rattle.layer_map.specs.declared.fault.MapFault.TheVariants.{Memory as map_memory};

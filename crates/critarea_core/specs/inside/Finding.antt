@@ -23,10 +23,10 @@ use Rattle.critarea_core.specs.declared.unreported.Unreported.TheVariants.{Refus
 
 -- ---- faults, as why there is no report
 
--- a fault is told as this of another kind: as its own, or as want of memory, if it is that
-pub data IsToldAs {F E : Type 0} (low : F) (memory : E) (as_error : F → E) (fault : F) : E → Type 0 where
-  as_memory : fault ≡ low → IsToldAs low memory as_error fault memory
-  as_known : fault ≢ low → IsToldAs low memory as_error fault (as_error fault)
+-- a fault is told as this error: as its own, or as want of memory, if it is that
+pub data IsToldAs {F E : Type 0} (low : F) (memory : E) (as_error : F → E) (fault : F) (error : E) : Type 0 where
+  as_memory : fault ≡ low → error ≡ memory → IsToldAs low memory as_error fault error
+  as_known : fault ≢ low → error ≡ as_error fault → IsToldAs low memory as_error fault error
 
 -- ---- what stages come to
 
