@@ -1,6 +1,8 @@
 -- The lists of rectangles of layers, and what they cover.
-use Rattle.std.proofs.Common.{ℕ, ◌+◌, ◌<◌, ◌≡◌, refl, sym, ap, ◌∙◌, subst, List, [], ◌∷◌, ◌++◌, Bool, true, false, length, take, get_or, length-append, inl, inr, arith, ◌==◌, Some, Contains, All, map, filter, if◌then◌else◌, slice_get}
-use Rattle.lists.proofs.Words.{append-nil, flat_map, AllZip, cases_lt, Decides-eqb, eqb_tells, flat_map-append, length-map, get_or_append_left, get_or_past, get_or_push, All-contains, All-from_get_or, filter-append, slice_get_within}
+use Rattle.std.proofs.Common.{ℕ, ◌+◌, ◌<◌, ◌≡◌, refl, sym, ap, ◌∙◌, subst, List, [], ◌∷◌, ◌++◌, Bool, true, false}
+use Rattle.std.proofs.Common.{length, take, get_or, length-append, inl, inr, arith, ◌==◌, Some, Contains, All, map, filter, if◌then◌else◌, slice_get}
+use Rattle.lists.proofs.Words.{append-nil, flat_map, AllZip, cases_lt, Decides-eqb, eqb_tells, flat_map-append, length-map, get_or_past}
+use Rattle.lists.proofs.Words.{All-contains, All-from_get_or, filter-append, slice_get_within}
 use Rattle.geo_core.specs.Plane.{IsInLayout, IsCoveredIn}
 use Rattle.geo_core.specs.declared.plane.Cell.{Cell}
 use Rattle.geo_core.specs.declared.plane.Rect.{Rect}
@@ -65,25 +67,6 @@ pub layer_count : (metals : List Metal) (cuts : List Cut) → length (mapped_lay
 layer_count metals cuts =
     length-append (map metal_layer metals) (map (λ cut. cut.mapped) (map mapped_cut cuts)) ∙ ap (λ n. n + length (map (λ cut. cut.mapped) (map mapped_cut cuts))) (length-map metals metal_layer)
     ∙ ap (λ n. length metals + n) (length-map (map mapped_cut cuts) (λ cut. cut.mapped) ∙ length-map cuts mapped_cut)
-
-pub lists_start : (covered : List Covered) → AreListsUpTo covered 0 []
-lists_start covered = record { as_many = refl; each = λ number small. absurd (omega arith) }
-
-pub lists_next : (covered : List Covered) (n : ℕ) (old new : List (List Rect)) (list : List Rect) → new ≡ old ++ list ∷ [] → list ≡ rects_on n covered → AreListsUpTo covered n old
-    → AreListsUpTo covered (n + 1) new
-lists_next covered n old new list e is before = record {
-  as_many = ap length e ∙ length-push ∙ ap (λ k. k + 1) before.as_many;
-  each = λ number small.
-      elim (cases_lt number n) [
-        | inl earlier ↦ ap (λ xs. get_or xs number []) e ∙ get_or_append_left old (list ∷ []) [] number (omega (arith, before.as_many)) ∙ before.each number earlier
-        | inr last ↦
-            let same : n ≡ number = omega arith in
-            ap (λ xs. get_or xs number []) e ∙ get_or_push old list [] number (before.as_many ∙ same) ∙ is ∙ ap (λ k. rects_on k covered) same
-      ];
-}
-  where
-    length-push : length (old ++ list ∷ []) ≡ length old + 1
-    length-push = length-append old (list ∷ [])
 
 -- a list with an item is one of the lists
 listed_below : (lists : List (List Rect)) (number : ℕ) (k : ℕ) (rect : Rect) → slice_get (get_or lists number []) k ≡ Some rect → number < length lists

@@ -1,10 +1,8 @@
 pub mod RouteEnds
 pub mod CoverReading
 pub mod LayerLaws
-pub mod LayoutLaws
 pub mod ReadingLaws
 pub mod VerdictLaws
-pub mod MapLaws
 pub mod TerminalLaws
 pub mod AnalysisLaws
 pub mod RunLaws

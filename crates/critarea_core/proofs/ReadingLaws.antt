@@ -1,25 +1,33 @@
 -- what readers answer, from what they find
-use Rattle.std.proofs.Common.{ℕ, ◌≡◌, ◌≢◌, ◌<◌, ◌≤◌, List, [], ◌∷◌, length, zero, suc, refl, sym, ap, subst, arith, if◌then◌else◌, Bool, true, false, Option, Some, None, IfSome, IsErrAnd, Result, Ok, Err, Vec, vec_len, unwrap_or}
+use Rattle.std.proofs.Common.{ℕ, ◌≡◌, ◌≢◌, ◌<◌, ◌≤◌, List, [], ◌∷◌, length, zero, suc, refl, sym, subst, arith, lit≤, if◌then◌else◌, Bool, true, false}
+use Rattle.std.proofs.Common.{Option, Some, None, IfSome, IsErrAnd, Result, Ok, Err, Vec, unwrap_or}
 use Rattle.lists.proofs.Words.{Global, bytes_eq, All-cons, All-nil, bytes_eq-Decides}
 use Rattle.first_refusal.specs.Answers.{Answers, gives, refuses, no_memory}
-use Rattle.first_refusal.specs.Outcomes.{Outcome, value, refused, Then, stops, goes_on}
+use Rattle.first_refusal.specs.Outcomes.{Outcome, value, refused, Reads, Then, reads, lacks, kept, retold, stops, goes_on}
 use Rattle.lists.specs.ByteLists.{AreBytes, IsByte}
 use Rattle.lists.proofs.Containing.{Contains-head}
 use Rattle.edge_io.specs.ReadAnswers.{ReadsWhole, is_whole, is_too_long, has_no_memory, has_failed}
 use Rattle.edge_io.specs.declared.whole.ReadError.{ReadError}
-use Rattle.edge_io.specs.declared.whole.ReadError.TheVariants as read
-use Rattle.layout_gen.specs.Generated.{generated_map}
-use Rattle.critarea_core.specs.Contents.{MayContain, MayHave}
+use Rattle.edge_io.specs.declared.whole.ReadError.TheVariants as unread
 use Rattle.command_line.specs.declared.task.Task.{Task}
 use Rattle.command_line.specs.declared.task.Task.TheVariants.{OneMetal, Mapped, Generated}
-use Rattle.map_model.specs.MapNames.{LayerMap, one_metal_map, layer_map_of}
+use Rattle.layer_map.specs.Documents as document
+use Rattle.layer_map.specs.declared.fault.MapFault.{MapFault}
+use Rattle.layer_map.specs.declared.fault.MapFault.TheVariants as map_fault
+use Rattle.layout_gen.specs.Generated.{generated_map}
+use Rattle.map_model.specs.MapNames.{LayerMap, layer_map_of, one_metal_map}
 use Rattle.map_model.specs.declared.map.Map.{Map}
-use Rattle.critarea_core.specs.inside.Finding.{IsMapOf, MapMayCome, IsToldAs, as_memory, as_known, of_unread, Analyses, Finds, Gives, gives_thing, gives_refusal, FindsInFiles, files_serve, files_fail, IsOneOf}
-use Rattle.critarea_core.specs.Run.{change}
-use Rattle.critarea_core.specs.Verdict.{MapTextComesTo}
+use Rattle.critarea_core.specs.Contents.{MayContain, MayHave, Source, bytes_from, file}
+use Rattle.critarea_core.specs.inside.Finding.{Analyses, Finds, Gives, gives_thing, gives_refusal, FindsInFiles, files_serve, files_fail, IsToldAs, as_memory, as_known}
+use Rattle.critarea_core.specs.inside.Finding.{AreItems, BytesMayCome, IsMapOf, IsOneOf, MapMayCome}
+use Rattle.critarea_core.specs.Refusals.{map_limit, map_too_long, of_map_fault}
+use Rattle.critarea_core.specs.Run.{Change, IsCalm, change}
+use Rattle.critarea_core.specs.Verdict.{IsShortEnough, ShortMapComesTo}
 use Rattle.critarea_core.specs.declared.layout_fault.LayoutFault.{LayoutFault}
 use Rattle.critarea_core.specs.declared.layout_fault.LayoutFault.TheVariants.{Memory as LayoutMemory}
 use Rattle.critarea_core.specs.declared.refusal.Refusal.{Refusal}
+use Rattle.critarea_core.specs.declared.unreported.Unreported.{Unreported}
+use Rattle.critarea_core.specs.declared.unreported.Unreported.TheVariants.{Refused, FilesFailed, Memory}
 
 -- ---- answers
 
@@ -28,16 +36,12 @@ module _ {T V F E : Type 0} (none : E) (as_error : F → E) (Stage : Outcome V F
   abbrev IsAnswer : Result T E → Type 0
   IsAnswer = Answers none (Gives as_error Stage IsFor)
 
-  told_so : {L : Type 0} (low : L) (said : L → F) (fault : L) (told : E) → IsToldAs low none (λ known. as_error (said known)) fault told
-      → (fault ≢ low → Stage (refused (said fault))) → IsAnswer (Err told)
-  told_so low said fault told (as_memory e) known = no_memory
-  told_so low said fault told (as_known other) known = refuses (gives_refusal (known other))
-
   -- the fault of another reader, where it is the refusal of the stage
   pub not_read : {L : Type 0} (low : L) (said : L → F) (fault : L) (result : Result T E)
       → IsErrAnd result (IsToldAs low none (λ known. as_error (said known)) fault) → (fault ≢ low → Stage (refused (said fault))) → IsAnswer result
   not_read low said fault (Ok thing) gave known = absurd gave
-  not_read low said fault (Err told) gave known = told_so low said fault told gave known
+  not_read low said fault (Err told) (as_memory is_low is) known = rw is no_memory
+  not_read low said fault (Err told) (as_known other is) known = rw is (refuses (gives_refusal (known other)))
 
   -- what was found is for some value of the stage
   pub found_for : (thing : T) → IsAnswer (Ok thing) → (v : V) × Stage (value v) × IsFor v thing
@@ -51,15 +55,10 @@ module _ {T V F E : Type 0} (none : E) (as_error : F → E) (Stage : Outcome V F
   restaged Other each result no_memory = no_memory
 
 -- what the first of two stages did not find
-module _ {T U V W F E : Type 0} (none : E) (as_error : F → E) (First : Outcome V F → Type 0) (Second : V → Outcome W F → Type 0) (IsAlso : V → U → Type 0) (IsFor : W → T → Type 0) where
-  stopped_so : (why : E) → Answers none (Gives as_error First IsAlso) (Err why) → Answers none (Gives as_error (Then First Second) IsFor) (Err why)
-  stopped_so why (refuses (gives_refusal comes)) = refuses (gives_refusal (stops comes))
-  stopped_so why no_memory = no_memory
-
-  pub stopped : (why : E) (result : Result T E) → IsErrAnd result (λ same. same ≡ why) → Answers none (Gives as_error First IsAlso) (Err why)
-      → Answers none (Gives as_error (Then First Second) IsFor) result
-  stopped why (Ok thing) gave found = absurd gave
-  stopped why (Err same) gave found = rw gave (stopped_so why found)
+pub stopped : {T U V W F E : Type 0} (none : E) (as_error : F → E) (First : Outcome V F → Type 0) (Second : V → Outcome W F → Type 0) (IsAlso : V → U → Type 0) (IsFor : W → T → Type 0) (why : E)
+    → Answers none (Gives as_error First IsAlso) (Err why) → Answers none (Gives as_error (Then First Second) IsFor) (Err why)
+stopped none as_error First Second IsAlso IsFor why (refuses (gives_refusal comes)) = refuses (gives_refusal (stops comes))
+stopped none as_error First Second IsAlso IsFor why no_memory = no_memory
 
 -- a stage in front of two others
 pub behind : {U V W F : Type 0} (First : Outcome U F → Type 0) (Second : U → Outcome V F → Type 0) (Third : V → Outcome W F → Type 0) (v : U) → First (value v)
@@ -82,12 +81,42 @@ pub fault_found : {T V : Type 0} (Stage : Outcome V LayoutFault → Type 0) (IsF
 fault_found Stage IsFor fault (refuses (gives_refusal comes)) known = comes
 fault_found Stage IsFor fault no_memory known = absurd (known refl)
 
--- ---- what a file may have
+-- a thing that was found, by what is seen of it
+pub found_as : {T V : Type 0} (view : T → V) (Stage : Outcome V Refusal → Type 0) (failures : Change ℕ) (SomeFile : Type 0) (thing : T)
+    → FindsInFiles failures SomeFile Stage (λ v one. v ≡ view one) (Ok thing) → IsCalm failures × Stage (value (view thing))
+found_as view Stage failures SomeFile thing (files_serve calm (gives (gives_thing comes is))) = (calm, subst (λ v. Stage (value v)) is comes)
+
+pub found_bytes : (Stage : Outcome (List ℕ) Refusal → Type 0) (failures : Change ℕ) (SomeFile : Type 0) (read : Vec ℕ Global)
+    → FindsInFiles failures SomeFile Stage AreItems (Ok read) → IsCalm failures × Stage (value read.items)
+found_bytes Stage failures SomeFile read found = found_as (λ (bytes : Vec ℕ Global). bytes.items) Stage failures SomeFile read found
+
+-- what was not found, where another stage is refused as this one is
+module _ {T U V W : Type 0} (failures : Change ℕ) (SomeFile OtherFile : Type 0) (Stage : Outcome V Refusal → Type 0) (IsFor : V → T → Type 0)
+    (Other : Outcome W Refusal → Type 0) (IsAlso : W → U → Type 0) (named : SomeFile → OtherFile) (each : (refusal : Refusal) → Stage (refused refusal) → Other (refused refusal)) where
+  missed : (why : Unreported) → FindsInFiles failures SomeFile Stage IsFor (Err why) → FindsInFiles failures OtherFile Other IsAlso (Err why)
+  missed why (files_serve calm (refuses (gives_refusal {refusal = r} comes))) = files_serve calm (refuses (gives_refusal (each r comes)))
+  missed why (files_serve calm no_memory) = files_serve calm no_memory
+  missed why (files_fail risen some) = files_fail risen (named some)
+
+  pub not_found : (why : Unreported) (result : Result U Unreported) → IsErrAnd result (λ same. same ≡ why) → FindsInFiles failures SomeFile Stage IsFor (Err why)
+      → FindsInFiles failures OtherFile Other IsAlso result
+  not_found why (Ok thing) gave found = absurd gave
+  not_found why (Err same) gave found = subst (λ known. FindsInFiles failures OtherFile Other IsAlso (Err known)) (sym gave) (missed why found)
+
+-- ---- what files may have
 
 -- some bytes that a file may have
-pub may_have_some : (told : Option (List ℕ)) → MayHave told (unwrap_or told [])
+may_have_some : (told : Option (List ℕ)) → MayHave told (unwrap_or told [])
 may_have_some (Some all) = refl
 may_have_some None = All-nil IsByte
+
+module _ (told : List ℕ → Option (List ℕ)) where
+  -- some contents of files
+  abbrev pub some_contents : List ℕ → List ℕ
+  some_contents name = unwrap_or (told name) []
+
+  pub some_may_be : MayContain told some_contents
+  some_may_be name = may_have_some (told name)
 
 -- bytes that were read
 may_have_read : (told : Option (List ℕ)) (bytes : List ℕ) → IfSome told (λ all. bytes ≡ all) → AreBytes bytes → MayHave told bytes
@@ -106,14 +135,14 @@ long_bytes limit (Some all) h = (all, refl, h)
 
 module _ (told : List ℕ → Option (List ℕ)) (name text : List ℕ) where
   -- contents of files of which the one of this name has this text
-  pub with_text : List ℕ → List ℕ
+  with_text : List ℕ → List ℕ
   with_text other = if bytes_eq other name then text else unwrap_or (told other) []
 
-  pub text_is_there : with_text name ≡ text
+  text_is_there : with_text name ≡ text
   unfolding with_text
   text_is_there = let same = (bytes_eq-Decides name name).1 refl in rw same refl
 
-  pub with_text_may_be : MayHave (told name) text → MayContain told with_text
+  with_text_may_be : MayHave (told name) text → MayContain told with_text
   unfolding with_text
   with_text_may_be may other = go (bytes_eq other name) refl where
     go : (b : Bool) → bytes_eq other name ≡ b → MayHave (told other) (if b then text else unwrap_or (told other) [])
@@ -122,41 +151,87 @@ module _ (told : List ℕ → Option (List ℕ)) (name text : List ℕ) where
 
 -- ---- files that are read whole
 
-module _ (told : Option (List ℕ)) (limit before after : ℕ) (started : Type 0) (rest : Option (List ℕ)) where
-  -- a file that was read: its bytes are no more than the limit, and nothing failed
-  pub file_read : (bytes : Vec ℕ Global) → ReadsWhole told limit before after started rest (Ok bytes)
-      → MayHave told bytes.items × (vec_len bytes ≤ limit) × (after ≡ before)
-  file_read bytes (is_whole whole are short calm opened left) = (may_have_read told bytes.items whole are, short, calm)
+-- the answer of a reader of files, where this is the refusal of a file that is too long
+abbrev pub as_found : Refusal → Result (Vec ℕ Global) ReadError → Result (Vec ℕ Global) Unreported
+as_found too_long (Ok bytes) = Ok bytes
+as_found too_long (Err unread.Fault) = Err FilesFailed
+as_found too_long (Err unread.TooLong) = Err (Refused too_long)
+as_found too_long (Err unread.Memory) = Err Memory
 
-  module _ {T V : Type 0} (Stage : Outcome V Refusal → Type 0) (IsFor : V → T → Type 0) where
-    -- a file that was not read: it failed, or the stage refuses some bytes that it may have
-    pub file_unread : (name : List ℕ) (too_long : Refusal) (error : ReadError) → ReadsWhole told limit before after started rest (Err error)
-        → ((bytes : List ℕ) → MayHave told bytes → limit < length bytes → Stage (refused too_long))
-        → FindsInFiles (change before after) (IsOneOf (name ∷ [])) Stage IsFor (Err (of_unread too_long error))
-    file_unread name too_long read.Fault (has_failed failed) long = files_fail failed.rose (name, Contains-head name [])
-    file_unread name too_long read.TooLong (is_too_long more calm opened left) long =
-        let (bytes, may, h) = long_bytes limit told more in files_serve calm (refuses (gives_refusal (long bytes may h)))
-    file_unread name too_long read.Memory (has_no_memory calm opened left) long = files_serve calm no_memory
+module _ (told : List ℕ → Option (List ℕ)) (name : List ℕ) (limit : ℕ) (too_long : Refusal) where
+  -- what bytes come to that the file may have
+  bytes_come : (bytes : List ℕ) → MayHave (told name) bytes → (outcome : Outcome (List ℕ) Refusal) → Reads (IsShortEnough limit bytes) too_long outcome
+      → BytesMayCome told (file name) limit too_long outcome
+  bytes_come bytes may outcome comes = record {
+    bytes = with_text told name bytes;
+    may_be = with_text_may_be told name bytes may;
+    comes = rw (text_is_there told name bytes) comes;
+  }
+
+  -- the file was read, or it failed, or some bytes that it may have are too many
+  pub file_found : (before after : ℕ) (started : Type 0) (rest : Option (List ℕ)) (answer : Result (Vec ℕ Global) ReadError) → ReadsWhole (told name) limit before after started rest answer
+      → FindsInFiles (change before after) (IsOneOf (name ∷ [])) (BytesMayCome told (file name) limit too_long) AreItems (as_found too_long answer)
+  file_found before after started rest (Ok bytes) (is_whole whole are short calm opened left) =
+      let may = may_have_read (told name) bytes.items whole are in
+      files_serve calm (gives (gives_thing (bytes_come bytes.items may (value bytes.items) (reads (record { is_text = refl; short = omega (arith, short) }))) refl))
+  file_found before after started rest (Err unread.Fault) (has_failed failed) = files_fail failed.rose (name, Contains-head name [])
+  file_found before after started rest (Err unread.TooLong) (is_too_long more calm opened left) =
+      let (bytes, may, long) = long_bytes limit (told name) more in
+      let none : (text : List ℕ) → IsShortEnough limit bytes text → ⊥ = λ text is. let short = is.short in absurd (omega (arith, long, short)) in
+      files_serve calm (refuses (gives_refusal (bytes_come bytes may (refused too_long) (lacks none))))
+  file_found before after started rest (Err unread.Memory) (has_no_memory calm opened left) = files_serve calm no_memory
+
+-- bytes that were found are no more than the limit
+pub found_short : (told : List ℕ → Option (List ℕ)) (source : Source) (limit : ℕ) (too_long : Refusal) (failures : Change ℕ) (SomeFile : Type 0) (read : Vec ℕ Global)
+    → FindsInFiles failures SomeFile (BytesMayCome told source limit too_long) AreItems (Ok read) → length read.items ≤ limit
+found_short told source limit too_long failures SomeFile read found = go came.comes where
+  came : BytesMayCome told source limit too_long (value read.items)
+  came = (found_bytes (BytesMayCome told source limit too_long) failures SomeFile read found).1
+
+  go : Reads (IsShortEnough limit (bytes_from came.bytes source)) too_long (value read.items) → length read.items ≤ limit
+  go (reads is) = subst (λ text. length text ≤ limit) (sym is.is_text) is.short
 
 -- ---- maps
 
+generated_is_short : length generated_map ≤ map_limit
+unfolding generated_map
+generated_is_short = lit≤ tt
+
 module _ (told : List ℕ → Option (List ℕ)) where
-  -- the text of a map that a file may have
-  pub map_of_text : (layout name : List ℕ) (top : Option (List ℕ)) (text : List ℕ) → MayHave (told name) text
-      → (outcome : Outcome LayerMap Refusal) → MapTextComesTo text outcome → MapMayCome told (Mapped layout name top) outcome
-  map_of_text layout name top text may outcome comes = record {
-    bytes = with_text told name text;
-    may_be = with_text_may_be told name text may;
-    comes = rw (text_is_there told name text) comes;
+  module _ (layout name : List ℕ) (top : Option (List ℕ)) where
+    -- the map of a file that has more bytes than it may, and the one that its text says
+    pub refused_text : (refusal : Refusal) → BytesMayCome told (file name) map_limit map_too_long (refused refusal) → MapMayCome told (Mapped layout name top) (refused refusal)
+    refused_text refusal read = record { bytes = read.bytes; may_be = read.may_be; comes = stops read.comes }
+
+    pub map_of_file : (text : List ℕ) → BytesMayCome told (file name) map_limit map_too_long (value text) → (outcome : Outcome LayerMap Refusal) → ShortMapComesTo text outcome
+        → MapMayCome told (Mapped layout name top) outcome
+    map_of_file text read outcome comes = record { bytes = read.bytes; may_be = read.may_be; comes = goes_on {v = text} read.comes comes }
+
+  -- the map that goes with a generated layout
+  pub map_of_generated : (columns : ℕ) (outcome : Outcome LayerMap Refusal) → ShortMapComesTo generated_map outcome → MapMayCome told (Generated columns) outcome
+  map_of_generated columns outcome comes = record {
+    bytes = some_contents told;
+    may_be = some_may_be told;
+    comes = goes_on {v = generated_map} (reads (record { is_text = refl; short = generated_is_short })) comes;
   }
 
-  -- the text of the map of a generated layout
-  pub generated_map_may_come : (columns : ℕ) (outcome : Outcome LayerMap Refusal) → MapTextComesTo generated_map outcome → MapMayCome told (Generated columns) outcome
-  generated_map_may_come columns outcome comes = record { bytes = λ name. unwrap_or (told name) []; may_be = λ name. may_have_some (told name); comes = comes }
-
   -- the map of one metal
-  pub one_metal_found : (task : Task) (layout : List ℕ) (layer datatype radius : ℕ) (top : Option (List ℕ)) (made : Map)
-      → task ≡ OneMetal layout layer datatype radius top → layer_map_of made ≡ one_metal_map layer datatype radius → Finds (MapMayCome told task) IsMapOf (Ok made)
-  one_metal_found task layout layer datatype radius top made is same = gives (gives_thing {v = layer_map_of made} may refl) where
-    may : MapMayCome told task (value (layer_map_of made))
-    may = record { bytes = λ name. unwrap_or (told name) []; may_be = λ name. may_have_some (told name); comes = rw is (ap value same) }
+  pub one_metal_found : (layout : List ℕ) (layer datatype radius : ℕ) (top : Option (List ℕ)) (made : Map) → layer_map_of made ≡ one_metal_map layer datatype radius
+      → Finds (MapMayCome told (OneMetal layout layer datatype radius top)) IsMapOf (Ok made)
+  one_metal_found layout layer datatype radius top made same = gives (gives_thing {v = one_metal_map layer datatype radius} may (sym same)) where
+    may : MapMayCome told (OneMetal layout layer datatype radius top) (value (one_metal_map layer datatype radius))
+    may = record { bytes = some_contents told; may_be = some_may_be told; comes = refl }
+
+  -- what a reader answers on the text of a map
+  module _ (task : Task) (text : List ℕ) (comes : (outcome : Outcome LayerMap Refusal) → ShortMapComesTo text outcome → MapMayCome told task outcome) where
+    abbrev Reader : Result Map MapFault → Type 0
+    Reader = Answers map_fault.Memory (λ outcome. document.MapComesTo text (document.value_as layer_map_of outcome))
+
+    pub map_read : (made : Map) → Reader (Ok made) → Finds (MapMayCome told task) IsMapOf (Ok made)
+    map_read made answer = gives (gives_thing (comes (value (layer_map_of made)) (kept (thing_told answer))) refl)
+
+    pub map_unread : (why : MapFault) (result : Result Map Unreported) → IsErrAnd result (IsToldAs map_fault.Memory Memory (λ known. Refused (of_map_fault known)) why) → Reader (Err why)
+        → Finds (MapMayCome told task) IsMapOf result
+    map_unread why result gave answer =
+        not_read Memory (λ refusal. Refused refusal) (MapMayCome told task) IsMapOf map_fault.Memory of_map_fault why result gave
+        (λ known. comes (refused (of_map_fault why)) (retold (fault_told answer known)))

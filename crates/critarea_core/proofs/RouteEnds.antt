@@ -26,8 +26,6 @@ use Rattle.lists.proofs.Containing.{Contains-slice_get, Contains-tail, all_of_ea
 use Rattle.lists.proofs.Filtering.{Contains-from_filter}
 use Rattle.lists.proofs.Mapping.{Contains-map}
 
--- ---- lists
-
 -- ---- routes
 
 -- the shape of the route stands where the route's numbers say, and its points come to lie in range

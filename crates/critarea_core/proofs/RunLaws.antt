@@ -1,42 +1,38 @@
 -- what a run found of the words and the files, and what it printed
-use Rattle.std.proofs.Common.{ℕ, ◌≡◌, ◌⊎◌, List, [], ◌∷◌, ◌++◌, refl, sym, ap, subst, ◌∙◌, inl, inr, append_assoc, Option, Some, None, Contains, Result, Ok, Err, Vec, map, unwrap_or}
+use Rattle.std.proofs.Common.{ℕ, ◌≡◌, ◌⊎◌, List, [], ◌∷◌, ◌++◌, refl, sym, ap, subst, ◌∙◌, inl, inr, append_assoc, Option, Some, None, IsErrAnd, Result, Ok, Err, Vec, map}
 use Rattle.lists.proofs.Words.{append-nil, Global, Contains-append_left, Contains-append_right}
-use Rattle.first_refusal.specs.Answers.{gives, refuses, no_memory}
-use Rattle.first_refusal.specs.Outcomes.{Outcome, value, refused, reads, lacks, goes_on, stops}
+use Rattle.first_refusal.specs.Answers.{gives, refuses}
+use Rattle.first_refusal.specs.Outcomes.{Outcome, Retold, value, refused, reads, lacks, kept, retold, goes_on, stops}
 use Rattle.edge_io.specs.Bytes.{Appends}
 use Rattle.command_line.specs.Requests.{Ask}
 use Rattle.command_line.specs.declared.request.Request.{Request}
-use Rattle.map_model.specs.MapNames.{LayerMap, layer_map_of}
+use Rattle.map_model.specs.MapNames.{layer_map_of}
 use Rattle.map_model.specs.declared.map.Map.{Map}
 use Rattle.questions.specs.declared.row.Row.{Row}
 use Rattle.gauges.specs.GaugeViews.{GaugeView, fresh, AreTold, AreToldPrefixes, texts_after, texts_of}
 use Rattle.gauges.proofs.ToldGauges.{texts_gained}
 use Rattle.report.specs.Report.{report_text}
-use Rattle.critarea_core.specs.Contents.{file, made as made_of, names_in, map_names, file_names, bytes_from, layout_source, wanted_top}
-use Rattle.critarea_core.specs.inside.Finding.{AreFew, Finds, FindsInFiles, files_serve, files_fail, gives_thing, gives_refusal, HasRows, IsFound, IsMapOf, IsOneOf, IsPrinted, LayoutMayCome, MapMayCome, report_out, report_cut, no_report, line_out, line_cut, no_line}
-use Rattle.critarea_core.specs.Layout.{Subject}
-use Rattle.critarea_core.specs.Refusals.{usage}
+use Rattle.critarea_core.specs.Contents.{MayContain, MayHave, names_in, map_names, file_names, bytes_from, layout_source, wanted_top}
+use Rattle.critarea_core.specs.inside.Finding.{Analyses, AreFew, AreItems, Finds, FindsInFiles, files_serve, files_fail, gives_thing, gives_refusal, HasRows, IsFound, IsMapOf, IsOneOf}
+use Rattle.critarea_core.specs.inside.Finding.{IsPrinted, IsToldAs, LayoutMayCome, MapMayCome, report_out, report_cut, no_report, line_out, line_cut, no_line}
+use Rattle.critarea_core.specs.Layout.{ShortLayoutComesTo, Subject}
+use Rattle.critarea_core.specs.Refusals.{of_layout_fault, usage}
 use Rattle.critarea_core.specs.Verdict.{LayoutComesTo, whole_report}
-use Rattle.critarea_core.specs.Run.{AreUntold, Change, change, Files, KeepTheirTexts, Output, Surroundings, HasRisen, IsCalm, MayComeTo, MustComeTo, AreRowsFor, IsComplete, EndsWith, RunsTo, RunsWith, StartsNamed, no_file, map_file, both_files}
+use Rattle.critarea_core.specs.Run.{AreUntold, Change, change, Files, KeepTheirTexts, NameSomeFile, Output, Surroundings, HasRisen, IsCalm, MayComeTo, MustComeTo, AreRowsFor}
+use Rattle.critarea_core.specs.Run.{IsComplete, EndsWith, RunsTo, RunsWith, StartsNamed, no_file, map_file, both_files}
 use Rattle.critarea_core.specs.Run as run
+use Rattle.critarea_core.specs.declared.layout_fault.LayoutFault.{LayoutFault}
+use Rattle.critarea_core.specs.declared.layout_fault.LayoutFault.TheVariants as layout_fault
 use Rattle.critarea_core.specs.declared.refusal.Refusal.{Refusal}
 use Rattle.critarea_core.specs.declared.unreported.Unreported.{Unreported}
 use Rattle.critarea_core.specs.declared.unreported.Unreported.TheVariants.{Refused, FilesFailed, Memory}
-use Rattle.critarea_core.proofs.ReadingLaws.{may_have_some, restaged, text_is_there, with_text, with_text_may_be}
+use Rattle.critarea_core.proofs.ReadingLaws.{fault_found, found_as, found_bytes, found_for, not_found, not_read, some_contents, some_may_be}
 use Rattle.critarea_core.proofs.VerdictLaws.{verdicts_agree}
 
--- the one file after the other: what was not calm before or after
-calm_both : {before middle after : ℕ} → middle ≡ before → after ≡ middle → after ≡ before
-calm_both first second = second ∙ first
-
+-- the one list behind the other
 appends_both : {A : Type 0} (before middle after : Option (List A)) (xs ys : List A) → Appends before middle xs → Appends middle after ys → Appends before after (xs ++ ys)
 appends_both None middle after xs ys p q = subst (λ m. Appends m after ys) p q
 appends_both (Some all) middle after xs ys p q = subst (λ m. Appends m after ys) p q ∙ ap (λ (zs : List _). Some zs) (append_assoc all xs ys)
-
--- a map that was found
-pub map_found : (told : List ℕ → Option (List ℕ)) (request : Request) (failures : Change ℕ) (SomeFile : Type 0) (made : Map)
-    → FindsInFiles failures SomeFile (MapMayCome told request.task) IsMapOf (Ok made) → IsCalm failures × MapMayCome told request.task (value (layer_map_of made))
-map_found told request failures SomeFile made (files_serve calm (gives (gives_thing comes is))) = (calm, subst (λ m. MapMayCome told request.task (value m)) is comes)
 
 -- rows that were found are few
 pub rows_are_few : (words : List (List ℕ)) (told : List ℕ → Option (List ℕ)) (failures : Change ℕ) (found : Result (Vec Row Global) Unreported)
@@ -49,85 +45,10 @@ module _ (words : List (List ℕ)) (told : List ℕ → Option (List ℕ)) where
 
   pub words_refused : ((request : Request) → Ask words request → ⊥) → MayComeTo words told (refused usage)
   words_refused none = record {
-    contents = record { map = λ name. unwrap_or (told name) []; layout = λ name. unwrap_or (told name) [] };
-    agree = (λ name. may_have_some (told name), λ name. may_have_some (told name));
+    contents = record { map = some_contents told; layout = some_contents told };
+    agree = (some_may_be told, some_may_be told);
     verdict = stops (lacks none);
   }
-
-  module _ (request : Request) (asked : Ask words request) where
-    map_refused : (refusal : Refusal) → MapMayCome told request.task (refused refusal) → MayComeTo words told (refused refusal)
-    map_refused refusal m = record {
-      contents = record { map = m.bytes; layout = λ name. unwrap_or (told name) [] };
-      agree = (m.may_be, λ name. may_have_some (told name));
-      verdict = goes_on (reads asked) (stops m.comes);
-    }
-
-    -- a map that was not found
-    pub no_map : (failures : Change ℕ) (why : Unreported) → FindsInFiles {T = Map} failures (IsOneOf (map_names request.task)) (MapMayCome told request.task) IsMapOf (Err why)
-        → IsFound words told failures (Err why)
-    no_map failures why (files_serve calm (refuses (gives_refusal {refusal = r} m))) = files_serve calm (refuses (gives_refusal (map_refused r m)))
-    no_map failures why (files_serve calm no_memory) = files_serve calm no_memory
-    no_map failures why (files_fail risen (name, among)) =
-        files_fail risen (request, name, asked, Contains-append_left (map_names request.task) (names_in (layout_source request.task)) name among)
-
-    module _ (layer_map : LayerMap) (good : MapMayCome told request.task (value layer_map)) (name : List ℕ) (named : layout_source request.task ≡ file name) where
-      -- what the layout may come to, the words may
-      with_layout : (outcome : Outcome Subject Refusal) → LayoutMayCome told layer_map (wanted_top request.task) name outcome → MayComeTo words told outcome
-      with_layout outcome l =
-          let layouts = with_text told name l.bytes in
-          let there : bytes_from layouts (layout_source request.task) ≡ l.bytes = ap (bytes_from layouts) named ∙ text_is_there told name l.bytes in
-          record {
-            contents = record { map = good.bytes; layout = layouts };
-            agree = (good.may_be, with_text_may_be told name l.bytes l.may_be);
-            verdict = goes_on (reads asked) (goes_on good.comes (rw there l.comes));
-          }
-
-      among_files : (other : List ℕ) → Contains (name ∷ []) other → Contains (file_names request.task) other
-      among_files other among =
-          Contains-append_right (map_names request.task) (names_in (layout_source request.task)) other (subst (λ source. Contains (names_in source) other) (sym named) among)
-
-      -- a good map, and what was found of the layout
-      pub on_good_map : (before middle after : ℕ) (result : Result (Vec Row Global) Unreported) → IsCalm (change before middle)
-          → FindsInFiles (change middle after) (IsOneOf (name ∷ [])) (LayoutMayCome told layer_map (wanted_top request.task) name) HasRows result
-          → IsFound words told (change before after) result
-      on_good_map before middle after result first (files_serve calm answer) =
-          files_serve (calm_both first calm) (restaged _ _ (LayoutMayCome told layer_map (wanted_top request.task) name) HasRows (MayComeTo words told) with_layout result answer)
-      on_good_map before middle after result first (files_fail risen (other, among)) =
-          files_fail (subst (λ b. HasRisen (change b after)) first risen) (request, other, asked, among_files other among)
-
-      -- the map's file, where there is one, and the layout's behind it
-      pub starts_both : {before middle after : Option (List (List ℕ))} → Appends before middle (map_names request.task) → Appends middle after (name ∷ [])
-          → StartsNamed words told (change before after)
-      starts_both {before} {middle} {after} first second = record {
-        names = file_names request.task;
-        may_be = both_files request asked (record { bytes = good.bytes; may_be = good.may_be; layer_map = layer_map; comes = good.comes });
-        started = appends_both before middle after (map_names request.task) (names_in (layout_source request.task)) first
-            (subst (λ source. Appends middle after (names_in source)) (sym named) second);
-      }
-
-    -- a good map, and what was found of a layout that the request itself makes
-    pub on_made : (layer_map : LayerMap) → MapMayCome told request.task (value layer_map) → (bytes : List ℕ) → layout_source request.task ≡ made_of bytes
-        → (failures : Change ℕ) (result : Result (Vec Row Global) Unreported) → IsCalm failures
-        → Finds (LayoutComesTo layer_map (wanted_top request.task) bytes) HasRows result → IsFound words told failures result
-    on_made layer_map good bytes is failures result calm answer =
-        files_serve calm (restaged _ _ (LayoutComesTo layer_map (wanted_top request.task) bytes) HasRows (MayComeTo words told) comes result answer)
-      where
-        layouts : List ℕ → List ℕ
-        layouts name = unwrap_or (told name) []
-
-        there : bytes_from layouts (layout_source request.task) ≡ bytes
-        there = ap (bytes_from layouts) is
-
-        comes : (outcome : Outcome Subject Refusal) → LayoutComesTo layer_map (wanted_top request.task) bytes outcome → MayComeTo words told outcome
-        comes outcome l = record {
-          contents = record { map = good.bytes; layout = layouts };
-          agree = (good.may_be, λ name. may_have_some (told name));
-          verdict = goes_on (reads asked) (goes_on good.comes (rw there l));
-        }
-
-    -- the map's file alone
-    pub starts_map : {before after : Option (List (List ℕ))} → Appends before after (map_names request.task) → StartsNamed words told (change before after)
-    starts_map first = record { names = map_names request.task; may_be = map_file request asked; started = first }
 
   pub starts_none : (before : Option (List (List ℕ))) → StartsNamed words told (change before before)
   starts_none before = record { names = []; may_be = no_file; started = kept before } where
@@ -135,16 +56,89 @@ module _ (words : List (List ℕ)) (told : List ℕ → Option (List ℕ)) where
     kept None = refl
     kept (Some names) = ap (λ (n : List (List ℕ)). Some n) (sym (append-nil names))
 
--- what is found of a layout is the same for sources that tell the same of its file
-pub told_alike : (told other : List ℕ → Option (List ℕ)) (layer_map : LayerMap) (wanted : Option (List ℕ)) (name : List ℕ) (failures : Change ℕ)
-    (result : Result (Vec Row Global) Unreported) → other name ≡ told name
-    → FindsInFiles failures (IsOneOf (name ∷ [])) (LayoutMayCome other layer_map wanted name) HasRows result
-    → FindsInFiles failures (IsOneOf (name ∷ [])) (LayoutMayCome told layer_map wanted name) HasRows result
-told_alike told other layer_map wanted name failures result same (files_fail risen among) = files_fail risen among
-told_alike told other layer_map wanted name failures result same (files_serve calm answer) =
-    files_serve calm (restaged _ _ (LayoutMayCome other layer_map wanted name) HasRows (LayoutMayCome told layer_map wanted name) moved result answer) where
-      moved : (outcome : Outcome Subject Refusal) → LayoutMayCome other layer_map wanted name outcome → LayoutMayCome told layer_map wanted name outcome
-      moved outcome l = record { bytes = l.bytes; may_be = rw same at l.may_be; comes = l.comes }
+  module _ (request : Request) (asked : Ask words request) where
+    -- the words name the map's file, where there is one, and the layout's
+    name_map : IsOneOf (map_names request.task) → NameSomeFile words
+    name_map (name, among) = (request, name, asked, Contains-append_left (map_names request.task) (names_in (layout_source request.task)) name among)
+
+    name_layout : IsOneOf (names_in (layout_source request.task)) → NameSomeFile words
+    name_layout (name, among) = (request, name, asked, Contains-append_right (map_names request.task) (names_in (layout_source request.task)) name among)
+
+    map_refused : (refusal : Refusal) → MapMayCome told request.task (refused refusal) → MayComeTo words told (refused refusal)
+    map_refused refusal m = record {
+      contents = record { map = m.bytes; layout = some_contents told };
+      agree = (m.may_be, some_may_be told);
+      verdict = goes_on (reads asked) (stops m.comes);
+    }
+
+    -- a map that was not found
+    pub no_map : (failures : Change ℕ) (why : Unreported) (result : Result (Vec Row Global) Unreported) → IsErrAnd result (λ same. same ≡ why)
+        → FindsInFiles failures (IsOneOf (map_names request.task)) (MapMayCome told request.task) IsMapOf (Err why) → IsFound words told failures result
+    no_map failures why result gave found =
+        not_found failures (IsOneOf (map_names request.task)) (NameSomeFile words) (MapMayCome told request.task) IsMapOf (MayComeTo words told) HasRows name_map map_refused why result gave found
+
+    -- the map's file alone
+    pub starts_map : {before after : Option (List (List ℕ))} → Appends before after (map_names request.task) → StartsNamed words told (change before after)
+    starts_map first = record { names = map_names request.task; may_be = map_file request asked; started = first }
+
+    -- Below, a map was found.
+    module _ {before middle : ℕ} {SomeFile : Type 0} (map : Map) (found_map : FindsInFiles (change before middle) SomeFile (MapMayCome told request.task) IsMapOf (Ok map)) where
+      good : IsCalm (change before middle) × MapMayCome told request.task (value (layer_map_of map))
+      good = found_as layer_map_of (MapMayCome told request.task) (change before middle) SomeFile map found_map
+
+      -- the map's file, where there is one, and the layout's behind it
+      pub starts_both : {first second third : Option (List (List ℕ))} → Appends first second (map_names request.task)
+          → Appends second third (names_in (layout_source request.task)) → StartsNamed words told (change first third)
+      starts_both {first} {second} {third} of_map of_layout = record {
+        names = file_names request.task;
+        may_be = both_files request asked (record { bytes = good.1.bytes; may_be = good.1.may_be; layer_map = layer_map_of map; comes = good.1.comes });
+        started = appends_both first second third (map_names request.task) (names_in (layout_source request.task)) of_map of_layout;
+      }
+
+      -- the files tell then what they told before
+      module _ (later : List ℕ → Option (List ℕ)) (same : (name : List ℕ) → later name ≡ told name) where
+        -- what a layout comes to that they may have, the words may come to
+        with_layout : (bytes : List ℕ → List ℕ) → MayContain later bytes → (outcome : Outcome Subject Refusal)
+            → LayoutComesTo (layer_map_of map) (wanted_top request.task) (bytes_from bytes (layout_source request.task)) outcome → MayComeTo words told outcome
+        with_layout bytes may outcome comes = record {
+          contents = record { map = good.1.bytes; layout = bytes };
+          agree = (good.1.may_be, λ name. subst (λ known. MayHave known (bytes name)) (same name) (may name));
+          verdict = goes_on (reads asked) (goes_on good.1.comes comes);
+        }
+
+        -- a layout that was not found
+        pub no_layout : {after : ℕ} (why : Unreported) (result : Result (Vec Row Global) Unreported) → IsErrAnd result (λ same. same ≡ why)
+            → FindsInFiles (change middle after) (IsOneOf (names_in (layout_source request.task))) (LayoutMayCome later (layout_source request.task)) AreItems (Err why)
+            → IsFound words told (change before after) result
+        no_layout {after} why result gave found =
+            subst (λ first. IsFound words told (change first after) result) good.0
+            (not_found (change middle after) (IsOneOf (names_in (layout_source request.task))) (NameSomeFile words) (LayoutMayCome later (layout_source request.task)) AreItems
+            (MayComeTo words told) HasRows name_layout (λ refusal l. with_layout l.bytes l.may_be (refused refusal) (stops l.comes)) why result gave found)
+
+        -- Below, so was the layout.
+        module _ {after : ℕ} {OtherFile : Type 0} (read : Vec ℕ Global)
+            (found_layout : FindsInFiles (change middle after) OtherFile (LayoutMayCome later (layout_source request.task)) AreItems (Ok read)) where
+          abbrev AreOnLayout : Result (Vec Row Global) LayoutFault → Type 0
+          AreOnLayout = Analyses (ShortLayoutComesTo (layer_map_of map) (wanted_top request.task) read.items) HasRows
+
+          there : IsCalm (change middle after) × LayoutMayCome later (layout_source request.task) (value read.items)
+          there = found_bytes (LayoutMayCome later (layout_source request.task)) (change middle after) OtherFile read found_layout
+
+          on_layout : (outcome : Outcome Subject Refusal) → Retold of_layout_fault (ShortLayoutComesTo (layer_map_of map) (wanted_top request.task) read.items) outcome
+              → MayComeTo words told outcome
+          on_layout outcome comes = with_layout there.1.bytes there.1.may_be outcome (goes_on {v = read.items} there.1.comes comes)
+
+          -- its fault
+          pub fault_on_layout : (why : LayoutFault) (result : Result (Vec Row Global) Unreported) → IsErrAnd result (IsToldAs layout_fault.Memory Memory (λ known. Refused (of_layout_fault known)) why)
+              → AreOnLayout (Err why) → IsFound words told (change before after) result
+          fault_on_layout why result gave found =
+              files_serve (there.0 ∙ good.0) (not_read Memory (λ refusal. Refused refusal) (MayComeTo words told) HasRows layout_fault.Memory of_layout_fault why result gave
+              (λ known. on_layout (refused (of_layout_fault why)) (retold (fault_found _ HasRows why found known))))
+
+          -- the rows on it
+          pub rows_on_layout : (rows : Vec Row Global) → AreOnLayout (Ok rows) → IsFound words told (change before after) (Ok rows)
+          rows_on_layout rows found =
+              let on = found_for _ _ _ _ rows found in files_serve (there.0 ∙ good.0) (gives (gives_thing {v = on.0} (on_layout (value on.0) (kept on.1)) on.2))
 
 -- ---- gauges
 

@@ -2,7 +2,6 @@ ghost use Rattle.std.specs.Prelude.{◌≡◌, ◌≤◌, ◌<◌, ◌+◌, ◌^
 ghost use Rattle.lists.specs.Differing.{AreDifferent};
 ghost use Rattle.first_refusal.specs.Answers.{Answers};
 ghost use Rattle.first_refusal.specs.Outcomes.{Then};
-ghost use Rattle.geo_core.specs.Cells.{IsInLayout};
 ghost use Rattle.library_model.specs.Names.{names_of};
 ghost use Rattle.library_model.specs.Points.{AreWellPointed};
 ghost use Rattle.map_model.specs.MapView.{layer_map_of};
@@ -10,12 +9,12 @@ ghost use Rattle.questions.specs.declared.row.TheConstants.{MOST_ROWS};
 ghost use Rattle.critarea_core.specs.Analysis.{AnalysisComesTo};
 ghost use Rattle.critarea_core.specs.inside.Finding.{Analyses, HasRows};
 ghost use Rattle.critarea_core.specs.inside.LayoutReaders.{AreLayersFor};
-ghost use Rattle.critarea_core.specs.Layout.{LibraryComesTo, ShortLayoutComesTo, Subject, TerminalsComeTo};
+ghost use Rattle.critarea_core.specs.Layout.{LibraryComesTo, ShortLayoutComesTo, TerminalsComeTo};
 ghost use Rattle.critarea_core.specs.Refusals.{layout_limit};
 
 use super::layers::layers_of;
 use super::layout_fault::LayoutFault;
-use critical_areas::{Gate, critical_areas};
+use critical_areas::{Gate, Sharing, critical_areas};
 use flatten::place;
 use gds_syntax::{Library, read_library};
 use map_model::{Layers, Map};
@@ -46,33 +45,12 @@ fn layers_of_library(
     requires few_structures { length library.structures < 2 ^ 32 }
     requires few_elements { All (λ structure. length structure.elements < 2 ^ 32) library.structures }
     requires pointed { AreWellPointed library.structures }
-    ensures { Analyses (LibraryComesTo (layer_map_of map.now) (option_copied top.entry) library) (AreLayersFor (layer_map_of map.now)) result }
+    ensures { Analyses (LibraryComesTo (layer_map_of map.now) (option_copied top.entry) library)
+        (AreLayersFor (layer_map_of map.now)) result }
 {
     let placed = place(alloc, &library, map, top)?;
     let covers = cover_all(rt, alloc, &library, placed.as_slice())?;
     Ok(layers_of(alloc, count_of(map), placed.as_slice(), covers.as_slice())?)
-}
-
-/// The rows on the subject whose layers these are, or the first terminal that is not on its metal.
-fn rows_on<G: Gate + Sync>(
-    rt: &(impl Threads + Sync),
-    alloc: Global,
-    map: &Map,
-    layers: &Layers,
-    edge: u32,
-    workers: u32,
-    gate: &G,
-) -> Result<Vec<Row>, LayoutFault>
-    requires some { 1 ≤ edge }
-    requires short { edge ≤ 1000000000 }
-    requires some_workers { 1 ≤ workers }
-    requires few_workers { workers ≤ 64 }
-    requires one_each { length layers.now.lists.items ≡ length map.now.metals + length map.now.cuts }
-    requires within { All (All IsInLayout) layers.now.lists.items }
-    ensures { (subject : Subject) → AreLayersFor (layer_map_of map.now) subject layers.now →
-        Analyses (TerminalsComeTo subject) HasRows result }
-{
-    Ok(critical_areas(rt, alloc, map, layers, edge, workers, gate)?)
 }
 
 /// The rows of the map on a library, of which this top is wanted, or any.
@@ -82,14 +60,8 @@ fn rows_of_library<G: Gate + Sync>(
     map: &Map,
     top: Option<&[u8]>,
     library: Library,
-    edge: u32,
-    workers: u32,
-    gate: &G,
+    sharing: Sharing<'_, G>,
 ) -> Result<Vec<Row>, LayoutFault>
-    requires some { 1 ≤ edge }
-    requires short { edge ≤ 1000000000 }
-    requires some_workers { 1 ≤ workers }
-    requires few_workers { workers ≤ 64 }
     requires differ { AreDifferent (names_of library.structures) }
     requires few_structures { length library.structures < 2 ^ 32 }
     requires few_elements { All (λ structure. length structure.elements < 2 ^ 32) library.structures }
@@ -97,31 +69,25 @@ fn rows_of_library<G: Gate + Sync>(
     ensures { Analyses (Then (LibraryComesTo (layer_map_of map.now) (option_copied top.entry) library) TerminalsComeTo) HasRows result }
 {
     let layers = layers_of_library(rt, alloc, map, top, library)?;
-    rows_on(rt, alloc, map, &layers, edge, workers, gate)
+    Ok(critical_areas(rt, alloc, map, &layers, sharing)?)
 }
 
 /// The rows of the map on the layout with these bytes, of which this top is wanted, or any. The bytes are let go once the
 /// library is read.
-pub fn rows_of_bytes<G: Gate + Sync>(
+pub fn rows_of_layout<G: Gate + Sync>(
     rt: &(impl Threads + Sync),
     alloc: Global,
     map: &Map,
     top: Option<&[u8]>,
     bytes: Vec<u8>,
-    edge: u32,
-    workers: u32,
-    gate: &G,
+    sharing: Sharing<'_, G>,
 ) -> Result<Vec<Row>, LayoutFault>
-    requires some { 1 ≤ edge }
-    requires short { edge ≤ 1000000000 }
-    requires some_workers { 1 ≤ workers }
-    requires few_workers { workers ≤ 64 }
     requires within { length bytes.items ≤ layout_limit }
     ensures { Analyses (ShortLayoutComesTo (layer_map_of map.now) (option_copied top.entry) bytes.items) HasRows result }
 {
     let library = read_library(alloc, bytes.as_slice())?;
     drop(bytes);
-    rows_of_library(rt, alloc, map, top, library, edge, workers, gate)
+    rows_of_library(rt, alloc, map, top, library, sharing)
 }
 
 /// The rows of a report of the map on a layout: shorts of each metal, then opens of each, and then via blocks of each cut,
@@ -153,5 +119,10 @@ pub fn analyse<G: Gate + Sync>(
     ensures few { IfOk result (λ rows. length rows.items ≤ MOST_ROWS) }
 {
     let library = read_library(alloc, layout)?;
-    rows_of_library(rt, alloc, map, top, library, edge, workers, gate)
+    let sharing = Sharing {
+        edge,
+        workers,
+        gate,
+    };
+    rows_of_library(rt, alloc, map, top, library, sharing)
 }

@@ -1,104 +1,22 @@
-ghost use Rattle.std.specs.Prelude.{◌≡◌, ◌≤◌, ℕ, List, [], ◌∷◌, None, length, option_copied};
-ghost use Rattle.edge_io.specs.Bytes.{Appends};
+ghost use Rattle.std.specs.Prelude.{◌≡◌, ℕ, List, option_copied};
 ghost use Rattle.command_line.specs.Requests.{Ask};
 ghost use Rattle.gauges.specs.GaugeViews.{views_of};
-ghost use Rattle.map_model.specs.MapView.{layer_map_of};
 ghost use Rattle.critarea_core.specs.Contents.{wanted_top};
-ghost use Rattle.critarea_core.specs.inside.Finding.{AreFew, Finds, FindsInFiles, HasRows, IsFound, IsOneOf, HasFittingNumbers, LayoutMayCome};
-ghost use Rattle.critarea_core.specs.Refusals.{layout_limit};
-ghost use Rattle.critarea_core.specs.Verdict.{LayoutComesTo};
-ghost use Rattle.layout_gen.specs.Generated.{generated_layout};
+ghost use Rattle.critarea_core.specs.inside.Finding.{IsFound};
 ghost use Rattle.critarea_core.specs.Run.{RunsTo, StartsNamed, change};
 
-use super::analysis::rows_of_bytes;
-use super::maps::map_for;
+use super::analysis::rows_of_layout;
 use super::printing::print;
-use super::refusal::{LAYOUT_LIMIT, LAYOUT_TOO_LONG, Refusal, USAGE};
+use super::sources::{layout_for, map_for};
 use super::unreported::Unreported;
-use command_line::{Request, Task, Word, WordsFault, read_words};
-use critical_areas::Gate;
-use edge_io::{Files, Sink, read_whole};
+use command_line::{Request, Task, Word, read_words};
+use critical_areas::{Gate, Sharing};
+use edge_io::{Files, Sink};
 use gauges::Gauge;
-use layout_gen::{MOST_COLUMNS, generate};
 use lists::Name;
-use map_model::Map;
 use questions::Row;
 use std::alloc::Global;
 use std::thread::Threads;
-
-/// The rows of the map on the layout with these bytes, of which this top is wanted, or any.
-fn rows_of_layout<G: Gate + Sync>(
-    rt: &(impl Threads + Sync),
-    alloc: Global,
-    map: &Map,
-    top: Option<&[u8]>,
-    bytes: Vec<u8>,
-    edge: u32,
-    workers: u32,
-    gate: &G,
-) -> Result<Vec<Row>, Unreported>
-    requires some { 1 ≤ edge }
-    requires short { edge ≤ 1000000000 }
-    requires some_workers { 1 ≤ workers }
-    requires few_workers { workers ≤ 64 }
-    requires within { length bytes.items ≤ layout_limit }
-    ensures { Finds (LayoutComesTo (layer_map_of map.now) (option_copied top.entry) bytes.items) HasRows result }
-{
-    Ok(rows_of_bytes(rt, alloc, map, top, bytes, edge, workers, gate)?)
-}
-
-/// The rows of the map on the layout in the file of this name, of which this top is wanted, or any; or why there are none.
-fn rows_of_file<F: Files, G: Gate + Sync>(
-    rt: &(impl Threads + Sync),
-    alloc: Global,
-    map: &Map,
-    top: Option<&[u8]>,
-    files: &mut F,
-    name: &[u8],
-    edge: u32,
-    workers: u32,
-    gate: &G,
-) -> Result<Vec<Row>, Unreported>
-    requires some { 1 ≤ edge }
-    requires short { edge ≤ 1000000000 }
-    requires some_workers { 1 ≤ workers }
-    requires few_workers { workers ≤ 64 }
-    ensures found { FindsInFiles (change (F.faults files.old) (F.faults files.new)) (IsOneOf (name.now ∷ []))
-        (LayoutMayCome (F.holds files.old) (layer_map_of map.now) (option_copied top.entry) name.now) HasRows result }
-    ensures starts { Appends (F.starts files.old) (F.starts files.new) (name.now ∷ []) }
-    ensures holds { (n : List ℕ) → F.holds files.new n ≡ F.holds files.old n }
-{
-    let bytes = match read_whole(alloc, files, name, LAYOUT_LIMIT) {
-        Ok(bytes) => bytes,
-        Err(error) => {
-            let too_long = Refusal::of_layout(LAYOUT_TOO_LONG, LAYOUT_LIMIT as u64);
-            return Err(Unreported::of_unread(error, too_long));
-        }
-    };
-    rows_of_layout(rt, alloc, map, top, bytes, edge, workers, gate)
-}
-
-/// The rows of the map on the generated layout of so many columns.
-fn rows_of_generated<G: Gate + Sync>(
-    rt: &(impl Threads + Sync),
-    alloc: Global,
-    map: &Map,
-    columns: u32,
-    edge: u32,
-    workers: u32,
-    gate: &G,
-) -> Result<Vec<Row>, Unreported>
-    requires some_columns { 1 ≤ columns }
-    requires few_columns { columns ≤ MOST_COLUMNS }
-    requires some { 1 ≤ edge }
-    requires short { edge ≤ 1000000000 }
-    requires some_workers { 1 ≤ workers }
-    requires few_workers { workers ≤ 64 }
-    ensures { Finds (LayoutComesTo (layer_map_of map.now) None (generated_layout columns)) HasRows result }
-{
-    let made = generate(alloc, columns)?;
-    rows_of_layout(rt, alloc, map, None, made.layout, edge, workers, gate)
-}
 
 /// The name of the structure that is wanted as the top, where one is.
 fn top_of(task: &Task) -> Option<&[u8]>
@@ -118,38 +36,21 @@ fn rows_of_request<F: Files, G: Gate + Sync>(
     files: &mut F,
     gate: &G,
 ) -> Result<Vec<Row>, Unreported>
-    requires { HasFittingNumbers request.now.task }
     ensures found { (words : List (List ℕ)) → Ask words request.now →
         IsFound words (F.holds files.old) (change (F.faults files.old) (F.faults files.new)) result }
     ensures started { (words : List (List ℕ)) → Ask words request.now →
         StartsNamed words (F.holds files.old) (change (F.starts files.old) (F.starts files.new)) }
     ensures holds { (name : List ℕ) → F.holds files.new name ≡ F.holds files.old name }
 {
-    let map = match map_for(alloc, request, files) {
-        Ok(map) => map,
-        Err(why) => return Err(why),
+    let sharing = Sharing {
+        edge: request.edge,
+        workers: request.workers,
+        gate,
     };
+    let map = map_for(alloc, request, files)?;
+    let bytes = layout_for(alloc, request, files)?;
     let top = top_of(&request.task);
-    let edge = request.edge;
-    let workers = request.workers;
-    match &request.task {
-        Task::OneMetal { layout, .. } | Task::Mapped { layout, .. } => {
-            rows_of_file(
-                rt,
-                alloc,
-                &map,
-                top,
-                files,
-                layout.as_slice(),
-                edge,
-                workers,
-                gate,
-            )
-        }
-        Task::Generated { columns } => rows_of_generated(
-            rt, alloc, &map, *columns, edge, workers, gate,
-        ),
-    }
+    Ok(rows_of_layout(rt, alloc, &map, top, bytes, sharing)?)
 }
 
 /// The rows that the words ask for, or why there are none.
@@ -163,13 +64,9 @@ fn find<F: Files, G: Gate + Sync>(
     ensures found { IsFound words.now (F.holds files.old) (change (F.faults files.old) (F.faults files.new)) result }
     ensures started { StartsNamed words.now (F.holds files.old) (change (F.starts files.old) (F.starts files.new)) }
     ensures holds { (name : List ℕ) → F.holds files.new name ≡ F.holds files.old name }
-    ensures few { AreFew result }
 {
-    match read_words(alloc, words) {
-        Ok(request) => rows_of_request(rt, alloc, &request, files, gate),
-        Err(WordsFault::Usage) => Err(Unreported::Refused(Refusal::of_words(USAGE, 0))),
-        Err(WordsFault::Memory) => Err(Unreported::Memory),
-    }
+    let request = read_words(alloc, words)?;
+    rows_of_request(rt, alloc, &request, files, gate)
 }
 
 /// Does what the words ask for, and answers the exit status.

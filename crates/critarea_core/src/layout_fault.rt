@@ -1,3 +1,14 @@
+#![tactic(auto, using(crate::specs::inside::Finding::as_memory, crate::specs::inside::Finding::as_known))]
+
+ghost use Rattle.std.specs.Prelude.{◌≡◌};
+ghost use Rattle.library_grammar.specs.declared.fault.SyntaxFault.TheVariants.{Memory as syntax_memory};
+ghost use Rattle.flatten.specs.declared.fault.PlaceFault.TheVariants.{Memory as place_memory};
+ghost use Rattle.rect_cover.specs.declared.fault.CoverFault.TheVariants.{Memory as cover_memory};
+ghost use Rattle.net_extract.specs.declared.fault.NetFault.TheVariants.{Memory as net_memory};
+ghost use Rattle.critarea_core.specs.inside.Finding.{IsToldAs};
+ghost use Rattle.critarea_core.specs.Refusals.{of_layout_fault};
+ghost use Rattle.critarea_core.specs.declared.layout_fault.LayoutFault.TheVariants.{Syntax, Place, Cover, Net, Memory};
+
 use super::refusal::Refusal;
 use flatten::PlaceFault;
 use gds_syntax::SyntaxFault;
@@ -27,9 +38,6 @@ pub enum LayoutFault {
 }
 
 impl LayoutFault {
-    ghost use Rattle.std.specs.Prelude.{◌≡◌};
-    ghost use Rattle.critarea_core.specs.Refusals.{of_layout_fault};
-
     /// The fault's number, by which it is printed: 10 to 36, or 50. Out of memory has none, which is 0 here and below.
     pub fn number(&self) -> u8
         ensures { result ≡ (of_layout_fault self.now).number }
@@ -58,20 +66,18 @@ impl LayoutFault {
 }
 
 impl From<LayoutFault> for Refusal {
-    ghost use Rattle.std.specs.Prelude.{◌≡◌};
-    ghost use Rattle.critarea_core.specs.Refusals.{of_layout_fault};
-
     ghost from_gives = { λ fault refusal. refusal ≡ of_layout_fault fault };
 
     fn from(fault: LayoutFault) -> Refusal {
-        Refusal::of_layout(fault.number(), fault.place())
+        Refusal {
+            status: 4,
+            number: fault.number(),
+            place: fault.place(),
+        }
     }
 }
 
 impl From<NoMemory> for LayoutFault {
-    ghost use Rattle.std.specs.Prelude.{◌≡◌};
-    ghost use Rattle.critarea_core.specs.declared.layout_fault.LayoutFault.TheVariants.{Memory};
-
     ghost from_gives = { λ _ fault. fault ≡ Memory };
 
     fn from(_error: NoMemory) -> LayoutFault {
@@ -80,10 +86,6 @@ impl From<NoMemory> for LayoutFault {
 }
 
 impl From<SyntaxFault> for LayoutFault {
-    ghost use Rattle.critarea_core.specs.inside.Finding.{IsToldAs};
-    ghost use Rattle.critarea_core.specs.declared.layout_fault.LayoutFault.TheVariants.{Syntax, Memory};
-    ghost use Rattle.library_grammar.specs.declared.fault.SyntaxFault.TheVariants.{Memory as syntax_memory};
-
     ghost from_gives = { λ fault why. IsToldAs syntax_memory Memory (λ known. Syntax known) fault why };
 
     fn from(fault: SyntaxFault) -> LayoutFault {
@@ -95,10 +97,6 @@ impl From<SyntaxFault> for LayoutFault {
 }
 
 impl From<PlaceFault> for LayoutFault {
-    ghost use Rattle.critarea_core.specs.inside.Finding.{IsToldAs};
-    ghost use Rattle.critarea_core.specs.declared.layout_fault.LayoutFault.TheVariants.{Place, Memory};
-    ghost use Rattle.flatten.specs.declared.fault.PlaceFault.TheVariants.{Memory as place_memory};
-
     ghost from_gives = { λ fault why. IsToldAs place_memory Memory (λ known. Place known) fault why };
 
     fn from(fault: PlaceFault) -> LayoutFault {
@@ -110,10 +108,6 @@ impl From<PlaceFault> for LayoutFault {
 }
 
 impl From<CoverFault> for LayoutFault {
-    ghost use Rattle.critarea_core.specs.inside.Finding.{IsToldAs};
-    ghost use Rattle.critarea_core.specs.declared.layout_fault.LayoutFault.TheVariants.{Cover, Memory};
-    ghost use Rattle.rect_cover.specs.declared.fault.CoverFault.TheVariants.{Memory as cover_memory};
-
     ghost from_gives = { λ fault why. IsToldAs cover_memory Memory (λ known. Cover known) fault why };
 
     fn from(fault: CoverFault) -> LayoutFault {
@@ -125,10 +119,6 @@ impl From<CoverFault> for LayoutFault {
 }
 
 impl From<NetFault> for LayoutFault {
-    ghost use Rattle.critarea_core.specs.inside.Finding.{IsToldAs};
-    ghost use Rattle.critarea_core.specs.declared.layout_fault.LayoutFault.TheVariants.{Net, Memory};
-    ghost use Rattle.net_extract.specs.declared.fault.NetFault.TheVariants.{Memory as net_memory};
-
     ghost from_gives = { λ fault why. IsToldAs net_memory Memory (λ known. Net known) fault why };
 
     fn from(fault: NetFault) -> LayoutFault {

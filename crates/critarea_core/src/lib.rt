@@ -4,12 +4,11 @@
 mod analysis;
 mod boxed;
 mod command;
-pub mod laws;
 mod layers;
 mod layout_fault;
-mod maps;
 mod printing;
 mod refusal;
+mod sources;
 mod told;
 mod unreported;
 

@@ -26,7 +26,10 @@ pub const NO_MEMORY: u8 = 6;
 /// Prints the line of a refusal, and gives the status.
 fn print_refusal<E: Sink>(alloc: Global, refusal: Refusal, err: &mut E) -> u8
     ensures { LineEnds refusal
-        (record { taken = change (E.written err.old) (E.written err.new); failures = change (E.faults err.old) (E.faults err.new) }) result }
+        (record {
+          taken = change (E.written err.old) (E.written err.new);
+          failures = change (E.faults err.old) (E.faults err.new);
+        }) result }
 {
     let Ok(line) = refusal.line(alloc) else {
         return NO_MEMORY;
@@ -68,7 +71,10 @@ fn print_report<O: Sink>(
 ) -> u8
     requires { length rows.now ≤ MOST_ROWS }
     ensures { ReportEnds rows.now (change (views_of seen text gauges.old.items) (views_of seen text gauges.new.items))
-        (record { taken = change (O.written out.old) (O.written out.new); failures = change (O.faults out.old) (O.faults out.new) }) result }
+        (record {
+          taken = change (O.written out.old) (O.written out.new);
+          failures = change (O.faults out.old) (O.faults out.new);
+        }) result }
 {
     let Ok(printed) = text_with_gauges(alloc, rows, gauges) else {
         return NO_MEMORY;
@@ -90,8 +96,14 @@ pub fn print<O: Sink, E: Sink>(
 ) -> u8
     requires { AreFew found }
     ensures { IsPrinted found (change (views_of seen text gauges.old.items) (views_of seen text gauges.new.items))
-        (record { taken = change (O.written out.old) (O.written out.new); failures = change (O.faults out.old) (O.faults out.new) })
-        (record { taken = change (E.written err.old) (E.written err.new); failures = change (E.faults err.old) (E.faults err.new) }) result }
+        (record {
+          taken = change (O.written out.old) (O.written out.new);
+          failures = change (O.faults out.old) (O.faults out.new);
+        })
+        (record {
+          taken = change (E.written err.old) (E.written err.new);
+          failures = change (E.faults err.old) (E.faults err.new);
+        }) result }
 {
     match found {
         Ok(rows) => print_report(alloc, rows.as_slice(), gauges, out),

@@ -7,17 +7,8 @@ pub const MAP_LIMIT: usize = 1_048_576;
 /// The most bytes that a layout may have.
 pub const LAYOUT_LIMIT: usize = 268_435_456;
 
-/// The number of words that fit no form of the command.
-pub const USAGE: u8 = 2;
-
-/// The number of a map that has more bytes.
-pub const MAP_TOO_LONG: u8 = 39;
-
-/// The number of a layout that has more bytes.
-pub const LAYOUT_TOO_LONG: u8 = 9;
-
 /// Why the input is refused, as it is printed, with the exit status that goes with it.
-#[derive(Clone, Copy, Debug, PartialEq, Eq)]
+#[derive(Clone, Copy)]
 pub struct Refusal {
     /// 2 for words, 3 for maps, 4 for layouts.
     pub status: u8,
@@ -27,42 +18,30 @@ pub struct Refusal {
     pub place: u64,
 }
 
+/// The refusal of words that fit no form of the command.
+pub const USAGE: Refusal = Refusal {
+    status: 2,
+    number: 2,
+    place: 0,
+};
+
+/// The refusal of a map that has more bytes than it may.
+pub const MAP_TOO_LONG: Refusal = Refusal {
+    status: 3,
+    number: 39,
+    place: MAP_LIMIT as u64,
+};
+
+/// The refusal of a layout that has more bytes than it may.
+pub const LAYOUT_TOO_LONG: Refusal = Refusal {
+    status: 4,
+    number: 9,
+    place: LAYOUT_LIMIT as u64,
+};
+
 impl Refusal {
     ghost use Rattle.std.specs.Prelude.{◌≡◌, IfOk, string_bytes};
-    ghost use Rattle.critarea_core.specs.Refusals.{of_layout, of_map, of_words, refusal_text};
-
-    /// A refusal of the words.
-    pub fn of_words(number: u8, place: u64) -> Refusal
-        ensures { result ≡ of_words number place }
-    {
-        Refusal {
-            status: 2,
-            number,
-            place,
-        }
-    }
-
-    /// A refusal of the map.
-    pub fn of_map(number: u8, place: u64) -> Refusal
-        ensures { result ≡ of_map number place }
-    {
-        Refusal {
-            status: 3,
-            number,
-            place,
-        }
-    }
-
-    /// A refusal of the layout.
-    pub fn of_layout(number: u8, place: u64) -> Refusal
-        ensures { result ≡ of_layout number place }
-    {
-        Refusal {
-            status: 4,
-            number,
-            place,
-        }
-    }
+    ghost use Rattle.critarea_core.specs.Refusals.{refusal_text};
 
     /// The line that is printed for it.
     pub fn line(&self, alloc: Global) -> Result<String, NoMemory>

@@ -2,23 +2,19 @@
 use Rattle.std.specs.Prelude.{IfOk, ℕ, List, ◌≡◌, ◌≢◌, ◌≤◌, Option, Contains, length, Result, Ok, Err, Vec}
 use Rattle.lists.specs.Words.{Global}
 use Rattle.first_refusal.specs.Answers.{Answers}
-use Rattle.first_refusal.specs.Outcomes.{Outcome, value, refused}
-use Rattle.edge_io.specs.declared.whole.ReadError.{ReadError}
-use Rattle.edge_io.specs.declared.whole.ReadError.TheVariants as read
+use Rattle.first_refusal.specs.Outcomes.{Outcome, Reads, value, refused}
 use Rattle.command_line.specs.declared.task.Task.{Task}
-use Rattle.command_line.specs.declared.task.Task.TheVariants.{OneMetal, Mapped, Generated}
-use Rattle.geo_core.specs.Plane.{IsRadius}
 use Rattle.map_model.specs.MapNames.{LayerMap, layer_map_of}
 use Rattle.map_model.specs.declared.map.Map.{Map}
 use Rattle.gauges.specs.GaugeViews.{GaugeView}
 use Rattle.questions.specs.declared.row.Row.{Row}
 use Rattle.questions.specs.declared.row.TheConstants.{MOST_ROWS}
-use Rattle.critarea_core.specs.Contents.{MayContain, MayHave}
-use Rattle.critarea_core.specs.Refusals.{refusal_text}
+use Rattle.critarea_core.specs.Contents.{MayContain, Source, bytes_from}
+use Rattle.critarea_core.specs.Refusals.{layout_limit, layout_too_long, refusal_text}
 use Rattle.critarea_core.specs.Run.{AreToldAll, AreToldSome, AreUntold, Change, FailsWithin, HasRisen}
 use Rattle.critarea_core.specs.Run.{IsCalm, IsIdle, MayComeTo, NameSomeFile, Output, Takes}
 use Rattle.critarea_core.specs.Layout.{Subject}
-use Rattle.critarea_core.specs.Verdict.{LayoutComesTo, MapComesTo, AreRowsOn, whole_report}
+use Rattle.critarea_core.specs.Verdict.{IsShortEnough, MapComesTo, AreRowsOn, whole_report}
 use Rattle.critarea_core.specs.declared.layout_fault.LayoutFault.{LayoutFault}
 use Rattle.critarea_core.specs.declared.layout_fault.LayoutFault.TheVariants.{Memory as LayoutMemory}
 use Rattle.critarea_core.specs.declared.refusal.Refusal.{Refusal}
@@ -27,16 +23,10 @@ use Rattle.critarea_core.specs.declared.unreported.Unreported.TheVariants.{Refus
 
 -- ---- faults, as why there is no report
 
--- a fault is told as this of another kind: as its own, or as want of memory, if it is that
-pub data IsToldAs {F E : Type 0} (low : F) (memory : E) (as_error : F → E) (fault : F) : E → Type 0 where
-  as_memory : fault ≡ low → IsToldAs low memory as_error fault memory
-  as_known : fault ≢ low → IsToldAs low memory as_error fault (as_error fault)
-
--- why there is no map or report where a file was not read; this is the refusal of a file that is too long
-abbrev pub of_unread : Refusal → ReadError → Unreported
-of_unread too_long read.Fault = FilesFailed
-of_unread too_long read.TooLong = Refused too_long
-of_unread too_long read.Memory = Memory
+-- a fault is told as this error: as its own, or as want of memory, if it is that
+pub data IsToldAs {F E : Type 0} (low : F) (memory : E) (as_error : F → E) (fault : F) (error : E) : Type 0 where
+  as_memory : fault ≡ low → error ≡ memory → IsToldAs low memory as_error fault error
+  as_known : fault ≢ low → error ≡ as_error fault → IsToldAs low memory as_error fault error
 
 -- ---- what stages come to
 
@@ -60,11 +50,26 @@ pub data FindsInFiles {T V : Type 0} (failures : Change ℕ) (SomeFile : Type 0)
       → FindsInFiles failures SomeFile Stage IsFor answer
   files_fail : HasRisen failures → SomeFile → FindsInFiles failures SomeFile Stage IsFor (Err FilesFailed)
 
--- ---- maps
+-- there is one of these names
+abbrev pub IsOneOf : List (List ℕ) → Type 0
+IsOneOf names = (name : List ℕ) × Contains names name
 
--- the map stands for the layer map
-abbrev pub IsMapOf : LayerMap → Map → Type 0
-IsMapOf layer_map made = layer_map ≡ layer_map_of made
+-- ---- maps and layouts
+
+-- some bytes that the files may have make this of the source: its own bytes, or this refusal where they are more than the limit
+pub record BytesMayCome (told : List ℕ → Option (List ℕ)) (source : Source) (limit : ℕ) (too_long : Refusal)
+    (outcome : Outcome (List ℕ) Refusal) : Type 0 where
+  pub bytes : List ℕ → List ℕ
+  pub may_be : MayContain told bytes
+  pub comes : Reads (IsShortEnough limit (bytes_from bytes source)) too_long outcome
+
+-- the same of a layout from there
+abbrev pub LayoutMayCome : (List ℕ → Option (List ℕ)) → Source → Outcome (List ℕ) Refusal → Type 0
+LayoutMayCome told source = BytesMayCome told source layout_limit layout_too_long
+
+-- those are the bytes
+abbrev pub AreItems : List ℕ → Vec ℕ Global → Type 0
+AreItems bytes read = bytes ≡ read.items
 
 -- some bytes that the files may have where they are read as maps make the task's map come to this
 pub record MapMayCome (told : List ℕ → Option (List ℕ)) (task : Task) (outcome : Outcome LayerMap Refusal) : Type 0 where
@@ -72,24 +77,11 @@ pub record MapMayCome (told : List ℕ → Option (List ℕ)) (task : Task) (out
   pub may_be : MayContain told bytes
   pub comes : MapComesTo task bytes outcome
 
--- there is one of these names
-abbrev pub IsOneOf : List (List ℕ) → Type 0
-IsOneOf names = (name : List ℕ) × Contains names name
+-- the map stands for the layer map
+abbrev pub IsMapOf : LayerMap → Map → Type 0
+IsMapOf layer_map made = layer_map ≡ layer_map_of made
 
--- the radius of the task is one of defects, where it has one, and the columns are as many as may be generated
-abbrev pub HasFittingNumbers : Task → Type 0
-HasFittingNumbers (OneMetal layout layer datatype radius top) = IsRadius radius
-HasFittingNumbers (Mapped layout map top) = Unit {0}
-HasFittingNumbers (Generated columns) = (1 ≤ columns) × (columns ≤ 500)
-
--- ---- layouts
-
--- some bytes that the file of this name may have come to this, where this top is wanted, or any
-pub record LayoutMayCome (told : List ℕ → Option (List ℕ)) (layer_map : LayerMap) (wanted : Option (List ℕ)) (name : List ℕ)
-    (outcome : Outcome Subject Refusal) : Type 0 where
-  pub bytes : List ℕ
-  pub may_be : MayHave (told name) bytes
-  pub comes : LayoutComesTo layer_map wanted bytes outcome
+-- ---- rows
 
 -- these are the rows on the subject, as many as a report may have
 pub record HasRows (subject : Subject) (rows : Vec Row Global) : Type 0 where

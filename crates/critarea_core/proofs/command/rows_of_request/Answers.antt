@@ -1,39 +1,41 @@
-use Rattle.std.proofs.Common.{◌≡◌, inl, inr, refl}
-use Rattle.layout_gen.specs.Generated.{generated_layout}
-use Rattle.map_model.specs.MapNames.{layer_map_of}
-use Rattle.critarea_core.specs.Contents.{file, layout_source}
-use Rattle.critarea_core.proofs.RunLaws.{map_found, told_alike, no_map, on_good_map, on_made, starts_map, starts_both}
+use Rattle.critarea_core.proofs.ReadingLaws.{found_short}
+use Rattle.critarea_core.proofs.RunLaws.{fault_on_layout, no_layout, no_map, rows_on_layout, starts_both, starts_map}
 use Rattle.critarea_core.proofs.command.rows_of_request.Goals as goal
 
-pub returns-in-Err-clause-found : goal.returns-in-Err-clause-found
-returns-in-Err-clause-found g c words asked = no_map words (g.F.Files.holds c.args.files.now) c.args.request.now asked _ c.in-Err.why c.in-Err.ensures.found
+pub returns-in_err-map-clause-found : goal.returns-in_err-map-clause-found
+returns-in_err-map-clause-found g c words asked =
+    no_map words (g.F.Files.holds c.args.files.now) c.args.request.now asked _ c.in_err-map.field-0.0 c.from_residual.result c.from_residual.ensures.1 c.in_err-map.ensures.found
 
-pub returns-in-Err-clause-started : goal.returns-in-Err-clause-started
-returns-in-Err-clause-started g c words asked = starts_map words (g.F.Files.holds c.args.files.now) c.args.request.now asked c.in-Err.ensures.starts
+pub returns-in_err-map-clause-started : goal.returns-in_err-map-clause-started
+returns-in_err-map-clause-started g c words asked = starts_map words (g.F.Files.holds c.args.files.now) c.args.request.now asked c.in_err-map.ensures.starts
 
-pub returns-in-OneMetal-clause-found : goal.returns-in-OneMetal-clause-found
-returns-in-OneMetal-clause-found g c words asked =
-    let told = g.F.Files.holds c.args.files.now in
-    let map = map_found told c.args.request.now _ _ c.in-Ok.map c.in-Ok.ensures.found in
-    let named : layout_source c.args.request.now.task ≡ file c.as_slice.result.now = rw c.as_slice.ensures (elim c.in-OneMetal.is [ inl h ↦ rw h.4 refl | inr h ↦ rw h.2 refl ]) in
-    on_good_map words told c.args.request.now asked (layer_map_of c.in-Ok.map) map.1 c.as_slice.result.now named
-    _ _ _ c.rows_of_file.result map.0
-    (told_alike told _ (layer_map_of c.in-Ok.map) _ _ _ c.rows_of_file.result (c.in-Ok.ensures.holds _) (rw c.top_of-top.ensures at c.rows_of_file.ensures.found))
+pub returns-in_err-bytes-clause-found : goal.returns-in_err-bytes-clause-found
+returns-in_err-bytes-clause-found g c words asked =
+    no_layout words (g.F.Files.holds c.args.files.now) c.args.request.now asked c.in_ok-map.map c.in_ok-map.ensures.found _ c.in_ok-map.ensures.holds
+    c.in_err-bytes.field-0.0 c.from_residual-in_err-bytes.result c.from_residual-in_err-bytes.ensures.1 c.in_err-bytes.ensures.found
 
-pub returns-in-OneMetal-clause-started : goal.returns-in-OneMetal-clause-started
-returns-in-OneMetal-clause-started g c words asked =
-    let told = g.F.Files.holds c.args.files.now in
-    let map = map_found told c.args.request.now _ _ c.in-Ok.map c.in-Ok.ensures.found in
-    let named : layout_source c.args.request.now.task ≡ file c.as_slice.result.now = rw c.as_slice.ensures (elim c.in-OneMetal.is [ inl h ↦ rw h.4 refl | inr h ↦ rw h.2 refl ]) in
-    starts_both words told c.args.request.now asked (layer_map_of c.in-Ok.map) map.1 c.as_slice.result.now named
-    c.in-Ok.ensures.starts c.rows_of_file.ensures.starts
+pub returns-in_err-bytes-clause-started : goal.returns-in_err-bytes-clause-started
+returns-in_err-bytes-clause-started g c words asked =
+    starts_both words (g.F.Files.holds c.args.files.now) c.args.request.now asked c.in_ok-map.map c.in_ok-map.ensures.found c.in_ok-map.ensures.starts c.in_err-bytes.ensures.starts
+
+pub rows_of_layout-requires-clause-within : goal.rows_of_layout-requires-clause-within
+rows_of_layout-requires-clause-within g c κs within = found_short _ _ _ _ _ _ c.in_ok-bytes.bytes c.in_ok-bytes.ensures.found
+
+pub returns-in_err-rows_of_layout-clause-found : goal.returns-in_err-rows_of_layout-clause-found
+returns-in_err-rows_of_layout-clause-found g c words asked =
+    fault_on_layout words (g.F.Files.holds c.args.files.now) c.args.request.now asked c.in_ok-map.map c.in_ok-map.ensures.found _ c.in_ok-map.ensures.holds
+    c.in_ok-bytes.bytes c.in_ok-bytes.ensures.found
+    c.in_err-rows_of_layout.field-0.0 c.from_residual-in_err-rows_of_layout.result c.from_residual-in_err-rows_of_layout.ensures.1 (rw c.top_of-top.ensures at c.in_err-rows_of_layout.ensures)
+
+pub returns-in_err-rows_of_layout-clause-started : goal.returns-in_err-rows_of_layout-clause-started
+returns-in_err-rows_of_layout-clause-started g c words asked =
+    starts_both words (g.F.Files.holds c.args.files.now) c.args.request.now asked c.in_ok-map.map c.in_ok-map.ensures.found c.in_ok-map.ensures.starts c.in_ok-bytes.ensures.starts
 
 pub returns-clause-found : goal.returns-clause-found
 returns-clause-found g c words asked =
-    let told = g.F.Files.holds c.args.files.now in
-    let map = map_found told c.args.request.now _ _ c.in-Ok.map c.in-Ok.ensures.found in
-    on_made words told c.args.request.now asked (layer_map_of c.in-Ok.map) map.1 (generated_layout c.in-Generated.columns) (rw c.in-Generated.is refl) _ c.rows_of_generated.result map.0
-    (rw c.in-Generated.is c.rows_of_generated.ensures)
+    rows_on_layout words (g.F.Files.holds c.args.files.now) c.args.request.now asked c.in_ok-map.map c.in_ok-map.ensures.found _ c.in_ok-map.ensures.holds
+    c.in_ok-bytes.bytes c.in_ok-bytes.ensures.found c.in_ok-rows_of_layout.field-0 (rw c.top_of-top.ensures at c.in_ok-rows_of_layout.ensures)
 
 pub returns-clause-started : goal.returns-clause-started
-returns-clause-started g c words asked = starts_map words (g.F.Files.holds c.args.files.now) c.args.request.now asked c.in-Ok.ensures.starts
+returns-clause-started g c words asked =
+    starts_both words (g.F.Files.holds c.args.files.now) c.args.request.now asked c.in_ok-map.map c.in_ok-map.ensures.found c.in_ok-map.ensures.starts c.in_ok-bytes.ensures.starts

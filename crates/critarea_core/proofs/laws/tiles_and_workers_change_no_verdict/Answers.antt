@@ -1,5 +1,0 @@
-use Rattle.critarea_core.proofs.VerdictLaws.{same_task_same_verdict}
-use Rattle.critarea_core.proofs.laws.tiles_and_workers_change_no_verdict.Goals as goal
-
-pub returns : goal.returns
-returns c = same_task_same_verdict

@@ -1,0 +1,63 @@
+use Rattle.std.proofs.Common.{[], ◌∷◌, ◌∙◌, arith, refl}
+use Rattle.lists.proofs.Words.{ints}
+use Rattle.command_line.specs.declared.task.Task.TheVariants.{Generated, Mapped}
+use Rattle.first_refusal.proofs.AnswerLaws.{out_of_memory}
+use Rattle.layout_gen.specs.Generated.{generated_map}
+use Rattle.critarea_core.specs.inside.Finding.{IsOneOf, files_serve}
+use Rattle.critarea_core.proofs.ReadingLaws.{found_bytes, map_of_file, map_of_generated, map_read, map_unread, not_found, one_metal_found, refused_text}
+use Rattle.critarea_core.proofs.sources.map_for.Goals as goal
+
+pub one_metal-requires : goal.one_metal-requires
+one_metal-requires g c =
+    let limits = rw c.in-OneMetal.is at c.args.request.now.task_limits in
+    record { least = limits.2.least; most = let most = limits.2.most in omega (arith, ints) }
+
+pub returns-in_err-one_metal-in-OneMetal-clause-found : goal.returns-in_err-one_metal-in-OneMetal-clause-found
+returns-in_err-one_metal-in-OneMetal-clause-found g c = files_serve refl (out_of_memory _ _ c.from_residual.result c.from_residual.ensures.1)
+
+pub returns-in_ok-one_metal-in-OneMetal-clause-found : goal.returns-in_ok-one_metal-in-OneMetal-clause-found
+returns-in_ok-one_metal-in-OneMetal-clause-found g c =
+    let metal = c.in-OneMetal in
+    rw metal.is (files_serve refl (one_metal_found (g.F.Files.holds c.args.files.now) metal.layout metal.layer metal.datatype metal.radius metal.top
+    c.in_ok-one_metal-in-OneMetal.field-0 c.in_ok-one_metal-in-OneMetal.ensures))
+
+pub returns-in_err-bytes-in-Mapped-clause-found : goal.returns-in_err-bytes-in-Mapped-clause-found
+returns-in_err-bytes-in-Mapped-clause-found g c =
+    let mapped = c.in-Mapped in
+    let named = IsOneOf (mapped.map ∷ []) in
+    rw mapped.is (not_found _ named named _ _ _ _ (λ one. one) (refused_text (g.F.Files.holds c.args.files.now) mapped.layout mapped.map mapped.top) c.in_err-bytes-in-Mapped.field-0.0
+    c.from_residual-in_err-bytes-in-Mapped.result c.from_residual-in_err-bytes-in-Mapped.ensures.1 (rw c.as_slice.ensures at c.in_err-bytes-in-Mapped.ensures.found))
+
+pub returns-in_err-read_map-in-Mapped-clause-found : goal.returns-in_err-read_map-in-Mapped-clause-found
+returns-in_err-read_map-in-Mapped-clause-found g c =
+    let told = g.F.Files.holds c.args.files.now in
+    let mapped = c.in-Mapped in
+    let read = c.in_ok-bytes-in-Mapped.bytes in
+    let bytes = found_bytes _ _ _ read (rw c.as_slice.ensures at c.in_ok-bytes-in-Mapped.ensures.found) in
+    rw mapped.is (files_serve bytes.0 (map_unread told (Mapped mapped.layout mapped.map mapped.top) read.items (map_of_file told mapped.layout mapped.map mapped.top read.items bytes.1)
+    c.in_err-read_map-in-Mapped.field-0.0 c.from_residual-in_err-read_map-in-Mapped.result c.from_residual-in_err-read_map-in-Mapped.ensures.1
+    (rw c.as_slice-in-Mapped.ensures.value at c.in_err-read_map-in-Mapped.ensures.answers)))
+
+pub returns-in_ok-read_map-in-Mapped-clause-found : goal.returns-in_ok-read_map-in-Mapped-clause-found
+returns-in_ok-read_map-in-Mapped-clause-found g c =
+    let told = g.F.Files.holds c.args.files.now in
+    let mapped = c.in-Mapped in
+    let read = c.in_ok-bytes-in-Mapped.bytes in
+    let bytes = found_bytes _ _ _ read (rw c.as_slice.ensures at c.in_ok-bytes-in-Mapped.ensures.found) in
+    rw mapped.is (files_serve bytes.0 (map_read told (Mapped mapped.layout mapped.map mapped.top) read.items (map_of_file told mapped.layout mapped.map mapped.top read.items bytes.1)
+    c.in_ok-read_map-in-Mapped.field-0 (rw c.as_slice-in-Mapped.ensures.value at c.in_ok-read_map-in-Mapped.ensures.answers)))
+
+pub returns-in_err-read_map-in-Generated-clause-found : goal.returns-in_err-read_map-in-Generated-clause-found
+returns-in_err-read_map-in-Generated-clause-found g c =
+    let told = g.F.Files.holds c.args.files.now in
+    let columns = c.in-Generated.columns in
+    rw c.in-Generated.is (files_serve refl (map_unread told (Generated columns) generated_map (map_of_generated told columns)
+    c.in_err-read_map-in-Generated.field-0.0 c.from_residual-in_err-read_map-in-Generated.result c.from_residual-in_err-read_map-in-Generated.ensures.1
+    (rw (c.as_bytes.ensures.value ∙ c.layer_map.ensures.text) at c.in_err-read_map-in-Generated.ensures.answers)))
+
+pub returns-in_ok-read_map-in-Generated-clause-found : goal.returns-in_ok-read_map-in-Generated-clause-found
+returns-in_ok-read_map-in-Generated-clause-found g c =
+    let told = g.F.Files.holds c.args.files.now in
+    let columns = c.in-Generated.columns in
+    rw c.in-Generated.is (files_serve refl (map_read told (Generated columns) generated_map (map_of_generated told columns)
+    c.in_ok-read_map-in-Generated.field-0 (rw (c.as_bytes.ensures.value ∙ c.layer_map.ensures.text) at c.in_ok-read_map-in-Generated.ensures.answers)))

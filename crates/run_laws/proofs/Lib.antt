@@ -1,0 +1,3 @@
+pub mod MapLaws
+pub mod ExistLaws
+pub mod SameLaws

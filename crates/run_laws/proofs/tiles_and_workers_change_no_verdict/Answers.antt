@@ -1,0 +1,5 @@
+use Rattle.run_laws.proofs.SameLaws.{same_task_same_verdict}
+use Rattle.run_laws.proofs.tiles_and_workers_change_no_verdict.Goals as goal
+
+pub returns : goal.returns
+returns c = same_task_same_verdict

@@ -1,0 +1,91 @@
+//! What runs come to is no matter of choice, and tiles and workers change none of it: laws of the definitions of
+//! `critarea_core`, each the contract of a function that does nothing else.
+#![tactic(auto)]
+
+ghost use Rattle.std.specs.Prelude.{ℕ, ◌≡◌, false, All, List, Option, Vec};
+ghost use Rattle.first_refusal.specs.Laws.{IsUnique, CannotLack};
+ghost use Rattle.first_refusal.specs.Outcomes.{Outcome, refused, value};
+ghost use Rattle.critarea_core.specs.Analysis.{AnalysisComesTo};
+ghost use Rattle.critarea_core.specs.Contents.{Contents, file, layout_source};
+ghost use Rattle.command_line.specs.Requests.{Ask};
+ghost use Rattle.command_line.specs.declared.request.Request.{Request};
+ghost use Rattle.command_line.specs.declared.task.Task.{Task};
+ghost use Rattle.gauges.specs.GaugeViews.{GaugeView};
+ghost use Rattle.lists.specs.ByteLists.{AreBytes};
+ghost use Rattle.lists.specs.Words.{Global};
+ghost use Rattle.critarea_core.specs.Layout.{Subject};
+ghost use Rattle.critarea_core.specs.Verdict.{AreRowsOn, IsVerdict, LayoutComesTo, MapComesTo, whole_report};
+ghost use Rattle.critarea_core.specs.declared.layout_fault.LayoutFault.{LayoutFault};
+ghost use Rattle.critarea_core.specs.declared.refusal.Refusal.{Refusal};
+ghost use Rattle.map_model.specs.LayerMap.{LayerMap};
+ghost use Rattle.questions.specs.declared.row.Row.{Row};
+
+/// A layer map, a top that is wanted or not, and the bytes of a layout come to one subject, or to one refusal, at most.
+#[tactic(auto, using(critarea_core::proofs::VerdictLaws::layout_outcomes_agree))]
+pub fn layouts_agree()
+    ensures { (layer_map : LayerMap) (wanted : Option (List ℕ)) (bytes : List ℕ) → IsUnique (LayoutComesTo layer_map wanted bytes) }
+{}
+
+/// Words have one verdict at most, where files contain this.
+#[tactic(auto, using(critarea_core::proofs::VerdictLaws::verdicts_agree))]
+pub fn verdicts_agree()
+    ensures { (words : List (List ℕ)) (contents : Contents) → IsUnique (IsVerdict words contents) }
+{}
+
+/// Words have a verdict where the file of the layout that they name, if they name one, contains bytes and it is looked at, as it
+/// is where the map is good: it cannot be that they have none.
+#[tactic(auto, using(crate::proofs::ExistLaws::verdict_cannot_lack))]
+pub fn contents_have_verdicts()
+    ensures { (words : List (List ℕ)) (contents : Contents) →
+        ((request : Request) (layer_map : LayerMap) (name : List ℕ) → Ask words request →
+        MapComesTo request.task contents.map (value layer_map) →
+        layout_source request.task ≡ file name → AreBytes (contents.layout name)) →
+        CannotLack (IsVerdict words contents) }
+{}
+
+/// Words that ask for the same task have the same verdict, whatever they say of tiles and workers.
+pub fn tiles_and_workers_change_no_verdict()
+    ensures { (words other : List (List ℕ)) (one same : Request) → Ask words one → Ask other same → one.task ≡ same.task →
+        (contents : Contents) (outcome : Outcome Subject Refusal) → IsVerdict words contents outcome → IsVerdict other contents outcome }
+{}
+
+/// Words that ask for the same task have the same report where the same gauges are told of it, byte for byte: the whole report
+/// of rows on the subject to which the ones come is that of rows on the subject to which the others come.
+pub fn tiles_and_workers_change_no_byte()
+    ensures { (words other : List (List ℕ)) (one same : Request) → Ask words one → Ask other same → one.task ≡ same.task →
+        (contents : Contents) (subject also : Subject) (rows others : List Row) (gauges : List GaugeView) →
+        IsVerdict words contents (value subject) → AreRowsOn subject rows →
+        IsVerdict other contents (value also) → AreRowsOn also others → whole_report rows gauges ≡ whole_report others gauges }
+{}
+
+/// A layer map, a top that is wanted or not, and the bytes of a layout come to one list of rows, or to one fault, and never to
+/// both.
+pub fn analyses_agree()
+    ensures rows { (layer_map : LayerMap) (wanted : Option (List ℕ)) (bytes : List ℕ) (rows others : Vec Row Global) →
+        AnalysisComesTo layer_map wanted bytes (value rows) → AnalysisComesTo layer_map wanted bytes (value others) →
+        rows.items ≡ others.items }
+    ensures fault { (layer_map : LayerMap) (wanted : Option (List ℕ)) (bytes : List ℕ) (fault other : LayoutFault) →
+        AnalysisComesTo layer_map wanted bytes (refused fault) → AnalysisComesTo layer_map wanted bytes (refused other) →
+        fault ≡ other }
+    ensures apart { (layer_map : LayerMap) (wanted : Option (List ℕ)) (bytes : List ℕ) (rows : Vec Row Global) (fault : LayoutFault) →
+        AnalysisComesTo layer_map wanted bytes (value rows) → AnalysisComesTo layer_map wanted bytes (refused fault) → ⊥ }
+{}
+
+/// The rows on a subject are one list at most.
+pub fn rows_agree()
+    ensures { (subject : Subject) → IsUnique (AreRowsOn subject) }
+{}
+
+/// A subject has one report at most with gauges of which this is known.
+pub fn reports_agree()
+    ensures { (subject : Subject) (rows others : List Row) (gauges : List GaugeView) →
+        AreRowsOn subject rows → AreRowsOn subject others → whole_report rows gauges ≡ whole_report others gauges }
+{}
+
+/// In the map of a task no cut has its clusters as terminals. So what its rows count as opens are those of
+/// `critical_areas::laws::opens_are_of_cells`: a defect parts two cells that the map names as terminals.
+#[tactic(auto, using(crate::proofs::MapLaws::maps_name_terminals))]
+pub fn maps_name_terminals()
+    ensures { (task : Task) (bytes : List ℕ → List ℕ) (layer_map : LayerMap) →
+        MapComesTo task bytes (value layer_map) → All (λ cut. cut.has_terminals ≡ false) layer_map.cuts }
+{}
