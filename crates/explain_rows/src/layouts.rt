@@ -73,7 +73,7 @@ const CHANGED: &[(usize, u8, u8, &str)] = &[
         4,
         "error 10 at 8\n\
          layout 'a', byte 8: the file ends here, and ENDLIB has not come; fetch or write the file anew, since it was cut short\n  \
-         behind HEADER\n",
+         behind HEADER, in front of the first structure's name\n",
     ),
     // a LAYER that is a second DATATYPE
     (
