@@ -1,4 +1,6 @@
-//! Classes of numbers: pairs join them, and each class goes by its least number.
+//! Classes of numbers that pairs join, each by its least number.
+//!
+//! A walk begins at each number that none has reached, in rising order, and gives its number to all that it reaches.
 #![tactic(auto)]
 
 mod index;

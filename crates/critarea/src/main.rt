@@ -1,4 +1,6 @@
-//! The program: its words, the files of the system, its standard output and error, handed to a run with the gauges `Peak` and
+//! The program `critarea`.
+//!
+//! Its words, the files of the system, its standard output and error are handed to a run with the gauges `Peak` and
 //! `Nonzero`.
 #![tactic(auto)]
 

@@ -1,4 +1,10 @@
-//! Command words, a layer map and the bytes of a layout to the report of their critical areas.
+//! What words, a layer map and a layout come to: the report, or the first refusal.
+//!
+//! `run` reads the words, then the map, and then the layout, and looks at nothing behind what is refused (`command`,
+//! `sources`). `analysis` goes from the bytes of a layout to rows, over lists of rectangles for each layer (`layers`).
+//! A report is made whole before its first byte is written (`printing`), so a run that is refused has written nothing
+//! but its line. Here the side of texts and the side of faults meet: the cells that the definitions of faults ask about
+//! are those that shapes along routes cover (`specs/Coverage.antt`).
 #![tactic(auto)]
 
 mod analysis;

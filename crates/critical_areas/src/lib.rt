@@ -1,6 +1,21 @@
-//! The critical areas of a layer map over what its layers cover, in three parts that also stand alone: `prepare` makes
-//! once what all areas need, `amounts` counts over any window what questions ask for, and `rows` puts amounts into the rows of
-//! a report.
+//! The critical areas of a layer map over what its layers cover, tile by tile.
+//!
+//! Three parts also stand alone: `prepare` makes once what all areas need, `amounts` counts over any window what
+//! questions ask for, and `rows` puts amounts into the rows of a report.
+//!
+//! - What all areas need are the pieces of each metal, labelled by their nets, the islands with two terminals or more,
+//!   and the boxes of via clusters (`Parts`). `ArePartsOf` says that these are those of the map, and
+//!   `counts_are_amounts`, a law, that what is counted over them is the tally of the faults of the definitions.
+//! - `sensible_plan` cuts the window into tiles. Their edge is the one that is asked for, or longer: it is doubled
+//!   where tiles would be too many, would look at long pieces too often, or would ask too many questions (`edges`).
+//! - The tiles are work to share (`Tiles`): each is a ticket and each question a slot, and the amount of the two is at
+//!   how many cells of the tile a defect does what the question asks for. `tile_work::run_tiles` has this done by
+//!   workers, and `close_sums` gives each slot the sum over all tickets, which is the tally of the window. It does not
+//!   wrap, since no window has 2^63 cells.
+//! - Where there are several tiles, pieces and boxes stand in an index each (`indexes`), so that a tile costs what is
+//!   near it; opens are found over the whole window first, and each tile has the area of their union. One tile that is
+//!   all of the window is the same job with one ticket: no index is made, all pieces and boxes count as near, and opens
+//!   are looked for when their question comes.
 #![tactic(auto)]
 
 mod answering;

@@ -1,5 +1,7 @@
-//! A program of one's own over `critarea_core::run`: it takes the words of critarea and prints its report, and behind it, in
-//! place of critarea's last two lines, the rows as CSV. `csv` has the gauge that does this.
+//! An example of a gauge in code: the program with one that prints the rows as CSV.
+//!
+//! It takes the words of critarea and prints its report, and behind it, in place of critarea's last two lines, the rows
+//! as CSV. `csv` has the gauge that does this.
 #![tactic(auto)]
 
 ghost use Rattle.std.specs.Prelude.{◌∷◌, []};

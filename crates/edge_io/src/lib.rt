@@ -1,5 +1,15 @@
-//! The only door to the outside: files that are read and sinks that are written, each with a count of its failures,
-//! and both in memory and by the operating system.
+//! Files and outputs, each with a count of its failures, in memory and of the operating system.
+//!
+//! The traits `Files` and `Sink` say what a source of files and an output do. A source may also tell what its files
+//! hold and which of them were started, and an output what it took. `MemFiles` and `MemSink` are in memory, tell what
+//! they hold and took, and can be told to fail at given calls. `OsFiles` and `OsSink` are those of the operating
+//! system: they are proved against the same traits, but tell no content. So all code below `program` is the same for a
+//! file in memory and for one on a disk.
+//!
+//! No other crate reads or writes what a file holds, and a run writes through a `Sink` alone. What else of the system
+//! is reached stands elsewhere: words in `critarea_core::system_words`; threads in `rect_cover` and `tile_work`; and of
+//! the second program the words and the printing in `explain`, and what stands at a file's name in
+//! `explanation::OsPaths`.
 #![tactic(auto)]
 
 mod counts;

@@ -1,5 +1,6 @@
-//! The program: the words of a run of critarea, and the files of the system, handed to `explanation::explain`. What it says
-//! goes to standard output, and the status is that of the run.
+//! The second program: it hands the words and files of the system to `explanation`.
+//!
+//! What that says goes to standard output, and the status that it gives is the program's.
 #![tactic(auto)]
 
 use edge_io::OsFiles;

@@ -1,6 +1,13 @@
-//! What a square defect does in a layout: shorts, opens and via blocks, the islands and nets that these speak of, and
-//! areas as tallies of cells. The definitions stand in `specs/`. The code is the type `Island`, whose facts these are, and
-//! laws: each is a function with an empty body, and its contract says what holds of the definitions.
+//! What a square defect does in a layout, and what an area is: definitions and laws.
+//!
+//! These are shorts, opens and via blocks, the islands and nets that these speak of, and areas as tallies of cells. The
+//! definitions stand in `specs/`. The code is the type `Island`, whose facts these are, and laws: each is a function
+//! with an empty body, and its contract says what holds of the definitions.
+//!
+//! Nothing here knows of texts. Which cells each metal and each cut covers is a parameter,
+//! `covers : ℕ → Cell → Type 0`, which `critical_areas` fills with what lists of rectangles cover, and `critarea_core`
+//! with what placed shapes cover. So another way to read layouts changes no definition of a fault, and another kind of
+//! fault changes no reader.
 #![tactic(auto)]
 
 pub mod faults;

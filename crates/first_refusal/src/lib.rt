@@ -1,6 +1,8 @@
-//! The first refusal of an input: stages of reading, one after the other, and checks in their order. Whatever reads
-//! input states its refusals in these words. The definitions stand in `specs/`. The crate has no code but laws: each is
-//! a function with an empty body, and its contract says what holds of the definitions.
+//! The first refusal of an input that is read stage by stage: definitions and laws.
+//!
+//! Stages come one after the other, and checks in their order. Whatever reads input states its refusals in these words.
+//! The definitions stand in `specs/`. The crate has no code but laws: each is a function with an empty body, and its
+//! contract says what holds of the definitions.
 #![tactic(auto)]
 
 pub mod checks;

@@ -1,13 +1,15 @@
-//! The placement of a library's shapes: references and arrays are followed from the top down to each shape on a layer of
-//! the map, and each placed shape gets one turn and one shift. References and their turns are those of SREF and AREF in
-//! the GDSII Stream Format Manual, Release 6.0.
+//! The placement of a library's shapes, each by one turn and one shift.
+//!
+//! References and arrays are followed from the top down to each shape on a layer of the map. They and their turns are
+//! those of SREF and AREF in the GDSII Stream Format Manual, Release 6.0.
 //!
 //! `place` works in three steps. A plan is made of the library: for each structure its shapes on mapped layers and its
-//! references, how long its longest chain of references is, and how many shapes and points it places (`plan`, `survey`).
-//! By these numbers the top is refused or not (`size`). Then what places nothing leaves the plan (`pruning`), and what is
-//! left is followed from the top down, each reference as often as it makes copies, with one motion for all steps so far
-//! (`expansion`, `way`, `motion`). So each copy that is walked places a shape. References in a row that each stand alone and
-//! make one copy are one step of the expansion (`hops`): a structure that is walked has a shape or more than one way on.
+//! references, how long its longest chain of references is, and how many shapes and points it places (`plan`,
+//! `survey`). By these numbers the top is refused or not (`size`). Then what places nothing leaves the plan
+//! (`pruning`), and what is left is followed from the top down, each reference as often as it makes copies, with one
+//! motion for all steps so far (`expansion`, `way`, `motion`). So each copy that is walked places a shape. References
+//! in a row that each stand alone and make one copy are one step of the expansion (`hops`): a structure that is walked
+//! has a shape or more than one way on.
 #![tactic(auto)]
 
 mod expansion;

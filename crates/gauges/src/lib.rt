@@ -1,4 +1,4 @@
-//! Gauges: objects that are told the rows of a report and print a text of their own at its end.
+//! Gauges, objects that are told the rows of a report and print a text at its end.
 #![tactic(auto)]
 
 pub mod gauge;

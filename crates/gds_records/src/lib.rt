@@ -1,4 +1,6 @@
-//! The records of a GDSII stream: how bytes split into them, and the numbers and texts in their bodies.
+//! The records of a GDSII stream, and the numbers and texts in their bodies.
+//!
+//! `Records` splits the bytes of a stream into records, one after the other up to ENDLIB.
 #![tactic(auto)]
 
 pub mod fault;

@@ -1,5 +1,7 @@
-//! The library of a GDSII stream: its structures and their elements, read from the stream's bytes by the grammar of the
-//! GDSII Stream Format Manual, Release 6.0, or the first fault in them.
+//! The library that the bytes of a GDSII stream come to, or the first fault in them.
+//!
+//! Its structures and their elements are read by the grammar of the GDSII Stream Format Manual, Release 6.0, one record
+//! at a time: `library_grammar` says what a library is.
 #![tactic(auto)]
 
 mod arrays;

@@ -1,5 +1,6 @@
-//! Cells, half squares and rectangles on the grid of database units, the turns of placed structures, and lists of
-//! these.
+//! Cells, half squares, rectangles and turns on the grid of database units.
+//!
+//! Beside them stand lists of these, and rows of counts whose reads and writes are counted as steps.
 #![tactic(auto)]
 
 pub mod axis;

@@ -1,6 +1,8 @@
-//! Boxes of half squares, in one dimension as spans of half units: what they have in common, what one has outside
-//! another, which of a list touch, and which half squares the defects of a zone have. A rectangle of cells is such a box,
-//! and so is a square defect, whose edges lie at half units.
+//! Boxes of half squares, and which half squares the defects of a zone have.
+//!
+//! Along each axis a box has a span of half units. The calls tell what boxes have in common, what one has outside
+//! another, and which of a list touch. A rectangle of cells is such a box, and so is a square defect, whose edges lie
+//! at half units.
 #![tactic(auto)]
 
 pub mod boxes;

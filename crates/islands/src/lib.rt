@@ -1,4 +1,7 @@
 //! Islands: which rectangles of a list are connected.
+//!
+//! `touch_sweep::touch_links` gives few pairs that touch, by which all that touch are joined, and `classes` walks over
+//! them. So rectangles that lie on one another or across one another cost no more than others.
 #![tactic(auto)]
 
 ghost use Rattle.std.specs.Prelude.{IfOk};

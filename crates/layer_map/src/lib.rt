@@ -1,5 +1,7 @@
-//! Layer maps from TOML documents: `read_map` gives the map that a text says, or the first fault in it. What a map is
-//! stands in `map_model`, whose types and `one_metal` are passed on here.
+//! Layer maps from TOML documents, or the first fault in one.
+//!
+//! `read_map` gives the map that a text says. What a map is stands in `map_model`, whose types and `one_metal` are
+//! passed on here.
 #![tactic(auto)]
 
 mod cuts;

@@ -1,5 +1,6 @@
-//! A layout of any size up to a million shapes, with its layer map, for trying things out where no files are at hand. Both
-//! are bytes as files have them, and nothing else: whoever reads them sees no difference.
+//! A layout of up to a million shapes with its layer map, where no files are at hand.
+//!
+//! Both are bytes as files have them, and nothing else: whoever reads them sees no difference.
 #![tactic(auto)]
 
 pub mod laws;

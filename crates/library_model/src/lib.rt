@@ -1,5 +1,7 @@
-//! The model of a GDSII library: its structures and their elements, and the names of structures, which are found by
-//! hashes. Whoever works on a library stands on this crate, and on none that reads one.
+//! The model of a GDSII library: its structures, their elements and their names.
+//!
+//! Names of structures are found by hashes. Whoever works on a library stands on this crate, and on none that reads
+//! one.
 #![tactic(auto)]
 
 pub mod element;

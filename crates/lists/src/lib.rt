@@ -1,5 +1,6 @@
-//! What every layer needs of lists: lists that contracts see as the list of their items, names, the answer that no memory
-//! is left, and general lemmas on what lists contain, in `proofs/`.
+//! Lists that contracts see as the list of their items, names, and the answer that no memory is left.
+//!
+//! What every layer needs of lists. `proofs/` has lemmas on lists of any kind, which all crates above may cite.
 #![tactic(auto)]
 
 pub mod items;

@@ -1,6 +1,8 @@
-//! The model of a layer map: which layers and datatypes of a layout are metals and which are the cuts between them, for
-//! which sizes of defects areas are wanted and with which weights, and where terminals are. `one_metal` makes the map of
-//! a single metal. Whoever works on a map stands on this crate, and on none that reads one.
+//! The model of a layer map: metals, cuts, sizes of defects with weights, and terminals.
+//!
+//! It says which layers and datatypes of a layout are metals and which are the cuts between them, for which sizes of
+//! defects areas are wanted and with which weights, and where terminals are. `one_metal` makes the map of a single
+//! metal. Whoever works on a map stands on this crate, and on none that reads one.
 #![tactic(auto)]
 
 pub mod layer_lists;

@@ -1,5 +1,43 @@
-//! Islands and nets: what hangs together on each metal, and through all metals and the cuts between them. `extract`
-//! makes them from the rectangles that cover each layer.
+//! Islands and nets: what hangs together on each metal, and through all metals and the cuts between them.
+//!
+//! `extract` makes them from the rectangles that cover each layer. No step, and nothing of the proof, goes cell by
+//! cell:
+//!
+//! 1. **Islands** (`metals`). `islands::label` numbers the islands of each metal, those of all metals together. Where
+//!    the rectangles of a metal have more than twice the cells of the least rectangle round them, `merge_rects` is
+//!    tried before that; it is tried on the rectangles of each island afterwards.
+//! 2. **Contacts** (`contacts`). What rectangles of a cut and of its lower metal have in common are *parts*, which keep
+//!    their island and are merged likewise. What parts and rectangles of the upper metal have in common are the contact
+//!    pieces, each with an island of either metal, and none twice. `touch_sweep::meetings` finds both, so no piece of
+//!    the one metal is compared with each of the other.
+//! 3. **Nets** (`numbers`). `classes` walks over the pairs of islands that contact pieces carry. A piece has the net of
+//!    its island.
+//! 4. **Groups** (`contact_groups`). The contact pieces of a cut, sorted by the two islands that they carry. In nets
+//!    that `extract` makes these groups are the via clusters (`groups_are_clusters`).
+//! 5. **Anchors** (`anchors`). A terminal is a rectangle of one cell, and `meetings` tells its island; where there is
+//!    none the answer is 50. This comes before contacts are sought.
+//!
+//! Two metals and a cut, in which a letter is a piece and a dot is nothing:
+//!
+//! ```text
+//!    metal m1           cut v1             metal m2
+//!
+//!  5 a a a a a a      5 . . . . . .      5 . . c c . .
+//!  4 . . . . . .      4 . . . . . .      4 . . c c . .
+//!  3 . . . . . .      3 . . . . . .      3 . . c c . .
+//!  2 . . . . . .      2 . . . . x .      2 . . c c . .
+//!  1 b b b b b b      1 . . x . . .      1 . . c c . .
+//!  0 b b b b b b      0 . . . . . .      0 . . c c . .
+//! ```
+//!
+//! `a` and `b` are two islands of `m1`, and `c` is one of `m2`, over both. The lower `x` lies on `b` and under `c`: its
+//! cell is a contact piece, and these two are one net. The upper `x` meets no metal and joins nothing, so `a` stays a
+//! net by itself.
+//!
+//! The proof goes by parts, too. Things are joined within a union of whole parts exactly where parts that have them are
+//! chained, each with a thing in common with the next or with a step that leads across. A rectangle is whole; so is an
+//! island, a chain of rectangles; and a net is a chain of islands. `NetWalk`, the definition, speaks of half squares
+//! alone and knows none of this.
 #![tactic(auto)]
 
 mod anchors;

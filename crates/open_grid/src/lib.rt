@@ -1,8 +1,25 @@
-//! Which defects part two anchors of an island, at which cells of a window a defect does, and at how many.
+//! At which cells of a window a defect parts two anchors of an island, and at how many.
 //!
-//! The window is halved into zones. Where the removal of all that some defect of a zone has parts no two anchors, no defect of
-//! the zone does; where the removal of what each of them has parts two, each does. What neither decides is halved where
-//! an edge of a defect meets one of the island, and where none does, one column or row stands for all of the zone.
+//! Whether a defect parts two anchors depends on the ways between them, so no rectangles are known beforehand, and a
+//! search at each cell would grow with the cells. `open_cells` finds the cells as rectangles, in zones of centres,
+//! first the whole window:
+//!
+//! 1. Each island is looked at (`look_at`): its remnant is narrowed to the defects of the zone, whose reach is what
+//!    some of them has, and whose core is what each of them has (`remnants`).
+//! 2. Where the removal of all that is loose parts no two anchors, no defect of the zone parts two, and the island is
+//!    done with. Where the removal of the core alone parts two, each defect does, and the whole zone is one of the
+//!    rectangles. For a zone of one cell the first question alone decides.
+//! 3. Of the boxes of the island those are kept that an end of a defect may meet in the zone. Where the zone has
+//!    several lines along an axis and no end makes a change there, the first line is looked at, and its rectangles are
+//!    stretched along the zone.
+//! 4. Else the zone is halved at the middle one of the changes along an axis: that along which more boxes have half
+//!    squares that some defects have and others do not, or else that with more changes.
+//!
+//! A zone for which no island is left has no rectangle. That reach and core answer for the defects between them is a
+//! law of `severing`: the removal of more parts more. Which zones are looked at changes the time alone.
+//!
+//! `open_area` is the area of the rectangles' union in the window. Whoever needs the areas of parts of a window asks
+//! once for the cells of the whole, and takes the union's area in each part. `parted` asks for one defect.
 #![tactic(auto)]
 
 pub mod areas;

@@ -1,4 +1,4 @@
-//! Outlines by winding: how often a closed outline winds round a cell, and rectangles of the cells round which it does.
+//! How often a closed outline winds round a cell, and rectangles of the cells round which it does.
 #![tactic(auto)]
 
 pub mod cover;

@@ -1,5 +1,8 @@
-//! Paths from one thing to another, step by step, and lists. The definitions stand in `specs/`. The crate has no code
-//! but laws: each is a function with an empty body, and its contract says what holds of the definitions.
+//! Paths from one thing to another, step by step: definitions and laws.
+//!
+//! Walks, nets, chains and classes are such paths, each with steps of its own. The definitions stand in `specs/`. The
+//! crate has no code but laws: each is a function with an empty body, and its contract says what holds of the
+//! definitions.
 #![tactic(auto)]
 
 ghost use Rattle.std.specs.Prelude.{◌↔◌};

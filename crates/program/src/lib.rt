@@ -1,6 +1,8 @@
-//! What a program does with the words, the files and the outputs of the system: it hands them to a run. That of `critarea` has the
-//! gauges `Peak` and `Nonzero`. All of it stands apart from `main`, so that more than one stored run can show what a whole program
-//! does.
+//! What a program does with the words, the files and the outputs of the system: it hands them to a run.
+//!
+//! That of `critarea` has the gauges `Peak` and `Nonzero`. All of it stands apart from `main`, so that more than one
+//! stored run can show what a whole program does. No text for people is in it: the script `critarea` builds and runs
+//! the program, passes its outputs and its status on, and adds the words.
 #![tactic(auto)]
 
 ghost use Rattle.std.specs.Prelude.{◌∷◌, []};

@@ -1,5 +1,6 @@
-//! Which questions a layer map asks, in their order, and the rows that answer them. Whoever computes areas and whoever
-//! prints them stands on this crate, and neither on the other.
+//! Which questions a layer map asks, in their order, and the rows that answer them.
+//!
+//! Whoever computes areas and whoever prints them stands on this crate, and neither on the other.
 #![tactic(auto)]
 
 pub mod kind;

@@ -1,5 +1,7 @@
-//! The cells that a placed shape covers, as rectangles: a boundary or a box by its winding number, a path by one rectangle
-//! for each of its straight pieces. Boundaries, boxes and paths are those of the GDSII Stream Format Manual, Release 6.0.
+//! The cells that a placed shape covers, as rectangles.
+//!
+//! A boundary or a box covers by its winding number, a path by one rectangle for each of its straight pieces. They are
+//! those of the GDSII Stream Format Manual, Release 6.0. Many shapes are covered at once, in threads.
 #![tactic(auto)]
 
 mod corners;

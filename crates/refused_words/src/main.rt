@@ -1,5 +1,6 @@
-//! The program once more, for a stored run of another kind: its words fit no form of the command, so its status is 2 and its
-//! standard output stays empty.
+//! The program once more, for a stored run of another kind.
+//!
+//! Its words fit no form of the command, so its status is 2 and its standard output stays empty.
 #![tactic(auto)]
 
 use program::{run_gauged, run_program};

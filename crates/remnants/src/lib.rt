@@ -1,6 +1,27 @@
-//! What is left of an island round some defects, and whether its terminals are parted there. For a zone of their
-//! centres that grows smaller, less and less of the island is looked at: what lies outside of all of the defects stays, and
-//! only how it is joined matters.
+//! What is left of an island round some defects, and whether its terminals are parted there.
+//!
+//! The defects are those of a zone of centres. Their *reach* is the half squares that some of them has, their *core*
+//! those that each has. Here are both for a zone of 4 by 1 cells and the radius 2. Each sign is a square of one unit:
+//! `+` is the core, and with `~` it is the reach.
+//!
+//! ```text
+//! . . . . . . . . .
+//! . ~ ~ ~ + ~ ~ ~ .
+//! . ~ ~ ~ + ~ ~ ~ .
+//! . ~ ~ ~ + ~ ~ ~ .
+//! . ~ ~ ~ + ~ ~ ~ .
+//! . . . . . . . . .
+//! ```
+//!
+//! `Remnant::narrow` cuts the boxes of an island at the reach. What lies outside of it stays, whichever defect comes,
+//! and only how it is joined matters: boxes of it that touch get one leader, and those that neither touch the reach nor
+//! lead are let go. What lies inside is loose, but for what the core has as a whole: each defect takes that, so it is
+//! let go. Of the terminals that have nothing loose, and are marked at one leader alone, one stays for each leader and
+//! stands for the others. So a zone that grows smaller looks at less and less of the island.
+//!
+//! The clause says that this changes no answer: for each box between core and reach whose removal is asked for, two
+//! terminals of the new remnant are parted exactly where two of the old one are. `Remnant::is_split` then asks for the
+//! removal of all that is loose.
 #![tactic(auto)]
 
 mod cutting;

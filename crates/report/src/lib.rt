@@ -1,4 +1,6 @@
-//! The text of a report: a line for each row, which is an area with its weight, and the totals of their products.
+//! The text of a report: its rows, and the totals of their products.
+//!
+//! A row is an area with its weight, and gets a line.
 #![tactic(auto)]
 
 mod text;

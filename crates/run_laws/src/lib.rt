@@ -1,5 +1,6 @@
-//! What runs come to is no matter of choice, and tiles and workers change none of it: laws of the definitions of
-//! `critarea_core`, each the contract of a function that does nothing else.
+//! Laws of runs: what they come to is no matter of choice, and tiles and workers change none of it.
+//!
+//! They are laws of the definitions of `critarea_core`, each the contract of a function that does nothing else.
 #![tactic(auto)]
 
 ghost use Rattle.std.specs.Prelude.{ℕ, ◌≡◌, false, All, List, Option, Vec};

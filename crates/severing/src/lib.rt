@@ -1,4 +1,8 @@
-//! What a metal falls into where half squares are removed, and which anchors of an island are parted then. The definitions
+//! Which anchors of an island are parted where half squares are removed: definitions and laws.
+//!
+//! The removal of more parts what the removal of less does. So of a zone of centres, what is parted without the half
+//! squares that each of its defects has is parted by each, and what is not parted without all that some defect has is
+//! parted by none; and where nothing changes from line to line of a zone, one line stands for all. The definitions
 //! stand in `specs/`. The code is laws: each is a function with an empty body, and its contract says what holds of the
 //! definitions.
 #![tactic(auto)]

@@ -1,8 +1,27 @@
 //! The tiles of a window, and what is near a tile.
 //!
-//! Tiles are square parts of one size, of which those at the right and at the top may be smaller. What is counted over each of
-//! them adds up to what is counted over the window. What is not near a tile changes nothing at its cells, so that a tile is
-//! worked from what is near it alone.
+//! Tiles are square parts of one size, from the lower left of the window; those at the right and at the top may be
+//! smaller. Here are those with the edge 7 in a window of 30 by 16 cells:
+//!
+//! ```text
+//!     13 +----+----+----+----+--+
+//!        | 10 | 11 | 12 | 13 |14|
+//!     11 +----+----+----+----+--+
+//!        |  5 |  6 |  7 |  8 | 9|
+//!      4 +----+----+----+----+--+
+//!        |  0 |  1 |  2 |  3 | 4|
+//!     -3 +----+----+----+----+--+
+//!       -3    4   11   18   25 27
+//! ```
+//!
+//! Each cell of the window lies in exactly one of them (`tiles_part_the_window`), so what is counted over each adds up
+//! to what is counted over the window (`tallies_of_tiles_add`).
+//!
+//! At the cells of a tile a defect touches only pieces that come within its reach of the tile, and covers only boxes
+//! that do. What is not near changes nothing there, so that a tile is worked from what is near it alone. A `NearIndex`
+//! finds that: leaves of up to 16 pieces with a rectangle round them, and bands of leaves with another. A band or a
+//! leaf whose rectangle is not near is passed over. The proof needs only that the index has the pieces in some order,
+//! and that what is round something near is near. Which pieces share a leaf saves looks and is no matter of the proof.
 #![tactic(auto)]
 
 mod index;

@@ -1,7 +1,8 @@
-//! Which rectangles of a list touch, and which of two lists meet, by a streamed segment tree (Zomorodian and Edelsbrunner,
-//! "Fast software for box intersections"): the columns are halved again and again, and rectangles that reach over all
-//! columns of a part are paired by a sweep up the rows with those that begin in it. How many pairs join all that touch is
-//! promised, and no number of steps.
+//! Which rectangles of a list touch, and which of two lists meet.
+//!
+//! This is a streamed segment tree (Zomorodian and Edelsbrunner, "Fast software for box intersections"): the columns
+//! are halved again and again, and rectangles that reach over all columns of a part are paired by a sweep up the rows
+//! with those that begin in it. How many pairs join all that touch is promised, and no number of steps.
 #![tactic(auto)]
 
 mod across;

@@ -1,5 +1,8 @@
-//! Via clusters as rectangles, and the areas of vias. A defect covers all contacts of a cluster exactly where it covers the
-//! least rectangle that has them, so this rectangle is all that areas of vias need to know of a cluster.
+//! Via clusters as rectangles, and the areas of vias.
+//!
+//! A defect covers all contacts of a cluster exactly where it covers the least rectangle that has them, so this
+//! rectangle is all that areas of vias need to know of a cluster. A defect covers it exactly where its cell lies in a
+//! rectangle of centres: `via_area` counts the cells in some of these by `union_area`.
 #![tactic(auto)]
 
 pub mod areas;
