@@ -1,10 +1,12 @@
 #!/usr/bin/env python3
-"""Makes the table of clauses in PROVED.md and the index in DEFINITIONS.md: `docs/tables.py` in the folder of the repository.
+"""Makes the table of clauses in PROVED.md, that of crates in ARCHITECTURE.md and the index in DEFINITIONS.md: `docs/tables.py`
+in the folder of the repository.
 
-Without more it prints both. `docs/tables.py --write` puts each into its page, between the page's two marks, and
+Without more it prints all three. `docs/tables.py --write` puts each into its page, between the page's two marks, and
 `docs/tables.py --check` says which page holds something else, and then ends with status 1. Calls, clauses and laws are taken
-from `src/`, what a crate is for from the `//!` of its first file, and the words of the index from the pages of `specs/`, each
-page with the subject that its head names. Pages of `specs/inside/` are left out. It needs Python 3.8.
+from `src/`, what a crate is for from the first sentence of the `//!` of its first file, what it stands on from `crates.txt`, and
+the words of the index from the pages of `specs/`, each page with the subject that its head names. Pages of `specs/inside/` are
+left out. A crate of tests alone says so in its `//!`. It needs Python 3.8.
 """
 import pathlib
 import re
@@ -27,10 +29,19 @@ OUTPUT = re.compile(r"^ +ghost (output) = \{", re.M)
 WORD = re.compile(r"^(?:(?:abbrev|unfoldable) )*pub (?:(?:record|data|unfoldable) )?(?!use |mod )([^\s:({]+)", re.M)
 
 
+def crates():
+    """All crates, those at the bottom first, each with the crates of this repository that it stands on."""
+    found = {}
+    for line in (CRATES.parent / "crates.txt").read_text().splitlines():
+        if line.strip() and not line.startswith("#"):
+            name, _, below = line.partition(":")
+            found[name.split()[0]] = below.split()
+    return {name: [other for other in below if other in found] for name, below in found.items()}
+
+
 def crate_names():
     """All crates, those at the bottom first."""
-    lines = (CRATES.parent / "crates.txt").read_text().splitlines()
-    return [re.split("[: ]", line)[0] for line in lines if line.strip() and not line.startswith("#")]
+    return list(crates())
 
 
 def first_sentence(text):
@@ -168,10 +179,14 @@ def promises_of(crate, known_traits):
     return calls, laws, bare
 
 
+def head_text(crate):
+    """The `//!` of the crate's first file."""
+    return re.match(r"(?://!.*\n)*", first_file(crate).read_text()).group(0).replace("//!", " ")
+
+
 def purpose_of(crate):
     """What the `//!` of the crate's first file says first."""
-    lines = re.match(r"(?://!.*\n)*", first_file(crate).read_text()).group(0)
-    return first_sentence(lines.replace("//!", " "))
+    return first_sentence(head_text(crate))
 
 
 def clause_table():
@@ -184,6 +199,39 @@ def clause_table():
         parts = [before + ", ".join(names) for before, names in (("", calls), ("laws: ", laws), ("no clause: ", bare)) if names]
         if parts:
             yield "| `%s` | %s | %s |" % (crate, purpose_of(crate), "; ".join(parts))
+
+
+# ---- crates, and what each stands on
+
+
+def all_below(below, crate):
+    """All crates that one stands on, or that one of these stands on."""
+    found = set(below[crate])
+    for other in below[crate]:
+        found |= all_below(below, other)
+    return found
+
+
+def stands_on(below, crate):
+    """What a crate stands on, without what one of these stands on."""
+    implied = set().union(*(all_below(below, other) for other in below[crate]))
+    return [other for other in below[crate] if other not in implied]
+
+
+def has_tests_alone(crate):
+    return "The crate has tests alone" in " ".join(head_text(crate).split())
+
+
+def crate_table():
+    """The table of crates with what each is for and what it stands on. Those of tests alone share a line."""
+    below = crates()
+    yield "| crate | what it is for | stands on |"
+    yield "|---|---|---|"
+    for crate in below:
+        if not has_tests_alone(crate):
+            yield "| `%s` | %s | %s |" % (crate, purpose_of(crate), coded(stands_on(below, crate)))
+    yield ""
+    yield from textwrap.wrap("Tests alone: %s." % coded(filter(has_tests_alone, below)), WIDTH)
 
 
 # ---- words and their pages
@@ -208,9 +256,9 @@ def index():
                 yield from textwrap.wrap(line, WIDTH, subsequent_indent="  ", break_long_words=False, break_on_hyphens=False)
 
 
-# ---- the two pages
+# ---- the three pages
 
-PARTS = {"PROVED.md": ("clauses", clause_table), "DEFINITIONS.md": ("index", index)}
+PARTS = {"PROVED.md": ("clauses", clause_table), "ARCHITECTURE.md": ("crates", crate_table), "DEFINITIONS.md": ("index", index)}
 
 
 def with_part(text, name, lines):
