@@ -1,5 +1,5 @@
 #!/usr/bin/env python3
-"""Prints the table of pages in ARCHITECTURE.md: `docs/pages.py` in the folder of the repository.
+"""Prints the pages on which the promise of a run rests, with their lines: `docs/pages.py` in the folder of the repository.
 
 These are the pages of `specs/` that `critarea_core/specs/Run.antt` cites, directly or by what it cites, with their lines. A
 page that only passes words on from others is left out, and the pages of those words are followed. It needs Python 3.8.

@@ -1,4 +1,7 @@
-//! Worked layouts and words, from the call of `run` down to the bytes that it writes. The crate has tests alone.
+//! Worked layouts and words, from the call of `run` down to the bytes that it writes.
+//!
+//! Rows on `analyse` have tiles of several edges and several numbers of workers, and runs with gates show that so many
+//! are at work at once. Each answer was worked out by hand. The crate has tests alone.
 #![tactic(auto)]
 
 #[cfg(test)]
