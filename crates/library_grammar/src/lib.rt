@@ -7,7 +7,7 @@
 //! said by whole lists: `specs/Grammar.antt` takes an element, a structure and a library apart into their records, and
 //! says which of these are in shape, on one page that can be laid beside the manual's syntax. A record may stand where
 //! some list in shape goes on with it (`MayStand`), so the first that may not is the one with which no list in shape
-//! can go on. Which library it is the same parts give (`specs/Libraries.antt`), with no reader in between.
+//! can go on. Which library it is, the same parts say (`specs/Libraries.antt`), with no reader in between.
 //!
 //! Readers are proved against `specs/Places.antt`, which goes one record at a time: a place, a kind, the next place.
 //! The law `places_say_what_may_stand` joins the two: behind records that lead to a place, what may stand is what the

@@ -18,7 +18,8 @@
 //!   either. Else the part is halved, and runs of all labels are not tried again before an eighth of the zones is left.
 //!
 //! Where a part cannot be halved any more runs of all labels decide. Each halving is right and each sweep is right, so
-//! what chooses between them changes the time alone, and no clause speaks of it.
+//! what chooses between them changes the time alone. That a part is halved near its middle has private clauses, since
+//! else the depth might end the stack.
 #![tactic(auto)]
 
 mod areas;
