@@ -4,7 +4,7 @@ use Rattle.lists.proofs.Words.{flat_map, All-nil, All-cons}
 use Rattle.gds_records.specs.declared.kinds.TheConstants as kind
 use Rattle.library_grammar.specs.GrammarNames.{Reading, entry_of, Entry, ElementHolds, element_checks, IsElementFault, ElementForm, Opens, is_faulty, EndsOwnRecords, behind, IsKept, Place, among_own, behind_attribute, between_elements, next_place, kinds_of, IsOfKind, Property, property_records, IsProperty, ElementParts, IsElement, MayStand}
 use Rattle.gds_records.specs.declared.record.Record.{Record}
-use Rattle.gds_syntax.specs.LibraryReaders.{standing, IsAt, Advances, IsFirstBehind, ReadsOwn, ReadsOwnSoFar, ReadsProperties, ReadsElement}
+use Rattle.gds_syntax.specs.inside.LibraryReaders.{standing, IsAt, Advances, IsFirstBehind, ReadsOwn, ReadsOwnSoFar, ReadsProperties, ReadsElement}
 use Rattle.library_model.specs.declared.element.Element.{Element}
 use Rattle.library_grammar.specs.declared.fault.SyntaxFault.{SyntaxFault}
 use Rattle.library_grammar.proofs.StandLaws.{closing_is_quiet}

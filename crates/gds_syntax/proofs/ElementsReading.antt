@@ -5,7 +5,7 @@ use Rattle.gds_records.specs.declared.kinds.TheConstants as kind
 use Rattle.library_grammar.specs.GrammarNames.{IsOfKind, Place, IsKept, Reading, entry_of, Entry, ElementForm, Opens, element_forms, ElementParts, element_records, IsElement, behind, SayElements, among_own, behind_strname, between_elements, between_structures, form_of, into_element, next_place, IsPlain}
 use Rattle.gds_records.specs.declared.record.Record.{Record}
 use Rattle.library_grammar.specs.Libraries.{no_more, one_more}
-use Rattle.gds_syntax.specs.LibraryReaders.{IsElementAt, AreElements, TakesRecord, standing, IsAt, IsFirstBehind, Advances, Stops, ReadsElement, ReadsElements, ReadsElementsSoFar}
+use Rattle.gds_syntax.specs.inside.LibraryReaders.{IsElementAt, AreElements, TakesRecord, standing, IsAt, IsFirstBehind, Advances, Stops, ReadsElement, ReadsElements, ReadsElementsSoFar}
 use Rattle.library_model.specs.declared.element.Element.{Element}
 use Rattle.library_grammar.specs.declared.fault.SyntaxFault.{SyntaxFault}
 use Rattle.library_grammar.specs.declared.fault.SyntaxFault.TheVariants.{Unexpected}

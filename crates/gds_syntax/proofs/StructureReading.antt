@@ -3,7 +3,7 @@ use Rattle.std.proofs.Common.{◌≡◌, ℕ, ◌≤◌, List, [], ◌∷◌, �
 use Rattle.library_grammar.specs.GrammarNames.{IsText, Reading, entry_of, Entry, repeats, behind, SayElements, before_strname, behind_strname, next_place, IsOfKind}
 use Rattle.gds_records.specs.declared.kinds.TheConstants as kind
 use Rattle.gds_records.specs.declared.record.Record.{Record}
-use Rattle.gds_syntax.specs.LibraryReaders.{TakesRecord, standing, Advances, Stops, ReadsElements, ReadsStructure}
+use Rattle.gds_syntax.specs.inside.LibraryReaders.{TakesRecord, standing, Advances, Stops, ReadsElements, ReadsStructure}
 use Rattle.library_model.specs.declared.element.Element.{Element}
 use Rattle.library_grammar.specs.declared.fault.SyntaxFault.TheVariants.{RepeatedStructure}
 use Rattle.library_model.specs.declared.library.Structure.{Structure}

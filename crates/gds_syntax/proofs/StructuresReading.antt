@@ -5,7 +5,8 @@ use Rattle.gds_records.specs.declared.kinds.TheConstants as kind
 use Rattle.library_grammar.specs.GrammarNames.{Reading, entry_of, Entry, StructureParts, structure_records, IsStructure, behind, SaysStructure, SayStructures, between_structures, before_strname, behind_endlib, next_place}
 use Rattle.gds_records.specs.declared.record.Record.{Record}
 use Rattle.library_grammar.specs.Libraries.{no_more, one_more}
-use Rattle.gds_syntax.specs.LibraryReaders.{IsStructureAt, AreStructures, TakesRecord, standing, Advances, Stops, IsReady, most_bytes, ReadsStructure, ReadsStructures, ReadsStructuresSoFar}
+use Rattle.gds_syntax.specs.inside.LibraryReaders.{IsStructureAt, AreStructures, TakesRecord, standing, Advances, Stops, IsReady, ReadsStructure, ReadsStructures, ReadsStructuresSoFar}
+use Rattle.gds_syntax.specs.StreamLimits.{most_bytes}
 use Rattle.library_grammar.specs.declared.fault.SyntaxFault.TheVariants.{Unexpected}
 use Rattle.library_model.specs.declared.library.Structure.{Structure}
 use Rattle.gds_syntax.proofs.ElementsReading.{few_more, forward}
