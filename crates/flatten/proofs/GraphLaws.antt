@@ -5,7 +5,7 @@ use Rattle.library_model.specs.Names.{names_of, place_of}
 use Rattle.library_model.specs.declared.element.Element.{Element}
 use Rattle.library_model.specs.declared.element.Reference.{Reference}
 use Rattle.library_model.specs.declared.library.Structure.{Structure}
-use Rattle.library_model.proofs.NameLaws.{stands_where_found}
+use Rattle.library_model.proofs.laws.Names.{stands_where_found}
 use Rattle.map_model.specs.MapNames.{LayerMap, IsMappedTo}
 use Rattle.flatten.specs.Structures.{elements_of, references_among, references_in, target_of, targets_of}
 use Rattle.flatten.specs.ReferenceChains.{StartsChain, IsEndless}

@@ -16,7 +16,7 @@ use Rattle.library_model.specs.declared.library.Library.{Library}
 use Rattle.library_model.specs.declared.element.Element.{Element}
 use Rattle.library_model.specs.declared.element.Element.TheVariants.{Shape as shape_element, Reference as reference_element}
 use Rattle.library_model.specs.declared.library.Structure.{Structure}
-use Rattle.library_model.proofs.SameParts.{same_structure}
+use Rattle.library_model.proofs.laws.SameParts.{same_structure}
 use Rattle.lists.specs.declared.memory.NoMemory.{NoMemory}
 use Rattle.layout_gen.specs.SmallOutlines.{corner, outline, are_small}
 use Rattle.layout_gen.specs.Fitting.{by_test, few_columns}

@@ -11,7 +11,7 @@ use Rattle.gds_records.proofs.TextLaws.{texts_agree}
 use Rattle.library_model.specs.declared.element.Element.TheVariants.{Shape as shape_element, Reference as reference_element}
 use Rattle.library_model.specs.declared.element.Reference.{Reference}
 use Rattle.library_model.specs.declared.element.ShapeKind.{ShapeKind}
-use Rattle.library_model.proofs.SameParts.{same_shape, same_turn, same_lattice, same_reference}
+use Rattle.library_model.proofs.laws.SameParts.{same_shape, same_turn, same_lattice, same_reference}
 
 shapes_agree : (at : ℕ) (shape_kind : ShapeKind) (datatype_kind : ℕ) (own : List Entry) → IsUnique (IsShape at shape_kind datatype_kind own)
 shapes_agree at shape_kind datatype_kind own s t a b =

@@ -5,7 +5,7 @@ use Rattle.gds_records.proofs.TextLaws.{texts_agree}
 use Rattle.library_grammar.specs.Libraries.{no_more as no_elements, one_more as one_element, no_more as no_structures, one_more as one_structure}
 use Rattle.library_model.specs.declared.element.Element.{Element}
 use Rattle.library_model.specs.declared.library.Structure.{Structure}
-use Rattle.library_model.proofs.SameParts.{same_structure, same_library}
+use Rattle.library_model.proofs.laws.SameParts.{same_structure, same_library}
 use Rattle.library_grammar.proofs.KeptAgree.{kept_agree}
 use Rattle.library_grammar.proofs.PartsAgree.{libraries_agree}
 
