@@ -9,7 +9,7 @@ use Rattle.library_grammar.specs.GrammarNames.{IsText, IsInProfile, IsByte, AreB
 use Rattle.gds_records.specs.declared.forms.TheConstants as form
 use Rattle.gds_records.specs.declared.kinds.TheConstants as kind
 use Rattle.gds_records.specs.Table.{table}
-use Rattle.gds_records.proofs.TableLaws.{permits_any, permits_exactly, permits_multiple_of_eight}
+use Rattle.gds_records.proofs.laws.Rules.{permits_any, permits_exactly, permits_multiple_of_eight}
 use Rattle.geo_core.specs.declared.plane.Turn.{Turn}
 use Rattle.library_model.specs.declared.element.Element.{Element}
 use Rattle.library_model.specs.declared.element.Element.TheVariants.{Shape as shape_element, Reference as reference_element}

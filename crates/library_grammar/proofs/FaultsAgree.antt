@@ -4,7 +4,7 @@ use Rattle.lists.proofs.Words.{map-append}
 use Rattle.library_grammar.specs.GrammarNames.{IsUnique, value, refused, Entry, End, whole, ElementHolds, element_checks, element_fault, IsElementFault, ElementForm, EndsOwnRecords, Shows, may_not_stand, repeats, is_faulty, NoneShows, IsFirstFault, at_record, at_end, BytesComeTo, are_library, have_fault, behind, IsLibrary, Place, before_header, behind_endlib, among_own, place_behind, kinds_of, MayStand}
 use Rattle.first_refusal.proofs.CheckLaws.{first_refusals_agree}
 use Rattle.gds_records.specs.declared.kinds.TheConstants as kind
-use Rattle.gds_records.proofs.SplitLaws.{splits_agree}
+use Rattle.gds_records.proofs.laws.Splits.{splits_agree}
 use Rattle.library_grammar.specs.declared.fault.SyntaxFault.{SyntaxFault}
 use Rattle.library_grammar.specs.declared.fault.SyntaxFault.TheVariants.{Record}
 use Rattle.library_model.specs.declared.library.Library.{Library}

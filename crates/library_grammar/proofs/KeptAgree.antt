@@ -6,8 +6,8 @@ use Rattle.std.proofs.Math.Nat.{mul-div_cancel_left}
 use Rattle.library_grammar.specs.GrammarNames.{IsUnique, HasValue, Entry, IsShape, IsTurn, IsReference, IsLattice, IsKept, boundary, path, sref, aref, text, node, box, field, body_of, columns_of, rows_of, Leads}
 use Rattle.geo_core.specs.declared.plane.Point.{Point}
 use Rattle.gds_records.specs.declared.kinds.TheConstants as kind
-use Rattle.gds_records.proofs.RealLaws.{values_agree}
-use Rattle.gds_records.proofs.TextLaws.{texts_agree}
+use Rattle.gds_records.proofs.laws.Reals.{values_agree}
+use Rattle.gds_records.proofs.laws.Bodies.{texts_agree}
 use Rattle.library_model.specs.declared.element.Element.TheVariants.{Shape as shape_element, Reference as reference_element}
 use Rattle.library_model.specs.declared.element.Reference.{Reference}
 use Rattle.library_model.specs.declared.element.ShapeKind.{ShapeKind}

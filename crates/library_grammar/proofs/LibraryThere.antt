@@ -4,7 +4,7 @@ use Rattle.lists.proofs.Words.{append-nil, flat_map, All-head, All-tail, All-sam
 use Rattle.lists.proofs.Containing.{All-front, All-back}
 use Rattle.library_grammar.specs.GrammarNames.{AreBytes, CannotLack, value, refused, IsInProfile, Entry, End, whole, stops, Splits, ElementHolds, element_checks, element_fault, IsKept, Shows, is_faulty, NoneShows, at_record, at_end, BytesComeTo, are_library, have_fault, property_records, ElementParts, element_records, IsElement, StructureParts, structure_head, structure_records, IsStructure, library_head, IsInShape, MayStand, behind, SayElements, SaysStructure, SayStructures, IsLibrary}
 use Rattle.first_refusal.proofs.CheckLaws.{cannot_lack_both}
-use Rattle.gds_records.proofs.SplitLaws.{has_split}
+use Rattle.gds_records.proofs.laws.Splits.{has_split}
 use Rattle.library_grammar.specs.Libraries.{no_more as no_elements, one_more as one_element, no_more as no_structures, one_more as one_structure}
 use Rattle.library_grammar.specs.declared.fault.SyntaxFault.{SyntaxFault}
 use Rattle.library_grammar.specs.declared.fault.SyntaxFault.TheVariants.{Record as record_fault}

@@ -6,7 +6,7 @@ use Rattle.gds_records.specs.declared.kinds.TheConstants as kind
 use Rattle.library_grammar.specs.GrammarNames.{IsText, Entry, spelling, spellings, AreNamesIn, IsNameIn, NoneShows, Shows, repeats, is_faulty, behind, IsPlain, Place, before_header, before_strname, behind_strname, next_place, place_behind, kinds_of}
 use Rattle.library_grammar.specs.FirstFault.{may_not_stand as shows_unexpected}
 use Rattle.library_grammar.specs.declared.fault.SyntaxFault.{SyntaxFault}
-use Rattle.gds_records.proofs.TextLaws.{texts_agree}
+use Rattle.gds_records.proofs.laws.Bodies.{texts_agree}
 use Rattle.library_grammar.proofs.PlaceLaws.{may_stand}
 use Rattle.library_grammar.proofs.PlaceRuns.{place_behind-append}
 

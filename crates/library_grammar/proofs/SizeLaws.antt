@@ -4,7 +4,7 @@ use Rattle.lists.proofs.Words.{MatchOption-at_some}
 use Rattle.gds_records.specs.declared.kinds.TheConstants as kind
 use Rattle.library_grammar.specs.GrammarNames.{rule_at, TakesSize, BodiesHave}
 use Rattle.gds_records.specs.Table.{table}
-use Rattle.gds_records.proofs.TableLaws.{only_rule}
+use Rattle.gds_records.proofs.laws.Rules.{only_rule}
 
 -- the table has the kind, with this size alone
 abbrev IsSized : ℕ → ℕ → Type 0

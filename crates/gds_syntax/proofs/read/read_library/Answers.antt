@@ -1,5 +1,5 @@
 use Rattle.std.proofs.Common.{sym, arith}
-use Rattle.gds_records.proofs.Heads.{bytes_are_bytes}
+use Rattle.gds_records.proofs.laws.Bodies.{bytes_are_bytes}
 use Rattle.gds_syntax.proofs.LibraryReading.{bytes_have_fault, bytes_are_library}
 use Rattle.library_grammar.proofs.LibraryFacts.{library_names_differ, library_is_pointed}
 use Rattle.gds_syntax.proofs.ReaderLaws.{passed_on, read, stops_later}
