@@ -11,7 +11,7 @@ use Rattle.command_line.specs.declared.task.Task.TheVariants.{OneMetal, Mapped, 
 use Rattle.command_line.proofs.RequestLaws.{requests_agree}
 use Rattle.library_model.specs.declared.library.Library.{Library}
 use Rattle.library_grammar.specs.FirstFault.{BytesComeTo}
-use Rattle.library_grammar.proofs.FaultsAgree.{libraries_agree}
+use Rattle.library_grammar.proofs.laws.Libraries.{libraries_agree}
 use Rattle.flatten.specs.Placements.{Placing}
 use Rattle.flatten.specs.Routes.{Route}
 use Rattle.flatten.proofs.PlacingLaws.{placings_agree}

@@ -7,7 +7,7 @@ use Rattle.gds_syntax.specs.inside.LibraryReaders.{standing, IsAt, Stops, ReadsH
 use Rattle.library_grammar.specs.declared.fault.SyntaxFault.{SyntaxFault}
 use Rattle.library_model.specs.declared.library.Library.{Library}
 use Rattle.library_model.specs.declared.library.Structure.{Structure}
-use Rattle.library_grammar.proofs.StandLaws.{starts as nothing_behind}
+use Rattle.library_grammar.proofs.laws.Standing.{starts as nothing_behind}
 
 -- the reader begins where no records are behind it
 pub starts : (bytes : List ℕ) → IsAt (start_of bytes) [] (standing before_header [])

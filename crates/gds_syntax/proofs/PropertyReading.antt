@@ -7,9 +7,8 @@ use Rattle.gds_records.specs.declared.record.Record.{Record}
 use Rattle.gds_syntax.specs.inside.LibraryReaders.{TakesRecord, standing, Advances, Stops, ReadsPropertiesSoFar, ReadsProperties}
 use Rattle.library_grammar.specs.declared.fault.SyntaxFault.{SyntaxFault}
 use Rattle.library_grammar.specs.declared.fault.SyntaxFault.TheVariants.{Unexpected}
-use Rattle.library_grammar.proofs.OwnPlaces.{own_place}
-use Rattle.library_grammar.proofs.PlaceLaws.{may_stand}
-use Rattle.library_grammar.proofs.PlainKinds.{plain}
+use Rattle.library_grammar.proofs.laws.Places.{own_place, may_stand}
+use Rattle.library_grammar.proofs.laws.Forms.{plain}
 use Rattle.gds_syntax.proofs.ReaderLaws.{Advances-append, advances_by, advances_kind, stops_later, stops_unexpected}
 
 -- no own records end behind a property

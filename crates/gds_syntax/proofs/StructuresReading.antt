@@ -10,9 +10,9 @@ use Rattle.gds_syntax.specs.StreamLimits.{most_bytes}
 use Rattle.library_grammar.specs.declared.fault.SyntaxFault.TheVariants.{Unexpected}
 use Rattle.library_model.specs.declared.library.Structure.{Structure}
 use Rattle.gds_syntax.proofs.ElementsReading.{few_more, forward}
-use Rattle.library_grammar.proofs.PlainKinds.{plain}
+use Rattle.library_grammar.proofs.laws.Forms.{plain}
 use Rattle.gds_syntax.proofs.ReaderLaws.{Advances-none, Advances-append, advances_kind, stops_later, stops_unexpected}
-use Rattle.library_grammar.proofs.NextRecords.{behind-append}
+use Rattle.library_grammar.proofs.laws.NextRecords.{behind-append}
 
 -- no structure yet
 pub structures_begin : {old new : Reading} {found : Record} → TakesRecord old new found → ReadsStructuresSoFar old new [] [] found

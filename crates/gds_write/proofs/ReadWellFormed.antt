@@ -15,9 +15,10 @@ use Rattle.first_refusal.specs.Answers.{Answers, gives}
 use Rattle.library_model.specs.declared.library.Library.{Library}
 use Rattle.library_model.specs.declared.library.Structure.{Structure}
 use Rattle.lists.proofs.Containing.{All-front, All-back}
-use Rattle.library_grammar.proofs.FieldRanges.{body_has}
-use Rattle.library_grammar.proofs.LibraryFacts.{with_kept, library_names_differ, library_is_pointed}
-use Rattle.library_grammar.proofs.PointLaws.{point_fits, length-points_of}
+use Rattle.library_grammar.proofs.laws.Fields.{body_has}
+use Rattle.library_grammar.proofs.laws.Kept.{with_kept}
+use Rattle.library_grammar.proofs.laws.Libraries.{library_names_differ, library_is_pointed}
+use Rattle.library_grammar.proofs.laws.Points.{point_fits, length-points_of}
 use Rattle.gds_write.specs.WellFormed.{IsWritableName, IsWritableShape, IsWritableReference, IsWritableElement, IsWritableStructure, IsWellFormed}
 use Rattle.gds_write.specs.Written.{array_points, moved_by}
 

@@ -11,7 +11,7 @@ use Rattle.gds_write.specs.SameLibrary.{IsSameButOffsets}
 use Rattle.gds_write.specs.WellFormed.{IsWritableElement, IsWritableStructure, IsWellFormed}
 use Rattle.gds_write.specs.Written.{own_of, written_element, written_structure, written_head, written}
 use Rattle.gds_write.proofs.ElementLaws.{form_of_element}
-use Rattle.library_grammar.proofs.PartsAgree.{own_ends_no_library, opening_ends_no_library}
+use Rattle.library_grammar.proofs.laws.Forms.{own_ends_no_library, opening_ends_no_library}
 use Rattle.gds_write.proofs.Every.{Every, more, one, both, all_of, every_of, each_part}
 use Rattle.gds_write.proofs.ProfileLaws.{library_taken}
 use Rattle.gds_write.proofs.QuietLaws.{none_shows}

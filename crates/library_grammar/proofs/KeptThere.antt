@@ -13,10 +13,10 @@ use Rattle.library_model.specs.declared.element.Reference.{Reference}
 use Rattle.library_model.specs.declared.element.Shape.{Shape}
 use Rattle.library_model.specs.declared.element.ShapeKind.{ShapeKind}
 use Rattle.library_model.specs.declared.element.ShapeKind.TheVariants.{Boundary, BoxElement}
-use Rattle.library_grammar.proofs.FieldRanges.{HaveBytes, body_has_bytes, unsigned_of_fits, short_fits, short_of_fits, long_of_fits}
-use Rattle.library_grammar.proofs.PointLaws.{point_fits, are_points}
-use Rattle.library_grammar.proofs.PlaceRuns.{each_form}
+use Rattle.library_grammar.proofs.FieldRanges.{HaveBytes, unsigned_of_fits, long_of_fits, short_of_fits, short_fits, body_has_bytes}
+use Rattle.library_grammar.proofs.laws.Points.{are_points, point_fits}
 use Rattle.library_grammar.proofs.TextThere.{text_there}
+use Rattle.library_grammar.proofs.laws.Forms.{each_form}
 
 -- ---- shapes
 

@@ -6,7 +6,7 @@ use Rattle.first_refusal.proofs.CheckLaws.{checks_cannot_lack}
 use Rattle.first_refusal.proofs.StageLaws.{reading_cannot_lack, retold_cannot_lack, stages_cannot_lack}
 use Rattle.library_model.specs.declared.library.Library.{Library}
 use Rattle.library_grammar.specs.FirstFault.{BytesComeTo}
-use Rattle.library_grammar.proofs.LibraryThere.{bytes_come_to_something}
+use Rattle.library_grammar.proofs.laws.Libraries.{bytes_come_to_something}
 use Rattle.flatten.specs.Placements.{Placing}
 use Rattle.flatten.proofs.PlacingLaws.{placings_cannot_lack}
 use Rattle.command_line.specs.Requests.{Ask}

@@ -7,8 +7,8 @@ use Rattle.library_grammar.specs.GrammarNames.{IsText, Entry, spelling, spelling
 use Rattle.library_grammar.specs.FirstFault.{may_not_stand as shows_unexpected}
 use Rattle.library_grammar.specs.declared.fault.SyntaxFault.{SyntaxFault}
 use Rattle.gds_records.proofs.laws.Bodies.{texts_agree}
-use Rattle.library_grammar.proofs.PlaceLaws.{may_stand}
 use Rattle.library_grammar.proofs.PlaceRuns.{place_behind-append}
+use Rattle.library_grammar.proofs.laws.Places.{may_stand}
 
 -- the offset behind two lists of records, one after the other
 pub behind-append : (at : ℕ) (front more : List Entry) → behind at (front ++ more) ≡ behind (behind at front) more
