@@ -12,9 +12,9 @@ use Rattle.library_model.specs.declared.element.ShapeKind.{ShapeKind}
 use Rattle.library_model.specs.declared.element.ShapeKind.TheVariants.{Boundary, BoxElement, Path}
 use Rattle.gds_write.specs.WellFormed.{IsWritableElement, IsWritableReference}
 use Rattle.gds_write.specs.Written.{opening_of_shape, opening_of_reference, opening_of, own_of}
-use Rattle.gds_write.proofs.FieldLaws.{written_of, part_kinds, all_differ, all_among}
-use Rattle.gds_write.proofs.ReferenceLaws.{reference_own, reference_parts, reference_written, reference_at, sref_kept, sref_holds, aref_kept, aref_holds}
-use Rattle.gds_write.proofs.ShapeLaws.{form_of_shape, shape_own, shape_parts, shape_written, shape_at, shape_kept, shape_holds}
+use Rattle.gds_write.proofs.ReferenceLaws.{reference_at, aref_holds, aref_kept, reference_own, reference_parts, reference_written, sref_holds, sref_kept}
+use Rattle.gds_write.proofs.ShapeLaws.{shape_at, form_of_shape, shape_holds, shape_kept, shape_own, shape_parts, shape_written}
+use Rattle.gds_write.proofs.FieldLaws.{all_among, all_differ, part_kinds, written_of}
 
 -- an element that begins at another offset
 abbrev pub element_at : ℕ → Element → Element

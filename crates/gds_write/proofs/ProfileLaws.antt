@@ -21,9 +21,9 @@ use Rattle.library_model.specs.declared.element.ShapeKind.TheVariants.{Boundary,
 use Rattle.library_model.specs.declared.library.Library.{Library}
 use Rattle.library_model.specs.declared.library.Structure.{Structure}
 use Rattle.gds_write.specs.Bodies.{entry, bare, padded, text_entry, unsigned_entry, long_bytes, long_entry, short_entry, date_entry, point_bytes, points_entry, is_not_zero}
-use Rattle.gds_write.proofs.Every.{Every, none, more, one, both, each_part, maybe}
 use Rattle.gds_write.specs.WellFormed.{IsWritableName, IsWritableShape, IsWritableReference, IsWritableElement, IsWritableStructure, IsWellFormed}
 use Rattle.gds_write.specs.Written.{opening_of_shape, datatype_kind, path_records, own_of_shape, strans_entry, angle_bits, angle_entry, turn_records, array_points, placing_records, own_of_reference, opening_of_reference, written_element, written_structure, written}
+use Rattle.gds_write.proofs.Every.{Every, both, maybe, one, each_part}
 
 -- ---- bytes
 

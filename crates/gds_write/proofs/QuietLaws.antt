@@ -10,11 +10,11 @@ use Rattle.library_model.specs.declared.library.Structure.{Structure}
 use Rattle.gds_write.specs.Bodies.{bare, date_entry, text_entry}
 use Rattle.gds_write.specs.WellFormed.{IsWritableElement, IsWritableStructure, IsWellFormed}
 use Rattle.gds_write.specs.Written.{written_element, written_structure, written_head, written}
-use Rattle.gds_write.proofs.ElementLaws.{element_reads}
-use Rattle.gds_write.proofs.ProfileLaws.{padded_fills}
-use Rattle.gds_write.proofs.ReadLaws.{element_parts, element_in_grammar}
 use Rattle.library_grammar.proofs.laws.Forms.{begins_element, begins_first, plain}
 use Rattle.library_grammar.proofs.laws.Standing.{GoesOn, starts, goes_further, goes_plainly, goes_named, goes_element}
+use Rattle.gds_write.proofs.ReadLaws.{element_in_grammar, element_parts}
+use Rattle.gds_write.proofs.ElementLaws.{element_reads}
+use Rattle.gds_write.proofs.ProfileLaws.{padded_fills}
 
 -- one plain record
 goes_by_one : (k : ℕ) (e : Entry) (from to : Place) (names : List (List ℕ)) → e.kind ≡ k → IsPlain k → next_place from k ≡ Some to → GoesOn from names (e ∷ []) to names

@@ -14,7 +14,7 @@ use Rattle.gds_write.specs.Bodies.{entry, bare, date_entry, text_entry, unsigned
 use Rattle.gds_write.specs.SameLibrary.{IsSameElement, shapes, references, IsSameStructure, IsSameButOffsets}
 use Rattle.gds_write.specs.WellFormed.{IsWritableElement, IsWritableStructure, IsWellFormed}
 use Rattle.gds_write.specs.Written.{opening_of, own_of, written_element, written_structure, written_head, written}
-use Rattle.gds_write.proofs.ElementLaws.{element_at, element_reads, form_of_element}
+use Rattle.gds_write.proofs.ElementLaws.{form_of_element, element_reads, element_at}
 use Rattle.gds_write.proofs.ProfileLaws.{padded_fills}
 
 -- what holds of each kind holds of each record of that kind

@@ -13,11 +13,11 @@ use Rattle.library_model.specs.declared.element.Reference.{Reference}
 use Rattle.gds_write.specs.Bodies.{text_entry, point_bytes, points_entry, counts_entry}
 use Rattle.gds_write.specs.WellFormed.{IsWritableReference}
 use Rattle.gds_write.specs.Written.{strans_entry, angle_entry, turn_records, moved_by, array_points, placing_records}
-use Rattle.gds_write.proofs.Every.{more, one, all_of}
-use Rattle.gds_write.proofs.FieldLaws.{written_of, first_of, field_of}
-use Rattle.gds_write.proofs.NumberLaws.{columns_read, rows_read, point_reads, points_read}
-use Rattle.gds_write.proofs.ProfileLaws.{padded_fills}
+use Rattle.gds_write.proofs.FieldLaws.{field_of, first_of, written_of}
 use Rattle.gds_write.proofs.ShapeLaws.{has_found}
+use Rattle.gds_write.proofs.ProfileLaws.{padded_fills}
+use Rattle.gds_write.proofs.NumberLaws.{point_reads, points_read, columns_read, rows_read}
+use Rattle.gds_write.proofs.Every.{all_of, one}
 
 -- ---- the turn
 

@@ -9,7 +9,7 @@ use Rattle.library_grammar.specs.GrammarNames.{AreDifferent, IsPoint, ArePoints}
 use Rattle.gds_write.specs.WellFormed.{IsWritableName, IsWritableShape, IsWritableReference, IsWritableElement, IsWritableStructure, IsWellFormed}
 use Rattle.gds_write.specs.SameLibrary.{IsSameButOffsets}
 use Rattle.gds_write.specs.Written.{array_points, moved_by}
-use Rattle.gds_write.proofs.WrittenLaws.{written_reads}
+use Rattle.gds_write.proofs.laws.Written.{written_reads}
 use Rattle.first_refusal.specs.Outcomes.{value}
 use Rattle.library_grammar.specs.FirstFault.{BytesComeTo}
 use Rattle.library_model.specs.declared.library.Library.{Library}
