@@ -17,7 +17,7 @@ use Rattle.layer_map.specs.Documents as document
 use Rattle.layer_map.proofs.ExistLaws.{maps_cannot_lack}
 use Rattle.map_model.specs.MapNames.{LayerMap, one_metal_map}
 use Rattle.layout_gen.specs.Generated.{generated_map}
-use Rattle.layout_gen.proofs.GeneratedLaws.{generated_reads}
+use Rattle.layout_gen.proofs.laws.Generated.{generated_reads}
 use Rattle.lists.specs.ByteLists.{AreBytes}
 use Rattle.lists.proofs.Words.{enumerate_from}
 use Rattle.critarea_core.specs.Contents.{Contents, bytes_from, file, layout_source, wanted_top}
