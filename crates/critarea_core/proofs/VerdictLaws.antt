@@ -8,7 +8,7 @@ use Rattle.lists.proofs.Words.{enumerate_from}
 use Rattle.command_line.specs.Requests.{Ask}
 use Rattle.command_line.specs.declared.task.Task.{Task}
 use Rattle.command_line.specs.declared.task.Task.TheVariants.{OneMetal, Mapped, Generated}
-use Rattle.command_line.proofs.RequestLaws.{requests_agree}
+use Rattle.command_line.proofs.laws.Requests.{requests_agree}
 use Rattle.library_model.specs.declared.library.Library.{Library}
 use Rattle.library_grammar.specs.FirstFault.{BytesComeTo}
 use Rattle.library_grammar.proofs.laws.Libraries.{libraries_agree}
