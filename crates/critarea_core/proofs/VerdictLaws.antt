@@ -16,7 +16,7 @@ use Rattle.flatten.specs.Placements.{Placing}
 use Rattle.flatten.specs.Routes.{Route}
 use Rattle.flatten.proofs.PlacingLaws.{placings_agree}
 use Rattle.layer_map.specs.Documents as document
-use Rattle.layer_map.proofs.UniqueLaws.{maps_agree}
+use Rattle.layer_map.proofs.laws.Maps.{maps_agree}
 use Rattle.layout_gen.specs.Generated.{generated_map}
 use Rattle.map_model.specs.MapNames.{LayerMap}
 use Rattle.critarea_core.specs.Contents.{Contents, bytes_from, layout_source, wanted_top}

@@ -9,11 +9,11 @@ use Rattle.lists.specs.Differing.{AreDifferent}
 use Rattle.layer_map.specs.Values.{array_of, whole_number, pair_value, values_in}
 use Rattle.layer_map.specs.inside.ReadValues.{AreWholesIn, IsThere, IsWholeIn, IsWithin, Finds, finds, lacks, AreWritten, IsWritten}
 use Rattle.map_model.specs.declared.limits.TheConstants.{GREATEST_PAIR_NUMBER, MOST_PAIRS}
-use Rattle.layer_map.proofs.SpelledLaws.{none_written}
-use Rattle.layer_map.proofs.FindLaws.{none_found}
-use Rattle.layer_map.proofs.ValueLaws.{listed-items_of}
 use Rattle.std.proofs.lemmas.List.{get_or-drop}
 use Rattle.lists.proofs.Differing.{different_apart}
+use Rattle.layer_map.proofs.ValueLaws.{listed-items_of}
+use Rattle.layer_map.proofs.FindLaws.{none_found}
+use Rattle.layer_map.proofs.SpelledLaws.{none_written}
 
 -- the values of an array that writes a list are that list
 pub values_of_list : (vs : List Value) (ds : List Data) → array (items_view vs) ≡ array (items_of ds) → map view vs ≡ ds

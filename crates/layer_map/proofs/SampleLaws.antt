@@ -20,9 +20,9 @@ use Rattle.layer_map.specs.TerminalChecks.{IsCellNumber, terminal_keys}
 use Rattle.layer_map.specs.inside.ReadLayers.{written_name}
 use Rattle.layer_map.specs.Sample.{sample_map, sample_text}
 use Rattle.layer_map.specs.Values.{StandsAs, array_of, pair_value, pairs_value, whole_number, whole_numbers}
-use Rattle.layer_map.proofs.SeenLaws.{pair_tells}
 use Rattle.lists.proofs.Containing.{Contains-none}
 use Rattle.lists.proofs.Differing.{AreDifferent-map, different_front}
+use Rattle.layer_map.proofs.SeenLaws.{pair_tells}
 
 abbrev layer_value : List ℕ → List (ℕ × ℕ) → Data
 layer_value name pairs = table (member (codes "name") (string name) (member (codes "pairs") (pairs_value pairs) no_members))

@@ -10,12 +10,12 @@ use Rattle.layer_map.specs.TerminalChecks.{place_in}
 use Rattle.layer_map.specs.Values.{metal_of_item}
 use Rattle.map_model.specs.declared.layers.Terminal.{Terminal}
 use Rattle.lists.proofs.Mapping.{Contains-map, Contains-map_from}
-use Rattle.layer_map.proofs.SpelledLaws.{zip_shows}
 use Rattle.geo_core.specs.declared.plane.Cell.{Cell}
-use Rattle.layer_map.proofs.CutLaws.{one_metal_named}
 use Rattle.std.proofs.lemmas.Cmp.{int_eq_equiv}
 use Rattle.std.proofs.lemmas.Map.Views.{list_any-from_Contains}
 use Rattle.indexmap.proofs.CallerLemmas.{Contains-list_any}
+use Rattle.layer_map.proofs.CutLaws.{one_metal_named}
+use Rattle.layer_map.proofs.SpelledLaws.{zip_shows}
 
 -- what an item says of a terminal with this place
 abbrev written_place : List MappedLayer → ℕ × ℤ × ℤ → Option Data × Option Data × Option Data

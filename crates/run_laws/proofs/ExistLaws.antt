@@ -14,7 +14,7 @@ use Rattle.command_line.specs.declared.request.Request.{Request}
 use Rattle.command_line.specs.declared.task.Task.{Task}
 use Rattle.command_line.specs.declared.task.Task.TheVariants.{OneMetal, Mapped, Generated}
 use Rattle.layer_map.specs.Documents as document
-use Rattle.layer_map.proofs.ExistLaws.{maps_cannot_lack}
+use Rattle.layer_map.proofs.laws.Maps.{maps_cannot_lack}
 use Rattle.map_model.specs.MapNames.{LayerMap, one_metal_map}
 use Rattle.layout_gen.specs.Generated.{generated_map}
 use Rattle.layout_gen.proofs.laws.Generated.{generated_reads}
