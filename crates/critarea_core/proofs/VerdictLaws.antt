@@ -14,7 +14,7 @@ use Rattle.library_grammar.specs.FirstFault.{BytesComeTo}
 use Rattle.library_grammar.proofs.laws.Libraries.{libraries_agree}
 use Rattle.flatten.specs.Placements.{Placing}
 use Rattle.flatten.specs.Routes.{Route}
-use Rattle.flatten.proofs.PlacingLaws.{placings_agree}
+use Rattle.flatten.proofs.laws.Placings.{placings_agree}
 use Rattle.layer_map.specs.Documents as document
 use Rattle.layer_map.proofs.laws.Maps.{maps_agree}
 use Rattle.layout_gen.specs.Generated.{generated_map}

@@ -15,11 +15,11 @@ use Rattle.flatten.specs.Placements.{LibraryCheck, has_its_target, leads_to_no_c
 use Rattle.flatten.specs.Causes.{IsSecondTop, Tells}
 use Rattle.flatten.specs.declared.fault.PlaceFault.{PlaceFault}
 use Rattle.flatten.specs.declared.fault.PlaceFault.TheVariants.{NoTop}
-use Rattle.flatten.proofs.ChoiceLaws.{all_library}
-use Rattle.flatten.proofs.NumberLaws.{number_below, number_there, one_or_none}
-use Rattle.flatten.proofs.ChainLaws.{chain_or_not, is_shorter}
 use Rattle.lists.proofs.Comparing.{equal_or_not}
 use Rattle.lists.proofs.Containing.{Contains-head, all_of_each}
+use Rattle.flatten.proofs.ChainLaws.{chain_or_not, is_shorter}
+use Rattle.flatten.proofs.NumberLaws.{number_below, number_there, one_or_none}
+use Rattle.flatten.proofs.ChoiceLaws.{all_library}
 
 -- ---- what can be decided
 

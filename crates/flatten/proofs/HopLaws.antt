@@ -21,12 +21,12 @@ use Rattle.flatten.specs.declared.motion.Motion.{Motion}
 use Rattle.flatten.specs.declared.part.Part.{Part}
 use Rattle.flatten.specs.declared.part.Part.TheVariants.{Copies}
 use Rattle.flatten.specs.declared.placed.Placed.{Placed}
-use Rattle.flatten.proofs.ArrayLaws.{steps_long, stands_there}
+use Rattle.flatten.proofs.ArrayLaws.{stands_there, steps_long}
+use Rattle.flatten.proofs.PlacedLaws.{behind_none}
 use Rattle.flatten.proofs.CountLaws.{node_routes-is}
 use Rattle.flatten.proofs.GrowthLaws.{nothing_placed}
-use Rattle.flatten.proofs.PlacedLaws.{behind_none}
-use Rattle.flatten.proofs.PruningLaws.{slice_get-set_other}
 use Rattle.flatten.proofs.SearchLaws.{item_of_more}
+use Rattle.flatten.proofs.PruningLaws.{slice_get-set_other}
 
 -- ---- the only copy of a reference
 

@@ -8,7 +8,7 @@ use Rattle.library_model.specs.declared.library.Library.{Library}
 use Rattle.library_grammar.specs.FirstFault.{BytesComeTo}
 use Rattle.library_grammar.proofs.laws.Libraries.{bytes_come_to_something}
 use Rattle.flatten.specs.Placements.{Placing}
-use Rattle.flatten.proofs.PlacingLaws.{placings_cannot_lack}
+use Rattle.flatten.proofs.laws.Placings.{placings_cannot_lack}
 use Rattle.command_line.specs.Requests.{Ask}
 use Rattle.command_line.specs.declared.request.Request.{Request}
 use Rattle.command_line.specs.declared.task.Task.{Task}
