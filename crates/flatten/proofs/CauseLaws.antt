@@ -11,7 +11,8 @@ use Rattle.flatten.specs.Structures.{all_references, all_targets, target_of}
 use Rattle.flatten.specs.ReferenceChains.{StartsChain, IsEndless}
 use Rattle.flatten.specs.Tops.{HasTop, IsNoOtherTop, IsTop, IsUnnamed}
 use Rattle.flatten.specs.Routes.{Route, point_count}
-use Rattle.flatten.specs.Placements.{LibraryCheck, has_its_target, leads_to_no_cycle, has_top, is_no_other_top, LibraryHolds, library_checks, library_fault, TopCheck, is_shallow, is_small, is_in_range, IsSmall, TopHolds, top_checks, top_fault, Choosing, PlacingFrom, Placing, placed_routes}
+use Rattle.flatten.specs.Placements.{LibraryCheck, has_its_target, leads_to_no_cycle, has_top, is_no_other_top, LibraryHolds, library_checks, library_fault, TopCheck, is_shallow, is_small}
+use Rattle.flatten.specs.Placements.{is_in_range, IsSmall, TopHolds, top_checks, top_fault, Choosing, PlacingFrom, Placing, placed_routes}
 use Rattle.flatten.specs.Causes.{IsSecondTop, Tells}
 use Rattle.flatten.specs.declared.fault.PlaceFault.{PlaceFault}
 use Rattle.flatten.specs.declared.fault.PlaceFault.TheVariants.{NoTop}

@@ -1,5 +1,6 @@
 -- hops: the routes along references of one copy that their structures have alone
-use Rattle.std.proofs.Common.{ℕ, zero, suc, ◌+◌, ◌*◌, ◌-◌, ◌≤◌, ◌<◌, ◌≡◌, inl, inr, List, [], ◌∷◌, ◌++◌, length, length-append, map, append_assoc, Option, Some, None, Result, Ok, IfSome, refl, sym, ap, subst, ◌∙◌, arith, slice_get, set, length-set, get_or, get_or-set_same}
+use Rattle.std.proofs.Common.{ℕ, zero, suc, ◌+◌, ◌*◌, ◌-◌, ◌≤◌, ◌<◌, ◌≡◌, inl, inr, List, [], ◌∷◌, ◌++◌, length, length-append, map, append_assoc, Option, Some, None, Result, Ok, IfSome, refl, sym}
+use Rattle.std.proofs.Common.{ap, subst, ◌∙◌, arith, slice_get, set, length-set, get_or, get_or-set_same}
 use Rattle.lists.proofs.Words.{Bor, append-nil, get_or_default, slice_get_read}
 use Rattle.lists.proofs.Comparing.{equal_or_not}
 use Rattle.lists.proofs.Containing.{Contains-head}

@@ -1,5 +1,6 @@
 -- structures that place nothing, and what is left of a graph without them
-use Rattle.std.proofs.Common.{ℕ, zero, suc, ◌+◌, ◌*◌, ◌≤◌, ◌<◌, ◌≡◌, ◌↔◌, inl, inr, Bool, true, false, List, [], ◌∷◌, ◌++◌, map, Vec, Option, Some, None, refl, sym, ap, subst, ◌∙◌, arith, Contains, length, length-set, get_or, get_or-set_same, get_or-set_other, set, slice_get, ◌≢◌}
+use Rattle.std.proofs.Common.{ℕ, zero, suc, ◌+◌, ◌*◌, ◌≤◌, ◌<◌, ◌≡◌, ◌↔◌, inl, inr, Bool, true, false, List, [], ◌∷◌, ◌++◌, map, Vec, Option, Some, None, refl, sym, ap, subst, ◌∙◌, arith, Contains}
+use Rattle.std.proofs.Common.{length, length-set, get_or, get_or-set_same, get_or-set_other, set, slice_get, ◌≢◌}
 use Rattle.lists.proofs.Words.{flat_map, Bor, Global, slice_get_past, cases_lt}
 use Rattle.map_model.specs.MapNames.{LayerMap}
 use Rattle.std.specs.Prelude.{nat_lt}

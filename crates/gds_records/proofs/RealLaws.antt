@@ -1,5 +1,6 @@
 -- the sizes of reals, and which reals have a whole value
-use Rattle.std.proofs.Common.{◌≡◌, ◌≢◌, ℕ, zero, suc, ◌+◌, ◌-◌, ◌*◌, ◌/◌, ◌%◌, ◌^◌, ◌<◌, ◌≤◌, zero-add, refl, sym, ap, subst, ◌∙◌, arith, List, ℤ, pos, ◌-ℤ◌, unsigned_abs, Option, Some, None, IfSome, IfNone, FitsSigned, w64}
+use Rattle.std.proofs.Common.{◌≡◌, ◌≢◌, ℕ, zero, suc, ◌+◌, ◌-◌, ◌*◌, ◌/◌, ◌%◌, ◌^◌, ◌<◌, ◌≤◌, zero-add, refl, sym, ap, subst, ◌∙◌, arith, List, ℤ, pos, ◌-ℤ◌, unsigned_abs, Option, Some, None, IfSome}
+use Rattle.std.proofs.Common.{IfNone, FitsSigned, w64}
 use Rattle.lists.proofs.Words.{ints}
 use Rattle.std.specs.Prelude.{SomeIff}
 use Rattle.std.proofs.lemmas.Nat.{div-add-mod'}

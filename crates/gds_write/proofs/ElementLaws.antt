@@ -2,7 +2,8 @@
 use Rattle.std.proofs.Common.{◌≡◌, ℕ, Bool, List, All, Contains, Option, Some, None, refl, arith, length, true, nat_eq}
 use Rattle.lists.proofs.Words.{list_all, list_any}
 use Rattle.std.specs.Set.{distinct_count}
-use Rattle.library_grammar.specs.GrammarNames.{AreDifferent, HasItsPoints, Entry, ElementHolds, element_checks, ElementForm, boundary_form, path_form, sref_form, aref_form, box_form, element_forms, own_kinds, Opens, IsKept, kinds_of}
+use Rattle.library_grammar.specs.GrammarNames.{AreDifferent, HasItsPoints, Entry, ElementHolds, element_checks, ElementForm, boundary_form, path_form, sref_form, aref_form, box_form, element_forms}
+use Rattle.library_grammar.specs.GrammarNames.{own_kinds, Opens, IsKept, kinds_of}
 use Rattle.library_model.specs.declared.element.Element.{Element}
 use Rattle.library_model.specs.declared.element.Element.TheVariants.{Shape as shape_element, Reference as reference_element}
 use Rattle.library_model.specs.declared.element.Lattice.{Lattice}

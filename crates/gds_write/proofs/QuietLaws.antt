@@ -3,7 +3,8 @@ use Rattle.std.proofs.Common.{◌≡◌, ℕ, List, [], ◌∷◌, ◌++◌, All
 use Rattle.lists.proofs.Words.{append-nil, flat_map, All-head, All-tail, All-from_recursion}
 use Rattle.lists.proofs.Differing.{different_apart}
 use Rattle.gds_records.specs.declared.kinds.TheConstants as kind
-use Rattle.library_grammar.specs.GrammarNames.{AreDifferent, Entry, ElementForm, element_forms, NoneShows, names_of, IsPlain, Place, among_own, before_header, behind_strname, between_elements, between_structures, behind_endlib, before_strname, next_place}
+use Rattle.library_grammar.specs.GrammarNames.{AreDifferent, Entry, ElementForm, element_forms, NoneShows, names_of, IsPlain, Place, among_own, before_header, behind_strname, between_elements}
+use Rattle.library_grammar.specs.GrammarNames.{between_structures, behind_endlib, before_strname, next_place}
 use Rattle.library_model.specs.declared.element.Element.{Element}
 use Rattle.library_model.specs.declared.library.Library.{Library}
 use Rattle.library_model.specs.declared.library.Structure.{Structure}

@@ -1,7 +1,10 @@
 -- The parts of a library that bytes come to are well formed.
-use Rattle.std.proofs.Common.{◌≡◌, ℕ, ℤ, pos, ◌+ℤ◌, ◌*ℤ◌, ◌+◌, ◌≤◌, List, [], ◌∷◌, ◌++◌, length, All, Option, Some, None, IfSome, sym, ap, subst, ◌∙◌, arith, FitsSigned, option_to_list, w32, length-append}
+use Rattle.std.proofs.Common.{◌≡◌, ℕ, ℤ, pos, ◌+ℤ◌, ◌*ℤ◌, ◌+◌, ◌≤◌, List, [], ◌∷◌, ◌++◌, length, All, Option, Some, None, IfSome, sym, ap, subst, ◌∙◌, arith, FitsSigned, option_to_list, w32}
+use Rattle.std.proofs.Common.{length-append}
 use Rattle.lists.proofs.Words.{All-weaker, All-nil, All-cons, All-head, All-tail, All-same, flat_map}
-use Rattle.library_grammar.specs.GrammarNames.{value, IsText, IsInProfile, Entry, IsKept, boundary, path, sref, aref, box, IsReference, IsLattice, BytesComeTo, are_library, property_records, ElementParts, element_records, StructureParts, structure_head, structure_records, library_head, library_records, SayElements, SaysStructure, SayStructures, body_of, point_in, points_of, Leads, HasItsPoints, IsWellPointed, AreWellPointed, IsPoint, ArePoints}
+use Rattle.library_grammar.specs.GrammarNames.{value, IsText, IsInProfile, Entry, IsKept, boundary, path, sref, aref, box, IsReference, IsLattice, BytesComeTo, are_library, property_records}
+use Rattle.library_grammar.specs.GrammarNames.{ElementParts, element_records, StructureParts, structure_head, structure_records, library_head, library_records, SayElements, SaysStructure}
+use Rattle.library_grammar.specs.GrammarNames.{SayStructures, body_of, point_in, points_of, Leads, HasItsPoints, IsWellPointed, AreWellPointed, IsPoint, ArePoints}
 use Rattle.geo_core.specs.declared.plane.Point.{Point}
 use Rattle.gds_records.specs.declared.kinds.TheConstants as kind
 use Rattle.library_grammar.specs.Libraries.{no_more as no_elements, one_more as one_element, no_more as no_structures, one_more as one_structure}

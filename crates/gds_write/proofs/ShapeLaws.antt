@@ -1,8 +1,10 @@
 -- What a shape's own records say of it, as they are written.
-use Rattle.std.proofs.Common.{◌≡◌, ℕ, suc, ◌≤◌, ℤ, Bool, true, false, ◌==◌, List, [], ◌∷◌, ◌++◌, length, All, Contains, Option, Some, refl, sym, ap, subst, ◌∙◌, arith, append_assoc, w16, w32, FitsSigned, None, if◌then◌else◌, unwrap_or}
+use Rattle.std.proofs.Common.{◌≡◌, ℕ, suc, ◌≤◌, ℤ, Bool, true, false, ◌==◌, List, [], ◌∷◌, ◌++◌, length, All, Contains, Option, Some, refl, sym, ap, subst, ◌∙◌, arith, append_assoc, w16, w32}
+use Rattle.std.proofs.Common.{FitsSigned, None, if◌then◌else◌, unwrap_or}
 use Rattle.lists.proofs.Words.{cast_signed, flat_map, eqb-true}
 use Rattle.geo_core.specs.declared.plane.Point.{Point}
-use Rattle.library_grammar.specs.GrammarNames.{unsigned_of, item, Entry, ElementHolds, element_checks, ElementForm, boundary_form, path_form, box_form, path_kind, IsKept, field, points_in, points_of, short_of, long_of, IsClosed, HasItsPoints, ArePoints, IsKind, kinds_of}
+use Rattle.library_grammar.specs.GrammarNames.{unsigned_of, item, Entry, ElementHolds, element_checks, ElementForm, boundary_form, path_form, box_form, path_kind, IsKept, field, points_in, points_of}
+use Rattle.library_grammar.specs.GrammarNames.{short_of, long_of, IsClosed, HasItsPoints, ArePoints, IsKind, kinds_of}
 use Rattle.gds_records.specs.declared.kinds.TheConstants as kind
 use Rattle.library_grammar.specs.Elements.{boundary as keeps_boundary, path as keeps_path, box as keeps_box}
 use Rattle.library_model.specs.declared.element.Element.TheVariants.{Shape as shape_element}

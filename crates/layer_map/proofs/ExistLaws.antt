@@ -1,6 +1,7 @@
 -- where all checks of a document hold it gives a layer map
 use Rattle.std.proofs.Common.{◌≡◌, ℕ, suc, ◌<◌, List, [], ◌∷◌, ◌++◌, length, get_or, take, map, Option, Some, false, refl, sym, ap, ◌∙◌, subst, arith, zero-add, All, Contains, slice_get}
-use Rattle.lists.proofs.Words.{flat_map, AllZip, All-contains, Contains-get_or, range_with_len, get_or-map, get_or-range_with_len, get_or_from_slice_get, length-map, length-range_with_len, get_or-take, length-take-le, slice_get_within}
+use Rattle.lists.proofs.Words.{flat_map, AllZip, All-contains, Contains-get_or, range_with_len, get_or-map, get_or-range_with_len, get_or_from_slice_get, length-map, length-range_with_len}
+use Rattle.lists.proofs.Words.{get_or-take, length-take-le, slice_get_within}
 use Rattle.geo_core.specs.declared.plane.Cell.{Cell}
 use Rattle.toml.specs.Data.{Data, Members}
 use Rattle.layer_map.specs.CutChecks.{cut_checks}
@@ -8,7 +9,8 @@ use Rattle.layer_map.specs.Documents.{GivesCut, GivesLayer, GivesMap, GivesTermi
 use Rattle.layer_map.specs.LayerChecks.{layer_checks}
 use Rattle.map_model.specs.MapNames.{LayerMap, MappedCut, MappedLayer, names_of, sizes_of}
 use Rattle.lists.specs.Differing.{AreDifferent}
-use Rattle.layer_map.specs.MapChecks.{Holds, MapCheck, checks_of, checks_of_cuts, checks_of_each, checks_of_metals, checks_of_terminals, first_checks, of_cut, of_metal, of_terminal, has_known_keys, has_metals, metals_are_few, cuts_are_array, cuts_are_few, terminals_are_array, terminals_are_few}
+use Rattle.layer_map.specs.MapChecks.{Holds, MapCheck, checks_of, checks_of_cuts, checks_of_each, checks_of_metals, checks_of_terminals, first_checks, of_cut, of_metal, of_terminal, has_known_keys}
+use Rattle.layer_map.specs.MapChecks.{has_metals, metals_are_few, cuts_are_array, cuts_are_few, terminals_are_array, terminals_are_few}
 use Rattle.layer_map.specs.inside.ReadLayers.{written_name}
 use Rattle.layer_map.specs.TerminalChecks.{terminal_checks}
 use Rattle.layer_map.specs.Values.{cuts_in, metals_in, name_of_item, terminals_in}

@@ -1,5 +1,6 @@
 -- pairs of a layer and a datatype, as a document writes them
-use Rattle.std.proofs.Common.{◌≡◌, ℕ, ◌+◌, ◌<◌, ◌≤◌, List, [], ◌∷◌, ◌++◌, length, get_or, take, drop, map, Option, Some, None, sym, ap, ◌∙◌, subst, arith, ◌≢◌, append_assoc, option_and_then, All, Contains, take_all}
+use Rattle.std.proofs.Common.{◌≡◌, ℕ, ◌+◌, ◌<◌, ◌≤◌, List, [], ◌∷◌, ◌++◌, length, get_or, take, drop, map, Option, Some, None, sym, ap, ◌∙◌, subst, arith, ◌≢◌, append_assoc, option_and_then, All}
+use Rattle.std.proofs.Common.{Contains, take_all}
 use Rattle.lists.proofs.Words.{length-map, take-append-drop, take_more, length-drop, get_or_default, add-zero, All-from_recursion, Contains-get_or, all_pairs_push, same_Some}
 use Rattle.toml.specs.Data.{Data, array, as_array}
 use Rattle.toml.specs.View.{items_of, items_view, view}

@@ -1,7 +1,9 @@
 -- the sample: its document, each of its checks, and its map
-use Rattle.std.proofs.Common.{◌≡◌, ◌≢◌, ℕ, zero, suc, ◌+◌, ◌*◌, ◌<◌, ◌≤◌, pos, List, length, [], ◌∷◌, ◌++◌, ◌&&◌, ◌==◌, ◌∙◌, codes, map, Option, Some, refl, arith, Bool, true, false, not, ap, sym, subst, get_or, nat_lt, unwrap_or, option_and_then, All, Contains}
+use Rattle.std.proofs.Common.{◌≡◌, ◌≢◌, ℕ, zero, suc, ◌+◌, ◌*◌, ◌<◌, ◌≤◌, pos, List, length, [], ◌∷◌, ◌++◌, ◌&&◌, ◌==◌, ◌∙◌, codes, map, Option, Some, refl, arith, Bool, true, false, not, ap, sym}
+use Rattle.std.proofs.Common.{subst, get_or, nat_lt, unwrap_or, option_and_then, All, Contains}
 use Rattle.std.specs.List.{AllByRecursion}
-use Rattle.lists.proofs.Words.{AllPass-from_list_all, list_all, and_parts, eq-eqb, ltb-true, IsStrictlyIncreasing, ints, All-append, All-contains, All-from_recursion, All-weaker, AllPairs-cons, IsUtf8-from_ascii}
+use Rattle.lists.proofs.Words.{AllPass-from_list_all, list_all, and_parts, eq-eqb, ltb-true, IsStrictlyIncreasing, ints, All-append, All-contains, All-from_recursion, All-weaker, AllPairs-cons}
+use Rattle.lists.proofs.Words.{IsUtf8-from_ascii}
 use Rattle.std.proofs.lemmas.Bool.{not-true}
 use Rattle.std.proofs.lemmas.Str.Ascii.{IsAscii-from_all}
 use Rattle.first_refusal.specs.Outcomes.{goes_on, reads, value}

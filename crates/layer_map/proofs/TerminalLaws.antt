@@ -1,5 +1,6 @@
 -- places of terminals, as items say them and in a set
-use Rattle.std.proofs.Common.{◌≡◌, ℕ, ℤ, List, map, Option, Some, refl, sym, ap, ◌∙◌, subst, Contains, slice_get, None, option_map, Bool, true, false, not, ◌==◌, ◌&&◌, if◌then◌else◌, [], ◌∷◌, ◌++◌, inl, inr, w32, to_z, of_z, SFits}
+use Rattle.std.proofs.Common.{◌≡◌, ℕ, ℤ, List, map, Option, Some, refl, sym, ap, ◌∙◌, subst, Contains, slice_get, None, option_map, Bool, true, false, not, ◌==◌, ◌&&◌, if◌then◌else◌, [], ◌∷◌, ◌++◌}
+use Rattle.std.proofs.Common.{inl, inr, w32, to_z, of_z, SFits}
 use Rattle.lists.proofs.Words.{AllZip, map-map, IsEquivalence, nat_eq_equiv, and_equiv, on_equiv, list_any, int_eq, and_parts, cases_Bool, Decides-eqb, Decides-int_eq, to_z-of_z}
 use Rattle.toml.specs.Data.{Data, string, integer}
 use Rattle.layer_map.specs.Documents.{GivesTerminal, NamesMetal}

@@ -1,7 +1,8 @@
 -- A stream has one first fault at most, and none where it is a library: so bytes come to one thing at most.
 use Rattle.std.proofs.Common.{◌≡◌, inl, inr, ℕ, List, [], ◌∷◌, ◌++◌, Some, refl, sym, ap, subst, ◌∙◌, arith, append_assoc}
 use Rattle.lists.proofs.Words.{map-append}
-use Rattle.library_grammar.specs.GrammarNames.{IsUnique, Entry, End, whole, ElementHolds, element_checks, element_fault, IsElementFault, ElementForm, EndsOwnRecords, Shows, may_not_stand, repeats, is_faulty, NoneShows, IsFirstFault, at_record, at_end, behind, Place, before_header, behind_endlib, among_own, place_behind, kinds_of, MayStand}
+use Rattle.library_grammar.specs.GrammarNames.{IsUnique, Entry, End, whole, ElementHolds, element_checks, element_fault, IsElementFault, ElementForm, EndsOwnRecords, Shows, may_not_stand, repeats}
+use Rattle.library_grammar.specs.GrammarNames.{is_faulty, NoneShows, IsFirstFault, at_record, at_end, behind, Place, before_header, behind_endlib, among_own, place_behind, kinds_of, MayStand}
 use Rattle.first_refusal.proofs.CheckLaws.{first_refusals_agree}
 use Rattle.gds_records.specs.declared.kinds.TheConstants as kind
 use Rattle.library_grammar.specs.declared.fault.SyntaxFault.{SyntaxFault}

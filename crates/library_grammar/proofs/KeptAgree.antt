@@ -3,7 +3,8 @@ use Rattle.std.proofs.Common.{◌≡◌, ◌↔◌, ℕ, ℤ, pos, negsuc, suc, 
 use Rattle.lists.proofs.Words.{pos-*ℤ-negsuc, le-mul_of_pos_right, ints}
 use Rattle.std.proofs.Math.IntN.{pos-*ℤ-pos}
 use Rattle.std.proofs.Math.Nat.{mul-div_cancel_left}
-use Rattle.library_grammar.specs.GrammarNames.{IsUnique, HasValue, Entry, IsShape, IsTurn, IsReference, IsLattice, IsKept, boundary, path, sref, aref, text, node, box, field, body_of, columns_of, rows_of, Leads}
+use Rattle.library_grammar.specs.GrammarNames.{IsUnique, HasValue, Entry, IsShape, IsTurn, IsReference, IsLattice, IsKept, boundary, path, sref, aref, text, node, box, field, body_of, columns_of}
+use Rattle.library_grammar.specs.GrammarNames.{rows_of, Leads}
 use Rattle.geo_core.specs.declared.plane.Point.{Point}
 use Rattle.gds_records.specs.declared.kinds.TheConstants as kind
 use Rattle.gds_records.proofs.laws.Reals.{values_agree}

@@ -1,7 +1,9 @@
 -- Names that differ and shapes that have their points, where no record shows a fault.
 use Rattle.std.proofs.Common.{get_or, ◌≡◌, ◌≢◌, ◌⊎◌, inl, inr, ℕ, ℤ, List, [], ◌∷◌, ◌++◌, All, Option, Some, None, IfSome, refl, sym, ap, subst, ◌∙◌, arith, append_assoc, length, ◌≤◌}
 use Rattle.lists.proofs.Words.{flat_map, leb_tells, append-nil, All-nil, All-cons, All-head, All-tail, AllPairs-cons}
-use Rattle.library_grammar.specs.GrammarNames.{AreDifferent, Entry, IsNameIn, NoneShows, may_not_stand, repeats, ElementParts, element_records, IsElement, StructureParts, structure_head, structure_records, IsStructure, IsInShape, behind, SayElements, SaysStructure, SayStructures, names_of, HasItsPoints, IsWellPointed, AreWellPointed, IsClosed, IsOutline}
+use Rattle.library_grammar.specs.GrammarNames.{AreDifferent, Entry, IsNameIn, NoneShows, may_not_stand, repeats, ElementParts, element_records, IsElement, StructureParts, structure_head}
+use Rattle.library_grammar.specs.GrammarNames.{structure_records, IsStructure, IsInShape, behind, SayElements, SaysStructure, SayStructures, names_of, HasItsPoints, IsWellPointed, AreWellPointed}
+use Rattle.library_grammar.specs.GrammarNames.{IsClosed, IsOutline}
 use Rattle.lists.proofs.Comparing.{same_or_not}
 use Rattle.lists.proofs.Reading.{last_or_before}
 use Rattle.geo_core.specs.declared.plane.Point.{Point}

@@ -2,7 +2,9 @@
 use Rattle.std.proofs.Common.{◌≡◌, ℕ, List, [], ◌∷◌, ◌++◌, All, refl, sym, ap, subst, ◌∙◌, append_assoc, option_to_list}
 use Rattle.lists.proofs.Words.{append-nil, flat_map, All-head, All-tail, All-same, All-weaker}
 use Rattle.lists.proofs.Containing.{All-front, All-back}
-use Rattle.library_grammar.specs.GrammarNames.{AreBytes, CannotLack, value, refused, IsInProfile, Entry, End, whole, stops, Splits, ElementHolds, element_checks, element_fault, IsKept, Shows, is_faulty, NoneShows, at_end, BytesComeTo, are_library, have_fault, property_records, ElementParts, element_records, IsElement, StructureParts, structure_head, structure_records, IsStructure, library_head, IsInShape, MayStand, behind, SayElements, SaysStructure, SayStructures, IsLibrary}
+use Rattle.library_grammar.specs.GrammarNames.{AreBytes, CannotLack, value, refused, IsInProfile, Entry, End, whole, stops, Splits, ElementHolds, element_checks, element_fault, IsKept, Shows}
+use Rattle.library_grammar.specs.GrammarNames.{is_faulty, NoneShows, at_end, BytesComeTo, are_library, have_fault, property_records, ElementParts, element_records, IsElement, StructureParts}
+use Rattle.library_grammar.specs.GrammarNames.{structure_head, structure_records, IsStructure, library_head, IsInShape, MayStand, behind, SayElements, SaysStructure, SayStructures, IsLibrary}
 use Rattle.first_refusal.proofs.CheckLaws.{cannot_lack_both}
 use Rattle.library_grammar.specs.Libraries.{no_more as no_elements, one_more as one_element, no_more as no_structures, one_more as one_structure}
 use Rattle.library_grammar.specs.declared.fault.SyntaxFault.{SyntaxFault}

@@ -1,11 +1,14 @@
 -- Among the own records of an element: the place there says which element it is, and which of its own records stand behind the one
 -- that opens it.
-use Rattle.std.proofs.Common.{ne_eqb, ◌≡◌, ℕ, Bool, true, false, not, ◌&&◌, ◌==◌, if◌then◌else◌, List, [], ◌∷◌, ◌++◌, length, All, Contains, Option, Some, None, option_map, option_and_then, refl, sym, ap, subst, ◌∙◌, arith, append_assoc, length-append}
+use Rattle.std.proofs.Common.{ne_eqb, ◌≡◌, ℕ, Bool, true, false, not, ◌&&◌, ◌==◌, if◌then◌else◌, List, [], ◌∷◌, ◌++◌, length, All, Contains, Option, Some, None, option_map, option_and_then, refl, sym}
+use Rattle.std.proofs.Common.{ap, subst, ◌∙◌, arith, append_assoc, length-append}
 use Rattle.lists.proofs.Words.{append-nil, list_all, length-map, All-head, All-tail}
 use Rattle.std.specs.Prelude.{is_none}
 use Rattle.std.proofs.lemmas.Bool.{true≢false}
 use Rattle.gds_records.specs.declared.kinds.TheConstants as kind
-use Rattle.library_grammar.specs.GrammarNames.{Entry, ElementForm, element_forms, own_kinds, Place, before_name, before_units, between_structures, before_strname, behind_strname, between_elements, among_own, behind_attribute, behind_property, behind_endlib, has_kind, form_of, into_element, out_of_element, next_place, place_behind, kinds_of, head_kinds}
+use Rattle.library_grammar.specs.GrammarNames.{Entry, ElementForm, element_forms, own_kinds, Place, before_name, before_units, between_structures, before_strname, behind_strname, between_elements}
+use Rattle.library_grammar.specs.GrammarNames.{among_own, behind_attribute, behind_property, behind_endlib, has_kind, form_of, into_element, out_of_element, next_place, place_behind, kinds_of}
+use Rattle.library_grammar.specs.GrammarNames.{head_kinds}
 use Rattle.library_grammar.proofs.PlaceRuns.{place_behind-append, own_step}
 use Rattle.library_grammar.proofs.laws.Forms.{found_form, form_test, not_true, begins_element, begins_first, each_form, own_is_plain, has_contained}
 

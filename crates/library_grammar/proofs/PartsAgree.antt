@@ -1,8 +1,10 @@
 -- Where each part of a library ends is told by its records, so that records have one way to be the parts of a library.
-use Rattle.std.proofs.Common.{◌≡◌, ◌≢◌, ◌⊎◌, inl, inr, ℕ, true, false, not, ◌==◌, List, [], ◌∷◌, ◌++◌, All, Contains, Option, Some, None, IfSome, refl, sym, ap, subst, ◌∙◌, arith, append_assoc, option_to_list}
+use Rattle.std.proofs.Common.{◌≡◌, ◌≢◌, ◌⊎◌, inl, inr, ℕ, true, false, not, ◌==◌, List, [], ◌∷◌, ◌++◌, All, Contains, Option, Some, None, IfSome, refl, sym, ap, subst, ◌∙◌, arith, append_assoc}
+use Rattle.std.proofs.Common.{option_to_list}
 use Rattle.lists.proofs.Words.{flat_map, list_all, eqb-false, All-head, All-tail}
 use Rattle.gds_records.specs.declared.kinds.TheConstants as kind
-use Rattle.library_grammar.specs.GrammarNames.{Entry, ElementForm, Opens, element_forms, own_kinds, head_kinds, IsOfKind, Property, property_records, IsProperty, ElementParts, element_records, IsElement, StructureParts, structure_records, IsStructure, LibraryParts, library_records, IsInGrammar, has_kind, form_of}
+use Rattle.library_grammar.specs.GrammarNames.{Entry, ElementForm, Opens, element_forms, own_kinds, head_kinds, IsOfKind, Property, property_records, IsProperty, ElementParts, element_records}
+use Rattle.library_grammar.specs.GrammarNames.{IsElement, StructureParts, structure_records, IsStructure, LibraryParts, library_records, IsInGrammar, has_kind, form_of}
 use Rattle.library_grammar.proofs.PlaceEndings.{one_each}
 use Rattle.library_grammar.proofs.laws.Forms.{each_form, form_test, lacked, not_true}
 

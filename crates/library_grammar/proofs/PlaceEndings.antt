@@ -1,8 +1,12 @@
 -- What may follow at each place up to the end of a library, and so that records which lead to the end are in shape.
-use Rattle.std.proofs.Common.{◌≡◌, ◌≢◌, ℕ, inl, inr, Bool, true, false, not, ◌&&◌, ◌||◌, ◌==◌, if◌then◌else◌, List, [], ◌∷◌, ◌++◌, All, AllPairs, Contains, Option, Some, None, option_map, option_and_then, IfSome, refl, sym, ap, subst, ◌∙◌, arith, append_assoc, option_to_list}
+use Rattle.std.proofs.Common.{◌≡◌, ◌≢◌, ℕ, inl, inr, Bool, true, false, not, ◌&&◌, ◌||◌, ◌==◌, if◌then◌else◌, List, [], ◌∷◌, ◌++◌, All, AllPairs, Contains, Option, Some, None, option_map}
+use Rattle.std.proofs.Common.{option_and_then, IfSome, refl, sym, ap, subst, ◌∙◌, arith, append_assoc, option_to_list}
 use Rattle.lists.proofs.Words.{flat_map, eqb-true, eqb-false, All-nil, All-cons, All-weaker, list_any-append, AllPairs-cons}
 use Rattle.gds_records.specs.declared.kinds.TheConstants as kind
-use Rattle.library_grammar.specs.GrammarNames.{Entry, ElementForm, element_forms, own_kinds, kinds_of, head_kinds, IsOfKind, property_records, IsProperty, ElementParts, element_records, IsElement, StructureParts, structure_records, IsStructure, IsInShape, Place, before_header, before_bgnlib, before_name, before_units, between_structures, before_strname, behind_strname, between_elements, among_own, behind_attribute, behind_property, behind_endlib, has_kind, form_of, into_element, out_of_element, next_place, place_behind}
+use Rattle.library_grammar.specs.GrammarNames.{Entry, ElementForm, element_forms, own_kinds, kinds_of, head_kinds, IsOfKind, property_records, IsProperty, ElementParts, element_records, IsElement}
+use Rattle.library_grammar.specs.GrammarNames.{StructureParts, structure_records, IsStructure, IsInShape, Place, before_header, before_bgnlib, before_name, before_units, between_structures}
+use Rattle.library_grammar.specs.GrammarNames.{before_strname, behind_strname, between_elements, among_own, behind_attribute, behind_property, behind_endlib, has_kind, form_of, into_element}
+use Rattle.library_grammar.specs.GrammarNames.{out_of_element, next_place, place_behind}
 use Rattle.library_grammar.proofs.laws.Forms.{decided, contains_kind, found_form}
 
 -- ---- what leads to the end

@@ -1,8 +1,11 @@
 -- Records in the grammar lead on: each part of a library leads from one place to the next.
-use Rattle.std.proofs.Common.{ne_eqb, ◌≡◌, ◌≢◌, ℕ, suc, false, List, [], ◌∷◌, ◌++◌, get_or, All, AllPairs, Contains, Option, Some, None, option_and_then, IfSome, refl, ap, ◌∙◌, arith, append_assoc, ◌==◌, option_to_list}
+use Rattle.std.proofs.Common.{ne_eqb, ◌≡◌, ◌≢◌, ℕ, suc, false, List, [], ◌∷◌, ◌++◌, get_or, All, AllPairs, Contains, Option, Some, None, option_and_then, IfSome, refl, ap, ◌∙◌, arith, append_assoc}
+use Rattle.std.proofs.Common.{◌==◌, option_to_list}
 use Rattle.lists.proofs.Words.{append-nil, flat_map, map-append, All-head, All-tail, All-contains, All-from_recursion, All-map, list_any-append}
 use Rattle.gds_records.specs.declared.kinds.TheConstants as kind
-use Rattle.library_grammar.specs.GrammarNames.{Entry, ElementForm, element_forms, own_kinds, kinds_of, head_kinds, IsOfKind, Property, property_records, IsProperty, ElementParts, element_records, IsElement, StructureParts, structure_records, IsStructure, IsInShape, Place, before_header, before_bgnlib, before_name, before_units, between_structures, before_strname, behind_strname, between_elements, among_own, behind_attribute, behind_property, behind_endlib, has_kind, next_place, place_behind}
+use Rattle.library_grammar.specs.GrammarNames.{Entry, ElementForm, element_forms, own_kinds, kinds_of, head_kinds, IsOfKind, Property, property_records, IsProperty, ElementParts, element_records}
+use Rattle.library_grammar.specs.GrammarNames.{IsElement, StructureParts, structure_records, IsStructure, IsInShape, Place, before_header, before_bgnlib, before_name, before_units, between_structures}
+use Rattle.library_grammar.specs.GrammarNames.{before_strname, behind_strname, between_elements, among_own, behind_attribute, behind_property, behind_endlib, has_kind, next_place, place_behind}
 use Rattle.library_grammar.proofs.laws.Forms.{has_contained, begins_property, ends_element, begins_element, begins_first}
 
 -- ---- ways

@@ -2,7 +2,8 @@
 use Rattle.std.proofs.Common.{◌≡◌, ℕ, false, List, [], ◌∷◌, ◌++◌, Option, Some, None, refl, sym, ap, subst, ◌∙◌, append_assoc}
 use Rattle.lists.proofs.Words.{append-nil, map-append}
 use Rattle.gds_records.specs.declared.kinds.TheConstants as kind
-use Rattle.library_grammar.specs.GrammarNames.{Entry, EndsWithEndlib, own_kinds, NoneShows, behind, Place, before_header, between_structures, among_own, behind_endlib, has_kind, next_place, place_behind, kinds_of, IsInShape}
+use Rattle.library_grammar.specs.GrammarNames.{Entry, EndsWithEndlib, own_kinds, NoneShows, behind, Place, before_header, between_structures, among_own, behind_endlib, has_kind, next_place}
+use Rattle.library_grammar.specs.GrammarNames.{place_behind, kinds_of, IsInShape}
 use Rattle.library_grammar.specs.FirstFault.{may_not_stand as shows_unexpected}
 use Rattle.library_grammar.specs.declared.fault.SyntaxFault.TheVariants.{Unexpected}
 use Rattle.library_grammar.proofs.laws.Places.{may_not_stand, place_further}

@@ -1,6 +1,8 @@
 -- Names by their places, as a test of names finds them.
-use Rattle.std.proofs.Common.{◌≡◌, ◌≢◌, ◌↔◌, ℕ, ◌<◌, ◌≤◌, ◌+◌, Bool, true, false, cond, ◌||◌, not, List, [], ◌∷◌, ◌++◌, map, length, get_or, Option, Contains, IsTrue, take, if◌then◌else◌, refl, sym, ap, subst, ◌∙◌, true≢false, arith, length-append}
-use Rattle.lists.proofs.Words.{position, list_any, prefix_len, get_or-map, get_or-take, length-map, length-take-le, map-append, take_more, all_pairs_push, Contains-from_any, get_or_from_slice_get, slice_get-get_or, slice_get_within}
+use Rattle.std.proofs.Common.{◌≡◌, ◌≢◌, ◌↔◌, ℕ, ◌<◌, ◌≤◌, ◌+◌, Bool, true, false, cond, ◌||◌, not, List, [], ◌∷◌, ◌++◌, map, length, get_or, Option, Contains, IsTrue, take, if◌then◌else◌, refl, sym}
+use Rattle.std.proofs.Common.{ap, subst, ◌∙◌, true≢false, arith, length-append}
+use Rattle.lists.proofs.Words.{position, list_any, prefix_len, get_or-map, get_or-take, length-map, length-take-le, map-append, take_more, all_pairs_push, Contains-from_any, get_or_from_slice_get}
+use Rattle.lists.proofs.Words.{slice_get-get_or, slice_get_within}
 use Rattle.std.specs.Cmp.Lexicographic.{nat_list_eq_equiv}
 use Rattle.std.proofs.lemmas.Map.Views.{list_any-from_Contains}
 use Rattle.lists.specs.Differing.{AreDifferent}

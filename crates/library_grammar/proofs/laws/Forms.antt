@@ -2,7 +2,8 @@
 -- head, those that open an element and its own name no structure and end neither own records nor a library.
 use Rattle.std.proofs.Common.{◌≡◌, ℕ, suc, ◌⊎◌, inl, inr, Bool, true, false, ◌==◌, if◌then◌else◌, List, [], ◌∷◌, get_or, Contains, Some, find, refl, sym, ap, subst, ◌∙◌, arith, eq-eqb, not, ◌≢◌, ◌&&◌}
 use Rattle.lists.proofs.Words.{eqb-true, Any-from_list_any, list_all, AllPass-from_list_all, All-contains, All-from_recursion, eqb-false}
-use Rattle.library_grammar.specs.GrammarNames.{ElementForm, has_kind, boundary_form, path_form, sref_form, aref_form, text_form, node_form, box_form, element_forms, behind_strname, between_elements, among_own, behind_attribute, next_place, own_kinds, IsPlain, head_kinds, Opens}
+use Rattle.library_grammar.specs.GrammarNames.{ElementForm, has_kind, boundary_form, path_form, sref_form, aref_form, text_form, node_form, box_form, element_forms, behind_strname, between_elements}
+use Rattle.library_grammar.specs.GrammarNames.{among_own, behind_attribute, next_place, own_kinds, IsPlain, head_kinds, Opens}
 use Rattle.std.proofs.lemmas.List.Folds.{list_any_at}
 use Rattle.gds_records.specs.declared.kinds.TheConstants as kind
 use Rattle.std.proofs.lemmas.Bool.{true≢false}

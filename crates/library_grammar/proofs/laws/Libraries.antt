@@ -1,7 +1,8 @@
 -- Bytes come to one library or one fault, and to one of them in any case. The names of a library's structures differ, since a record
 -- that names one again would show a fault, and its shapes have their points, since an element without them would show one.
 use Rattle.std.proofs.Common.{ℕ, suc, List, [], length, arith, sym, ap, subst, ◌∷◌}
-use Rattle.library_grammar.specs.GrammarNames.{AreBytes, CannotLack, refused, at_record, BytesComeTo, have_fault, IsUnique, value, Entry, whole, IsFirstFault, are_library, IsLibrary, AreDifferent, library_head, behind, names_of, AreWellPointed}
+use Rattle.library_grammar.specs.GrammarNames.{AreBytes, CannotLack, refused, at_record, BytesComeTo, have_fault, IsUnique, value, Entry, whole, IsFirstFault, are_library, IsLibrary, AreDifferent}
+use Rattle.library_grammar.specs.GrammarNames.{library_head, behind, names_of, AreWellPointed}
 use Rattle.gds_records.proofs.laws.Splits.{has_split, splits_agree}
 use Rattle.library_grammar.specs.declared.fault.SyntaxFault.{SyntaxFault}
 use Rattle.library_model.specs.declared.library.Library.{Library}

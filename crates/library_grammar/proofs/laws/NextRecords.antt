@@ -3,7 +3,8 @@ use Rattle.std.proofs.Common.{◌≡◌, ◌≢◌, ℕ, ◌⊎◌, inl, inr, Li
 use Rattle.lists.proofs.Words.{map-append, flat_map-append, All-nil, All-cons, All-contains, Contains-append_left, Contains-append_right, Contains-append_cases}
 use Rattle.lists.proofs.Reading.{last_or_before}
 use Rattle.gds_records.specs.declared.kinds.TheConstants as kind
-use Rattle.library_grammar.specs.GrammarNames.{IsText, Entry, spelling, spellings, AreNamesIn, IsNameIn, NoneShows, Shows, repeats, is_faulty, behind, IsPlain, Place, before_header, before_strname, behind_strname, next_place, place_behind, kinds_of}
+use Rattle.library_grammar.specs.GrammarNames.{IsText, Entry, spelling, spellings, AreNamesIn, IsNameIn, NoneShows, Shows, repeats, is_faulty, behind, IsPlain, Place, before_header, before_strname}
+use Rattle.library_grammar.specs.GrammarNames.{behind_strname, next_place, place_behind, kinds_of}
 use Rattle.library_grammar.specs.FirstFault.{may_not_stand as shows_unexpected}
 use Rattle.library_grammar.specs.declared.fault.SyntaxFault.{SyntaxFault}
 use Rattle.gds_records.proofs.laws.Bodies.{texts_agree}

@@ -4,7 +4,8 @@ use Rattle.std.proofs.Common.{map, ◌≡◌, ℕ, Bool, true, false, not, ◌&&
 use Rattle.lists.proofs.Words.{list_any-append, or-true, map-append, All-map}
 use Rattle.std.proofs.Math.Bool.{and-false}
 use Rattle.gds_records.specs.declared.kinds.TheConstants as kind
-use Rattle.library_grammar.specs.GrammarNames.{Entry, ElementForm, own_kinds, kinds_of, MayStand, Place, before_header, before_bgnlib, before_name, before_units, between_structures, before_strname, behind_strname, between_elements, among_own, behind_attribute, behind_property, behind_endlib, has_kind, next_place, place_behind, Opens}
+use Rattle.library_grammar.specs.GrammarNames.{Entry, ElementForm, own_kinds, kinds_of, MayStand, Place, before_header, before_bgnlib, before_name, before_units, between_structures, before_strname}
+use Rattle.library_grammar.specs.GrammarNames.{behind_strname, between_elements, among_own, behind_attribute, behind_property, behind_endlib, has_kind, next_place, place_behind, Opens}
 use Rattle.library_grammar.proofs.PlaceRuns.{LeadTo, step, place_behind-append, end_of_shape}
 use Rattle.library_grammar.proofs.PlaceEndings.{in_shape_of_end}
 use Rattle.library_grammar.proofs.OwnPlaces.{behind_of_form, opening_leads, own_run_leads, way_in_parts, way_in_steps, lists_agree, same_length}

@@ -3,7 +3,8 @@ use Rattle.std.proofs.Common.{◌≡◌, ◌≢◌, ℕ, List, [], ◌∷◌, �
 use Rattle.lists.proofs.Words.{append-nil, All-head, All-tail, All-map, All-cons}
 use Rattle.first_refusal.proofs.CheckLaws.{none_fails}
 use Rattle.gds_records.specs.declared.kinds.TheConstants as kind
-use Rattle.library_grammar.specs.GrammarNames.{IsText, Entry, ElementHolds, element_checks, IsElementFault, ElementForm, own_kinds, AreNamesIn, NoneShows, Shows, may_not_stand, repeats, is_faulty, ElementParts, IsElement, kinds_of, IsPlain, Place, before_header, before_strname, behind_strname, between_elements, among_own, next_place, place_behind}
+use Rattle.library_grammar.specs.GrammarNames.{IsText, Entry, ElementHolds, element_checks, IsElementFault, ElementForm, own_kinds, AreNamesIn, NoneShows, Shows, may_not_stand, repeats, is_faulty}
+use Rattle.library_grammar.specs.GrammarNames.{ElementParts, IsElement, kinds_of, IsPlain, Place, before_header, before_strname, behind_strname, between_elements, among_own, next_place, place_behind}
 use Rattle.library_grammar.specs.declared.fault.SyntaxFault.{SyntaxFault}
 use Rattle.library_grammar.proofs.laws.Places.{may_stand, own_agree}
 use Rattle.library_grammar.proofs.TextThere.{no_item}
