@@ -2,11 +2,11 @@
 use Rattle.std.proofs.Common.{◌≡◌, ◌≢◌, ◌↔◌, ℕ, ◌<◌, ◌≤◌, ◌+◌, Bool, true, false, cond, ◌||◌, not, List, [], ◌∷◌, ◌++◌, map, length, get_or, Option, Contains, IsTrue, take, if◌then◌else◌, refl, sym}
 use Rattle.std.proofs.Common.{ap, subst, ◌∙◌, true≢false, arith, length-append}
 use Rattle.lists.proofs.Words.{position, list_any, prefix_len, get_or-map, get_or-take, length-map, length-take-le, map-append, take_more, all_pairs_push, Contains-from_any, get_or_from_slice_get}
-use Rattle.lists.proofs.Words.{slice_get-get_or, slice_get_within}
+use Rattle.lists.proofs.Words.{slice_get-get_or}
 use Rattle.std.specs.Cmp.Lexicographic.{nat_list_eq_equiv}
 use Rattle.std.proofs.lemmas.Map.Views.{list_any-from_Contains}
 use Rattle.lists.specs.Differing.{AreDifferent}
-use Rattle.library_model.specs.Names.{StandsAt, names_of, place_of}
+use Rattle.library_model.specs.Names.{names_of, place_of}
 use Rattle.library_model.specs.declared.library.Structure.{Structure}
 use Rattle.library_model.proofs.laws.Names.{is_name, is_name-true}
 
@@ -33,10 +33,6 @@ name_not_found name names none there = true≢false (sym (list_any-from_Contains
 -- one name more
 pub one_name_more : (names : List (List ℕ)) (name : List ℕ) → AreDifferent names → (Contains names name → ⊥) → AreDifferent (names ++ name ∷ [])
 one_name_more names name differ fresh = all_pairs_push (λ one other. one ≢ other) names name differ (λ k d h e. fresh (k, h, get_or_from_slice_get names k _ name (slice_get-get_or names k d h) ∙ e))
-
--- a name that stands somewhere is there, and so it is found
-stands_there : (name : List ℕ) (names : List (List ℕ)) (place : ℕ) → StandsAt names name place → Contains names name
-stands_there name names place stands = (place, slice_get_within names place name stands, get_or_from_slice_get names place name name stands)
 
 -- What a search among owners of names answers.
 module _ {V : Type 0} (text : V → List ℕ) (name : List ℕ) (owners : List V) where
