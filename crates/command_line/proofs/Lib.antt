@@ -1,6 +1,5 @@
 pub mod MatchLaws
 pub mod SpellingLaws
-pub mod RequestLaws
 pub mod ReadingLaws
 pub mod CheckLaws
 pub mod TaskLaws

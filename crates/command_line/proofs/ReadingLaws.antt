@@ -6,8 +6,9 @@ use Rattle.command_line.specs.declared.argument.ReadArgument.TheVariants.{Settin
 use Rattle.command_line.specs.declared.option_name.OptionName.{OptionName}
 use Rattle.command_line.specs.inside.Arguments.{BeginWith, BeginWithNone, HasRead, option_word, options_read, positions_read}
 use Rattle.command_line.specs.OptionNames.{Text}
-use Rattle.command_line.specs.Spelling.{Argument, in_one_word, in_two_words, positional, name_word, whole_word, words_of, last_words, IsPlain, IsClearlySpelled, Given, AreSpelled, options_in, positions_in}
-use Rattle.command_line.proofs.SpellingLaws.{Follows, follow, plain_has_no_dashes, whole_is_no_name}
+use Rattle.command_line.specs.Spelling.{Argument, in_one_word, in_two_words, positional, name_word, whole_word, words_of, last_words, IsPlain, IsClearlySpelled, Given, AreSpelled, options_in}
+use Rattle.command_line.specs.Spelling.{positions_in}
+use Rattle.command_line.proofs.SpellingLaws.{plain_has_no_dashes, whole_is_no_name, Follows, follow}
 
 -- ---- the first argument of words
 

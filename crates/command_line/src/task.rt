@@ -28,6 +28,6 @@ pub enum Task {
     /// The areas of a generated layout, which needs no file, for the sizes of its own layer map.
     Generated {
         /// How many columns the layout has, and how many rows: from 1 to 500.
-        columns: u32,
+        n: u32,
     },
 }

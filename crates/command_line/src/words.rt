@@ -128,10 +128,10 @@ fn generated_task(matches: &ArgMatches<'_>) -> Result<Task, WordsFault>
     if has_number(matches) {
         return Err(WordsFault::Usage);
     }
-    let Some(columns) = number_given(matches, OptionName::Generate, 1, MOST_COLUMNS) else {
+    let Some(n) = number_given(matches, OptionName::Generate, 1, MOST_COLUMNS) else {
         return Err(WordsFault::Usage);
     };
-    Ok(Task::Generated { columns })
+    Ok(Task::Generated { n })
 }
 
 /// The task of these matches, in which the layout of this name is named.

@@ -9,8 +9,7 @@ use Rattle.library_model.specs.declared.library.Structure.{Structure}
 use Rattle.map_model.specs.MapNames.{LayerMap, IsMappedTo}
 use Rattle.flatten.specs.Routes.{Route}
 use Rattle.flatten.specs.declared.placed.Placed.{Placed}
-use Rattle.flatten.proofs.ChoiceLaws.{first_said}
-use Rattle.flatten.proofs.FirstLaws.{refused_within}
+use Rattle.flatten.proofs.laws.Refusals.{first_said, refused_within}
 use Rattle.rect_cover.specs.Covers.{Covers}
 use Rattle.rect_cover.specs.Coverings.{CoverComesTo, IsCoverable, IsFirstCoverFault, PlacedComesTo, placed_points}
 use Rattle.outlines.specs.Fillings.{IsCover}

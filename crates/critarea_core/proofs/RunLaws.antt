@@ -10,7 +10,7 @@ use Rattle.map_model.specs.MapNames.{layer_map_of}
 use Rattle.map_model.specs.declared.map.Map.{Map}
 use Rattle.questions.specs.declared.row.Row.{Row}
 use Rattle.gauges.specs.GaugeViews.{GaugeView, fresh, AreTold, AreToldPrefixes, texts_after, texts_of}
-use Rattle.gauges.proofs.ToldGauges.{texts_gained}
+use Rattle.gauges.proofs.laws.Told.{texts_gained}
 use Rattle.report.specs.Report.{report_text}
 use Rattle.critarea_core.specs.Contents.{MayContain, MayHave, names_in, map_names, file_names, bytes_from, layout_source, wanted_top}
 use Rattle.critarea_core.specs.inside.Finding.{Analyses, AreFew, AreItems, Finds, FindsInFiles, files_serve, files_fail, gives_thing, gives_refusal, HasRows, IsFound, IsMapOf, IsOneOf}

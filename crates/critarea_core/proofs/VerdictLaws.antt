@@ -8,15 +8,15 @@ use Rattle.lists.proofs.Words.{enumerate_from}
 use Rattle.command_line.specs.Requests.{Ask}
 use Rattle.command_line.specs.declared.task.Task.{Task}
 use Rattle.command_line.specs.declared.task.Task.TheVariants.{OneMetal, Mapped, Generated}
-use Rattle.command_line.proofs.RequestLaws.{requests_agree}
+use Rattle.command_line.proofs.laws.Requests.{requests_agree}
 use Rattle.library_model.specs.declared.library.Library.{Library}
 use Rattle.library_grammar.specs.FirstFault.{BytesComeTo}
-use Rattle.library_grammar.proofs.FaultsAgree.{libraries_agree}
+use Rattle.library_grammar.proofs.laws.Libraries.{libraries_agree}
 use Rattle.flatten.specs.Placements.{Placing}
 use Rattle.flatten.specs.Routes.{Route}
-use Rattle.flatten.proofs.PlacingLaws.{placings_agree}
+use Rattle.flatten.proofs.laws.Placings.{placings_agree}
 use Rattle.layer_map.specs.Documents as document
-use Rattle.layer_map.proofs.UniqueLaws.{maps_agree}
+use Rattle.layer_map.proofs.laws.Maps.{maps_agree}
 use Rattle.layout_gen.specs.Generated.{generated_map}
 use Rattle.map_model.specs.MapNames.{LayerMap}
 use Rattle.critarea_core.specs.Contents.{Contents, bytes_from, layout_source, wanted_top}

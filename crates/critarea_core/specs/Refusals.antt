@@ -9,6 +9,7 @@ use Rattle.flatten.specs.PlaceFaults as place_faults
 use Rattle.flatten.specs.declared.fault.PlaceFault.{PlaceFault}
 use Rattle.rect_cover.specs.CoverFaults as cover_faults
 use Rattle.rect_cover.specs.declared.fault.CoverFault.{CoverFault}
+use Rattle.gds_syntax.specs.StreamLimits.{most_bytes}
 use Rattle.library_grammar.specs.SyntaxFaults as syntax_faults
 use Rattle.library_grammar.specs.declared.fault.SyntaxFault.{SyntaxFault}
 use Rattle.critarea_core.specs.declared.layout_fault.LayoutFault.{LayoutFault}
@@ -45,7 +46,7 @@ of_map_fault fault = of_map (map_faults.number_of fault) (map_faults.place_of fa
 
 -- the most bytes that a layout may have
 abbrev pub layout_limit : ℕ
-layout_limit = 268435456
+layout_limit = most_bytes
 
 -- the layout has more
 abbrev pub layout_too_long : Refusal

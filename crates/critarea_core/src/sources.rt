@@ -76,9 +76,9 @@ pub fn layout_for<F: Files>(
             let name = layout.as_slice();
             bytes_in(alloc, files, name, LAYOUT_LIMIT, LAYOUT_TOO_LONG)
         }
-        Task::Generated { columns } => {
-            let made = generate(alloc, *columns)?;
-            Ok(made.layout)
+        Task::Generated { n } => {
+            let made = generate(alloc, *n)?;
+            Ok(made.0)
         }
     }
 }

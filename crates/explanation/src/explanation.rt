@@ -93,7 +93,7 @@ fn tell_mapped<F: Files, P: Paths>(
             let top = top.as_ref().map(Name::as_slice);
             tell_file(alloc, told, map, layout.as_slice(), top, files, paths)
         }
-        Task::Generated { columns } => tell_generated(alloc, told, map, *columns),
+        Task::Generated { n } => tell_generated(alloc, told, map, *n),
     }
 }
 
@@ -111,20 +111,15 @@ fn tell_request<F: Files, P: Paths>(
     }
 }
 
-/// Tells of the generated layout of so many columns.
-fn tell_generated(
-    alloc: Global,
-    told: &mut Telling,
-    map: &Map,
-    columns: u32,
-) -> Result<(), NoMemory>
-    requires some { 1 ≤ columns }
-    requires few { columns ≤ MOST_COLUMNS }
+/// Tells of the generated layout of `n` columns.
+fn tell_generated(alloc: Global, told: &mut Telling, map: &Map, n: u32) -> Result<(), NoMemory>
+    requires some { 1 ≤ n }
+    requires few { n ≤ MOST_COLUMNS }
 {
-    let made = generate(alloc, columns)?;
+    let made = generate(alloc, n)?;
     let layout = Layout {
         origin: Origin::Generated,
-        bytes: made.layout.as_slice(),
+        bytes: made.0.as_slice(),
         top: None,
     };
     tell_layout(alloc, told, map, &layout)

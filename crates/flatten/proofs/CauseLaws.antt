@@ -11,15 +11,16 @@ use Rattle.flatten.specs.Structures.{all_references, all_targets, target_of}
 use Rattle.flatten.specs.ReferenceChains.{StartsChain, IsEndless}
 use Rattle.flatten.specs.Tops.{HasTop, IsNoOtherTop, IsTop, IsUnnamed}
 use Rattle.flatten.specs.Routes.{Route, point_count}
-use Rattle.flatten.specs.Placements.{LibraryCheck, has_its_target, leads_to_no_cycle, has_top, is_no_other_top, LibraryHolds, library_checks, library_fault, TopCheck, is_shallow, is_small, is_in_range, IsSmall, TopHolds, top_checks, top_fault, Choosing, PlacingFrom, Placing, placed_routes}
+use Rattle.flatten.specs.Placements.{LibraryCheck, has_its_target, leads_to_no_cycle, has_top, is_no_other_top, LibraryHolds, library_checks, library_fault, TopCheck, is_shallow, is_small}
+use Rattle.flatten.specs.Placements.{is_in_range, IsSmall, TopHolds, top_checks, top_fault, Choosing, PlacingFrom, Placing, placed_routes}
 use Rattle.flatten.specs.Causes.{IsSecondTop, Tells}
 use Rattle.flatten.specs.declared.fault.PlaceFault.{PlaceFault}
 use Rattle.flatten.specs.declared.fault.PlaceFault.TheVariants.{NoTop}
-use Rattle.flatten.proofs.ChoiceLaws.{all_library}
-use Rattle.flatten.proofs.NumberLaws.{number_below, number_there, one_or_none}
-use Rattle.flatten.proofs.ChainLaws.{chain_or_not, is_shorter}
 use Rattle.lists.proofs.Comparing.{equal_or_not}
 use Rattle.lists.proofs.Containing.{Contains-head, all_of_each}
+use Rattle.flatten.proofs.ChainLaws.{chain_or_not, is_shorter}
+use Rattle.flatten.proofs.NumberLaws.{number_below, number_there, one_or_none}
+use Rattle.flatten.proofs.ChoiceLaws.{all_library}
 
 -- ---- what can be decided
 

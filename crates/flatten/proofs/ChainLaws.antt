@@ -5,9 +5,9 @@ use Rattle.library_model.specs.declared.library.Structure.{Structure}
 use Rattle.flatten.specs.Structures.{numbers_of, targets_of}
 use Rattle.flatten.specs.ReferenceChains.{StartsChain, IsEndless}
 use Rattle.flatten.specs.Tops.{IsUnnamed}
-use Rattle.flatten.proofs.NumberLaws.{number_below, one_or_none}
 use Rattle.lists.proofs.Containing.{Contains-cons_cases, Contains-head, Contains-none, Contains-tail}
 use Rattle.lists.proofs.Mapping.{Contains-flat_map_from}
+use Rattle.flatten.proofs.NumberLaws.{number_below, one_or_none}
 
 module _ (structures : List Structure) where
   -- Whether a chain of so many references starts at the structure can be decided: the structures to which it leads are tried one by one.

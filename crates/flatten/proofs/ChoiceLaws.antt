@@ -1,8 +1,8 @@
 -- the choice of the top: what it comes to where these checks hold
-use Rattle.std.proofs.Common.{ℕ, ◌<◌, ◌≡◌, List, [], ◌∷◌, length, get_or, map, Option, Ok, Err, refl, ap, ◌∙◌, All}
-use Rattle.lists.proofs.Words.{map-append, All-nil, All-cons, All-append, All-map}
+use Rattle.std.proofs.Common.{ℕ, ◌<◌, List, [], ◌∷◌, length, map, Option, Ok, Err, refl, All}
+use Rattle.lists.proofs.Words.{All-nil, All-cons, All-append, All-map}
 use Rattle.first_refusal.specs.Answers.{Answers, gives}
-use Rattle.first_refusal.specs.Checks.{IsRefusalOfFirst, all_hold}
+use Rattle.first_refusal.specs.Checks.{all_hold}
 use Rattle.first_refusal.proofs.JudgeLaws.{Judges, fails_first, goes_on, renamed, stops}
 use Rattle.library_model.specs.Names.{names_of}
 use Rattle.library_model.specs.declared.element.Reference.{Reference}
@@ -17,22 +17,6 @@ use Rattle.flatten.specs.declared.fault.PlaceFault.{PlaceFault}
 use Rattle.flatten.specs.declared.fault.PlaceFault.TheVariants.{UnknownStructure, Cycle, NoTop, ManyTops, Memory}
 use Rattle.flatten.proofs.NumberLaws.{all_numbers}
 use Rattle.flatten.proofs.FirstLaws.{first_number}
-
--- the first that fails of a list is the first of the list said in other words
-module _ {A N R : Type 0} (H : A → Type 0) (Holds : N → Type 0) (say : A → N) (of : A → R) (refusal_of : N → R) (to : (a : A) → H a → Holds (say a)) (from : (a : A) → Holds (say a)
-    → H a) (same : (a : A) → of a ≡ refusal_of (say a)) where
-  pub first_said : (xs : List A) (refusal : R) → IsRefusalOfFirst H xs of refusal → IsRefusalOfFirst Holds (map say xs) refusal_of refusal
-  first_said xs refusal first = record {
-    check = say first.check;
-    is_first = record {
-      before = map say first.is_first.before;
-      after = map say first.is_first.after;
-      parts = ap (map say) first.is_first.parts ∙ map-append say first.is_first.before (first.check ∷ first.is_first.after);
-      all_before = All-map Holds say first.is_first.before (λ k d h. to (get_or first.is_first.before k d) (first.is_first.all_before k d h));
-      fails = λ holds. first.is_first.fails (from first.check holds);
-    };
-    is_its_refusal = first.is_its_refusal ∙ same first.check;
-  }
 
 -- what holds of each check of the library
 pub all_library : (structures : List Structure) (P : LibraryCheck → Type 0) → All (λ reference. P (has_its_target reference)) (all_references structures)

@@ -13,11 +13,11 @@ use Rattle.flatten.specs.inside.Ends.{node_routes, part_routes, routes_below}
 use Rattle.flatten.specs.declared.part.Part.{Part}
 use Rattle.flatten.specs.declared.part.Part.TheVariants.{End, Copies}
 use Rattle.flatten.specs.Steps.{steps_of}
-use Rattle.flatten.proofs.ArrayLaws.{steps_long}
 use Rattle.lists.proofs.Containing.{Contains-head, Contains-tail}
 use Rattle.flatten.proofs.RouteLaws.{from_target, routes-is}
-use Rattle.flatten.proofs.EndLaws.{parts_alike, weigh, weigh-copies}
 use Rattle.flatten.proofs.GraphLaws.{is_of_at, parts_of_at, bound_in}
+use Rattle.flatten.proofs.EndLaws.{parts_alike, weigh, weigh-copies}
+use Rattle.flatten.proofs.ArrayLaws.{steps_long}
 
 -- the routes from a structure are those of its parts
 pub node_routes-is : (nodes : List (Vec Part Global)) (k one : ℕ) → node_routes nodes k one ≡ flat_map (part_routes (routes_below nodes k) one) (parts_at nodes one)

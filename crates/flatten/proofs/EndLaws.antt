@@ -12,9 +12,9 @@ use Rattle.flatten.specs.inside.FollowedParts.{AreParts, no_more, passed_over, e
 use Rattle.flatten.specs.inside.Ends.{part_routes, route_to}
 use Rattle.flatten.specs.declared.part.Part.{Part}
 use Rattle.flatten.specs.declared.part.Part.TheVariants.{Copies}
-use Rattle.flatten.proofs.LayerLaws.{is_mapped-some}
 use Rattle.lists.proofs.Containing.{Contains-head, Contains-tail}
 use Rattle.lists.proofs.Mapping.{flat_map-same}
+use Rattle.flatten.proofs.LayerLaws.{is_mapped-some}
 
 -- a filter goes past lists of lists
 filter-flat_map : {X Y : Type 0} (p : Y → Bool) (f : X → List Y) (xs : List X) → filter p (flat_map f xs) ≡ flat_map (λ x. filter p (f x)) xs

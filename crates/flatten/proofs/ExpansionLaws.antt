@@ -14,8 +14,8 @@ use Rattle.flatten.specs.inside.Expansions.{HaveLayers, copy_routes}
 use Rattle.flatten.specs.declared.part.Part.{Part}
 use Rattle.flatten.specs.declared.part.Part.TheVariants.{End, Copies}
 use Rattle.flatten.proofs.GraphLaws.{is_of_at}
-use Rattle.flatten.proofs.CountLaws.{node_routes-is}
 use Rattle.flatten.proofs.PruningLaws.{no_routes}
+use Rattle.flatten.proofs.CountLaws.{node_routes-is}
 
 flat_map-flat_map : {X Y Z : Type 0} (g : Y → List Z) (f : X → List Y) (xs : List X) → flat_map g (flat_map f xs) ≡ flat_map (λ x. flat_map g (f x)) xs
 flat_map-flat_map g f [] = refl

@@ -1,10 +1,9 @@
 -- the first check that fails, where checks are those of one item after another
-use Rattle.std.proofs.Common.{ℕ, suc, ◌+◌, ◌<◌, ◌≡◌, ◌≢◌, List, ◌∷◌, ◌++◌, length, get_or, map, take, drop, append_assoc, Err, refl, sym, ap, subst, ◌∙◌, All}
+use Rattle.std.proofs.Common.{ℕ, suc, ◌+◌, ◌<◌, ◌≡◌, ◌≢◌, List, ◌∷◌, ◌++◌, length, get_or, map, take, drop, Err, refl, sym, ap, subst, ◌∙◌, All}
 use Rattle.lists.proofs.Words.{flat_map, range_with_len, drop-cons, flat_map-append, All-append, take-append-drop}
 use Rattle.lists.proofs.Reading.{flat_map_next}
 use Rattle.first_refusal.specs.Outcomes.{Outcome, refused}
 use Rattle.first_refusal.specs.Answers.{Answers, refuses, no_memory}
-use Rattle.first_refusal.specs.Checks.{IsRefusalOfFirst}
 use Rattle.first_refusal.proofs.JudgeLaws.{Judges, fails_first, goes_on, stops}
 use Rattle.flatten.proofs.NumberLaws.{all_numbers, numbers_parted}
 
@@ -12,21 +11,6 @@ use Rattle.flatten.proofs.NumberLaws.{all_numbers, numbers_parted}
 pub refused_by : {T F : Type 0} {memory : F} {Stage : Outcome T F → Type 0} {fault : F} → Answers memory Stage (Err fault) → fault ≢ memory → Stage (refused fault)
 refused_by (refuses told) other = told
 refused_by no_memory other = absurd (other refl)
-
--- the refusal of checks is that of more checks, where those before them hold, whatever follows
-pub refused_within : {N R : Type 0} (Holds : N → Type 0) (refusal_of : N → R) (before here behind : List N) (refusal : R) → All Holds before
-    → IsRefusalOfFirst Holds here refusal_of refusal → IsRefusalOfFirst Holds (before ++ (here ++ behind)) refusal_of refusal
-refused_within Holds refusal_of before here behind refusal all first = record {
-  check = first.check;
-  is_first = record {
-    before = before ++ first.is_first.before;
-    after = first.is_first.after ++ behind;
-    parts = rw first.is_first.parts (simp append_assoc);
-    all_before = All-append Holds before first.is_first.before all first.is_first.all_before;
-    fails = first.is_first.fails;
-  };
-  is_its_refusal = first.is_its_refusal;
-}
 
 module _ {X Y : Type 0} (of : X → List Y) (xs : List X) (i : ℕ) (x : X) (more : i < length xs) (is : x ≡ get_or xs i x) where
   -- what comes of items, the next of which is this one

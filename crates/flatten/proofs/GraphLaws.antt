@@ -5,7 +5,7 @@ use Rattle.library_model.specs.Names.{names_of, place_of}
 use Rattle.library_model.specs.declared.element.Element.{Element}
 use Rattle.library_model.specs.declared.element.Reference.{Reference}
 use Rattle.library_model.specs.declared.library.Structure.{Structure}
-use Rattle.library_model.proofs.NameLaws.{stands_where_found}
+use Rattle.library_model.proofs.laws.Names.{stands_where_found}
 use Rattle.map_model.specs.MapNames.{LayerMap, IsMappedTo}
 use Rattle.flatten.specs.Structures.{elements_of, references_among, references_in, target_of, targets_of}
 use Rattle.flatten.specs.ReferenceChains.{StartsChain, IsEndless}
@@ -13,9 +13,9 @@ use Rattle.flatten.specs.inside.FollowedParts.{AreParts, AreNodes, no_more, pass
 use Rattle.flatten.specs.inside.Weights.{Weight, weight_of, weight_over, Weighs, weighs}
 use Rattle.flatten.specs.declared.part.Part.{Part}
 use Rattle.flatten.specs.declared.part.Part.TheVariants.{End, Copies}
-use Rattle.flatten.proofs.RouteLaws.{is_target}
 use Rattle.lists.proofs.Containing.{Contains-cons_cases, Contains-head, Contains-none, Contains-one, Contains-tail}
 use Rattle.lists.proofs.Mapping.{Contains-flat_map_from}
+use Rattle.flatten.proofs.RouteLaws.{is_target}
 
 -- a name becomes the number of a structure
 pub named_within : (structures : List Structure) (name : List ℕ) (one : ℕ) → place_of (names_of structures) name ≡ Some one → one < length structures

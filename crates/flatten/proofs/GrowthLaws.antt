@@ -21,8 +21,8 @@ use Rattle.flatten.specs.declared.fault.PlaceFault.TheVariants.{OutOfRange, Memo
 use Rattle.flatten.specs.declared.motion.Motion.{Motion}
 use Rattle.flatten.specs.declared.part.Part.TheVariants.{End}
 use Rattle.flatten.specs.declared.placed.Placed.{Placed}
-use Rattle.flatten.proofs.FirstLaws.{next_added, hold_at, refused_at}
 use Rattle.lists.proofs.Pairing.{AllZip-append}
+use Rattle.flatten.proofs.FirstLaws.{hold_at, next_added, refused_at}
 
 -- no routes add nothing
 pub no_ends : {layer_map : LayerMap} {before : List Placed} → AddsEnds layer_map [] before before

@@ -1,5 +1,6 @@
 -- hops: the routes along references of one copy that their structures have alone
-use Rattle.std.proofs.Common.{ℕ, zero, suc, ◌+◌, ◌*◌, ◌-◌, ◌≤◌, ◌<◌, ◌≡◌, inl, inr, List, [], ◌∷◌, ◌++◌, length, length-append, map, append_assoc, Option, Some, None, Result, Ok, IfSome, refl, sym, ap, subst, ◌∙◌, arith, slice_get, set, length-set, get_or, get_or-set_same}
+use Rattle.std.proofs.Common.{ℕ, zero, suc, ◌+◌, ◌*◌, ◌-◌, ◌≤◌, ◌<◌, ◌≡◌, inl, inr, List, [], ◌∷◌, ◌++◌, length, length-append, map, append_assoc, Option, Some, None, Result, Ok, IfSome, refl, sym}
+use Rattle.std.proofs.Common.{ap, subst, ◌∙◌, arith, slice_get, set, length-set, get_or, get_or-set_same}
 use Rattle.lists.proofs.Words.{Bor, append-nil, get_or_default, slice_get_read}
 use Rattle.lists.proofs.Comparing.{equal_or_not}
 use Rattle.lists.proofs.Containing.{Contains-head}
@@ -21,12 +22,12 @@ use Rattle.flatten.specs.declared.motion.Motion.{Motion}
 use Rattle.flatten.specs.declared.part.Part.{Part}
 use Rattle.flatten.specs.declared.part.Part.TheVariants.{Copies}
 use Rattle.flatten.specs.declared.placed.Placed.{Placed}
-use Rattle.flatten.proofs.ArrayLaws.{steps_long, stands_there}
+use Rattle.flatten.proofs.ArrayLaws.{stands_there, steps_long}
+use Rattle.flatten.proofs.PlacedLaws.{behind_none}
 use Rattle.flatten.proofs.CountLaws.{node_routes-is}
 use Rattle.flatten.proofs.GrowthLaws.{nothing_placed}
-use Rattle.flatten.proofs.PlacedLaws.{behind_none}
-use Rattle.flatten.proofs.PruningLaws.{slice_get-set_other}
 use Rattle.flatten.proofs.SearchLaws.{item_of_more}
+use Rattle.flatten.proofs.PruningLaws.{slice_get-set_other}
 
 -- ---- the only copy of a reference
 

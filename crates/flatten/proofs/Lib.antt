@@ -1,11 +1,9 @@
 pub mod RouteLaws
 pub mod NumberLaws
 pub mod ChainLaws
-pub mod PlacingLaws
 pub mod PlacedLists
 pub mod CauseLaws
 pub mod ArrayLaws
-pub mod ListedRoutes
 pub mod LayerLaws
 pub mod MotionLaws
 pub mod StepLaws

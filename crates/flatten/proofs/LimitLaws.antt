@@ -18,9 +18,9 @@ use Rattle.flatten.specs.declared.summary.Summary.{Summary}
 use Rattle.flatten.specs.declared.summary.State.{State}
 use Rattle.flatten.specs.declared.summary.State.TheVariants.{New, Done}
 use Rattle.flatten.specs.declared.fault.PlaceFault.TheVariants.{TooDeep, TooManyShapes}
-use Rattle.flatten.proofs.GraphLaws.{height_starts, height_bounds}
 use Rattle.flatten.proofs.EndLaws.{weigh}
 use Rattle.flatten.proofs.CountLaws.{counted, routes_alike}
+use Rattle.flatten.proofs.GraphLaws.{height_bounds, height_starts}
 
 -- only what is there is done
 pub done_within : (states : List State) (one : ℕ) (summary : Summary) → state_of states one ≡ Done summary → one < length states

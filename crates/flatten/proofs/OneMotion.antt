@@ -5,7 +5,7 @@ use Rattle.geo_core.specs.Plane.{mirror_image, quarter_turn, quarter_turns, imag
 use Rattle.geo_core.specs.declared.plane.Point.{Point}
 use Rattle.geo_core.specs.declared.plane.Turn.{Turn}
 use Rattle.geo_core.proofs.TurnLaws.{after_mirror, after_plain, at, same_at}
-use Rattle.library_model.proofs.SameParts.{same_turn}
+use Rattle.library_model.proofs.laws.SameParts.{same_turn}
 use Rattle.flatten.specs.Steps.{Step, shifted, shift_of, moved_by}
 use Rattle.flatten.specs.Motions.{MovesAlong, image_by}
 use Rattle.flatten.specs.declared.motion.Motion.{Motion}

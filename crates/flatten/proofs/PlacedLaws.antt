@@ -20,10 +20,10 @@ use Rattle.flatten.specs.declared.fault.PlaceFault.{PlaceFault}
 use Rattle.flatten.specs.declared.fault.PlaceFault.TheVariants.{OutOfRange, Memory}
 use Rattle.flatten.specs.declared.placed.Placed.{Placed}
 use Rattle.flatten.specs.declared.plan.Plan.{Plan}
-use Rattle.flatten.proofs.CountLaws.{routes_alike}
-use Rattle.flatten.proofs.ExpansionLaws.{have_layers}
 use Rattle.flatten.proofs.PlanLaws.{nodes_long}
 use Rattle.flatten.proofs.PruningLaws.{pruned_below, pruned_routes}
+use Rattle.flatten.proofs.ExpansionLaws.{have_layers}
+use Rattle.flatten.proofs.CountLaws.{routes_alike}
 
 -- routes behind no steps
 pub behind_none : (routes : List Route) → map (behind_steps []) routes ≡ routes

@@ -14,9 +14,9 @@ use Rattle.flatten.specs.Placements.{Placing, PlacingFrom, placed_routes}
 use Rattle.flatten.specs.Placed.{IsEndOf, ArePlaced}
 use Rattle.flatten.specs.declared.motion.Motion.{Motion}
 use Rattle.flatten.specs.declared.placed.Placed.{Placed}
-use Rattle.flatten.proofs.LayerLaws.{is_mapped-is}
 use Rattle.flatten.proofs.OneMotion.{motions_agree, one_motion}
-use Rattle.flatten.proofs.PlacingLaws.{placings_agree}
+use Rattle.flatten.proofs.laws.Placings.{placings_agree}
+use Rattle.flatten.proofs.LayerLaws.{is_mapped-is}
 
 -- where each item stands for one thing at most, items stand for one list at most
 lists_agree : {X Y : Type 0} (R : X → Y → Type 0) → ((x : X) → IsUnique (R x)) → (xs : List X) → IsUnique (AllZip R xs)

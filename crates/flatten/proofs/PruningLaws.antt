@@ -1,5 +1,6 @@
 -- structures that place nothing, and what is left of a graph without them
-use Rattle.std.proofs.Common.{ℕ, zero, suc, ◌+◌, ◌*◌, ◌≤◌, ◌<◌, ◌≡◌, ◌↔◌, inl, inr, Bool, true, false, List, [], ◌∷◌, ◌++◌, map, Vec, Option, Some, None, refl, sym, ap, subst, ◌∙◌, arith, Contains, length, length-set, get_or, get_or-set_same, get_or-set_other, set, slice_get, ◌≢◌}
+use Rattle.std.proofs.Common.{ℕ, zero, suc, ◌+◌, ◌*◌, ◌≤◌, ◌<◌, ◌≡◌, ◌↔◌, inl, inr, Bool, true, false, List, [], ◌∷◌, ◌++◌, map, Vec, Option, Some, None, refl, sym, ap, subst, ◌∙◌, arith, Contains}
+use Rattle.std.proofs.Common.{length, length-set, get_or, get_or-set_same, get_or-set_other, set, slice_get, ◌≢◌}
 use Rattle.lists.proofs.Words.{flat_map, Bor, Global, slice_get_past, cases_lt}
 use Rattle.map_model.specs.MapNames.{LayerMap}
 use Rattle.std.specs.Prelude.{nat_lt}
@@ -10,10 +11,9 @@ use Rattle.library_model.specs.declared.element.Lattice.{Lattice}
 use Rattle.library_model.specs.declared.element.Reference.{Reference}
 use Rattle.flatten.specs.Steps.{Step, steps_of, rows_of, columns_of}
 use Rattle.flatten.specs.Routes.{Route, behind_step}
-use Rattle.flatten.specs.inside.FollowedParts.{Nodes, parts_at}
+use Rattle.flatten.specs.inside.FollowedParts.{Nodes, parts_at, AreNodesBelow}
 use Rattle.flatten.specs.inside.Weights.{Weight, weight_over, Weighs, weighs, copies_of}
 use Rattle.flatten.specs.inside.Ends.{node_routes, part_routes, routes_below}
-use Rattle.flatten.specs.inside.FollowedParts.{AreNodesBelow}
 use Rattle.flatten.specs.inside.Expansions.{HaveLayers}
 use Rattle.flatten.specs.inside.Prunings.{AreNodesDone, IsPrunedTo, IsBarren, IsBarrenPart, IsPruned, Prunes, TellsBarren, no_more, goes, stays}
 use Rattle.flatten.specs.inside.Surveys.{AreDone, AreTrue, state_of}
@@ -22,14 +22,14 @@ use Rattle.flatten.specs.declared.part.Part.TheVariants.{End, Copies}
 use Rattle.flatten.specs.declared.summary.Summary.{Summary}
 use Rattle.flatten.specs.declared.summary.State.{State}
 use Rattle.flatten.specs.declared.summary.State.TheVariants.{Done}
-use Rattle.flatten.proofs.CountLaws.{counted, node_routes-is}
-use Rattle.flatten.proofs.EndLaws.{weigh}
-use Rattle.flatten.proofs.SearchLaws.{parts_read}
 use Rattle.std.proofs.Math.Nat.{mul-le-mul}
 use Rattle.std.proofs.lemmas.Option.{gets}
 use Rattle.lists.proofs.Comparing.{equal_or_not}
 use Rattle.lists.proofs.Containing.{Contains-cons_cases, Contains-head, Contains-none, Contains-one, Contains-tail}
 use Rattle.lists.proofs.Mapping.{flat_map-same}
+use Rattle.flatten.proofs.SearchLaws.{parts_read}
+use Rattle.flatten.proofs.CountLaws.{counted, node_routes-is}
+use Rattle.flatten.proofs.EndLaws.{weigh}
 
 -- lists of which one item is set
 pub slice_get-set_other : {X : Type 0} (xs : List X) (i : ℕ) (x : X) (k : ℕ) → k ≢ i → slice_get (set xs i x) k ≡ slice_get xs k

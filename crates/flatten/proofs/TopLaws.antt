@@ -16,13 +16,13 @@ use Rattle.flatten.specs.inside.Plans.{AreSurveyed, Chooses, IsChosen}
 use Rattle.flatten.specs.declared.part.Part.{Part}
 use Rattle.flatten.specs.declared.fault.PlaceFault.{PlaceFault}
 use Rattle.flatten.specs.declared.fault.PlaceFault.TheVariants.{NoTop, Memory}
-use Rattle.flatten.proofs.NumberLaws.{number_there, number_below}
-use Rattle.flatten.proofs.ChainLaws.{some_bound, some_unnamed}
-use Rattle.flatten.proofs.ChoiceLaws.{none_refused, many_refused, all_checks}
-use Rattle.flatten.proofs.GraphLaws.{named_within, leads, leads_back, chains_end}
-use Rattle.flatten.proofs.MarkLaws.{leads_within}
 use Rattle.lists.proofs.Comparing.{equal_or_not}
 use Rattle.lists.proofs.Mapping.{Contains-flat_map, Contains-flat_map_from}
+use Rattle.flatten.proofs.ChoiceLaws.{all_checks, many_refused, none_refused}
+use Rattle.flatten.proofs.GraphLaws.{chains_end, leads, leads_back, named_within}
+use Rattle.flatten.proofs.MarkLaws.{leads_within}
+use Rattle.flatten.proofs.NumberLaws.{number_below, number_there}
+use Rattle.flatten.proofs.ChainLaws.{some_bound, some_unnamed}
 
 -- the number of the top is chosen
 abbrev pub Answer : List Structure → Option (List ℕ) → Result ℕ PlaceFault → Type 0

@@ -1,3 +1,4 @@
+pub mod laws
 pub mod GainedTexts
 pub mod PeakLaws
 pub mod ToldGauges

@@ -1,10 +1,10 @@
 -- what gauges have been told, one after the other
-use Rattle.std.proofs.Common.{ℕ, Result, Ok, Err, OnErr, zero, suc, ◌≡◌, ◌<◌, ◌≤◌, ◌+◌, List, [], ◌∷◌, ◌++◌, length, get_or, take, drop, map, set, refl, sym, ap, ◌∙◌, subst, arith, add-one}
+use Rattle.std.proofs.Common.{ℕ, zero, suc, ◌≡◌, ◌<◌, ◌≤◌, ◌+◌, List, [], ◌∷◌, ◌++◌, length, get_or, take, drop, map, set, refl, sym, ap, ◌∙◌, subst, arith, add-one}
 use Rattle.std.proofs.lemmas.List.{take_more_set, drop-set-lt, take_all, drop_all, drop_more, take-append-drop, append-nil, map-append, drop-set, take-set}
-use Rattle.std.proofs.Math.Seq.{take-length}
 use Rattle.lists.proofs.Pairing.{AllZip-append, AllZip-push}
 use Rattle.questions.specs.declared.row.Row.{Row}
-use Rattle.gauges.specs.GaugeViews.{GaugeView, IsTold, IsToldPrefix, AreTold, AreToldPrefixes, texts_of, texts_after}
+use Rattle.gauges.specs.GaugeViews.{GaugeView, IsTold, IsToldPrefix, AreTold, AreToldPrefixes}
+use Rattle.gauges.proofs.laws.Told.{told_prefixes, untold_prefixes}
 
 -- a gauge has been told so many of the rows, from the first one on
 abbrev pub IsToldSome : {Gauge : Type 0} → (Gauge → GaugeView) → List Row → ℕ → Gauge → Gauge → Type 0
@@ -14,38 +14,6 @@ IsToldSome view rows count old new = IsTold (take count rows) (view old) (view n
 pub record AreToldBelow {Gauge : Type 0} (view : Gauge → GaugeView) (rows : List Row) (old new : List Gauge) (count : ℕ) : Type 0 where
   pub told : AreTold rows (map view (take count old)) (map view (take count new))
   pub others : drop count new ≡ drop count old
-
--- a gauge that was told all of the rows was told the first few of them
-told_prefix : (rows : List Row) (old new : GaugeView) → IsTold rows old new → IsToldPrefix rows old new
-told_prefix rows old new told =
-    (length rows, record { seen = told.seen ∙ ap (λ some. old.seen ++ some) (sym (take-length rows)); text = told.text })
-
--- and so are many
-pub told_prefixes : (rows : List Row) (old new : List GaugeView) → AreTold rows old new → AreToldPrefixes rows old new
-told_prefixes rows [] [] told = tt
-told_prefixes rows [] (y ∷ ys) told = absurd told
-told_prefixes rows (x ∷ xs) [] told = absurd told
-told_prefixes rows (x ∷ xs) (y ∷ ys) told = (told_prefix rows x y told.0, told_prefixes rows xs ys told.1)
-
--- gauges that nobody has told anything
-pub untold_prefixes : (rows : List Row) (gauges : List GaugeView) → AreToldPrefixes rows gauges gauges
-untold_prefixes rows [] = tt
-untold_prefixes rows (x ∷ xs) = ((0, record { seen = sym (append-nil x.seen); text = refl }), untold_prefixes rows xs)
-
--- what they print then follows from what was known of them before
-pub texts_of-told : (rows : List Row) (old new : List GaugeView) → AreTold rows old new → texts_of new ≡ texts_after rows old
-texts_of-told rows [] [] told = refl
-texts_of-told rows [] (y ∷ ys) told = absurd told
-texts_of-told rows (x ∷ xs) [] told = absurd told
-texts_of-told rows (x ∷ xs) (y ∷ ys) told =
-    ap (λ text. text y.seen ++ texts_of ys) told.0.text ∙ ap (λ seen. x.text seen ++ texts_of ys) told.0.seen
-    ∙ ap (λ texts. x.text (x.seen ++ rows) ++ texts) (texts_of-told rows xs ys told.1)
-
--- and bytes that gained what they print now, gained that
-pub texts_gained : {Gauge : Type 0} (view : Gauge → GaugeView) (rows : List Row) (old new printed : List Gauge) (before after : List ℕ)
-    → AreTold rows (map view old) (map view new) → printed ≡ new → after ≡ before ++ texts_of (map view printed) → after ≡ before ++ texts_after rows (map view old)
-texts_gained view rows old new printed before after told same gained =
-    gained ∙ ap (λ gauges. before ++ texts_of (map view gauges)) same ∙ ap (λ text. before ++ text) (texts_of-told rows (map view old) (map view new) told)
 
 module _ {A : Type 0} where
   -- the item at a number, and the items behind it
@@ -109,8 +77,3 @@ module _ {Gauge : Type 0} (view : Gauge → GaugeView) (rows : List Row) where
       (AllZip-append (IsToldPrefix rows) (map view (take i old)) (view item ∷ map view rest) (map view (take i new)) (view y ∷ map view rest)
       (told_prefixes rows (map view (take i old)) (map view (take i new)) below.told)
       (told, untold_prefixes rows (map view rest))))
-
--- where there is an error, and anyway
-pub on_err : {T E P : Type 0} (r : Result T E) → P → OnErr r P
-on_err (Ok v) p = tt
-on_err (Err e) p = p

@@ -1,16 +1,12 @@
 -- The head of a record: what is spelled is read, and what is read is spelled so.
 use Rattle.std.proofs.Common.{◌≡◌, ℕ, ◌+◌, ◌-◌, ◌/◌, ◌%◌, ◌<◌, ◌≤◌, List, [], ◌∷◌, ◌++◌, length, get_or, take, drop, refl, sym, ap, subst, ◌∙◌, arith}
-use Rattle.lists.proofs.Words.{take_at, drop_at, take-append-drop, length-take-le, length-drop, drop-drop, All-take, All-drop, All-from_get_or}
+use Rattle.lists.proofs.Words.{take_at, drop_at, take-append-drop, length-take-le, length-drop, drop-drop, All-take, All-drop}
 use Rattle.byteorder.specs.Numbers.{big_number-reads_back}
 use Rattle.gds_records.specs.RecordSpelling.{Entry, HasSpelling, spelling}
 use Rattle.lists.specs.ByteLists.{IsByte, AreBytes}
 use Rattle.gds_records.specs.Profile.{IsInProfile}
 use Rattle.gds_records.specs.Table.{IsPermitted}
 use Rattle.gds_records.specs.RecordChecks.{length_field, kind_field, form_field}
-
--- what a slice of bytes has are bytes
-pub bytes_are_bytes : (bytes : List ℕ) → ((i : ℕ) → get_or bytes i 0 < 256) → AreBytes bytes
-bytes_are_bytes bytes h = All-from_get_or IsByte bytes 0 (λ i _. h i)
 
 -- the length in a spelling
 pub length_field-spelling : (e : Entry) (rest : List ℕ) → HasSpelling e → length_field (spelling e ++ rest) ≡ length e.body + 4

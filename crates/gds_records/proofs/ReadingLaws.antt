@@ -7,8 +7,9 @@ use Rattle.gds_records.specs.Profile.{IsInProfile}
 use Rattle.gds_records.specs.RecordChecks.{IsFaultOf}
 use Rattle.gds_records.specs.Split.{End, stops}
 use Rattle.gds_records.specs.Reading.{Reading, left_in, IsLeft}
+use Rattle.gds_records.proofs.laws.Splits.{fault_splits, splits_agree, GoesOn, first_is}
 use Rattle.gds_records.proofs.RecordCheckLaws.{faults_agree}
-use Rattle.gds_records.proofs.SplitLaws.{GoesOn, fault_splits, splits_agree, splits_from, first_is}
+use Rattle.gds_records.proofs.SplitLaws.{splits_from}
 
 -- where a fault is, it is all that is left
 pub left_at_fault : (r : Reading) (f : RecordFault) → r.ended ≡ false → IsFaultOf r.at (left_in r) f → (entries : List Entry) (end : End)

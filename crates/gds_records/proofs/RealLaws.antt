@@ -1,48 +1,22 @@
--- The size of a real, and its one whole value.
-use Rattle.std.proofs.Common.{◌≡◌, ◌≢◌, ℕ, zero, suc, ◌+◌, ◌-◌, ◌*◌, ◌/◌, ◌%◌, ◌^◌, ◌<◌, ◌≤◌, zero-add, refl, sym, ap, subst, ◌∙◌, arith, List, ℤ, pos, ◌-ℤ◌, unsigned_abs, Option, Some, None, IfSome, IfNone, FitsSigned, w64}
-use Rattle.lists.proofs.Words.{pow-add, ints}
+-- the sizes of reals, and which reals have a whole value
+use Rattle.std.proofs.Common.{◌≡◌, ◌≢◌, ℕ, zero, suc, ◌+◌, ◌-◌, ◌*◌, ◌/◌, ◌%◌, ◌^◌, ◌<◌, ◌≤◌, zero-add, refl, sym, ap, subst, ◌∙◌, arith, List, ℤ, pos, ◌-ℤ◌, unsigned_abs, Option, Some, None, IfSome}
+use Rattle.std.proofs.Common.{IfNone, FitsSigned, w64}
+use Rattle.lists.proofs.Words.{ints}
 use Rattle.std.specs.Prelude.{SomeIff}
 use Rattle.std.proofs.lemmas.Nat.{div-add-mod'}
-use Rattle.std.proofs.Math.Nat.{mul-div_cancel, mul_assoc, mul-mod_left, one-le-pow}
+use Rattle.std.proofs.Math.Nat.{mul_assoc, mul-mod_left}
 use Rattle.byteorder.specs.Endian.{big_number}
 use Rattle.gds_records.specs.Reals.{sign_of, exponent_of, fraction_of, IsSize, signed, HasValue}
+use Rattle.gds_records.proofs.laws.Reals.{size_is_product, cancelled, power_at, power_some, values_agree}
 
 -- ---- products
-
--- equal products with one positive factor
-cancelled : (a b s : ℕ) → 0 < s → a * s ≡ b * s → a ≡ b
-cancelled a b s some e = sym (mul-div_cancel a some) ∙ ap (λ (x : ℕ). x / s) e ∙ mul-div_cancel b some
 
 -- a product is no less than a factor, if the other is not 0
 at_least : (a s : ℕ) → a ≢ 0 → s ≤ a * s
 at_least zero s some = absurd (some refl)
 at_least (suc a) s some = omega arith
 
-power_some : (n : ℕ) → 0 < 16 ^ n
-power_some n = one-le-pow n 16 (omega arith)
-
--- a power of 16 as two, with the exponents' sum
-power_at : (i j k : ℕ) → i + j ≡ k → 16 ^ k ≡ 16 ^ i * 16 ^ j
-power_at i j k e = ap (λ (n : ℕ). 16 ^ n) (sym e) ∙ pow-add 16 i j
-
 -- ---- the size with an exponent from 78 on: the fraction times a power
-
-module _ (f e s : ℕ) (high : 78 ≤ e) (is_scale : s ≡ 16 ^ (e - 78)) where
-  scaled : f * 16 ^ e ≡ f * s * 16 ^ 78
-  scaled =
-      ap (λ (p : ℕ). f * p) (power_at (e - 78) 78 e (omega arith)) ∙ sym (mul_assoc f (16 ^ (e - 78)) (16 ^ 78))
-      ∙ ap (λ (p : ℕ). f * p * 16 ^ 78) (sym is_scale)
-
-  size_is_product : (m : ℕ) → IsSize f e m → m ≡ f * s
-  size_is_product m is = cancelled m (f * s) (16 ^ 78) (power_some 78) (is.scaled ∙ scaled)
-
-  pub product_is_size : (r : Option ℕ) → SomeIff r (f * s < 2 ^ 64) (f * s) → IfSome r (IsSize f e)
-  product_is_size None no_product = tt
-  product_is_size (Some m) (fits, is) = record { scaled = ap (λ (n : ℕ). n * 16 ^ 78) is ∙ sym scaled }
-
-  pub no_product_no_size : (r : Option ℕ) → SomeIff r (f * s < 2 ^ 64) (f * s) → IfNone r ((m : ℕ) → m < 2 ^ 64 → IsSize f e m → ⊥)
-  no_product_no_size None too_large = λ m low is. too_large (subst (λ (n : ℕ). n < 2 ^ 64) (size_is_product m is) low)
-  no_product_no_size (Some m) product = tt
 
 pub no_scale_no_size : (f e m : ℕ) → f ≢ 0 → 78 ≤ e → (16 ^ (e - 78) < 2 ^ 64 → ⊥) → m < 2 ^ 64 → IsSize f e m → ⊥
 no_scale_no_size f e m some high too_large low is =
@@ -95,15 +69,6 @@ value_of_size bytes m is =
       size = subst (IsSize (fraction_of bytes) (exponent_of bytes)) abs is;
       sign = ap (signed (sign_of bytes)) abs;
     }
-
--- ---- one value
-
-sizes_agree : (f e m n : ℕ) → IsSize f e m → IsSize f e n → m ≡ n
-sizes_agree f e m n one other = cancelled m n (16 ^ 78) (power_some 78) (one.scaled ∙ sym other.scaled)
-
-pub values_agree : (bytes : List ℕ) (z w : ℤ) → HasValue bytes z → HasValue bytes w → z ≡ w
-values_agree bytes z w one other =
-    one.sign ∙ ap (signed (sign_of bytes)) (sizes_agree (fraction_of bytes) (exponent_of bytes) (unsigned_abs z) (unsigned_abs w) one.size other.size) ∙ sym other.sign
 
 -- ---- the value, where b are the bits, and a size was found or there is none
 

@@ -8,9 +8,10 @@ use Rattle.gds_records.specs.RecordSpelling.{Entry, spelling}
 use Rattle.lists.specs.ByteLists.{AreBytes}
 use Rattle.gds_records.specs.Profile.{IsInProfile}
 use Rattle.gds_records.specs.Table.{IsPermitted}
-use Rattle.gds_records.specs.RecordChecks.{length_field, kind_field, form_field, RecordCheck, head_is_there, length_counts_head, length_is_even, body_is_there, form_is_listed, size_is_permitted, record_checks, Holds, fault_at, IsFaultOf}
+use Rattle.gds_records.specs.RecordChecks.{length_field, kind_field, form_field, RecordCheck, head_is_there, length_counts_head, length_is_even, body_is_there, form_is_listed, size_is_permitted}
+use Rattle.gds_records.specs.RecordChecks.{record_checks, Holds, fault_at, IsFaultOf}
+use Rattle.gds_records.proofs.Heads.{length_field-spelling, IsInProfile-entry_at, entry_at, spelling-entry_at}
 use Rattle.gds_records.proofs.TableLaws.{listed_or_not, permitted_or_not}
-use Rattle.gds_records.proofs.Heads.{length_field-spelling, entry_at, IsInProfile-entry_at, spelling-entry_at}
 
 -- bytes have one fault at most
 pub faults_agree : (offset : ℕ) (rest : List ℕ) (f g : RecordFault) → IsFaultOf offset rest f → IsFaultOf offset rest g → f ≡ g

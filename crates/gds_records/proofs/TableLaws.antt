@@ -1,14 +1,13 @@
 -- What the table has of a kind, and that the constants are the table, at the kinds' numbers.
-use Rattle.std.proofs.Common.{◌≡◌, ℕ, ◌%◌, ◌<◌, ◌≤◌, ◌⊎◌, inl, inr, true, List, get_or, refl, ap, subst, ◌∙◌, arith, Option, Some, None, map, nat_eq, nat_lt, Contains}
-use Rattle.lists.proofs.Words.{range_with_len, list_all, keys_of, eqb-true, ltb-true, nat_eq_equiv, get_or-map-range_with_len, All-contains, AllPass-from_list_all, IsDistinct-from_count}
-use Rattle.std.specs.List.{IsDistinct}
+use Rattle.std.proofs.Common.{◌≡◌, ℕ, ◌%◌, ◌<◌, ◌≤◌, ◌⊎◌, inl, inr, true, List, get_or, refl, ap, subst, ◌∙◌, arith, Option, Some, None, map, nat_lt, Contains}
+use Rattle.lists.proofs.Words.{range_with_len, list_all, ltb-true, get_or-map-range_with_len, All-contains, AllPass-from_list_all}
 use Rattle.std.proofs.lemmas.Bool.{cases_eq}
-use Rattle.std.proofs.lemmas.Map.Views.{Contains-from_lookup, lookup-from_Contains}
 use Rattle.gds_records.specs.declared.table.Rule.{Rule}
 use Rattle.gds_records.specs.declared.table.Sizes.{Sizes}
 use Rattle.gds_records.specs.declared.table.Sizes.TheVariants.{Any, Exactly, MultipleOfEight}
 use Rattle.gds_records.specs.declared.table.TheConstants.{RULES}
 use Rattle.gds_records.specs.Table.{table, rule_at, TakesForm, TakesSize, IsRuleFor, IsListed, IsPermitted}
+use Rattle.gds_records.proofs.laws.Rules.{listed_at, only_rule, rule_is_for}
 
 -- ---- the constants
 
@@ -26,16 +25,6 @@ unfolding table
 kinds_are_low = refl
 
 -- ---- one rule of a kind
-
-kinds_differ : IsDistinct nat_eq (keys_of table)
-unfolding table
-kinds_differ = IsDistinct-from_count nat_eq_equiv (keys_of table) refl
-
-pub listed_at : (k : ℕ) (rule : Rule) → rule_at k ≡ Some rule → Contains table (k, rule)
-listed_at k rule h = Contains-from_lookup eqb-true k rule table h
-
-pub only_rule : (k : ℕ) (rule : Rule) → Contains table (k, rule) → rule_at k ≡ Some rule
-only_rule k rule h = lookup-from_Contains nat_eq_equiv k rule table kinds_differ h
 
 none_above : (k : ℕ) (o : Option Rule) → 60 ≤ k → rule_at k ≡ o → None ≡ o
 none_above k None h e = refl
@@ -63,10 +52,6 @@ takes_size_or_not : (sizes : Sizes) (n : ℕ) → TakesSize sizes n ⊎ (TakesSi
 takes_size_or_not Any n = inl tt
 takes_size_or_not (Exactly m) n = cases_eq n m
 takes_size_or_not MultipleOfEight n = cases_eq (n % 8) 0
-
--- the rule of a kind is that of the kind and the form, or there is none
-pub rule_is_for : (k f : ℕ) (rule : Rule) → rule_at k ≡ Some rule → TakesForm rule.form f → IsRuleFor k f rule
-rule_is_for k f rule e takes = record { listed = listed_at k rule e; takes_form = takes }
 
 pub none_without_rule : (k f : ℕ) → rule_at k ≡ None → IsListed k f → ⊥
 none_without_rule k f e (rule, is) = cc (only_rule k rule is.listed)
@@ -97,15 +82,3 @@ permitted_or_not k f n =
       | inl (rule, is) ↦
           elim (takes_size_or_not rule.sizes n) [ inl takes ↦ inl (rule, is, takes) | inr refuses ↦ inr (not_permitted k f n rule is refuses) ]
     ]
-
--- what a row of the table permits
-pub permits_any : (k f n : ℕ) → rule_at k ≡ Some (record { form = Some f; sizes = Any }) → IsPermitted k f n
-permits_any k f n row = (record { form = Some f; sizes = Any }, rule_is_for k f (record { form = Some f; sizes = Any }) row refl, tt)
-
-pub permits_exactly : (k f n m : ℕ) → rule_at k ≡ Some (record { form = Some f; sizes = Exactly m }) → n ≡ m → IsPermitted k f n
-permits_exactly k f n m row same =
-    (record { form = Some f; sizes = Exactly m }, rule_is_for k f (record { form = Some f; sizes = Exactly m }) row refl, same)
-
-pub permits_multiple_of_eight : (k f n : ℕ) → rule_at k ≡ Some (record { form = Some f; sizes = MultipleOfEight }) → n % 8 ≡ 0 → IsPermitted k f n
-permits_multiple_of_eight k f n row whole =
-    (record { form = Some f; sizes = MultipleOfEight }, rule_is_for k f (record { form = Some f; sizes = MultipleOfEight }) row refl, whole)

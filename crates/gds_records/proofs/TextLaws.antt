@@ -1,6 +1,6 @@
--- A body has one text.
+-- how long the text of a body is, and where it ends
 use Rattle.std.proofs.Common.{◌≡◌, ◌≢◌, ℕ, suc, ◌+◌, ◌-◌, ◌<◌, ◌≤◌, inl, inr, List, [], ◌∷◌, ◌++◌, length, get_or, take, drop, All, refl, sym, ap, ◌∙◌, arith, take_all, length-append}
-use Rattle.lists.proofs.Words.{cases_lt, take_at, take_more, length-take-le, take-append-drop, get_or_append_left, get_or-take, get_or_push}
+use Rattle.lists.proofs.Words.{cases_lt, take_more, length-take-le, take-append-drop, get_or_append_left, get_or-take, get_or_push}
 use Rattle.std.proofs.lemmas.List.{get_or-append_right}
 use Rattle.gds_records.specs.Fields.{IsText}
 
@@ -13,7 +13,7 @@ last_of xs n len =
     sym all ∙ more
 
 -- no text is longer than another: its last byte would be among the zero bytes
-no_longer : (body text other : List ℕ) → IsText body text → IsText body other → length other ≤ length text
+pub no_longer : (body text other : List ℕ) → IsText body text → IsText body other → length other ≤ length text
 no_longer body text other t o =
     elim (cases_lt (length text) (length other)) [
       | inr le ↦ le
@@ -28,13 +28,6 @@ no_longer body text other t o =
           let zero_last : get_or other (length other - 1) 0 ≡ 0 = sym in_other ∙ in_zeros ∙ is_zero in
           absurd (o.no_zero_last (take (length other - 1) other) (last_of other (length other - 1) is_last ∙ ap (λ (b : ℕ). take (length other - 1) other ++ b ∷ []) zero_last))
     ]
-
-pub texts_agree : (body text other : List ℕ) → IsText body text → IsText body other → text ≡ other
-texts_agree body text other t o =
-    let a = no_longer body text other t o in
-    let b = no_longer body other text o t in
-    let len : length other ≡ length text = omega arith in
-    sym (take_at text t.zeros (length text) refl) ∙ ap (take (length text)) (sym t.parts ∙ o.parts) ∙ take_at other o.zeros (length text) len
 
 -- what is left before zero bytes, where it ends with none
 pub front_is_text : (body : List ℕ) (n : ℕ) → n ≤ length body → All (λ b. b ≡ 0) (drop n body) → (0 < n → get_or body (n - 1) 0 ≢ 0) → IsText body (take n body)

@@ -4,14 +4,14 @@ use Rattle.lists.proofs.Words.{flat_map, All-nil, All-cons}
 use Rattle.gds_records.specs.declared.kinds.TheConstants as kind
 use Rattle.library_grammar.specs.GrammarNames.{Reading, entry_of, Entry, ElementHolds, element_checks, IsElementFault, ElementForm, Opens, is_faulty, EndsOwnRecords, behind, IsKept, Place, among_own, behind_attribute, between_elements, next_place, kinds_of, IsOfKind, Property, property_records, IsProperty, ElementParts, IsElement, MayStand}
 use Rattle.gds_records.specs.declared.record.Record.{Record}
-use Rattle.gds_syntax.specs.LibraryReaders.{standing, IsAt, Advances, IsFirstBehind, ReadsOwn, ReadsOwnSoFar, ReadsProperties, ReadsElement}
+use Rattle.gds_syntax.specs.inside.LibraryReaders.{standing, IsAt, Advances, IsFirstBehind, ReadsOwn, ReadsOwnSoFar, ReadsProperties, ReadsElement}
 use Rattle.library_model.specs.declared.element.Element.{Element}
 use Rattle.library_grammar.specs.declared.fault.SyntaxFault.{SyntaxFault}
-use Rattle.library_grammar.proofs.StandLaws.{closing_is_quiet}
-use Rattle.library_grammar.proofs.PlaceLaws.{may_stand}
-use Rattle.library_grammar.proofs.PlaceRuns.{begins_property, ends_element}
+use Rattle.library_grammar.proofs.laws.Standing.{closing_is_quiet}
+use Rattle.library_grammar.proofs.laws.Places.{may_stand}
+use Rattle.library_grammar.proofs.laws.Forms.{begins_property, ends_element}
 use Rattle.gds_syntax.proofs.ReaderLaws.{Advances-append, IsAt-snoc, Takes-append, stops_showing, stops_there}
-use Rattle.library_grammar.proofs.NextRecords.{AreNamesIn-snoc}
+use Rattle.library_grammar.proofs.laws.NextRecords.{AreNamesIn-snoc}
 
 -- a reader goes on by that record
 pub closing_further : {old new : Reading} {form : ElementForm} {own : List Entry} {closing : Record} (to : Place) → ReadsOwnSoFar old new form own closing

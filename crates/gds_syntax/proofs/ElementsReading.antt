@@ -5,14 +5,13 @@ use Rattle.gds_records.specs.declared.kinds.TheConstants as kind
 use Rattle.library_grammar.specs.GrammarNames.{IsOfKind, Place, IsKept, Reading, entry_of, Entry, ElementForm, Opens, element_forms, ElementParts, element_records, IsElement, behind, SayElements, among_own, behind_strname, between_elements, between_structures, form_of, into_element, next_place, IsPlain}
 use Rattle.gds_records.specs.declared.record.Record.{Record}
 use Rattle.library_grammar.specs.Libraries.{no_more, one_more}
-use Rattle.gds_syntax.specs.LibraryReaders.{IsElementAt, AreElements, TakesRecord, standing, IsAt, IsFirstBehind, Advances, Stops, ReadsElement, ReadsElements, ReadsElementsSoFar}
+use Rattle.gds_syntax.specs.inside.LibraryReaders.{IsElementAt, AreElements, TakesRecord, standing, IsAt, IsFirstBehind, Advances, Stops, ReadsElement, ReadsElements, ReadsElementsSoFar}
 use Rattle.library_model.specs.declared.element.Element.{Element}
 use Rattle.library_grammar.specs.declared.fault.SyntaxFault.{SyntaxFault}
 use Rattle.library_grammar.specs.declared.fault.SyntaxFault.TheVariants.{Unexpected}
-use Rattle.library_grammar.proofs.PlaceEndings.{found_form}
-use Rattle.library_grammar.proofs.PlainKinds.{plain, opening_is_plain}
+use Rattle.library_grammar.proofs.laws.Forms.{found_form, plain, opening_is_plain}
 use Rattle.gds_syntax.proofs.ReaderLaws.{Advances-none, Advances-append, advances_plain, advances_kind, stops_later, stops_there, stops_unexpected}
-use Rattle.library_grammar.proofs.NextRecords.{behind-append}
+use Rattle.library_grammar.proofs.laws.NextRecords.{behind-append}
 
 -- no element yet, behind the class of a structure or without one
 begins_at : {old mid new : Reading} {found : Record} (class : Option Entry) (place : Place) → IfSome class (IsOfKind kind.STRCLASS) → next_place place found.kind ≡ into_element found.kind

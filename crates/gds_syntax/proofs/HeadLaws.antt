@@ -4,11 +4,9 @@ use Rattle.lists.proofs.Words.{All-push, ne_eqb, eq-eqb, All-nil, All-take, take
 use Rattle.library_grammar.specs.GrammarNames.{IsText, Reading, entry_of, AreBytes, IsByte, Place, before_header, before_bgnlib, before_name, before_units, between_structures, has_kind, next_place, head_kinds}
 use Rattle.gds_records.specs.declared.kinds.TheConstants as kind
 use Rattle.gds_records.specs.declared.record.Record.{Record}
-use Rattle.gds_syntax.specs.LibraryReaders.{TakesRecord, Standing, standing, Advances, Stops, IsHeadPlace, ReadsHeadSoFar, ReadsHeadRecords, ReadsHead}
+use Rattle.gds_syntax.specs.inside.LibraryReaders.{TakesRecord, Standing, standing, Advances, Stops, IsHeadPlace, ReadsHeadSoFar, ReadsHeadRecords, ReadsHead}
 use Rattle.library_grammar.specs.declared.fault.SyntaxFault.TheVariants.{Unexpected}
-use Rattle.library_grammar.proofs.PlaceEndings.{contains_kind}
-use Rattle.library_grammar.proofs.PlaceRuns.{has_contained}
-use Rattle.library_grammar.proofs.PlainKinds.{plain, head_is_plain}
+use Rattle.library_grammar.proofs.laws.Forms.{contains_kind, has_contained, plain, head_is_plain}
 use Rattle.gds_syntax.proofs.ReaderLaws.{is_false, Advances-none, Advances-append, advances_plain, advances_kind, stops_later, stops_unexpected}
 
 -- the first record behind the beginning

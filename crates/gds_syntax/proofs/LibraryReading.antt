@@ -2,12 +2,12 @@
 use Rattle.std.proofs.Common.{◌≡◌, ℕ, List, [], ◌∷◌, ◌++◌, refl, ap, subst, ◌∙◌}
 use Rattle.lists.proofs.Words.{append-nil}
 use Rattle.library_grammar.specs.GrammarNames.{value, refused, Reading, start_of, Entry, AreBytes, End, whole, Splits, BytesComeTo, are_library, have_fault, NoneShows, LibraryParts, library_head, behind, SayStructures, IsLibrary, before_header}
-use Rattle.gds_records.proofs.SplitLaws.{all_bytes_split}
-use Rattle.gds_syntax.specs.LibraryReaders.{standing, IsAt, Stops, ReadsHead, ReadsStructures}
+use Rattle.gds_records.proofs.laws.Splits.{all_bytes_split}
+use Rattle.gds_syntax.specs.inside.LibraryReaders.{standing, IsAt, Stops, ReadsHead, ReadsStructures}
 use Rattle.library_grammar.specs.declared.fault.SyntaxFault.{SyntaxFault}
 use Rattle.library_model.specs.declared.library.Library.{Library}
 use Rattle.library_model.specs.declared.library.Structure.{Structure}
-use Rattle.library_grammar.proofs.StandLaws.{starts as nothing_behind}
+use Rattle.library_grammar.proofs.laws.Standing.{starts as nothing_behind}
 
 -- the reader begins where no records are behind it
 pub starts : (bytes : List ℕ) → IsAt (start_of bytes) [] (standing before_header [])

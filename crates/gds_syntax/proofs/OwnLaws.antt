@@ -4,9 +4,8 @@ use Rattle.lists.proofs.Words.{Decides-eqb, Contains-append_right, Contains-appe
 use Rattle.std.specs.List.{IsAnyAnswer}
 use Rattle.std.proofs.lemmas.List.Elements.{contains_decides, Decides-contains}
 use Rattle.library_grammar.specs.GrammarNames.{Entry, field, has_kind, kinds_of}
-use Rattle.library_grammar.proofs.FieldRanges.{has_kind-field}
-use Rattle.library_grammar.proofs.PlaceEndings.{contains_kind}
-use Rattle.library_grammar.proofs.PlaceRuns.{has_contained}
+use Rattle.library_grammar.proofs.laws.Fields.{has_kind-field}
+use Rattle.library_grammar.proofs.laws.Forms.{contains_kind, has_contained}
 
 -- what a slice answers where it is asked for a number
 pub contains_as_asked : (kinds : List ℕ) (k : ℕ) (b : Bool) → IsAnyAnswer (λ y t. (y == k) ≡ t) kinds b → IsTrue b ↔ Contains kinds k

@@ -6,14 +6,11 @@ use Rattle.lists.proofs.Differing.{different_more}
 use Rattle.gds_records.specs.declared.kinds.TheConstants as kind
 use Rattle.gds_records.specs.declared.record.Record.{Record}
 use Rattle.gds_syntax.specs.inside.ElementKinds.{form_for}
-use Rattle.gds_syntax.specs.LibraryReaders.{TakesRecord, standing, Advances, Stops, ReadsOwnSoFar, IsReady}
+use Rattle.gds_syntax.specs.inside.LibraryReaders.{TakesRecord, standing, Advances, Stops, ReadsOwnSoFar, IsReady}
 use Rattle.gds_syntax.specs.declared.element_kind.ElementKind.{ElementKind}
 use Rattle.gds_syntax.specs.declared.element_kind.ElementKind.TheVariants.{Boundary, Path, Sref, Aref, Text, Node, BoxElement}
 use Rattle.library_grammar.specs.declared.fault.SyntaxFault.TheVariants.{Unexpected}
-use Rattle.library_grammar.proofs.PartsAgree.{own_ends_no_library}
-use Rattle.library_grammar.proofs.PlaceEndings.{contains_kind}
-use Rattle.library_grammar.proofs.PlaceRuns.{has_contained}
-use Rattle.library_grammar.proofs.PlainKinds.{own_is_plain}
+use Rattle.library_grammar.proofs.laws.Forms.{own_ends_no_library, contains_kind, has_contained, own_is_plain}
 use Rattle.gds_syntax.proofs.ReaderLaws.{is_false, Advances-none, Advances-append, advances_plain, stops_later, stops_unexpected}
 
 -- the kinds of one record more

@@ -4,12 +4,11 @@ use Rattle.lists.proofs.Words.{eqb-false, All-push, ne_eqb, flat_map, flat_map-a
 use Rattle.gds_records.specs.declared.kinds.TheConstants as kind
 use Rattle.library_grammar.specs.GrammarNames.{Reading, entry_of, Entry, ElementForm, Shows, may_not_stand, repeats, is_faulty, EndsOwnRecords, kinds_of, Property, property_records, IsProperty, Place, before_header, among_own, behind_attribute, behind_property, between_elements, next_place, place_behind}
 use Rattle.gds_records.specs.declared.record.Record.{Record}
-use Rattle.gds_syntax.specs.LibraryReaders.{TakesRecord, standing, Advances, Stops, ReadsPropertiesSoFar, ReadsProperties}
+use Rattle.gds_syntax.specs.inside.LibraryReaders.{TakesRecord, standing, Advances, Stops, ReadsPropertiesSoFar, ReadsProperties}
 use Rattle.library_grammar.specs.declared.fault.SyntaxFault.{SyntaxFault}
 use Rattle.library_grammar.specs.declared.fault.SyntaxFault.TheVariants.{Unexpected}
-use Rattle.library_grammar.proofs.OwnPlaces.{own_place}
-use Rattle.library_grammar.proofs.PlaceLaws.{may_stand}
-use Rattle.library_grammar.proofs.PlainKinds.{plain}
+use Rattle.library_grammar.proofs.laws.Places.{own_place, may_stand}
+use Rattle.library_grammar.proofs.laws.Forms.{plain}
 use Rattle.gds_syntax.proofs.ReaderLaws.{Advances-append, advances_by, advances_kind, stops_later, stops_unexpected}
 
 -- no own records end behind a property

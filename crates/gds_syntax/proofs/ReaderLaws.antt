@@ -10,11 +10,12 @@ use Rattle.library_grammar.specs.GrammarNames.{Reading, IsLeft, IsGivenOrLeft, M
 use Rattle.gds_records.specs.declared.fault.RecordFault.{RecordFault}
 use Rattle.gds_records.specs.declared.record.Record.{Record}
 use Rattle.library_grammar.specs.FirstFault.{may_not_stand as shows_unexpected}
-use Rattle.gds_syntax.specs.LibraryReaders.{Takes, TakesRecord, Standing, standing, IsAt, IsFirstBehind, Advances, Stops, IsReady, most_bytes}
+use Rattle.gds_syntax.specs.inside.LibraryReaders.{Takes, TakesRecord, Standing, standing, IsAt, IsFirstBehind, Advances, Stops, IsReady}
+use Rattle.gds_syntax.specs.StreamLimits.{most_bytes}
 use Rattle.library_grammar.specs.declared.fault.SyntaxFault.{SyntaxFault}
 use Rattle.library_grammar.specs.declared.fault.SyntaxFault.TheVariants.{Record as record_fault, Unexpected, Memory}
-use Rattle.library_grammar.proofs.PlaceLaws.{may_not_stand}
-use Rattle.library_grammar.proofs.NextRecords.{behind-append, NoneShows-snoc, AreNamesIn-snoc, place_after, plain_shows_nothing}
+use Rattle.library_grammar.proofs.laws.Places.{may_not_stand}
+use Rattle.library_grammar.proofs.laws.NextRecords.{behind-append, NoneShows-snoc, AreNamesIn-snoc, place_after, plain_shows_nothing}
 
 -- a reader that moved past a record took it
 pub takes_one : (old new : Reading) (r : Record) → MovesPast old new r

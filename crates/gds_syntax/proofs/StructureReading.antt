@@ -3,14 +3,14 @@ use Rattle.std.proofs.Common.{◌≡◌, ℕ, ◌≤◌, List, [], ◌∷◌, �
 use Rattle.library_grammar.specs.GrammarNames.{IsText, Reading, entry_of, Entry, repeats, behind, SayElements, before_strname, behind_strname, next_place, IsOfKind}
 use Rattle.gds_records.specs.declared.kinds.TheConstants as kind
 use Rattle.gds_records.specs.declared.record.Record.{Record}
-use Rattle.gds_syntax.specs.LibraryReaders.{TakesRecord, standing, Advances, Stops, ReadsElements, ReadsStructure}
+use Rattle.gds_syntax.specs.inside.LibraryReaders.{TakesRecord, standing, Advances, Stops, ReadsElements, ReadsStructure}
 use Rattle.library_model.specs.declared.element.Element.{Element}
 use Rattle.library_grammar.specs.declared.fault.SyntaxFault.TheVariants.{RepeatedStructure}
 use Rattle.library_model.specs.declared.library.Structure.{Structure}
 use Rattle.gds_syntax.proofs.ElementsReading.{forward}
-use Rattle.library_grammar.proofs.PlaceLaws.{may_stand}
+use Rattle.library_grammar.proofs.laws.Places.{may_stand}
 use Rattle.gds_syntax.proofs.ReaderLaws.{Advances-append, IsAt-snoc, stops_showing}
-use Rattle.library_grammar.proofs.NextRecords.{behind-append, AreNamesIn-named, new_name_is_quiet}
+use Rattle.library_grammar.proofs.laws.NextRecords.{behind-append, AreNamesIn-named, new_name_is_quiet}
 
 -- a reader goes on by the name of a structure
 pub name_further : {old mid : Reading} {found : Record} (names : List (List ℕ)) (text : List ℕ) → TakesRecord old mid found → found.kind ≡ kind.STRNAME → IsText found.body.now text

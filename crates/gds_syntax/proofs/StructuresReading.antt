@@ -5,13 +5,14 @@ use Rattle.gds_records.specs.declared.kinds.TheConstants as kind
 use Rattle.library_grammar.specs.GrammarNames.{Reading, entry_of, Entry, StructureParts, structure_records, IsStructure, behind, SaysStructure, SayStructures, between_structures, before_strname, behind_endlib, next_place}
 use Rattle.gds_records.specs.declared.record.Record.{Record}
 use Rattle.library_grammar.specs.Libraries.{no_more, one_more}
-use Rattle.gds_syntax.specs.LibraryReaders.{IsStructureAt, AreStructures, TakesRecord, standing, Advances, Stops, IsReady, most_bytes, ReadsStructure, ReadsStructures, ReadsStructuresSoFar}
+use Rattle.gds_syntax.specs.inside.LibraryReaders.{IsStructureAt, AreStructures, TakesRecord, standing, Advances, Stops, IsReady, ReadsStructure, ReadsStructures, ReadsStructuresSoFar}
+use Rattle.gds_syntax.specs.StreamLimits.{most_bytes}
 use Rattle.library_grammar.specs.declared.fault.SyntaxFault.TheVariants.{Unexpected}
 use Rattle.library_model.specs.declared.library.Structure.{Structure}
 use Rattle.gds_syntax.proofs.ElementsReading.{few_more, forward}
-use Rattle.library_grammar.proofs.PlainKinds.{plain}
+use Rattle.library_grammar.proofs.laws.Forms.{plain}
 use Rattle.gds_syntax.proofs.ReaderLaws.{Advances-none, Advances-append, advances_kind, stops_later, stops_unexpected}
-use Rattle.library_grammar.proofs.NextRecords.{behind-append}
+use Rattle.library_grammar.proofs.laws.NextRecords.{behind-append}
 
 -- no structure yet
 pub structures_begin : {old new : Reading} {found : Record} → TakesRecord old new found → ReadsStructuresSoFar old new [] [] found

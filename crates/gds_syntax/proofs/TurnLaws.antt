@@ -6,7 +6,7 @@ use Rattle.std.proofs.lemmas.Nat.Bits.{and_pow}
 use Rattle.first_refusal.proofs.CheckLaws.{fails_at_once, fails_later}
 use Rattle.gds_records.specs.declared.kinds.TheConstants as kind
 use Rattle.library_grammar.specs.GrammarNames.{HasValue, Entry, IsFaultOfFirst, ElementCheck, ElementHolds, reference_checks, is_not_magnified, angle_is_not_absolute, turns_by_quarters, field, unsigned_of, HasQuarters, HasAbsoluteAngle}
-use Rattle.gds_records.proofs.RealLaws.{values_agree}
+use Rattle.gds_records.proofs.laws.Reals.{values_agree}
 use Rattle.gds_syntax.proofs.CheckLaws.{fault_of}
 use Rattle.gds_syntax.specs.inside.Quarters.{AreQuarters, ComesTo, IsAngle}
 use Rattle.library_grammar.specs.declared.fault.SyntaxFault.TheVariants.{Magnified, AbsoluteAngle, BadAngle}

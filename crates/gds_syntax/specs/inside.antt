@@ -1,2 +1,3 @@
 pub mod ElementKinds
+pub mod LibraryReaders
 pub mod Quarters

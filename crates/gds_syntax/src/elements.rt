@@ -6,7 +6,7 @@ ghost use Rattle.library_grammar.specs.ElementForms.{Opens};
 ghost use Rattle.gds_syntax.specs.inside.ElementKinds.{form_for};
 ghost use Rattle.library_grammar.specs.Libraries.{behind};
 ghost use Rattle.library_grammar.specs.Places.{among_own, behind_attribute, behind_strname};
-ghost use Rattle.gds_syntax.specs.LibraryReaders.{IsAt, IsFirstBehind, IsReady, ReadsElement, ReadsElements, ReadsElementsSoFar, ReadsOrStops, ReadsOwn, ReadsProperties, Stops, StopsAt, standing};
+ghost use Rattle.gds_syntax.specs.inside.LibraryReaders.{IsAt, IsFirstBehind, IsReady, ReadsElement, ReadsElements, ReadsElementsSoFar, ReadsOrStops, ReadsOwn, ReadsProperties, Stops, StopsAt, standing};
 
 use super::element_kind::ElementKind;
 use super::kept::kept_of;

@@ -2,7 +2,7 @@ ghost use Rattle.std.specs.Prelude.{◌≡◌, ◌↔◌, [], IsTrue, Contains, 
 ghost use Rattle.first_refusal.specs.Answers.{Answers};
 ghost use Rattle.lists.specs.ByteLists.{AreBytes};
 ghost use Rattle.library_grammar.specs.Places.{Place, before_header};
-ghost use Rattle.gds_syntax.specs.LibraryReaders.{IsHeadPlace, IsReady, ReadsHead, ReadsHeadRecords, ReadsOrStops, Standing, Stops, standing};
+ghost use Rattle.gds_syntax.specs.inside.LibraryReaders.{IsHeadPlace, IsReady, ReadsHead, ReadsHeadRecords, ReadsOrStops, Standing, Stops, standing};
 ghost use Rattle.library_grammar.specs.Grammar.{head_kinds};
 
 use super::records::{expect, next_record, unexpected};

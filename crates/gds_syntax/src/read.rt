@@ -4,7 +4,7 @@ ghost use Rattle.library_grammar.specs.FirstFault.{BytesComeTo};
 ghost use Rattle.lists.specs.Differing.{AreDifferent};
 ghost use Rattle.library_model.specs.Names.{names_of};
 ghost use Rattle.library_model.specs.Points.{AreWellPointed};
-ghost use Rattle.gds_syntax.specs.LibraryReaders.{most_bytes};
+ghost use Rattle.gds_syntax.specs.StreamLimits.{most_bytes};
 
 use super::head::{Head, read_head};
 use super::structures::read_structures;

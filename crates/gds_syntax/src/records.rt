@@ -3,7 +3,7 @@ ghost use Rattle.gds_records.specs.declared.kinds.TheConstants as kind;
 ghost use Rattle.gds_records.specs.Reading.{entry_of};
 ghost use Rattle.gds_records.specs.RecordSpelling.{Entry};
 ghost use Rattle.library_grammar.specs.Places.{next_place};
-ghost use Rattle.gds_syntax.specs.LibraryReaders.{IsReady, Standing, Stops, TakesRecord};
+ghost use Rattle.gds_syntax.specs.inside.LibraryReaders.{IsReady, Standing, Stops, TakesRecord};
 ghost use Rattle.library_grammar.specs.Grammar.{head_kinds};
 
 use gds_records::{Record, Records, kinds};

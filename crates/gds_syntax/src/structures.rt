@@ -5,7 +5,7 @@ ghost use Rattle.library_grammar.specs.Grammar.{IsOfKind};
 ghost use Rattle.library_grammar.specs.Libraries.{behind};
 ghost use Rattle.gds_records.specs.declared.kinds.TheConstants as kind;
 ghost use Rattle.library_grammar.specs.Places.{before_strname, between_structures};
-ghost use Rattle.gds_syntax.specs.LibraryReaders.{IsReady, ReadsOrStops, ReadsStructure, ReadsStructures, Stops, standing};
+ghost use Rattle.gds_syntax.specs.inside.LibraryReaders.{IsReady, ReadsOrStops, ReadsStructure, ReadsStructures, Stops, standing};
 
 use super::elements::read_elements;
 use super::own_records::OwnRecords;

@@ -2,7 +2,8 @@
 use Rattle.std.proofs.Common.{◌≡◌, ℕ, Bool, List, All, Contains, Option, Some, None, refl, arith, length, true, nat_eq}
 use Rattle.lists.proofs.Words.{list_all, list_any}
 use Rattle.std.specs.Set.{distinct_count}
-use Rattle.library_grammar.specs.GrammarNames.{AreDifferent, HasItsPoints, Entry, ElementHolds, element_checks, ElementForm, boundary_form, path_form, sref_form, aref_form, box_form, element_forms, own_kinds, Opens, IsKept, kinds_of}
+use Rattle.library_grammar.specs.GrammarNames.{AreDifferent, HasItsPoints, Entry, ElementHolds, element_checks, ElementForm, boundary_form, path_form, sref_form, aref_form, box_form, element_forms}
+use Rattle.library_grammar.specs.GrammarNames.{own_kinds, Opens, IsKept, kinds_of}
 use Rattle.library_model.specs.declared.element.Element.{Element}
 use Rattle.library_model.specs.declared.element.Element.TheVariants.{Shape as shape_element, Reference as reference_element}
 use Rattle.library_model.specs.declared.element.Lattice.{Lattice}
@@ -12,9 +13,9 @@ use Rattle.library_model.specs.declared.element.ShapeKind.{ShapeKind}
 use Rattle.library_model.specs.declared.element.ShapeKind.TheVariants.{Boundary, BoxElement, Path}
 use Rattle.gds_write.specs.WellFormed.{IsWritableElement, IsWritableReference}
 use Rattle.gds_write.specs.Written.{opening_of_shape, opening_of_reference, opening_of, own_of}
-use Rattle.gds_write.proofs.FieldLaws.{written_of, part_kinds, all_differ, all_among}
-use Rattle.gds_write.proofs.ReferenceLaws.{reference_own, reference_parts, reference_written, reference_at, sref_kept, sref_holds, aref_kept, aref_holds}
-use Rattle.gds_write.proofs.ShapeLaws.{form_of_shape, shape_own, shape_parts, shape_written, shape_at, shape_kept, shape_holds}
+use Rattle.gds_write.proofs.ReferenceLaws.{reference_at, aref_holds, aref_kept, reference_own, reference_parts, reference_written, sref_holds, sref_kept}
+use Rattle.gds_write.proofs.ShapeLaws.{shape_at, form_of_shape, shape_holds, shape_kept, shape_own, shape_parts, shape_written}
+use Rattle.gds_write.proofs.FieldLaws.{all_among, all_differ, part_kinds, written_of}
 
 -- an element that begins at another offset
 abbrev pub element_at : ℕ → Element → Element

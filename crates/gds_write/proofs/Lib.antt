@@ -9,5 +9,4 @@ pub mod ReferenceLaws
 pub mod ElementLaws
 pub mod ReadLaws
 pub mod QuietLaws
-pub mod WrittenLaws
 pub mod ReadWellFormed

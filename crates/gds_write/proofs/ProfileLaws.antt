@@ -1,5 +1,6 @@
 -- Each record that is written has a spelling and stands in the table.
-use Rattle.std.proofs.Common.{◌≡◌, ℕ, zero, suc, ◌*◌, ◌%◌, ◌<◌, ◌≤◌, ℤ, Bool, true, false, ◌==◌, if◌then◌else◌, List, [], ◌∷◌, ◌++◌, length, refl, sym, arith, Option, Some, None, length-append, w16, w32, ◌||◌, not}
+use Rattle.std.proofs.Common.{◌≡◌, ℕ, zero, suc, ◌*◌, ◌%◌, ◌<◌, ◌≤◌, ℤ, Bool, true, false, ◌==◌, if◌then◌else◌, List, [], ◌∷◌, ◌++◌, length, refl, sym, arith, Option, Some, None, length-append, w16}
+use Rattle.std.proofs.Common.{w32, ◌||◌, not}
 use Rattle.lists.proofs.Words.{cast_unsigned, flat_map, eqb-true, eqb-false, append-nil, All-append, All-cons}
 use Rattle.std.specs.Int.{byte_at}
 use Rattle.std.proofs.lemmas.List.Elements.{All-replicate}
@@ -9,7 +10,7 @@ use Rattle.library_grammar.specs.GrammarNames.{IsText, IsInProfile, IsByte, AreB
 use Rattle.gds_records.specs.declared.forms.TheConstants as form
 use Rattle.gds_records.specs.declared.kinds.TheConstants as kind
 use Rattle.gds_records.specs.Table.{table}
-use Rattle.gds_records.proofs.TableLaws.{permits_any, permits_exactly, permits_multiple_of_eight}
+use Rattle.gds_records.proofs.laws.Rules.{permits_any, permits_exactly, permits_multiple_of_eight}
 use Rattle.geo_core.specs.declared.plane.Turn.{Turn}
 use Rattle.library_model.specs.declared.element.Element.{Element}
 use Rattle.library_model.specs.declared.element.Element.TheVariants.{Shape as shape_element, Reference as reference_element}
@@ -21,9 +22,10 @@ use Rattle.library_model.specs.declared.element.ShapeKind.TheVariants.{Boundary,
 use Rattle.library_model.specs.declared.library.Library.{Library}
 use Rattle.library_model.specs.declared.library.Structure.{Structure}
 use Rattle.gds_write.specs.Bodies.{entry, bare, padded, text_entry, unsigned_entry, long_bytes, long_entry, short_entry, date_entry, point_bytes, points_entry, is_not_zero}
-use Rattle.gds_write.proofs.Every.{Every, none, more, one, both, each_part, maybe}
 use Rattle.gds_write.specs.WellFormed.{IsWritableName, IsWritableShape, IsWritableReference, IsWritableElement, IsWritableStructure, IsWellFormed}
-use Rattle.gds_write.specs.Written.{opening_of_shape, datatype_kind, path_records, own_of_shape, strans_entry, angle_bits, angle_entry, turn_records, array_points, placing_records, own_of_reference, opening_of_reference, written_element, written_structure, written}
+use Rattle.gds_write.specs.Written.{opening_of_shape, datatype_kind, path_records, own_of_shape, strans_entry, angle_bits, angle_entry, turn_records, array_points, placing_records, own_of_reference}
+use Rattle.gds_write.specs.Written.{opening_of_reference, written_element, written_structure, written}
+use Rattle.gds_write.proofs.Every.{Every, both, maybe, one, each_part}
 
 -- ---- bytes
 

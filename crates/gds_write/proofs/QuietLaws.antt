@@ -3,19 +3,19 @@ use Rattle.std.proofs.Common.{◌≡◌, ℕ, List, [], ◌∷◌, ◌++◌, All
 use Rattle.lists.proofs.Words.{append-nil, flat_map, All-head, All-tail, All-from_recursion}
 use Rattle.lists.proofs.Differing.{different_apart}
 use Rattle.gds_records.specs.declared.kinds.TheConstants as kind
-use Rattle.library_grammar.specs.GrammarNames.{AreDifferent, Entry, ElementForm, element_forms, NoneShows, names_of, IsPlain, Place, among_own, before_header, behind_strname, between_elements, between_structures, behind_endlib, before_strname, next_place}
+use Rattle.library_grammar.specs.GrammarNames.{AreDifferent, Entry, ElementForm, element_forms, NoneShows, names_of, IsPlain, Place, among_own, before_header, behind_strname, between_elements}
+use Rattle.library_grammar.specs.GrammarNames.{between_structures, behind_endlib, before_strname, next_place}
 use Rattle.library_model.specs.declared.element.Element.{Element}
 use Rattle.library_model.specs.declared.library.Library.{Library}
 use Rattle.library_model.specs.declared.library.Structure.{Structure}
 use Rattle.gds_write.specs.Bodies.{bare, date_entry, text_entry}
 use Rattle.gds_write.specs.WellFormed.{IsWritableElement, IsWritableStructure, IsWellFormed}
 use Rattle.gds_write.specs.Written.{written_element, written_structure, written_head, written}
+use Rattle.library_grammar.proofs.laws.Forms.{begins_element, begins_first, plain}
+use Rattle.library_grammar.proofs.laws.Standing.{GoesOn, starts, goes_further, goes_plainly, goes_named, goes_element}
+use Rattle.gds_write.proofs.ReadLaws.{element_in_grammar, element_parts}
 use Rattle.gds_write.proofs.ElementLaws.{element_reads}
 use Rattle.gds_write.proofs.ProfileLaws.{padded_fills}
-use Rattle.gds_write.proofs.ReadLaws.{element_parts, element_in_grammar}
-use Rattle.library_grammar.proofs.PlaceRuns.{begins_element, begins_first}
-use Rattle.library_grammar.proofs.PlainKinds.{plain}
-use Rattle.library_grammar.proofs.StandLaws.{GoesOn, starts, goes_further, goes_plainly, goes_named, goes_element}
 
 -- one plain record
 goes_by_one : (k : ℕ) (e : Entry) (from to : Place) (names : List (List ℕ)) → e.kind ≡ k → IsPlain k → next_place from k ≡ Some to → GoesOn from names (e ∷ []) to names

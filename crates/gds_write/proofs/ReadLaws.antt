@@ -4,7 +4,8 @@ use Rattle.lists.proofs.Words.{flat_map, AllZip, All-nil, All-cons, All-head, Al
 use Rattle.lists.proofs.Mapping.{flat_map-map, flat_map-same}
 use Rattle.gds_records.specs.declared.forms.TheConstants as form
 use Rattle.gds_records.specs.declared.kinds.TheConstants as kind
-use Rattle.library_grammar.specs.GrammarNames.{Entry, own_kinds, kinds_of, head_kinds, IsProperty, ElementParts, element_records, IsElement, StructureParts, structure_head, structure_records, IsStructure, LibraryParts, library_records, IsInShape, behind, SayElements, SayStructures, IsLibrary}
+use Rattle.library_grammar.specs.GrammarNames.{Entry, own_kinds, kinds_of, head_kinds, IsProperty, ElementParts, element_records, IsElement, StructureParts, structure_head, structure_records}
+use Rattle.library_grammar.specs.GrammarNames.{IsStructure, LibraryParts, library_records, IsInShape, behind, SayElements, SayStructures, IsLibrary}
 use Rattle.library_grammar.specs.Libraries.{no_more as no_elements, one_more as one_element, no_more as no_structures, one_more as one_structure}
 use Rattle.library_model.specs.declared.element.Element.{Element}
 use Rattle.library_model.specs.declared.element.Element.TheVariants.{Shape as shape_element, Reference as reference_element}
@@ -14,7 +15,7 @@ use Rattle.gds_write.specs.Bodies.{entry, bare, date_entry, text_entry, unsigned
 use Rattle.gds_write.specs.SameLibrary.{IsSameElement, shapes, references, IsSameStructure, IsSameButOffsets}
 use Rattle.gds_write.specs.WellFormed.{IsWritableElement, IsWritableStructure, IsWellFormed}
 use Rattle.gds_write.specs.Written.{opening_of, own_of, written_element, written_structure, written_head, written}
-use Rattle.gds_write.proofs.ElementLaws.{element_at, element_reads, form_of_element}
+use Rattle.gds_write.proofs.ElementLaws.{form_of_element, element_reads, element_at}
 use Rattle.gds_write.proofs.ProfileLaws.{padded_fills}
 
 -- what holds of each kind holds of each record of that kind

@@ -1,7 +1,10 @@
--- A library that was read is well formed, so that it can be written.
-use Rattle.std.proofs.Common.{◌≡◌, ℕ, ℤ, pos, ◌+ℤ◌, ◌*ℤ◌, ◌+◌, ◌≤◌, List, [], ◌∷◌, ◌++◌, length, All, Option, Some, None, IfSome, sym, ap, subst, ◌∙◌, arith, FitsSigned, IfOk, Result, Ok, Err, option_to_list, w32, length-append}
+-- The parts of a library that bytes come to are well formed.
+use Rattle.std.proofs.Common.{◌≡◌, ℕ, ℤ, pos, ◌+ℤ◌, ◌*ℤ◌, ◌+◌, ◌≤◌, List, [], ◌∷◌, ◌++◌, length, All, Option, Some, None, IfSome, sym, ap, subst, ◌∙◌, arith, FitsSigned, option_to_list, w32}
+use Rattle.std.proofs.Common.{length-append}
 use Rattle.lists.proofs.Words.{All-weaker, All-nil, All-cons, All-head, All-tail, All-same, flat_map}
-use Rattle.library_grammar.specs.GrammarNames.{value, IsText, IsInProfile, Entry, IsKept, boundary, path, sref, aref, box, IsReference, IsLattice, BytesComeTo, are_library, property_records, ElementParts, element_records, StructureParts, structure_head, structure_records, library_head, library_records, SayElements, SaysStructure, SayStructures, body_of, point_in, points_of, Leads, HasItsPoints, IsWellPointed, AreWellPointed, IsPoint, ArePoints}
+use Rattle.library_grammar.specs.GrammarNames.{value, IsText, IsInProfile, Entry, IsKept, boundary, path, sref, aref, box, IsReference, IsLattice, BytesComeTo, are_library, property_records}
+use Rattle.library_grammar.specs.GrammarNames.{ElementParts, element_records, StructureParts, structure_head, structure_records, library_head, library_records, SayElements, SaysStructure}
+use Rattle.library_grammar.specs.GrammarNames.{SayStructures, body_of, point_in, points_of, Leads, HasItsPoints, IsWellPointed, AreWellPointed, IsPoint, ArePoints}
 use Rattle.geo_core.specs.declared.plane.Point.{Point}
 use Rattle.gds_records.specs.declared.kinds.TheConstants as kind
 use Rattle.library_grammar.specs.Libraries.{no_more as no_elements, one_more as one_element, no_more as no_structures, one_more as one_structure}
@@ -9,15 +12,13 @@ use Rattle.library_model.specs.declared.element.Element.{Element}
 use Rattle.library_model.specs.declared.element.Lattice.{Lattice}
 use Rattle.library_model.specs.declared.element.Reference.{Reference}
 use Rattle.library_model.specs.declared.element.Shape.{Shape}
-use Rattle.library_grammar.specs.declared.fault.SyntaxFault.{SyntaxFault}
-use Rattle.library_grammar.specs.declared.fault.SyntaxFault.TheVariants.{Memory}
-use Rattle.first_refusal.specs.Answers.{Answers, gives}
 use Rattle.library_model.specs.declared.library.Library.{Library}
 use Rattle.library_model.specs.declared.library.Structure.{Structure}
 use Rattle.lists.proofs.Containing.{All-front, All-back}
-use Rattle.library_grammar.proofs.FieldRanges.{body_has}
-use Rattle.library_grammar.proofs.LibraryFacts.{with_kept, library_names_differ, library_is_pointed}
-use Rattle.library_grammar.proofs.PointLaws.{point_fits, length-points_of}
+use Rattle.library_grammar.proofs.laws.Fields.{body_has}
+use Rattle.library_grammar.proofs.laws.Kept.{with_kept}
+use Rattle.library_grammar.proofs.laws.Libraries.{library_names_differ, library_is_pointed}
+use Rattle.library_grammar.proofs.laws.Points.{point_fits, length-points_of}
 use Rattle.gds_write.specs.WellFormed.{IsWritableName, IsWritableShape, IsWritableReference, IsWritableElement, IsWritableStructure, IsWellFormed}
 use Rattle.gds_write.specs.Written.{array_points, moved_by}
 
@@ -144,8 +145,3 @@ come_to_well_formed bytes library comes = of_library bytes library comes comes
           structures = structures_are_writable _ l.structures library.structures is.says.structures (All-front IsInProfile structures (l.last ∷ []) rest)
               (library_is_pointed bytes library comes);
         }
-
--- what a reader answers is a well-formed library, where it is one
-pub read_is_well_formed : (bytes : List ℕ) (result : Result Library SyntaxFault) → Answers Memory (BytesComeTo bytes) result → IfOk result IsWellFormed
-read_is_well_formed bytes (Ok library) (gives comes) = come_to_well_formed bytes library comes
-read_is_well_formed bytes (Err fault) answer = tt

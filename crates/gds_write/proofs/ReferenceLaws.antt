@@ -1,10 +1,12 @@
 -- What a reference's own records say of it, as they are written.
-use Rattle.std.proofs.Common.{◌≡◌, ◌↔◌, ℕ, zero, suc, ◌/◌, ◌%◌, ◌^◌, ◌<◌, ℤ, pos, negsuc, ◌+ℤ◌, ◌*ℤ◌, ◌≤ℤ◌, Bool, true, false, not, ◌||◌, ◌==◌, List, [], ◌∷◌, ◌++◌, length, get_or, All, Contains, Option, Some, None, refl, sym, ap, subst, ◌∙◌, arith, append_assoc, true≢false, unwrap_or, MatchOption, IfSome, IsTrue, if◌then◌else◌}
+use Rattle.std.proofs.Common.{◌≡◌, ◌↔◌, ℕ, zero, suc, ◌/◌, ◌%◌, ◌^◌, ◌<◌, ℤ, pos, negsuc, ◌+ℤ◌, ◌*ℤ◌, ◌≤ℤ◌, Bool, true, false, not, ◌||◌, ◌==◌, List, [], ◌∷◌, ◌++◌, length, get_or, All, Contains}
+use Rattle.std.proofs.Common.{Option, Some, None, refl, sym, ap, subst, ◌∙◌, arith, append_assoc, true≢false, unwrap_or, MatchOption, IfSome, IsTrue, if◌then◌else◌}
 use Rattle.lists.proofs.Words.{flat_map, ints, All-from_recursion}
 use Rattle.byteorder.specs.Endian.{big_bytes}
 use Rattle.geo_core.specs.declared.plane.Point.{Point}
 use Rattle.geo_core.specs.declared.plane.Turn.{Turn}
-use Rattle.library_grammar.specs.GrammarNames.{item, HasValue, Entry, ElementHolds, element_checks, sref_form, aref_form, IsTurn, IsReference, IsKept, field, body_of, point_in, points_of, unsigned_of, HasQuarters, columns_of, rows_of, Leads, HasSteps, IsPoint, ArePoints, kinds_of}
+use Rattle.library_grammar.specs.GrammarNames.{item, HasValue, Entry, ElementHolds, element_checks, sref_form, aref_form, IsTurn, IsReference, IsKept, field, body_of, point_in, points_of, unsigned_of}
+use Rattle.library_grammar.specs.GrammarNames.{HasQuarters, columns_of, rows_of, Leads, HasSteps, IsPoint, ArePoints, kinds_of}
 use Rattle.gds_records.specs.declared.kinds.TheConstants as kind
 use Rattle.library_grammar.specs.Elements.{sref as keeps_sref, aref as keeps_aref}
 use Rattle.library_model.specs.declared.element.Element.TheVariants.{Reference as reference_element}
@@ -13,11 +15,11 @@ use Rattle.library_model.specs.declared.element.Reference.{Reference}
 use Rattle.gds_write.specs.Bodies.{text_entry, point_bytes, points_entry, counts_entry}
 use Rattle.gds_write.specs.WellFormed.{IsWritableReference}
 use Rattle.gds_write.specs.Written.{strans_entry, angle_entry, turn_records, moved_by, array_points, placing_records}
-use Rattle.gds_write.proofs.Every.{more, one, all_of}
-use Rattle.gds_write.proofs.FieldLaws.{written_of, first_of, field_of}
-use Rattle.gds_write.proofs.NumberLaws.{columns_read, rows_read, point_reads, points_read}
-use Rattle.gds_write.proofs.ProfileLaws.{padded_fills}
+use Rattle.gds_write.proofs.FieldLaws.{field_of, first_of, written_of}
 use Rattle.gds_write.proofs.ShapeLaws.{has_found}
+use Rattle.gds_write.proofs.ProfileLaws.{padded_fills}
+use Rattle.gds_write.proofs.NumberLaws.{point_reads, points_read, columns_read, rows_read}
+use Rattle.gds_write.proofs.Every.{all_of, one}
 
 -- ---- the turn
 

@@ -1,8 +1,10 @@
 -- What a shape's own records say of it, as they are written.
-use Rattle.std.proofs.Common.{◌≡◌, ℕ, suc, ◌≤◌, ℤ, Bool, true, false, ◌==◌, List, [], ◌∷◌, ◌++◌, length, All, Contains, Option, Some, refl, sym, ap, subst, ◌∙◌, arith, append_assoc, w16, w32, FitsSigned, None, if◌then◌else◌, unwrap_or}
+use Rattle.std.proofs.Common.{◌≡◌, ℕ, suc, ◌≤◌, ℤ, Bool, true, false, ◌==◌, List, [], ◌∷◌, ◌++◌, length, All, Contains, Option, Some, refl, sym, ap, subst, ◌∙◌, arith, append_assoc, w16, w32}
+use Rattle.std.proofs.Common.{FitsSigned, None, if◌then◌else◌, unwrap_or}
 use Rattle.lists.proofs.Words.{cast_signed, flat_map, eqb-true}
 use Rattle.geo_core.specs.declared.plane.Point.{Point}
-use Rattle.library_grammar.specs.GrammarNames.{unsigned_of, item, Entry, ElementHolds, element_checks, ElementForm, boundary_form, path_form, box_form, path_kind, IsKept, field, points_in, points_of, short_of, long_of, IsClosed, HasItsPoints, ArePoints, IsKind, kinds_of}
+use Rattle.library_grammar.specs.GrammarNames.{unsigned_of, item, Entry, ElementHolds, element_checks, ElementForm, boundary_form, path_form, box_form, path_kind, IsKept, field, points_in, points_of}
+use Rattle.library_grammar.specs.GrammarNames.{short_of, long_of, IsClosed, HasItsPoints, ArePoints, IsKind, kinds_of}
 use Rattle.gds_records.specs.declared.kinds.TheConstants as kind
 use Rattle.library_grammar.specs.Elements.{boundary as keeps_boundary, path as keeps_path, box as keeps_box}
 use Rattle.library_model.specs.declared.element.Element.TheVariants.{Shape as shape_element}
@@ -11,9 +13,9 @@ use Rattle.library_model.specs.declared.element.ShapeKind.{ShapeKind}
 use Rattle.library_model.specs.declared.element.ShapeKind.TheVariants.{Boundary, BoxElement, Path}
 use Rattle.gds_write.specs.Bodies.{unsigned_entry, short_entry, long_entry, long_bytes, point_bytes, points_entry, is_not_zero}
 use Rattle.gds_write.specs.Written.{opening_of_shape, datatype_kind, path_records}
-use Rattle.gds_write.proofs.Every.{more, one, all_of}
-use Rattle.gds_write.proofs.FieldLaws.{written_of, first_of, field_of, number_reads_by}
-use Rattle.gds_write.proofs.NumberLaws.{two_bytes_read, short_reads, long_reads, points_read}
+use Rattle.gds_write.proofs.FieldLaws.{number_reads_by, field_of, first_of, written_of}
+use Rattle.gds_write.proofs.NumberLaws.{short_reads, long_reads, points_read, two_bytes_read}
+use Rattle.gds_write.proofs.Every.{all_of, one}
 
 -- a kind that has a field is among the kinds
 pub has_found : (k : ℕ) (own : List Entry) (body : List ℕ) → field k own ≡ Some body → Contains (kinds_of own) k

@@ -1,15 +1,14 @@
 -- What each step of the writer puts behind what is there.
 use Rattle.std.proofs.Common.{◌≡◌, ℕ, ◌+◌, ◌*◌, ◌<◌, ◌≤◌, List, [], ◌∷◌, ◌++◌, length, get_or, take, All, refl, sym, ap, subst, ◌∙◌, append_assoc, take_all}
-use Rattle.lists.proofs.Words.{flat_map, append-nil, flat_map-append}
+use Rattle.lists.proofs.Words.{flat_map, append-nil, flat_map-append, get_or_default}
 use Rattle.byteorder.specs.Endian.{big_bytes}
 use Rattle.geo_core.specs.declared.plane.Point.{Point}
 use Rattle.gds_records.specs.declared.forms.TheConstants as form
 use Rattle.gds_records.specs.declared.kinds.TheConstants as kind
 use Rattle.library_grammar.specs.GrammarNames.{Entry, spelling, spellings}
 use Rattle.gds_write.specs.Bodies.{point_bytes, points_entry}
-use Rattle.gds_write.proofs.ProfileLaws.{length-points}
 use Rattle.lists.proofs.Reading.{flat_map_next, gained_more}
-use Rattle.lists.proofs.Words.{get_or_default}
+use Rattle.gds_write.proofs.ProfileLaws.{length-points}
 
 -- two lists of records, one after the other
 pub appended : (old mid new : List ℕ) (xs ys : List Entry) → mid ≡ old ++ spellings xs → new ≡ mid ++ spellings ys → new ≡ old ++ spellings (xs ++ ys)

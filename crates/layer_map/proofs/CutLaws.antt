@@ -14,9 +14,9 @@ use Rattle.map_model.specs.declared.layers.Metal.{Metal}
 use Rattle.map_model.specs.declared.limits.TheConstants.{MOST_CUTS}
 use Rattle.layer_map.specs.declared.seen.Layer.{Layer}
 use Rattle.layer_map.specs.declared.seen.Seen.{Seen}
+use Rattle.lists.proofs.Pairing.{AllZip-append}
 use Rattle.layer_map.proofs.SeenLaws.{layers_differ}
 use Rattle.layer_map.proofs.SpelledLaws.{zip_becomes, zip_each}
-use Rattle.lists.proofs.Pairing.{AllZip-append}
 
 -- an item stands at one place of different items
 one_place : {A : Type 0} (xs : List A) → AreDifferent xs → (x : A) (i j : ℕ) → slice_get xs i ≡ Some x → slice_get xs j ≡ Some x → i ≡ j

@@ -1,26 +1,24 @@
--- where all checks of a document hold it gives a layer map, and so bytes come to something
+-- where all checks of a document hold it gives a layer map
 use Rattle.std.proofs.Common.{◌≡◌, ℕ, suc, ◌<◌, List, [], ◌∷◌, ◌++◌, length, get_or, take, map, Option, Some, false, refl, sym, ap, ◌∙◌, subst, arith, zero-add, All, Contains, slice_get}
-use Rattle.lists.proofs.Words.{flat_map, AllZip, All-contains, Contains-get_or, range_with_len, get_or-map, get_or-range_with_len, get_or_from_slice_get, length-map, length-range_with_len, get_or-take, length-take-le, slice_get_within}
+use Rattle.lists.proofs.Words.{flat_map, AllZip, All-contains, Contains-get_or, range_with_len, get_or-map, get_or-range_with_len, get_or_from_slice_get, length-map, length-range_with_len}
+use Rattle.lists.proofs.Words.{get_or-take, length-take-le, slice_get_within}
 use Rattle.geo_core.specs.declared.plane.Cell.{Cell}
-use Rattle.first_refusal.specs.Laws.{CannotLack}
-use Rattle.first_refusal.proofs.CheckLaws.{checks_cannot_lack}
-use Rattle.first_refusal.proofs.StageLaws.{reading_cannot_lack, stages_cannot_lack}
 use Rattle.toml.specs.Data.{Data, Members}
 use Rattle.layer_map.specs.CutChecks.{cut_checks}
-use Rattle.layer_map.specs.Documents.{DocumentComesTo, GivesCut, GivesLayer, GivesMap, GivesTerminal, IsDocument, MapComesTo, NamesMetal}
+use Rattle.layer_map.specs.Documents.{GivesCut, GivesLayer, GivesMap, GivesTerminal, NamesMetal}
 use Rattle.layer_map.specs.LayerChecks.{layer_checks}
 use Rattle.map_model.specs.MapNames.{LayerMap, MappedCut, MappedLayer, names_of, sizes_of}
 use Rattle.lists.specs.Differing.{AreDifferent}
-use Rattle.layer_map.specs.MapChecks.{Holds, MapCheck, checks_of, checks_of_cuts, checks_of_each, checks_of_metals, checks_of_terminals, fault_of, first_checks, of_cut, of_metal, of_terminal, has_known_keys, has_metals, metals_are_few, cuts_are_array, cuts_are_few, terminals_are_array, terminals_are_few}
+use Rattle.layer_map.specs.MapChecks.{Holds, MapCheck, checks_of, checks_of_cuts, checks_of_each, checks_of_metals, checks_of_terminals, first_checks, of_cut, of_metal, of_terminal, has_known_keys}
+use Rattle.layer_map.specs.MapChecks.{has_metals, metals_are_few, cuts_are_array, cuts_are_few, terminals_are_array, terminals_are_few}
 use Rattle.layer_map.specs.inside.ReadLayers.{written_name}
 use Rattle.layer_map.specs.TerminalChecks.{terminal_checks}
 use Rattle.layer_map.specs.Values.{cuts_in, metals_in, name_of_item, terminals_in}
-use Rattle.layer_map.specs.declared.fault.MapFault.TheVariants.{Syntax}
 use Rattle.lists.proofs.Containing.{All-back, All-front, all_of_each, number_of, some_item}
 use Rattle.lists.proofs.Mapping.{Contains-flat_map, Contains-map_from}
 use Rattle.std.proofs.lemmas.List.{take-map}
-use Rattle.layer_map.proofs.SeenLaws.{names_zip}
 use Rattle.lists.proofs.Differing.{AreDifferent-unmap}
+use Rattle.layer_map.proofs.SeenLaws.{names_zip}
 
 -- the checks of the item with one number
 all_of_number : {A : Type 0} (P : A → Type 0) (checks_at : ℕ → List A) (count number : ℕ) → number < count → All P (flat_map checks_at (range_with_len 0 count)) → All P (checks_at number)
@@ -124,8 +122,3 @@ module _ (document : Members) (all : All (Holds document) (checks_of document)) 
           terminals = terminals.1;
         },
       )
-
-pub maps_cannot_lack : (bytes : List ℕ) → CannotLack (MapComesTo bytes)
-maps_cannot_lack bytes =
-    stages_cannot_lack _ DocumentComesTo (reading_cannot_lack (IsDocument bytes) Syntax)
-    (λ document is. checks_cannot_lack (Holds document) (checks_of document) fault_of (GivesMap document) (λ all none. let (layer_map, gives) = a_map document all in none layer_map gives))

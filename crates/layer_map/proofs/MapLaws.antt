@@ -23,8 +23,8 @@ use Rattle.map_model.specs.declared.layers.Terminal.{Terminal}
 use Rattle.map_model.specs.declared.map.Map.{Map}
 use Rattle.layer_map.specs.declared.seen.Seen.{Seen}
 use Rattle.first_refusal.proofs.JudgeLaws.{Judges, given}
-use Rattle.layer_map.proofs.SeenLaws.{layer_names_differ}
 use Rattle.layer_map.proofs.ValueLaws.{listed-items_of}
+use Rattle.layer_map.proofs.SeenLaws.{layer_names_differ}
 
 -- how many radii there are
 pub radii_count : (document : Members) {radii : List ℕ} → Judges Memory (Holds document) (radii_are_array ∷ radii_are_few ∷ has_radii ∷ []) fault_of

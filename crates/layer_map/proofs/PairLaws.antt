@@ -1,5 +1,6 @@
 -- pairs of a layer and a datatype, as a document writes them
-use Rattle.std.proofs.Common.{◌≡◌, ℕ, ◌+◌, ◌<◌, ◌≤◌, List, [], ◌∷◌, ◌++◌, length, get_or, take, drop, map, Option, Some, None, sym, ap, ◌∙◌, subst, arith, ◌≢◌, append_assoc, option_and_then, All, Contains, take_all}
+use Rattle.std.proofs.Common.{◌≡◌, ℕ, ◌+◌, ◌<◌, ◌≤◌, List, [], ◌∷◌, ◌++◌, length, get_or, take, drop, map, Option, Some, None, sym, ap, ◌∙◌, subst, arith, ◌≢◌, append_assoc, option_and_then, All}
+use Rattle.std.proofs.Common.{Contains, take_all}
 use Rattle.lists.proofs.Words.{length-map, take-append-drop, take_more, length-drop, get_or_default, add-zero, All-from_recursion, Contains-get_or, all_pairs_push, same_Some}
 use Rattle.toml.specs.Data.{Data, array, as_array}
 use Rattle.toml.specs.View.{items_of, items_view, view}
@@ -9,11 +10,11 @@ use Rattle.lists.specs.Differing.{AreDifferent}
 use Rattle.layer_map.specs.Values.{array_of, whole_number, pair_value, values_in}
 use Rattle.layer_map.specs.inside.ReadValues.{AreWholesIn, IsThere, IsWholeIn, IsWithin, Finds, finds, lacks, AreWritten, IsWritten}
 use Rattle.map_model.specs.declared.limits.TheConstants.{GREATEST_PAIR_NUMBER, MOST_PAIRS}
-use Rattle.layer_map.proofs.SpelledLaws.{none_written}
-use Rattle.layer_map.proofs.FindLaws.{none_found}
-use Rattle.layer_map.proofs.ValueLaws.{listed-items_of}
 use Rattle.std.proofs.lemmas.List.{get_or-drop}
 use Rattle.lists.proofs.Differing.{different_apart}
+use Rattle.layer_map.proofs.ValueLaws.{listed-items_of}
+use Rattle.layer_map.proofs.FindLaws.{none_found}
+use Rattle.layer_map.proofs.SpelledLaws.{none_written}
 
 -- the values of an array that writes a list are that list
 pub values_of_list : (vs : List Value) (ds : List Data) → array (items_view vs) ≡ array (items_of ds) → map view vs ≡ ds

@@ -1,7 +1,9 @@
 -- the sample: its document, each of its checks, and its map
-use Rattle.std.proofs.Common.{◌≡◌, ◌≢◌, ℕ, zero, suc, ◌+◌, ◌*◌, ◌<◌, ◌≤◌, pos, List, length, [], ◌∷◌, ◌++◌, ◌&&◌, ◌==◌, ◌∙◌, codes, map, Option, Some, refl, arith, Bool, true, false, not, ap, sym, subst, get_or, nat_lt, unwrap_or, option_and_then, All, Contains}
+use Rattle.std.proofs.Common.{◌≡◌, ◌≢◌, ℕ, zero, suc, ◌+◌, ◌*◌, ◌<◌, ◌≤◌, pos, List, length, [], ◌∷◌, ◌++◌, ◌&&◌, ◌==◌, ◌∙◌, codes, map, Option, Some, refl, arith, Bool, true, false, not, ap, sym}
+use Rattle.std.proofs.Common.{subst, get_or, nat_lt, unwrap_or, option_and_then, All, Contains}
 use Rattle.std.specs.List.{AllByRecursion}
-use Rattle.lists.proofs.Words.{AllPass-from_list_all, list_all, and_parts, eq-eqb, ltb-true, IsStrictlyIncreasing, ints, All-append, All-contains, All-from_recursion, All-weaker, AllPairs-cons, IsUtf8-from_ascii}
+use Rattle.lists.proofs.Words.{AllPass-from_list_all, list_all, and_parts, eq-eqb, ltb-true, IsStrictlyIncreasing, ints, All-append, All-contains, All-from_recursion, All-weaker, AllPairs-cons}
+use Rattle.lists.proofs.Words.{IsUtf8-from_ascii}
 use Rattle.std.proofs.lemmas.Bool.{not-true}
 use Rattle.std.proofs.lemmas.Str.Ascii.{IsAscii-from_all}
 use Rattle.first_refusal.specs.Outcomes.{goes_on, reads, value}
@@ -20,9 +22,9 @@ use Rattle.layer_map.specs.TerminalChecks.{IsCellNumber, terminal_keys}
 use Rattle.layer_map.specs.inside.ReadLayers.{written_name}
 use Rattle.layer_map.specs.Sample.{sample_map, sample_text}
 use Rattle.layer_map.specs.Values.{StandsAs, array_of, pair_value, pairs_value, whole_number, whole_numbers}
-use Rattle.layer_map.proofs.SeenLaws.{pair_tells}
 use Rattle.lists.proofs.Containing.{Contains-none}
 use Rattle.lists.proofs.Differing.{AreDifferent-map, different_front}
+use Rattle.layer_map.proofs.SeenLaws.{pair_tells}
 
 abbrev layer_value : List ℕ → List (ℕ × ℕ) → Data
 layer_value name pairs = table (member (codes "name") (string name) (member (codes "pairs") (pairs_value pairs) no_members))

@@ -13,8 +13,8 @@ use Rattle.layer_map.specs.declared.seen.Seen.{Seen}
 use Rattle.map_model.specs.declared.layers.Metal.{Metal}
 use Rattle.lists.proofs.Differing.{AreDifferent-map, AreDifferent-unmap, different_more}
 use Rattle.lists.proofs.Mapping.{Contains-map_from}
-use Rattle.layer_map.proofs.SpelledLaws.{zip_shows}
 use Rattle.layer_map.proofs.ValueLaws.{listed-items_of}
+use Rattle.layer_map.proofs.SpelledLaws.{zip_shows}
 
 name_tells : (one other : List ℕ) → written_name one ≡ written_name other → one ≡ other
 name_tells one other same = cc same

@@ -9,8 +9,8 @@ use Rattle.layer_map.specs.MapChecks.{Holds, radii_are_array, radii_are_few}
 use Rattle.layer_map.specs.inside.ReadValues.{AreWholesIn, Finds, finds, lacks, AreWritten}
 use Rattle.layer_map.specs.Values.{radii_in, values_in, whole_number}
 use Rattle.map_model.specs.declared.limits.TheConstants.{MOST_SIZES}
-use Rattle.layer_map.proofs.EachLaws.{count_of}
 use Rattle.layer_map.proofs.SpelledLaws.{lists_tell}
+use Rattle.layer_map.proofs.EachLaws.{count_of}
 use Rattle.layer_map.proofs.ValueLaws.{values_in-array}
 
 -- radii are whole numbers within their bounds

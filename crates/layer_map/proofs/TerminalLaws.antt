@@ -1,5 +1,6 @@
 -- places of terminals, as items say them and in a set
-use Rattle.std.proofs.Common.{◌≡◌, ℕ, ℤ, List, map, Option, Some, refl, sym, ap, ◌∙◌, subst, Contains, slice_get, None, option_map, Bool, true, false, not, ◌==◌, ◌&&◌, if◌then◌else◌, [], ◌∷◌, ◌++◌, inl, inr, w32, to_z, of_z, SFits}
+use Rattle.std.proofs.Common.{◌≡◌, ℕ, ℤ, List, map, Option, Some, refl, sym, ap, ◌∙◌, subst, Contains, slice_get, None, option_map, Bool, true, false, not, ◌==◌, ◌&&◌, if◌then◌else◌, [], ◌∷◌, ◌++◌}
+use Rattle.std.proofs.Common.{inl, inr, w32, to_z, of_z, SFits}
 use Rattle.lists.proofs.Words.{AllZip, map-map, IsEquivalence, nat_eq_equiv, and_equiv, on_equiv, list_any, int_eq, and_parts, cases_Bool, Decides-eqb, Decides-int_eq, to_z-of_z}
 use Rattle.toml.specs.Data.{Data, string, integer}
 use Rattle.layer_map.specs.Documents.{GivesTerminal, NamesMetal}
@@ -10,12 +11,12 @@ use Rattle.layer_map.specs.TerminalChecks.{place_in}
 use Rattle.layer_map.specs.Values.{metal_of_item}
 use Rattle.map_model.specs.declared.layers.Terminal.{Terminal}
 use Rattle.lists.proofs.Mapping.{Contains-map, Contains-map_from}
-use Rattle.layer_map.proofs.SpelledLaws.{zip_shows}
 use Rattle.geo_core.specs.declared.plane.Cell.{Cell}
-use Rattle.layer_map.proofs.CutLaws.{one_metal_named}
 use Rattle.std.proofs.lemmas.Cmp.{int_eq_equiv}
 use Rattle.std.proofs.lemmas.Map.Views.{list_any-from_Contains}
 use Rattle.indexmap.proofs.CallerLemmas.{Contains-list_any}
+use Rattle.layer_map.proofs.CutLaws.{one_metal_named}
+use Rattle.layer_map.proofs.SpelledLaws.{zip_shows}
 
 -- what an item says of a terminal with this place
 abbrev written_place : List MappedLayer → ℕ × ℤ × ℤ → Option Data × Option Data × Option Data

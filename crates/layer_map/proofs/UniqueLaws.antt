@@ -1,21 +1,17 @@
--- a document gives one layer map at most, and bytes come to one thing at most
+-- a document gives one layer map at most, and bytes are one document at most
 use Rattle.std.proofs.Common.{◌≡◌, ℕ, ℤ, List, [], ◌∷◌, map, Bool, Option, Some, refl, sym, ap, ◌∙◌, subst}
 use Rattle.lists.proofs.Words.{AllZip, same_Some}
 use Rattle.geo_core.specs.declared.plane.Cell.{Cell}
 use Rattle.first_refusal.specs.Laws.{IsUnique}
-use Rattle.first_refusal.proofs.CheckLaws.{checks_agree}
-use Rattle.first_refusal.proofs.StageLaws.{readings_agree, stages_agree}
 use Rattle.toml.specs.Data.{Data, Members}
-use Rattle.layer_map.specs.Documents.{DocumentComesTo, GivesCut, GivesLayer, GivesMap, GivesTerminal, IsDocument, MapComesTo}
+use Rattle.layer_map.specs.Documents.{GivesCut, GivesLayer, GivesMap, GivesTerminal, IsDocument}
 use Rattle.map_model.specs.MapNames.{DefectSize, MappedCut, MappedLayer, names_of, sizes_of, LayerMap}
 use Rattle.lists.specs.Differing.{AreDifferent}
-use Rattle.layer_map.specs.MapChecks.{Holds, checks_of, fault_of}
 use Rattle.layer_map.specs.Values.{array_of, pair_value, cuts_in, terminals_in, values_in, whole_number}
-use Rattle.layer_map.specs.declared.fault.MapFault.TheVariants.{Syntax}
-use Rattle.layer_map.proofs.CutLaws.{one_metal_named}
-use Rattle.layer_map.proofs.SeenLaws.{pair_tells}
-use Rattle.layer_map.proofs.SpelledLaws.{lists_tell}
 use Rattle.layer_map.proofs.ValueLaws.{listed-items_of}
+use Rattle.layer_map.proofs.SpelledLaws.{lists_tell}
+use Rattle.layer_map.proofs.SeenLaws.{pair_tells}
+use Rattle.layer_map.proofs.CutLaws.{one_metal_named}
 
 -- what is read of each of some things is one list at most
 zip_tells : {A B : Type 0} (R : A → B → Type 0) → ((a : A) (x y : B) → R a x → R a y → x ≡ y) → (ds : List A) (xs ys : List B) → AllZip R ds xs → AllZip R ds ys → xs ≡ ys
@@ -72,8 +68,3 @@ maps_tell document one other p q =
 
 pub documents_agree : (bytes : List ℕ) → IsUnique (IsDocument bytes)
 documents_agree bytes one other p q = same_Some _ _ (sym p.parsed ∙ q.parsed)
-
-pub maps_agree : (bytes : List ℕ) → IsUnique (MapComesTo bytes)
-maps_agree bytes =
-    stages_agree _ DocumentComesTo (readings_agree (IsDocument bytes) Syntax (documents_agree bytes))
-    (λ document. checks_agree (Holds document) (checks_of document) fault_of (GivesMap document) (maps_tell document))

@@ -7,16 +7,11 @@ use Rattle.geo_core.specs.Plane.{IsOutline}
 use Rattle.geo_core.specs.declared.plane.Point.{Point}
 use Rattle.library_grammar.specs.GrammarNames.{AreDifferent, IsPoint, ArePoints}
 use Rattle.gds_write.specs.WellFormed.{IsWritableName, IsWritableShape, IsWritableReference, IsWritableElement, IsWritableStructure, IsWellFormed}
-use Rattle.gds_write.specs.SameLibrary.{IsSameButOffsets}
 use Rattle.gds_write.specs.Written.{array_points, moved_by}
-use Rattle.gds_write.proofs.WrittenLaws.{written_reads}
-use Rattle.first_refusal.specs.Outcomes.{value}
-use Rattle.library_grammar.specs.FirstFault.{BytesComeTo}
-use Rattle.library_model.specs.declared.library.Library.{Library}
 use Rattle.library_model.specs.declared.element.Element.{Element}
 use Rattle.library_model.specs.declared.element.Element.TheVariants.{Shape as shape_element, Reference as reference_element}
 use Rattle.library_model.specs.declared.library.Structure.{Structure}
-use Rattle.library_model.proofs.SameParts.{same_structure}
+use Rattle.library_model.proofs.laws.SameParts.{same_structure}
 use Rattle.lists.specs.declared.memory.NoMemory.{NoMemory}
 use Rattle.layout_gen.specs.SmallOutlines.{corner, outline, are_small}
 use Rattle.layout_gen.specs.Fitting.{by_test, few_columns}
@@ -135,8 +130,3 @@ is_well_formed asked =
 pub length-generated_layout : (asked : ℕ) → length (generated_layout asked) ≡ 454
 unfolding generated_layout
 length-generated_layout asked = refl
-
--- the bytes of each read as it, but for offsets
-pub generated_reads : (columns : ℕ) → (read : Library) × IsSameButOffsets (generated_library columns) read × BytesComeTo (generated_layout columns) (value read)
-unfolding generated_layout
-generated_reads columns = written_reads (generated_library columns) (is_well_formed columns)

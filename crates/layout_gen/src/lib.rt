@@ -8,6 +8,6 @@ mod layouts;
 mod library;
 mod maps;
 
-pub use layouts::{Generated, generate};
+pub use layouts::generate;
 pub use library::MOST_COLUMNS;
 pub use maps::{LAYER_MAP, layer_map};

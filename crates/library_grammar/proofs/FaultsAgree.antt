@@ -1,16 +1,15 @@
 -- A stream has one first fault at most, and none where it is a library: so bytes come to one thing at most.
 use Rattle.std.proofs.Common.{◌≡◌, inl, inr, ℕ, List, [], ◌∷◌, ◌++◌, Some, refl, sym, ap, subst, ◌∙◌, arith, append_assoc}
 use Rattle.lists.proofs.Words.{map-append}
-use Rattle.library_grammar.specs.GrammarNames.{IsUnique, value, refused, Entry, End, whole, ElementHolds, element_checks, element_fault, IsElementFault, ElementForm, EndsOwnRecords, Shows, may_not_stand, repeats, is_faulty, NoneShows, IsFirstFault, at_record, at_end, BytesComeTo, are_library, have_fault, behind, IsLibrary, Place, before_header, behind_endlib, among_own, place_behind, kinds_of, MayStand}
+use Rattle.library_grammar.specs.GrammarNames.{IsUnique, Entry, End, whole, ElementHolds, element_checks, element_fault, IsElementFault, ElementForm, EndsOwnRecords, Shows, may_not_stand, repeats}
+use Rattle.library_grammar.specs.GrammarNames.{is_faulty, NoneShows, IsFirstFault, at_record, at_end, behind, Place, before_header, behind_endlib, among_own, place_behind, kinds_of, MayStand}
 use Rattle.first_refusal.proofs.CheckLaws.{first_refusals_agree}
 use Rattle.gds_records.specs.declared.kinds.TheConstants as kind
-use Rattle.gds_records.proofs.SplitLaws.{splits_agree}
 use Rattle.library_grammar.specs.declared.fault.SyntaxFault.{SyntaxFault}
 use Rattle.library_grammar.specs.declared.fault.SyntaxFault.TheVariants.{Record}
-use Rattle.library_model.specs.declared.library.Library.{Library}
-use Rattle.library_grammar.proofs.OwnPlaces.{own_place, lists_agree, same_length, way_in_parts}
-use Rattle.library_grammar.proofs.SayingsAgree.{libraries_of_records_agree}
 use Rattle.library_grammar.proofs.PlaceRuns.{end_of_shape}
+use Rattle.library_grammar.proofs.OwnPlaces.{way_in_parts, lists_agree, same_length}
+use Rattle.library_grammar.proofs.laws.Places.{own_place}
 
 -- ---- one record shows one fault at most
 
@@ -100,30 +99,13 @@ first_records_agree before before' e e' fault other (same fronts is) none none' 
 first_records_agree before before' e e' fault other (earlier more parts) none none' shown shown' = absurd (none' before more e fault parts shown)
 first_records_agree before before' e e' fault other (later more parts) none none' shown shown' = absurd (none before' more e' other parts shown')
 
-first_faults_agree : (entries : List Entry) (end end' : End) (fault other : SyntaxFault) → end ≡ end' → IsFirstFault entries end fault → IsFirstFault entries end' other → fault ≡ other
+pub first_faults_agree : (entries : List Entry) (end end' : End) (fault other : SyntaxFault) → end ≡ end' → IsFirstFault entries end fault → IsFirstFault entries end' other → fault ≡ other
 first_faults_agree entries _ _ _ _ ends (at_record before after e {fault = fault} parts none shown) (at_record before' after' e' {fault = other} parts' none' shown') =
     first_records_agree before before' e e' fault other (in_order before before' e e' after after' (sym parts ∙ parts')) none none' shown shown'
 first_faults_agree entries _ _ _ _ ends (at_record before after e {fault = fault} parts none shown) (at_end none') = absurd (none' before after e fault parts shown)
 first_faults_agree entries _ _ _ _ ends (at_end none) (at_record before' after' e' {fault = other} parts' none' shown') = absurd (none before' after' e' other parts' shown')
 first_faults_agree entries _ _ _ _ ends (at_end {why = why} none) (at_end {why = why'} none') = let faults : why ≡ why' = cc in ap (λ f. Record f) faults
 
-no_fault_of_library : (entries : List Entry) (end : End) (fault : SyntaxFault) → end ≡ whole → NoneShows entries → IsFirstFault entries end fault → ⊥
+pub no_fault_of_library : (entries : List Entry) (end : End) (fault : SyntaxFault) → end ≡ whole → NoneShows entries → IsFirstFault entries end fault → ⊥
 no_fault_of_library entries _ _ ends none (at_record before after e {fault = fault} parts first shown) = none before after e fault parts shown
 no_fault_of_library entries _ _ ends none (at_end first) = absurd (cc)
-
--- ---- bytes
-
-pub libraries_agree : (bytes : List ℕ) → IsUnique (BytesComeTo bytes)
-libraries_agree bytes _ _ (are_library {entries = es} {library = one} split none is) (are_library {entries = es'} {library = other} split' none' is') =
-    let entries = (splits_agree es 0 bytes es' whole whole split split').0 in
-    ap (λ (l : Library). value l) (libraries_of_records_agree es one other is (subst (λ (xs : List Entry). IsLibrary xs other) (sym entries) is'))
-libraries_agree bytes _ _ (are_library {entries = es} split none is) (have_fault {entries = es'} {end = end} {fault = fault} split' first) =
-    let same = splits_agree es 0 bytes es' whole end split split' in
-    absurd (no_fault_of_library es end fault (sym same.1) none (subst (λ (xs : List Entry). IsFirstFault xs end fault) (sym same.0) first))
-libraries_agree bytes _ _ (have_fault {entries = es'} {end = end} {fault = fault} split' first) (are_library {entries = es} split none is) =
-    let same = splits_agree es 0 bytes es' whole end split split' in
-    absurd (no_fault_of_library es end fault (sym same.1) none (subst (λ (xs : List Entry). IsFirstFault xs end fault) (sym same.0) first))
-libraries_agree bytes _ _ (have_fault {entries = es} {end = end} {fault = fault} split first) (have_fault {entries = es'} {end = end'} {fault = other} split' first') =
-    let same = splits_agree es 0 bytes es' end end' split split' in
-    ap (λ (f : SyntaxFault). refused f)
-    (first_faults_agree es end end' fault other same.1 first (subst (λ (xs : List Entry). IsFirstFault xs end' other) (sym same.0) first'))

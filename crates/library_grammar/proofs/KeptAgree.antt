@@ -3,15 +3,16 @@ use Rattle.std.proofs.Common.{◌≡◌, ◌↔◌, ℕ, ℤ, pos, negsuc, suc, 
 use Rattle.lists.proofs.Words.{pos-*ℤ-negsuc, le-mul_of_pos_right, ints}
 use Rattle.std.proofs.Math.IntN.{pos-*ℤ-pos}
 use Rattle.std.proofs.Math.Nat.{mul-div_cancel_left}
-use Rattle.library_grammar.specs.GrammarNames.{IsUnique, HasValue, Entry, IsShape, IsTurn, IsReference, IsLattice, IsKept, boundary, path, sref, aref, text, node, box, field, body_of, columns_of, rows_of, Leads}
+use Rattle.library_grammar.specs.GrammarNames.{IsUnique, HasValue, Entry, IsShape, IsTurn, IsReference, IsLattice, IsKept, boundary, path, sref, aref, text, node, box, field, body_of, columns_of}
+use Rattle.library_grammar.specs.GrammarNames.{rows_of, Leads}
 use Rattle.geo_core.specs.declared.plane.Point.{Point}
 use Rattle.gds_records.specs.declared.kinds.TheConstants as kind
-use Rattle.gds_records.proofs.RealLaws.{values_agree}
-use Rattle.gds_records.proofs.TextLaws.{texts_agree}
+use Rattle.gds_records.proofs.laws.Reals.{values_agree}
+use Rattle.gds_records.proofs.laws.Bodies.{texts_agree}
 use Rattle.library_model.specs.declared.element.Element.TheVariants.{Shape as shape_element, Reference as reference_element}
 use Rattle.library_model.specs.declared.element.Reference.{Reference}
 use Rattle.library_model.specs.declared.element.ShapeKind.{ShapeKind}
-use Rattle.library_model.proofs.SameParts.{same_shape, same_turn, same_lattice, same_reference}
+use Rattle.library_model.proofs.laws.SameParts.{same_shape, same_turn, same_lattice, same_reference}
 
 shapes_agree : (at : ℕ) (shape_kind : ShapeKind) (datatype_kind : ℕ) (own : List Entry) → IsUnique (IsShape at shape_kind datatype_kind own)
 shapes_agree at shape_kind datatype_kind own s t a b =

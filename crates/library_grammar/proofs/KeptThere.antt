@@ -1,11 +1,14 @@
 -- What is kept of an element is there where its checks hold.
-use Rattle.std.proofs.Common.{◌≡◌, ℕ, ℤ, pos, negsuc, zero, suc, nat_abs, ◌+ℤ◌, ◌*ℤ◌, ◌≤ℤ◌, ◌*◌, ◌/◌, ◌<◌, ◌≤◌, ◌^◌, List, All, Contains, Option, Some, None, refl, ap, subst, ◌∙◌, arith, FitsSigned, ◌==◌, w16, w32}
+use Rattle.std.proofs.Common.{◌≡◌, ℕ, ℤ, pos, negsuc, zero, suc, nat_abs, ◌+ℤ◌, ◌*ℤ◌, ◌≤ℤ◌, ◌*◌, ◌/◌, ◌<◌, ◌≤◌, ◌^◌, List, All, Contains, Option, Some, None, refl, ap, subst, ◌∙◌, arith, FitsSigned}
+use Rattle.std.proofs.Common.{◌==◌, w16, w32}
 use Rattle.lists.proofs.Words.{pos-*ℤ-negsuc, le-mul_of_pos_right, Decides-eqb, ints}
 use Rattle.std.proofs.Math.Nat.{mul_comm}
 use Rattle.geo_core.specs.declared.plane.Point.{Point}
 use Rattle.geo_core.specs.declared.plane.Turn.{Turn}
 use Rattle.gds_records.specs.declared.kinds.TheConstants as kind
-use Rattle.library_grammar.specs.GrammarNames.{Entry, ElementHolds, element_checks, turns_by_quarters, has_columns_and_rows, has_whole_steps, ElementForm, boundary_form, path_form, sref_form, aref_form, box_form, element_forms, IsShape, path_kind, IsTurn, IsReference, IsLattice, IsKept, boundary, path, sref, aref, text, node, box, body_of, point_in, points_of, unsigned_of, HasQuarters, columns_of, rows_of, Leads, IsKind, IsPoint, IsStep}
+use Rattle.library_grammar.specs.GrammarNames.{Entry, ElementHolds, element_checks, turns_by_quarters, has_columns_and_rows, has_whole_steps, ElementForm, boundary_form, path_form, sref_form}
+use Rattle.library_grammar.specs.GrammarNames.{aref_form, box_form, element_forms, IsShape, path_kind, IsTurn, IsReference, IsLattice, IsKept, boundary, path, sref, aref, text, node, box, body_of}
+use Rattle.library_grammar.specs.GrammarNames.{point_in, points_of, unsigned_of, HasQuarters, columns_of, rows_of, Leads, IsKind, IsPoint, IsStep}
 use Rattle.library_model.specs.declared.element.Element.{Element}
 use Rattle.library_model.specs.declared.element.Element.TheVariants.{Shape as shape_element, Reference as reference_element}
 use Rattle.library_model.specs.declared.element.Lattice.{Lattice}
@@ -13,10 +16,10 @@ use Rattle.library_model.specs.declared.element.Reference.{Reference}
 use Rattle.library_model.specs.declared.element.Shape.{Shape}
 use Rattle.library_model.specs.declared.element.ShapeKind.{ShapeKind}
 use Rattle.library_model.specs.declared.element.ShapeKind.TheVariants.{Boundary, BoxElement}
-use Rattle.library_grammar.proofs.FieldRanges.{HaveBytes, body_has_bytes, unsigned_of_fits, short_fits, short_of_fits, long_of_fits}
-use Rattle.library_grammar.proofs.PointLaws.{point_fits, are_points}
-use Rattle.library_grammar.proofs.PlaceRuns.{each_form}
+use Rattle.library_grammar.proofs.FieldRanges.{HaveBytes, unsigned_of_fits, long_of_fits, short_of_fits, short_fits, body_has_bytes}
+use Rattle.library_grammar.proofs.laws.Points.{are_points, point_fits}
 use Rattle.library_grammar.proofs.TextThere.{text_there}
+use Rattle.library_grammar.proofs.laws.Forms.{each_form}
 
 -- ---- shapes
 

@@ -1,9 +1,6 @@
 pub mod PlaceEndings
 pub mod PlaceRuns
-pub mod PlaceLaws
 pub mod OwnPlaces
-pub mod PlainKinds
-pub mod SizeLaws
 pub mod FaultsAgree
 pub mod PartsAgree
 pub mod KeptAgree
@@ -14,7 +11,4 @@ pub mod SayingsAgree
 pub mod LibraryFacts
 pub mod ShapeThere
 pub mod LibraryThere
-pub mod NextRecords
-pub mod PointLaws
 pub mod PointedLaws
-pub mod StandLaws

@@ -1,8 +1,9 @@
--- What a library that bytes come to has besides: its structures' names differ, since a record that names one again would show a
--- fault, and its shapes have their points, since an element without them would show one.
-use Rattle.std.proofs.Common.{get_or, ◌≡◌, ◌≢◌, ◌⊎◌, inl, inr, ℕ, ℤ, List, [], ◌∷◌, ◌++◌, All, Option, Some, None, IfSome, refl, sym, ap, subst, ◌∙◌, arith, append_assoc, length, ◌≤◌, option_to_list}
+-- Names that differ and shapes that have their points, where no record shows a fault.
+use Rattle.std.proofs.Common.{get_or, ◌≡◌, ◌≢◌, ◌⊎◌, inl, inr, ℕ, ℤ, List, [], ◌∷◌, ◌++◌, All, Option, Some, None, IfSome, refl, sym, ap, subst, ◌∙◌, arith, append_assoc, length, ◌≤◌}
 use Rattle.lists.proofs.Words.{flat_map, leb_tells, append-nil, All-nil, All-cons, All-head, All-tail, AllPairs-cons}
-use Rattle.library_grammar.specs.GrammarNames.{AreDifferent, value, Entry, BytesComeTo, are_library, IsNameIn, NoneShows, may_not_stand, repeats, ElementParts, element_records, IsElement, StructureParts, structure_head, structure_records, IsStructure, library_head, IsInShape, behind, SayElements, SaysStructure, SayStructures, names_of, HasItsPoints, IsWellPointed, AreWellPointed, IsClosed, IsOutline}
+use Rattle.library_grammar.specs.GrammarNames.{AreDifferent, Entry, IsNameIn, NoneShows, may_not_stand, repeats, ElementParts, element_records, IsElement, StructureParts, structure_head}
+use Rattle.library_grammar.specs.GrammarNames.{structure_records, IsStructure, IsInShape, behind, SayElements, SaysStructure, SayStructures, names_of, HasItsPoints, IsWellPointed, AreWellPointed}
+use Rattle.library_grammar.specs.GrammarNames.{IsClosed, IsOutline}
 use Rattle.lists.proofs.Comparing.{same_or_not}
 use Rattle.lists.proofs.Reading.{last_or_before}
 use Rattle.geo_core.specs.declared.plane.Point.{Point}
@@ -11,12 +12,12 @@ use Rattle.library_model.specs.declared.element.Element.{Element}
 use Rattle.library_model.specs.declared.element.Element.TheVariants.{Shape as shape_element, Reference as reference_element}
 use Rattle.library_model.specs.declared.element.ShapeKind.{ShapeKind}
 use Rattle.library_model.specs.declared.element.ShapeKind.TheVariants.{Boundary, BoxElement, Path}
-use Rattle.library_model.specs.declared.library.Library.{Library}
 use Rattle.library_model.specs.declared.library.Structure.{Structure}
-use Rattle.library_grammar.proofs.NextRecords.{among_more}
-use Rattle.library_grammar.proofs.LibraryThere.{checks_cannot_fail, second_part, split_part}
-use Rattle.library_grammar.proofs.PointedLaws.{kept_is_pointed}
+use Rattle.library_grammar.proofs.laws.NextRecords.{among_more}
+use Rattle.library_grammar.proofs.LibraryThere.{second_part, split_part, checks_cannot_fail}
 use Rattle.library_grammar.proofs.TextThere.{no_item}
+use Rattle.library_grammar.proofs.PointedLaws.{kept_is_pointed}
+use Rattle.library_grammar.proofs.laws.Kept.{with_kept}
 
 -- ---- names
 
@@ -50,7 +51,7 @@ all_named at _ _ are (one_structure {parts = s} {others = others} {structure = t
     subst (λ (x : List Entry). IsNameIn (structure_records s ++ x) name) (append-nil rest) (among_more (structure_records s) rest [] name (named k d lt)))
 
 -- the names of structures differ, where no record of the whole list shows a fault
-all_differ : (whole front after : List Entry) (at : ℕ) (parts : List StructureParts) (structures : List Structure) → NoneShows whole
+pub all_differ : (whole front after : List Entry) (at : ℕ) (parts : List StructureParts) (structures : List Structure) → NoneShows whole
     → whole ≡ front ++ (flat_map structure_records parts ++ after) → All IsStructure parts → SayStructures at parts structures → AreDifferent (names_of structures)
 all_differ whole front after at _ _ none parts are no_structures = λ i j d less within. absurd (omega arith)
 all_differ whole front after at _ _ none parts are (one_structure {parts = s} {others = others} {structure = t} {structures = structures} says more) =
@@ -64,11 +65,6 @@ all_differ whole front after at _ _ none parts are (one_structure {parts = s} {o
     (λ k d lt same.
     never_again whole (front ++ records) (rest ++ after) t.name none further has (among_more [] rest after t.name (subst (IsNameIn rest) (sym same) (named k d lt))))
     (all_differ whole (front ++ records) after (behind at records) others structures none further (All-tail IsStructure s others are) more)
-
-pub library_names_differ : (bytes : List ℕ) (library : Library) → BytesComeTo bytes (value library) → AreDifferent (names_of library.structures)
-library_names_differ bytes library (are_library {entries = entries} split none is) =
-    let l = is.in_shape.library in
-    all_differ entries (library_head l) (l.last ∷ []) (behind 0 (library_head l)) l.structures library.structures none is.in_shape.are_its is.in_shape.in_grammar.structures is.says.structures
 
 -- ---- points that are closed or not
 
@@ -139,11 +135,6 @@ pointed_there (Some (reference_element reference)) h = tt
 
 -- ---- shapes
 
--- what is kept of an element, if anything, and what is kept of others
-pub with_kept : (P : Element → Type 0) (kept : Option Element) (rest : List Element) → IfSome kept P → All P rest → All P (option_to_list kept ++ rest)
-with_kept P None rest one all = all
-with_kept P (Some element) rest one all = All-cons P element rest one all
-
 module _ (stream : List Entry) (shape : IsInShape stream) (none : NoneShows stream) where
   elements_pointed : (at : ℕ) (before after : List Entry) (parts : List ElementParts) (elements : List Element) → stream ≡ before ++ (flat_map element_records parts ++ after)
       → All IsElement parts → SayElements at parts elements → All IsWellPointed elements
@@ -157,7 +148,7 @@ module _ (stream : List Entry) (shape : IsInShape stream) (none : NoneShows stre
       checks_cannot_fail stream shape none before x (rest ++ after) here is (λ sound. not (kept_is_pointed at x.own x.opening.kind kept x.form is.opens sound keeps))))
       (elements_pointed _ (before ++ element_records x) after others elements (second_part stream before (element_records x) (rest ++ after) here) (All-tail IsElement x others are) more)
 
-  structures_pointed : (at : ℕ) (before after : List Entry) (parts : List StructureParts) (structures : List Structure) → stream ≡ before ++ (flat_map structure_records parts ++ after)
+  pub structures_pointed : (at : ℕ) (before after : List Entry) (parts : List StructureParts) (structures : List Structure) → stream ≡ before ++ (flat_map structure_records parts ++ after)
       → All IsStructure parts → SayStructures at parts structures → AreWellPointed structures
   structures_pointed at before after _ _ lie are no_structures = All-nil (λ t. All IsWellPointed t.elements)
   structures_pointed at before after _ _ lie are (one_structure {parts = s} {others = others} {structure = t} {structures = structures} says more) =
@@ -170,8 +161,3 @@ module _ (stream : List Entry) (shape : IsInShape stream) (none : NoneShows stre
       (elements_pointed _ (before ++ structure_head s) (s.last ∷ (rest ++ after)) s.elements t.elements
       (split_part stream (before ++ structure_head s) elements (s.last ∷ []) (rest ++ after) inside) is.elements says.elements)
       (structures_pointed _ (before ++ structure_records s) after others structures (second_part stream before (structure_records s) (rest ++ after) here) (All-tail IsStructure s others are) more)
-
-pub library_is_pointed : (bytes : List ℕ) (library : Library) → BytesComeTo bytes (value library) → AreWellPointed library.structures
-library_is_pointed bytes library (are_library {entries = entries} split none is) =
-    let l = is.in_shape.library in
-    structures_pointed entries is.in_shape none _ (library_head l) (l.last ∷ []) l.structures library.structures is.in_shape.are_its is.in_shape.in_grammar.structures is.says.structures

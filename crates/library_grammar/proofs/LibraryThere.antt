@@ -1,20 +1,21 @@
 -- A whole stream of which no record shows a fault says a library, and so bytes come to something.
-use Rattle.std.proofs.Common.{◌≡◌, ℕ, suc, List, [], ◌∷◌, ◌++◌, length, All, refl, sym, ap, subst, ◌∙◌, arith, append_assoc, option_to_list}
+use Rattle.std.proofs.Common.{◌≡◌, ℕ, List, [], ◌∷◌, ◌++◌, All, refl, sym, ap, subst, ◌∙◌, append_assoc, option_to_list}
 use Rattle.lists.proofs.Words.{append-nil, flat_map, All-head, All-tail, All-same, All-weaker}
 use Rattle.lists.proofs.Containing.{All-front, All-back}
-use Rattle.library_grammar.specs.GrammarNames.{AreBytes, CannotLack, value, refused, IsInProfile, Entry, End, whole, stops, Splits, ElementHolds, element_checks, element_fault, IsKept, Shows, is_faulty, NoneShows, at_record, at_end, BytesComeTo, are_library, have_fault, property_records, ElementParts, element_records, IsElement, StructureParts, structure_head, structure_records, IsStructure, library_head, IsInShape, MayStand, behind, SayElements, SaysStructure, SayStructures, IsLibrary}
+use Rattle.library_grammar.specs.GrammarNames.{AreBytes, CannotLack, value, refused, IsInProfile, Entry, End, whole, stops, Splits, ElementHolds, element_checks, element_fault, IsKept, Shows}
+use Rattle.library_grammar.specs.GrammarNames.{is_faulty, NoneShows, at_end, BytesComeTo, are_library, have_fault, property_records, ElementParts, element_records, IsElement, StructureParts}
+use Rattle.library_grammar.specs.GrammarNames.{structure_head, structure_records, IsStructure, library_head, IsInShape, MayStand, behind, SayElements, SaysStructure, SayStructures, IsLibrary}
 use Rattle.first_refusal.proofs.CheckLaws.{cannot_lack_both}
-use Rattle.gds_records.proofs.SplitLaws.{has_split}
 use Rattle.library_grammar.specs.Libraries.{no_more as no_elements, one_more as one_element, no_more as no_structures, one_more as one_structure}
 use Rattle.library_grammar.specs.declared.fault.SyntaxFault.{SyntaxFault}
 use Rattle.library_grammar.specs.declared.fault.SyntaxFault.TheVariants.{Record as record_fault}
-use Rattle.library_grammar.proofs.FieldRanges.{HaveBytes}
-use Rattle.library_grammar.proofs.KeptThere.{kept_there}
-use Rattle.library_grammar.proofs.NextRecords.{behind-append, NoneShows-snoc}
 use Rattle.library_grammar.proofs.PartsAgree.{closing_begins, element_behind}
 use Rattle.library_grammar.proofs.ShapeThere.{in_shape}
-use Rattle.library_grammar.proofs.SizeLaws.{sizes}
-use Rattle.library_grammar.proofs.TextThere.{no_item, text_there}
+use Rattle.library_grammar.proofs.FieldRanges.{HaveBytes}
+use Rattle.library_grammar.proofs.laws.NextRecords.{behind-append, NoneShows-snoc}
+use Rattle.library_grammar.proofs.KeptThere.{kept_there}
+use Rattle.library_grammar.proofs.laws.Sizes.{sizes}
+use Rattle.library_grammar.proofs.TextThere.{text_there, no_item}
 
 -- ---- where parts of a stream lie
 
@@ -129,11 +130,11 @@ module _ (stream : List Entry) (shape : IsInShape stream) (none : NoneShows stre
 
 -- ---- bytes
 
-nothing_shows : NoneShows []
+pub nothing_shows : NoneShows []
 nothing_shows before after e fault parts shown = no_item before after e parts
 
 -- where no record is the first that shows a fault, none shows one
-none_shows : (before rest : List Entry) → NoneShows before
+pub none_shows : (before rest : List Entry) → NoneShows before
     → ((front back : List Entry) (e : Entry) (fault : SyntaxFault) → before ++ rest ≡ front ++ e ∷ back → NoneShows front → Shows front e fault → ⊥)
     → NoneShows (before ++ rest)
 none_shows before [] none no_first = subst NoneShows (sym (append-nil before)) none
@@ -143,15 +144,7 @@ none_shows before (e ∷ rest) none no_first =
     (none_shows (before ++ e ∷ []) rest (NoneShows-snoc before e none (λ fault shown. no_first before rest e fault refl none shown))
     (λ front back first fault parts. no_first front back first fault (sym same ∙ parts)))
 
-split_comes_to_something : (bytes : List ℕ) (entries : List Entry) (end : End) → Splits 0 bytes entries end → NoneShows entries → CannotLack (BytesComeTo bytes)
+pub split_comes_to_something : (bytes : List ℕ) (entries : List Entry) (end : End) → Splits 0 bytes entries end → NoneShows entries → CannotLack (BytesComeTo bytes)
 split_comes_to_something bytes entries whole split none refuted =
     library_there entries (in_shape entries none split.ends) none split.each (λ library is. refuted (value library) (are_library split none is))
 split_comes_to_something bytes entries (stops why) split none refuted = refuted (refused (record_fault why)) (have_fault split (at_end none))
-
-pub bytes_come_to_something : (bytes : List ℕ) → AreBytes bytes → CannotLack (BytesComeTo bytes)
-bytes_come_to_something bytes are refuted =
-    let found = has_split (suc (length bytes)) 0 bytes (omega arith) are in
-    split_comes_to_something bytes found.0 found.1 found.2
-    (none_shows [] found.0 nothing_shows
-    (λ front back e fault parts none shown. refuted (refused fault) (have_fault found.2 (at_record front back e parts none shown))))
-    refuted

@@ -1,14 +1,16 @@
 -- Among the own records of an element: the place there says which element it is, and which of its own records stand behind the one
 -- that opens it.
-use Rattle.std.proofs.Common.{ne_eqb, ◌≡◌, ℕ, Bool, true, false, not, ◌&&◌, ◌==◌, if◌then◌else◌, List, [], ◌∷◌, ◌++◌, length, All, Contains, Option, Some, None, option_map, option_and_then, refl, sym, ap, subst, ◌∙◌, arith, append_assoc, length-append}
-use Rattle.lists.proofs.Words.{append-nil, list_all, map-append, length-map, All-head, All-tail, All-map}
+use Rattle.std.proofs.Common.{ne_eqb, ◌≡◌, ℕ, Bool, true, false, not, ◌&&◌, ◌==◌, if◌then◌else◌, List, [], ◌∷◌, ◌++◌, length, All, Contains, Option, Some, None, option_map, option_and_then, refl, sym}
+use Rattle.std.proofs.Common.{ap, subst, ◌∙◌, arith, append_assoc, length-append}
+use Rattle.lists.proofs.Words.{append-nil, list_all, length-map, All-head, All-tail}
 use Rattle.std.specs.Prelude.{is_none}
 use Rattle.std.proofs.lemmas.Bool.{true≢false}
 use Rattle.gds_records.specs.declared.kinds.TheConstants as kind
-use Rattle.library_grammar.specs.GrammarNames.{Entry, ElementForm, Opens, element_forms, own_kinds, Place, before_header, before_name, before_units, between_structures, before_strname, behind_strname, between_elements, among_own, behind_attribute, behind_property, behind_endlib, has_kind, form_of, into_element, out_of_element, next_place, place_behind, kinds_of, head_kinds}
-use Rattle.library_grammar.proofs.PlaceEndings.{found_form}
-use Rattle.library_grammar.proofs.PlaceRuns.{begins_element, begins_first, each_form, form_test, has_contained, not_true, own_step, place_behind-append}
-use Rattle.library_grammar.proofs.PlainKinds.{own_is_plain}
+use Rattle.library_grammar.specs.GrammarNames.{Entry, ElementForm, element_forms, own_kinds, Place, before_name, before_units, between_structures, before_strname, behind_strname, between_elements}
+use Rattle.library_grammar.specs.GrammarNames.{among_own, behind_attribute, behind_property, behind_endlib, has_kind, form_of, into_element, out_of_element, next_place, place_behind, kinds_of}
+use Rattle.library_grammar.specs.GrammarNames.{head_kinds}
+use Rattle.library_grammar.proofs.PlaceRuns.{place_behind-append, own_step}
+use Rattle.library_grammar.proofs.laws.Forms.{found_form, form_test, not_true, begins_element, begins_first, each_form, own_is_plain, has_contained}
 
 -- ---- ways in two parts
 
@@ -97,7 +99,7 @@ begins_own : (p q : Place) (form : ElementForm) → next_place p form.opening �
 begins_own p q form leads h = let same : Some (among_own form []) ≡ Some q = sym leads ∙ h in cc
 
 -- an opening record leads to the own records of its element alone
-opening_leads : (p q : Place) (form : ElementForm) → Contains element_forms form → IsOfForm p → next_place p form.opening ≡ Some q → q ≡ among_own form []
+pub opening_leads : (p q : Place) (form : ElementForm) → Contains element_forms form → IsOfForm p → next_place p form.opening ≡ Some q → q ≡ among_own form []
 opening_leads behind_strname q form listed good h = begins_own behind_strname q form (begins_first form listed) h
 opening_leads between_elements q form listed good h = begins_own between_elements q form (begins_element form listed) h
 opening_leads (among_own other own) q form listed good h =
@@ -123,7 +125,7 @@ own_leads_on form own k q listed is_own h = go (has_kind own k) refl
         nothing_more (next_place (among_own form own) k) q (q ≡ among_own form (own ++ k ∷ [])) none h
     go false new = let some : Some (among_own form (own ++ k ∷ [])) ≡ Some q = sym (own_step form own k is_own new) ∙ h in cc
 
-own_run_leads : (form : ElementForm) (more own : List ℕ) (p : Place) → Contains element_forms form → All (Contains (own_kinds form)) more
+pub own_run_leads : (form : ElementForm) (more own : List ℕ) (p : Place) → Contains element_forms form → All (Contains (own_kinds form)) more
     → place_behind (among_own form own) more ≡ Some p → p ≡ among_own form (own ++ more)
 own_run_leads form [] own p listed are_own h = let same : among_own form own ≡ p = cc in rw (append-nil own) (sym same)
 own_run_leads form (k ∷ more) own p listed are_own h =
@@ -131,21 +133,6 @@ own_run_leads form (k ∷ more) own p listed are_own h =
     let first = own_leads_on form own k way.0 listed (All-head (Contains (own_kinds form)) k more are_own) way.1 in
     own_run_leads form more (own ++ k ∷ []) p listed (All-tail (Contains (own_kinds form)) k more are_own) (ap (λ (q : Place). place_behind q more) (sym first) ∙ way.2)
     ∙ ap (λ (o : List ℕ). among_own form o) (append_assoc own (k ∷ []) more)
-
--- behind the record that opens an element and own records of it a reader stands among these
-pub own_place : (earlier own : List Entry) (opening : Entry) (form : ElementForm) (p : Place) → Opens opening.kind form
-    → All (λ e. Contains (own_kinds form) e.kind) own → place_behind before_header (kinds_of (earlier ++ opening ∷ own)) ≡ Some p
-    → p ≡ among_own form (kinds_of own)
-own_place earlier own opening form p opens are_own h =
-    let along : place_behind before_header (kinds_of earlier ++ opening.kind ∷ kinds_of own) ≡ Some p =
-    ap (place_behind before_header) (sym (map-append (λ (e : Entry). e.kind) earlier (opening ∷ own))) ∙ h
-    in
-    let way = way_in_parts before_header p (kinds_of earlier) (opening.kind ∷ kinds_of own) along in
-    let next = way_in_steps way.0 p opening.kind (kinds_of own) way.2 in
-    let good = behind_of_form (kinds_of earlier) before_header way.0 tt way.1 in
-    let first : next.0 ≡ among_own form [] = opening_leads way.0 next.0 form opens.listed good (ap (next_place way.0) (sym opens.opening) ∙ next.1) in
-    own_run_leads form (kinds_of own) [] p opens.listed (All-map (Contains (own_kinds form)) (λ (e : Entry). e.kind) own are_own)
-    (ap (λ (q : Place). place_behind q (kinds_of own)) (sym first) ∙ next.2)
 
 -- ---- one element
 
@@ -162,16 +149,3 @@ lists_agree {A} (x ∷ front) (y ∷ other) rest also long same =
 
 pub same_length : (own other : List Entry) → kinds_of own ≡ kinds_of other → length own ≡ length other
 same_length own other same = sym (length-map own (λ (e : Entry). e.kind)) ∙ ap length same ∙ length-map other (λ (e : Entry). e.kind)
-
--- where a reader stands among own records, the records behind it are those of one element alone
-pub own_agree : (before own earlier other : List Entry) (opening : Entry) (form form' : ElementForm)
-    → place_behind before_header (kinds_of (before ++ own)) ≡ Some (among_own form (kinds_of own)) → before ++ own ≡ earlier ++ opening ∷ other
-    → Opens opening.kind form' → All (λ e. Contains (own_kinds form') e.kind) other → (form ≡ form') × (own ≡ other)
-own_agree before own earlier other opening form form' here parts opens are_own =
-    let place : among_own form (kinds_of own) ≡ among_own form' (kinds_of other) =
-    own_place earlier other opening form' (among_own form (kinds_of own)) opens are_own (ap (λ (es : List Entry). place_behind before_header (kinds_of es)) (sym parts) ∙ here)
-    in
-    let forms : form ≡ form' = cc in
-    let kinds : kinds_of own ≡ kinds_of other = cc in
-    let apart : before ++ own ≡ (earlier ++ opening ∷ []) ++ other = parts ∙ sym (append_assoc earlier (opening ∷ []) other) in
-    (forms, (lists_agree before (earlier ++ opening ∷ []) own other (same_length own other kinds) apart).1)

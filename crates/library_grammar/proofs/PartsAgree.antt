@@ -1,11 +1,12 @@
 -- Where each part of a library ends is told by its records, so that records have one way to be the parts of a library.
-use Rattle.std.proofs.Common.{◌≡◌, ◌≢◌, ◌⊎◌, inl, inr, ℕ, true, false, not, ◌==◌, List, [], ◌∷◌, ◌++◌, All, Contains, Option, Some, None, IfSome, refl, sym, ap, subst, ◌∙◌, arith, append_assoc, option_to_list}
+use Rattle.std.proofs.Common.{◌≡◌, ◌≢◌, ◌⊎◌, inl, inr, ℕ, true, false, not, ◌==◌, List, [], ◌∷◌, ◌++◌, All, Contains, Option, Some, None, IfSome, refl, sym, ap, subst, ◌∙◌, arith, append_assoc}
+use Rattle.std.proofs.Common.{option_to_list}
 use Rattle.lists.proofs.Words.{flat_map, list_all, eqb-false, All-head, All-tail}
-use Rattle.std.proofs.lemmas.Bool.{true≢false}
 use Rattle.gds_records.specs.declared.kinds.TheConstants as kind
-use Rattle.library_grammar.specs.GrammarNames.{Entry, ElementForm, Opens, element_forms, own_kinds, head_kinds, IsOfKind, Property, property_records, IsProperty, ElementParts, element_records, IsElement, StructureParts, structure_records, IsStructure, LibraryParts, library_records, IsInGrammar, has_kind, form_of}
+use Rattle.library_grammar.specs.GrammarNames.{Entry, ElementForm, Opens, element_forms, own_kinds, head_kinds, IsOfKind, Property, property_records, IsProperty, ElementParts, element_records}
+use Rattle.library_grammar.specs.GrammarNames.{IsElement, StructureParts, structure_records, IsStructure, LibraryParts, library_records, IsInGrammar, has_kind, form_of}
 use Rattle.library_grammar.proofs.PlaceEndings.{one_each}
-use Rattle.library_grammar.proofs.PlaceRuns.{each_form, form_test, has_contained, not_true}
+use Rattle.library_grammar.proofs.laws.Forms.{each_form, form_test, lacked, not_true}
 
 -- ---- parts one after the other, up to a record that begins none
 
@@ -40,10 +41,6 @@ module _ (Kind : ℕ → Type 0) (Last : Entry → Type 0) (apart : (e last : En
   records_agree front other last end rest also are are' is is' same =
       parts_agree (λ e. Kind e.kind) (λ e. e ∷ []) Last (λ a b rest also _ _ same. (cc same, cc same)) (λ a rest also last is is_last same. apart a last is is_last (cc same))
       front other last end rest also are are' is is' (rw (one_each front, one_each other) same)
-
--- a kind that a list lacks is none that it contains
-lacked : (kinds : List ℕ) (k x : ℕ) → has_kind kinds k ≡ false → Contains kinds x → x ≢ k
-lacked kinds k x lacks has same = true≢false (sym (has_contained kinds x has) ∙ ap (has_kind kinds) same ∙ lacks)
 
 -- ---- properties
 
@@ -100,14 +97,6 @@ own_is_no_end form listed e last own (inl attribute) same =
 own_is_no_end form listed e last own (inr end) same =
     let lacks = not_true _ (form_test (λ f. not (has_kind (own_kinds f) kind.ENDEL)) refl form listed) in
     lacked (own_kinds form) kind.ENDEL e.kind lacks own (ap (λ (x : Entry). x.kind) same ∙ end)
-
--- no own record ends a library, and none that opens an element does
-pub own_ends_no_library : (form : ElementForm) → Contains element_forms form → (k : ℕ) → Contains (own_kinds form) k → k ≢ kind.ENDLIB
-own_ends_no_library form listed k own = lacked (own_kinds form) kind.ENDLIB k (not_true _ (form_test (λ f. not (has_kind (own_kinds f) kind.ENDLIB)) refl form listed)) own
-
-pub opening_ends_no_library : (k : ℕ) (form : ElementForm) → Opens k form → k ≢ kind.ENDLIB
-opening_ends_no_library k form opens same =
-    eqb-false form.opening kind.ENDLIB (not_true _ (form_test (λ f. not (f.opening == kind.ENDLIB)) refl form opens.listed)) (sym opens.opening ∙ same)
 
 -- an element with records behind it
 pub element_behind : (a : ElementParts) (rest : List Entry)

@@ -1,8 +1,13 @@
 -- What may follow at each place up to the end of a library, and so that records which lead to the end are in shape.
-use Rattle.std.proofs.Common.{◌≡◌, ◌≢◌, ℕ, suc, ◌⊎◌, inl, inr, Bool, true, false, not, ◌&&◌, ◌||◌, ◌==◌, if◌then◌else◌, List, [], ◌∷◌, ◌++◌, get_or, All, AllPairs, Contains, Option, Some, None, option_map, option_and_then, find, IfSome, refl, sym, ap, subst, ◌∙◌, arith, append_assoc, option_to_list}
-use Rattle.lists.proofs.Words.{flat_map, eqb-true, eqb-false, All-nil, All-cons, All-weaker, Any-from_list_any, list_any-append, AllPairs-cons}
+use Rattle.std.proofs.Common.{◌≡◌, ◌≢◌, ℕ, inl, inr, Bool, true, false, not, ◌&&◌, ◌||◌, ◌==◌, if◌then◌else◌, List, [], ◌∷◌, ◌++◌, All, AllPairs, Contains, Option, Some, None, option_map}
+use Rattle.std.proofs.Common.{option_and_then, IfSome, refl, sym, ap, subst, ◌∙◌, arith, append_assoc, option_to_list}
+use Rattle.lists.proofs.Words.{flat_map, eqb-true, eqb-false, All-nil, All-cons, All-weaker, list_any-append, AllPairs-cons}
 use Rattle.gds_records.specs.declared.kinds.TheConstants as kind
-use Rattle.library_grammar.specs.GrammarNames.{Entry, ElementForm, element_forms, own_kinds, kinds_of, head_kinds, IsOfKind, property_records, IsProperty, ElementParts, element_records, IsElement, StructureParts, structure_records, IsStructure, IsInShape, Place, before_header, before_bgnlib, before_name, before_units, between_structures, before_strname, behind_strname, between_elements, among_own, behind_attribute, behind_property, behind_endlib, has_kind, form_of, into_element, out_of_element, next_place, place_behind}
+use Rattle.library_grammar.specs.GrammarNames.{Entry, ElementForm, element_forms, own_kinds, kinds_of, head_kinds, IsOfKind, property_records, IsProperty, ElementParts, element_records, IsElement}
+use Rattle.library_grammar.specs.GrammarNames.{StructureParts, structure_records, IsStructure, IsInShape, Place, before_header, before_bgnlib, before_name, before_units, between_structures}
+use Rattle.library_grammar.specs.GrammarNames.{before_strname, behind_strname, between_elements, among_own, behind_attribute, behind_property, behind_endlib, has_kind, form_of, into_element}
+use Rattle.library_grammar.specs.GrammarNames.{out_of_element, next_place, place_behind}
+use Rattle.library_grammar.proofs.laws.Forms.{decided, contains_kind, found_form}
 
 -- ---- what leads to the end
 
@@ -73,11 +78,6 @@ Ends behind_endlib entries = entries ≡ []
 
 -- ---- tests
 
--- a choice is one of the two
-decided : {A : Type 0} (b : Bool) (x y z : A) → (if b then x else y) ≡ z → ((b ≡ true) × (x ≡ z)) ⊎ ((b ≡ false) × (y ≡ z))
-decided true x y z h = inl (refl, h)
-decided false x y z h = inr (refl, h)
-
 both_true : (a b : Bool) → (a && not b) ≡ true → (a ≡ true) × (b ≡ false)
 both_true true false h = (refl, refl)
 both_true true true h = absurd (cc)
@@ -87,32 +87,11 @@ both_false : (a b : Bool) → (a || b) ≡ false → (a ≡ false) × (b ≡ fal
 both_false false b h = (refl, h)
 both_false true b h = absurd (cc)
 
--- a list that has a kind contains it
-pub contains_kind : (kinds : List ℕ) (k : ℕ) → has_kind kinds k ≡ true → Contains kinds k
-contains_kind kinds k h =
-    let found = Any-from_list_any (λ other. other == k) kinds h in
-    let same : found.1 ≡ k = eqb-true found.1 k found.4 in
-    (found.0, found.2, subst (λ (x : ℕ). get_or kinds found.0 x ≡ x) same found.3)
-
 -- a list without a kind, of which the last is another
 kind_before : (own : List ℕ) (k x : ℕ) → has_kind (own ++ k ∷ []) x ≡ false → (has_kind own x ≡ false) × (k ≢ x)
 kind_before own k x h =
     let apart = both_false (has_kind own x) (has_kind (k ∷ []) x) (sym (list_any-append (λ other. other == x) own (k ∷ [])) ∙ h) in
     (apart.0, eqb-false k x (both_false (k == x) false apart.1).0)
-
--- the form that is found is listed, and opens with the kind
-pub found_form : (forms : List ElementForm) (k : ℕ) (form : ElementForm) → find (λ f. f.opening == k) forms ≡ Some form → Contains forms form × (k ≡ form.opening)
-found_form [] k form h = absurd (cc)
-found_form (f ∷ forms) k form h =
-    elim (decided (f.opening == k) (Some f) (find (λ g. g.opening == k) forms) (Some form) h) [
-      | inl (test, some) ↦
-          let same : f ≡ form = cc in
-          let opens : f.opening ≡ k = eqb-true f.opening k test in
-          ((0, omega arith, same), sym opens ∙ ap (λ (g : ElementForm). g.opening) same)
-      | inr (test, later) ↦
-          let found = found_form forms k form later in
-          ((suc found.0.0, omega arith, found.0.2), found.1)
-    ]
 
 -- ---- one record more in front
 

@@ -1,9 +1,12 @@
 -- Records in the grammar lead on: each part of a library leads from one place to the next.
-use Rattle.std.proofs.Common.{eq-eqb, ne_eqb, ◌≡◌, ◌≢◌, ℕ, suc, Bool, true, false, not, List, [], ◌∷◌, ◌++◌, get_or, All, AllPairs, Contains, Option, Some, None, option_and_then, IfSome, refl, ap, ◌∙◌, arith, append_assoc, ◌==◌, option_to_list}
-use Rattle.lists.proofs.Words.{append-nil, list_all, AllPass-from_list_all, flat_map, map-append, All-head, All-tail, All-contains, All-from_recursion, All-map, list_any-append}
-use Rattle.std.proofs.lemmas.List.Folds.{list_any_at}
+use Rattle.std.proofs.Common.{ne_eqb, ◌≡◌, ◌≢◌, ℕ, suc, false, List, [], ◌∷◌, ◌++◌, get_or, All, AllPairs, Contains, Option, Some, None, option_and_then, IfSome, refl, ap, ◌∙◌, arith, append_assoc}
+use Rattle.std.proofs.Common.{◌==◌, option_to_list}
+use Rattle.lists.proofs.Words.{append-nil, flat_map, map-append, All-head, All-tail, All-contains, All-from_recursion, All-map, list_any-append}
 use Rattle.gds_records.specs.declared.kinds.TheConstants as kind
-use Rattle.library_grammar.specs.GrammarNames.{Entry, ElementForm, boundary_form, path_form, sref_form, aref_form, text_form, node_form, box_form, element_forms, own_kinds, kinds_of, head_kinds, IsOfKind, Property, property_records, IsProperty, ElementParts, element_records, IsElement, StructureParts, structure_records, IsStructure, IsInShape, Place, before_header, before_bgnlib, before_name, before_units, between_structures, before_strname, behind_strname, between_elements, among_own, behind_attribute, behind_property, behind_endlib, has_kind, next_place, place_behind}
+use Rattle.library_grammar.specs.GrammarNames.{Entry, ElementForm, element_forms, own_kinds, kinds_of, head_kinds, IsOfKind, Property, property_records, IsProperty, ElementParts, element_records}
+use Rattle.library_grammar.specs.GrammarNames.{IsElement, StructureParts, structure_records, IsStructure, IsInShape, Place, before_header, before_bgnlib, before_name, before_units, between_structures}
+use Rattle.library_grammar.specs.GrammarNames.{before_strname, behind_strname, between_elements, among_own, behind_attribute, behind_property, behind_endlib, has_kind, next_place, place_behind}
+use Rattle.library_grammar.proofs.laws.Forms.{has_contained, begins_property, ends_element, begins_element, begins_first}
 
 -- ---- ways
 
@@ -57,35 +60,6 @@ head_leads p stays (e ∷ head) h =
     ∙ head_leads p stays head (All-tail (λ o. Contains head_kinds o.kind) e head h)
 
 -- ---- elements
-
--- what holds of each form
-pub each_form : (P : ElementForm → Type 0) → P boundary_form → P path_form → P sref_form → P aref_form → P text_form → P node_form → P box_form
-    → (form : ElementForm) → Contains element_forms form → P form
-each_form P boundary path sref aref text node box form listed =
-    All-contains P element_forms form (All-from_recursion P element_forms (boundary, (path, (sref, (aref, (text, (node, (box, tt)))))))) listed
-
--- and what is tested of each
-pub form_test : (test : ElementForm → Bool) → list_all test element_forms ≡ true → (form : ElementForm) → Contains element_forms form → test form ≡ true
-form_test test all form listed = All-contains (λ f. test f ≡ true) element_forms form (AllPass-from_list_all test element_forms all) listed
-
-pub not_true : (b : Bool) → not b ≡ true → b ≡ false
-not_true true h = absurd (cc)
-not_true false h = refl
-
-pub begins_element : (form : ElementForm) → Contains element_forms form → next_place between_elements form.opening ≡ Some (among_own form [])
-begins_element = each_form (λ form. next_place between_elements form.opening ≡ Some (among_own form [])) refl refl refl refl refl refl refl
-
-pub begins_first : (form : ElementForm) → Contains element_forms form → next_place behind_strname form.opening ≡ Some (among_own form [])
-begins_first = each_form (λ form. next_place behind_strname form.opening ≡ Some (among_own form [])) refl refl refl refl refl refl refl
-
-pub begins_property : (own : List ℕ) (form : ElementForm) → Contains element_forms form → next_place (among_own form own) kind.PROPATTR ≡ Some behind_attribute
-begins_property own = each_form (λ form. next_place (among_own form own) kind.PROPATTR ≡ Some behind_attribute) refl refl refl refl refl refl refl
-
-pub ends_element : (own : List ℕ) (form : ElementForm) → Contains element_forms form → next_place (among_own form own) kind.ENDEL ≡ Some between_elements
-ends_element own = each_form (λ form. next_place (among_own form own) kind.ENDEL ≡ Some between_elements) refl refl refl refl refl refl refl
-
-pub has_contained : (kinds : List ℕ) (k : ℕ) → Contains kinds k → has_kind kinds k ≡ true
-has_contained kinds k listed = list_any_at (λ other. other == k) kinds listed.0 k listed.1 (eq-eqb (get_or kinds listed.0 k) k listed.2)
 
 has_neither : (own : List ℕ) (k x : ℕ) → has_kind own x ≡ false → k ≢ x → has_kind (own ++ k ∷ []) x ≡ false
 has_neither own k x old new = list_any-append (λ other. other == x) own (k ∷ []) ∙ simp (old, ne_eqb k x new)

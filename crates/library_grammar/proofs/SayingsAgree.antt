@@ -1,11 +1,12 @@
 -- The parts of a library say one library at most, and so do its records.
 use Rattle.std.proofs.Common.{◌≡◌, ℕ, List, ◌∷◌, ◌++◌, Option, refl, sym, ap, subst, ◌∙◌, option_to_list}
-use Rattle.library_grammar.specs.GrammarNames.{IsUnique, Entry, ElementParts, element_records, StructureParts, structure_records, LibraryParts, behind, SayElements, SayStructures, SaysLibrary, IsLibrary}
-use Rattle.gds_records.proofs.TextLaws.{texts_agree}
+use Rattle.library_grammar.specs.GrammarNames.{IsUnique, Entry, ElementParts, element_records, StructureParts, structure_records, LibraryParts, behind, SayElements, SayStructures, SaysLibrary}
+use Rattle.library_grammar.specs.GrammarNames.{IsLibrary}
+use Rattle.gds_records.proofs.laws.Bodies.{texts_agree}
 use Rattle.library_grammar.specs.Libraries.{no_more as no_elements, one_more as one_element, no_more as no_structures, one_more as one_structure}
 use Rattle.library_model.specs.declared.element.Element.{Element}
 use Rattle.library_model.specs.declared.library.Structure.{Structure}
-use Rattle.library_model.proofs.SameParts.{same_structure, same_library}
+use Rattle.library_model.proofs.laws.SameParts.{same_structure, same_library}
 use Rattle.library_grammar.proofs.KeptAgree.{kept_agree}
 use Rattle.library_grammar.proofs.PartsAgree.{libraries_agree}
 

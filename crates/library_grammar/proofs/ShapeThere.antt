@@ -2,13 +2,14 @@
 use Rattle.std.proofs.Common.{◌≡◌, ℕ, false, List, [], ◌∷◌, ◌++◌, Option, Some, None, refl, sym, ap, subst, ◌∙◌, append_assoc}
 use Rattle.lists.proofs.Words.{append-nil, map-append}
 use Rattle.gds_records.specs.declared.kinds.TheConstants as kind
-use Rattle.library_grammar.specs.GrammarNames.{Entry, EndsWithEndlib, own_kinds, NoneShows, behind, Place, before_header, between_structures, among_own, behind_endlib, has_kind, next_place, place_behind, kinds_of, IsInShape}
+use Rattle.library_grammar.specs.GrammarNames.{Entry, EndsWithEndlib, own_kinds, NoneShows, behind, Place, before_header, between_structures, among_own, behind_endlib, has_kind, next_place}
+use Rattle.library_grammar.specs.GrammarNames.{place_behind, kinds_of, IsInShape}
 use Rattle.library_grammar.specs.FirstFault.{may_not_stand as shows_unexpected}
 use Rattle.library_grammar.specs.declared.fault.SyntaxFault.TheVariants.{Unexpected}
+use Rattle.library_grammar.proofs.laws.Places.{may_not_stand, place_further}
 use Rattle.library_grammar.proofs.OwnPlaces.{IsOfForm, behind_of_form, way_in_parts, way_in_steps}
+use Rattle.library_grammar.proofs.laws.Forms.{each_form}
 use Rattle.library_grammar.proofs.PlaceEndings.{in_shape_of_end}
-use Rattle.library_grammar.proofs.PlaceLaws.{may_not_stand, place_further}
-use Rattle.library_grammar.proofs.PlaceRuns.{each_form}
 
 -- records of which none shows a fault lead on from where those before them lead
 leads_on : (before rest : List Entry) (p : Place) → place_behind before_header (kinds_of before) ≡ Some p → NoneShows (before ++ rest)

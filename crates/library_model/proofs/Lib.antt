@@ -1,2 +1,2 @@
+pub mod laws
 pub mod NameLaws
-pub mod SameParts

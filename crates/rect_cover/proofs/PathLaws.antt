@@ -10,7 +10,7 @@ use Rattle.geo_core.specs.declared.plane.Cell.{Cell}
 use Rattle.geo_core.specs.declared.plane.Rect.{Rect}
 use Rattle.library_model.specs.declared.element.ShapeKind.{ShapeKind}
 use Rattle.library_model.specs.declared.element.ShapeKind.TheVariants.{Path}
-use Rattle.flatten.proofs.FirstLaws.{refused_within}
+use Rattle.flatten.proofs.laws.Refusals.{refused_within}
 use Rattle.outlines.specs.Fillings.{IsInSome, IsCover}
 use Rattle.outlines.specs.Outlines.{edges_of}
 use Rattle.rect_cover.specs.PathPieces.{box_of, half_width_of, pieces_of, corners_of, neighbours}

@@ -6,18 +6,18 @@ use Rattle.first_refusal.proofs.CheckLaws.{checks_cannot_lack}
 use Rattle.first_refusal.proofs.StageLaws.{reading_cannot_lack, retold_cannot_lack, stages_cannot_lack}
 use Rattle.library_model.specs.declared.library.Library.{Library}
 use Rattle.library_grammar.specs.FirstFault.{BytesComeTo}
-use Rattle.library_grammar.proofs.LibraryThere.{bytes_come_to_something}
+use Rattle.library_grammar.proofs.laws.Libraries.{bytes_come_to_something}
 use Rattle.flatten.specs.Placements.{Placing}
-use Rattle.flatten.proofs.PlacingLaws.{placings_cannot_lack}
+use Rattle.flatten.proofs.laws.Placings.{placings_cannot_lack}
 use Rattle.command_line.specs.Requests.{Ask}
 use Rattle.command_line.specs.declared.request.Request.{Request}
 use Rattle.command_line.specs.declared.task.Task.{Task}
 use Rattle.command_line.specs.declared.task.Task.TheVariants.{OneMetal, Mapped, Generated}
 use Rattle.layer_map.specs.Documents as document
-use Rattle.layer_map.proofs.ExistLaws.{maps_cannot_lack}
+use Rattle.layer_map.proofs.laws.Maps.{maps_cannot_lack}
 use Rattle.map_model.specs.MapNames.{LayerMap, one_metal_map}
 use Rattle.layout_gen.specs.Generated.{generated_map}
-use Rattle.layout_gen.proofs.GeneratedLaws.{generated_reads}
+use Rattle.layout_gen.proofs.laws.Generated.{generated_reads}
 use Rattle.lists.specs.ByteLists.{AreBytes}
 use Rattle.lists.proofs.Words.{enumerate_from}
 use Rattle.critarea_core.specs.Contents.{Contents, bytes_from, file, layout_source, wanted_top}

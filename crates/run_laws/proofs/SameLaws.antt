@@ -6,7 +6,7 @@ use Rattle.first_refusal.specs.Laws.{IsUnique}
 use Rattle.command_line.specs.Requests.{Ask}
 use Rattle.command_line.specs.declared.request.Request.{Request}
 use Rattle.command_line.specs.declared.task.Task.{Task}
-use Rattle.command_line.proofs.RequestLaws.{requests_agree}
+use Rattle.command_line.proofs.laws.Requests.{requests_agree}
 use Rattle.map_model.specs.MapNames.{LayerMap}
 use Rattle.gauges.specs.GaugeViews.{GaugeView}
 use Rattle.critical_areas.proofs.UniqueLaws.{rows_agree}

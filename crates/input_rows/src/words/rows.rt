@@ -69,7 +69,7 @@ fn is_mapped(task: &Task, name: &str, map_name: &str) -> bool {
 fn is_generated(task: &Task, count: u32) -> bool {
     match task {
         Task::OneMetal { .. } | Task::Mapped { .. } => false,
-        Task::Generated { columns } => *columns == count,
+        Task::Generated { n } => *n == count,
     }
 }
 

@@ -57,7 +57,7 @@ fn has_bytes(alloc: Global, columns: u32, wanted: &[u8]) -> bool {
         return false;
     }
     match generate(alloc, columns) {
-        Ok(made) => made.layout.as_slice() == wanted,
+        Ok(made) => made.0.as_slice() == wanted,
         Err(_) => false,
     }
 }

@@ -30,7 +30,7 @@ y = 3
 /// Whether the map has this text.
 fn has_text(alloc: Global, text: &str) -> bool {
     match generate(alloc, 1) {
-        Ok(made) => made.map.as_slice() == text.as_bytes(),
+        Ok(made) => made.1.as_slice() == text.as_bytes(),
         Err(_) => false,
     }
 }
@@ -53,7 +53,7 @@ fn is_read(alloc: Global) -> bool {
     let Ok(made) = generate(alloc, 1) else {
         return false;
     };
-    match read_map(alloc, made.map.as_slice()) {
+    match read_map(alloc, made.1.as_slice()) {
         Ok(map) => is_wanted(&map),
         Err(_) => false,
     }

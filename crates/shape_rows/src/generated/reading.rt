@@ -46,7 +46,7 @@ fn is_read(alloc: Global, count: u16) -> bool {
     let Ok(made) = generate(alloc, columns) else {
         return false;
     };
-    match read_library(alloc, made.layout.as_slice()) {
+    match read_library(alloc, made.0.as_slice()) {
         Ok(library) => is_wanted(&library, count),
         Err(_) => false,
     }

@@ -1,4 +1,4 @@
-use Rattle.gauges.proofs.ToldGauges.{on_err, told_prefixes, untold_prefixes}
+use Rattle.gauges.proofs.laws.Told.{on_err, told_prefixes, untold_prefixes}
 use Rattle.critarea_core.proofs.RunLaws.{whole_text}
 use Rattle.critarea_core.proofs.printing.text_with_gauges.Goals as goal
 

@@ -31,6 +31,6 @@ pub returns-in_ok-made-in-Generated-clause-found : goal.returns-in_ok-made-in-Ge
 returns-in_ok-made-in-Generated-clause-found g c =
     let told = g.F.Files.holds c.args.files.now in
     let made = c.in_ok-made-in-Generated.ensures in
-    let size : length (generated_layout c.in-Generated.columns) ≡ 454 = rw made.layout at made.size in
-    rw c.in-Generated.is (files_serve refl (gives (gives_thing {v = generated_layout c.in-Generated.columns}
+    let size : length (generated_layout c.in-Generated.n) ≡ 454 = rw made.layout at made.size in
+    rw c.in-Generated.is (files_serve refl (gives (gives_thing {v = generated_layout c.in-Generated.n}
     (record { bytes = some_contents told; may_be = some_may_be told; comes = reads (record { is_text = refl; short = omega (arith, size) }) }) (sym made.layout))))

@@ -1,4 +1,4 @@
-use Rattle.flatten.proofs.ListedRoutes.{routes_are_listed}
+use Rattle.flatten.proofs.laws.Routes.{routes_are_listed}
 use Rattle.flatten.proofs.laws.all_routes_are_listed.Goals as goal
 
 pub returns : goal.returns

@@ -1,4 +1,4 @@
-use Rattle.flatten.proofs.PlacingLaws as laws
+use Rattle.flatten.proofs.laws.Placings as laws
 use Rattle.flatten.proofs.laws.placings_agree.Goals as goal
 
 pub returns : goal.returns

@@ -1,6 +1,6 @@
 use Rattle.std.proofs.Common.{arith}
 use Rattle.gauges.proofs.GainedTexts.{prefix_behind, texts_next, texts_parted, texts_whole}
-use Rattle.gauges.proofs.ToldGauges.{on_err}
+use Rattle.gauges.proofs.laws.Told.{on_err}
 use Rattle.gauges.proofs.telling.append_texts.Goals as goal
 
 pub returns-in_err-append_text-clause-prefix : goal.returns-in_err-append_text-clause-prefix

@@ -1,6 +1,7 @@
 use Rattle.std.proofs.Common.{List, set, length, ◌≤◌, ◌≡◌, length-set, arith}
 use Rattle.lists.proofs.Reading.{put_back}
-use Rattle.gauges.proofs.ToldGauges.{on_err, told_all, told_more, told_none, told_until}
+use Rattle.gauges.proofs.laws.Told.{on_err}
+use Rattle.gauges.proofs.ToldGauges.{told_all, told_more, told_none, told_until}
 use Rattle.gauges.proofs.telling.tell.Goals as goal
 
 pub loop-gauge-init : goal.loop-gauge-init

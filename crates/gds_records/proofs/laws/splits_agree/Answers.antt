@@ -1,4 +1,4 @@
-use Rattle.gds_records.proofs.SplitLaws.{splits_agree as only_one}
+use Rattle.gds_records.proofs.laws.Splits.{splits_agree as only_one}
 use Rattle.gds_records.proofs.laws.splits_agree.Goals as goal
 
 pub returns : goal.returns

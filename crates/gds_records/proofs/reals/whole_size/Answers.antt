@@ -1,4 +1,5 @@
-use Rattle.gds_records.proofs.RealLaws.{product_is_size, no_product_no_size, no_scale_no_size, some_parts, quotient_is_size, rest_no_size, no_parts_no_size}
+use Rattle.gds_records.proofs.laws.Reals.{product_is_size, no_product_no_size}
+use Rattle.gds_records.proofs.RealLaws.{no_scale_no_size, some_parts, quotient_is_size, rest_no_size, no_parts_no_size}
 use Rattle.gds_records.proofs.reals.whole_size.Goals as goal
 
 pub returns-in_err-scale-clause-none : goal.returns-in_err-scale-clause-none

@@ -2,7 +2,8 @@ use Rattle.std.proofs.Common.{◌≡◌, ◌-◌, ◌%◌, [], ◌∷◌, drop, 
 use Rattle.lists.proofs.Words.{iff_false}
 use Rattle.gds_records.specs.RecordChecks.{kind_field, form_field, head_is_there, length_counts_head, length_is_even, body_is_there, form_is_listed, size_is_permitted}
 use Rattle.gds_records.proofs.TableLaws.{not_permitted}
-use Rattle.gds_records.proofs.Heads.{bytes_are_bytes, IsInProfile-entry_at, spelling-entry_at}
+use Rattle.gds_records.proofs.laws.Bodies.{bytes_are_bytes}
+use Rattle.gds_records.proofs.Heads.{IsInProfile-entry_at, spelling-entry_at}
 use Rattle.gds_records.proofs.RecordCheckLaws.{fault_behind}
 use Rattle.gds_records.proofs.records.record_at.Goals.{then-len-lt4-via-then-len-lt4, then-len-lt4-via-else-len-lt4+then-len-eq1}
 use Rattle.gds_records.proofs.records.record_at.Goals as goal

@@ -1,6 +1,7 @@
 use Rattle.std.proofs.Common.{sym}
 use Rattle.lists.proofs.Words.{iff_false}
-use Rattle.gds_records.proofs.TableLaws.{rule_is_for, none_without_rule, none_of_other_form}
+use Rattle.gds_records.proofs.laws.Rules.{rule_is_for}
+use Rattle.gds_records.proofs.TableLaws.{none_without_rule, none_of_other_form}
 use Rattle.gds_records.proofs.table.rule_for.Goals as goal
 
 pub returns-in_err-rule-clause-none : goal.returns-in_err-rule-clause-none

@@ -1,6 +1,6 @@
 use Rattle.std.proofs.Common.{arith}
 use Rattle.library_grammar.specs.GrammarNames.{entry_of}
-use Rattle.library_grammar.proofs.SizeLaws.{sizes}
+use Rattle.library_grammar.proofs.laws.Sizes.{sizes}
 use Rattle.gds_syntax.proofs.arrays.columns_and_rows.Goals as goal
 
 pub i16_at-requires : goal.i16_at-requires

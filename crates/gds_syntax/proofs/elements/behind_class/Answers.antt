@@ -1,5 +1,5 @@
 use Rattle.library_grammar.specs.GrammarNames.{behind_strname, between_elements}
-use Rattle.gds_syntax.specs.LibraryReaders.{standing}
+use Rattle.gds_syntax.specs.inside.LibraryReaders.{standing}
 use Rattle.gds_syntax.proofs.ElementsReading.{elements_begin, elements_begin_behind_class, class_further}
 use Rattle.first_refusal.proofs.AnswerLaws.{error_handed_on}
 use Rattle.gds_syntax.proofs.ReaderLaws.{stops_later}

@@ -1,13 +1,13 @@
 use Rattle.std.proofs.Common.{[], sym}
 use Rattle.gds_syntax.specs.inside.ElementKinds.{form_for}
 use Rattle.library_grammar.specs.GrammarNames.{between_elements}
-use Rattle.gds_syntax.specs.LibraryReaders.{standing}
+use Rattle.gds_syntax.specs.inside.LibraryReaders.{standing}
 use Rattle.gds_syntax.proofs.ElementsReading.{elements_go_on, elements_stop, elements_end, element_further, element_fault_stops, opens}
 use Rattle.first_refusal.proofs.AnswerLaws.{handed_on, out_of_memory}
 use Rattle.first_refusal.specs.Answers.{gives, refuses}
 use Rattle.library_grammar.specs.declared.fault.SyntaxFault.TheVariants.{Memory}
 use Rattle.gds_syntax.proofs.ReaderLaws.{has_less_left, passed_on, read, stops_later}
-use Rattle.library_grammar.proofs.PartsAgree.{opening_ends_no_library}
+use Rattle.library_grammar.proofs.laws.Forms.{opening_ends_no_library}
 use Rattle.gds_syntax.proofs.elements.read_elements.Goals as goal
 
 pub returns-in_default : goal.returns-in_default

@@ -1,8 +1,8 @@
 use Rattle.std.proofs.Common.{refl}
 use Rattle.gds_records.specs.declared.kinds.TheConstants as kind
 use Rattle.library_grammar.specs.GrammarNames.{behind_attribute, behind_property}
-use Rattle.gds_syntax.specs.LibraryReaders.{standing}
-use Rattle.library_grammar.proofs.PlainKinds.{plain}
+use Rattle.gds_syntax.specs.inside.LibraryReaders.{standing}
+use Rattle.library_grammar.proofs.laws.Forms.{plain}
 use Rattle.gds_syntax.proofs.PropertyReading.{properties_begin, properties_go_on, properties_stop, properties_end, attribute_further, property_further}
 use Rattle.first_refusal.proofs.AnswerLaws.{error_handed_on}
 use Rattle.gds_syntax.proofs.ReaderLaws.{stops_later, only_one, advances_kind}

@@ -1,5 +1,5 @@
 use Rattle.std.proofs.Common.{◌-◌, length}
-use Rattle.gds_syntax.specs.LibraryReaders.{ReadsPropertiesSoFar}
+use Rattle.gds_syntax.specs.inside.LibraryReaders.{ReadsPropertiesSoFar}
 use Rattle.gds_syntax.proofs.elements.read_properties.Given as goal
 
 abbrev pub invariant-loop-found : goal.invariant-loop-found

@@ -1,5 +1,5 @@
 use Rattle.std.proofs.Common.{◌-◌, length}
-use Rattle.gds_syntax.specs.LibraryReaders.{ReadsHeadSoFar}
+use Rattle.gds_syntax.specs.inside.LibraryReaders.{ReadsHeadSoFar}
 use Rattle.gds_syntax.proofs.head.behind_head_records.Given as goal
 
 abbrev pub invariant-loop-found : goal.invariant-loop-found

@@ -1,14 +1,14 @@
 use Rattle.std.proofs.Common.{[], refl, sym, ap, ◌∙◌, subst, length}
 use Rattle.gds_records.specs.declared.kinds.TheConstants as kind
 use Rattle.library_grammar.specs.GrammarNames.{entry_of, AreBytes, before_header, before_bgnlib, before_name, before_units, between_structures}
-use Rattle.gds_syntax.specs.LibraryReaders.{standing, ReadsHead}
+use Rattle.gds_syntax.specs.inside.LibraryReaders.{standing, ReadsHead}
 use Rattle.gds_syntax.proofs.HeadLaws.{text_fits, begins, names, reads_head}
-use Rattle.library_grammar.proofs.PlainKinds.{plain}
+use Rattle.library_grammar.proofs.laws.Forms.{plain}
 use Rattle.first_refusal.proofs.AnswerLaws.{handed_on, out_of_memory}
 use Rattle.first_refusal.specs.Answers.{gives, refuses}
 use Rattle.library_grammar.specs.declared.fault.SyntaxFault.TheVariants.{Memory}
 use Rattle.gds_syntax.proofs.ReaderLaws.{stops_later, advances_kind, only_one}
-use Rattle.library_grammar.proofs.SizeLaws.{sizes}
+use Rattle.library_grammar.proofs.laws.Sizes.{sizes}
 use Rattle.gds_syntax.proofs.head.read_head.Goals as goal
 
 pub returns-in_err-_version : goal.returns-in_err-_version

@@ -3,7 +3,7 @@ use Rattle.gds_records.specs.declared.kinds.TheConstants as kind
 use Rattle.library_grammar.specs.GrammarNames.{IsShape, path_kind, boundary, path, text, node, box}
 use Rattle.gds_syntax.proofs.JudgedLaws.{without_checks, keeps, keeps_none, has_fault}
 use Rattle.first_refusal.proofs.AnswerLaws.{out_of_memory}
-use Rattle.library_grammar.proofs.SizeLaws.{sizes}
+use Rattle.library_grammar.proofs.laws.Sizes.{sizes}
 use Rattle.gds_syntax.proofs.kept.kept_by_sort.Goals as goal
 
 pub returns-in_err-boundary-in-Boundary : goal.returns-in_err-boundary-in-Boundary

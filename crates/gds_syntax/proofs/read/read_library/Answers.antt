@@ -1,7 +1,7 @@
 use Rattle.std.proofs.Common.{sym, arith}
-use Rattle.gds_records.proofs.Heads.{bytes_are_bytes}
+use Rattle.gds_records.proofs.laws.Bodies.{bytes_are_bytes}
 use Rattle.gds_syntax.proofs.LibraryReading.{bytes_have_fault, bytes_are_library}
-use Rattle.library_grammar.proofs.LibraryFacts.{library_names_differ, library_is_pointed}
+use Rattle.library_grammar.proofs.laws.Libraries.{library_names_differ, library_is_pointed}
 use Rattle.gds_syntax.proofs.ReaderLaws.{passed_on, read, stops_later}
 use Rattle.first_refusal.specs.Answers.{gives}
 use Rattle.gds_syntax.proofs.read.read_library.Goals as goal

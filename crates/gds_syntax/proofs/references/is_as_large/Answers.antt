@@ -1,6 +1,6 @@
 use Rattle.std.proofs.Common.{arith}
 use Rattle.library_grammar.specs.GrammarNames.{entry_of}
-use Rattle.library_grammar.proofs.SizeLaws.{sizes}
+use Rattle.library_grammar.proofs.laws.Sizes.{sizes}
 use Rattle.gds_syntax.proofs.TurnLaws.{as_large_where_one}
 use Rattle.gds_syntax.proofs.references.is_as_large.Goals as goal
 

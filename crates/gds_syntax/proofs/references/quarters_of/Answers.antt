@@ -2,7 +2,7 @@ use Rattle.std.proofs.Common.{arith, pos, SFits, w64, rules}
 use Rattle.lists.proofs.Words.{to_z-of_z}
 use Rattle.library_grammar.specs.GrammarNames.{entry_of}
 use Rattle.gds_syntax.proofs.QuarterLaws.{no_turn}
-use Rattle.library_grammar.proofs.SizeLaws.{sizes}
+use Rattle.library_grammar.proofs.laws.Sizes.{sizes}
 use Rattle.gds_syntax.proofs.TurnLaws.{no_quarters_of_body, none_is_no_angle}
 use Rattle.gds_syntax.proofs.references.quarters_of.Goals as goal
 

@@ -1,6 +1,6 @@
 use Rattle.std.proofs.Common.{sym, subst}
 use Rattle.library_grammar.specs.GrammarNames.{ArePoints}
-use Rattle.library_grammar.proofs.PointLaws.{are_points}
+use Rattle.library_grammar.proofs.laws.Points.{are_points}
 use Rattle.gds_syntax.proofs.shapes.shape_of.Goals as goal
 
 pub invariant_of-result : goal.invariant_of-result

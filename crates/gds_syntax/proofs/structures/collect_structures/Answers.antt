@@ -1,6 +1,6 @@
 use Rattle.std.proofs.Common.{ℕ, [], ◌∷◌, ap, sym, ◌∙◌, arith}
 use Rattle.library_grammar.specs.GrammarNames.{between_structures, behind, entry_of}
-use Rattle.gds_syntax.specs.LibraryReaders.{standing}
+use Rattle.gds_syntax.specs.inside.LibraryReaders.{standing}
 use Rattle.first_refusal.proofs.AnswerLaws.{handed_on, out_of_memory}
 use Rattle.first_refusal.specs.Answers.{gives, refuses}
 use Rattle.library_grammar.specs.declared.fault.SyntaxFault.TheVariants.{Memory}

@@ -1,5 +1,5 @@
 use Rattle.std.proofs.Common.{◌-◌, length}
-use Rattle.gds_syntax.specs.LibraryReaders.{ReadsStructuresSoFar}
+use Rattle.gds_syntax.specs.inside.LibraryReaders.{ReadsStructuresSoFar}
 use Rattle.gds_syntax.proofs.structures.collect_structures.Given as goal
 
 abbrev pub invariant-loop-found : goal.invariant-loop-found

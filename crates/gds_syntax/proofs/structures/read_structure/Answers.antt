@@ -1,7 +1,7 @@
 use Rattle.std.proofs.Common.{[], ◌∷◌, ◌++◌, refl, sym, subst, ◌∙◌, arith}
 use Rattle.gds_records.specs.declared.kinds.TheConstants as kind
 use Rattle.library_grammar.specs.GrammarNames.{AreBytes, before_strname, behind_strname}
-use Rattle.gds_syntax.specs.LibraryReaders.{standing}
+use Rattle.gds_syntax.specs.inside.LibraryReaders.{standing}
 use Rattle.gds_syntax.proofs.HeadLaws.{text_fits}
 use Rattle.gds_syntax.proofs.StructureReading.{name_further, name_stops, structure_read}
 use Rattle.first_refusal.proofs.AnswerLaws.{handed_on, out_of_memory}

@@ -1,4 +1,4 @@
-use Rattle.gds_write.proofs.WrittenLaws as laws
+use Rattle.gds_write.proofs.laws.Written as laws
 use Rattle.gds_write.proofs.laws.written_reads.Goals as goal
 
 pub returns : goal.returns

@@ -1,4 +1,4 @@
-use Rattle.layout_gen.proofs.GeneratedLaws.{generated_reads}
+use Rattle.layout_gen.proofs.laws.Generated.{generated_reads}
 use Rattle.layout_gen.proofs.laws.generated_layouts_read.Goals as goal
 
 pub returns : goal.returns

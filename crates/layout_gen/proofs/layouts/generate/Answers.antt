@@ -8,7 +8,7 @@ use Rattle.layout_gen.specs.Generated.{generated_layout, generated_map}
 use Rattle.layout_gen.proofs.layouts.generate.Goals as goal
 
 pub write_library-requires : goal.write_library-requires
-write_library-requires c = subst IsWellFormed (sym c.in_ok-library.ensures) (is_well_formed c.args.columns)
+write_library-requires c = subst IsWellFormed (sym c.in_ok-library.ensures) (is_well_formed c.args.n)
 
 pub returns-clause-layout : goal.returns-clause-layout
 unfolding generated_layout
@@ -19,4 +19,4 @@ unfolding generated_map
 returns-clause-map c = c.in_ok-map.ensures.items ∙ c.as_bytes.ensures.value
 
 pub returns-clause-size : goal.returns-clause-size
-returns-clause-size c = ap length (returns-clause-layout c) ∙ length-generated_layout c.args.columns
+returns-clause-size c = ap length (returns-clause-layout c) ∙ length-generated_layout c.args.n

@@ -1,5 +1,5 @@
 use Rattle.std.proofs.Common.{refl, ◌∙◌}
-use Rattle.library_model.proofs.SameParts.{same_shape}
+use Rattle.library_model.proofs.laws.SameParts.{same_shape}
 use Rattle.layout_gen.proofs.GeneratedLaws.{same_cons}
 use Rattle.layout_gen.specs.Generated as generated
 use Rattle.layout_gen.proofs.library.boundary.Goals as goal

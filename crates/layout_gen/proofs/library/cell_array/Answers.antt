@@ -1,5 +1,5 @@
 use Rattle.std.proofs.Common.{refl, ap, Some}
-use Rattle.library_model.proofs.SameParts.{same_reference, same_turn}
+use Rattle.library_model.proofs.laws.SameParts.{same_reference, same_turn}
 use Rattle.layout_gen.specs.Generated as generated
 use Rattle.layout_gen.proofs.library.cell_array.Goals as goal
 

@@ -1,5 +1,5 @@
 use Rattle.std.proofs.Common.{refl}
-use Rattle.library_model.proofs.SameParts.{same_lattice}
+use Rattle.library_model.proofs.laws.SameParts.{same_lattice}
 use Rattle.layout_gen.proofs.GeneratedLaws.{as_many}
 use Rattle.layout_gen.specs.Generated as generated
 use Rattle.layout_gen.proofs.library.lattice.Goals as goal

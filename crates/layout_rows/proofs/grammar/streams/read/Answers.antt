@@ -1,4 +1,4 @@
-use Rattle.gds_write.proofs.ReadWellFormed.{read_is_well_formed}
+use Rattle.gds_write.proofs.laws.WellFormed.{read_is_well_formed}
 use Rattle.layout_rows.proofs.grammar.streams.read.Goals as goal
 
 pub returns-clause-well_formed : goal.returns-clause-well_formed

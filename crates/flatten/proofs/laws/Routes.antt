@@ -10,13 +10,13 @@ use Rattle.flatten.specs.Structures.{elements_of, references_among, references_i
 use Rattle.flatten.specs.Steps.{Step, steps_of, steps_in_row, columns_of, rows_of}
 use Rattle.flatten.specs.Routes.{Route, behind_step, routes_at, routes}
 use Rattle.flatten.specs.OneRoute.{LeadAlong, IsRoute}
-use Rattle.flatten.proofs.ArrayLaws.{stands_there}
-use Rattle.flatten.proofs.NumberLaws.{number_below}
 use Rattle.flatten.specs.inside.Ends.{route_to}
-use Rattle.flatten.proofs.RouteLaws.{from_target, reference_among, routes-is}
 use Rattle.lists.proofs.Containing.{all_of_each, Contains-head, Contains-none, Contains-one}
 use Rattle.lists.proofs.Mapping.{Contains-flat_map, Contains-flat_map_from, Contains-map, Contains-map_from}
 use Rattle.lists.proofs.Numbering.{numbered_there}
+use Rattle.flatten.proofs.NumberLaws.{number_below}
+use Rattle.flatten.proofs.ArrayLaws.{stands_there}
+use Rattle.flatten.proofs.RouteLaws.{from_target, reference_among, routes-is}
 
 -- ---- the copies of a reference
 

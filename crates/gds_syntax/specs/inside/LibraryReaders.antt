@@ -1,7 +1,7 @@
 -- What the readers of a library and of its parts do: which records they took from the stream, where they stand, and which fault
 -- they found.
 use Rattle.std.specs.Prelude.{ℕ, List, [], ◌∷◌, ◌++◌, length, All, Contains, Option, Some, None, IfSome, option_to_list, true, false}
-use Rattle.std.specs.Prelude.{IsTrue, if◌then◌else◌, ◌==◌, ◌^◌, ◌<◌, ◌≤◌, ◌≡◌, ◌≢◌, ◌↔◌, ◌⊎◌, flat_map}
+use Rattle.std.specs.Prelude.{IsTrue, if◌then◌else◌, ◌==◌, ◌<◌, ◌≤◌, ◌≡◌, ◌≢◌, ◌↔◌, ◌⊎◌, flat_map}
 use Rattle.first_refusal.specs.Outcomes.{Outcome, value, refused}
 use Rattle.gds_records.specs.declared.kinds.TheConstants as kind
 use Rattle.library_grammar.specs.GrammarNames.{IsInProfile, Reading, IsLeft, entry_of, Entry, IsEndlib, End, ElementForm, own_kinds}
@@ -15,10 +15,7 @@ use Rattle.gds_records.specs.declared.record.Record.{Record}
 use Rattle.library_model.specs.declared.element.Element.{Element}
 use Rattle.library_grammar.specs.declared.fault.SyntaxFault.{SyntaxFault}
 use Rattle.library_model.specs.declared.library.Structure.{Structure}
-
--- the most bytes that a stream may have
-abbrev pub most_bytes : ℕ
-most_bytes = 2 ^ 28
+use Rattle.gds_syntax.specs.StreamLimits.{most_bytes}
 
 -- the reader can read on: ENDLIB is still to come, and the stream is not too long
 pub record IsReady (reading : Reading) : Type 0 where

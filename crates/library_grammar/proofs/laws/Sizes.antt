@@ -4,17 +4,7 @@ use Rattle.lists.proofs.Words.{MatchOption-at_some}
 use Rattle.gds_records.specs.declared.kinds.TheConstants as kind
 use Rattle.library_grammar.specs.GrammarNames.{rule_at, TakesSize, BodiesHave}
 use Rattle.gds_records.specs.Table.{table}
-use Rattle.gds_records.proofs.TableLaws.{only_rule}
-
--- the table has the kind, with this size alone
-abbrev IsSized : ℕ → ℕ → Type 0
-IsSized n k = MatchOption (rule_at k) ⊥ (λ rule. (m : ℕ) → TakesSize rule.sizes m → m ≡ n)
-
--- each body of a kind has the size that the table gives
-bodies_have : (n k : ℕ) → IsSized n k → BodiesHave n k
-bodies_have n k sized e in_profile of_kind =
-    let (rule, is, takes) = in_profile.permitted in
-    MatchOption-at_some ⊥ (λ rule. (m : ℕ) → TakesSize rule.sizes m → m ≡ n) rule (ap rule_at (sym of_kind) ∙ only_rule e.kind rule is.listed) sized (length e.body) takes
+use Rattle.gds_records.proofs.laws.Rules.{only_rule}
 
 -- the kinds into whose bodies a reader looks
 pub record Sizes : Type 0 where
@@ -30,6 +20,16 @@ pub record Sizes : Type 0 where
   pub mag : BodiesHave 8 kind.MAG
   pub angle : BodiesHave 8 kind.ANGLE
   pub units : BodiesHave 16 kind.UNITS
+
+-- the table has the kind, with this size alone
+abbrev IsSized : ℕ → ℕ → Type 0
+IsSized n k = MatchOption (rule_at k) ⊥ (λ rule. (m : ℕ) → TakesSize rule.sizes m → m ≡ n)
+
+-- each body of a kind has the size that the table gives
+bodies_have : (n k : ℕ) → IsSized n k → BodiesHave n k
+bodies_have n k sized e in_profile of_kind =
+    let (rule, is, takes) = in_profile.permitted in
+    MatchOption-at_some ⊥ (λ rule. (m : ℕ) → TakesSize rule.sizes m → m ≡ n) rule (ap rule_at (sym of_kind) ∙ only_rule e.kind rule is.listed) sized (length e.body) takes
 
 pub sizes : Sizes
 unfolding table

@@ -3,12 +3,13 @@ use Rattle.std.proofs.Common.{◌≡◌, ◌≢◌, ℕ, ◌⊎◌, inl, inr, Li
 use Rattle.lists.proofs.Words.{map-append, flat_map-append, All-nil, All-cons, All-contains, Contains-append_left, Contains-append_right, Contains-append_cases}
 use Rattle.lists.proofs.Reading.{last_or_before}
 use Rattle.gds_records.specs.declared.kinds.TheConstants as kind
-use Rattle.library_grammar.specs.GrammarNames.{IsText, Entry, spelling, spellings, AreNamesIn, IsNameIn, NoneShows, Shows, repeats, is_faulty, behind, IsPlain, Place, before_header, before_strname, behind_strname, next_place, place_behind, kinds_of}
+use Rattle.library_grammar.specs.GrammarNames.{IsText, Entry, spelling, spellings, AreNamesIn, IsNameIn, NoneShows, Shows, repeats, is_faulty, behind, IsPlain, Place, before_header, before_strname}
+use Rattle.library_grammar.specs.GrammarNames.{behind_strname, next_place, place_behind, kinds_of}
 use Rattle.library_grammar.specs.FirstFault.{may_not_stand as shows_unexpected}
 use Rattle.library_grammar.specs.declared.fault.SyntaxFault.{SyntaxFault}
-use Rattle.gds_records.proofs.TextLaws.{texts_agree}
-use Rattle.library_grammar.proofs.PlaceLaws.{may_stand}
+use Rattle.gds_records.proofs.laws.Bodies.{texts_agree}
 use Rattle.library_grammar.proofs.PlaceRuns.{place_behind-append}
+use Rattle.library_grammar.proofs.laws.Places.{may_stand}
 
 -- the offset behind two lists of records, one after the other
 pub behind-append : (at : ℕ) (front more : List Entry) → behind at (front ++ more) ≡ behind (behind at front) more

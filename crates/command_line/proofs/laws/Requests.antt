@@ -7,9 +7,10 @@ use Rattle.command_line.specs.declared.option_name.OptionName.TheVariants.{Map, 
 use Rattle.command_line.specs.declared.task.Task.{Task}
 use Rattle.command_line.specs.OptionNames.{Text}
 use Rattle.command_line.specs.Spelling.{Given}
-use Rattle.command_line.specs.Requests.{Ask, GiveNoOther, IsNumberOnce, IsNumberOrDefault, IsTextIfGiven, as_given, left_out, IsTask, of_one_metal, of_map, of_generator, options_for, IsRequestOf, values_of}
-use Rattle.command_line.proofs.SpellingLaws.{spellings_agree}
+use Rattle.command_line.specs.Requests.{Ask, GiveNoOther, IsNumberOnce, IsNumberOrDefault, IsTextIfGiven, as_given, left_out, IsTask, of_one_metal, of_map, of_generator, options_for, IsRequestOf}
+use Rattle.command_line.specs.Requests.{values_of}
 use Rattle.command_line.proofs.LimitLaws.{same_request}
+use Rattle.command_line.proofs.SpellingLaws.{spellings_agree}
 
 -- ---- numbers and tasks
 

@@ -10,11 +10,12 @@ use Rattle.map_model.specs.MapNames.{LayerMap}
 use Rattle.flatten.specs.Structures.{all_references, numbers_of}
 use Rattle.flatten.specs.ReferenceChains.{IsEndless}
 use Rattle.flatten.specs.Tops.{IsTop, IsNoOtherTop, IsUnnamed, IsOnlyUnnamed}
-use Rattle.flatten.specs.Placements.{LibraryCheck, has_its_target, leads_to_no_cycle, has_top, is_no_other_top, LibraryHolds, library_checks, library_fault, TopHolds, top_checks, top_fault, Choosing, PlacingFrom, Placing, placed_routes}
-use Rattle.flatten.proofs.NumberLaws.{number_there}
-use Rattle.flatten.proofs.ChainLaws.{some_bound, some_unnamed}
+use Rattle.flatten.specs.Placements.{LibraryCheck, has_its_target, leads_to_no_cycle, has_top, is_no_other_top, LibraryHolds, library_checks, library_fault, TopHolds, top_checks, top_fault, Choosing}
+use Rattle.flatten.specs.Placements.{PlacingFrom, Placing, placed_routes}
 use Rattle.lists.proofs.Containing.{Contains-head, Contains-tail}
 use Rattle.lists.proofs.Mapping.{Contains-map}
+use Rattle.flatten.proofs.NumberLaws.{number_there}
+use Rattle.flatten.proofs.ChainLaws.{some_bound, some_unnamed}
 
 module _ (structures : List Structure) where
   tops_agree : (wanted : Option (List ℕ)) → IsUnique (IsTop structures wanted)

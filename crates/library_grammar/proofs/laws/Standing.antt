@@ -3,14 +3,15 @@ use Rattle.std.proofs.Common.{◌≡◌, ◌≢◌, ℕ, List, [], ◌∷◌, �
 use Rattle.lists.proofs.Words.{append-nil, All-head, All-tail, All-map, All-cons}
 use Rattle.first_refusal.proofs.CheckLaws.{none_fails}
 use Rattle.gds_records.specs.declared.kinds.TheConstants as kind
-use Rattle.library_grammar.specs.GrammarNames.{IsText, Entry, ElementHolds, element_checks, IsElementFault, ElementForm, own_kinds, AreNamesIn, NoneShows, Shows, may_not_stand, repeats, is_faulty, ElementParts, IsElement, kinds_of, IsPlain, Place, before_header, before_strname, behind_strname, between_elements, among_own, next_place, place_behind}
+use Rattle.library_grammar.specs.GrammarNames.{IsText, Entry, ElementHolds, element_checks, IsElementFault, ElementForm, own_kinds, AreNamesIn, NoneShows, Shows, may_not_stand, repeats, is_faulty}
+use Rattle.library_grammar.specs.GrammarNames.{ElementParts, IsElement, kinds_of, IsPlain, Place, before_header, before_strname, behind_strname, between_elements, among_own, next_place, place_behind}
 use Rattle.library_grammar.specs.declared.fault.SyntaxFault.{SyntaxFault}
-use Rattle.library_grammar.proofs.NextRecords.{place_after, NoneShows-snoc, plain_shows_nothing, AreNamesIn-snoc, AreNamesIn-named, new_name_is_quiet}
-use Rattle.library_grammar.proofs.OwnPlaces.{own_agree, way_in_steps}
+use Rattle.library_grammar.proofs.laws.Places.{may_stand, own_agree}
 use Rattle.library_grammar.proofs.TextThere.{no_item}
-use Rattle.library_grammar.proofs.PlaceLaws.{may_stand}
-use Rattle.library_grammar.proofs.PlaceRuns.{LeadTo, step, own_run, ends_element}
-use Rattle.library_grammar.proofs.PlainKinds.{own_is_plain, opening_is_plain}
+use Rattle.library_grammar.proofs.laws.NextRecords.{AreNamesIn-snoc, NoneShows-snoc, place_after, plain_shows_nothing, AreNamesIn-named, new_name_is_quiet}
+use Rattle.library_grammar.proofs.PlaceRuns.{LeadTo, own_run, step}
+use Rattle.library_grammar.proofs.OwnPlaces.{way_in_steps}
+use Rattle.library_grammar.proofs.laws.Forms.{opening_is_plain, own_is_plain, ends_element}
 
 -- where the checks of an element hold it has no fault
 sound_has_no_fault : (at : ℕ) (form : ElementForm) (own : List Entry) (fault : SyntaxFault) → All (ElementHolds own) (element_checks form) → IsElementFault at form own fault → ⊥

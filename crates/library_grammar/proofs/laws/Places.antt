@@ -1,11 +1,14 @@
 -- What may stand behind records is what their place says: each place has a way to the end, and a list in shape stops nowhere.
-use Rattle.std.proofs.Common.{map, ◌≡◌, ℕ, Bool, true, false, not, ◌&&◌, ◌==◌, ◌↔◌, List, [], ◌∷◌, ◌++◌, Option, Some, None, IsSome, option_and_then, refl, sym, ap, ◌∙◌}
-use Rattle.lists.proofs.Words.{list_any-append, or-true, map-append}
+-- The place among own records says which element it is.
+use Rattle.std.proofs.Common.{map, ◌≡◌, ℕ, Bool, true, false, not, ◌&&◌, ◌==◌, ◌↔◌, List, [], ◌∷◌, ◌++◌, Option, Some, None, IsSome, option_and_then, refl, sym, ap, ◌∙◌, All, Contains, append_assoc}
+use Rattle.lists.proofs.Words.{list_any-append, or-true, map-append, All-map}
 use Rattle.std.proofs.Math.Bool.{and-false}
 use Rattle.gds_records.specs.declared.kinds.TheConstants as kind
-use Rattle.library_grammar.specs.GrammarNames.{Entry, ElementForm, own_kinds, kinds_of, MayStand, Place, before_header, before_bgnlib, before_name, before_units, between_structures, before_strname, behind_strname, between_elements, among_own, behind_attribute, behind_property, behind_endlib, has_kind, next_place, place_behind}
+use Rattle.library_grammar.specs.GrammarNames.{Entry, ElementForm, own_kinds, kinds_of, MayStand, Place, before_header, before_bgnlib, before_name, before_units, between_structures, before_strname}
+use Rattle.library_grammar.specs.GrammarNames.{behind_strname, between_elements, among_own, behind_attribute, behind_property, behind_endlib, has_kind, next_place, place_behind, Opens}
+use Rattle.library_grammar.proofs.PlaceRuns.{LeadTo, step, place_behind-append, end_of_shape}
 use Rattle.library_grammar.proofs.PlaceEndings.{in_shape_of_end}
-use Rattle.library_grammar.proofs.PlaceRuns.{LeadTo, place_behind-append, step, end_of_shape}
+use Rattle.library_grammar.proofs.OwnPlaces.{behind_of_form, opening_leads, own_run_leads, way_in_parts, way_in_steps, lists_agree, same_length}
 
 -- ---- a way to the end
 
@@ -88,3 +91,31 @@ may_stand_where_next before e p here = go (next_place p e.kind) refl
     go : (o : Option Place) → next_place p e.kind ≡ o → MayStand before e ↔ IsSome o
     go None none = (λ m. absurd (may_not_stand before e p here none m), λ some. absurd (cc))
     go (Some q) next = (λ m. refl, λ some. may_stand before e p q here next)
+
+-- behind the record that opens an element and own records of it a reader stands among these
+pub own_place : (earlier own : List Entry) (opening : Entry) (form : ElementForm) (p : Place) → Opens opening.kind form
+    → All (λ e. Contains (own_kinds form) e.kind) own → place_behind before_header (kinds_of (earlier ++ opening ∷ own)) ≡ Some p
+    → p ≡ among_own form (kinds_of own)
+own_place earlier own opening form p opens are_own h =
+    let along : place_behind before_header (kinds_of earlier ++ opening.kind ∷ kinds_of own) ≡ Some p =
+    ap (place_behind before_header) (sym (map-append (λ (e : Entry). e.kind) earlier (opening ∷ own))) ∙ h
+    in
+    let way = way_in_parts before_header p (kinds_of earlier) (opening.kind ∷ kinds_of own) along in
+    let next = way_in_steps way.0 p opening.kind (kinds_of own) way.2 in
+    let good = behind_of_form (kinds_of earlier) before_header way.0 tt way.1 in
+    let first : next.0 ≡ among_own form [] = opening_leads way.0 next.0 form opens.listed good (ap (next_place way.0) (sym opens.opening) ∙ next.1) in
+    own_run_leads form (kinds_of own) [] p opens.listed (All-map (Contains (own_kinds form)) (λ (e : Entry). e.kind) own are_own)
+    (ap (λ (q : Place). place_behind q (kinds_of own)) (sym first) ∙ next.2)
+
+-- where a reader stands among own records, the records behind it are those of one element alone
+pub own_agree : (before own earlier other : List Entry) (opening : Entry) (form form' : ElementForm)
+    → place_behind before_header (kinds_of (before ++ own)) ≡ Some (among_own form (kinds_of own)) → before ++ own ≡ earlier ++ opening ∷ other
+    → Opens opening.kind form' → All (λ e. Contains (own_kinds form') e.kind) other → (form ≡ form') × (own ≡ other)
+own_agree before own earlier other opening form form' here parts opens are_own =
+    let place : among_own form (kinds_of own) ≡ among_own form' (kinds_of other) =
+    own_place earlier other opening form' (among_own form (kinds_of own)) opens are_own (ap (λ (es : List Entry). place_behind before_header (kinds_of es)) (sym parts) ∙ here)
+    in
+    let forms : form ≡ form' = cc in
+    let kinds : kinds_of own ≡ kinds_of other = cc in
+    let apart : before ++ own ≡ (earlier ++ opening ∷ []) ++ other = parts ∙ sym (append_assoc earlier (opening ∷ []) other) in
+    (forms, (lists_agree before (earlier ++ opening ∷ []) own other (same_length own other kinds) apart).1)

@@ -1,0 +1,4 @@
+-- what other crates cite
+pub mod Routes
+pub mod Placings
+pub mod Refusals

@@ -1,0 +1,5 @@
+-- what other crates cite
+pub mod Rules
+pub mod Bodies
+pub mod Reals
+pub mod Splits

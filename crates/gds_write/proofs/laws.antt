@@ -1,0 +1,3 @@
+-- what other crates cite
+pub mod Written
+pub mod WellFormed

@@ -1,0 +1,3 @@
+-- what other crates cite
+pub mod SameParts
+pub mod Names
