@@ -11,3 +11,4 @@ pub mod PlacedLaws
 pub mod AgreeLaws
 pub mod ListedLaws
 pub mod LackLaws
+pub mod RouteEnds
