@@ -4,7 +4,7 @@ use Rattle.std.proofs.Common.{drop, arith, Bool, true, false, cond, not, w64, Fi
 use Rattle.lists.proofs.Words.{IsPermutation, IsSortedByKey, ComputesKey, Called, always_returns_same, ranks_by, sorted_far, is_lt, Ordering, int_cmp, int_cmp_total, int_ranked}
 use Rattle.lists.proofs.Words.{and_right, ints, by_lt_z, and_parts, cases_lt, All-more, All-weaker, length-take, length-drop, get_or_default, sum_by_more, sum_by-IsPermutation, drop_all}
 use Rattle.lists.proofs.Sorting.{not_less}
-use Rattle.lists.proofs.Containing.{Contains-head}
+use Rattle.lists.proofs.Containing.{Contains-head, Contains-slice_get, number_of}
 use Rattle.std.specs.Ordering.{ordering_then}
 use Rattle.std.specs.Cmp.{IsTotalOrder}
 use Rattle.std.proofs.Math.Bool.{and-true}
@@ -13,11 +13,11 @@ use Rattle.std.proofs.lemmas.List.{get_or-drop}
 use Rattle.std.proofs.lemmas.List.Sums.{count_by-le-length, sum_by-take-drop}
 use denote.Param.Members.{Mut}
 use denote.Ref.{Bor}
-use Rattle.geo_core.specs.Plane.{Has, IsIn}
+use Rattle.geo_core.specs.Plane.{Has, IsIn, IsInUnion}
 use Rattle.geo_core.specs.declared.bounds.TheConstants.{FARTHEST}
 use Rattle.geo_core.specs.declared.plane.Cell.{Cell}
 use Rattle.geo_core.specs.declared.plane.Rect.{Rect}
-use Rattle.outlines.specs.Fillings.{IsCover, IsInSome}
+use Rattle.outlines.specs.Fillings.{IsCover}
 use Rattle.outlines.specs.inside.Fronts.{IsDrawn, TurnsBetween}
 use Rattle.outlines.specs.inside.Pieces.{winding_at}
 use Rattle.outlines.specs.inside.Runs.{filled_at, has_below, runs_at, runs_of}
@@ -348,10 +348,13 @@ test_by_has : (c : Cell) (rect : Rect) → Has rect c → has_cell c rect ≡ tr
 test_by_has c rect h = let a = h.across.from in let b = h.across.before in let d = h.up.from in let f = h.up.before in
     rw (le_true rect.x0 c.i a, lt_true c.i rect.x1 b, le_true rect.y0 c.j d, lt_true c.j rect.y1 f) refl
 
-pub in_some : (c : Cell) (rects : List Rect) → IsInSome rects c ↔ (0 < depth_at c rects)
-in_some c rects = (
-  λ h. passes_count (has_cell c) rects h.rect h.among (test_by_has c h.rect h.has),
-  λ some. let found = some_passes (has_cell c) rects some in record { rect = found.0; among = found.1; has = has_by_test c found.0 found.2 },
+depth_tells : (c : Cell) (rects : List Rect) → IsInUnion rects c ↔ (0 < depth_at c rects)
+depth_tells c rects = (
+  λ h. passes_count (has_cell c) rects h.rect (Contains-slice_get rects h.number h.rect h.at) (test_by_has c h.rect h.has),
+  λ some.
+      let found = some_passes (has_cell c) rects some in
+      let place = number_of rects found.0 found.1 in
+      record { number = place.0; rect = found.0; at = place.1; has = has_by_test c found.0 found.2 },
 )
 
 -- ---- all turns
@@ -368,7 +371,7 @@ pub all_swept : (turns : List Turn) (n : ℕ) (row column by : ℤ) (front : Fro
     → IsCover (IsWound turns) front.filling.done.items
 all_swept turns n row column by front past balanced swept = record {
   same = λ c.
-      let told = in_some c front.filling.done.items in
+      let told = depth_tells c front.filling.done.items in
       by_lt_z c.j row
       (λ less. let was = swept.state.filled c less in (λ h. was.0 (rw (only_done c) (told.0 h)), λ winds. told.1 (rw (← only_done c) (was.1 winds))))
       (λ above. (λ h. absurd (omega (arith, told.0 h, swept.state.drawn.growing.below c above)), λ winds. absurd (winds (level_above c above))));
