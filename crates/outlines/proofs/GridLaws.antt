@@ -1,5 +1,6 @@
 -- an outline's cells, each as a rectangle of its own: some cover exists
-use Rattle.std.proofs.Common.{ℕ, zero, suc, ◌≡◌, ◌↔◌, filter, get_or, int_eq, refl, sym, ap, subst, ◌∙◌, List, [], ◌∷◌, map, Bool, true, false, cond, not, arith, ℤ, pos, neg_ℤ, ◌+ℤ◌, ◌-ℤ◌, ◌≤ℤ◌, ◌<ℤ◌, ◌&&◌, All, Contains}
+use Rattle.std.proofs.Common.{ℕ, zero, suc, ◌≡◌, ◌↔◌, refl, sym, ap, subst, ◌∙◌, List, [], ◌∷◌, filter, get_or, map, All, Contains, arith}
+use Rattle.std.proofs.Common.{Bool, true, false, cond, not, ◌&&◌, ℤ, pos, neg_ℤ, ◌+ℤ◌, ◌-ℤ◌, ◌≤ℤ◌, ◌<ℤ◌, int_eq}
 use Rattle.lists.proofs.Words.{flat_map, and_right, clamps, ints, int_max, int_min, Decides-int_eq, by_lt_z, All-head, All-tail, All-map, All-weaker}
 use Rattle.geo_core.specs.Plane.{IsInRange, circuit, IsIn, IsInterval, Has, IsInLayout}
 use Rattle.geo_core.specs.declared.plane.Point.{Point}

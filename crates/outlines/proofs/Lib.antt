@@ -6,7 +6,7 @@ pub mod RectangleLaws
 pub mod JoinLaws
 pub mod GridLaws
 pub mod OutlineLaws
-pub mod TurnLaws
+pub mod OutlineTurnLaws
 pub mod FillingLaws
 pub mod PieceLaws
 pub mod FrontLaws
