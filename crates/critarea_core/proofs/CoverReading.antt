@@ -17,8 +17,8 @@ use Rattle.rect_cover.specs.RoutePoints.{route_points}
 use Rattle.outlines.specs.Fillings.{IsCover}
 use Rattle.rect_cover.specs.ShapeChecks.{ShapeHolds, checks_of, shape_fault}
 use Rattle.rect_cover.specs.declared.fault.CoverFault.{CoverFault}
-use Rattle.rect_cover.proofs.PlacedLaws.{placed_shapes_agree}
-use Rattle.rect_cover.proofs.RouteEnds.{IsPlacedAlong, points_alike}
+use Rattle.rect_cover.proofs.laws.PlacedShapes.{placed_shapes_agree}
+use Rattle.rect_cover.proofs.laws.RouteEnds.{IsPlacedAlong, points_alike}
 use Rattle.critarea_core.specs.Layout.{RouteCheck, RouteHolds, route_checks, route_fault}
 use Rattle.critarea_core.specs.inside.LayoutReaders.{Covered}
 use Rattle.critarea_core.specs.declared.layout_fault.LayoutFault.{LayoutFault}

@@ -2,9 +2,6 @@ pub mod EdgeLaws
 pub mod CountLaws
 pub mod EditLaws
 pub mod WindLaws
-pub mod RectangleLaws
-pub mod JoinLaws
-pub mod GridLaws
 pub mod OutlineLaws
 pub mod OutlineTurnLaws
 pub mod FillingLaws

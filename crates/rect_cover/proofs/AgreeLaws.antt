@@ -13,7 +13,7 @@ use Rattle.flatten.specs.declared.placed.Placed.{Placed}
 use Rattle.rect_cover.specs.declared.fault.CoverFault.{CoverFault}
 use Rattle.rect_cover.specs.Coverings.{CoverComesTo, PlacedComesTo, placed_points}
 use Rattle.rect_cover.specs.ShapeChecks.{ShapeHolds, checks_of, shape_fault}
-use Rattle.rect_cover.proofs.PlacedLaws.{placed_shapes_agree}
+use Rattle.rect_cover.proofs.laws.PlacedShapes.{placed_shapes_agree}
 
 module _ (kind : ShapeKind) (points : List Point) (at : ℕ) where
   cover_or_fault : (rects : List Rect) (fault : CoverFault) → CoverComesTo kind points at (value rects) → CoverComesTo kind points at (refused fault) → ⊥

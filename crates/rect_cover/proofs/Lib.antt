@@ -11,4 +11,3 @@ pub mod PlacedLaws
 pub mod AgreeLaws
 pub mod ListedLaws
 pub mod LackLaws
-pub mod RouteEnds

@@ -17,7 +17,8 @@ use Rattle.rect_cover.specs.PathPieces.{box_of, half_width_of, pieces_of, corner
 use Rattle.rect_cover.specs.Covers.{Covers, IsInBox}
 use Rattle.rect_cover.specs.Coverings.{CoverComesTo}
 use Rattle.rect_cover.specs.inside.PieceBoxes.{rect_value}
-use Rattle.rect_cover.specs.ShapeChecks.{ShapeCheck, ShapeHolds, HasCells, IsBoxInLayout, GoesOn, has_no_reversal, checks_of, path_checks, style_checks, point_checks, box_checks, boxes_of, shape_fault}
+use Rattle.rect_cover.specs.ShapeChecks.{ShapeCheck, ShapeHolds, HasCells, IsBoxInLayout, GoesOn, has_no_reversal, checks_of}
+use Rattle.rect_cover.specs.ShapeChecks.{path_checks, style_checks, point_checks, box_checks, boxes_of, shape_fault}
 use Rattle.rect_cover.specs.declared.fault.CoverFault.{CoverFault}
 use Rattle.rect_cover.specs.declared.style.PathStyle.{PathStyle}
 use Rattle.lists.proofs.Containing.{Contains-none, Contains-slice_get, all_of_each, number_of}

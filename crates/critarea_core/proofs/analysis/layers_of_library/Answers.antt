@@ -8,8 +8,8 @@ use Rattle.flatten.specs.declared.fault.PlaceFault.TheVariants as place
 use Rattle.map_model.specs.MapNames.{layer_map_of}
 use Rattle.rect_cover.specs.Coverings.{IsFirstCoverFault}
 use Rattle.rect_cover.specs.declared.fault.CoverFault.TheVariants as cover
-use Rattle.rect_cover.proofs.ListedLaws.{first_fault, lists_given}
-use Rattle.rect_cover.proofs.RouteEnds.{placed_along, well_placed}
+use Rattle.rect_cover.proofs.laws.ListedCovers.{first_fault, lists_given}
+use Rattle.rect_cover.proofs.laws.RouteEnds.{placed_along, well_placed}
 use Rattle.critarea_core.specs.inside.Finding.{gives_thing}
 use Rattle.critarea_core.specs.Layout.{Subject, LibraryComesTo}
 use Rattle.critarea_core.specs.inside.LayoutReaders.{AreLayersFor, AreListsUpTo}
