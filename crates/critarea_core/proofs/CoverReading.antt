@@ -12,16 +12,16 @@ use Rattle.flatten.specs.declared.placed.Placed.{Placed}
 use Rattle.flatten.proofs.laws.Refusals.{first_said, refused_within}
 use Rattle.rect_cover.specs.Covers.{Covers}
 use Rattle.rect_cover.specs.Coverings.{CoverComesTo, IsCoverable, IsFirstCoverFault, PlacedComesTo, placed_points}
+use Rattle.rect_cover.specs.RoutePoints.{route_points}
 use Rattle.outlines.specs.Fillings.{IsCover}
 use Rattle.rect_cover.specs.ShapeChecks.{ShapeHolds, checks_of, shape_fault}
 use Rattle.rect_cover.specs.declared.fault.CoverFault.{CoverFault}
-use Rattle.rect_cover.proofs.PlacedLaws.{placed_shapes_agree}
-use Rattle.critarea_core.specs.Coverage.{route_points}
+use Rattle.rect_cover.proofs.laws.PlacedShapes.{placed_shapes_agree}
+use Rattle.rect_cover.proofs.laws.RouteEnds.{IsPlacedAlong, points_alike}
 use Rattle.critarea_core.specs.Layout.{RouteCheck, RouteHolds, route_checks, route_fault}
 use Rattle.critarea_core.specs.inside.LayoutReaders.{Covered}
 use Rattle.critarea_core.specs.declared.layout_fault.LayoutFault.{LayoutFault}
 use Rattle.critarea_core.specs.declared.layout_fault.LayoutFault.TheVariants.{Cover}
-use Rattle.critarea_core.proofs.RouteEnds.{IsPlacedAlong, points_alike}
 
 -- the checks of the shape in which a route ends
 abbrev checks_on : Route → List RouteCheck

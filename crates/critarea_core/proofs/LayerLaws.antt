@@ -88,7 +88,7 @@ module _ (subject : Subject) (differ : AreDifferent (pairs_of (layers_of subject
         route = of.0;
         among = of.1;
         is_mapped = subst (IsMappedTo subject.layer_map (of.0.shape.layer, of.0.shape.datatype)) found.2 of.2.layer;
-        covers = (of.2.cover.same c).0 (record { rect = v.rect; among = found.3; has = v.has });
+        covers = (of.2.cover.same c).0 (in_union found.0.1 v.rect c found.3 v.has);
       }
 
   covers_to : (number : ℕ) (c : Cell) → IsCoveredOn subject.layer_map subject.routes number c → IsCoveredIn lists number c
@@ -97,7 +97,7 @@ module _ (subject : Subject) (differ : AreDifferent (pairs_of (layers_of subject
       let same = pair_tells_layer (layers_of subject.layer_map) (v.route.shape.layer, v.route.shape.datatype) of.0.0.layer number differ of.2.layer v.is_mapped in
       let inside = (of.2.cover.same c).1 v.covers in
       let small = slice_get_within (layers_of subject.layer_map) number v.is_mapped.mapped v.is_mapped.numbered in
-      let listed = on_layer_to number covered of.0 inside.rect of.1 same inside.among in
+      let listed = on_layer_to number covered of.0 inside.rect of.1 same (among_union of.0.1 c inside) in
       in_union (get_or lists number []) inside.rect c (subst (λ xs. Contains xs inside.rect) (sym (made.each number small)) listed) inside.has
 
   rects_within : (number : ℕ) → All IsInLayout (rects_on number covered)

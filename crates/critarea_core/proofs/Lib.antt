@@ -1,4 +1,3 @@
-pub mod RouteEnds
 pub mod CoverReading
 pub mod LayerLaws
 pub mod ReadingLaws

@@ -1,15 +1,10 @@
 -- which cells placed shapes cover
-use Rattle.std.specs.Prelude.{ℕ, List, Contains, map}
+use Rattle.std.specs.Prelude.{ℕ, List, Contains}
 use Rattle.geo_core.specs.declared.plane.Cell.{Cell}
-use Rattle.geo_core.specs.declared.plane.Point.{Point}
 use Rattle.map_model.specs.MapNames.{LayerMap, IsMappedTo}
 use Rattle.flatten.specs.Routes.{Route}
-use Rattle.flatten.specs.Steps.{moved_along}
 use Rattle.rect_cover.specs.Covers.{Covers}
-
--- where a route moves the points of its shape
-abbrev pub route_points : Route → List Point
-route_points route = map (λ point. moved_along route.steps point) route.shape.points
+use Rattle.rect_cover.specs.RoutePoints.{route_points}
 
 -- one of the routes ends in a shape of the metal or the cut with this number, and the shape covers the cell where the
 -- route places it

@@ -11,8 +11,9 @@ use Rattle.map_model.specs.MapNames.{LayerMap}
 use Rattle.net_extract.specs.Extraction.{off_metal}
 use Rattle.flatten.specs.Placements.{Placing}
 use Rattle.flatten.specs.Routes.{Route}
+use Rattle.rect_cover.specs.RoutePoints.{route_points}
 use Rattle.rect_cover.specs.ShapeChecks.{ShapeCheck, ShapeHolds, checks_of, shape_fault}
-use Rattle.critarea_core.specs.Coverage.{IsCoveredOn, route_points}
+use Rattle.critarea_core.specs.Coverage.{IsCoveredOn}
 use Rattle.critarea_core.specs.declared.layout_fault.LayoutFault.{LayoutFault}
 use Rattle.critarea_core.specs.declared.layout_fault.LayoutFault.TheVariants.{Syntax, Place, Cover, Net}
 

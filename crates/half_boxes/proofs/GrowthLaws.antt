@@ -129,37 +129,39 @@ module _ (boxes : List HalfBox) where
         )
   ]
 
+  -- the last of those that are left, as the one that is at the front
+  grown_begun : (left : List Numbered) (pairs : List (ℕ × ℕ)) (one : Numbered) → AreGrown boxes (left ++ one ∷ []) [] pairs → AreGrown boxes left (one ∷ []) pairs
+  grown_begun left pairs one h = record {
+    numbered = λ e among. elim among [
+      | inl c ↦ h.numbered e (inl (Contains-append_left left (one ∷ []) e c))
+      | inr c ↦ subst (λ (x : Numbered). slice_get boxes x.number ≡ Some x.one) (Contains-one one e c) (h.numbered one (inl (Contains-push left one)))
+    ];
+    touching = h.touching;
+    as_one = λ e f c d.
+        subst (λ (x : Numbered). AreJoined (length boxes) pairs x.number f.number) (Contains-one one e c)
+        (subst (λ (x : Numbered). AreJoined (length boxes) pairs one.number x.number) (Contains-one one f d)
+        (stay (slice_get_within boxes one.number one.one (h.numbered one (inl (Contains-push left one))))));
+    all = λ a b t. elim (h.all a b t) [
+      | inl j ↦ inl j
+      | inr o ↦ elim o.among [
+        | inl c ↦ elim (Contains-push_cases left one o.entry c) [
+          | inl d ↦ inr (record { entry = o.entry; number_is = o.number_is; among = inl d })
+          | inr same ↦ inr (record { entry = one; number_is = ap (λ (x : Numbered). x.number) same ∙ o.number_is; among = inr (Contains-push [] one) })
+        ]
+        | inr c ↦ absurd (Contains-none c)
+      ]
+    ];
+    few = let so_far = h.few in omega (arith, length-append left (one ∷ []));
+  }
+
   -- the entry that is taken next, as if it were still at the front
   pub grown_next : (left front left' front' : List Numbered) (pairs : List (ℕ × ℕ)) (one : Numbered) → IsNext front left front' left' one
       → AreGrown boxes left front pairs → AreGrown boxes left' (front' ++ one ∷ []) pairs
   grown_next left front left' front' pairs one next g = elim next [
     | inl n ↦ subst (λ l. AreGrown boxes l (front' ++ one ∷ []) pairs) (sym n.1) (subst (λ f. AreGrown boxes left f pairs) n.0 g)
     | inr n ↦ subst (λ f. AreGrown boxes left' (f ++ one ∷ []) pairs) (sym n.1)
-        (begun (subst (λ l. AreGrown boxes l [] pairs) n.2 (subst (λ f. AreGrown boxes left f pairs) n.0 g)))
-  ] where
-    begun : AreGrown boxes (left' ++ one ∷ []) [] pairs → AreGrown boxes left' (one ∷ []) pairs
-    begun h = record {
-      numbered = λ e among. elim among [
-        | inl c ↦ h.numbered e (inl (Contains-append_left left' (one ∷ []) e c))
-        | inr c ↦ subst (λ (x : Numbered). slice_get boxes x.number ≡ Some x.one) (Contains-one one e c) (h.numbered one (inl (Contains-push left' one)))
-      ];
-      touching = h.touching;
-      as_one = λ e f c d.
-          subst (λ (x : Numbered). AreJoined (length boxes) pairs x.number f.number) (Contains-one one e c)
-          (subst (λ (x : Numbered). AreJoined (length boxes) pairs one.number x.number) (Contains-one one f d)
-          (stay (slice_get_within boxes one.number one.one (h.numbered one (inl (Contains-push left' one))))));
-      all = λ a b t. elim (h.all a b t) [
-        | inl j ↦ inl j
-        | inr o ↦ elim o.among [
-          | inl c ↦ elim (Contains-push_cases left' one o.entry c) [
-            | inl d ↦ inr (record { entry = o.entry; number_is = o.number_is; among = inl d })
-            | inr same ↦ inr (record { entry = one; number_is = ap (λ (x : Numbered). x.number) same ∙ o.number_is; among = inr (Contains-push [] one) })
-          ]
-          | inr c ↦ absurd (Contains-none c)
-        ]
-      ];
-      few = let so_far = h.few in omega (arith, length-append left' (one ∷ []));
-    }
+        (grown_begun left' pairs one (subst (λ l. AreGrown boxes l [] pairs) n.2 (subst (λ f. AreGrown boxes left f pairs) n.0 g)))
+  ]
 
   module _ (left kept front front' : List Numbered) (pairs pairs' : List (ℕ × ℕ)) (one : Numbered) (g : AreGrown boxes left (front ++ one ∷ []) pairs)
       (r : Reaches one left kept front front' pairs pairs') where

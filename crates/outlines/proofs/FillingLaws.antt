@@ -10,9 +10,9 @@ use Rattle.geo_core.specs.Plane.{IsInLayout}
 use Rattle.geo_core.specs.declared.bounds.TheConstants.{FARTHEST}
 use Rattle.geo_core.specs.declared.plane.Cell.{Cell}
 use Rattle.geo_core.specs.declared.plane.Rect.{Rect}
-use Rattle.outlines.specs.inside.Depths.{depth_at, has_cell, lies_in}
-use Rattle.outlines.specs.inside.Runs.{AddsRun, DropsRun, EndsLeft, EndsRight, Finishes, HasRoom, IsFree, IsGrowingTo}
-use Rattle.outlines.specs.inside.Runs.{IsParted, IsTaken, KeepsBelow, MovesRuns, PutsRun, TakesRun, has_below, runs_at, runs_of}
+use Rattle.outlines.specs.inside.FillingDepths.{depth_at, has_cell, lies_in}
+use Rattle.outlines.specs.inside.FillingRuns.{AddsRun, DropsRun, EndsLeft, EndsRight, Finishes, HasRoom, IsFree, IsGrowingTo}
+use Rattle.outlines.specs.inside.FillingRuns.{IsParted, IsTaken, KeepsBelow, MovesRuns, PutsRun, TakesRun, has_below, runs_at, runs_of}
 use Rattle.outlines.specs.declared.filling.Filling.{Filling}
 use Rattle.outlines.specs.declared.run.Run.{Run}
 use Rattle.outlines.proofs.CountLaws.{le_false, le_true, lt_false, lt_true, some_passes}

@@ -7,10 +7,10 @@ use Rattle.lists.proofs.Differing.{AllPairs-tail}
 use Rattle.geo_core.specs.Plane.{IsInterval}
 use Rattle.geo_core.specs.declared.bounds.TheConstants.{FARTHEST, FARTHEST_GROWN}
 use Rattle.geo_core.specs.declared.plane.Cell.{Cell}
-use Rattle.outlines.specs.inside.Depths.{lies_in}
+use Rattle.outlines.specs.inside.FillingDepths.{lies_in}
 use Rattle.outlines.specs.inside.Fronts.{IsDrawn, ShiftsPiece, TurnsBetween}
 use Rattle.outlines.specs.inside.Pieces.{AddsBetween, AddsToPiece, AreRising, HasSameWindings, IsPlace, winding_at}
-use Rattle.outlines.specs.inside.Runs.{AddsRun, DropsRun, IsFree, IsGrowingTo, IsTaken, filled_at, runs_at, runs_of}
+use Rattle.outlines.specs.inside.FillingRuns.{AddsRun, DropsRun, IsFree, IsGrowingTo, IsTaken, filled_at, runs_at, runs_of}
 use Rattle.outlines.specs.declared.front.Front.{Front}
 use Rattle.outlines.specs.declared.piece.Piece.{Piece}
 use Rattle.outlines.specs.declared.run.Run.{Run}

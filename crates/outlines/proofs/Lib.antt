@@ -2,11 +2,8 @@ pub mod EdgeLaws
 pub mod CountLaws
 pub mod EditLaws
 pub mod WindLaws
-pub mod RectangleLaws
-pub mod JoinLaws
-pub mod GridLaws
 pub mod OutlineLaws
-pub mod TurnLaws
+pub mod OutlineTurnLaws
 pub mod FillingLaws
 pub mod PieceLaws
 pub mod FrontLaws

@@ -7,7 +7,7 @@ use Rattle.geo_core.specs.declared.plane.Rect.{Rect}
 use Rattle.geo_core.specs.Plane.{IsClosed}
 use Rattle.outlines.specs.Fillings.{IsCover}
 use Rattle.outlines.specs.Outlines.{IsInside, edges_of, goes_up_across, goes_down_across}
-use Rattle.outlines.specs.inside.Turns.{AreBalanced, AreTurnsOf, IsWound, edges_down, edges_up, everywhere, up_to}
+use Rattle.outlines.specs.inside.OutlineTurns.{AreBalanced, AreTurnsOf, IsWound, edges_down, edges_up, everywhere, up_to}
 use Rattle.outlines.specs.declared.turn.Turn.{Turn}
 use Rattle.outlines.proofs.WindLaws.{closed_rises, edges_counted, falls, lt_is_not_le, rises}
 

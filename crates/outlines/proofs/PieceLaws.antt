@@ -7,7 +7,7 @@ use Rattle.std.specs.List.Sorted.{IsPartitionedBy, IsPartitionPoint}
 use Rattle.std.proofs.lemmas.List.{set_split}
 use Rattle.std.proofs.lemmas.List.Edits.{length-insert, length-remove, get_or-insert_below, get_or-remove_below}
 use Rattle.std.proofs.lemmas.List.Sums.{fold-append}
-use Rattle.outlines.specs.inside.Depths.{lies_in}
+use Rattle.outlines.specs.inside.FillingDepths.{lies_in}
 use Rattle.outlines.specs.inside.Pieces.{AddsToPiece, AreRising, HasSameWindings, IsPlace, KeepsPlacesLeftOf, StandsFor, winding_at, winding_behind}
 use Rattle.outlines.specs.declared.piece.Piece.{Piece}
 use Rattle.outlines.proofs.CountLaws.{le_false, le_true, lt_false, lt_true}

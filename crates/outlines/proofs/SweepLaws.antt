@@ -4,7 +4,7 @@ use Rattle.std.proofs.Common.{drop, arith, Bool, true, false, cond, not, w64, Fi
 use Rattle.lists.proofs.Words.{IsPermutation, IsSortedByKey, ComputesKey, Called, always_returns_same, ranks_by, sorted_far, is_lt, Ordering, int_cmp, int_cmp_total, int_ranked}
 use Rattle.lists.proofs.Words.{and_right, ints, by_lt_z, and_parts, cases_lt, All-more, All-weaker, length-take, length-drop, get_or_default, sum_by_more, sum_by-IsPermutation, drop_all}
 use Rattle.lists.proofs.Sorting.{not_less}
-use Rattle.lists.proofs.Containing.{Contains-head}
+use Rattle.lists.proofs.Containing.{Contains-head, Contains-slice_get, number_of}
 use Rattle.std.specs.Ordering.{ordering_then}
 use Rattle.std.specs.Cmp.{IsTotalOrder}
 use Rattle.std.proofs.Math.Bool.{and-true}
@@ -13,17 +13,17 @@ use Rattle.std.proofs.lemmas.List.{get_or-drop}
 use Rattle.std.proofs.lemmas.List.Sums.{count_by-le-length, sum_by-take-drop}
 use denote.Param.Members.{Mut}
 use denote.Ref.{Bor}
-use Rattle.geo_core.specs.Plane.{Has, IsIn}
+use Rattle.geo_core.specs.Plane.{Has, IsIn, IsInUnion}
 use Rattle.geo_core.specs.declared.bounds.TheConstants.{FARTHEST}
 use Rattle.geo_core.specs.declared.plane.Cell.{Cell}
 use Rattle.geo_core.specs.declared.plane.Rect.{Rect}
-use Rattle.outlines.specs.Fillings.{IsCover, IsInSome}
+use Rattle.outlines.specs.Fillings.{IsCover}
 use Rattle.outlines.specs.inside.Fronts.{IsDrawn, TurnsBetween}
 use Rattle.outlines.specs.inside.Pieces.{winding_at}
-use Rattle.outlines.specs.inside.Runs.{filled_at, has_below, runs_at, runs_of}
-use Rattle.outlines.specs.inside.Turns.{everywhere, up_to}
-use Rattle.outlines.specs.inside.Depths.{depth_at, has_cell, lies_in}
-use Rattle.outlines.specs.inside.Turns.{AreBalanced, AreByRow, IsNoLater, IsWound, falls_at, falls_below, rises_at, rises_below, turned}
+use Rattle.outlines.specs.inside.FillingRuns.{filled_at, has_below, runs_at, runs_of}
+use Rattle.outlines.specs.inside.OutlineTurns.{everywhere, up_to}
+use Rattle.outlines.specs.inside.FillingDepths.{depth_at, has_cell, lies_in}
+use Rattle.outlines.specs.inside.OutlineTurns.{AreBalanced, AreByRow, IsNoLater, IsWound, falls_at, falls_below, rises_at, rises_below, turned}
 use Rattle.outlines.specs.declared.front.Front.{Front}
 use Rattle.outlines.specs.declared.run.Run.{Run}
 use Rattle.outlines.specs.declared.turn.Turn.{Turn}
@@ -348,10 +348,13 @@ test_by_has : (c : Cell) (rect : Rect) → Has rect c → has_cell c rect ≡ tr
 test_by_has c rect h = let a = h.across.from in let b = h.across.before in let d = h.up.from in let f = h.up.before in
     rw (le_true rect.x0 c.i a, lt_true c.i rect.x1 b, le_true rect.y0 c.j d, lt_true c.j rect.y1 f) refl
 
-pub in_some : (c : Cell) (rects : List Rect) → IsInSome rects c ↔ (0 < depth_at c rects)
-in_some c rects = (
-  λ h. passes_count (has_cell c) rects h.rect h.among (test_by_has c h.rect h.has),
-  λ some. let found = some_passes (has_cell c) rects some in record { rect = found.0; among = found.1; has = has_by_test c found.0 found.2 },
+depth_tells : (c : Cell) (rects : List Rect) → IsInUnion rects c ↔ (0 < depth_at c rects)
+depth_tells c rects = (
+  λ h. passes_count (has_cell c) rects h.rect (Contains-slice_get rects h.number h.rect h.at) (test_by_has c h.rect h.has),
+  λ some.
+      let found = some_passes (has_cell c) rects some in
+      let place = number_of rects found.0 found.1 in
+      record { number = place.0; rect = found.0; at = place.1; has = has_by_test c found.0 found.2 },
 )
 
 -- ---- all turns
@@ -364,29 +367,21 @@ none_left (r ∷ runs) none =
     let there = passes_count (λ (s : Run). lies_in s.low s.high r.low) (r ∷ runs) r (Contains-head r runs) (rw (le_true r.low r.low (omega (arith, ints)), lt_true r.low r.high some) refl) in
     absurd (omega (arith, there, none r.low))
 
-pub all_swept : (turns : List Turn) (n : ℕ) (row column by : ℤ) (front : Front) → length turns ≤ n → AreBalanced turns → IsSweptTo turns n row column by front
-    → IsCover (IsWound turns) front.filling.done.items
-all_swept turns n row column by front past balanced swept = record {
-  same = λ c.
-      let told = in_some c front.filling.done.items in
-      by_lt_z c.j row
-      (λ less. let was = swept.state.filled c less in (λ h. was.0 (rw (only_done c) (told.0 h)), λ winds. told.1 (rw (← only_done c) (was.1 winds))))
-      (λ above. (λ h. absurd (omega (arith, told.0 h, swept.state.drawn.growing.below c above)), λ winds. absurd (winds (level_above c above))));
-  within = swept.state.drawn.growing.within;
-} where
-  all : take n turns ≡ turns
-  all = take_all n turns past
+module _ (turns : List Turn) (n : ℕ) (row column by : ℤ) (front : Front) (past : length turns ≤ n) (balanced : AreBalanced turns) (swept : IsSweptTo turns n row column by front) where
+  all_taken : take n turns ≡ turns
+  all_taken = take_all n turns past
 
-  level : (at : ℤ → Bool) → turned at (take n turns) ≡ pos 0
-  level at = ap (turned at) all ∙ same_counts _ _ (balanced.ended at) where
+  level_at_end : (at : ℤ → Bool) → turned at (take n turns) ≡ pos 0
+  level_at_end at = ap (turned at) all_taken ∙ same_counts _ _ (balanced.ended at) where
     same_counts : (a b : ℕ) → a ≡ b → pos a -ℤ pos b ≡ pos 0
     same_counts a b e = omega (arith, ints)
 
+  -- the outline winds round no column behind the last turn, so no run grows on
   no_runs : (runs_of front.filling) ≡ []
   no_runs = none_left (runs_of front.filling) (λ i.
       not_some (runs_at i (runs_of front.filling))
       (λ some. (swept.state.drawn.inside i).0 some (zero_there (winding_at i front.pieces.items) by _ (int_le column i) (swept.whole
-      ∙ level everywhere) (swept.state.windings i) (level (up_to i))))) where
+      ∙ level_at_end everywhere) (swept.state.windings i) (level_at_end (up_to i))))) where
         not_some : (m : ℕ) → (0 < m → ⊥) → m ≡ 0
         not_some m h = omega (arith, h)
 
@@ -401,5 +396,16 @@ all_swept turns n row column by front past balanced swept = record {
   level_above c above =
       let below = All-weaker (λ (x : Turn). x.row ≤ℤ row) (λ x. x.row ≤ℤ c.j) (λ x l. omega (arith, ints)) (take n turns) swept.passed in
       let nothing : All (λ (x : Turn). c.j <ℤ x.row) (drop n turns) = rw (drop_all n turns past) (λ k d within. absurd (omega arith)) in
-      passed_below turns n c.j below nothing (rises_at (up_to c.i)) ∙ ap (count_by (rises_at (up_to c.i))) all ∙ balanced.ended (up_to c.i)
-      ∙ sym (passed_below turns n c.j below nothing (falls_at (up_to c.i)) ∙ ap (count_by (falls_at (up_to c.i))) all)
+      passed_below turns n c.j below nothing (rises_at (up_to c.i)) ∙ ap (count_by (rises_at (up_to c.i))) all_taken ∙ balanced.ended (up_to c.i)
+      ∙ sym (passed_below turns n c.j below nothing (falls_at (up_to c.i)) ∙ ap (count_by (falls_at (up_to c.i))) all_taken)
+
+  -- what is finished has the cells round which it winds
+  pub all_swept : IsCover (IsWound turns) front.filling.done.items
+  all_swept = record {
+    same = λ c.
+        let told = depth_tells c front.filling.done.items in
+        by_lt_z c.j row
+        (λ less. let was = swept.state.filled c less in (λ h. was.0 (rw (only_done c) (told.0 h)), λ winds. told.1 (rw (← only_done c) (was.1 winds))))
+        (λ above. (λ h. absurd (omega (arith, told.0 h, swept.state.drawn.growing.below c above)), λ winds. absurd (winds (level_above c above))));
+    within = swept.state.drawn.growing.within;
+  }

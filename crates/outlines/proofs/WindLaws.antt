@@ -1,11 +1,12 @@
 -- how often an outline winds round a cell, by the sides of the cell on which its points lie
 use Rattle.std.proofs.Common.{ℕ, ◌+◌, ◌≡◌, refl, sym, ap, subst, ◌∙◌, List, [], ◌∷◌, ◌++◌, map, Bool, true, false, cond, not, arith, ℤ, pos, neg_ℤ, ◌-ℤ◌, ◌&&◌, int_le, int_lt, count_by}
-use Rattle.lists.proofs.Words.{ints, map-append, sum_by-cons}
+use Rattle.lists.proofs.Words.{ints, sum_by-cons}
 use Rattle.geo_core.specs.declared.plane.Point.{Point}
 use Rattle.geo_core.specs.declared.plane.Cell.{Cell}
 use Rattle.outlines.specs.Outlines.{Edge, edges_of, goes_up_across, goes_down_across, winding_number}
 use Rattle.geo_core.specs.Plane.{circuit}
 use Rattle.outlines.specs.Sights.{winding_number_by_right}
+use Rattle.outlines.proofs.laws.CircuitLaws.{map-circuit}
 
 -- of a point: whether it lies no further right than the left side of the cell, and no higher than its lower side
 abbrev pub Place : Type 0
@@ -116,10 +117,6 @@ round_trip (p ∷ places) =
     let h = ends_tell p (places ++ p ∷ []) in
     let e = ap low (end_of-append p places p) in
     omega arith
-
-pub map-circuit : {X Y : Type 0} (f : X → Y) (xs : List X) → map f (circuit xs) ≡ circuit (map f xs)
-map-circuit f [] = refl
-map-circuit f (x ∷ xs) = ap (λ l. f x ∷ l) (map-append f xs (x ∷ []))
 
 balanced : (lr lf rr rf r f : ℕ) → lr + rr ≡ r → lf + rf ≡ f → r ≡ f → (pos rr -ℤ pos rf) ≡ neg_ℤ (pos lr -ℤ pos lf)
 balanced lr lf rr rf r f a b e = omega (arith, ints)

@@ -1,5 +1,5 @@
-pub mod Depths
-pub mod Turns
+pub mod FillingDepths
+pub mod OutlineTurns
 pub mod Pieces
-pub mod Runs
+pub mod FillingRuns
 pub mod Fronts

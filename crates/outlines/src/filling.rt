@@ -1,6 +1,6 @@
 ghost use Rattle.std.specs.Prelude.{ℤ, ℕ, neg_ℤ, ◌≡◌, ◌<◌, ◌≤ℤ◌, ◌<ℤ◌, OnOk, IfOk, All, AllPairs, length, []};
 ghost use Rattle.geo_core.specs.declared.bounds.TheConstants.{FARTHEST};
-ghost use Rattle.outlines.specs.inside.Runs.{Finishes};
+ghost use Rattle.outlines.specs.inside.FillingRuns.{Finishes};
 
 use super::run::Run;
 use geo_core::{Interval, Rect};
@@ -18,7 +18,7 @@ pub struct Filling {
 
 impl Filling {
     ghost use Rattle.geo_core.specs.Intervals.{IsInterval};
-    ghost use Rattle.outlines.specs.inside.Runs.{AddsRun, DropsRun, EndsLeft, EndsRight, HasRoom, IsFree, IsGrowingTo, IsParted, IsTaken, MovesRuns, PutsRun, TakesRun, runs_of};
+    ghost use Rattle.outlines.specs.inside.FillingRuns.{AddsRun, DropsRun, EndsLeft, EndsRight, HasRoom, IsFree, IsGrowingTo, IsParted, IsTaken, MovesRuns, PutsRun, TakesRun, runs_of};
 
     /// No rectangles.
     pub fn new(alloc: Global) -> Filling

@@ -19,7 +19,7 @@ impl Front {
     ghost use Rattle.outlines.specs.declared.piece.Piece.{Piece};
     ghost use Rattle.outlines.specs.inside.Pieces.{winding_at};
     ghost use Rattle.outlines.specs.inside.Fronts.{IsDrawn, ShiftsPiece, TurnsBetween};
-    ghost use Rattle.outlines.specs.inside.Runs.{filled_at};
+    ghost use Rattle.outlines.specs.inside.FillingRuns.{filled_at};
 
     /// No windings, and no rectangles.
     pub fn new(alloc: Global) -> Front

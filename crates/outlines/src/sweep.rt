@@ -1,6 +1,6 @@
 ghost use Rattle.std.specs.Prelude.{pos, negsuc, cond, length, IfOk, ◌≡◌, ◌<◌, ◌^◌};
 ghost use Rattle.outlines.specs.Fillings.{IsCover};
-ghost use Rattle.outlines.specs.inside.Turns.{AreBalanced, AreByRow, IsWound};
+ghost use Rattle.outlines.specs.inside.OutlineTurns.{AreBalanced, AreByRow, IsWound};
 
 use super::front::Front;
 use super::turn::Turn;

@@ -1,7 +1,7 @@
 ghost use Rattle.std.specs.Prelude.{All, IfOk, OnOk};
 ghost use Rattle.geo_core.specs.Bounds.{IsInRange};
 ghost use Rattle.outlines.specs.Outlines.{edges_of};
-ghost use Rattle.outlines.specs.inside.Turns.{AddsTurnsOf, AreTurnsOf};
+ghost use Rattle.outlines.specs.inside.OutlineTurns.{AddsTurnsOf, AreTurnsOf};
 
 use super::turn::Turn;
 use geo_core::Point;

@@ -3,6 +3,7 @@ use Rattle.std.proofs.Common.{ℕ, ◌≡◌, subst, List, ◌↔◌}
 use Rattle.first_refusal.specs.Outcomes.{Outcome, value, refused}
 use Rattle.first_refusal.specs.Checks.{all_hold, one_fails}
 use Rattle.first_refusal.proofs.CheckLaws.{none_fails, first_refusals_agree}
+use Rattle.geo_core.specs.Plane.{IsInUnion}
 use Rattle.geo_core.specs.declared.plane.Point.{Point}
 use Rattle.geo_core.specs.declared.plane.Cell.{Cell}
 use Rattle.geo_core.specs.declared.plane.Rect.{Rect}
@@ -12,8 +13,7 @@ use Rattle.flatten.specs.declared.placed.Placed.{Placed}
 use Rattle.rect_cover.specs.declared.fault.CoverFault.{CoverFault}
 use Rattle.rect_cover.specs.Coverings.{CoverComesTo, PlacedComesTo, placed_points}
 use Rattle.rect_cover.specs.ShapeChecks.{ShapeHolds, checks_of, shape_fault}
-use Rattle.outlines.specs.Fillings.{IsInSome}
-use Rattle.rect_cover.proofs.PlacedLaws.{placed_shapes_agree}
+use Rattle.rect_cover.proofs.laws.PlacedShapes.{placed_shapes_agree}
 
 module _ (kind : ShapeKind) (points : List Point) (at : ℕ) where
   cover_or_fault : (rects : List Rect) (fault : CoverFault) → CoverComesTo kind points at (value rects) → CoverComesTo kind points at (refused fault) → ⊥
@@ -22,7 +22,7 @@ module _ (kind : ShapeKind) (points : List Point) (at : ℕ) where
   one_fault : (one other : CoverFault) → CoverComesTo kind points at (refused one) → CoverComesTo kind points at (refused other) → one ≡ other
   one_fault one other (one_fails p) (one_fails q) = first_refusals_agree (ShapeHolds points) (checks_of kind) (shape_fault at) one other p q
 
-  one_cover : (one other : List Rect) → CoverComesTo kind points at (value one) → CoverComesTo kind points at (value other) → (c : Cell) → IsInSome one c ↔ IsInSome other c
+  one_cover : (one other : List Rect) → CoverComesTo kind points at (value one) → CoverComesTo kind points at (value other) → (c : Cell) → IsInUnion one c ↔ IsInUnion other c
   one_cover one other (all_hold p first) (all_hold q second) c =
       ((λ h. (second.same c).1 ((first.same c).0 h)), (λ h. (first.same c).1 ((second.same c).0 h)))
 
@@ -39,5 +39,5 @@ module _ (structures : List Structure) (placed : Placed) where
   pub refused_once : (one other : CoverFault) → PlacedComesTo structures placed (refused one) → PlacedComesTo structures placed (refused other) → one ≡ other
   refused_once one other first second = one_fault _ _ _ one other first.comes (alike first second)
 
-  pub covered_alike : (one other : List Rect) → PlacedComesTo structures placed (value one) → PlacedComesTo structures placed (value other) → (c : Cell) → IsInSome one c ↔ IsInSome other c
+  pub covered_alike : (one other : List Rect) → PlacedComesTo structures placed (value one) → PlacedComesTo structures placed (value other) → (c : Cell) → IsInUnion one c ↔ IsInUnion other c
   covered_alike one other first second = one_cover _ _ _ one other first.comes (alike first second)

@@ -15,8 +15,8 @@ use Rattle.flatten.specs.declared.placed.Placed.{Placed}
 use Rattle.outlines.specs.Fillings.{IsCover}
 use Rattle.outlines.specs.Outlines.{IsInside}
 use Rattle.lists.proofs.Comparing.{same_or_not}
-use Rattle.outlines.proofs.GridLaws.{cells_cover}
-use Rattle.outlines.proofs.WindLaws.{map-circuit}
+use Rattle.outlines.proofs.laws.CircuitLaws.{map-circuit}
+use Rattle.outlines.proofs.laws.GridLaws.{cells_cover}
 use Rattle.rect_cover.specs.PathPieces.{Box, style_of}
 use Rattle.rect_cover.specs.Covers.{Covers}
 use Rattle.rect_cover.specs.Coverings.{IsWellPlaced, PlacedComesTo, placed_at, placed_points}

@@ -1,5 +1,5 @@
 -- the covers of many shapes, taken in their order
-use Rattle.std.proofs.Common.{Global, ◌≡◌, ◌≢◌, refl, sym, ap, subst, ◌∙◌, List, [], ◌∷◌, ◌++◌, Vec, Ok, Err, append_assoc, length, arith, All}
+use Rattle.std.proofs.Common.{Global, ◌≡◌, refl, sym, ap, subst, ◌∙◌, List, [], ◌∷◌, ◌++◌, Vec, Ok, Err, append_assoc, length, arith, All}
 use Rattle.lists.proofs.Words.{append-nil, AllZip, All-nil, All-cons}
 use Rattle.first_refusal.specs.Answers.{Answers, gives, refuses, no_memory}
 use Rattle.first_refusal.specs.Outcomes.{value}
@@ -8,7 +8,7 @@ use Rattle.library_model.specs.declared.library.Structure.{Structure}
 use Rattle.flatten.specs.declared.placed.Placed.{Placed}
 use Rattle.rect_cover.specs.declared.fault.CoverFault.{CoverFault}
 use Rattle.rect_cover.specs.declared.fault.CoverFault.TheVariants.{Memory}
-use Rattle.rect_cover.specs.Coverings.{AllComeTo, all_covered, one_refused, IsFirstCoverFault, PlacedComesTo, IsCoverable, with_items}
+use Rattle.rect_cover.specs.Coverings.{AllComeTo, one_refused, PlacedComesTo, IsCoverable, with_items}
 use Rattle.rect_cover.specs.inside.ShapeAnswers.{Answer, IsAnswerFor}
 use Rattle.rect_cover.proofs.AgreeLaws.{covered_or_refused}
 use Rattle.lists.proofs.Pairing.{AllZip-append}
@@ -94,13 +94,3 @@ module _ (structures : List Structure) where
       none_behind [] h = refl
       none_behind (one ∷ back) h = absurd h
   all_listed placed (answer ∷ left) lists none h = absurd (omega arith)
-
-  -- what such an answer says
-  pub lists_given : (placed : List Placed) (lists : Vec (List Rect) Global) → Answers Memory (λ outcome. AllComeTo structures placed (with_items outcome)) (Ok lists)
-      → AllZip IsListed placed lists.items
-  lists_given placed lists (gives (all_covered listed)) = listed
-
-  pub first_fault : (placed : List Placed) (fault : CoverFault) → Answers Memory (λ outcome. AllComeTo structures placed (with_items outcome)) (Err fault) → fault ≢ Memory
-      → IsFirstCoverFault structures placed fault
-  first_fault placed fault (refuses (one_refused first)) known = first
-  first_fault placed fault no_memory known = absurd (known refl)

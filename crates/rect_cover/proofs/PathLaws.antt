@@ -4,23 +4,24 @@ use Rattle.lists.proofs.Words.{nat_tests, All-nil, All-append, All-contains, All
 use Rattle.std.specs.List.{AllByRecursion}
 use Rattle.first_refusal.specs.Checks.{IsRefusalOfFirst, all_hold, one_fails}
 use Rattle.first_refusal.specs.Outcomes.{value, refused}
-use Rattle.geo_core.specs.Plane.{IsInLayout}
+use Rattle.geo_core.specs.Plane.{IsInLayout, IsInUnion}
 use Rattle.geo_core.specs.declared.plane.Point.{Point}
 use Rattle.geo_core.specs.declared.plane.Cell.{Cell}
 use Rattle.geo_core.specs.declared.plane.Rect.{Rect}
 use Rattle.library_model.specs.declared.element.ShapeKind.{ShapeKind}
 use Rattle.library_model.specs.declared.element.ShapeKind.TheVariants.{Path}
 use Rattle.flatten.proofs.laws.Refusals.{refused_within}
-use Rattle.outlines.specs.Fillings.{IsInSome, IsCover}
+use Rattle.outlines.specs.Fillings.{IsCover}
 use Rattle.outlines.specs.Outlines.{edges_of}
 use Rattle.rect_cover.specs.PathPieces.{box_of, half_width_of, pieces_of, corners_of, neighbours}
 use Rattle.rect_cover.specs.Covers.{Covers, IsInBox}
 use Rattle.rect_cover.specs.Coverings.{CoverComesTo}
 use Rattle.rect_cover.specs.inside.PieceBoxes.{rect_value}
-use Rattle.rect_cover.specs.ShapeChecks.{ShapeCheck, ShapeHolds, HasCells, IsBoxInLayout, GoesOn, has_no_reversal, checks_of, path_checks, style_checks, point_checks, box_checks, boxes_of, shape_fault}
+use Rattle.rect_cover.specs.ShapeChecks.{ShapeCheck, ShapeHolds, HasCells, IsBoxInLayout, GoesOn, has_no_reversal, checks_of}
+use Rattle.rect_cover.specs.ShapeChecks.{path_checks, style_checks, point_checks, box_checks, boxes_of, shape_fault}
 use Rattle.rect_cover.specs.declared.fault.CoverFault.{CoverFault}
 use Rattle.rect_cover.specs.declared.style.PathStyle.{PathStyle}
-use Rattle.lists.proofs.Containing.{Contains-none, all_of_each}
+use Rattle.lists.proofs.Containing.{Contains-none, Contains-slice_get, all_of_each, number_of}
 use Rattle.lists.proofs.Mapping.{Contains-map, Contains-map_from}
 
 -- the kind of a path of this style
@@ -49,7 +50,7 @@ module _ (style : PathStyle) (points : List Point) where
 
   -- a path of width 0 covers nothing
   pub thin_cover : style.width ≡ pos 0 → IsCover (Covers (path_of style) points) []
-  thin_cover thin = record { same = λ c. (λ some. absurd (Contains-none some.among), λ covers. absurd (covers.0 thin)); within = All-nil IsInLayout }
+  thin_cover thin = record { same = λ c. (λ some. absurd (Contains-none (Contains-slice_get [] some.number some.rect some.at)), λ covers. absurd (covers.0 thin)); within = All-nil IsInLayout }
 
   -- the rectangles of the pieces are the cover of a path that has a width
   module _ (wide : style.width ≢ pos 0) (rects : List Rect) (same : map rect_value rects ≡ boxes_of style points) (some : All HasCells (boxes_of style points))
@@ -57,20 +58,21 @@ module _ (style : PathStyle) (points : List Point) where
     box_there : (rect : Rect) → Contains rects rect → Contains (boxes_of style points) (rect_value rect)
     box_there rect among = subst (λ boxes. Contains boxes (rect_value rect)) same (Contains-map rect_value rects rect among)
 
-    forth : (c : Cell) → IsInSome rects c → Covers (path_of style) points c
+    forth : (c : Cell) → IsInUnion rects c → Covers (path_of style) points c
     forth c some =
-        let from = Contains-map_from (box_of (half_width_of style)) (pieces_of style points) (rect_value some.rect) (box_there some.rect some.among) in
+        let from = Contains-map_from (box_of (half_width_of style)) (pieces_of style points) (rect_value some.rect) (box_there some.rect (Contains-slice_get rects some.number some.rect some.at)) in
         let here : IsInBox (rect_value some.rect) c = record { across = some.has.across; up = some.has.up } in
         (wide, record { piece = from.0; among = from.1; has = subst (λ box. IsInBox box c) (sym from.2) here })
 
-    back : (c : Cell) → Covers (path_of style) points c → IsInSome rects c
+    back : (c : Cell) → Covers (path_of style) points c → IsInUnion rects c
     back c covers =
         let box = box_of (half_width_of style) covers.1.piece in
         let among : Contains (map rect_value rects) box = subst (λ boxes. Contains boxes box) (sym same)
         (Contains-map (box_of (half_width_of style)) (pieces_of style points) covers.1.piece covers.1.among) in
         let from = Contains-map_from rect_value rects box among in
         let here : IsInBox (rect_value from.0) c = subst (λ box. IsInBox box c) (sym from.2) covers.1.has in
-        record { rect = from.0; among = from.1; has = record { across = here.across; up = here.up } }
+        let place = number_of rects from.0 from.1 in
+        record { number = place.0; rect = from.0; at = place.1; has = record { across = here.across; up = here.up } }
 
     in_layout : (rect : Rect) → Contains rects rect → IsInLayout rect
     in_layout rect among =

@@ -1,12 +1,11 @@
--- placed shapes, and where their points come to lie
-use Rattle.std.proofs.Common.{Global, ℤ, ◌≡◌, ◌+ℤ◌, List, [], ◌∷◌, map, ◌<◌, length, get_or, sym, ◌∙◌, ap, subst, Some, Vec, Result, Ok, Err, to_z, of_z, w16, w32, w64, arith, All, FitsSigned, slice_get}
+-- placed shapes, and what holds of their points
+use Rattle.std.proofs.Common.{Global, ℤ, ◌≡◌, List, [], ◌∷◌, map, ◌<◌, length, get_or, sym, ◌∙◌, ap, subst, Some, Vec, Result, Ok, Err, to_z, of_z, w16, w32, w64, arith, All, FitsSigned, slice_get}
 use Rattle.lists.proofs.Words.{to_z-of_z, get_or_from_slice_get, slice_get_within, length-map, map-append, get_or-map}
 use Rattle.first_refusal.specs.Answers.{Answers, gives, refuses, no_memory}
 use Rattle.first_refusal.specs.Outcomes.{value, refused}
-use Rattle.geo_core.specs.Plane.{IsInRange, IsOutline, image_under}
+use Rattle.geo_core.specs.Plane.{IsInRange, IsOutline}
 use Rattle.geo_core.specs.declared.plane.Point.{Point}
 use Rattle.geo_core.specs.declared.plane.Rect.{Rect}
-use Rattle.geo_core.proofs.TurnLaws.{same_at}
 use Rattle.library_model.specs.Points.{HasItsPoints}
 use Rattle.library_model.specs.declared.element.Element.{Element}
 use Rattle.library_model.specs.declared.element.Element.TheVariants.{Shape as shape_element}
@@ -15,20 +14,12 @@ use Rattle.library_model.specs.declared.element.ShapeKind.{ShapeKind}
 use Rattle.library_model.specs.declared.element.ShapeKind.TheVariants.{Boundary, BoxElement, Path}
 use Rattle.library_model.specs.declared.library.Structure.{Structure}
 use Rattle.flatten.specs.declared.placed.Placed.{Placed}
-use Rattle.rect_cover.specs.Coverings.{IsPlacedShape, IsWellPlaced, CoverComesTo, PlacedComesTo, placed_at, placed_points, with_items}
+use Rattle.rect_cover.specs.Coverings.{IsPlacedShape, IsWellPlaced, CoverComesTo, PlacedComesTo, placed_points, with_items}
 use Rattle.rect_cover.specs.declared.fault.CoverFault.{CoverFault}
 use Rattle.rect_cover.specs.declared.fault.CoverFault.TheVariants.{Memory}
+use Rattle.rect_cover.proofs.laws.PlacedShapes.{placed_shapes_agree}
 
 module _ (structures : List Structure) (placed : Placed) where
-  -- one shape is placed
-  pub placed_shapes_agree : (one other : Shape) → IsPlacedShape structures placed one → IsPlacedShape structures placed other → one ≡ other
-  placed_shapes_agree one other first second =
-      let same : Some first.structure ≡ Some second.structure = sym first.is_structure ∙ second.is_structure in
-      let alike : first.structure ≡ second.structure = cc in
-      let same_element : Some (shape_element one) ≡ Some (shape_element other) =
-      sym first.is_element ∙ ap (λ s. slice_get s.elements placed.element) alike ∙ second.is_element in
-      cc
-
   -- what is read at the numbers of a placed shape is that shape
   module _ (shape : Shape) (given : IsPlacedShape structures placed shape) (structure : Structure) (at_structure : structure ≡ get_or structures placed.structure structure) where
     structure_read : structure ≡ given.structure
@@ -81,17 +72,6 @@ style_kept kind pathtype width begin end p w b e is = cc (to_z-of_z w16 pathtype
 -- a coordinate that was widened
 pub widened : (wide z : ℤ) → FitsSigned w64 wide → FitsSigned w32 z → wide ≡ to_z w32 (of_z w32 z) → to_z w64 (of_z w64 wide) ≡ z
 widened wide z fits small is = to_z-of_z w64 wide fits ∙ is ∙ to_z-of_z w32 z small
-
--- where a point lies that was turned and then shifted, coordinate by coordinate
-module _ (placed : Placed) (point : Point) (x y : ℤ) (same_x : x ≡ point.x) (same_y : y ≡ point.y) where
-  turned : image_under placed.turn (record { x = x; y = y }) ≡ image_under placed.turn point
-  turned = ap (image_under placed.turn) (same_at x y point.x point.y same_x same_y)
-
-  pub lies_across : (a d : ℤ) → a ≡ (image_under placed.turn (record { x = x; y = y })).x → d ≡ placed.dx → a +ℤ d ≡ (placed_at placed point).x
-  lies_across a d is by = cc (ap (λ p. p.x) turned)
-
-  pub lies_up : (a d : ℤ) → a ≡ (image_under placed.turn (record { x = x; y = y })).y → d ≡ placed.dy → a +ℤ d ≡ (placed_at placed point).y
-  lies_up a d is by = cc (ap (λ p. p.y) turned)
 
 -- what the cover of the placed shape comes to is what that of its kind comes to where its points lie
 pub shape_comes : (structures : List Structure) (placed : Placed) (shape : Shape) → IsPlacedShape structures placed shape

@@ -1,5 +1,5 @@
 -- a shape that is shifted covers the shifted cells
-use Rattle.std.proofs.Common.{ℕ, ◌-◌, ◌≡◌, refl, sym, ap, subst, ◌∙◌, List, [], ◌∷◌, ◌++◌, take, drop, map, length, Bool, inl, inr, not, arith, ℤ, pos, ◌+ℤ◌, ◌-ℤ◌, ◌↔◌, int_le, int_lt, Contains, filter, replicate}
+use Rattle.std.proofs.Common.{ℕ, ◌-◌, ◌≡◌, refl, sym, ap, subst, ◌∙◌, List, [], ◌∷◌, ◌++◌, take, drop, map, length, Bool, inl, inr, not, arith, ℤ, ◌+ℤ◌, ◌-ℤ◌, ◌↔◌, int_lt, Contains, filter, replicate}
 use Rattle.lists.proofs.Words.{zip, ints, map-append, length-map, cases_Bool}
 use Rattle.std.proofs.lemmas.List.{drop-map, take-map}
 use Rattle.geo_core.specs.Plane.{IsIn}
@@ -8,18 +8,16 @@ use Rattle.geo_core.specs.declared.plane.Cell.{Cell}
 use Rattle.library_model.specs.declared.element.ShapeKind.{ShapeKind}
 use Rattle.library_model.specs.declared.element.ShapeKind.TheVariants.{Boundary, BoxElement, Path}
 use Rattle.flatten.specs.Steps.{shifted}
-use Rattle.outlines.specs.Outlines.{Edge, edges_of, winding_number}
-use Rattle.rect_cover.specs.PathPieces.{Box, Knot, Piece, style_of, is_long, direction_of, is_same, distinct_points, neighbours, corners_among, corners_of, half_width_of, reach_before, reach_behind, knots_at, pieces_of, box_towards, box_of}
+use Rattle.outlines.specs.Outlines.{Edge, edges_of}
+use Rattle.rect_cover.specs.PathPieces.{Box, Knot, Piece, style_of, is_long, direction_of, is_same, distinct_points, neighbours, corners_among}
+use Rattle.rect_cover.specs.PathPieces.{corners_of, half_width_of, reach_before, reach_behind, knots_at, pieces_of, box_towards, box_of}
 use Rattle.rect_cover.specs.declared.direction.Direction.{Direction}
 use Rattle.rect_cover.specs.declared.style.PathStyle.{PathStyle}
 use Rattle.rect_cover.specs.declared.direction.Direction.TheVariants.{Right, Up, Left, Down}
 use Rattle.rect_cover.specs.Covers.{Covers, IsInBox, IsInPiece}
 use Rattle.outlines.specs.Sights.{shifted_cell}
-use Rattle.outlines.proofs.WindLaws.{place_of, counted, left_rises, left_falls, winds_by_places}
+use Rattle.outlines.proofs.laws.ShiftLaws.{winding_shifted}
 use Rattle.lists.proofs.Mapping.{Contains-map, Contains-map_from}
-
-le_shifted : (a b d : ℤ) → int_le (a +ℤ d) (b +ℤ d) ≡ int_le a b
-le_shifted a b d = grind (arith, ints)
 
 lt_shifted : (a b d : ℤ) → int_lt (a +ℤ d) (b +ℤ d) ≡ int_lt a b
 lt_shifted a b d = grind (arith, ints)
@@ -67,23 +65,6 @@ module _ (by : Point) where
 
   abbrev move_piece : Piece → Piece
   move_piece piece = (move_knot piece.0, move_knot piece.1)
-
-  -- ---- outlines
-
-  place_kept : (c : Cell) (p : Point) → place_of (shifted_cell by c) (shifted by p) ≡ place_of c p
-  place_kept c p = ap (λ b. (b, int_le (p.y +ℤ by.y) (c.j +ℤ by.y))) (le_shifted p.x c.i by.x) ∙ ap (λ b. (int_le p.x c.i, b)) (le_shifted p.y c.j by.y)
-
-  places_kept : (c : Cell) (points : List Point) → map (place_of (shifted_cell by c)) (map (shifted by) points) ≡ map (place_of c) points
-  places_kept c [] = refl
-  places_kept c (p ∷ points) = let e = place_kept c p in let r = places_kept c points in cc
-
-  winding_kept : (points : List Point) (c : Cell) → winding_number (map (shifted by) points) (shifted_cell by c) ≡ winding_number points c
-  winding_kept points c =
-      winds_by_places (shifted_cell by c) (map (shifted by) points)
-      ∙ ap (λ l. pos (counted left_rises l) -ℤ pos (counted left_falls l)) (places_kept c points)
-      ∙ sym (winds_by_places c points)
-
-  -- ---- paths
 
   long_kept : (e : Edge) → is_long (move_edge e) ≡ is_long e
   long_kept e = rw (lt_shifted e.0.x e.1.x by.x, lt_shifted e.1.x e.0.x by.x, lt_shifted e.0.y e.1.y by.y, lt_shifted e.1.y e.0.y by.y) refl
@@ -178,8 +159,8 @@ module _ (by : Point) where
       }
 
   pub cover_shifted : (kind : ShapeKind) (points : List Point) (c : Cell) → Covers kind (map (shifted by) points) (shifted_cell by c) ↔ Covers kind points c
-  cover_shifted Boundary points c = let w = winding_kept points c in ((λ n z. n (w ∙ z)), λ n z. n (sym w ∙ z))
-  cover_shifted BoxElement points c = let w = winding_kept points c in ((λ n z. n (w ∙ z)), λ n z. n (sym w ∙ z))
+  cover_shifted Boundary points c = let w = winding_shifted by points c in ((λ n z. n (w ∙ z)), λ n z. n (sym w ∙ z))
+  cover_shifted BoxElement points c = let w = winding_shifted by points c in ((λ n z. n (w ∙ z)), λ n z. n (sym w ∙ z))
   cover_shifted (Path pathtype width begin end) points c =
       let piece = piece_kept (style_of pathtype width begin end) points c in
       ((λ h. (h.0, piece.0 h.1)), λ h. (h.0, piece.1 h.1))

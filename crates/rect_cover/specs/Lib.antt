@@ -1,5 +1,6 @@
 pub mod PathPieces
 pub mod Covers
+pub mod RoutePoints
 pub mod ShapeChecks
 pub mod Coverings
 pub mod CoverFaults

@@ -4,6 +4,7 @@
 ghost use Rattle.std.specs.Prelude.{ℤ, List, [], ◌∷◌, ◌≡◌, ◌≢◌, ◌↔◌, pos, ◌≤ℤ◌, map};
 ghost use Rattle.geo_core.specs.Intervals.{IsIn};
 ghost use Rattle.geo_core.specs.Cells.{Has};
+ghost use Rattle.geo_core.specs.Unions.{IsInUnion};
 ghost use Rattle.geo_core.specs.declared.plane.Point.{Point};
 ghost use Rattle.geo_core.specs.declared.plane.Cell.{Cell};
 ghost use Rattle.geo_core.specs.declared.plane.Rect.{Rect};
@@ -14,7 +15,6 @@ ghost use Rattle.flatten.specs.Steps.{shifted};
 ghost use Rattle.flatten.specs.declared.placed.Placed.{Placed};
 ghost use Rattle.first_refusal.specs.Outcomes.{value, refused};
 ghost use Rattle.first_refusal.specs.Laws.{CannotLack};
-ghost use Rattle.outlines.specs.Fillings.{IsInSome};
 ghost use Rattle.outlines.specs.Rectangles.{GoesRound};
 ghost use Rattle.outlines.specs.Sights.{part_again, part_back, shifted_cell};
 ghost use Rattle.rect_cover.specs.Covers.{Covers, IsInBox};
@@ -60,7 +60,7 @@ pub fn covers_agree()
         PlacedComesTo structures placed (refused one) → PlacedComesTo structures placed (refused other) → one ≡ other }
     ensures cells { (structures : List Structure) (placed : Placed) (one other : List Rect) →
         PlacedComesTo structures placed (value one) → PlacedComesTo structures placed (value other) →
-        (c : Cell) → IsInSome one c ↔ IsInSome other c }
+        (c : Cell) → IsInUnion one c ↔ IsInUnion other c }
     ensures apart { (structures : List Structure) (placed : Placed) (rects : List Rect) (fault : CoverFault) →
         PlacedComesTo structures placed (value rects) → PlacedComesTo structures placed (refused fault) → ⊥ }
 {}

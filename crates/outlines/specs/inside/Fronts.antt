@@ -2,7 +2,7 @@
 use Rattle.std.specs.Prelude.{ℕ, ℤ, pos, ◌+◌, ◌<◌, ◌≡◌, ◌≢◌, ◌↔◌}
 use Rattle.geo_core.specs.declared.plane.Cell.{Cell}
 use Rattle.outlines.specs.inside.Pieces.{AddsBetween, AreRising, IsPlace, winding_at}
-use Rattle.outlines.specs.inside.Runs.{IsGrowingTo, filled_at, runs_at, runs_of}
+use Rattle.outlines.specs.inside.FillingRuns.{IsGrowingTo, filled_at, runs_at, runs_of}
 use Rattle.outlines.specs.declared.front.Front.{Front}
 
 -- the runs that grow have the columns round whose cells the outline winds in the row

@@ -1,6 +1,6 @@
 -- the windings round the cells of a row, by pieces: each from its column on to that of the next
 use Rattle.std.specs.Prelude.{ℕ, ℤ, pos, ◌+◌, ◌+ℤ◌, ◌≡◌, ◌<◌, ◌<ℤ◌, ◌≤ℤ◌, cond, int_le, List, length, All, AllPairs, fold, slice_index_or}
-use Rattle.outlines.specs.inside.Depths.{lies_in}
+use Rattle.outlines.specs.inside.FillingDepths.{lies_in}
 use Rattle.outlines.specs.declared.piece.Piece.{Piece}
 
 -- the winding at a column behind the piece, by that before it

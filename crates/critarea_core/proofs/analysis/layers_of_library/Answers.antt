@@ -8,7 +8,8 @@ use Rattle.flatten.specs.declared.fault.PlaceFault.TheVariants as place
 use Rattle.map_model.specs.MapNames.{layer_map_of}
 use Rattle.rect_cover.specs.Coverings.{IsFirstCoverFault}
 use Rattle.rect_cover.specs.declared.fault.CoverFault.TheVariants as cover
-use Rattle.rect_cover.proofs.ListedLaws.{first_fault, lists_given}
+use Rattle.rect_cover.proofs.laws.ListedCovers.{first_fault, lists_given}
+use Rattle.rect_cover.proofs.laws.RouteEnds.{placed_along, well_placed}
 use Rattle.critarea_core.specs.inside.Finding.{gives_thing}
 use Rattle.critarea_core.specs.Layout.{Subject, LibraryComesTo}
 use Rattle.critarea_core.specs.inside.LayoutReaders.{AreLayersFor, AreListsUpTo}
@@ -16,7 +17,6 @@ use Rattle.critarea_core.specs.declared.layout_fault.LayoutFault.TheVariants.{Pl
 use Rattle.critarea_core.proofs.CoverReading.{HasCover, all_covered, covered_along, first_refused}
 use Rattle.critarea_core.proofs.LayerLaws.{are_layers, layer_count}
 use Rattle.critarea_core.proofs.ReadingLaws.{not_read}
-use Rattle.critarea_core.proofs.RouteEnds.{placed_along, well_placed}
 use Rattle.critarea_core.proofs.analysis.layers_of_library.Goals as goal
 
 pub returns-in_err-placed : goal.returns-in_err-placed

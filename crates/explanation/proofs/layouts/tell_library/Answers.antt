@@ -1,6 +1,6 @@
 use Rattle.std.proofs.Common.{option_copied}
 use Rattle.map_model.specs.MapNames.{layer_map_of}
-use Rattle.critarea_core.proofs.RouteEnds.{placed_along, well_placed}
+use Rattle.rect_cover.proofs.laws.RouteEnds.{placed_along, well_placed}
 use Rattle.explanation.proofs.layouts.tell_library.Goals as goal
 
 -- what `place` gives is well placed, so that each shape of it can be covered or has a fault

@@ -1,4 +1,4 @@
-use Rattle.outlines.proofs.JoinLaws.{winding_joined}
+use Rattle.outlines.proofs.laws.JoinLaws.{winding_joined}
 use Rattle.outlines.proofs.laws.winding_numbers_add_up.Goals as goal
 
 pub returns : goal.returns

@@ -1,6 +1,6 @@
 use Rattle.std.proofs.Common.{refl, arith}
 use Rattle.lists.proofs.Words.{ints}
-use Rattle.outlines.proofs.TurnLaws.{no_turns, two_turns}
+use Rattle.outlines.proofs.OutlineTurnLaws.{no_turns, two_turns}
 use Rattle.outlines.proofs.turns.add_turns.Goals as goal
 
 pub returns-then-from-to : goal.returns-then-from-to

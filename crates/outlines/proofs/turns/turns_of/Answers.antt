@@ -2,9 +2,9 @@ use Rattle.std.proofs.Common.{inl, inr, refl, sym, subst, ◌≡◌, [], All}
 use Rattle.lists.proofs.Words.{All-head, All-tail}
 use Rattle.geo_core.specs.Plane.{IsInRange}
 use Rattle.outlines.specs.Outlines.{edges_of}
-use Rattle.outlines.specs.inside.Turns.{AreTurnsOf}
+use Rattle.outlines.specs.inside.OutlineTurns.{AreTurnsOf}
 use Rattle.outlines.proofs.EdgeLaws.{edges_begun, edges_ended, edges_none}
-use Rattle.outlines.proofs.TurnLaws.{none_turned, one_more_edge, all_edges}
+use Rattle.outlines.proofs.OutlineTurnLaws.{none_turned, one_more_edge, all_edges}
 use Rattle.outlines.proofs.turns.turns_of.Goals as goal
 
 pub returns-in_default : goal.returns-in_default

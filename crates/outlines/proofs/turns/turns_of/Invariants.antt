@@ -1,6 +1,6 @@
 use Rattle.lists.proofs.Words.{iter_rest, zip_first, zip_second}
 use Rattle.outlines.specs.Outlines.{edges_of}
-use Rattle.outlines.proofs.TurnLaws.{AreTurnsBut}
+use Rattle.outlines.proofs.OutlineTurnLaws.{AreTurnsBut}
 use Rattle.outlines.proofs.turns.turns_of.Given as goal
 
 abbrev pub invariant-loop-from : goal.invariant-loop-from

@@ -3,7 +3,8 @@ use Rattle.lists.proofs.Words.{to_z-of_z}
 use Rattle.geo_core.specs.declared.bounds.TheConstants.{FARTHEST}
 use Rattle.geo_core.proofs.TurnLaws.{same_at}
 use Rattle.rect_cover.specs.Coverings.{placed_at}
-use Rattle.rect_cover.proofs.PlacedLaws.{widened, lies_across, lies_up}
+use Rattle.rect_cover.proofs.PlacedLaws.{widened}
+use Rattle.rect_cover.proofs.laws.PlacedShapes.{lies_across, lies_up}
 use Rattle.rect_cover.proofs.covering.place_point.Goals as goal
 
 pub shifted-requires-clause-low : goal.shifted-requires-clause-low

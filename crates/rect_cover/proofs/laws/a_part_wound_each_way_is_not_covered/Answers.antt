@@ -1,4 +1,4 @@
-use Rattle.outlines.proofs.JoinLaws.{part_wound_each_way}
+use Rattle.outlines.proofs.laws.JoinLaws.{part_wound_each_way}
 use Rattle.rect_cover.proofs.laws.a_part_wound_each_way_is_not_covered.Goals as goal
 
 pub returns : goal.returns

@@ -1,4 +1,4 @@
-use Rattle.outlines.proofs.JoinLaws.{part_wound_twice}
+use Rattle.outlines.proofs.laws.JoinLaws.{part_wound_twice}
 use Rattle.rect_cover.proofs.laws.a_part_wound_twice_is_covered.Goals as goal
 
 pub returns : goal.returns

@@ -1,4 +1,4 @@
-use Rattle.outlines.proofs.RectangleLaws.{rectangle_covered}
+use Rattle.outlines.proofs.laws.RectangleLaws.{rectangle_covered}
 use Rattle.rect_cover.proofs.laws.an_outline_of_a_rectangle_covers_the_rectangle.Goals as goal
 
 pub returns : goal.returns

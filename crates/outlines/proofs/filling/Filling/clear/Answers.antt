@@ -1,6 +1,6 @@
 use Rattle.std.proofs.Common.{◌∙◌, w32, FitsSigned, length, rules, arith, ap, sym, subst}
 use Rattle.lists.proofs.Words.{ints, to_z-of_z, on_ok_weaker}
-use Rattle.outlines.specs.inside.Runs.{HasRoom, IsTaken, PutsRun, runs_of}
+use Rattle.outlines.specs.inside.FillingRuns.{HasRoom, IsTaken, PutsRun, runs_of}
 use Rattle.outlines.proofs.FillingLaws.{drops_from, grows_moved, holder_right, room_before, room_behind, run_dropped, some_right_of, taken_kept}
 use Rattle.outlines.proofs.filling.Filling.clear.Goals as goal
 

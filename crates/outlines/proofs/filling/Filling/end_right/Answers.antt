@@ -11,7 +11,9 @@ returns-then-run-column-clause-ended c =
     let back = c.in_ok-push.ensures.items ∙ sym c.in-Some.ensures.items in
     rw (to_z-of_z w32 c.args.column c.ranges.column) (right_passed (length filling.left.items) c.args.column c.args.row filling _
     (record { runs = ap (λ r. filling.left.items ++ reverse r) back; done = refl }) c.requires.growing
-    (λ d small same. c.if-run-column.true (ap (of_z w32) (ap (λ (r : Run). r.low) (sym (first_right filling.left.items filling.right.items c.pop.new.self.items run d c.in-Some.ensures.items)) ∙ same))))
+    (λ d small same.
+    let first = first_right filling.left.items filling.right.items c.pop.new.self.items run d c.in-Some.ensures.items in
+    c.if-run-column.true (ap (of_z w32) (ap (λ (r : Run). r.low) (sym first) ∙ same))))
 
 pub returns-clause-ended : goal.returns-clause-ended
 returns-clause-ended c =

@@ -1,12 +1,14 @@
 use Rattle.std.proofs.Common.{◌∙◌, w32, FitsSigned, length, rules, arith, ap, sym, subst}
 use Rattle.lists.proofs.Words.{ints, to_z-of_z, on_ok_weaker}
-use Rattle.outlines.specs.inside.Runs.{HasRoom, EndsRight, IsFree, PutsRun, runs_of}
+use Rattle.outlines.specs.inside.FillingRuns.{HasRoom, EndsRight, IsFree, PutsRun, runs_of}
 use Rattle.outlines.proofs.FillingLaws.{adds_from, grows_moved, left_within, room_to_fill, run_added}
 use Rattle.outlines.proofs.filling.Filling.fill.Goals as goal
 
 pub end_left-requires-clause-growing : goal.end_left-requires-clause-growing
 end_left-requires-clause-growing c =
-    rw (to_z-of_z w32 c.args.row c.ranges.row) (grows_moved c.args.columns.low c.args.columns.high c.args.row c.args.self.now c.part.new.self c.args.self.now c.in_ok-part.ensures.moved c.requires.growing)
+    let columns = c.args.columns in
+    rw (to_z-of_z w32 c.args.row c.ranges.row)
+    (grows_moved columns.low columns.high c.args.row c.args.self.now c.part.new.self c.args.self.now c.in_ok-part.ensures.moved c.requires.growing)
 
 pub put_left-requires-clause-right : goal.put_left-requires-clause-right
 put_left-requires-clause-right c =
@@ -29,7 +31,8 @@ put_left-requires-clause-room c =
     let free = subst (IsFree columns.low columns.high) (sym c.in_ok-part.ensures.moved.runs) c.requires.free in
     rw (to_z-of_z w32 c.in_ok-low.low left, to_z-of_z w32 c.in_ok-high.high right)
     (subst (λ n. HasRoom n c.in_ok-low.low c.in_ok-high.high (runs_of c.end_right.new.self)) (sym (ap length c.in_ok-high.ensures.left ∙ kept))
-    (room_to_fill number columns.low columns.high c.in_ok-low.low c.in_ok-high.high c.args.row moved _ _ c.args.self.now c.requires.columns.some on_left on_right' free parted.left parted.right (left_within moved)))
+    (room_to_fill number columns.low columns.high c.in_ok-low.low c.in_ok-high.high c.args.row moved _ _ c.args.self.now c.requires.columns.some on_left on_right' free
+    parted.left parted.right (left_within moved)))
 
 pub returns : goal.returns
 returns c =

@@ -1,5 +1,5 @@
 use Rattle.std.proofs.Common.{length}
-use Rattle.outlines.specs.inside.Runs.{MovesRuns}
+use Rattle.outlines.specs.inside.FillingRuns.{MovesRuns}
 use Rattle.outlines.proofs.filling.Filling.go_left.Given as goal
 
 abbrev pub invariant-loop-run : goal.invariant-loop-run

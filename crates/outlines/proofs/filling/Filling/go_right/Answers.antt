@@ -2,7 +2,7 @@ use Rattle.std.proofs.Common.{All, AllPairs, to_z, of_z, ◌≡◌, ◌<ℤ◌, 
 use Rattle.lists.proofs.Words.{ints, to_z-of_z, All-push}
 use Rattle.outlines.specs.declared.filling.Filling.{Filling}
 use Rattle.outlines.specs.declared.run.Run.{Run}
-use Rattle.outlines.specs.inside.Runs.{runs_of}
+use Rattle.outlines.specs.inside.FillingRuns.{runs_of}
 use Rattle.outlines.proofs.FillingLaws.{first_right, moved_left, parted_at}
 use Rattle.outlines.proofs.filling.Filling.go_right.Goals as goal
 

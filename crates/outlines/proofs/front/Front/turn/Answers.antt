@@ -47,7 +47,9 @@ returns c =
     let cut : Front = record { pieces = c.cut-2.new.pieces; filling = c.args.self.now.filling } in
     let turned = c.loop-number.self in
     let after : Front = record { pieces = c.join-2.new.pieces; filling = turned.filling } in
-    let so_far = rw (to_z-of_z w32 c.args.low c.ranges.low, to_z-of_z w32 c.args.high c.ranges.high, to_z-of_z w64 c.args.by c.ranges.by, to_z-of_z w32 c.args.row c.ranges.row) at c.loop-number.invariant in
+    let so_far =
+    rw (to_z-of_z w32 c.args.low c.ranges.low, to_z-of_z w32 c.args.high c.ranges.high, to_z-of_z w64 c.args.by c.ranges.by, to_z-of_z w32 c.args.row c.ranges.row)
+    at c.loop-number.invariant in
     let bound = so_far.bound in
     let all : c.loop-number.number ≡ c.in_ok-last.last = omega arith in
     let turns = subst (λ n. IsTurnedTo c.args.low c.args.high c.args.by c.args.row c.in_ok-first.first c.in_ok-last.last n cut turned) all so_far in

@@ -2,7 +2,7 @@ use Rattle.std.proofs.Common.{◌≡◌, ◌∙◌, to_z, of_z, w64, refl, subst
 use Rattle.std.specs.Prelude.{FitsSigned, neg_ℤ, ◌≤ℤ◌}
 use Rattle.std.proofs.lemmas.Int.{ints, to_z-of_z}
 use Rattle.geo_core.specs.declared.bounds.TheConstants.{FARTHEST}
-use Rattle.rect_cover.proofs.PlacedLaws.{lies_across, lies_up}
+use Rattle.rect_cover.proofs.laws.PlacedShapes.{lies_across, lies_up}
 use Rattle.shape_rows.proofs.covers.drawing.is_in_range.Goals as goal
 
 pub returns : goal.returns

@@ -4,8 +4,8 @@ use Rattle.lists.proofs.Words.{zip, All-tail, sum_by_push, sum_by-cons}
 use Rattle.geo_core.specs.declared.plane.Point.{Point}
 use Rattle.geo_core.specs.Plane.{IsInRange}
 use Rattle.outlines.specs.Outlines.{Edge, goes_up_across, goes_down_across}
-use Rattle.outlines.specs.inside.Turns.{edges_down, edges_up}
-use Rattle.outlines.specs.inside.Turns.{AddsTurnsOf, AreTurnsOf, falls_at, falls_below, rises_at, rises_below}
+use Rattle.outlines.specs.inside.OutlineTurns.{edges_down, edges_up}
+use Rattle.outlines.specs.inside.OutlineTurns.{AddsTurnsOf, AreTurnsOf, falls_at, falls_below, rises_at, rises_below}
 use Rattle.outlines.specs.declared.turn.Turn.{Turn}
 use Rattle.outlines.proofs.EdgeLaws.{edges_next}
 use Rattle.outlines.proofs.FillingLaws.{one}

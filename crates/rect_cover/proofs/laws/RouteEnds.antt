@@ -21,7 +21,7 @@ use Rattle.flatten.specs.declared.limits.TheConstants.{MOST_STEPS}
 use Rattle.flatten.specs.declared.placed.Placed.{Placed}
 use Rattle.flatten.proofs.laws.Routes.{routes_are_listed, shape_stands}
 use Rattle.rect_cover.specs.Coverings.{IsPlacedShape, IsWellPlaced, placed_at, placed_points}
-use Rattle.critarea_core.specs.Coverage.{route_points}
+use Rattle.rect_cover.specs.RoutePoints.{route_points}
 use Rattle.lists.proofs.Containing.{Contains-slice_get, Contains-tail, all_of_each}
 use Rattle.lists.proofs.Filtering.{Contains-from_filter}
 use Rattle.lists.proofs.Mapping.{Contains-map}

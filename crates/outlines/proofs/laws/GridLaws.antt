@@ -1,5 +1,6 @@
 -- an outline's cells, each as a rectangle of its own: some cover exists
-use Rattle.std.proofs.Common.{ℕ, zero, suc, ◌≡◌, ◌↔◌, filter, get_or, int_eq, refl, sym, ap, subst, ◌∙◌, List, [], ◌∷◌, map, Bool, true, false, cond, not, arith, ℤ, pos, neg_ℤ, ◌+ℤ◌, ◌-ℤ◌, ◌≤ℤ◌, ◌<ℤ◌, ◌&&◌, All, Contains}
+use Rattle.std.proofs.Common.{ℕ, zero, suc, ◌≡◌, ◌↔◌, refl, sym, ap, subst, ◌∙◌, List, [], ◌∷◌, filter, get_or, map, All, Contains, arith}
+use Rattle.std.proofs.Common.{Bool, true, false, cond, not, ◌&&◌, ℤ, pos, neg_ℤ, ◌+ℤ◌, ◌-ℤ◌, ◌≤ℤ◌, ◌<ℤ◌, int_eq}
 use Rattle.lists.proofs.Words.{flat_map, and_right, clamps, ints, int_max, int_min, Decides-int_eq, by_lt_z, All-head, All-tail, All-map, All-weaker}
 use Rattle.geo_core.specs.Plane.{IsInRange, circuit, IsIn, IsInterval, Has, IsInLayout}
 use Rattle.geo_core.specs.declared.plane.Point.{Point}
@@ -12,7 +13,7 @@ use Rattle.outlines.specs.Sights.{winding_number_by_right}
 use Rattle.outlines.proofs.CountLaws.{le_false, le_true}
 use Rattle.outlines.proofs.WindLaws.{Place, place_of, counted, left_rises, left_falls, right_rises, right_falls, winds_by_places, by_right, right_tells}
 use Rattle.lists.proofs.Filtering.{Contains-filter, Contains-filter_passes}
-use Rattle.lists.proofs.Containing.{Contains-head, Contains-tail}
+use Rattle.lists.proofs.Containing.{Contains-head, Contains-slice_get, Contains-tail, number_of}
 use Rattle.lists.proofs.Mapping.{Contains-flat_map, Contains-map, Contains-map_from}
 
 -- the column and the row of the cell lie within the range of points
@@ -169,13 +170,14 @@ module _ (points : List Point) (range : All IsInRange points) (corners : List Po
         record {
           same = λ c. (
             λ h.
-                let found = Contains-map_from unit cells h.rect h.among in
+                let found = Contains-map_from unit cells h.rect (Contains-slice_get (map unit cells) h.number h.rect h.at) in
                 let winds = (inside_tells points found.0).0 (Contains-filter_passes test all found.0 found.1) in
                 let is = unit_only found.0 (within found.0 winds) c (subst (λ rect. Has rect c) (sym found.2) h.has) in
                 subst (IsInside points) (sym is) winds,
             λ winds.
                 let among = Contains-filter test all c (cell_there 2000000000 refl c (within c winds)) ((inside_tells points c).1 winds) in
-                record { rect = unit c; among = Contains-map unit cells c among; has = unit_has c (within c winds) },
+                let place = number_of (map unit cells) (unit c) (Contains-map unit cells c among) in
+                record { number = place.0; rect = unit c; at = place.1; has = unit_has c (within c winds) },
           );
           within = All-map IsInLayout unit cells (λ k d small. unit_in_layout (get_or cells k d));
         },

@@ -5,7 +5,7 @@ use Rattle.geo_core.specs.Plane.{IsInLayout}
 use Rattle.geo_core.specs.declared.bounds.TheConstants.{FARTHEST}
 use Rattle.geo_core.specs.declared.plane.Cell.{Cell}
 use Rattle.geo_core.specs.declared.plane.Rect.{Rect}
-use Rattle.outlines.specs.inside.Depths.{depth_at, lies_in}
+use Rattle.outlines.specs.inside.FillingDepths.{depth_at, lies_in}
 use Rattle.outlines.specs.declared.filling.Filling.{Filling}
 use Rattle.outlines.specs.declared.run.Run.{Run}
 

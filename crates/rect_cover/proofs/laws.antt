@@ -1,0 +1,4 @@
+-- what crates above cite
+pub mod ListedCovers
+pub mod PlacedShapes
+pub mod RouteEnds
