@@ -11,7 +11,7 @@ use Rattle.cover_tree.specs.CoverTrees.{Cover, columns_of, count_of, depth_at, w
 use Rattle.cover_tree.proofs.DepthLaws.{in_range}
 use Rattle.depth_sweep.specs.declared.bar.Bar.{Bar}
 use Rattle.depth_sweep.specs.declared.bar.Event.{Event}
-use Rattle.depth_sweep.specs.inside.Depths.{IsDeep}
+use Rattle.depth_sweep.specs.inside.DeepCells.{IsDeep}
 use Rattle.depth_sweep.specs.inside.Events.{MayHappen, IsAfter, IsBalanced}
 use Rattle.depth_sweep.proofs.EventLaws.{low_before, high_from, closes, balance_next, may_happen}
 use Rattle.depth_sweep.proofs.Sweeping.{IsEnd, IsSetting, IsSwept, events_within, keeps, count_moved, depth_moved, rows_tally, amount}

@@ -17,7 +17,8 @@ use Rattle.depth_sweep.specs.declared.bar.Event.{Event}
 use Rattle.depth_sweep.specs.inside.Bars.{has_column, has_row, bars_over, IsWithin, AreBarsOf}
 use Rattle.depth_sweep.specs.declared.areas.Depth.{Depth}
 use Rattle.depth_sweep.specs.declared.areas.Depth.TheVariants.{Once, Twice}
-use Rattle.depth_sweep.specs.inside.Depths.{depth_of, IsDeep, least_of}
+use Rattle.skyline_runs.specs.Depths.{depth_of}
+use Rattle.depth_sweep.specs.inside.DeepCells.{IsDeep, least_of}
 use Rattle.depth_sweep.specs.inside.Events.{begin_of, end_of, ends_of, AreEventsOf, IsPutOrTaken, IsBalanced}
 use Rattle.depth_sweep.specs.inside.SweepPlaces.{ArePlaces, IsInColumn}
 use Rattle.depth_sweep.proofs.EventLaws.{over, balance_all, at_row, IsMoved}

@@ -1,6 +1,6 @@
 ghost use Rattle.std.specs.Prelude.{ℕ, ◌≡◌, ◌<◌, ◌^◌, IfOk, IfSome, IsTrue};
 ghost use Rattle.fault_model.specs.Areas.{Tally, cells_of};
-ghost use Rattle.depth_sweep.specs.Runs.{IsInTwo};
+ghost use Rattle.skyline_runs.specs.Runs.{IsInTwo};
 ghost use Rattle.short_area.specs.inside.Zones.{HaveNoThird, HaveSameTwo, IsCountOf, IsWholeIn, MeetsOther};
 
 use super::labels::{is_other_whole, split, two_labels, whole_label};
