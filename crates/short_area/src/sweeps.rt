@@ -10,8 +10,7 @@ use geo_core::{Labelled, NoMemory, Rect, Steps, overlaps};
 use std::alloc::Global;
 use std::marker::Brand;
 use std::sync::ledger::{Blank, Ledger};
-use union_area::union_area;
-use window_parts::count_of;
+use union_area::{count_of, union_area};
 
 /// So many looks for each zone are few.
 pub const LOOKS_EACH: usize = 4;

@@ -4,8 +4,9 @@ ghost use Rattle.geo_core.specs.Unions.{IsInUnion};
 ghost use Rattle.geo_core.specs.declared.plane.Cell.{Cell};
 ghost use Rattle.skyline_runs.specs.Runs.{AreApart};
 ghost use Rattle.fault_model.specs.Areas.{Tally, cells_of};
-ghost use Rattle.window_parts.specs.WindowParts.{AreParts};
+ghost use Rattle.union_area.specs.WindowParts.{AreParts};
 
+use super::parts::count_of;
 use super::survey::Survey;
 use super::windows::{clipped, is_filled};
 use depth_sweep::area_once;
@@ -13,7 +14,6 @@ use geo_core::{NoMemory, Rect, Steps};
 use std::alloc::Global;
 use std::marker::Brand;
 use std::sync::ledger::{Blank, Ledger};
-use window_parts::count_of;
 
 /// So many rectangles are swept at once.
 const FEW: usize = 64;
