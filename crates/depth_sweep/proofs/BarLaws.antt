@@ -6,7 +6,7 @@ use Rattle.geo_core.specs.Plane.{Has}
 use Rattle.geo_core.specs.declared.plane.Cell.{Cell}
 use Rattle.geo_core.specs.declared.plane.Rect.{Rect}
 use Rattle.cover_tree.specs.Columns.{AreRising, place_at}
-use Rattle.cover_tree.proofs.Totals.{place_at-le}
+use Rattle.cover_tree.proofs.laws.ColumnLaws.{place_at-le}
 use Rattle.depth_sweep.specs.RectSides.{IsSideOf}
 use Rattle.depth_sweep.specs.declared.bar.Bar.{Bar}
 use Rattle.depth_sweep.specs.inside.Bars.{has_column, has_row, IsWithin, IsBarOf, HasNoPart, AreBarsOf}

@@ -9,7 +9,7 @@ use Rattle.fault_model.proofs.RangeLaws.{Contains-range, length-range, Tally-all
 use Rattle.fault_model.proofs.TallyLaws.{Tally-none}
 use Rattle.fault_model.proofs.CellLaws.{has_from_listed}
 use Rattle.cover_tree.specs.Columns.{place_at, width_of, deep_width}
-use Rattle.cover_tree.proofs.Totals.{place_at-le, width_is}
+use Rattle.cover_tree.proofs.laws.ColumnLaws.{place_at-le, width_is}
 use Rattle.depth_sweep.specs.RectSides.{IsSideOf}
 use Rattle.depth_sweep.specs.inside.Bars.{HasNoPart}
 use Rattle.skyline_runs.specs.Depths.{has_cell, depth_of}

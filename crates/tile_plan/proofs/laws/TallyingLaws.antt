@@ -13,7 +13,11 @@ use Rattle.fault_model.proofs.TallyLaws.{Tally-none, Tally-same}
 use Rattle.tile_plan.specs.Tiles.{IsInTile, IsTile, tile_count}
 use Rattle.tile_plan.specs.TileTallies.{AreTalliesOfTiles, IsInFirstTiles, IsTallyOfFirst}
 use Rattle.tile_plan.specs.declared.tiles.TilePlan.{TilePlan}
-use Rattle.tile_plan.proofs.TileLaws.{one_tile, some_tile, tile_in_window}
+use Rattle.tile_plan.proofs.TileLaws.{one_tile, some_tile}
+
+-- a tile has cells of the window alone
+pub tile_in_window : (plan : TilePlan) (k : ℕ) (tile : Rect) → IsTile plan k tile → (c : Cell) → Has tile c → Has plan.window c
+tile_in_window plan k tile is c h = ((is.cells c).0 h).in_window
 
 module _ {P : Cell → Type 0} (plan : TilePlan) where
   pub no_tile : IsTallyOfFirst P plan 0 0

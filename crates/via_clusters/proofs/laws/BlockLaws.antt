@@ -1,6 +1,6 @@
 -- blocks of clusters are covered rectangles
-use Rattle.std.proofs.Common.{ℕ, ◌+◌, ◌/◌, ◌≤◌, refl, sym, subst, ◌∙◌, arith, inl, inr, ℤ, neg_ℤ, ◌≤ℤ◌, ◌<ℤ◌, List, [], ◌∷◌, ◌↔◌, All, Contains, get_or, length}
-use Rattle.lists.proofs.Words.{ints, AllZip, leb_tells, get_or_past, All-contains, All-get_or, All-nil}
+use Rattle.std.proofs.Common.{ℕ, ◌+◌, ◌/◌, ◌≤◌, refl, sym, subst, ◌∙◌, arith, inl, inr, ℤ, neg_ℤ, ◌≤ℤ◌, ◌<ℤ◌, List, [], ◌↔◌, All, get_or, length}
+use Rattle.lists.proofs.Words.{ints, leb_tells, get_or_past, All-contains, All-get_or, All-nil}
 use Rattle.geo_core.specs.Plane.{Has, IsIn, IsInterval, IsInLayout, IsCoveredIn}
 use Rattle.geo_core.specs.declared.bounds.TheConstants.{FARTHEST}
 use Rattle.geo_core.specs.declared.plane.Cell.{Cell}
@@ -9,30 +9,13 @@ use Rattle.fault_model.specs.FaultNames.{IsBoundsOf, Cut, IsViaBlock, Tally}
 use Rattle.fault_model.proofs.FaultLaws.{block_at}
 use Rattle.fault_model.proofs.HalfLaws.{cell_on, some_half}
 use Rattle.fault_model.proofs.TallyLaws.{Tally-same_all}
-use Rattle.lists.proofs.Containing.{Contains-cons_cases, Contains-head, Contains-none, Contains-slice_get, Contains-tail, all_of_each}
+use Rattle.lists.proofs.Containing.{Contains-slice_get, all_of_each}
 use Rattle.net_extract.specs.ContactGroups.{CarryClusters, ends_of_contact}
 use Rattle.net_extract.specs.NetLists.{NetLists}
+use Rattle.net_extract.proofs.laws.BesideLaws.{across_from, back_from}
 use Rattle.via_clusters.specs.Blocks.{CoversSomeBox}
 use Rattle.via_clusters.specs.Clusters.{AreClusterBoxes, IsClusterCell}
 use Rattle.via_clusters.proofs.BoundLaws.{whole_covered, left_edge, right_edge, bottom_edge, top_edge}
-
--- what stands beside an item of the one of two lists
-module _ {X Y : Type 0} (R : X → Y → Type 0) where
-  right_beside : (xs : List X) (ys : List Y) (x : X) → AllZip R xs ys → Contains xs x → (y : Y) × Contains ys y × R x y
-  right_beside [] ys x zip among = absurd (Contains-none among)
-  right_beside (a ∷ xs) [] x zip among = absurd zip
-  right_beside (a ∷ xs) (b ∷ ys) x zip among = elim (Contains-cons_cases a xs x among) [
-    | inl e ↦ (b, Contains-head b ys, subst (λ z. R z b) e zip.0)
-    | inr rest ↦ let found = right_beside xs ys x zip.1 rest in (found.0, Contains-tail b ys found.0 found.1, found.2)
-  ]
-
-  left_beside : (xs : List X) (ys : List Y) (y : Y) → AllZip R xs ys → Contains ys y → (x : X) × Contains xs x × R x y
-  left_beside xs [] y zip among = absurd (Contains-none among)
-  left_beside [] (b ∷ ys) y zip among = absurd zip
-  left_beside (a ∷ xs) (b ∷ ys) y zip among = elim (Contains-cons_cases b ys y among) [
-    | inl e ↦ (a, Contains-head a xs, subst (R a) e zip.0)
-    | inr rest ↦ let found = left_beside xs ys y zip.1 rest in (found.0, Contains-tail a xs found.0 found.1, found.2)
-  ]
 
 module _ (covers : ℕ → Cell → Type 0) (cut : Cut) (nets : NetLists) (number : ℕ) (carry : CarryClusters covers cut nets number) (boxes : List Rect) (are : AreClusterBoxes nets number boxes) where
   abbrev IsBox : ℕ × ℕ → Rect → Type 0
@@ -43,7 +26,7 @@ module _ (covers : ℕ → Cell → Type 0) (cut : Cut) (nets : NetLists) (numbe
       let first = (carry.contacts block.contact).1 block.is_contact in
       let islands = ends_of_contact first.2.contact in
       let member : IsClusterCell nets number islands first.0 = record { contact = first.2.contact; among = first.2.among; carries = refl; has = first.2.has } in
-      let found = right_beside IsBox are.clusters boxes islands are.each ((are.exactly islands).1 (first.0, member)) in
+      let found = across_from IsBox are.clusters boxes islands are.each ((are.exactly islands).1 (first.0, member)) in
       let all = whole_covered (IsClusterCell nets number islands) found.0 found.2 first.0 member (r + r) c (omega arith)
       (λ d k h lies. block.covered h ((carry.contacts h).0 (d, lies, record { contact = k.contact; among = k.among; has = k.has }))
       ((carry.same first.2.contact k.contact block.contact h first.2.among k.among (first.0, first.1, first.2.has) (d, lies, k.has)).0 (sym k.carries))) in
@@ -51,7 +34,7 @@ module _ (covers : ℕ → Cell → Type 0) (cut : Cut) (nets : NetLists) (numbe
 
   from_box : (r : ℕ) (c : Cell) → CoversSomeBox boxes r c → IsViaBlock covers cut (r + r) c
   from_box r c b =
-      let found = left_beside IsBox are.clusters boxes b.box are.each b.among in
+      let found = back_from IsBox are.clusters boxes b.box are.each b.among in
       let member = (are.exactly found.0).0 found.1 in
       let half = some_half member.0 in
       let k = member.1 in
@@ -100,7 +83,7 @@ module _ (lists : List (List Rect)) (within : All (All IsInLayout) lists) (cut :
 
   pub boxes_in_layout : All IsInLayout boxes
   boxes_in_layout = all_of_each IsInLayout boxes (λ box among.
-      let found = left_beside (λ (islands : ℕ × ℕ) (b : Rect). IsBoundsOf (IsClusterCell nets number islands) b) are.clusters boxes box are.each among in
+      let found = back_from (λ (islands : ℕ × ℕ) (b : Rect). IsBoundsOf (IsClusterCell nets number islands) b) are.clusters boxes box are.each among in
       let member = (are.exactly found.0).0 found.1 in
       let cells = IsClusterCell nets number found.0 in
       let inside = λ (d : Cell) (k : cells d). in_cut found.0 d k in

@@ -6,7 +6,7 @@ use Rattle.cover_tree.specs.TreeNodes.{node_over, parent_of, lies_in, times_in_c
 use Rattle.cover_tree.specs.CoverTrees.{Cover, depth_up_to, depth_at, IsPut, IsTaken}
 use Rattle.cover_tree.proofs.Powers.{double}
 use Rattle.cover_tree.proofs.CutLaws.{parent_over, lies_true, lies_parts, times_none, times_lower, times_one}
-use Rattle.cover_tree.proofs.RowLaws.{node_over_is}
+use Rattle.cover_tree.proofs.laws.ColumnLaws.{node_over_is}
 
 -- 1 for a column of the range, and 0 for any other
 unfoldable pub in_range : ℕ → ℕ → ℕ → ℕ

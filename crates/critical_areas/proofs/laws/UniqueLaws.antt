@@ -11,7 +11,7 @@ use Rattle.questions.specs.Questions.{questions}
 use Rattle.questions.specs.declared.question.Question.{Question}
 use Rattle.critical_areas.specs.Rows.{Answers, AreRows}
 use Rattle.questions.specs.declared.row.Row.{Row}
-use Rattle.questions.proofs.RowLaws.{same_row}
+use Rattle.questions.proofs.laws.RowLaws.{same_row}
 
 module _ (layer_map : LayerMap) (covers : ℕ → Cell → Type 0) where
   -- over the same cells the same questions have the same rows

@@ -1,6 +1,6 @@
 -- what parts two terminals of a metal parts two anchors of one of its islands
 use Rattle.std.proofs.Common.{ℕ, ◌<◌, ◌≤◌, ◌≡◌, ◌≢◌, refl, sym, ap, ◌∙◌, subst, List, [], ◌∷◌, Bool, true, ◌&&◌, length, arith, inl, inr, ◌↔◌, ◌==◌, Contains, filter}
-use Rattle.lists.proofs.Words.{AllZip, Decides-eqb, leb_tells, get_or_past}
+use Rattle.lists.proofs.Words.{Decides-eqb, leb_tells, get_or_past}
 use Rattle.paths.specs.Paths.{stay, step}
 use Rattle.paths.proofs.PathLaws.{first, within}
 use Rattle.geo_core.specs.Plane.{IsInUnion, IsCoveredIn}
@@ -14,30 +14,13 @@ use Rattle.net_extract.specs.AnchoredIslands.{rects_of_island, anchors_of_island
 use Rattle.net_extract.specs.Extraction.{AreNetsOf}
 use Rattle.net_extract.specs.NetLists.{NetLists, IsIslandCell, places_of}
 use Rattle.net_extract.specs.declared.pieces.Anchor.{Anchor}
+use Rattle.net_extract.proofs.laws.BesideLaws.{across_from, back_from}
 use Rattle.net_extract.proofs.AnchoredLaws.{island_cell, in_rects, anchor_at, on_pieces}
-use Rattle.lists.proofs.Containing.{Contains-cons_cases, Contains-head, Contains-none, Contains-tail}
+use Rattle.lists.proofs.Containing.{Contains-cons_cases, Contains-none}
 use Rattle.lists.proofs.Filtering.{Contains-filter}
 use Rattle.lists.proofs.Mapping.{Contains-map, Contains-map_from}
 
 -- ---- lists
-
--- an item of one of two lists that go side by side has one in the other
-module _ {X Y : Type 0} (R : X → Y → Type 0) where
-  pub across_from : (xs : List X) (ys : List Y) (x : X) → AllZip R xs ys → Contains xs x → (y : Y) × Contains ys y × R x y
-  across_from [] ys x zipped h = absurd (Contains-none h)
-  across_from (a ∷ xs) [] x zipped h = absurd zipped
-  across_from (a ∷ xs) (b ∷ ys) x zipped h = elim (Contains-cons_cases a xs x h) [
-    | inl same ↦ (b, Contains-head b ys, subst (λ z. R z b) same zipped.0)
-    | inr rest ↦ let found = across_from xs ys x zipped.1 rest in (found.0, Contains-tail b ys found.0 found.1, found.2)
-  ]
-
-  pub back_from : (xs : List X) (ys : List Y) (y : Y) → AllZip R xs ys → Contains ys y → (x : X) × Contains xs x × R x y
-  back_from xs [] y zipped h = absurd (Contains-none h)
-  back_from [] (b ∷ ys) y zipped h = absurd zipped
-  back_from (a ∷ xs) (b ∷ ys) y zipped h = elim (Contains-cons_cases b ys y h) [
-    | inl same ↦ (a, Contains-head a xs, subst (R a) same zipped.0)
-    | inr rest ↦ let found = back_from xs ys y zipped.1 rest in (found.0, Contains-tail a xs found.0 found.1, found.2)
-  ]
 
 -- a list that contains two different things has two items or more
 two_different : {X : Type 0} (xs : List X) (x y : X) → Contains xs x → Contains xs y → x ≢ y → 2 ≤ length xs
