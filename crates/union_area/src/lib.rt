@@ -1,5 +1,7 @@
-//! At how many cells of a window a list of rectangles has a cell; and parts of a window: how many cells it has, what has all
-//! of it, where it is halved, and how the tallies of its parts make its own.
+//! At how many cells of a window a list of rectangles has a cell, and what parts of a window say of the whole.
+//!
+//! Of parts it is said how many cells a window has, what has all of it, where it is halved, and how the tallies of its parts
+//! make its own (`parts`, `middles`, `laws`).
 //!
 //! The window is halved for as long as that parts the rectangles well. Of what is left, rectangles without common cells are
 //! added up where they are soon found, and else a sweep counts. Which parts are taken, and when the sweep begins, changes the
