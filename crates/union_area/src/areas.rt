@@ -11,6 +11,7 @@ use super::survey::Survey;
 use super::windows::{clipped, is_filled};
 use depth_sweep::area_once;
 use geo_core::{NoMemory, Rect, Steps};
+use skyline_runs::runs_within;
 use std::alloc::Global;
 use std::marker::Brand;
 use std::sync::ledger::{Blank, Ledger};
