@@ -5,4 +5,3 @@ pub mod CutLaws
 pub mod WidthLaws
 pub mod ChangeLaws
 pub mod RowLaws
-pub mod DepthLaws

@@ -15,7 +15,7 @@ use Rattle.cover_tree.specs.declared.parts.Change.{Change}
 use Rattle.cover_tree.specs.declared.parts.Change.TheVariants.{Put, Take}
 use Rattle.cover_tree.specs.declared.parts.Part.{Part}
 use Rattle.cover_tree.specs.declared.parts.Widths.{Widths}
-use Rattle.cover_tree.proofs.Powers.{place_among}
+use Rattle.cover_tree.proofs.laws.ColumnLaws.{node_over_is}
 use Rattle.cover_tree.proofs.Totals.{total-+, total-none, deep_width-same, deep_width-none}
 
 -- ---- nodes and counts
@@ -28,9 +28,6 @@ pub first_fits : (height : ℕ) (node : TreeNode) → IsNodeOf height node → f
 first_fits height node n =
     let l = n.level in let e : height - node.level + node.level ≡ height = omega arith in
     subst (λ h. first_of node < 2 ^ h) e (shl_below node.place (height - node.level) node.level n.place)
-
-pub node_over_is : (height level column : ℕ) → level ≤ height → column < 2 ^ height → IsNodeOf height (node_over level column)
-node_over_is height level column low small = record { level = low; place = place_among height level column low small }
 
 module _ (places : List ℤ) (height : ℕ) (nodes : List Node) where
   pub count_is : (node : TreeNode) → count_of (cover_of places height nodes) node ≡ (numbered_node nodes (number_of height node)).count

@@ -1,7 +1,8 @@
 -- sums of values, and the widths of columns
-use Rattle.std.proofs.Common.{ℕ, zero, suc, ◌+◌, ◌-◌, ◌<◌, ◌≤◌, ◌≡◌, refl, sym, ap, ◌∙◌, List, length, arith, inl, inr, min, cond, ℤ, pos, negsuc, ◌-ℤ◌, ◌≤ℤ◌, unsigned_abs, nat_le}
+use Rattle.std.proofs.Common.{ℕ, zero, suc, ◌+◌, ◌<◌, ◌≤◌, ◌≡◌, refl, sym, ap, ◌∙◌, List, arith, inl, inr, cond, ℤ, pos, ◌-ℤ◌, nat_le}
 use Rattle.lists.proofs.Words.{ints, cond_both, le-leb, lt-leb, cases_lt}
 use Rattle.cover_tree.specs.Columns.{AreRising, place_at, width_of, total, deep_width}
+use Rattle.cover_tree.proofs.laws.ColumnLaws.{width_is}
 
 -- ---- sums
 
@@ -34,26 +35,12 @@ total-none f from (suc count) never = let here = never from (omega arith) (omega
 -- ---- widths
 
 module _ (places : List ℤ) (rising : AreRising places) where
-  -- no place lies before an earlier one
-  pub place_at-le : (j k : ℕ) → j ≤ k → place_at places j ≤ℤ place_at places k
-  place_at-le j k h = elim (cases_lt (min j (length places - 1)) (min k (length places - 1))) [
-    | inl less ↦ let strict = rising (min j (length places - 1)) (min k (length places - 1)) (pos 0) less (omega arith) in omega (arith, ints)
-    | inr more ↦ let e : min j (length places - 1) ≡ min k (length places - 1) = omega arith in rw e (omega (arith, ints))
-  ]
-
-  pub width_is : (k : ℕ) → pos (width_of places k) ≡ place_at places (suc k) -ℤ place_at places k
-  width_is k = amount_is (place_at places (suc k) -ℤ place_at places k) (let h = place_at-le k (suc k) (omega arith) in omega (arith, ints))
-    where
-      amount_is : (z : ℤ) → pos 0 ≤ℤ z → pos (unsigned_abs z) ≡ z
-      amount_is (pos n) h = refl
-      amount_is (negsuc n) h = absurd (omega (arith, ints))
-
   -- columns side by side are as wide as it is from the first place to the last
   pub width_across : (from count : ℕ) → pos (total (width_of places) from count) ≡ place_at places (from + count) -ℤ place_at places from
   width_across from zero = let e : from + zero ≡ from = omega arith in rw e (omega (arith, ints))
   width_across from (suc count) =
       let e : suc from + count ≡ from + suc count = omega arith in
-      let here = width_is from in
+      let here = width_is places rising from in
       let rest = width_across (suc from) count in
       let moved : pos (total (width_of places) (suc from) count) ≡ place_at places (from + suc count) -ℤ place_at places (suc from) = ap (λ k. pos (total (width_of places) (suc from) count)) e
       ∙ rest ∙ ap (λ k. place_at places k -ℤ place_at places (suc from)) e in

@@ -15,7 +15,7 @@ use Rattle.net_extract.specs.declared.fault.NetFault.TheVariants.{Memory}
 use Rattle.questions.specs.declared.row.Row.{Row}
 use Rattle.questions.specs.declared.row.TheConstants.{MOST_ROWS}
 use Rattle.critical_areas.specs.Rows.{ComeToRows}
-use Rattle.critical_areas.proofs.RowLaws.{rows_follow}
+use Rattle.critical_areas.proofs.laws.AlikeLaws.{rows_follow}
 use Rattle.critarea_core.specs.Coverage.{IsCoveredOn}
 use Rattle.critarea_core.specs.inside.Finding.{Analyses, HasRows, gives_thing}
 use Rattle.critarea_core.specs.Layout.{Subject, IsTerminalOn, TerminalsComeTo}

@@ -13,9 +13,9 @@ use Rattle.tile_board.specs.Closing.{sum_below}
 use Rattle.tile_board.specs.declared.views.Limits.{Limits}
 use Rattle.tile_plan.specs.TileTallies.{IsTallyOfFirst, IsTallyOfTile}
 use Rattle.tile_plan.specs.Tiles.{IsGreatestTile, IsTile, tile_count}
-use Rattle.tile_plan.proofs.TallyingLaws.{all_tiles, next_tile, no_tile}
+use Rattle.tile_plan.proofs.laws.TallyingLaws.{all_tiles, next_tile, no_tile}
 use Rattle.tile_work.specs.Crediting.{IsMadeFor, IsSumOfAmounts}
-use Rattle.window_parts.proofs.PartLaws.{few_tallied}
+use Rattle.union_area.proofs.laws.PartLaws.{few_tallied}
 use Rattle.critical_areas.specs.Counts.{AreCounted, IsCounted}
 use Rattle.critical_areas.specs.declared.parts.Parts.{Parts}
 use Rattle.critical_areas.specs.inside.Work.{IsAmountOfTile, Work}

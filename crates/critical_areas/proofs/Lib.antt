@@ -4,7 +4,6 @@ pub mod PieceLaws
 pub mod PartLaws
 pub mod FaultLaws
 pub mod RowLaws
-pub mod UniqueLaws
 pub mod CutLaws
 pub mod NearLaws
 pub mod ZippedLaws

@@ -18,12 +18,12 @@ use Rattle.net_extract.specs.AnchoredIslands.{AreAnchoredIslands}
 use Rattle.net_extract.specs.Cuts.{cut_of, cuts_of, numbered_cuts, terminal_cuts_of}
 use Rattle.net_extract.specs.Extraction.{AreNetsOf}
 use Rattle.net_extract.specs.NetLists.{NetLists, IsPieceCell, IsNetCell, pieces_on}
-use Rattle.net_extract.proofs.ClusterLaws.{carry_clusters}
-use Rattle.net_extract.proofs.OpenLaws.{opens_are_of_islands}
+use Rattle.net_extract.proofs.laws.ClusterLaws.{carry_clusters}
+use Rattle.net_extract.proofs.laws.OpenLaws.{opens_are_of_islands}
 use Rattle.questions.specs.Questions.{questions}
 use Rattle.via_clusters.specs.Blocks.{CoversSomeBox}
 use Rattle.via_clusters.specs.Clusters.{AreClusterBoxes}
-use Rattle.via_clusters.proofs.BlockLaws.{block_is_box}
+use Rattle.via_clusters.proofs.laws.BlockLaws.{block_is_box}
 use Rattle.critical_areas.specs.AreaParts.{AreBoxesOf, AreIslandsOf, ArePartsOf, ArePiecesOf, IsInPieces, by_net}
 use Rattle.critical_areas.specs.LayerParts.{AreAllBoxes, AreAllIslands}
 use Rattle.critical_areas.specs.declared.parts.Parts.{Parts}

@@ -12,7 +12,7 @@ use Rattle.map_model.specs.declared.measure.Measure.{Measure}
 use Rattle.map_model.specs.declared.measure.Measure.TheVariants.{Radius}
 use Rattle.short_area.specs.Labels.{TouchesLabel, TouchesTwoLabels}
 use Rattle.tile_plan.specs.Near.{HasExactlyNear, HitsLabel, HitsTwoLabels}
-use Rattle.tile_plan.proofs.NearLaws.{same_two_labels}
+use Rattle.tile_plan.proofs.laws.SeamLaws.{same_two_labels}
 use Rattle.critical_areas.specs.AreaParts.{IsInPieces, ArePiecesOf}
 
 module _ (covers : ℕ → Cell → Type 0) (cuts : List Cut) (m : ℕ) (pieces : List Labelled) (are : ArePiecesOf covers cuts m pieces) where

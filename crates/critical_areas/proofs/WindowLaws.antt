@@ -1,14 +1,12 @@
 -- the bounds of rectangles, one after the other, and the window of lists of them
 use Rattle.std.proofs.Common.{ℕ, zero, suc, ◌+◌, ◌<◌, ◌≡◌, sym, subst, ◌∙◌, ap, List, [], ◌∷◌, ◌++◌, length, take, get_or, inl, inr, ℤ, pos, ◌↔◌, Option, Some, Contains}
-use Rattle.lists.proofs.Words.{append-nil, flat_map, flat_map-append, get_or_from_slice_get, slice_get-get_or}
+use Rattle.lists.proofs.Words.{append-nil, flat_map, flat_map-append, get_or_from_slice_get}
 use Rattle.geo_core.specs.Plane.{Has, ComesNear, IsInLayout, IsJoin, IsInUnion, IsCoveredIn}
 use Rattle.geo_core.specs.declared.plane.Cell.{Cell}
 use Rattle.geo_core.specs.declared.plane.Rect.{Rect}
 use Rattle.geo_core.proofs.RectLaws.{join_in_layout}
 use Rattle.fault_model.specs.FaultNames.{IsCovered, IsBoundsOf, IsWindow}
--- crates above cite these from here
-pub use Rattle.fault_model.proofs.UnionLaws.{in_union, among_union}
-use Rattle.fault_model.proofs.UnionLaws.{union_append, union_one}
+use Rattle.fault_model.proofs.UnionLaws.{in_union, among_union, union_append, union_one}
 use Rattle.critical_areas.specs.inside.LayoutBounds.{AreBounds}
 use Rattle.lists.proofs.Containing.{Contains-head, Contains-none, Contains-tail, number_of}
 use Rattle.lists.proofs.Mapping.{Contains-flat_map, Contains-flat_map_from}
@@ -56,10 +54,6 @@ rects_of lists = flat_map (λ list. list) lists
 pub rects_next : (lists : List (List Rect)) (k : ℕ) (list : List Rect) → k < length lists → list ≡ get_or lists k list → rects_of (take (k + 1) lists) ≡ rects_of (take k lists) ++ list
 rects_next lists k list small is =
     ap rects_of (taken_more lists k list small is) ∙ flat_map-append (λ xs. xs) (take k lists) (list ∷ []) ∙ ap (λ rects. rects_of (take k lists) ++ rects) (append-nil list)
-
--- a list that was read, by its number
-pub read_list : {X : Type 0} (lists : List (List X)) (number : ℕ) (list : List X) → number < length lists → list ≡ get_or lists number list → get_or lists number [] ≡ list
-read_list lists number list small is = get_or_from_slice_get lists number list [] (slice_get-get_or lists number list small ∙ ap Some (sym is))
 
 -- a list with an item is one of the lists
 is_listed : (lists : List (List Rect)) (number : ℕ) (rect : Rect) → Contains (get_or lists number []) rect → Contains lists (get_or lists number [])

@@ -6,13 +6,13 @@ use Rattle.geo_core.specs.Plane.{Has}
 use Rattle.geo_core.specs.declared.plane.Cell.{Cell}
 use Rattle.geo_core.specs.declared.plane.Rect.{Rect}
 use Rattle.cover_tree.specs.Columns.{AreRising, place_at}
-use Rattle.cover_tree.proofs.Totals.{place_at-le}
+use Rattle.cover_tree.proofs.laws.ColumnLaws.{place_at-le}
 use Rattle.depth_sweep.specs.RectSides.{IsSideOf}
 use Rattle.depth_sweep.specs.declared.bar.Bar.{Bar}
 use Rattle.depth_sweep.specs.inside.Bars.{has_column, has_row, IsWithin, IsBarOf, HasNoPart, AreBarsOf}
-use Rattle.depth_sweep.specs.inside.Depths.{has_cell}
+use Rattle.skyline_runs.specs.Depths.{has_cell}
 use Rattle.depth_sweep.specs.inside.SweepPlaces.{moved, IsInColumn}
-use Rattle.depth_sweep.proofs.Depths.{le_true, lt_true, from_le, from_lt, has_so, has_from, has_not}
+use Rattle.skyline_runs.proofs.laws.DepthLaws.{le_true, lt_true, from_le, from_lt, has_so, has_from, has_not}
 use Rattle.depth_sweep.proofs.PlaceLaws.{moved_low, moved_high, moved_behind, behind_moved, moved_before, before_moved, less_by_place}
 
 -- two tests that are true together

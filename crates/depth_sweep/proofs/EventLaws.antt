@@ -7,7 +7,7 @@ use Rattle.depth_sweep.specs.declared.bar.Bar.{Bar}
 use Rattle.depth_sweep.specs.declared.bar.Event.{Event}
 use Rattle.depth_sweep.specs.inside.Bars.{has_row}
 use Rattle.depth_sweep.specs.inside.Events.{begin_of, end_of, ends_of, AreEventsOf, MayHappen, put_weight, take_weight, IsBalanced}
-use Rattle.depth_sweep.proofs.Depths.{le_true, le_false, lt_true, lt_false}
+use Rattle.skyline_runs.proofs.laws.DepthLaws.{le_true, le_false, lt_true, lt_false}
 use Rattle.depth_sweep.proofs.Sums.{sum_by-same, sum_by-none, sum_by-add}
 
 -- a value of an event where it comes above a row

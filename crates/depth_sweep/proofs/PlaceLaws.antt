@@ -10,9 +10,9 @@ use Rattle.geo_core.specs.declared.plane.Rect.{Rect}
 use Rattle.lists.proofs.Containing.{Contains-cons_cases, Contains-head, Contains-one, Contains-tail}
 use Rattle.lists.proofs.Mapping.{Contains-flat_map, Contains-flat_map_from}
 use Rattle.cover_tree.specs.Columns.{AreRising, place_at}
-use Rattle.cover_tree.proofs.Totals.{place_at-le}
+use Rattle.cover_tree.proofs.laws.ColumnLaws.{place_at-le}
 use Rattle.depth_sweep.specs.RectSides.{IsSideOf}
-use Rattle.depth_sweep.proofs.Depths.{from_lt, lt_true}
+use Rattle.skyline_runs.proofs.laws.DepthLaws.{from_lt, lt_true}
 use Rattle.depth_sweep.specs.inside.SweepPlaces.{moved, moved_sides, IsMovedSide, ArePlaces}
 
 -- ---- moved numbers

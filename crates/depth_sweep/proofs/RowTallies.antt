@@ -9,12 +9,13 @@ use Rattle.fault_model.proofs.RangeLaws.{Contains-range, length-range, Tally-all
 use Rattle.fault_model.proofs.TallyLaws.{Tally-none}
 use Rattle.fault_model.proofs.CellLaws.{has_from_listed}
 use Rattle.cover_tree.specs.Columns.{place_at, width_of, deep_width}
-use Rattle.cover_tree.proofs.Totals.{place_at-le, width_is}
+use Rattle.cover_tree.proofs.laws.ColumnLaws.{place_at-le, width_is}
 use Rattle.depth_sweep.specs.RectSides.{IsSideOf}
 use Rattle.depth_sweep.specs.inside.Bars.{HasNoPart}
-use Rattle.depth_sweep.specs.inside.Depths.{has_cell, depth_of, IsDeep}
+use Rattle.skyline_runs.specs.Depths.{has_cell, depth_of}
+use Rattle.depth_sweep.specs.inside.DeepCells.{IsDeep}
 use Rattle.depth_sweep.specs.inside.SweepPlaces.{ArePlaces, IsInColumn}
-use Rattle.depth_sweep.proofs.Depths.{has_from}
+use Rattle.skyline_runs.proofs.laws.DepthLaws.{has_from}
 use Rattle.depth_sweep.proofs.PlaceLaws.{moved_low, moved_high, moved_behind, moved_before, first_le, le_last, place_is}
 use Rattle.depth_sweep.proofs.Sums.{sum_by-none}
 

@@ -8,10 +8,10 @@ use Rattle.fault_model.proofs.RangeLaws.{length-range, length-times}
 use Rattle.fault_model.proofs.TallyLaws.{Tally-le-length}
 use Rattle.cover_tree.specs.TreeNodes.{TreeNode, IsNodeOf, IsLeastHeight, is_in_cut, times_in_cut}
 use Rattle.cover_tree.specs.CoverTrees.{Cover, columns_of, count_of, depth_at, width_of_depth}
-use Rattle.cover_tree.proofs.DepthLaws.{in_range}
+use Rattle.cover_tree.proofs.laws.DepthLaws.{in_range}
 use Rattle.depth_sweep.specs.declared.bar.Bar.{Bar}
 use Rattle.depth_sweep.specs.declared.bar.Event.{Event}
-use Rattle.depth_sweep.specs.inside.Depths.{IsDeep}
+use Rattle.depth_sweep.specs.inside.DeepCells.{IsDeep}
 use Rattle.depth_sweep.specs.inside.Events.{MayHappen, IsAfter, IsBalanced}
 use Rattle.depth_sweep.proofs.EventLaws.{low_before, high_from, closes, balance_next, may_happen}
 use Rattle.depth_sweep.proofs.Sweeping.{IsEnd, IsSetting, IsSwept, events_within, keeps, count_moved, depth_moved, rows_tally, amount}

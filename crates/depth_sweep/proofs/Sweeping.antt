@@ -10,14 +10,15 @@ use Rattle.fault_model.proofs.RangeLaws.{Contains-range, length-range, Tally-sta
 use Rattle.cover_tree.specs.Columns.{deep_width}
 use Rattle.cover_tree.specs.TreeNodes.{TreeNode, IsNodeOf, IsLeastHeight, node_over, times_in_cut}
 use Rattle.cover_tree.specs.CoverTrees.{Cover, count_of, depth_up_to, depth_at, width_of_depth, IsNew, KeepsColumns}
-use Rattle.cover_tree.proofs.DepthLaws.{in_range, put_depth, take_depth}
-use Rattle.cover_tree.proofs.RowLaws.{node_over_is}
+use Rattle.cover_tree.proofs.laws.DepthLaws.{in_range, put_depth, take_depth}
+use Rattle.cover_tree.proofs.laws.ColumnLaws.{node_over_is}
 use Rattle.depth_sweep.specs.declared.bar.Bar.{Bar}
 use Rattle.depth_sweep.specs.declared.bar.Event.{Event}
 use Rattle.depth_sweep.specs.inside.Bars.{has_column, has_row, bars_over, IsWithin, AreBarsOf}
 use Rattle.depth_sweep.specs.declared.areas.Depth.{Depth}
 use Rattle.depth_sweep.specs.declared.areas.Depth.TheVariants.{Once, Twice}
-use Rattle.depth_sweep.specs.inside.Depths.{depth_of, IsDeep, least_of}
+use Rattle.skyline_runs.specs.Depths.{depth_of}
+use Rattle.depth_sweep.specs.inside.DeepCells.{IsDeep, least_of}
 use Rattle.depth_sweep.specs.inside.Events.{begin_of, end_of, ends_of, AreEventsOf, IsPutOrTaken, IsBalanced}
 use Rattle.depth_sweep.specs.inside.SweepPlaces.{ArePlaces, IsInColumn}
 use Rattle.depth_sweep.proofs.EventLaws.{over, balance_all, at_row, IsMoved}

@@ -1,4 +1,3 @@
-pub mod Runs
 pub mod RectSides
 -- what only this crate's proofs and private contracts cite
 pub mod inside

@@ -1,6 +1,5 @@
 -- what only this crate's proofs and private contracts cite
-pub mod Skylines
-pub mod Depths
+pub mod DeepCells
 pub mod SweepPlaces
 pub mod Bars
 pub mod Events

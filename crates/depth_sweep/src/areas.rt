@@ -2,9 +2,9 @@ ghost use Rattle.std.specs.Prelude.{◌<◌, ◌≤◌, ◌*◌, ◌^◌, ◌≡
 ghost use Rattle.geo_core.specs.Unions.{IsInUnion};
 ghost use Rattle.fault_model.specs.Areas.{Tally, cells_of};
 ghost use Rattle.cover_tree.specs.CoverTrees.{width_of_depth};
-ghost use Rattle.depth_sweep.specs.Runs.{IsInTwo};
+ghost use Rattle.skyline_runs.specs.Runs.{IsInTwo};
 ghost use Rattle.depth_sweep.specs.RectSides.{IsInStepBound};
-ghost use Rattle.depth_sweep.specs.inside.Depths.{IsDeep, least_of};
+ghost use Rattle.depth_sweep.specs.inside.DeepCells.{IsDeep, least_of};
 
 use super::bars::bars;
 use super::events::events;

@@ -7,7 +7,7 @@ use Rattle.first_refusal.specs.Checks.{all_hold}
 use Rattle.library_model.specs.declared.library.Structure.{Structure}
 use Rattle.map_model.specs.MapNames.{LayerMap, layers_of, pairs_of}
 use Rattle.lists.specs.Differing.{AreDifferent}
-use Rattle.map_model.proofs.MappedLaws.{pair_tells_layer}
+use Rattle.map_model.proofs.laws.PairLaws.{pair_tells_layer}
 use Rattle.flatten.specs.Structures.{is_mapped}
 use Rattle.flatten.specs.Routes.{Route, mapped_routes, routes as all_routes}
 use Rattle.flatten.specs.Placements.{Placing, PlacingFrom, placed_routes}

@@ -1,6 +1,6 @@
 -- contact pieces in the order of their islands, group by group
 use Rattle.std.proofs.Common.{ℕ, ◌+◌, ◌<◌, ◌≤◌, ◌≡◌, refl, sym, ap, ◌∙◌, subst, List, [], ◌∷◌, ◌++◌, Bool, true, false, not, ◌&&◌, ◌==◌, inl, inr, ◌⊎◌, length, take, drop, map, get_or, nat_cmp, arith, All, Contains, Some, slice_get, filter, take_all}
-use Rattle.lists.proofs.Words.{is_lt, Ordering, nat_tests, IsSortedByKey, IsPermutation, Called, ComputesKey, always_returns_same, ranks_by, sorted_far, filter-append, take-append-drop, append-nil, map-append, length-drop, All-nil, All-push, All-contains, Contains-append_cases, Contains-append_left, Contains-append_right, Contains-push, Contains-push_cases, Contains-permutation, leb_tells, get_or_default, get_or_from_slice_get, slice_get_within, cases_Bool, and_parts, Decides-eqb, drop-drop}
+use Rattle.lists.proofs.Words.{is_lt, Ordering, nat_tests, IsSortedByKey, IsPermutation, Called, ComputesKey, always_returns_same, ranks_by, sorted_far, filter-append, take-append-drop, append-nil, map-append, length-drop, All-nil, All-push, All-contains, Contains-append_cases, Contains-append_left, Contains-append_right, Contains-push, Contains-push_cases, Contains-permutation, leb_tells, get_or_default, get_or_from_slice_get, slice_get_within, cases_Bool, drop-drop}
 use Rattle.std.specs.Ordering.{ordering_then}
 use Rattle.std.specs.Cmp.{IsTotalOrder}
 use Rattle.std.specs.List.Sorted.{IsStableByKey}
@@ -17,7 +17,9 @@ use Rattle.net_extract.specs.ContactGroups.{AreGroupsOf, carries_both, ends_of_c
 use Rattle.net_extract.specs.inside.GroupSteps.{AreByIslands, AreFirstGroups, IsFrontOf, IsNoLater}
 use Rattle.net_extract.specs.declared.pieces.ContactGroup.{ContactGroup}
 use Rattle.net_extract.specs.declared.pieces.ContactPiece.{ContactPiece}
-use Rattle.net_extract.proofs.GroupLaws.{unit, none_kept, all_kept}
+use Rattle.net_extract.proofs.GroupLaws.{none_kept, all_kept}
+use Rattle.net_extract.proofs.laws.CarryLaws.{carries_tells, told_carries}
+use Rattle.net_extract.proofs.laws.UnitLaws.{unit}
 
 -- ---- the order of the sort
 
@@ -86,19 +88,6 @@ pub AreByIslands-drop : (xs : List ContactPiece) (start : ℕ) → AreByIslands 
 AreByIslands-drop xs start up i j d before within =
     let far : start + j < length xs = omega (arith, length-drop start xs) in
     rw (get_or-drop, get_or-drop) (up (start + i) (start + j) d (omega arith) far)
-
--- a test of both islands that a contact piece passes or fails
-pub carries_tells : (lower upper : ℕ) (contact : ContactPiece) → carries_both lower upper contact ≡ true → ends_of_contact contact ≡ (lower, upper)
-carries_tells lower upper contact e =
-    let parts = and_parts (contact.lower == lower) (contact.upper == upper) e in
-    let pair : ℕ → ℕ → ℕ × ℕ = λ i k. (i, k) in
-    ap (λ i. pair i contact.upper) ((Decides-eqb contact.lower lower).0 parts.0) ∙ ap (pair lower) ((Decides-eqb contact.upper upper).0 parts.1)
-
-pub told_carries : (lower upper : ℕ) (contact : ContactPiece) → ends_of_contact contact ≡ (lower, upper) → carries_both lower upper contact ≡ true
-told_carries lower upper contact e =
-    let low : contact.lower ≡ lower = ap (λ (p : ℕ × ℕ). p.0) e in
-    let high : contact.upper ≡ upper = ap (λ (p : ℕ × ℕ). p.1) e in
-    grind (arith, nat_tests)
 
 other_carries : (lower upper : ℕ) (contact : ContactPiece) → (ends_of_contact contact ≡ (lower, upper) → ⊥) → carries_both lower upper contact ≡ false
 other_carries lower upper contact others = elim (cases_Bool (carries_both lower upper contact)) [ inl e ↦ absurd (others (carries_tells lower upper contact e)) | inr e ↦ e ]

@@ -8,7 +8,7 @@ use Rattle.net_extract.specs.inside.Numbering.{islands_on}
 use Rattle.net_extract.specs.inside.Anchoring.{IsTerminalAt, AreSpots, Meets, IsMarked, AreFound}
 use Rattle.net_extract.specs.declared.pieces.ContactPiece.{ContactPiece}
 use Rattle.net_extract.proofs.MetalLaws.{before_or_past}
-use Rattle.net_extract.proofs.SpotLaws.{some_cell}
+use Rattle.net_extract.proofs.laws.UnitLaws.{some_cell}
 use Rattle.lists.proofs.Containing.{Contains-none}
 
 -- ---- lists, item by item

@@ -1,6 +1,6 @@
 -- pieces in the order of their islands
-use Rattle.std.proofs.Common.{ℕ, ◌+◌, ◌<◌, ◌≤◌, ◌≡◌, refl, sym, ap, ◌∙◌, List, [], ◌∷◌, ◌++◌, Bool, true, false, not, ◌&&◌, length, take, drop, map, ltb, leb, nat_cmp, arith, pos, ◌==◌, All, filter}
-use Rattle.lists.proofs.Words.{Called, ComputesKey, is_lt, nat_tests, always_returns_same, ints, append-nil, get_or-take, length-drop, length-take, take-append-drop, All-head, All-tail, filter-append}
+use Rattle.std.proofs.Common.{ℕ, ◌+◌, ◌<◌, ◌≤◌, ◌≡◌, refl, sym, ap, ◌∙◌, List, [], ◌∷◌, ◌++◌, Bool, true, false, not, ◌&&◌, length, take, drop, map, ltb, leb, nat_cmp, arith, ◌==◌, All, filter}
+use Rattle.lists.proofs.Words.{Called, ComputesKey, is_lt, nat_tests, always_returns_same, append-nil, get_or-take, length-drop, length-take, take-append-drop, All-head, All-tail, filter-append}
 use Rattle.std.specs.List.{AllWithin}
 use Rattle.std.specs.List.Sorted.{IsStableByKey}
 use Rattle.std.proofs.lemmas.List.{get_or-drop}
@@ -11,6 +11,7 @@ use Rattle.geo_core.specs.declared.plane.Rect.{Rect}
 use Rattle.net_extract.specs.AnchoredIslands.{rects_of_island}
 use Rattle.net_extract.specs.NetLists.{NetLists, pieces_on}
 use Rattle.net_extract.specs.declared.pieces.Piece.{Piece}
+use Rattle.net_extract.proofs.laws.UnitLaws.{unit}
 
 -- a test that nothing passes, and one that all pass
 module _ {X : Type 0} (test : X → Bool) where
@@ -58,17 +59,6 @@ alone island sorted first count no_less no_more k d within =
     let at_least = no_less (first + k) d (omega arith) far in
     let at_most = rw get_or-drop at (no_more k d (omega arith) lt) in
     rw (get_or-take, get_or-drop) (grind (arith, nat_tests, at_least, at_most))
-
--- a cell, for a piece of any island
-pub unit : Rect
-unit = record {
-  x0 = pos 0;
-  y0 = pos 0;
-  x1 = pos 1;
-  y1 = pos 1;
-  across = record { some = omega (arith, ints); least = omega (arith, ints); most = omega (arith, ints) };
-  up = record { some = omega (arith, ints); least = omega (arith, ints); most = omega (arith, ints) };
-}
 
 tied : (a b : ℕ) → (not (is_lt (nat_cmp a b)) && not (is_lt (nat_cmp b a))) ≡ (b == a)
 tied a b = grind (arith, nat_tests)

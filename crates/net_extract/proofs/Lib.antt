@@ -14,7 +14,5 @@ pub mod CarriedLaws
 pub mod AnchoredLaws
 pub mod GroupLaws
 pub mod ContactGroupLaws
-pub mod ClusterLaws
-pub mod OpenLaws
 pub mod SlimLaws
 pub mod SoFarLaws

@@ -22,7 +22,7 @@ use Rattle.net_extract.specs.declared.pieces.Anchor.{Anchor}
 use Rattle.net_extract.specs.declared.pieces.ContactPiece.{ContactPiece}
 use Rattle.net_extract.specs.declared.pieces.Piece.{Piece}
 use Rattle.net_extract.proofs.IslandLaws.{got_mapped}
-use Rattle.net_extract.proofs.SpotLaws.{some_cell}
+use Rattle.net_extract.proofs.laws.UnitLaws.{some_cell}
 use Rattle.net_extract.proofs.WalkLaws.{cuts_behind, cut_given, contacts_at, walk_from_links, links_from_walk, keeps_island}
 use Rattle.lists.proofs.Containing.{Contains-none, Contains-slice_get, number_of, some_item}
 use Rattle.lists.proofs.Differing.{AreDifferent-map}

@@ -2,7 +2,7 @@
 use Rattle.std.proofs.Common.{ℕ, ◌+◌, ◌<◌, ◌≤◌, ◌≡◌, sym, ap, ◌∙◌, subst, List, [], ◌++◌, arith, inl, inr, ◌⊎◌, ◌↔◌, length, get_or, map, take, drop, All, Contains, Some, slice_get, take_all}
 use Rattle.lists.proofs.Words.{IsPermutation, IsPermutation-sym, Contains-permutation, All-contains, Contains-append_cases, Contains-append_left, Contains-append_right, leb_tells, get_or_from_slice_get, length-drop}
 use Rattle.std.proofs.Math.Seq.{take-add}
-use Rattle.depth_sweep.specs.Runs.{HaveSameCells}
+use Rattle.skyline_runs.specs.Runs.{HaveSameCells}
 use Rattle.geo_core.specs.Plane.{Has}
 use Rattle.geo_core.specs.declared.plane.Cell.{Cell}
 use Rattle.geo_core.specs.declared.plane.Labelled.{Labelled}

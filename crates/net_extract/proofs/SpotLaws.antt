@@ -29,15 +29,6 @@ is_cell rect cell left right bottom top c = (
   },
 )
 
--- a rectangle has a cell
-pub some_cell : (rect : Rect) → (c : Cell) × Has rect c
-some_cell rect =
-    let across = rect.across.some in
-    let up = rect.up.some in (
-      record { i = rect.x0; j = rect.y0 },
-      record { across = record { from = omega (arith, ints); before = across }; up = record { from = omega (arith, ints); before = up } },
-    )
-
 module _ (terminal : Terminal) (number metal : ℕ) where
   pub no_spot : (terminal.metal ≡ metal → (rect : Rect) → Has rect terminal.cell → ⊥) → IsSpotOf terminal number metal None
   no_spot never = record {

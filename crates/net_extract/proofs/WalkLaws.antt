@@ -22,7 +22,7 @@ use Rattle.net_extract.specs.inside.Numbering.{AreIslandsOf, AreContactLists, Is
 use Rattle.net_extract.specs.declared.pieces.ContactPiece.{ContactPiece}
 use Rattle.lists.proofs.Numbering.{slice_get-enumerate}
 use Rattle.net_extract.proofs.IslandLaws.{got_mapped, got_unmapped}
-use Rattle.net_extract.proofs.SpotLaws.{some_cell}
+use Rattle.net_extract.proofs.laws.UnitLaws.{some_cell}
 use Rattle.lists.proofs.Containing.{Contains-none, Contains-slice_get, number_of, some_item}
 
 -- an item with its number, by its number

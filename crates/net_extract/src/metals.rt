@@ -3,9 +3,9 @@ ghost use Rattle.map_model.specs.declared.limits.TheConstants.{MOST_METALS};
 ghost use Rattle.net_extract.specs.inside.Numbering.{AreIslandsFrom, AreIslandsOf};
 
 use super::slimming::slim;
-use depth_sweep::merge_rects;
 use geo_core::{Items, Labelled, NoMemory, Rect, RectList, join};
 use islands::label;
+use skyline_runs::merge_rects;
 use std::alloc::Global;
 
 /// Rectangles lie on one another where they have more than so many times the cells of the least rectangle round them.

@@ -3,8 +3,8 @@ ghost use Rattle.geo_core.specs.declared.plane.Cell.{Cell};
 ghost use Rattle.net_extract.specs.inside.LabelledCells.{HasLabelled, HaveSameLabelled};
 
 use super::meetings::rects_of;
-use depth_sweep::merge_rects;
 use geo_core::{Labelled, NoMemory, Rect};
+use skyline_runs::merge_rects;
 use std::alloc::Global;
 
 /// Rectangles that have the same cells under each label. Where those of one label overlap, and others without common cells

@@ -13,7 +13,7 @@ use Rattle.fault_model.proofs.UnionLaws.{union_append, union_none, union_one, un
 use Rattle.half_boxes.specs.declared.boxes.HalfBox.{HalfBox}
 use Rattle.severing.specs.Changes.{HasNear, IsSteady}
 use Rattle.severing.specs.Severing.{IsSevered}
-use Rattle.window_parts.specs.WindowParts.{AreInLine, AreParts, IsFirstLine, place_along}
+use Rattle.union_area.specs.WindowParts.{AreInLine, AreParts, IsFirstLine, place_along}
 use Rattle.open_grid.specs.inside.ZoneNeeds.{AllSever, HaveOpenCells, SeverAlike, SeversSome, StandForAll, StandsFor}
 use Rattle.open_grid.specs.inside.ZoneSteps.{AreStretched, IsStretched, LeftStandsFor}
 use Rattle.open_grid.specs.declared.looked.Looked.{Looked}

@@ -11,7 +11,7 @@ use geo_core::{NoMemory, Rect};
 use lists::Items;
 use severing::{steady_columns_sever_alike, steady_rows_sever_alike};
 use std::alloc::Global;
-use window_parts::{first_line, parts_at};
+use union_area::{first_line, parts_at};
 
 /// What is left of islands in a zone.
 #[derive(Debug, Drop)]

@@ -1,3 +1,3 @@
 pub mod MapReading
 pub mod Asking
-pub mod RowLaws
+pub mod laws

@@ -9,7 +9,7 @@ use Rattle.command_line.specs.declared.task.Task.{Task}
 use Rattle.command_line.proofs.laws.Requests.{requests_agree}
 use Rattle.map_model.specs.MapNames.{LayerMap}
 use Rattle.gauges.specs.GaugeViews.{GaugeView}
-use Rattle.critical_areas.proofs.UniqueLaws.{rows_agree}
+use Rattle.critical_areas.proofs.laws.UniqueLaws.{rows_agree}
 use Rattle.questions.specs.declared.row.Row.{Row}
 use Rattle.critarea_core.specs.Analysis.{AnalysisComesTo, has_rows, has_fault}
 use Rattle.critarea_core.specs.Contents.{Contents, bytes_from, layout_source, wanted_top}

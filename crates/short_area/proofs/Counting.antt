@@ -7,9 +7,9 @@ use Rattle.geo_core.specs.declared.plane.Rect.{Rect}
 use Rattle.fault_model.specs.FaultNames.{Tally, none, hit, miss, cells_of}
 use Rattle.fault_model.proofs.CellLaws.{Contains-cells_of}
 use Rattle.fault_model.proofs.TallyLaws.{Tally-none, Tally-same, Tally-same_all}
-use Rattle.depth_sweep.specs.Runs.{IsInTwo}
-use Rattle.window_parts.specs.WindowParts.{AreParts}
-use Rattle.window_parts.proofs.PartLaws.{few_tallied, parts_tally, whole_tally}
+use Rattle.skyline_runs.specs.Runs.{IsInTwo}
+use Rattle.union_area.specs.WindowParts.{AreParts}
+use Rattle.union_area.proofs.laws.PartLaws.{few_tallied, parts_tally, whole_tally}
 use Rattle.short_area.specs.Labels.{TouchesTwoLabels}
 use Rattle.short_area.specs.inside.LabelRuns.{AreRunsOf}
 use Rattle.short_area.specs.inside.Zones.{AreAlikeIn, AreSplit, AreZonesOf, HaveNoThird, HaveSameTwo, IsCountOf, IsInTwoLabels, IsWholeIn}

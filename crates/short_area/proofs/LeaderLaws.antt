@@ -7,9 +7,9 @@ use Rattle.geo_core.specs.declared.plane.Labelled.{Labelled}
 use Rattle.geo_core.specs.declared.plane.Rect.{Rect}
 use Rattle.fault_model.specs.FaultNames.{IsBoundsOf, Tally, cells_of}
 use Rattle.fault_model.proofs.UnionLaws.{union_append, union_none, union_push}
-use Rattle.window_parts.proofs.PartLaws.{few_tallied}
+use Rattle.union_area.proofs.laws.PartLaws.{few_tallied}
 use Rattle.lists.proofs.Comparing.{equal_or_not}
-use Rattle.depth_sweep.specs.Runs.{IsInTwo}
+use Rattle.skyline_runs.specs.Runs.{IsInTwo}
 use Rattle.short_area.specs.inside.LabelRuns.{AreRunsOf, IsInZone}
 use Rattle.short_area.specs.inside.Leaders.{AreOthers, ArePartsIn, GainsPart, IsBesideRun}
 use Rattle.short_area.specs.inside.Zones.{IsCountOf, IsInLabel, IsInTwoLabels}

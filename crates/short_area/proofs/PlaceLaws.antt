@@ -6,7 +6,7 @@ use Rattle.geo_core.specs.Plane.{low_along, high_along}
 use Rattle.geo_core.specs.declared.axis.Axis.{Axis}
 use Rattle.geo_core.specs.declared.plane.Labelled.{Labelled}
 use Rattle.geo_core.specs.declared.plane.Rect.{Rect}
-use Rattle.window_parts.specs.WindowParts.{IsAsCentral, IsHalfWay}
+use Rattle.union_area.specs.WindowParts.{IsAsCentral, IsHalfWay}
 use Rattle.short_area.specs.inside.AreaSteps.{AreNoNearer, IsCentralCut, IsMiddleCut, IsNoNearer}
 
 -- nothing is nearer to the middle than what lies half way

@@ -9,8 +9,8 @@ use Rattle.lists.proofs.Comparing.{equal_or_not}
 use Rattle.lists.proofs.Containing.{slice_get-front, slice_get-back}
 use Rattle.lists.proofs.Mapping.{Contains-map, Contains-map_from}
 use Rattle.lists.proofs.Reading.{taken_more}
-use Rattle.depth_sweep.specs.Runs.{AreApart, HaveSameCells, IsInTwo}
-use Rattle.depth_sweep.proofs.TwiceSteps.{two_none}
+use Rattle.skyline_runs.specs.Runs.{AreApart, HaveSameCells, IsInTwo}
+use Rattle.skyline_runs.proofs.laws.DepthLaws.{two_none}
 use Rattle.fault_model.proofs.UnionLaws.{in_union, among_union, union_append, union_none}
 use Rattle.short_area.specs.inside.LabelRuns.{AreRunsOf, AreRunsTo, GainsRuns, IsInZone}
 use Rattle.short_area.specs.inside.Zones.{IsInLabel, IsInTwoLabels}

@@ -9,7 +9,7 @@ use Rattle.lists.proofs.Comparing.{equal_or_not}
 use Rattle.lists.proofs.Containing.{Contains-none}
 use Rattle.lists.proofs.Reading.{taken_more}
 use Rattle.fault_model.proofs.UnionLaws.{union_none, union_push}
-use Rattle.window_parts.specs.WindowParts.{HasAllOf}
+use Rattle.union_area.specs.WindowParts.{HasAllOf}
 use Rattle.short_area.specs.inside.Zones.{AreAlikeIn, AreSplit, GainsZone, HaveNoThird, IsInLabel, IsInOthers, IsInside, IsInTwoLabels, IsWholeIn}
 
 module _ (c : Cell) where

@@ -10,7 +10,7 @@ use super::ways::{NONE_TRIED, next_step};
 use super::zones::zones_of;
 use geo_core::{Labelled, NoMemory, Rect};
 use std::alloc::Global;
-use window_parts::parts_at;
+use union_area::parts_at;
 
 /// How many cells of the window are the centre of a defect that touches pieces of two labels. The defect is the square
 /// of side `2r` round the cell's centre, in database units. A cell counts once, whether it is near two labels or more,

@@ -1,12 +1,12 @@
 ghost use Rattle.std.specs.Prelude.{ℕ, ◌≡◌, ◌≢◌, ◌↔◌, All, Contains, IfNone, IfOk, IfSome, IsTrue};
 ghost use Rattle.geo_core.specs.declared.plane.Cell.{Cell};
 ghost use Rattle.geo_core.specs.declared.plane.Labelled.{Labelled};
-ghost use Rattle.window_parts.specs.WindowParts.{HasAllOf};
+ghost use Rattle.union_area.specs.WindowParts.{HasAllOf};
 ghost use Rattle.short_area.specs.inside.Zones.{AreSplit, HaveNoThird, IsInTwoLabels, IsWholeIn};
 
 use geo_core::{Labelled, NoMemory, Rect};
 use std::alloc::Global;
-use window_parts::fills;
+use union_area::fills;
 
 /// The label of the first zone that has another one than this.
 fn other_label(zones: &[Labelled], label: usize) -> Option<usize>

@@ -1,9 +1,9 @@
 ghost use Rattle.std.specs.Prelude.{ℤ, ◌≡◌, ◌⊎◌, IfSome};
-ghost use Rattle.window_parts.specs.WindowParts.{IsBetween};
+ghost use Rattle.union_area.specs.WindowParts.{IsBetween};
 ghost use Rattle.short_area.specs.inside.AreaSteps.{AreNoNearer, IsCentralCut, IsMiddleCut, IsNoNearer};
 
 use geo_core::{Axis, Interval, Labelled, Rect};
-use window_parts::{distance_from_middle, half_way, inner_half_way, is_broad, longer_first};
+use union_area::{distance_from_middle, half_way, inner_half_way, is_broad, longer_first};
 
 /// How zones lie about the middle of a window.
 #[derive(Clone, Copy)]

@@ -2,8 +2,8 @@ ghost use Rattle.std.specs.Prelude.{◌≤◌, AllPairs, IfOk, IfSome, IsTrue, O
 ghost use Rattle.std.specs.List.Sorted.{IsPermutation};
 ghost use Rattle.short_area.specs.inside.LabelRuns.{AreRunsOf, GainsRuns};
 
-use depth_sweep::{runs_within, union_runs};
 use geo_core::{Labelled, NoMemory, Rect};
+use skyline_runs::{runs_within, union_runs};
 use std::alloc::{AllocError, Global};
 
 /// Rectangles without common cells for each label, which together have the cells of its zones: so a cell lies in as many

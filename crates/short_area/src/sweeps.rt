@@ -1,6 +1,6 @@
 ghost use Rattle.std.specs.Prelude.{ℕ, ◌≡◌, ◌<◌, ◌^◌, IfOk, IfSome, IsTrue};
 ghost use Rattle.fault_model.specs.Areas.{Tally, cells_of};
-ghost use Rattle.depth_sweep.specs.Runs.{IsInTwo};
+ghost use Rattle.skyline_runs.specs.Runs.{IsInTwo};
 ghost use Rattle.short_area.specs.inside.Zones.{HaveNoThird, HaveSameTwo, IsCountOf, IsWholeIn, MeetsOther};
 
 use super::labels::{is_other_whole, split, two_labels, whole_label};
@@ -10,8 +10,7 @@ use geo_core::{Labelled, NoMemory, Rect, Steps, overlaps};
 use std::alloc::Global;
 use std::marker::Brand;
 use std::sync::ledger::{Blank, Ledger};
-use union_area::union_area;
-use window_parts::count_of;
+use union_area::{count_of, union_area};
 
 /// So many looks for each zone are few.
 pub const LOOKS_EACH: usize = 4;

@@ -10,7 +10,7 @@ use super::sweeps::{
 };
 use geo_core::{Labelled, NoMemory, Rect};
 use std::alloc::Global;
-use window_parts::count_of;
+use union_area::count_of;
 
 /// Runs are tried again of so many times fewer zones.
 const LESS: usize = 8;

@@ -1,6 +1,5 @@
 pub mod AlongLaws
 pub mod TileLaws
-pub mod TallyingLaws
 pub mod DoublingLaws
 pub mod KeptLaws
 pub mod NearLaws

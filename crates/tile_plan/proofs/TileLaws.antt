@@ -118,9 +118,6 @@ module _ (plan : TilePlan) where
   pub same_tile : (k : ℕ) (one other : Rect) → IsTile plan k one → IsTile plan k other → one ≡ other
   same_tile k one other s t = same_cells_same_rect one other (λ c h. (t.cells c).1 ((s.cells c).0 h)) (λ c h. (s.cells c).1 ((t.cells c).0 h))
 
-  pub tile_in_window : (k : ℕ) (tile : Rect) → IsTile plan k tile → (c : Cell) → Has tile c → Has plan.window c
-  tile_in_window k tile is c h = ((is.cells c).0 h).in_window
-
   -- ---- the first tile is the greatest
 
   -- where a tile begins and ends

@@ -7,7 +7,7 @@ use Rattle.fault_model.specs.FaultNames.{Tally, cells_of}
 use Rattle.fault_model.proofs.CellLaws.{Contains-cells_of}
 use Rattle.fault_model.proofs.TallyLaws.{Tally-none, Tally-same}
 use Rattle.fault_model.proofs.UnionLaws.{among_union, union_more, union_push}
-use Rattle.window_parts.proofs.PartLaws.{whole_tally}
+use Rattle.union_area.proofs.laws.PartLaws.{whole_tally}
 
 -- the one list has the cells of the other list that lie in the window
 abbrev pub AreClipped : List Rect → Rect → List Rect → Type 0

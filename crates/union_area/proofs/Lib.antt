@@ -1,2 +1,3 @@
+pub mod CutLaws
 pub mod ClipLaws
 pub mod RunLaws

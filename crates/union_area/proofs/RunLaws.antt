@@ -8,8 +8,8 @@ use Rattle.fault_model.specs.FaultNames.{Tally, cells_of}
 use Rattle.fault_model.proofs.PartTallies.{Tally-either, tally_of_part}
 use Rattle.fault_model.proofs.TallyLaws.{Tally-none, Tally-same_all}
 use Rattle.fault_model.proofs.UnionLaws.{in_union, union_more, union_none}
-use Rattle.window_parts.proofs.PartLaws.{Always, all_of}
-use Rattle.depth_sweep.specs.Runs.{AreApart}
+use Rattle.union_area.proofs.laws.PartLaws.{Always, all_of}
+use Rattle.skyline_runs.specs.Runs.{AreApart}
 
 -- the first so many rectangles of the list have so many cells of the window
 pub record AreCounted (runs : List Rect) (window : Rect) (k n : ℕ) : Type 0 where

@@ -2,18 +2,19 @@ ghost use Rattle.std.specs.Prelude.{◌<◌, ◌^◌, ◌≡◌, IfOk, IfSome};
 ghost use Rattle.geo_core.specs.Cells.{Has};
 ghost use Rattle.geo_core.specs.Unions.{IsInUnion};
 ghost use Rattle.geo_core.specs.declared.plane.Cell.{Cell};
-ghost use Rattle.depth_sweep.specs.Runs.{AreApart};
+ghost use Rattle.skyline_runs.specs.Runs.{AreApart};
 ghost use Rattle.fault_model.specs.Areas.{Tally, cells_of};
-ghost use Rattle.window_parts.specs.WindowParts.{AreParts};
+ghost use Rattle.union_area.specs.WindowParts.{AreParts};
 
+use super::parts::count_of;
 use super::survey::Survey;
 use super::windows::{clipped, is_filled};
-use depth_sweep::{area_once, runs_within};
+use depth_sweep::area_once;
 use geo_core::{NoMemory, Rect, Steps};
+use skyline_runs::runs_within;
 use std::alloc::Global;
 use std::marker::Brand;
 use std::sync::ledger::{Blank, Ledger};
-use window_parts::count_of;
 
 /// So many rectangles are swept at once.
 const FEW: usize = 64;

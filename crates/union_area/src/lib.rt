@@ -1,4 +1,7 @@
-//! At how many cells of a window a list of rectangles has a cell.
+//! At how many cells of a window a list of rectangles has a cell, and what parts of a window say of the whole.
+//!
+//! Of parts it is said how many cells a window has, what has all of it, where it is halved, and how the tallies of its parts
+//! make its own (`parts`, `middles`, `laws`).
 //!
 //! The window is halved for as long as that parts the rectangles well. Of what is left, rectangles without common cells are
 //! added up where they are soon found, and else a sweep counts. Which parts are taken, and when the sweep begins, changes the
@@ -6,7 +9,16 @@
 #![tactic(auto)]
 
 mod areas;
+pub mod laws;
+pub mod middles;
+pub mod parts;
 mod survey;
 mod windows;
 
 pub use areas::union_area;
+pub use laws::{
+    lines_are_smaller, lines_repeat, parts_are_smaller, tallies_of_parts_add,
+    tallies_of_whole_windows,
+};
+pub use middles::{distance_from_middle, half_way, inner_half_way, is_broad, longer_first};
+pub use parts::{count_of, fills, first_line, halved_along, parts_at, places_along};

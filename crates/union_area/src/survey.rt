@@ -1,11 +1,10 @@
 ghost use Rattle.std.specs.Prelude.{◌≡◌, ◌⊎◌, ◌↔◌, IsTrue};
-ghost use Rattle.window_parts.specs.WindowParts.{IsAsCentral, IsBetween, IsHalfWay};
+ghost use Rattle.union_area.specs.WindowParts.{IsAsCentral, IsBetween, IsHalfWay};
 
+use super::middles::{distance_from_middle, half_way, is_broad, longer_first};
+use super::parts::{halved_along, parts_at};
 use geo_core::{Axis, Interval, Rect};
 use std::marker::Model;
-use window_parts::{
-    distance_from_middle, half_way, halved_along, is_broad, longer_first, parts_at,
-};
 
 /// Where so many broad rectangles lie over the middle, parts of the window are soon covered whole.
 const MANY_BROAD: usize = 8;
@@ -107,7 +106,7 @@ impl Middle {
 impl Survey {
     ghost use Rattle.std.specs.Prelude.{◌≡◌, IfSome};
     ghost use Rattle.geo_core.specs.declared.axis.Axis.{Axis};
-    ghost use Rattle.window_parts.specs.WindowParts.{AreHalves, AreParts};
+    ghost use Rattle.union_area.specs.WindowParts.{AreHalves, AreParts};
 
     /// Of no rectangles so far.
     pub fn of(window: Rect) -> Survey

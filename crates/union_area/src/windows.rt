@@ -3,11 +3,11 @@ ghost use Rattle.geo_core.specs.Cells.{Has};
 ghost use Rattle.geo_core.specs.Unions.{IsInUnion};
 ghost use Rattle.geo_core.specs.declared.plane.Cell.{Cell};
 ghost use Rattle.geo_core.specs.declared.plane.Rect.{Rect};
-ghost use Rattle.window_parts.specs.WindowParts.{HasAllOf};
+ghost use Rattle.union_area.specs.WindowParts.{HasAllOf};
 
+use super::parts::fills;
 use geo_core::{NoMemory, Rect, clip};
 use std::alloc::Global;
-use window_parts::fills;
 
 /// What each of the rectangles has in common with the window, if anything, in their order. The one error is that no
 /// memory is left.

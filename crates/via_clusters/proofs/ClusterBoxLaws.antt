@@ -12,9 +12,8 @@ use Rattle.net_extract.specs.ContactGroups.{AreGroupsOf, carries_both, ends_of_g
 use Rattle.net_extract.specs.NetLists.{NetLists, contacts_of}
 use Rattle.net_extract.specs.declared.pieces.ContactGroup.{ContactGroup}
 use Rattle.net_extract.specs.declared.pieces.ContactPiece.{ContactPiece}
-use Rattle.net_extract.proofs.ContactGroupLaws.{carries_tells, told_carries}
-use Rattle.net_extract.proofs.GroupLaws.{unit}
-use Rattle.net_extract.proofs.SpotLaws.{some_cell}
+use Rattle.net_extract.proofs.laws.CarryLaws.{carries_tells, told_carries}
+use Rattle.net_extract.proofs.laws.UnitLaws.{unit, some_cell}
 use Rattle.via_clusters.specs.Clusters.{AreClusterBoxes, IsClusterCell}
 
 -- ---- bounds of a list

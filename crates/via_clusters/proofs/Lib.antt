@@ -1,4 +1,3 @@
 pub mod CentreLaws
 pub mod BoundLaws
 pub mod ClusterBoxLaws
-pub mod BlockLaws

@@ -1,7 +1,7 @@
 //! Runs that are looked for with so many looks at rectangles and no more.
 
 use super::counting::are_runs_of;
-use depth_sweep::{Rect, runs_within};
+use skyline_runs::{Rect, runs_within};
 use std::alloc::{AllocError, Global};
 
 /// So many bars of a mesh stand, and so many lie.

@@ -4,7 +4,7 @@ use Rattle.geo_core.specs.Plane.{Has}
 use Rattle.geo_core.specs.declared.plane.Cell.{Cell}
 use Rattle.geo_core.specs.declared.plane.Rect.{Rect}
 use Rattle.depth_sweep.specs.declared.bar.Bar.{Bar}
-use Rattle.depth_sweep.specs.inside.Depths.{has_cell, depth_of}
+use Rattle.skyline_runs.specs.Depths.{has_cell, depth_of}
 use Rattle.depth_sweep.specs.inside.SweepPlaces.{IsInColumn}
 
 -- the bar has the column and the row

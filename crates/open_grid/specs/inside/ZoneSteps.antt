@@ -14,7 +14,7 @@ use Rattle.half_boxes.specs.declared.boxes.HalfBox.{HalfBox}
 use Rattle.remnants.specs.Remnants.{RemnantLists, IsSplit}
 use Rattle.severing.specs.Changes.{ChangesAt, IsSteady}
 use Rattle.severing.specs.Severing.{IsSevered}
-use Rattle.window_parts.specs.WindowParts.{AreInLine, IsBetween, place_along}
+use Rattle.union_area.specs.WindowParts.{AreInLine, IsBetween, place_along}
 use Rattle.open_grid.specs.inside.ZoneNeeds.{StandsFor, StandForAll, AllSever, SeverAlike}
 use Rattle.open_grid.specs.declared.looked.Looked.{Looked}
 use Rattle.open_grid.specs.declared.looked.Told.{Told}

@@ -4,7 +4,7 @@ use Rattle.geo_core.specs.Plane.{low_along, high_along}
 use Rattle.geo_core.specs.declared.axis.Axis.{Axis}
 use Rattle.geo_core.specs.declared.plane.Labelled.{Labelled}
 use Rattle.geo_core.specs.declared.plane.Rect.{Rect}
-use Rattle.window_parts.specs.WindowParts.{IsAsCentral, IsBetween, IsHalfWay}
+use Rattle.union_area.specs.WindowParts.{IsAsCentral, IsBetween, IsHalfWay}
 use Rattle.short_area.specs.inside.Zones.{IsCountOf}
 use Rattle.short_area.specs.declared.steps.Step.{Step}
 use Rattle.short_area.specs.declared.steps.Step.TheVariants.{Count, Halve}

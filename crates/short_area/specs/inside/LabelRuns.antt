@@ -4,7 +4,7 @@ use Rattle.geo_core.specs.Plane.{IsInUnion}
 use Rattle.geo_core.specs.declared.plane.Cell.{Cell}
 use Rattle.geo_core.specs.declared.plane.Labelled.{Labelled}
 use Rattle.geo_core.specs.declared.plane.Rect.{Rect}
-use Rattle.depth_sweep.specs.Runs.{AreApart, HaveSameCells, IsInTwo}
+use Rattle.skyline_runs.specs.Runs.{AreApart, HaveSameCells, IsInTwo}
 use Rattle.short_area.specs.inside.Zones.{IsInLabel, IsInTwoLabels}
 
 -- a zone has the cell

@@ -4,7 +4,7 @@ use Rattle.geo_core.specs.Plane.{Has, IsInUnion}
 use Rattle.geo_core.specs.declared.plane.Cell.{Cell}
 use Rattle.geo_core.specs.declared.plane.Labelled.{Labelled}
 use Rattle.geo_core.specs.declared.plane.Rect.{Rect}
-use Rattle.depth_sweep.specs.Runs.{IsInTwo}
+use Rattle.skyline_runs.specs.Runs.{IsInTwo}
 use Rattle.short_area.specs.inside.Zones.{IsInLabel}
 
 -- the zones of the other labels

@@ -1,4 +1,4 @@
-use Rattle.cover_tree.proofs.DepthLaws.{in_range, put_depth}
+use Rattle.cover_tree.proofs.laws.DepthLaws.{in_range, put_depth}
 use Rattle.cover_tree.proofs.laws.puts_add_to_depths.Goals as goal
 
 pub returns : goal.returns

@@ -1,4 +1,4 @@
-use Rattle.cover_tree.proofs.DepthLaws.{in_range, take_depth}
+use Rattle.cover_tree.proofs.laws.DepthLaws.{in_range, take_depth}
 use Rattle.cover_tree.proofs.laws.takes_subtract_from_depths.Goals as goal
 
 pub returns : goal.returns

@@ -1,4 +1,4 @@
-use Rattle.critical_areas.proofs.UniqueLaws.{rows_agree}
+use Rattle.critical_areas.proofs.laws.UniqueLaws.{rows_agree}
 use Rattle.critical_areas.proofs.laws.rows_agree.Goals as goal
 
 pub returns : goal.returns

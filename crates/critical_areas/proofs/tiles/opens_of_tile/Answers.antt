@@ -6,7 +6,7 @@ use Rattle.fault_model.specs.FaultNames.{Tally, cells_of}
 use Rattle.fault_model.proofs.CellLaws.{Contains-cells_of}
 use Rattle.fault_model.proofs.TallyLaws.{Tally-same}
 use Rattle.severing.specs.Severing.{IsSomeOpen}
-use Rattle.tile_plan.proofs.NearLaws.{exactly_near, same_cells}
+use Rattle.tile_plan.proofs.laws.SeamLaws.{exactly_near, same_cells}
 use Rattle.critical_areas.proofs.tiles.opens_of_tile.Goals as goal
 
 pub returns : goal.returns

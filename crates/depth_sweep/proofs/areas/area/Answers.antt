@@ -3,7 +3,7 @@ use Rattle.std.proofs.Common.{rules, arith, subst, sym, ◌∙◌, ◌+◌, ◌<
 use Rattle.lists.proofs.Words.{nat_tests, to_z-of_z}
 use Rattle.fault_model.specs.FaultNames.{Tally, cells_of}
 use Rattle.cover_tree.specs.CoverTrees.{IsNew, width_of_depth}
-use Rattle.depth_sweep.specs.inside.Depths.{IsDeep, least_of}
+use Rattle.depth_sweep.specs.inside.DeepCells.{IsDeep, least_of}
 use Rattle.depth_sweep.proofs.RowTallies.{none_deep}
 use Rattle.depth_sweep.proofs.StepLaws.{in_bound}
 use Rattle.depth_sweep.proofs.Sweeping.{IsSwept, setting_of, some_columns, swept_begun, how_many, least_some}

@@ -1,5 +1,5 @@
 use Rattle.std.proofs.Common.{◌+◌, ◌*◌, ◌≤◌, length}
-use Rattle.depth_sweep.specs.inside.Depths.{least_of}
+use Rattle.depth_sweep.specs.inside.DeepCells.{least_of}
 use Rattle.depth_sweep.proofs.Sweeping.{IsSetting, IsSwept}
 use Rattle.depth_sweep.proofs.areas.area.Given as goal
 

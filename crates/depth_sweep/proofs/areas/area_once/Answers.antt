@@ -2,8 +2,8 @@ use Rattle.lists.proofs.Words.{IfOk-weaker}
 use Rattle.geo_core.specs.Plane.{IsInUnion}
 use Rattle.fault_model.specs.FaultNames.{Tally, cells_of}
 use Rattle.fault_model.proofs.TallyLaws.{Tally-same_all}
-use Rattle.depth_sweep.specs.inside.Depths.{IsDeep}
-use Rattle.depth_sweep.proofs.Depths.{once_is}
+use Rattle.depth_sweep.specs.inside.DeepCells.{IsDeep}
+use Rattle.depth_sweep.proofs.DeepLaws.{once_is}
 use Rattle.depth_sweep.proofs.StepLaws.{none_taken}
 use Rattle.depth_sweep.proofs.areas.area_once.Goals as goal
 

@@ -1,9 +1,9 @@
 use Rattle.lists.proofs.Words.{IfOk-weaker}
-use Rattle.depth_sweep.specs.Runs.{IsInTwo}
+use Rattle.skyline_runs.specs.Runs.{IsInTwo}
 use Rattle.fault_model.specs.FaultNames.{Tally, cells_of}
 use Rattle.fault_model.proofs.TallyLaws.{Tally-same_all}
-use Rattle.depth_sweep.specs.inside.Depths.{IsDeep}
-use Rattle.depth_sweep.proofs.Depths.{twice_is}
+use Rattle.depth_sweep.specs.inside.DeepCells.{IsDeep}
+use Rattle.depth_sweep.proofs.DeepLaws.{twice_is}
 use Rattle.depth_sweep.proofs.StepLaws.{none_taken}
 use Rattle.depth_sweep.proofs.areas.area_twice.Goals as goal
 

@@ -1,4 +1,4 @@
-use Rattle.net_extract.proofs.ClusterLaws.{carry_clusters}
+use Rattle.net_extract.proofs.laws.ClusterLaws.{carry_clusters}
 use Rattle.net_extract.proofs.laws.groups_are_clusters.Goals as goal
 
 pub returns : goal.returns

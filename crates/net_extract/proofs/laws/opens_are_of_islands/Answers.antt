@@ -1,4 +1,4 @@
-use Rattle.net_extract.proofs.OpenLaws.{opens_are_of_islands}
+use Rattle.net_extract.proofs.laws.OpenLaws.{opens_are_of_islands}
 use Rattle.net_extract.proofs.laws.opens_are_of_islands.Goals as goal
 
 pub returns : goal.returns

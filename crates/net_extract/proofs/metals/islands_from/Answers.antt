@@ -1,6 +1,6 @@
 use Rattle.std.proofs.Common.{ap, arith, length, subst, sym, ◌+◌, ◌≤◌}
 use Rattle.lists.proofs.Words.{IfOk-weaker}
-use Rattle.depth_sweep.specs.Runs.{HaveSameCells}
+use Rattle.skyline_runs.specs.Runs.{HaveSameCells}
 use Rattle.net_extract.proofs.SlimLaws.{islands_alike}
 use Rattle.net_extract.proofs.metals.islands_from.Goals as goal
 

@@ -1,8 +1,8 @@
 use Rattle.std.proofs.Common.{Vec, arith}
 use Rattle.lists.proofs.Words.{Global, IfOk-weaker}
 use Rattle.geo_core.specs.declared.plane.Rect.{Rect}
-use Rattle.window_parts.proofs.LineLaws.{fewer_in_line}
-use Rattle.window_parts.proofs.PartLaws.{fewer_cells}
+use Rattle.union_area.proofs.laws.LineLaws.{fewer_in_line}
+use Rattle.union_area.proofs.laws.PartLaws.{fewer_cells}
 use Rattle.open_grid.specs.inside.ZoneNeeds.{HaveOpenCells}
 use Rattle.open_grid.specs.inside.ZoneSteps.{AreStretched}
 use Rattle.open_grid.proofs.CellLaws.{by_axis, no_items, open_everywhere, open_in_halves, open_in_lines, open_nowhere, some_items}

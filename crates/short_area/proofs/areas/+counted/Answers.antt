@@ -1,5 +1,5 @@
 use Rattle.std.proofs.Common.{arith}
-use Rattle.window_parts.proofs.PartLaws.{fewer_cells}
+use Rattle.union_area.proofs.laws.PartLaws.{fewer_cells}
 use Rattle.short_area.proofs.Counting.{count_of_parts}
 use Rattle.short_area.proofs.areas.+counted.Goals as goal
 

@@ -2,7 +2,7 @@ use Rattle.std.proofs.Common.{refl}
 use Rattle.lists.proofs.Reading.{All-read, All-read_all}
 use Rattle.lists.proofs.Words.{false≢true}
 use Rattle.geo_core.specs.declared.plane.Labelled.{Labelled}
-use Rattle.window_parts.specs.WindowParts.{HasAllOf}
+use Rattle.union_area.specs.WindowParts.{HasAllOf}
 use Rattle.short_area.proofs.ZoneLaws.{whole_one}
 use Rattle.short_area.proofs.labels.whole_label.Goals as goal
 

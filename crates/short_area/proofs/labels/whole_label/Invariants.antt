@@ -1,6 +1,6 @@
 use Rattle.std.proofs.Common.{All, take}
 use Rattle.geo_core.specs.declared.plane.Labelled.{Labelled}
-use Rattle.window_parts.specs.WindowParts.{HasAllOf}
+use Rattle.union_area.specs.WindowParts.{HasAllOf}
 use Rattle.short_area.proofs.labels.whole_label.Given as goal
 
 abbrev pub invariant-loop-zone : goal.invariant-loop-zone

@@ -1,5 +1,5 @@
 use Rattle.std.proofs.Common.{IfSome, take}
-use Rattle.window_parts.specs.WindowParts.{IsBetween}
+use Rattle.union_area.specs.WindowParts.{IsBetween}
 use Rattle.short_area.specs.inside.AreaSteps.{AreNoNearer}
 use Rattle.short_area.proofs.places.central_edge.Given as goal
 

@@ -1,4 +1,4 @@
-use Rattle.tile_plan.proofs.NearLaws.{same_label, same_two_labels}
+use Rattle.tile_plan.proofs.laws.SeamLaws.{same_label, same_two_labels}
 use Rattle.tile_plan.proofs.laws.near_pieces_decide_labels.Goals as goal
 
 pub returns-clause-labels : goal.returns-clause-labels

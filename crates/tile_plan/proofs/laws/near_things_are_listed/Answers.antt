@@ -1,4 +1,4 @@
-use Rattle.tile_plan.proofs.NearLaws.{exactly_near, near_in_any_order}
+use Rattle.tile_plan.proofs.laws.SeamLaws.{exactly_near, near_in_any_order}
 use Rattle.tile_plan.proofs.laws.near_things_are_listed.Goals as goal
 
 pub returns-clause-in_order : goal.returns-clause-in_order

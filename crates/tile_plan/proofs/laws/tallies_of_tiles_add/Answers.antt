@@ -1,4 +1,4 @@
-use Rattle.tile_plan.proofs.TallyingLaws.{all_tiles, next_tile, no_tile, sum_of_tiles}
+use Rattle.tile_plan.proofs.laws.TallyingLaws.{all_tiles, next_tile, no_tile, sum_of_tiles}
 use Rattle.tile_plan.proofs.laws.tallies_of_tiles_add.Goals as goal
 
 pub returns-clause-no_tile : goal.returns-clause-no_tile

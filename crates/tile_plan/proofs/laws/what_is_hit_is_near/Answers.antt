@@ -1,4 +1,4 @@
-use Rattle.tile_plan.proofs.NearLaws.{hit_is_near, met_is_near}
+use Rattle.tile_plan.proofs.laws.SeamLaws.{hit_is_near, met_is_near}
 use Rattle.tile_plan.proofs.laws.what_is_hit_is_near.Goals as goal
 
 pub returns-clause-hit : goal.returns-clause-hit

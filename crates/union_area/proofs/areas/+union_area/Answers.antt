@@ -3,7 +3,7 @@ use Rattle.lists.proofs.Words.{eqb-true, IfOk-weaker}
 use Rattle.geo_core.specs.Plane.{IsInUnion}
 use Rattle.fault_model.specs.FaultNames.{Tally, cells_of}
 use Rattle.union_area.proofs.ClipLaws.{AreClipped, tally_all, tally_clipped, tally_none}
-use Rattle.window_parts.proofs.PartLaws.{few_tallied, fewer_cells, parts_tally}
+use Rattle.union_area.proofs.laws.PartLaws.{few_tallied, fewer_cells, parts_tally}
 use Rattle.union_area.proofs.areas.+union_area.Goals as goal
 
 pub returns-then-is_empty-clause-tally : goal.returns-then-is_empty-clause-tally

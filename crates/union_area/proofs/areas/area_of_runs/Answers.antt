@@ -1,6 +1,6 @@
 use Rattle.std.proofs.Common.{◌+◌, ◌^◌, ◌<◌, arith, length}
 use Rattle.fault_model.specs.FaultNames.{cells_of}
-use Rattle.window_parts.proofs.PartLaws.{few_tallied}
+use Rattle.union_area.proofs.laws.PartLaws.{few_tallied}
 use Rattle.union_area.proofs.RunLaws.{all_counted, none_counted, one_counted}
 use Rattle.union_area.proofs.areas.area_of_runs.Goals as goal
 

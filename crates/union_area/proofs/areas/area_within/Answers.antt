@@ -1,7 +1,7 @@
 use Rattle.std.proofs.Common.{subst, sym}
 use Rattle.fault_model.specs.FaultNames.{cells_of}
 use Rattle.fault_model.proofs.TallyLaws.{Tally-same_all}
-use Rattle.depth_sweep.specs.Runs.{AreApart, HaveSameCells}
+use Rattle.skyline_runs.specs.Runs.{AreApart, HaveSameCells}
 use Rattle.union_area.proofs.areas.area_within.Goals as goal
 
 pub area_of_runs-requires : goal.area_of_runs-requires

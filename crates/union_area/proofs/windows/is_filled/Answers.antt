@@ -3,7 +3,7 @@ use Rattle.lists.proofs.Reading.{All-read, All-read_all}
 use Rattle.lists.proofs.Words.{All-contains, false≢true}
 use Rattle.geo_core.specs.declared.plane.Rect.{Rect}
 use Rattle.fault_model.proofs.UnionLaws.{in_union}
-use Rattle.window_parts.specs.WindowParts.{HasAllOf}
+use Rattle.union_area.specs.WindowParts.{HasAllOf}
 use Rattle.union_area.proofs.windows.is_filled.Goals as goal
 
 pub returns-then-fills-clause-filled : goal.returns-then-fills-clause-filled

@@ -1,6 +1,6 @@
 use Rattle.std.proofs.Common.{All, take}
 use Rattle.geo_core.specs.declared.plane.Rect.{Rect}
-use Rattle.window_parts.specs.WindowParts.{HasAllOf}
+use Rattle.union_area.specs.WindowParts.{HasAllOf}
 use Rattle.union_area.proofs.windows.is_filled.Given as goal
 
 abbrev pub invariant-loop-rect : goal.invariant-loop-rect

@@ -1,5 +1,5 @@
-use Rattle.net_extract.proofs.ClusterLaws.{carry_clusters}
-use Rattle.via_clusters.proofs.BlockLaws.{block_is_box, tally_of_boxes}
+use Rattle.net_extract.proofs.laws.ClusterLaws.{carry_clusters}
+use Rattle.via_clusters.proofs.laws.BlockLaws.{block_is_box, tally_of_boxes}
 use Rattle.via_clusters.proofs.laws.blocks_are_covered_boxes.Goals as goal
 
 pub returns : goal.returns

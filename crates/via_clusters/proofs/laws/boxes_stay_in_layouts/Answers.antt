@@ -1,5 +1,5 @@
-use Rattle.net_extract.proofs.ClusterLaws.{carry_clusters}
-use Rattle.via_clusters.proofs.BlockLaws.{boxes_in_layout}
+use Rattle.net_extract.proofs.laws.ClusterLaws.{carry_clusters}
+use Rattle.via_clusters.proofs.laws.BlockLaws.{boxes_in_layout}
 use Rattle.via_clusters.proofs.laws.boxes_stay_in_layouts.Goals as goal
 
 pub returns : goal.returns

@@ -2,7 +2,7 @@ use Rattle.std.proofs.Common.{ℕ, ◌+◌, ◌<◌, ◌≡◌, Some, ap, length
 use Rattle.lists.proofs.Words.{slice_get_read}
 use Rattle.questions.specs.Questions.{IsAskable}
 use Rattle.tile_plan.specs.Tiles.{IsTile, tile_count}
-use Rattle.tile_plan.proofs.TileLaws.{tile_in_window}
+use Rattle.tile_plan.proofs.laws.TallyingLaws.{tile_in_window}
 use Rattle.critical_areas.specs.inside.Work.{Work}
 use Rattle.critical_areas.proofs.CountingLaws.{AreOfTile, one_of_tile}
 use Rattle.critical_areas.proofs.ZippedLaws.{item_has}

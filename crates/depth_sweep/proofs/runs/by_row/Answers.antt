@@ -1,7 +1,0 @@
-use Rattle.std.proofs.Common.{rules}
-use Rattle.geo_core.specs.declared.plane.Rect.{Rect}
-use Rattle.lists.proofs.Sorting.{AllPairs-from_sort}
-use Rattle.depth_sweep.proofs.runs.by_row.Goals as goal
-
-pub returns-clause-ordered : goal.returns-clause-ordered
-returns-clause-ordered c = AllPairs-from_sort (λ (rect : Rect). rect.y0) _ c.sort_unstable_by_key.ensures.sorted (λ a r q k. search rules)

@@ -1,0 +1,13 @@
+pub mod laws
+pub mod Entries
+pub mod Primitives
+pub mod Searches
+pub mod Joining
+pub mod Resting
+pub mod Looking
+pub mod Adding
+pub mod Finishing
+pub mod Commons
+pub mod Covering
+pub mod TwiceSteps
+pub mod TwiceCovering

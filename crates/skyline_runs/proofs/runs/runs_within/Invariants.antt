@@ -1,0 +1,13 @@
+use Rattle.std.proofs.Common.{◌+◌, ◌*◌, ◌≤◌, length}
+use Rattle.skyline_runs.specs.inside.Skylines.{HasSides}
+use Rattle.skyline_runs.proofs.Looking.{sides_of}
+use Rattle.skyline_runs.proofs.Covering.{IsUnionTo}
+use Rattle.skyline_runs.proofs.runs.runs_within.Given as goal
+
+abbrev pub invariant-loop-rect : goal.invariant-loop-rect
+invariant-loop-rect l = record {
+  cells : IsUnionTo l.skyline l.rect-items l.rect-index;
+  looks : l.left + l.rect-index ≤ l.initial.left;
+  sides : HasSides (sides_of l.rect-items) l.skyline;
+  few : l.initial.left ≤ l.left + l.rect-index * (2 * length l.rect-items + 1);
+}

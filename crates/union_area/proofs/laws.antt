@@ -1,0 +1,3 @@
+-- what the proofs of other crates may cite
+pub mod PartLaws
+pub mod LineLaws

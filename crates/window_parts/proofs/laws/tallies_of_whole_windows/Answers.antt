@@ -1,8 +1,0 @@
-use Rattle.window_parts.proofs.PartLaws.{few_tallied, whole_tally}
-use Rattle.window_parts.proofs.laws.tallies_of_whole_windows.Goals as goal
-
-pub returns-clause-whole : goal.returns-clause-whole
-returns-clause-whole g c = whole_tally
-
-pub returns-clause-small : goal.returns-clause-small
-returns-clause-small g c = few_tallied
