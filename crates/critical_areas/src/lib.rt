@@ -11,6 +11,7 @@ pub mod laws;
 mod parts;
 mod preparing;
 mod sharing;
+mod sizes;
 mod tiles;
 mod window;
 

@@ -13,6 +13,7 @@ ghost use Rattle.via_clusters.specs.Blocks.{CoversSomeBox};
 
 use super::indexes::{indexes_of, opens_of};
 use super::parts::Asked;
+use super::sizes::defect_radius;
 use fault_model::Island;
 use geo_core::{Labelled, Rect};
 use lists::NoMemory;
@@ -104,7 +105,7 @@ impl<'a> Tiles<'a> {
     {
         let parts = self.asked.parts;
         let number = question.number as usize;
-        let reach = question.measure.reach();
+        let reach = defect_radius(question.measure);
         match question.kind {
             Kind::Short => {
                 let pieces = parts.metals.as_slice()[number].as_slice();
