@@ -62,7 +62,7 @@ impl<'a> Model for Tiles<'a> {
 }
 
 impl<'a> Tiles<'a> {
-    ghost use Rattle.critical_areas.specs.Counts.{IsCounted};
+    ghost use Rattle.critical_areas.specs.AskedCounts.{IsCounted};
 
     /// The tiles of the plan, with what they are counted from. The only error is that no memory is left.
     pub fn new(alloc: Global, asked: Asked<'a>, plan: TilePlan) -> Result<Tiles<'a>, NoMemory>
