@@ -25,6 +25,17 @@ pub enum Unreported {
     Memory,
 }
 
+/// The input is refused with this status, by what is wrong with it and where.
+fn refused(status: u8, number: u8, place: u64) -> Unreported
+    ensures { result ≡ Refused (record { status = status; number = number; place = place }) }
+{
+    Unreported::Refused(Refusal {
+        status,
+        number,
+        place,
+    })
+}
+
 impl From<NoMemory> for Unreported {
     ghost from_gives = { λ _ why. why ≡ Memory };
 
@@ -50,11 +61,7 @@ impl From<MapFault> for Unreported {
     fn from(fault: MapFault) -> Unreported {
         match fault {
             MapFault::Memory => Unreported::Memory,
-            _ => Unreported::Refused(Refusal {
-                status: 3,
-                number: fault.number(),
-                place: fault.place(),
-            }),
+            _ => refused(3, fault.number(), fault.place()),
         }
     }
 }
@@ -65,7 +72,7 @@ impl From<LayoutFault> for Unreported {
     fn from(fault: LayoutFault) -> Unreported {
         match fault {
             LayoutFault::Memory => Unreported::Memory,
-            _ => Unreported::Refused(Refusal::from(fault)),
+            _ => refused(4, fault.number(), fault.place()),
         }
     }
 }

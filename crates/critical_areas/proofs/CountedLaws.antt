@@ -15,7 +15,7 @@ use Rattle.questions.specs.declared.question.Question.{Question}
 use Rattle.short_area.specs.Labels.{TouchesTwoLabels}
 use Rattle.via_clusters.specs.Blocks.{CoversSomeBox}
 use Rattle.critical_areas.specs.AreaParts.{ArePartsOf}
-use Rattle.critical_areas.specs.Counts.{AreCounted, IsCounted, IsCountedAs}
+use Rattle.critical_areas.specs.AskedCounts.{AreCounted, IsCounted, IsCountedAs}
 use Rattle.critical_areas.specs.FaultKinds.{IsFault}
 use Rattle.critical_areas.specs.Rows.{AreAmounts, IsAmount}
 use Rattle.critical_areas.specs.declared.parts.Parts.{Parts}

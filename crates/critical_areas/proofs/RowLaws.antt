@@ -9,7 +9,7 @@ use Rattle.map_model.specs.MapNames.{LayerMap}
 use Rattle.questions.specs.Questions.{IsRowFor, questions}
 use Rattle.questions.specs.declared.question.Question.{Question}
 use Rattle.critical_areas.specs.AreaParts.{ArePartsOf}
-use Rattle.critical_areas.specs.Counts.{AreCounted}
+use Rattle.critical_areas.specs.AskedCounts.{AreCounted}
 use Rattle.critical_areas.specs.Rows.{Answers, AreRows, AreRowsOf, IsAmount, IsWindowFor}
 use Rattle.critical_areas.specs.declared.parts.Parts.{Parts}
 use Rattle.questions.specs.declared.row.Row.{Row}

@@ -3,7 +3,7 @@ pub use Rattle.questions.specs.Questions
 pub mod FaultKinds
 pub mod LayerParts
 pub mod AreaParts
-pub mod Counts
+pub mod AskedCounts
 pub mod Rows
 -- what only this crate's proofs and private contracts cite
 pub mod inside

@@ -1,6 +1,6 @@
 ghost use Rattle.std.specs.Prelude.{◌<◌, ◌^◌, IfOk, All};
 ghost use Rattle.fault_model.specs.Areas.{cells_of_window};
-ghost use Rattle.critical_areas.specs.Counts.{AreCounted};
+ghost use Rattle.critical_areas.specs.AskedCounts.{AreCounted};
 
 use super::edges::sensible_plan;
 use super::parts::Asked;

@@ -2,7 +2,7 @@
 
 ghost use Rattle.std.specs.Prelude.{ℕ, List, All, Contains, false, ◌/◌, ◌≤◌, ◌≡◌, ◌↔◌};
 ghost use Rattle.critical_areas.specs.AreaParts.{ArePartsOf, ArePiecesOf};
-ghost use Rattle.critical_areas.specs.Counts.{AreCounted};
+ghost use Rattle.critical_areas.specs.AskedCounts.{AreCounted};
 ghost use Rattle.critical_areas.specs.declared.parts.Parts.{Parts};
 ghost use Rattle.critical_areas.specs.FaultKinds.{IsFault};
 ghost use Rattle.critical_areas.specs.Rows.{AreAmounts, AreRows};

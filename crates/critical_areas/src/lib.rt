@@ -26,6 +26,7 @@ pub mod laws;
 mod parts;
 mod preparing;
 mod sharing;
+mod sizes;
 mod tiles;
 mod window;
 
@@ -40,7 +41,7 @@ pub use answering::rows;
 pub use counting::amounts;
 use map_model::{Layers, Map};
 pub use net_extract::NetFault;
-pub use parts::{Asked, IslandList, Parts, PieceList};
+pub use parts::{Asked, MetalIslands, MetalPieces, Parts};
 pub use preparing::prepare;
 use questions::Row;
 pub use sharing::Sharing;

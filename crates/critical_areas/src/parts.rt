@@ -8,10 +8,10 @@ use lists::Items;
 use questions::Question;
 
 /// The pieces of a metal, labelled.
-pub type PieceList = Items<Labelled>;
+pub type MetalPieces = Items<Labelled>;
 
 /// The islands of a metal that opens are counted from.
-pub type IslandList = Items<Island>;
+pub type MetalIslands = Items<Island>;
 
 /// What all areas of a layout are counted from.
 #[derive(Debug, Drop)]
@@ -19,9 +19,9 @@ pub struct Parts {
     /// What is asked, in the order of the report.
     pub questions: Items<Question>,
     /// The pieces of each metal, labelled by their nets.
-    pub metals: Items<PieceList>,
+    pub metals: Items<MetalPieces>,
     /// The islands of each metal that have two terminals or more, each once.
-    pub islands: Items<IslandList>,
+    pub islands: Items<MetalIslands>,
     /// The boxes of each cut's via clusters, one for each cluster.
     pub cuts: Items<RectList>,
     pub ghost islands_each: { length islands ≡ length metals },

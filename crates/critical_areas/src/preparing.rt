@@ -6,7 +6,7 @@ ghost use Rattle.net_extract.specs.Extraction.{AreNetsOf};
 ghost use Rattle.critical_areas.specs.AreaParts.{ArePartsOf, ComeToParts, by_net};
 ghost use Rattle.critical_areas.specs.LayerParts.{AreAllBoxes, AreAllIslands};
 
-use super::parts::{IslandList, Parts, PieceList};
+use super::parts::{MetalIslands, MetalPieces, Parts};
 use geo_core::{Labelled, RectList};
 use lists::{Items, NoMemory};
 use map_model::{Layers, Map};
@@ -48,7 +48,7 @@ fn parts_of(alloc: Global, map: &Map, nets: &Nets) -> Result<Parts, NetFault>
 }
 
 /// The pieces of each of the metals, labelled by their nets.
-fn pieces_by_net(alloc: Global, nets: &Nets, metals: usize) -> Result<Items<PieceList>, NoMemory>
+fn pieces_by_net(alloc: Global, nets: &Nets, metals: usize) -> Result<Items<MetalPieces>, NoMemory>
     requires all { metals ≡ length nets.now.pieces }
     requires small { metals < 2 ^ 32 }
     ensures { IfOk result (λ lists. lists ≡ map (map by_net) nets.now.pieces) }
@@ -65,14 +65,14 @@ fn anchored_islands(
     alloc: Global,
     nets: &Nets,
     metals: usize,
-) -> Result<Items<IslandList>, NoMemory>
+) -> Result<Items<MetalIslands>, NoMemory>
     requires all { metals ≡ length nets.now.pieces }
     requires small { metals < 2 ^ 32 }
     ensures { IfOk result (λ lists. AreAllIslands nets.now metals lists) }
 {
     let mut lists = Vec::new(alloc);
     for metal in 0..metals as u32 {
-        lists.push(IslandList::from_vec(nets.islands(alloc, metal)?))?;
+        lists.push(MetalIslands::from_vec(nets.islands(alloc, metal)?))?;
     }
     Ok(Items::from_vec(lists))
 }
@@ -91,7 +91,7 @@ fn boxes_of_clusters(alloc: Global, nets: &Nets, cuts: usize) -> Result<Items<Re
 }
 
 /// The pieces with their nets as labels.
-fn labelled(alloc: Global, pieces: &[Piece]) -> Result<PieceList, NoMemory>
+fn labelled(alloc: Global, pieces: &[Piece]) -> Result<MetalPieces, NoMemory>
     ensures { IfOk result (λ list. list ≡ map by_net pieces.now) }
 {
     let mut list = Vec::with_capacity(alloc, pieces.len())?;

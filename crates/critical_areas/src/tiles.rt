@@ -13,6 +13,7 @@ ghost use Rattle.via_clusters.specs.Blocks.{CoversSomeBox};
 
 use super::indexes::{indexes_of, opens_of};
 use super::parts::Asked;
+use super::sizes::defect_radius;
 use fault_model::Island;
 use geo_core::{Labelled, Rect};
 use lists::NoMemory;
@@ -61,7 +62,7 @@ impl<'a> Model for Tiles<'a> {
 }
 
 impl<'a> Tiles<'a> {
-    ghost use Rattle.critical_areas.specs.Counts.{IsCounted};
+    ghost use Rattle.critical_areas.specs.AskedCounts.{IsCounted};
 
     /// The tiles of the plan, with what they are counted from. The only error is that no memory is left.
     pub fn new(alloc: Global, asked: Asked<'a>, plan: TilePlan) -> Result<Tiles<'a>, NoMemory>
@@ -104,7 +105,7 @@ impl<'a> Tiles<'a> {
     {
         let parts = self.asked.parts;
         let number = question.number as usize;
-        let reach = question.measure.reach();
+        let reach = defect_radius(question.measure);
         match question.kind {
             Kind::Short => {
                 let pieces = parts.metals.as_slice()[number].as_slice();

@@ -1,9 +1,10 @@
-ghost use Rattle.std.specs.Prelude.{IfOk, ◌+◌, ◌^◌, ◌<◌, ◌↔◌};
+ghost use Rattle.std.specs.Prelude.{IfOk, ◌+◌, ◌^◌, ◌<◌, ◌≤◌, ◌↔◌};
 ghost use Rattle.geo_core.specs.Bounds.{IsRadius};
 ghost use Rattle.geo_core.specs.Cells.{Has};
 ghost use Rattle.geo_core.specs.Unions.{IsInUnion};
 ghost use Rattle.geo_core.specs.declared.plane.Cell.{Cell};
 ghost use Rattle.fault_model.specs.Areas.{Tally, cells_of};
+ghost use Rattle.half_boxes.specs.declared.footprints.TheConstants.{GREATEST_SIDE};
 ghost use Rattle.severing.specs.Severing.{IsSomeOpen};
 
 use super::looked::look;
@@ -15,31 +16,32 @@ use std::alloc::Global;
 use union_area::union_area;
 
 /// The cells of the window that are the centre of a defect that parts two anchors of at least one of the islands, as
-/// rectangles in no order. The defect is the square of side `2r` round the cell's centre, in database units. The islands may
+/// rectangles in no order. The defect is the square of this side round the cell's centre, in database units. The islands may
 /// be of one metal, or of several that do not know of one another.
 ///
-/// The rectangles serve for any part of the window, so that islands need to be looked at once a radius. The one error is
+/// The rectangles serve for any part of the window, so that islands need to be looked at once a side. The one error is
 /// that no memory is left.
 pub fn open_cells(
     alloc: Global,
     islands: &[Island],
     window: Rect,
-    r: u32,
+    side: u32,
 ) -> Result<Vec<Rect>, NoMemory>
-    requires { IsRadius r }
+    requires some { 1 ≤ side }
+    requires few { side ≤ GREATEST_SIDE }
     ensures { IfOk result (λ rects. (c : Cell) →
-        IsInUnion rects.items c ↔ (Has window c × IsSomeOpen islands.now (r + r) c)) }
+        IsInUnion rects.items c ↔ (Has window c × IsSomeOpen islands.now side c)) }
 {
     let mut looked = Vec::with_capacity(alloc, islands.len())?;
     for island in islands {
         looked.push(look(alloc, island)?)?;
     }
     defects_sever_islands();
-    open_parts(alloc, looked.as_slice(), window, r + r)
+    open_parts(alloc, looked.as_slice(), window, side)
 }
 
-/// How many cells of the window are the centre of such a defect. A cell counts once, however many islands it parts. The one
-/// error is that no memory is left.
+/// How many cells of the window are the centre of such a defect of this radius, which is half of the side. A cell counts once,
+/// however many islands it parts. The one error is that no memory is left.
 pub fn open_area(alloc: Global, islands: &[Island], window: Rect, r: u32) -> Result<u64, NoMemory>
     requires { IsRadius r }
     ensures tally { IfOk result (λ n. Tally (IsSomeOpen islands.now (r + r)) (cells_of window) n) }
@@ -47,6 +49,6 @@ pub fn open_area(alloc: Global, islands: &[Island], window: Rect, r: u32) -> Res
     // No edge of a window is further than 1,001,000,000 from 0.
     ensures small { IfOk result (λ n. n < 2 ^ 63) }
 {
-    let rects = open_cells(alloc, islands, window, r)?;
+    let rects = open_cells(alloc, islands, window, r + r)?;
     union_area(alloc, &rects, window)
 }

@@ -4,6 +4,7 @@ use super::drawn::{AROUND, BESIDE, Drawn, Spot, WIRE, all_islands, islands_with}
 use crate::sides::{Sides, rect_of};
 use fault_model::Island;
 use geo_core::Rect;
+use half_boxes::GREATEST_SIDE;
 use open_grid::open_cells;
 use std::alloc::Global;
 use union_area::union_area;
@@ -11,11 +12,11 @@ use union_area::union_area;
 /// A rectangle, and how many of its cells the rectangles of a row have.
 type Part = (Sides, u64);
 
-/// What is drawn, one metal after the other, a radius, a window, and parts of the plane with how many of their cells lie in the
+/// What is drawn, one metal after the other, a side, a window, and parts of the plane with how many of their cells lie in the
 /// window and are the centre of a defect that parts two terminals.
 type Row = (&'static [Drawn], u32, Sides, &'static [Part]);
 
-/// A wire of 24 by 4 cells with a terminal near either end. The README has a picture of its cells for the radius 3.
+/// A wire of 24 by 4 cells with a terminal near either end. The README has a picture of its cells for the side 6.
 const LONG_WIRE: Drawn = Drawn {
     rects: &[(0, 0, 24, 4)],
     terminals: &[(1, 1), (22, 1)],
@@ -28,12 +29,12 @@ const THREE: Drawn = Drawn {
 };
 
 const ROWS: &[Row] = &[
-    (&[], 2, AROUND, &[(AROUND, 0)]),
+    (&[], 4, AROUND, &[(AROUND, 0)]),
     // 26 cells of row 1 and of row 2, and 5 at either end of rows -1, 0 and 3: in the window, in its four tiles, at a cell from
     // which a strip of the wire is left, and at the one below
     (
         &[LONG_WIRE],
-        3,
+        6,
         (-3, -1, 27, 5),
         &[
             ((-3, -1, 27, 5), 82),
@@ -45,10 +46,22 @@ const ROWS: &[Row] = &[
             ((12, 2, 13, 3), 1),
         ],
     ),
+    // an odd side: 28 cells of each of the rows 0 to 3, and 7 at either end of rows -2, -1 and 4
+    (
+        &[LONG_WIRE],
+        7,
+        AROUND,
+        &[
+            (AROUND, 154),
+            ((-2, 0, 26, 4), 112),
+            ((-2, -2, 5, 0), 14),
+            ((12, 4, 26, 5), 7),
+        ],
+    ),
     // 22 cells of row 0 and of row 1, and 3 for each terminal: in row -1 for the first and the second, in row 2 for the third
     (
         &[THREE],
-        2,
+        4,
         (-2, -2, 22, 4),
         &[
             ((-2, -2, 22, 4), 53),
@@ -63,11 +76,11 @@ const ROWS: &[Row] = &[
         ],
     ),
     // no cell beside the window, which is a part of a row
-    (&[WIRE], 2, (5, 0, 10, 1), &[(AROUND, 5), ((0, 0, 7, 4), 2)]),
+    (&[WIRE], 4, (5, 0, 10, 1), &[(AROUND, 5), ((0, 0, 7, 4), 2)]),
     // in a column each of two wires is cut from 4 rows, one of them for both
     (
         &[WIRE, BESIDE],
-        3,
+        6,
         (5, -9, 6, 20),
         &[
             (AROUND, 7),
@@ -92,11 +105,11 @@ const CROWDED: &[Part] = &[
 ];
 
 /// The cells of the window at which a defect parts two terminals of one of the islands.
-fn cells_at(alloc: Global, islands: &[Island], radius: u32, window: &Sides) -> Option<Vec<Rect>> {
-    if radius == 0 || radius > 1_000_000 {
+fn cells_at(alloc: Global, islands: &[Island], side: u32, window: &Sides) -> Option<Vec<Rect>> {
+    if side == 0 || side > GREATEST_SIDE {
         return None;
     }
-    open_cells(alloc, islands, rect_of(window)?, radius).ok()
+    open_cells(alloc, islands, rect_of(window)?, side).ok()
 }
 
 /// Whether the rectangles have as many cells of the part as it says.
@@ -122,11 +135,11 @@ fn have_parts(alloc: Global, rects: &[Rect], parts: &[Part]) -> bool {
 fn have_cells(
     alloc: Global,
     islands: &[Island],
-    radius: u32,
+    side: u32,
     window: &Sides,
     parts: &[Part],
 ) -> bool {
-    match cells_at(alloc, islands, radius, window) {
+    match cells_at(alloc, islands, side, window) {
         Some(rects) => have_parts(alloc, rects.as_slice(), parts),
         None => false,
     }
@@ -134,9 +147,9 @@ fn have_cells(
 
 /// Whether the cells of a row are as the row says.
 fn is_right(alloc: Global, row: &Row) -> bool {
-    let (table, radius, window, parts) = row;
+    let (table, side, window, parts) = row;
     match all_islands(alloc, table) {
-        Some(islands) => have_cells(alloc, islands.as_slice(), *radius, window, parts),
+        Some(islands) => have_cells(alloc, islands.as_slice(), *side, window, parts),
         None => false,
     }
 }
@@ -160,7 +173,7 @@ fn many_terminals() -> [Spot; 41] {
 /// Whether the cells of a bar of 60 by 2 cells with these terminals are as they were counted.
 fn is_crowded_bar_right(alloc: Global) -> bool {
     match islands_with(alloc, &[(0, 0, 60, 2)], &many_terminals()) {
-        Some(islands) => have_cells(alloc, islands.as_slice(), 2, &(-2, -2, 62, 4), CROWDED),
+        Some(islands) => have_cells(alloc, islands.as_slice(), 4, &(-2, -2, 62, 4), CROWDED),
         None => false,
     }
 }

@@ -10,7 +10,7 @@ use Rattle.net_extract.specs.declared.fault.NetFault.TheVariants.{Memory}
 use Rattle.questions.specs.Questions.{IsRowFor}
 use Rattle.questions.specs.declared.row.Row.{Row}
 use Rattle.critical_areas.specs.AreaParts.{ArePartsOf}
-use Rattle.critical_areas.specs.Counts.{AreCounted, IsCounted}
+use Rattle.critical_areas.specs.AskedCounts.{AreCounted, IsCounted}
 use Rattle.critical_areas.specs.Rows.{AreRows, AreRowsOf}
 use Rattle.critical_areas.proofs.RowLaws.{rows_are}
 use Rattle.critical_areas.proofs.WindowLaws.{Covered}

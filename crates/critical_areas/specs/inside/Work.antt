@@ -3,7 +3,7 @@ use Rattle.std.specs.Prelude.{ℕ, List, Some, slice_get, ◌≡◌}
 use Rattle.questions.specs.declared.question.Question.{Question}
 use Rattle.tile_plan.specs.TileTallies.{IsTallyOfTile}
 use Rattle.tile_plan.specs.declared.tiles.TilePlan.{TilePlan}
-use Rattle.critical_areas.specs.Counts.{IsCounted}
+use Rattle.critical_areas.specs.AskedCounts.{IsCounted}
 use Rattle.critical_areas.specs.declared.parts.Parts.{Parts}
 
 -- questions, the parts of which they are asked, and the tiles over which they are counted

@@ -4,7 +4,7 @@ use Rattle.fault_model.specs.FaultNames.{cells_of, cells_of_window}
 use Rattle.tile_board.specs.Hands.{limits_of}
 use Rattle.tile_plan.specs.Tiles.{tile_count}
 use Rattle.tile_work.specs.Crediting.{IsMadeFor}
-use Rattle.critical_areas.specs.Counts.{AreCounted}
+use Rattle.critical_areas.specs.AskedCounts.{AreCounted}
 use Rattle.critical_areas.specs.inside.Work.{IsAmountOfTile, Work}
 use Rattle.critical_areas.proofs.CountingLaws.{counted_small, found_counted, made_for_tiles, none_counted, nothing_asked}
 use Rattle.critical_areas.proofs.counting.amounts.Goals as goal

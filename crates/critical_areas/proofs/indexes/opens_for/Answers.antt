@@ -1,18 +1,14 @@
-use Rattle.std.proofs.Common.{List, Some, [], ◌∙◌, ◌<◌, ◌≡◌, ◌+◌, ◌↔◌, ℕ, ap, arith, get_or, length, subst, sym}
+use Rattle.std.proofs.Common.{List, Some, [], ◌∙◌, ◌<◌, ◌≡◌, ◌↔◌, ℕ, ap, arith, get_or, length, subst, sym}
 use Rattle.lists.proofs.Words.{IfOk-weaker, IsPermutation, get_or_from_slice_get, slice_get-get_or}
-use Rattle.geo_core.specs.Plane.{Has, IsInUnion, IsRadius}
+use Rattle.geo_core.specs.Plane.{Has, IsInUnion}
 use Rattle.geo_core.specs.declared.plane.Cell.{Cell}
 use Rattle.geo_core.specs.declared.plane.Rect.{Rect}
 use Rattle.fault_model.specs.FaultNames.{IslandLists}
 use Rattle.map_model.specs.MapNames.{side_of}
 use Rattle.severing.specs.Severing.{IsSomeOpen}
 use Rattle.critical_areas.specs.inside.Indexes.{AreOpensIn}
-use Rattle.critical_areas.proofs.PieceLaws.{even, reach_is_radius}
 use Rattle.critical_areas.proofs.IndexLaws.{opens_permuted}
 use Rattle.critical_areas.proofs.indexes.opens_for.Goals as goal
-
-pub open_cells-requires : goal.open_cells-requires
-open_cells-requires c = subst IsRadius (sym c.reach.ensures) (reach_is_radius c.args.question.now.measure c.requires.some c.requires.within)
 
 -- the islands that were read are those of the metal
 read : (c : goal.After-drop-cells) → c.as_slice-islands.result.now ≡ get_or c.args.parts.now.islands c.args.question.now.number []
@@ -25,13 +21,11 @@ read c =
     let found = get_or_from_slice_get lists number list [] (slice_get-get_or lists number list small ∙ ap Some (sym c.index-as_slice-question.is)) in
     c.as_slice-islands.ensures ∙ sym found ∙ ap (λ ms. get_or ms number []) c.as_slice.ensures
 
--- and the side is twice the reach
+-- and the side is that of the question
 opens : (c : goal.After-drop-cells) → AreOpensIn c.args.parts.now c.args.window c.args.question.now c.in_ok-cells-in-Open.cells.items
 opens c =
     let Opens : List IslandLists → ℕ → Type 0 = λ islands side. (d : Cell) → IsInUnion c.in_ok-cells-in-Open.cells.items d ↔ (Has c.args.window d × IsSomeOpen islands side d) in
-    let is = read c in
-    let side = ap (λ r. r + r) c.reach.ensures ∙ even c.args.question.now.measure in
-    subst (λ islands. Opens islands (side_of c.args.question.now.measure)) is (subst (Opens c.as_slice-islands.result.now) side c.in_ok-cells-in-Open.ensures)
+    subst (λ islands. Opens islands (side_of c.args.question.now.measure)) (read c) (subst (Opens c.as_slice-islands.result.now) c.defect_side-side.ensures.side c.in_ok-cells-in-Open.ensures)
 
 pub returns-in_ok-cells-in-Open : goal.returns-in_ok-cells-in-Open
 returns-in_ok-cells-in-Open c =

@@ -1,4 +1,4 @@
-use Rattle.std.proofs.Common.{Vec, ◌↔◌, ◌+◌, subst, take, take_all, arith}
+use Rattle.std.proofs.Common.{Vec, ◌↔◌, subst, take, take_all, arith}
 use Rattle.lists.proofs.Pairing.{AllZip-push}
 use Rattle.lists.proofs.Reading.{All-read, All-read_all, taken_more}
 use Rattle.lists.proofs.Words.{Global, IfOk-weaker}
@@ -26,7 +26,7 @@ returns c =
     let islands = c.args.islands.now in
     let i = c.loop-island.island-index in
     let past = c.loop-island-test.false in
-    let side = c.args.r + c.args.r in
+    let side = c.args.side in
     let stand = subst (StandForAll c.args.window side c.loop-island.looked.items) (take_all i islands (omega arith)) (c.loop-island.invariant.0 c.args.window side) in
     IfOk-weaker c.open_parts.result (λ (rects : Vec Rect Global). HaveOpenCells islands side c.args.window rects.items)
     (λ (rects : Vec Rect Global). (cell : Cell) → IsInUnion rects.items cell ↔ (Has c.args.window cell × IsSomeOpen islands side cell))

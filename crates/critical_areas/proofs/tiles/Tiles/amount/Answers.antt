@@ -1,12 +1,12 @@
 use Rattle.std.proofs.Common.{◌≡◌, ◌∙◌, ◌<◌, ◌+◌, ◌-◌, ℕ, List, [], Some, ap, arith, get_or, length, slice_get, subst, sym, ◌↔◌}
 use Rattle.std.specs.Slice.{IsItemAt}
-use Rattle.geo_core.specs.Plane.{Has, IsInUnion, IsRadius}
+use Rattle.geo_core.specs.Plane.{Has, IsInUnion}
 use Rattle.fault_model.specs.FaultNames.{IslandLists}
 use Rattle.map_model.specs.MapNames.{side_of}
 use Rattle.severing.specs.Severing.{IsSomeOpen}
 use Rattle.critical_areas.specs.inside.Work.{Work}
 use Rattle.critical_areas.proofs.IndexLaws.{list_read, opens_at, reordered_at}
-use Rattle.critical_areas.proofs.PieceLaws.{even, reach_is_radius}
+use Rattle.critical_areas.proofs.PieceLaws.{even}
 use Rattle.critical_areas.proofs.tiles.Tiles.amount.Goals as goal
 
 -- ---- shorts
@@ -20,9 +20,8 @@ pieces_are c =
 
 pub shorts_of_tile-requires : goal.shorts_of_tile-requires
 shorts_of_tile-requires c =
-    let askable = c.requires.askable in
     record {
-      radius = subst IsRadius (sym c.reach-reach.ensures) (reach_is_radius c.args.question.now.measure askable.some askable.within);
+      radius = c.defect_radius-reach.ensures.radius;
       index = reordered_at c.self.inside.asked.parts.now.metals c.self.inside.metals.items c.deref.result.now c.args.question.now.number c.as_slice-pieces.result.now c.get.result
           c.self.invariant.of_metals (pieces_are c) c.deref.ensures.value c.get.ensures.lookup;
     }
@@ -39,14 +38,13 @@ islands_are c =
 
 pub opens_of_tile-requires : goal.opens_of_tile-requires
 opens_of_tile-requires c =
-    let askable = c.requires.askable in
     let asked = c.self.inside.asked in
     let question = c.args.question.now in
     let at = subst (λ (w : Work). slice_get w.questions c.args.slot ≡ Some question) (sym c.self.view_is) c.requires.asked in
     let item = subst (λ xs. IsItemAt xs c.args.slot c.get-in-Open.result) c.deref-in-Open.ensures.value c.get-in-Open.ensures.lookup in
-    let side = ap (λ r. r + r) c.reach-reach.ensures ∙ even question.measure in
+    let side = ap (λ r. r + r) c.defect_radius-reach.ensures.half ∙ even question.measure in
     record {
-      radius = subst IsRadius (sym c.reach-reach.ensures) (reach_is_radius question.measure askable.some askable.within);
+      radius = c.defect_radius-reach.ensures.radius;
       opens = λ cells is d has.
           let within = subst (λ (w : Work). Has w.plan.window d) (sym c.self.view_is) (c.requires.within d has) in
           let known = opens_at asked.parts.now asked.questions.now c.self.inside.plan.window _ _ _ c.self.invariant c.args.slot question at c.in-Open.is c.get-in-Open.result item cells is d in
