@@ -6,13 +6,9 @@ mod analyses;
 #[cfg(test)]
 mod covers;
 #[cfg(test)]
-mod cuts;
-#[cfg(test)]
 mod failures;
 #[cfg(test)]
 mod gauged;
-#[cfg(test)]
-mod generated;
 #[cfg(test)]
 mod grammar;
 #[cfg(test)]
@@ -26,13 +22,13 @@ mod maps;
 #[cfg(test)]
 mod most_rows;
 #[cfg(test)]
-mod opens;
-#[cfg(test)]
 mod outline_runs;
 #[cfg(test)]
 mod placements;
 #[cfg(test)]
 mod records;
+#[cfg(test)]
+mod reports;
 #[cfg(test)]
 mod rows;
 #[cfg(test)]

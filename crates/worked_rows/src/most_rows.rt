@@ -39,8 +39,8 @@ impl Fault {
     }
 }
 
-/// Appends the radii, of which each has the weight 1.
-fn push_sizes(map: &mut String) -> Result<(), AllocError> {
+/// Appends the radii from 1,000 to 1,031, of which each has the weight 1.
+pub fn push_sizes(map: &mut String) -> Result<(), AllocError> {
     map.push_str("version = 1\nweights = [1, 1, 1, 1, 1, 1, 1, 1, 1, 1, 1, 1, 1, 1, 1, 1, ")?;
     map.push_str("1, 1, 1, 1, 1, 1, 1, 1, 1, 1, 1, 1, 1, 1, 1, 1]\nradii = [")?;
     for k in 1000..1032 {

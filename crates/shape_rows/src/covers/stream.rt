@@ -1,7 +1,8 @@
 //! Shapes as a stream of one structure.
 
-use crate::stream::{BGNSTR, Corner, ENDLIB, ENDSTR, HEAD, push_points};
+use crate::stream::{Corner, push_points};
 use gds_syntax::ShapeKind;
+use samples::records::{BGNSTR, ENDLIB, ENDSTR, HEAD, STRNAME_T};
 use std::alloc::{AllocError, Global};
 
 /// A shape: what it is, and its points.
@@ -24,9 +25,6 @@ pub fn path((pathtype, width, begin, end): Style, corners: &[Corner]) -> Form<'_
     };
     Form { kind, corners }
 }
-
-/// STRNAME `T`. The first shape begins behind it, at 94.
-const STRNAME: &[u8] = b"\x00\x06\x06\x06T\x00";
 
 /// What opens a boundary, a box or a path on layer 1.
 const BOUNDARY: &[u8] = b"\x00\x04\x08\x00\x00\x06\x0D\x02\x00\x01\x00\x06\x0E\x02\x00\x00";
@@ -76,7 +74,7 @@ fn push_kind(bytes: &mut Vec<u8>, kind: ShapeKind) -> Result<(), AllocError> {
 /// A structure of these shapes, and the end of the library.
 fn push_forms(bytes: &mut Vec<u8>, forms: &[Form<'_>]) -> Result<(), AllocError> {
     bytes.extend_from_slice(BGNSTR)?;
-    bytes.extend_from_slice(STRNAME)?;
+    bytes.extend_from_slice(STRNAME_T)?;
     for form in forms {
         push_kind(bytes, form.kind)?;
         push_points(bytes, form.corners)?;
