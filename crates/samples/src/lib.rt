@@ -1,4 +1,4 @@
-//! What several crates of tests share: records of layouts, rectangles in tables, gauges that no caller should trust, and a gate
+//! What several crates of tests share: layouts and their records, rectangles in tables, gauges that no caller should trust, and a gate
 //! that holds workers. Each gauge keeps the clauses of a gauge, so whoever calls gauges is to get along with them.
 #![tactic(auto)]
 
@@ -6,6 +6,7 @@ mod counted;
 mod gauge_kinds;
 mod holding_gate;
 mod hostile;
+pub mod layouts;
 pub mod records;
 pub mod sides;
 mod two_bars;

@@ -1,10 +1,10 @@
 //! Shapes of every kind: outlines that wind more than once, boxes, and paths with each kind of end.
 
-use super::layouts::{Filled, Plate, Wire};
 use super::rows::RIGHT;
 use super::runs::Want::{BadLayout, Short};
 use super::runs::{RADIUS_2, RADIUS_3, RADIUS_4, SHORT_32, Want, expect, layout_answers};
 use super::structures::{Part, library_with};
+use samples::layouts::{Filled, Plate, Wire};
 use std::alloc::Global;
 use std::thread::Threads;
 
@@ -27,13 +27,13 @@ const CORNER: &[(i32, i32)] = &[(0, 0), (10, 0), (10, 10)];
 const REPEATED: &[(i32, i32)] = &[(0, 0), (0, 0), (4, 0), (10, 0), (10, 0), (10, 3), (10, 10)];
 
 /// A path 4 wide, to the right and then up. Its ends are flush.
-const WIRE: Wire = (0, 4, (0, 0), CORNER);
+const WIRE: Wire<'_> = (0, 4, (0, 0), CORNER);
 
 /// The same with ends half a width further.
-const SQUARE_ENDS: Wire = (2, 4, (0, 0), CORNER);
+const SQUARE_ENDS: Wire<'_> = (2, 4, (0, 0), CORNER);
 
 /// The same with ends of its own: half a width further at the first point, and 1 less at the last.
-const OWN_ENDS: Wire = (4, 4, (2, -1), CORNER);
+const OWN_ENDS: Wire<'_> = (4, 4, (2, -1), CORNER);
 
 /// A square to the left of the path's first point: it is 2 from ends half a width further, and 4 from flush ones.
 const BEFORE: Plate = (1, 0, (-8, -2, -4, 2));
@@ -46,7 +46,7 @@ const ROUND_THE_CORNER: Plate = (1, 0, (14, -8, 18, -4));
 
 /// Paths, each with a rectangle beside it, and the area of shorts. A path whose end is 2 from the rectangle has 2 columns,
 /// or rows, of 8 cells in common with it where both are grown by 2.
-const WIRES: &[(Wire, Plate, u64)] = &[
+const WIRES: &[(Wire<'_>, Plate, u64)] = &[
     (WIRE, BEFORE, 0),
     (SQUARE_ENDS, BEFORE, 16),
     (OWN_ENDS, BEFORE, 16),
@@ -75,7 +75,7 @@ fn paths_cover_their_pieces(rt: HostRuntime) {
 }
 
 /// Paths that have no cover, and what is wrong. Where several things are, the order of the checks decides.
-const REFUSED: &[(Wire, u8)] = &[
+const REFUSED: &[(Wire<'_>, u8)] = &[
     ((1, 4, (0, 0), CORNER), 32),
     ((3, 4, (0, 0), CORNER), 35),
     ((0, 5, (0, 0), CORNER), 33),

@@ -1,4 +1,3 @@
-use super::layouts::{Plate, plates};
 use super::reports::Report;
 use super::runs::{
     Answer, Failing, RADIUS_3, Want, answers, expect, layout_answers, mapped, run_with,
@@ -6,6 +5,7 @@ use super::runs::{
 use critarea_core::NoGate;
 use edge_io::{Failed, Files};
 use lists::NoMemory;
+use samples::layouts::{Plate, plates};
 use std::alloc::{AllocError, Global};
 use std::thread::Threads;
 

@@ -14,8 +14,6 @@ mod grammar;
 #[cfg(test)]
 mod large;
 #[cfg(test)]
-mod layouts;
-#[cfg(test)]
 mod long_reports;
 #[cfg(test)]
 mod maps;

@@ -1,9 +1,9 @@
 //! A report of more than 65,535 bytes: of 16 metals whose names are as long as may be, and of 32 radii.
 
-use super::layouts::layout_of;
 use super::most_rows::push_sizes;
 use super::runs::{Failing, Given, mapped, run_on};
 use critarea_core::NoGate;
+use samples::layouts::layout_of;
 use std::alloc::{AllocError, Global};
 use std::thread::Threads;
 

@@ -25,11 +25,11 @@ mod cuts;
 pub mod generated;
 mod opens;
 
-use super::layouts::{Plate, plates};
 use super::reports::Report;
 use super::rows::{LEFT, RIGHT};
 use super::runs::{Failing, Given, Want, answers, expect, mapped};
 use samples::TWO_BARS;
+use samples::layouts::{Plate, plates};
 use std::alloc::Global;
 use std::process::Abort;
 use std::thread::Threads;

@@ -1,9 +1,9 @@
 //! A report of as many rows as may be, 1,536: of 16 metals, 16 cuts and 32 radii, of which none has the area 0.
 
-use super::layouts::{Plate, plates};
 use super::rows::{LEFT, RIGHT};
 use super::runs::{Failing, Given, expect, mapped, run_on};
 use critarea_core::NoGate;
+use samples::layouts::{Plate, plates};
 use std::alloc::{AllocError, Global};
 use std::thread::Threads;
 

@@ -1,8 +1,8 @@
-use super::layouts::Filled::Boundary;
 use super::rows::RIGHT;
 use super::runs::Want::BadLayout;
 use super::runs::{NO_SHORT, RADIUS_3, SHORT_32, Want, layout_answers};
 use super::structures::{Part, library_with};
+use samples::layouts::Filled::Boundary;
 use std::alloc::Global;
 use std::process::Abort;
 use std::thread::Threads;

@@ -1,7 +1,7 @@
-use super::layouts::{Plate, plates};
 use super::runs::Want::Short;
 use super::runs::{NO_SHORT, RADIUS_2, RADIUS_3, SHORT_32, Want, expect, layout_answers};
 use super::tables::{SplicedRow, expect_spliced};
+use samples::layouts::{Plate, plates};
 
 /// The report on the two bars.
 pub const BARS_REPORT: Want = Want::Text(

@@ -1,7 +1,7 @@
 //! Changes of the two bars' file, and the runs that try them.
 
-use super::layouts::spliced;
 use super::runs::{RADIUS_3, Want, expect, layout_answers};
+use samples::layouts::spliced;
 use std::alloc::Global;
 use std::process::Abort;
 use std::thread::Threads;

@@ -2,9 +2,9 @@
 //! from 2r - 1 by 2r - 1 cells, and cuts a wire that is w cells wide from 2r - w rows, where these are some.
 
 use super::{AT_1, CUT, METALS, MapRow, MapText, expect_maps};
-use crate::layouts::Plate;
 use crate::reports::Report;
 use crate::runs::Want;
+use samples::layouts::Plate;
 
 /// A wire of 20 by 2 cells.
 const WIRE: Plate = (1, 0, (0, 0, 20, 2));
