@@ -44,14 +44,3 @@ impl Gauge for Counted {
         Ok(())
     }
 }
-
-/// Appends a gauge that counts there when it is dropped.
-pub fn push_counted(
-    alloc: Global,
-    gauges: &mut Vec<Box<dyn Gauge>>,
-    drops: &Arc<AtomicU64>,
-) -> Result<(), NoMemory> {
-    let counted = Counted::new(alloc, Arc::try_clone(drops)?);
-    gauges.push(Box::new(alloc, counted)?)?;
-    Ok(())
-}

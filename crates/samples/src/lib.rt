@@ -11,8 +11,8 @@ pub mod records;
 pub mod sides;
 mod two_bars;
 
-pub use counted::{Counted, push_counted};
-pub use gauge_kinds::{GaugeKind, push_kinds};
+pub use counted::Counted;
+pub use gauge_kinds::GaugeKind;
 pub use holding_gate::{FEW_TURNS, HoldFirst, MOST_TICKETS, USUAL_TURNS};
 pub use hostile::{Mute, Silent, Tight};
 pub use two_bars::TWO_BARS;

@@ -1,9 +1,10 @@
 //! Runs with other gauges than those of the program, of which some refuse.
 
+use super::gauge_kinds::push_kinds;
 use super::runs::{Answer, Failing, Given, RADIUS_3, calm, expect, run_told};
 use gauges::{Gauge, append_texts};
 use lists::NoMemory;
-use samples::{GaugeKind, TWO_BARS, push_counted, push_kinds};
+use samples::{Counted, GaugeKind, TWO_BARS};
 use std::alloc::Global;
 use std::sync::Arc;
 use std::sync::atomic::{AtomicU64, Ordering};
@@ -205,6 +206,17 @@ fn go_on(rt: &(impl Threads + Sync), alloc: Global, gauges: &mut Vec<Box<dyn Gau
 fn gauges_go_on_from_run_to_run(rt: HostRuntime) {
     let mut gauges: Vec<Box<dyn Gauge>> = Vec::new(rt.alloc());
     assert!(rt; go_on(&rt, rt.alloc(), &mut gauges));
+}
+
+/// Appends a gauge that counts there when it is dropped.
+pub fn push_counted(
+    alloc: Global,
+    gauges: &mut Vec<Box<dyn Gauge>>,
+    drops: &Arc<AtomicU64>,
+) -> Result<(), NoMemory> {
+    let counted = Counted::new(alloc, Arc::try_clone(drops)?);
+    gauges.push(Box::new(alloc, counted)?)?;
+    Ok(())
 }
 
 /// How many of two gauges were dropped after a run. Their list is dropped behind it.

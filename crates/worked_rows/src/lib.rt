@@ -8,6 +8,8 @@ mod covers;
 #[cfg(test)]
 mod failures;
 #[cfg(test)]
+mod gauge_kinds;
+#[cfg(test)]
 mod gauged;
 #[cfg(test)]
 mod grammar;

@@ -1,9 +1,10 @@
+use super::gauge_kinds::push_kinds;
 use super::reports::{Report, text_of};
 use critarea_core::{Gate, NoGate, Word, run};
 use edge_io::{Files, MemFiles, MemSink};
 use gauges::Gauge;
 use lists::{Name, NoMemory};
-use samples::{GaugeKind, push_kinds};
+use samples::GaugeKind;
 use std::alloc::{AllocError, Global};
 use std::process::Abort;
 use std::thread::Threads;

@@ -2,10 +2,21 @@ use crate::rows::{TWO_METALS, rows_of};
 use gauges::{Gauge, append_texts, tell};
 use lists::NoMemory;
 use report::Row;
-use samples::push_counted;
+use samples::Counted;
 use std::alloc::Global;
 use std::sync::Arc;
 use std::sync::atomic::{AtomicU64, Ordering};
+
+/// Appends a gauge that counts there when it is dropped.
+pub fn push_counted(
+    alloc: Global,
+    gauges: &mut Vec<Box<dyn Gauge>>,
+    drops: &Arc<AtomicU64>,
+) -> Result<(), NoMemory> {
+    let counted = Counted::new(alloc, Arc::try_clone(drops)?);
+    gauges.push(Box::new(alloc, counted)?)?;
+    Ok(())
+}
 
 /// How many of two gauges were dropped after these rows were told and texts printed. Their list is dropped behind it.
 fn dropped_by_telling(
