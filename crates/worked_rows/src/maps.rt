@@ -9,7 +9,7 @@ macro_rules! rows {
 
 /// A report like another one: the rows that are not 0, with their radii and areas; the totals of shorts, of opens and of vias,
 /// and of all; and the peak, with its radius and its product.
-macro_rules! report {
+macro_rules! areas {
     ($like:ident: $($layer:literal $radius:literal $area:literal),*; $shorts:literal $opens:literal $vias:literal $all:literal;
         $peak:literal $size:literal $sum:literal) => {
         Want::Rows(Report {

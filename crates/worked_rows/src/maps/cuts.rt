@@ -52,29 +52,29 @@ const CUTS: &[MapRow] = rows! {
     // Two bars under a strap. A contact joins the lower one to the strap, and nothing the upper one: so a defect between the
     // bars makes a short, in 6 rows of 20 columns. The contact is 2 by 2 cells.
     &[(1, 0, (0, 0, 10, 4)), (1, 0, (0, 8, 10, 12)), (3, 0, (0, 0, 4, 12)), (2, 0, (0, 0, 2, 2))], MAP_AT_5
-        => report!(AT_5: "short m1" 5 120, "via v1" 5 64; 120 0 64 184; "short m1" 5 120);
+        => areas!(AT_5: "short m1" 5 120, "via v1" 5 64; 120 0 64 184; "short m1" 5 120);
     // A contact on each bar: the bars are one net, and there are two clusters, 8 cells apart.
     &[(1, 0, (0, 0, 10, 4)), (1, 0, (0, 8, 10, 12)), (3, 0, (0, 0, 4, 12)), (2, 0, (0, 0, 2, 2)), (2, 0, (0, 8, 2, 10))],
-        MAP_AT_5 => report!(AT_5: "via v1" 5 128; 0 0 128 128; "via v1" 5 128);
+        MAP_AT_5 => areas!(AT_5: "via v1" 5 128; 0 0 128 128; "via v1" 5 128);
     // One contact of 2 by 2 cells.
     &[(1, 0, (0, 0, 2, 2)), (2, 0, (0, 0, 2, 2)), (3, 0, (0, 0, 2, 2))], MAP_AT_1_AND_2
-        => report!(AT_1_AND_2: "via v1" 2 4; 0 0 4 4; "via v1" 2 4);
+        => areas!(AT_1_AND_2: "via v1" 2 4; 0 0 4 4; "via v1" 2 4);
     // Two contacts between the same two bars are one cluster of 6 by 2 cells.
     &[(1, 0, (0, 0, 6, 2)), (3, 0, (0, 0, 6, 2)), (2, 0, (0, 0, 2, 2)), (2, 0, (4, 0, 6, 2))], MAP_AT_3_AND_4
-        => report!(AT_3_AND_4: "via v1" 4 12; 0 0 12 12; "via v1" 4 12);
+        => areas!(AT_3_AND_4: "via v1" 4 12; 0 0 12 12; "via v1" 4 12);
     // Each under a square of its own they are two clusters. At the radius 3 each is covered from 4 by 4 cells, which have none in
     // common, and at the radius 4 from 6 by 6, of which 2 by 6 are the same. The squares are one net, through the bar below.
     &[(1, 0, (0, 0, 6, 2)), (3, 0, (0, 0, 2, 2)), (3, 0, (4, 0, 6, 2)), (2, 0, (0, 0, 2, 2)), (2, 0, (4, 0, 6, 2))],
-        MAP_AT_3_AND_4 => report!(AT_3_AND_4: "via v1" 3 32, "via v1" 4 60; 0 0 92 92; "via v1" 4 60);
+        MAP_AT_3_AND_4 => areas!(AT_3_AND_4: "via v1" 3 32, "via v1" 4 60; 0 0 92 92; "via v1" 4 60);
     // Without the upper metal a cut has no contact.
     &[(1, 0, (0, 0, 2, 2)), (2, 0, (0, 0, 2, 2))], MAP_AT_1_AND_2 => Want::Rows(AT_1_AND_2);
     // A cut over both bars with no upper metal joins nothing: the bars are still two nets, and no via is there.
     &[(1, 0, (0, 0, 10, 4)), (1, 0, (0, 8, 10, 12)), (2, 0, (0, 0, 2, 12))], MAP_AT_5
-        => report!(AT_5: "short m1" 5 120; 120 0 0 120; "short m1" 5 120);
+        => areas!(AT_5: "short m1" 5 120; 120 0 0 120; "short m1" 5 120);
     // Three metals and three cuts, which have their rows in the order of the map. The contact of v3 is 4 by 2 cells,
     // covered from 2 by 4, that of v1 is 2 by 2 cells, covered from 4 by 4, and v2 has none.
     &[(1, 0, (0, 0, 6, 6)), (3, 0, (0, 0, 6, 6)), (5, 0, (0, 0, 6, 6)), (2, 0, (0, 0, 2, 2)), (4, 0, (0, 0, 4, 2))],
-        THREE_METALS => report!(OF_THREE: "via v3" 3 8, "via v1" 3 16; 0 0 24 24; "via v1" 3 16);
+        THREE_METALS => areas!(OF_THREE: "via v3" 3 8, "via v1" 3 16; 0 0 24 24; "via v1" 3 16);
 };
 
 #[test]

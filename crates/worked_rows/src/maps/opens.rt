@@ -73,12 +73,12 @@ const OF_METALS: Report = Report {
 const NO_OPEN: Want = Want::Rows(AT_2);
 
 /// Where defects of radius 2 cut the wire: the second row of the table below says how these are 50 cells.
-const WIRE_CUT: Want = report!(AT_2: "open m1" 2 50; 0 50 0 50; "open m1" 2 50);
+const WIRE_CUT: Want = areas!(AT_2: "open m1" 2 50; 0 50 0 50; "open m1" 2 50);
 
 /// Rectangles, a map with terminals, and the report.
 const OPENS: &[MapRow] = rows! {
     // A defect of 2 by 2 cells leaves half a row of the wire on one side at least. Each terminal is covered from its own cell.
-    &[WIRE], RADIUS_1 => report!(AT_1: "open m1" 1 2; 0 2 0 2; "open m1" 1 2);
+    &[WIRE], RADIUS_1 => areas!(AT_1: "open m1" 1 2; 0 2 0 2; "open m1" 1 2);
     // A defect of 4 by 4 cells cuts the wire from rows 0 and 1: in columns 0 to 19 these are 40 cells. Each terminal is
     // covered from 3 by 3 cells, of which 5 at either end are not among the 40.
     &[WIRE], RADIUS_2 => WIRE_CUT;
@@ -91,17 +91,17 @@ const OPENS: &[MapRow] = rows! {
     &[WIRE], ONE_TERMINAL => NO_OPEN;
     // Where one side of the frame is cut the other leads on, so terminals are parted where one is covered: 9 cells each.
     &[(1, 0, (0, 0, 20, 2)), (1, 0, (0, 18, 20, 20)), (1, 0, (0, 2, 2, 18)), (1, 0, (18, 2, 20, 18))], ON_A_FRAME
-        => report!(AT_2: "open m1" 2 18; 0 18 0 18; "open m1" 2 18);
+        => areas!(AT_2: "open m1" 2 18; 0 18 0 18; "open m1" 2 18);
     // Each metal has terminals of its own: each of the four is covered from its own cell alone.
     &[WIRE, SECOND], ON_BOTH_METALS
-        => report!(OF_METALS: "open m1" 1 2, "open m2" 1 2; 0 4 0 4; "open m1" 1 2);
+        => areas!(OF_METALS: "open m1" 1 2, "open m2" 1 2; 0 4 0 4; "open m1" 1 2);
     // Terminals of two islands are not joined to begin with: nothing is parted.
     &[(1, 0, (0, 0, 9, 2)), (1, 0, (13, 0, 20, 2))], RADIUS_2 => NO_OPEN;
     // terminals_on_two_islands_of_one_net: a bar of the second metal makes them one net, through a contact on each. Still no
     // defect parts them, though it covers the one or cuts its island, and none that touches both islands makes a short. The
     // contacts lie on two islands, so they are two clusters, and each is covered from 2 by 2 cells.
     &[(1, 0, (0, 0, 9, 2)), (1, 0, (11, 0, 20, 2)), (3, 0, (0, 0, 20, 2)), CONTACT, FAR_CONTACT], RADIUS_2
-        => report!(AT_2: "via v1" 2 8; 0 0 8 8; "via v1" 2 8);
+        => areas!(AT_2: "via v1" 2 8; 0 0 8 8; "via v1" 2 8);
 };
 
 #[test]
