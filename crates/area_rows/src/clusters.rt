@@ -2,5 +2,4 @@
 
 mod box_rows;
 mod group_rows;
-mod layouts;
 mod many_rows;

@@ -1,21 +1,31 @@
-//! Worked rows on areas, and on what is counted or cut out on the way to them: defects that part terminals, unions, vias,
+//! Worked rows on areas, and on what is counted or cut out on the way to them: nets, defects that part terminals, unions, vias,
 //! clusters of contacts, runs and sweeps. Each row's answer was worked out by hand. The crate has tests alone.
 #![tactic(auto)]
 
+#[cfg(test)]
+mod chain_rows;
 #[cfg(test)]
 mod clusters;
 #[cfg(test)]
 mod depth;
 #[cfg(test)]
+mod flood;
+#[cfg(test)]
+mod flood_rows;
+#[cfg(test)]
+mod large_lists;
+#[cfg(test)]
 mod many;
+#[cfg(test)]
+mod many_squares;
+#[cfg(test)]
+mod net_rows;
 #[cfg(test)]
 mod nets;
 #[cfg(test)]
 mod opens;
 #[cfg(test)]
 mod runs;
-#[cfg(test)]
-mod sides;
 #[cfg(test)]
 mod sweeps;
 #[cfg(test)]

@@ -1,5 +1,5 @@
-use super::sides::{Sides, rects_of};
 use islands::label;
+use samples::sides::{Sides, rects_of};
 use std::alloc::Global;
 
 /// Whether the rectangles with these sides have these labels.

@@ -1,7 +1,7 @@
 //! Areas of shorts where one label has most of the zones: bars that cross, with squares of other labels beside them.
 
-use super::sides::{Sides, rect_of};
 use geo_core::{Labelled, Rect};
+use samples::sides::{Sides, rect_of};
 use short_area::short_area;
 use std::alloc::Global;
 

@@ -3,37 +3,21 @@
 #![tactic(auto)]
 
 #[cfg(test)]
-mod chain_rows;
-#[cfg(test)]
 mod class_rows;
 #[cfg(test)]
 mod deep_areas;
 #[cfg(test)]
-mod flood;
-#[cfg(test)]
-mod flood_rows;
-#[cfg(test)]
 mod island_rows;
-#[cfg(test)]
-mod large_lists;
 #[cfg(test)]
 mod led_areas;
 #[cfg(test)]
 mod link_rows;
-#[cfg(test)]
-mod many_squares;
-#[cfg(test)]
-mod net_rows;
-#[cfg(test)]
-mod nets;
 #[cfg(test)]
 mod rect_lists;
 #[cfg(test)]
 mod rects;
 #[cfg(test)]
 mod short_areas;
-#[cfg(test)]
-mod sides;
 #[cfg(test)]
 mod touch_rows;
 #[cfg(test)]

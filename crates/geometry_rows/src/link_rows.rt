@@ -1,7 +1,7 @@
 //! Many rectangles that lie on one another, beside one another or across one another, and their labels.
 
-use super::sides::{Sides, rects_of};
 use islands::label;
+use samples::sides::{Sides, rects_of};
 use std::alloc::Global;
 use touch_sweep::touch_links;
 

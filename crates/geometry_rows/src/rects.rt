@@ -1,5 +1,5 @@
-use super::sides::{Sides, rect_of};
 use geo_core::{Axis, Rect, clip, grow, join, overlaps, touches};
+use samples::sides::{Sides, rect_of};
 
 /// Whether this square and the other rectangle have just these cells in common, and touch or not, whichever of the two
 /// comes first.

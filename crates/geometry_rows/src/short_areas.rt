@@ -1,5 +1,5 @@
-use super::sides::{Sides, rect_of};
 use geo_core::{Labelled, Rect};
+use samples::sides::{Sides, rect_of};
 use short_area::short_area;
 use std::alloc::Global;
 

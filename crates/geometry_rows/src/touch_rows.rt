@@ -1,5 +1,5 @@
-use super::sides::{Sides, rects_of};
 use geo_core::{FARTHEST_GROWN, NoMemory, Rect, overlaps, touches};
+use samples::sides::{Sides, rects_of};
 use std::alloc::{AllocError, Global};
 use touch_sweep::{meetings, touch_links, touch_pairs};
 

@@ -36,7 +36,6 @@ macro_rules! placement {
 mod accepted;
 mod bad_input;
 mod names;
-mod records;
 mod refusals;
 mod same;
 mod streams;

@@ -8,5 +8,3 @@ mod covers;
 mod generated;
 #[cfg(test)]
 mod places;
-#[cfg(test)]
-mod stream;

@@ -1,23 +1,39 @@
 //! Shapes of every kind: outlines that wind more than once, boxes, and paths with each kind of end.
 
-use super::layouts::{Filled, Plate, Wire};
 use super::rows::RIGHT;
-use super::runs::Want::BadLayout;
-use super::runs::{RADIUS_3, SHORT_32, Want};
-use super::structures::Part;
-use super::tables::{LibraryRow, expect_libraries};
+use super::runs::Want::{BadLayout, Short};
+use super::runs::{RADIUS_2, RADIUS_3, RADIUS_4, SHORT_32, Want, expect, layout_answers};
+use super::structures::{Part, library_with};
+use samples::layouts::{Filled, Plate, Wire};
+use std::alloc::Global;
+use std::thread::Threads;
 
-/// The words that ask for layer 1 and datatype 0 at the radius 2.
-const RADIUS_2: &str = "a --layer 1 --datatype 0 --radius 2";
+/// Whether a run of these words on this part and a rectangle behind it answers so.
+fn part_answers(
+    rt: &(impl Threads + Sync),
+    alloc: Global,
+    words: &str,
+    part: Part<'_>,
+    beside: Plate,
+    want: &Want,
+) -> bool {
+    let layout = library_with(alloc, &[part, Part::Plate(beside)], &[]);
+    layout_answers(rt, alloc, words, layout, want)
+}
+
+/// To the right and then up, and the same with points that say nothing.
+const CORNER: &[(i32, i32)] = &[(0, 0), (10, 0), (10, 10)];
+
+const REPEATED: &[(i32, i32)] = &[(0, 0), (0, 0), (4, 0), (10, 0), (10, 0), (10, 3), (10, 10)];
 
 /// A path 4 wide, to the right and then up. Its ends are flush.
-const WIRE: Wire = (0, 4, (0, 0), &[(0, 0), (10, 0), (10, 10)]);
+const WIRE: Wire<'_> = (0, 4, (0, 0), CORNER);
 
 /// The same with ends half a width further.
-const SQUARE_ENDS: Wire = (2, 4, (0, 0), &[(0, 0), (10, 0), (10, 10)]);
+const SQUARE_ENDS: Wire<'_> = (2, 4, (0, 0), CORNER);
 
 /// The same with ends of its own: half a width further at the first point, and 1 less at the last.
-const OWN_ENDS: Wire = (4, 4, (2, -1), &[(0, 0), (10, 0), (10, 10)]);
+const OWN_ENDS: Wire<'_> = (4, 4, (2, -1), CORNER);
 
 /// A square to the left of the path's first point: it is 2 from ends half a width further, and 4 from flush ones.
 const BEFORE: Plate = (1, 0, (-8, -2, -4, 2));
@@ -30,234 +46,63 @@ const ROUND_THE_CORNER: Plate = (1, 0, (14, -8, 18, -4));
 
 /// Paths, each with a rectangle beside it, and the area of shorts. A path whose end is 2 from the rectangle has 2 columns,
 /// or rows, of 8 cells in common with it where both are grown by 2.
-const WIRES: &[LibraryRow] = &[
-    (
-        &[Part::Wire(WIRE), Part::Plate(BEFORE)],
-        &[],
-        RADIUS_2,
-        Want::Short(2, 0),
-    ),
-    (
-        &[Part::Wire(SQUARE_ENDS), Part::Plate(BEFORE)],
-        &[],
-        RADIUS_2,
-        Want::Short(2, 16),
-    ),
-    (
-        &[Part::Wire(OWN_ENDS), Part::Plate(BEFORE)],
-        &[],
-        RADIUS_2,
-        Want::Short(2, 16),
-    ),
-    (
-        &[Part::Wire(WIRE), Part::Plate(BEHIND)],
-        &[],
-        RADIUS_2,
-        Want::Short(2, 0),
-    ),
-    (
-        &[Part::Wire(SQUARE_ENDS), Part::Plate(BEHIND)],
-        &[],
-        RADIUS_2,
-        Want::Short(2, 16),
-    ),
-    (
-        &[Part::Wire(OWN_ENDS), Part::Plate(BEHIND)],
-        &[],
-        RADIUS_2,
-        Want::Short(2, 0),
-    ),
+const WIRES: &[(Wire<'_>, Plate, u64)] = &[
+    (WIRE, BEFORE, 0),
+    (SQUARE_ENDS, BEFORE, 16),
+    (OWN_ENDS, BEFORE, 16),
+    (WIRE, BEHIND, 0),
+    (SQUARE_ENDS, BEHIND, 16),
+    (OWN_ENDS, BEHIND, 0),
     // both pieces reach half a width past the corner, which fills [10,12)x[-2,0): then [12,14)x[-4,-2) is near both
-    (
-        &[Part::Wire(WIRE), Part::Plate(ROUND_THE_CORNER)],
-        &[],
-        RADIUS_2,
-        Want::Short(2, 4),
-    ),
+    (WIRE, ROUND_THE_CORNER, 4),
     // a sign of the width says nothing of the shape
-    (
-        &[
-            Part::Wire((2, -4, (0, 0), &[(0, 0), (10, 0), (10, 10)])),
-            Part::Plate(BEFORE),
-        ],
-        &[],
-        RADIUS_2,
-        Want::Short(2, 16),
-    ),
+    ((2, -4, (0, 0), CORNER), BEFORE, 16),
     // repeated points and points on the way say nothing either
-    (
-        &[
-            Part::Wire((
-                2,
-                4,
-                (0, 0),
-                &[(0, 0), (0, 0), (4, 0), (10, 0), (10, 0), (10, 3), (10, 10)],
-            )),
-            Part::Plate(BEFORE),
-        ],
-        &[],
-        RADIUS_2,
-        Want::Short(2, 16),
-    ),
+    ((2, 4, (0, 0), REPEATED), BEFORE, 16),
     // without a width it covers nothing, whatever its points and ends
-    (
-        &[
-            Part::Wire((0, 0, (0, 0), &[(0, 0), (10, 0), (10, 10)])),
-            Part::Plate(BEFORE),
-        ],
-        &[],
-        RADIUS_2,
-        Want::Short(2, 0),
-    ),
-    (
-        &[
-            Part::Wire((1, 0, (0, 0), &[(0, 0), (3, 4), (0, 0)])),
-            Part::Plate(BEFORE),
-        ],
-        &[],
-        RADIUS_2,
-        Want::Short(2, 0),
-    ),
+    ((0, 0, (0, 0), CORNER), BEFORE, 0),
+    ((1, 0, (0, 0), &[(0, 0), (3, 4), (0, 0)]), BEFORE, 0),
 ];
 
 #[test]
 fn paths_cover_their_pieces(rt: HostRuntime) {
-    expect_libraries(&rt, rt.alloc(), WIRES);
+    for (number, (wire, beside, area)) in WIRES.iter().enumerate() {
+        let wire = Part::Wire(*wire);
+        let want = Short(2, *area);
+        let holds = part_answers(&rt, rt.alloc(), RADIUS_2, wire, *beside, &want);
+        expect(&rt, holds, number);
+    }
 }
 
 /// Paths that have no cover, and what is wrong. Where several things are, the order of the checks decides.
-const REFUSED: &[LibraryRow] = &[
-    (
-        &[
-            Part::Wire((1, 4, (0, 0), &[(0, 0), (10, 0), (10, 10)])),
-            Part::Plate(BEFORE),
-        ],
-        &[],
-        RADIUS_2,
-        BadLayout(32, 94),
-    ),
-    (
-        &[
-            Part::Wire((3, 4, (0, 0), &[(0, 0), (10, 0), (10, 10)])),
-            Part::Plate(BEFORE),
-        ],
-        &[],
-        RADIUS_2,
-        BadLayout(35, 94),
-    ),
-    (
-        &[
-            Part::Wire((0, 5, (0, 0), &[(0, 0), (10, 0), (10, 10)])),
-            Part::Plate(BEFORE),
-        ],
-        &[],
-        RADIUS_2,
-        BadLayout(33, 94),
-    ),
-    (
-        &[
-            Part::Wire((0, 4, (0, 0), &[(0, 0), (0, 0)])),
-            Part::Plate(BEFORE),
-        ],
-        &[],
-        RADIUS_2,
-        BadLayout(36, 94),
-    ),
-    (
-        &[Part::Wire((0, 4, (0, 0), &[(0, 0)])), Part::Plate(BEFORE)],
-        &[],
-        RADIUS_2,
-        BadLayout(36, 94),
-    ),
-    (
-        &[
-            Part::Wire((0, 4, (0, 0), &[(0, 0), (3, 4)])),
-            Part::Plate(BEFORE),
-        ],
-        &[],
-        RADIUS_2,
-        BadLayout(31, 94),
-    ),
-    (
-        &[
-            Part::Wire((0, 4, (0, 0), &[(0, 0), (10, 0), (4, 0)])),
-            Part::Plate(BEFORE),
-        ],
-        &[],
-        RADIUS_2,
-        BadLayout(34, 94),
-    ),
+const REFUSED: &[(Wire<'_>, u8)] = &[
+    ((1, 4, (0, 0), CORNER), 32),
+    ((3, 4, (0, 0), CORNER), 35),
+    ((0, 5, (0, 0), CORNER), 33),
+    ((0, 4, (0, 0), &[(0, 0), (0, 0)]), 36),
+    ((0, 4, (0, 0), &[(0, 0)]), 36),
+    ((0, 4, (0, 0), &[(0, 0), (3, 4)]), 31),
+    ((0, 4, (0, 0), &[(0, 0), (10, 0), (4, 0)]), 34),
     // what its extension takes away, and all that there is
-    (
-        &[
-            Part::Wire((4, 4, (-12, 0), &[(0, 0), (10, 0)])),
-            Part::Plate(BEFORE),
-        ],
-        &[],
-        RADIUS_2,
-        BadLayout(35, 94),
-    ),
-    (
-        &[
-            Part::Wire((4, 4, (-10, 0), &[(0, 0), (10, 0)])),
-            Part::Plate(BEFORE),
-        ],
-        &[],
-        RADIUS_2,
-        BadLayout(35, 94),
-    ),
+    ((4, 4, (-12, 0), &[(0, 0), (10, 0)]), 35),
+    ((4, 4, (-10, 0), &[(0, 0), (10, 0)]), 35),
     // half a width past the farthest point
-    (
-        &[
-            Part::Wire((2, 4, (0, 0), &[(999_999_999, 0), (1_000_000_000, 0)])),
-            Part::Plate(BEFORE),
-        ],
-        &[],
-        RADIUS_2,
-        BadLayout(30, 94),
-    ),
+    ((2, 4, (0, 0), &[(999_999_999, 0), (1_000_000_000, 0)]), 30),
     // round ends come first, then unknown ends, an odd width, and a way back before a piece that is eaten up
-    (
-        &[
-            Part::Wire((1, 5, (0, 0), &[(0, 0), (10, 0), (10, 10)])),
-            Part::Plate(BEFORE),
-        ],
-        &[],
-        RADIUS_2,
-        BadLayout(32, 94),
-    ),
-    (
-        &[
-            Part::Wire((3, 5, (0, 0), &[(0, 0), (10, 0), (10, 10)])),
-            Part::Plate(BEFORE),
-        ],
-        &[],
-        RADIUS_2,
-        BadLayout(35, 94),
-    ),
-    (
-        &[
-            Part::Wire((0, 5, (0, 0), &[(0, 0), (0, 0)])),
-            Part::Plate(BEFORE),
-        ],
-        &[],
-        RADIUS_2,
-        BadLayout(33, 94),
-    ),
-    (
-        &[
-            Part::Wire((4, 4, (-12, 0), &[(0, 0), (10, 0), (4, 0)])),
-            Part::Plate(BEFORE),
-        ],
-        &[],
-        RADIUS_2,
-        BadLayout(34, 94),
-    ),
+    ((1, 5, (0, 0), CORNER), 32),
+    ((3, 5, (0, 0), CORNER), 35),
+    ((0, 5, (0, 0), &[(0, 0), (0, 0)]), 33),
+    ((4, 4, (-12, 0), &[(0, 0), (10, 0), (4, 0)]), 34),
 ];
 
 #[test]
 fn paths_without_a_cover_are_refused(rt: HostRuntime) {
-    expect_libraries(&rt, rt.alloc(), REFUSED);
+    for (number, (wire, fault)) in REFUSED.iter().enumerate() {
+        let wire = Part::Wire(*wire);
+        let want = BadLayout(*fault, 94);
+        let holds = part_answers(&rt, rt.alloc(), RADIUS_2, wire, BEFORE, &want);
+        expect(&rt, holds, number);
+    }
 }
 
 /// The left bar, of which `[4,10)x[0,10)` is wound round twice.
@@ -297,60 +142,25 @@ const MIDDLE: Plate = (1, 0, (8, 8, 12, 12));
 /// An L whose sides are 4 wide.
 const ANGLE: &[(i32, i32)] = &[(0, 0), (10, 0), (10, 4), (4, 4), (4, 10), (0, 10), (0, 0)];
 
-/// Outlines, each of a boundary and of a box, with a rectangle beside it, a radius, and the area of shorts.
-const OUTLINES: &[LibraryRow] = &[
+/// Outlines, each of a boundary and of a box, a rectangle beside them, words, and the area of shorts.
+const OUTLINES: &[(&[(i32, i32)], Plate, &str, Want)] = &[
     // what is wound twice is covered, as the left bar
-    (
-        &[
-            Part::Outline(Filled::Boundary, WOUND_TWICE),
-            Part::Plate(RIGHT),
-        ],
-        &[],
-        RADIUS_3,
-        SHORT_32,
-    ),
-    (
-        &[
-            Part::Outline(Filled::BoxElement, WOUND_TWICE),
-            Part::Plate(RIGHT),
-        ],
-        &[],
-        RADIUS_3,
-        SHORT_32,
-    ),
+    (WOUND_TWICE, RIGHT, RADIUS_3, SHORT_32),
     // Its inside is left open. [4,16)x[4,16) is near the square at radius 4, and of these 144 cells [6,14)x[6,14) are not
     // near the frame.
-    (
-        &[Part::Outline(Filled::Boundary, FRAME), Part::Plate(MIDDLE)],
-        &[],
-        "a --layer 1 --datatype 0 --radius 4",
-        Want::Short(4, 80),
-    ),
-    (
-        &[
-            Part::Outline(Filled::BoxElement, FRAME),
-            Part::Plate(MIDDLE),
-        ],
-        &[],
-        "a --layer 1 --datatype 0 --radius 4",
-        Want::Short(4, 80),
-    ),
+    (FRAME, MIDDLE, RADIUS_4, Short(4, 80)),
     // near both are [11,13)x[-3,7)
-    (
-        &[Part::Outline(Filled::Boundary, ANGLE), Part::Plate(RIGHT)],
-        &[],
-        RADIUS_3,
-        Want::Short(3, 20),
-    ),
-    (
-        &[Part::Outline(Filled::BoxElement, ANGLE), Part::Plate(RIGHT)],
-        &[],
-        RADIUS_3,
-        Want::Short(3, 20),
-    ),
+    (ANGLE, RIGHT, RADIUS_3, Short(3, 20)),
 ];
 
 #[test]
 fn outlines_cover_what_they_wind_round(rt: HostRuntime) {
-    expect_libraries(&rt, rt.alloc(), OUTLINES);
+    for (number, (points, beside, words, want)) in OUTLINES.iter().enumerate() {
+        let boundary = Part::Outline(Filled::Boundary, points);
+        let holds = part_answers(&rt, rt.alloc(), words, boundary, *beside, want);
+        expect(&rt, holds, number);
+        let box_element = Part::Outline(Filled::BoxElement, points);
+        let holds = part_answers(&rt, rt.alloc(), words, box_element, *beside, want);
+        expect(&rt, holds, number);
+    }
 }

@@ -1,5 +1,5 @@
-use super::layouts::TWO_BARS;
 use super::runs::{Failing, Given, RADIUS_3, SHORT_32, Want, answers, expect};
+use samples::TWO_BARS;
 
 /// A map of one metal of all shapes of layer 1 and datatype 0, for one radius.
 const MAP: &[u8] =

@@ -1,31 +1,19 @@
 //! Runs with other gauges than those of the program, of which some refuse.
 
-use super::layouts::TWO_BARS;
-use super::runs::{
-    Answer, Failing, Given, RADIUS_3, calm, expect, push_nonzero, push_peak, run_told,
-};
+use super::gauge_kinds::push_kinds;
+use super::runs::{Answer, Failing, Given, RADIUS_3, calm, expect, run_told};
 use gauges::{Gauge, append_texts};
-use hostile_gauges::{Counted, Mute, Silent, Tight};
 use lists::NoMemory;
-use std::alloc::{AllocError, Global};
+use samples::{Counted, GaugeKind, TWO_BARS};
+use std::alloc::Global;
 use std::sync::Arc;
 use std::sync::atomic::{AtomicU64, Ordering};
 use std::thread::Threads;
 
-/// The gauge that stands between `Nonzero` and `Peak`.
-#[derive(Clone, Copy)]
-enum Between {
-    /// It has room for so many rows.
-    Tight(usize),
-    /// It prints nothing.
-    Silent,
-    /// It refuses to print.
-    Mute,
-}
-
 /// A run on the two bars, or on no bytes.
 struct Row {
-    between: Between,
+    /// The gauge that stands between `Nonzero` and `Peak`.
+    between: GaugeKind,
     layout: &'static [u8],
     failing: Failing,
     status: u8,
@@ -54,7 +42,7 @@ const TOLD: &str = "nonzero 1 of 2\nseen 2 of 2\npeak short m r=3 sum=32\n";
 
 /// A run that nothing disturbs, and in which the gauges refuse nothing.
 const CALM: Row = Row {
-    between: Between::Tight(2),
+    between: GaugeKind::Tight(2),
     layout: TWO_BARS,
     failing: Failing::Nothing,
     status: 0,
@@ -73,24 +61,24 @@ const REFUSED: Row = Row {
 const ROWS: &[Row] = &[
     CALM,
     Row {
-        between: Between::Silent,
+        between: GaugeKind::Silent,
         lines: Some("nonzero 1 of 2\npeak short m r=3 sum=32\n"),
         after: "nonzero 1 of 2\npeak short m r=3 sum=32\n",
         ..CALM
     },
     // it refuses the first row, the second one, or to print
     Row {
-        between: Between::Tight(0),
+        between: GaugeKind::Tight(0),
         after: "nonzero 1 of 2\nseen 0 of 0\npeak none\n",
         ..REFUSED
     },
     Row {
-        between: Between::Tight(1),
+        between: GaugeKind::Tight(1),
         after: "nonzero 1 of 2\nseen 1 of 1\npeak none\n",
         ..REFUSED
     },
     Row {
-        between: Between::Mute,
+        between: GaugeKind::Mute,
         after: "nonzero 1 of 2\nmu",
         ..REFUSED
     },
@@ -126,27 +114,6 @@ const ROWS: &[Row] = &[
         ..CALM
     },
 ];
-
-/// A gauge of this kind, which has seen nothing.
-fn boxed(alloc: Global, between: Between) -> Result<Box<dyn Gauge>, AllocError> {
-    let gauge: Box<dyn Gauge> = match between {
-        Between::Tight(room) => Box::new(alloc, Tight::new(alloc, room))?,
-        Between::Silent => Box::new(alloc, Silent::new(alloc))?,
-        Between::Mute => Box::new(alloc, Mute::new(alloc))?,
-    };
-    Ok(gauge)
-}
-
-/// Appends `Nonzero`, this gauge, and `Peak` to the list.
-fn push_three(
-    alloc: Global,
-    between: Between,
-    gauges: &mut Vec<Box<dyn Gauge>>,
-) -> Result<(), AllocError> {
-    push_nonzero(alloc, gauges)?;
-    gauges.push(boxed(alloc, between)?)?;
-    push_peak(alloc, gauges)
-}
 
 /// Whether this is what the gauges print, as far as they print.
 fn are_printed(alloc: Global, gauges: &[Box<dyn Gauge>], text: &str) -> bool {
@@ -199,7 +166,8 @@ fn is_right(
     gauges: &mut Vec<Box<dyn Gauge>>,
     row: &Row,
 ) -> bool {
-    push_three(alloc, row.between, gauges).is_ok()
+    let kinds = [GaugeKind::Nonzero, row.between, GaugeKind::Peak];
+    push_kinds(alloc, gauges, &kinds).is_ok()
         && run_is_answered(rt, alloc, gauges, row)
         && are_printed(alloc, gauges.as_slice(), row.after)
 }
@@ -229,7 +197,7 @@ fn is_told(
 fn go_on(rt: &(impl Threads + Sync), alloc: Global, gauges: &mut Vec<Box<dyn Gauge>>) -> bool {
     is_told(rt, alloc, gauges, "")
         && is_told(rt, alloc, gauges, "")
-        && push_nonzero(alloc, gauges).is_ok()
+        && push_kinds(alloc, gauges, &[GaugeKind::Nonzero]).is_ok()
         && is_told(rt, alloc, gauges, "nonzero 1 of 2\n")
         && is_told(rt, alloc, gauges, "nonzero 2 of 4\n")
 }
@@ -241,7 +209,7 @@ fn gauges_go_on_from_run_to_run(rt: HostRuntime) {
 }
 
 /// Appends a gauge that counts there when it is dropped.
-fn push_counted(
+pub fn push_counted(
     alloc: Global,
     gauges: &mut Vec<Box<dyn Gauge>>,
     drops: &Arc<AtomicU64>,

@@ -2,12 +2,10 @@
 
 use super::runs::{NO_SHORT, SHORT_32, Want};
 use super::tables::{SplicedRow, expect_spliced};
+use samples::records::STRCLASS;
 
 /// A property, before the end of an element.
 const PROPERTY: &[u8] = b"\x00\x06\x2B\x02\x00\x01\x00\x06\x2C\x06A\x00";
-
-/// STRCLASS, behind the name of a structure.
-const CLASS: &[u8] = b"\x00\x06\x34\x01\x00\x00";
 
 /// An annotation on layer 1, with a magnification and a property.
 const ANNOTATION: &[u8] = b"\
@@ -52,7 +50,7 @@ const SECOND: &[u8] = b"\
 /// What is put into the file of the two bars, or stands in place of a part of it, and the answer.
 const ROWS: &[SplicedRow] = &[
     // read, and nothing is asked of it: behind the name, in the first element, and among the elements
-    (94, CLASS, 94, SHORT_32),
+    (94, STRCLASS, 94, SHORT_32),
     (154, PROPERTY, 154, SHORT_32),
     (94, ANNOTATION, 94, SHORT_32),
     (158, NODE, 158, SHORT_32),

@@ -1,10 +1,11 @@
-use super::layouts::{Plate, plates};
+use super::reports::Report;
 use super::runs::{
     Answer, Failing, RADIUS_3, Want, answers, expect, layout_answers, mapped, run_with,
 };
 use critarea_core::NoGate;
 use edge_io::{Failed, Files};
 use lists::NoMemory;
+use samples::layouts::{Plate, plates};
 use std::alloc::{AllocError, Global};
 use std::thread::Threads;
 
@@ -95,18 +96,13 @@ const ENDS: &[u8] = b"version=1\nradii=[3,6]\nweights=[1,1]\nmetal=[{name=\"m\",
 /// by 12 cells, and so columns of some square. From row 5 it cuts any of them, in the columns from -5 to 700,004; from row 4 those
 /// that are lower, from -5 to 699,995, and from row 6 those that are higher, as many. From 9 other rows it covers the first
 /// terminal, in 11 columns, and likewise the second: 700,010 + 2 * 700,001 + 2 * 99 cells.
-const ENDS_REPORT: Want = Want::Report(
-    "short m r=3 area=0 weight=1 sum=0\n\
-     short m r=6 area=0 weight=1 sum=0\n\
-     open m r=3 area=50 weight=1 sum=50\n\
-     open m r=6 area=2100210 weight=1 sum=2100210\n\
-     total short 0\n\
-     total open 2100260\n\
-     total via 0\n\
-     total 2100260\n\
-     peak open m r=6 sum=2100210\n\
-     nonzero 2 of 4\n",
-);
+const ENDS_REPORT: Want = Want::Rows(Report {
+    layers: &["short m", "open m"],
+    sizes: &[(3, 1), (6, 1)],
+    areas: &[("open m", 3, 50), ("open m", 6, 2_100_210)],
+    totals: [0, 2_100_260, 0, 2_100_260],
+    peak: ("open m", 6, 2_100_210),
+});
 
 /// Whether a run on so many touching squares with a terminal at either end answers so.
 fn island_answers(rt: &(impl Threads + Sync), alloc: Global) -> Result<bool, AllocError> {

@@ -9,19 +9,15 @@ mod analyses;
 #[cfg(test)]
 mod covers;
 #[cfg(test)]
-mod cuts;
-#[cfg(test)]
 mod failures;
 #[cfg(test)]
-mod gauged;
+mod gauge_kinds;
 #[cfg(test)]
-mod generated;
+mod gauged;
 #[cfg(test)]
 mod grammar;
 #[cfg(test)]
 mod large;
-#[cfg(test)]
-mod layouts;
 #[cfg(test)]
 mod long_reports;
 #[cfg(test)]
@@ -29,13 +25,13 @@ mod maps;
 #[cfg(test)]
 mod most_rows;
 #[cfg(test)]
-mod opens;
-#[cfg(test)]
 mod outline_runs;
 #[cfg(test)]
 mod placements;
 #[cfg(test)]
 mod records;
+#[cfg(test)]
+mod reports;
 #[cfg(test)]
 mod rows;
 #[cfg(test)]

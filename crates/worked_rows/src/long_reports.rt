@@ -1,85 +1,40 @@
 //! A report of more than 65,535 bytes: of 16 metals whose names are as long as may be, and of 32 radii.
 
-use super::layouts::layout_of;
+use super::most_rows::push_sizes;
 use super::runs::{Failing, Given, mapped, run_on};
 use critarea_core::NoGate;
+use samples::layouts::layout_of;
 use std::alloc::{AllocError, Global};
 use std::thread::Threads;
 
-/// The metals' numbers: each has a layer with its number.
-const METALS: &[&str] = &[
-    "10", "11", "12", "13", "14", "15", "16", "17", "18", "19", "20", "21", "22", "23", "24", "25",
-];
-
-/// The radii.
-const RADII: &[&str] = &[
-    "1000", "1001", "1002", "1003", "1004", "1005", "1006", "1007", "1008", "1009", "1010", "1011",
-    "1012", "1013", "1014", "1015", "1016", "1017", "1018", "1019", "1020", "1021", "1022", "1023",
-    "1024", "1025", "1026", "1027", "1028", "1029", "1030", "1031",
-];
-
-/// Appends these texts.
-fn push_texts(text: &mut String, texts: &[&str]) -> Result<(), AllocError> {
-    for one in texts {
-        text.push_str(one)?;
-    }
-    Ok(())
-}
-
-/// Appends a metal with its name and its layer.
-fn push_metal(text: &mut String, metal: &str) -> Result<(), AllocError> {
-    push_texts(
-        text,
-        &[
-            "[[metal]]\nname = \"metal_with_a_name_of_32_bytes_",
-            metal,
-            "\"\npairs = [[",
-            metal,
-            ", 0]]\n",
-        ],
-    )
-}
-
-/// Appends the map: the radii from 1,000 to 1,031, each with the weight 1, and the metals.
-fn push_map(text: &mut String) -> Result<(), AllocError> {
-    text.push_str("version = 1\nradii = [")?;
-    for radius in RADII {
-        push_texts(text, &[radius, ", "])?;
-    }
-    text.push_str("]\nweights = [1, 1, 1, 1, 1, 1, 1, 1, 1, 1, 1, 1, 1, 1, 1, 1, ")?;
-    text.push_str("1, 1, 1, 1, 1, 1, 1, 1, 1, 1, 1, 1, 1, 1, 1, 1, ]\n")
-}
-
-/// Appends the metals.
-fn push_metals(text: &mut String) -> Result<(), AllocError> {
-    for metal in METALS {
-        push_metal(text, metal)?;
+/// Appends the metals, of which each has the layer with its number.
+fn push_metals(map: &mut String) -> Result<(), AllocError> {
+    for metal in 10..26 {
+        write!(
+            map,
+            "[[metal]]\nname = \"metal_with_a_name_of_32_bytes_{metal}\"\n"
+        )?;
+        write!(map, "pairs = [[{metal}, 0]]\n")?;
     }
     Ok(())
 }
 
 /// Appends the rows of a kind of fault on a metal without shapes.
-fn push_rows_of(text: &mut String, kind: &str, metal: &str) -> Result<(), AllocError> {
-    for radius in RADII {
-        push_texts(
-            text,
-            &[
-                kind,
-                " metal_with_a_name_of_32_bytes_",
-                metal,
-                " r=",
-                radius,
-                " area=0 weight=1 sum=0\n",
-            ],
+fn push_rows_of(report: &mut String, kind: &str, metal: u32) -> Result<(), AllocError> {
+    for radius in 1000..1032 {
+        write!(
+            report,
+            "{kind} metal_with_a_name_of_32_bytes_{metal} r={radius} "
         )?;
+        report.push_str("area=0 weight=1 sum=0\n")?;
     }
     Ok(())
 }
 
 /// Appends the rows of a kind of fault on no shapes.
-fn push_rows(text: &mut String, kind: &str) -> Result<(), AllocError> {
-    for metal in METALS {
-        push_rows_of(text, kind, metal)?;
+fn push_rows(report: &mut String, kind: &str) -> Result<(), AllocError> {
+    for metal in 10..26 {
+        push_rows_of(report, kind, metal)?;
     }
     Ok(())
 }
@@ -97,7 +52,7 @@ nonzero 0 of 1024
 /// Appends the map and the report. A row of shorts has 68 bytes, one of opens 67, the totals have 47, and the gauges 75:
 /// 69,242 bytes.
 fn push_both(map: &mut String, report: &mut String) -> Result<(), AllocError> {
-    push_map(map)?;
+    push_sizes(map)?;
     push_metals(map)?;
     push_rows(report, "short")?;
     push_rows(report, "open")?;

@@ -1,6 +1,35 @@
-use super::layouts::{Plate, TWO_BARS, plates};
+//! Layer maps and their reports, or what is refused, whatever the tiles and the workers.
+
+/// A table of rows: rectangles, a map, and the answer.
+macro_rules! rows {
+    ($($shapes:expr, $map:expr => $want:expr;)*) => {
+        &[$(($shapes, $map, $want)),*]
+    };
+}
+
+/// A report like another one: the rows that are not 0, with their radii and areas; the totals of shorts, of opens and of vias,
+/// and of all; and the peak, with its radius and its product.
+macro_rules! areas {
+    ($like:ident: $($layer:literal $radius:literal $area:literal),*; $shorts:literal $opens:literal $vias:literal $all:literal;
+        $peak:literal $size:literal $sum:literal) => {
+        Want::Rows(Report {
+            areas: &[$(($layer, $radius, $area)),*],
+            totals: [$shorts, $opens, $vias, $all],
+            peak: ($peak, $size, $sum),
+            ..$like
+        })
+    };
+}
+
+mod cuts;
+pub mod generated;
+mod opens;
+
+use super::reports::Report;
 use super::rows::{LEFT, RIGHT};
 use super::runs::{Failing, Given, Want, answers, expect, mapped};
+use samples::TWO_BARS;
+use samples::layouts::{Plate, plates};
 use std::alloc::Global;
 use std::process::Abort;
 use std::thread::Threads;
@@ -34,14 +63,35 @@ fn each_of_words_answers(
     true
 }
 
+/// The parts of a map's text.
+pub type MapText = &'static [&'static [u8]];
+
 /// Rectangles, a map, and the answer.
-pub type MapRow = (&'static [Plate], &'static [u8], Want);
+pub type MapRow = (&'static [Plate], MapText, Want);
+
+/// Two metals.
+pub const METALS: &[u8] = b"metal=[{name=\"m1\",pairs=[[1,0]]},{name=\"m2\",pairs=[[3,0]]}]\n";
+
+/// A cut between the two.
+pub const CUT: &[u8] = b"cut=[{name=\"v1\",pairs=[[2,0]],lower=\"m1\",upper=\"m2\"}]\n";
+
+/// A report on two metals and a cut without areas at the radius 1.
+pub const AT_1: Report = Report {
+    layers: &["short m1", "short m2", "open m1", "open m2", "via v1"],
+    sizes: &[(1, 1)],
+    areas: &[],
+    totals: [0, 0, 0, 0],
+    peak: ("short m1", 1, 0),
+};
 
 /// Whether runs on the rectangles with this map answer as the row says.
 fn map_answers(rt: &(impl Threads + Sync), alloc: Global, row: &MapRow) -> bool {
     let (shapes, map, want) = row;
+    let Ok(map) = map.concat(alloc) else {
+        return false;
+    };
     match plates(alloc, shapes) {
-        Ok(layout) => each_of_words_answers(rt, alloc, layout.as_slice(), map, want),
+        Ok(layout) => each_of_words_answers(rt, alloc, layout.as_slice(), map.as_slice(), want),
         Err(_) => false,
     }
 }
@@ -75,58 +125,49 @@ const REPORTS: &[MapRow] = &[
     // Each radius has its own weight, and all shorts stand before all opens.
     (
         &[LEFT, RIGHT],
-        b"version = 1\nradii = [2, 3]\nweights = [10, 1]\n[[metal]]\nname = \"m1\"\npairs = [[1, 0]]\n",
-        Want::Report(
-            "short m1 r=2 area=0 weight=10 sum=0\n\
-             short m1 r=3 area=32 weight=1 sum=32\n\
-             open m1 r=2 area=0 weight=10 sum=0\n\
-             open m1 r=3 area=0 weight=1 sum=0\n\
-             total short 32\n\
-             total open 0\n\
-             total via 0\n\
-             total 32\n\
-             peak short m1 r=3 sum=32\n\
-             nonzero 1 of 4\n",
-        ),
+        &[
+            b"version = 1\nradii = [2, 3]\nweights = [10, 1]\n[[metal]]\nname = \"m1\"\npairs = [[1, 0]]\n",
+        ],
+        Want::Rows(Report {
+            layers: &["short m1", "open m1"],
+            sizes: &[(2, 10), (3, 1)],
+            areas: &[("short m1", 3, 32)],
+            totals: [32, 0, 0, 32],
+            peak: ("short m1", 3, 32),
+        }),
     ),
     // For the second metal column 51 of rows -2 to 11 is near both squares at radius 2, and columns 50 to 52 of rows -3
     // to 12 are at radius 3. What the second metal has between the bars of the first joins them as little as the bars
     // join it.
     (
         &[THIRD, RIGHT, (3, 0, (10, 0, 14, 10)), LEFT, SECOND],
-        TWO_METALS,
-        Want::Report(
-            "short m1 r=2 area=0 weight=10 sum=0\n\
-             short m1 r=3 area=32 weight=1 sum=32\n\
-             short m2 r=2 area=14 weight=10 sum=140\n\
-             short m2 r=3 area=48 weight=1 sum=48\n\
-             open m1 r=2 area=0 weight=10 sum=0\n\
-             open m1 r=3 area=0 weight=1 sum=0\n\
-             open m2 r=2 area=0 weight=10 sum=0\n\
-             open m2 r=3 area=0 weight=1 sum=0\n\
-             total short 220\n\
-             total open 0\n\
-             total via 0\n\
-             total 220\n\
-             peak short m2 r=2 sum=140\n\
-             nonzero 3 of 8\n",
-        ),
+        &[TWO_METALS],
+        Want::Rows(Report {
+            layers: &["short m1", "short m2", "open m1", "open m2"],
+            sizes: &[(2, 10), (3, 1)],
+            areas: &[
+                ("short m1", 3, 32),
+                ("short m2", 2, 14),
+                ("short m2", 3, 48),
+            ],
+            totals: [220, 0, 0, 220],
+            peak: ("short m2", 2, 140),
+        }),
     ),
     // All pairs of a metal are one metal: the bar between the two joins them. The names are those of the map, and a weight
     // may be 0.
     (
         &[LEFT, (1, 20, (10, 0, 14, 10)), RIGHT],
-        b"version = 1\nradii = [3]\nweights = [0]\nmetal = [{ pairs = [[1, 20], [1, 0]], name = \"Metal_1\" }]\n",
-        Want::Report(
-            "short Metal_1 r=3 area=0 weight=0 sum=0\n\
-             open Metal_1 r=3 area=0 weight=0 sum=0\n\
-             total short 0\n\
-             total open 0\n\
-             total via 0\n\
-             total 0\n\
-             peak short Metal_1 r=3 sum=0\n\
-             nonzero 0 of 2\n",
-        ),
+        &[
+            b"version = 1\nradii = [3]\nweights = [0]\nmetal = [{ pairs = [[1, 20], [1, 0]], name = \"Metal_1\" }]\n",
+        ],
+        Want::Rows(Report {
+            layers: &["short Metal_1", "open Metal_1"],
+            sizes: &[(3, 0)],
+            areas: &[],
+            totals: [0, 0, 0, 0],
+            peak: ("short Metal_1", 3, 0),
+        }),
     ),
 ];
 

@@ -1,9 +1,9 @@
 //! A report of as many rows as may be, 1,536: of 16 metals, 16 cuts and 32 radii, of which none has the area 0.
 
-use super::layouts::{Plate, plates};
 use super::rows::{LEFT, RIGHT};
 use super::runs::{Failing, Given, expect, mapped, run_on};
 use critarea_core::NoGate;
+use samples::layouts::{Plate, plates};
 use std::alloc::{AllocError, Global};
 use std::thread::Threads;
 
@@ -39,8 +39,8 @@ impl Fault {
     }
 }
 
-/// Appends the radii, of which each has the weight 1.
-fn push_sizes(map: &mut String) -> Result<(), AllocError> {
+/// Appends the radii from 1,000 to 1,031, of which each has the weight 1.
+pub fn push_sizes(map: &mut String) -> Result<(), AllocError> {
     map.push_str("version = 1\nweights = [1, 1, 1, 1, 1, 1, 1, 1, 1, 1, 1, 1, 1, 1, 1, 1, ")?;
     map.push_str("1, 1, 1, 1, 1, 1, 1, 1, 1, 1, 1, 1, 1, 1, 1, 1]\nradii = [")?;
     for k in 1000..1032 {

@@ -1,153 +1,226 @@
 //! Layouts of several structures: which shapes they place, and which of them are refused.
 
-use super::layouts::{Plate, Wire};
 use super::rows::{EMPTY_REPORT, LEFT, RIGHT};
-use super::runs::Want::BadLayout;
-use super::runs::{NO_SHORT, RADIUS_3, SHORT_32, Want, expect, layout_answers};
+use super::runs::Want::{BadLayout, Short};
+use super::runs::{NO_SHORT, RADIUS_2, RADIUS_3, RADIUS_4, SHORT_32, Want, expect, layout_answers};
 use super::structures::{
-    ANGLE_90, ANGLE_270, ANGLE_MINUS_90, Copies, ONE, Part, Structure, chain_of,
+    ANGLE_90, ANGLE_270, ANGLE_MINUS_90, Copies, ONE, Part, Structure, chain_of, library_with,
 };
-use super::tables::{LibraryRow, expect_libraries};
 use std::alloc::Global;
+use std::process::Abort;
 use std::thread::Threads;
 
-const RADIUS_2: &str = "a --layer 1 --datatype 0 --radius 2";
+/// The parts of the structure `T`, the other structures, the words, and the answer.
+type LibraryRow = (
+    &'static [Part<'static>],
+    &'static [Structure<'static>],
+    &'static str,
+    Want,
+);
 
-const RADIUS_4: &str = "a --layer 1 --datatype 0 --radius 4";
+/// Whether a run on these structures answers as the row says.
+fn library_answers(rt: &(impl Threads + Sync), alloc: Global, row: &LibraryRow) -> bool {
+    let (parts, others, words, want) = row;
+    layout_answers(rt, alloc, words, library_with(alloc, parts, others), want)
+}
+
+/// Stops the test where a run does not answer as its row says.
+fn expect_libraries(rt: &(impl Abort + Threads + Sync), alloc: Global, rows: &[LibraryRow]) {
+    for (number, row) in rows.iter().enumerate() {
+        expect(rt, library_answers(rt, alloc, row), number);
+    }
+}
 
 const TOP_S: &str = "a --layer 1 --datatype 0 --radius 3 --top S";
 
 /// The cells `[0,4)x[0,2)`.
-const SMALL: Plate = (1, 0, (0, 0, 4, 2));
+const SMALL: Part<'_> = Part::Plate((1, 0, (0, 0, 4, 2)));
 
 /// A structure with this rectangle.
-const S: Structure<'_> = (b"S", &[Part::Plate(SMALL)]);
+const S: Structure<'_> = (b"S", &[SMALL]);
 
-/// A structure with the left one of the two bars.
-const BAR: Structure<'_> = (b"S", &[Part::Plate(LEFT)]);
+/// The left one of the two bars, and a structure with it.
+const BAR: Part<'_> = Part::Plate(LEFT);
+
+const WITH_BAR: Structure<'_> = (b"S", &[BAR]);
+
+/// One copy of the structure `S`.
+const COPY: Part<'_> = Part::Copies(ONE);
 
 /// An array of 3 columns and 2 rows, whose columns go up by 10 and whose rows go left by 10.
-const TURNED_90: Copies<'_> = Copies {
+const LATTICE: Copies<'_> = Copies {
     angle: ANGLE_90,
     points: &[(0, 0), (0, 30), (-20, 0)],
     size: Some((3, 2)),
     ..ONE
 };
 
+const TURNED_90: Part<'_> = Part::Copies(LATTICE);
+
+const TURNED_BACK: Part<'_> = Part::Copies(Copies {
+    angle: ANGLE_MINUS_90,
+    ..LATTICE
+});
+
+/// A copy that is mirrored in the x axis first, and then turned: it is [8,10)x[-4,0).
+const MIRRORED: Part<'_> = Part::Copies(Copies {
+    mirrored: true,
+    angle: ANGLE_270,
+    points: &[(10, 0)],
+    ..ONE
+});
+
+/// An array that is mirrored and turned by a quarter, and a hook.
+const MIRRORED_ARRAY: Part<'_> = Part::Copies(Copies {
+    mirrored: true,
+    angle: ANGLE_90,
+    points: &[(0, 0), (18, 0), (0, 14)],
+    size: Some((2, 2)),
+    ..ONE
+});
+
+const HOOK: &[Part<'_>] = &[
+    Part::Plate((1, 0, (0, 0, 2, 6))),
+    Part::Plate((1, 0, (2, 0, 5, 2))),
+];
+
+/// Two copies, 14 columns apart.
+const TWO_COPIES: Part<'_> = Part::Copies(Copies {
+    points: &[(0, 0), (28, 0), (0, 1)],
+    size: Some((2, 1)),
+    ..ONE
+});
+
+/// The small rectangle, placed as far as a shape may lie, and so that one column is too far to the right.
+const FARTHEST: Part<'_> = Part::Copies(Copies {
+    points: &[(999_999_996, -1_000_000_000)],
+    ..ONE
+});
+
+const TOO_FAR: Part<'_> = Part::Copies(Copies {
+    points: &[(999_999_997, 0)],
+    ..ONE
+});
+
+/// A rectangle of which one column is too far to the right, and one like it on another layer.
+const FAR: Part<'_> = Part::Plate((1, 0, (0, 0, 1_000_000_001, 10)));
+
+const FAR_ON_2: Part<'_> = Part::Plate((2, 0, (0, 0, 1_000_000_001, 10)));
+
+/// A path without a cover, since its width is odd. It has 70 bytes.
+const ODD: Part<'_> = Part::Wire((0, 5, (0, 0), &[(0, 0), (10, 0)]));
+
+/// As many copies as an array can have.
+const MOST: Copies<'_> = Copies {
+    points: &[(0, 0), (327_670, 0), (0, 327_670)],
+    size: Some((32_767, 32_767)),
+    ..ONE
+};
+
+const MANY: Part<'_> = Part::Copies(MOST);
+
+/// As many of the structures `A`, `B` and `C`, of which each has as many of the next.
+const OF_A: Part<'_> = Part::Copies(Copies {
+    target: b"A",
+    ..MOST
+});
+
+const OF_B: Part<'_> = Part::Copies(Copies {
+    target: b"B",
+    ..MOST
+});
+
+const OF_C: Part<'_> = Part::Copies(Copies {
+    target: b"C",
+    ..MOST
+});
+
+const A: Structure<'_> = (b"A", &[OF_B]);
+
+const B: Structure<'_> = (b"B", &[OF_C]);
+
+const C: Structure<'_> = (b"C", &[MANY]);
+
+/// As many of the structure `T`.
+const OF_T: Part<'_> = Part::Copies(Copies {
+    target: b"T",
+    ..MOST
+});
+
+/// A thousand times a thousand copies.
+const MILLION: Part<'_> = Part::Copies(Copies {
+    points: &[(0, 0), (10_000, 0), (0, 10_000)],
+    size: Some((1000, 1000)),
+    ..ONE
+});
+
+/// A copy of the structure `T`, and one of a structure that is not there.
+const TO_T: Part<'_> = Part::Copies(Copies {
+    target: b"T",
+    ..ONE
+});
+
+const TO_X: Part<'_> = Part::Copies(Copies {
+    target: b"X",
+    ..ONE
+});
+
+/// Structures that refer to `T`, and to themselves.
+const BACK: Structure<'_> = (b"S", &[TO_T]);
+
+const ITSELF: Structure<'_> = (b"S", &[COPY]);
+
 /// Layouts that are placed, and their areas of shorts.
 const PLACED: &[LibraryRow] = &[
-    // mirrored in the x axis first, and then turned: the copy is [8,10)x[-4,0), 3 columns from [13,17)x[-4,0)
+    // 3 columns from [13,17)x[-4,0)
     (
-        &[
-            Part::Copies(Copies {
-                mirrored: true,
-                angle: ANGLE_270,
-                points: &[(10, 0)],
-                ..ONE
-            }),
-            Part::Plate((1, 0, (13, -4, 17, 0))),
-        ],
+        &[MIRRORED, Part::Plate((1, 0, (13, -4, 17, 0)))],
         &[S],
         RADIUS_2,
-        Want::Short(2, 8),
+        Short(2, 8),
     ),
     // only the copies are turned, and not their steps: 4 gaps of 6 rows, at each of which 2 rows of 10 columns are near both
-    (
-        &[Part::Copies(TURNED_90)],
-        &[S],
-        RADIUS_4,
-        Want::Short(4, 80),
-    ),
-    (
-        &[Part::Copies(Copies {
-            angle: ANGLE_MINUS_90,
-            ..TURNED_90
-        })],
-        &[S],
-        RADIUS_4,
-        Want::Short(4, 80),
-    ),
-    // hooks, mirrored and turned by a quarter: 6 and 6 cells between columns, 12 and 12 between rows, 2 of them twice
-    (
-        &[Part::Copies(Copies {
-            mirrored: true,
-            angle: ANGLE_90,
-            points: &[(0, 0), (18, 0), (0, 14)],
-            size: Some((2, 2)),
-            ..ONE
-        })],
-        &[(
-            b"S",
-            &[
-                Part::Plate((1, 0, (0, 0, 2, 6))),
-                Part::Plate((1, 0, (2, 0, 5, 2))),
-            ],
-        )],
-        RADIUS_2,
-        Want::Short(2, 34),
-    ),
+    (&[TURNED_90], &[S], RADIUS_4, Short(4, 80)),
+    (&[TURNED_BACK], &[S], RADIUS_4, Short(4, 80)),
+    // hooks: 6 and 6 cells between columns, 12 and 12 between rows, 2 of them twice
+    (&[MIRRORED_ARRAY], &[(b"S", HOOK)], RADIUS_2, Short(2, 34)),
     // the structure alone, and the one that refers to it
     (
-        &[Part::Copies(TURNED_90)],
+        &[TURNED_90],
         &[S],
         "a --layer 1 --datatype 0 --radius 4 --top S",
-        Want::Short(4, 0),
+        Short(4, 0),
     ),
     (
-        &[Part::Copies(TURNED_90)],
+        &[TURNED_90],
         &[S],
         "a --layer 1 --datatype 0 --radius 4 --top T",
-        Want::Short(4, 80),
+        Short(4, 80),
     ),
     // the two bars as copies of one, and a copy at the place of another
+    (&[TWO_COPIES], &[WITH_BAR], RADIUS_3, SHORT_32),
     (
-        &[Part::Copies(Copies {
-            points: &[(0, 0), (28, 0), (0, 1)],
-            size: Some((2, 1)),
-            ..ONE
-        })],
-        &[BAR],
-        RADIUS_3,
-        SHORT_32,
-    ),
-    (
-        &[Part::Copies(ONE), Part::Copies(ONE), Part::Plate(RIGHT)],
-        &[BAR],
+        &[COPY, COPY, Part::Plate(RIGHT)],
+        &[WITH_BAR],
         RADIUS_3,
         SHORT_32,
     ),
     // as far as a placed shape may lie
-    (
-        &[Part::Copies(Copies {
-            points: &[(999_999_996, -1_000_000_000)],
-            ..ONE
-        })],
-        &[S],
-        RADIUS_3,
-        NO_SHORT,
-    ),
+    (&[FARTHEST], &[S], RADIUS_3, NO_SHORT),
     // the other top has a path without a cover, and a layer that is not asked for a shape out of range
-    (&[Part::Wire(ODD)], &[BAR], TOP_S, NO_SHORT),
-    (
-        &[
-            Part::Plate((2, 0, (0, 0, 1_000_000_001, 10))),
-            Part::Plate(LEFT),
-        ],
-        &[],
-        RADIUS_3,
-        NO_SHORT,
-    ),
+    (&[ODD], &[WITH_BAR], TOP_S, NO_SHORT),
+    (&[FAR_ON_2, BAR], &[], RADIUS_3, NO_SHORT),
     // many copies of nothing, and of a shape on a layer that is not asked for
-    (&[Part::Copies(MANY)], &[(b"S", &[])], RADIUS_3, NO_SHORT),
+    (&[MANY], &[(b"S", &[])], RADIUS_3, NO_SHORT),
     (
-        &[Part::Copies(MANY)],
+        &[MANY],
         &[(b"S", &[Part::Plate((2, 0, (0, 0, 10, 10)))])],
         RADIUS_3,
         NO_SHORT,
     ),
     // four arrays, one in the other, over a shape on a layer that is not asked for
     (
-        IN_ARRAYS,
+        &[OF_A],
         &[A, B, C, (b"S", &[Part::Plate((60, 0, (0, 0, 10, 10)))])],
         RADIUS_3,
         EMPTY_REPORT,
@@ -183,160 +256,52 @@ const NESTED: LibraryRow = (
                 ..ONE
             })],
         ),
-        (b"U", &[Part::Plate(SMALL)]),
+        (b"U", &[SMALL]),
     ],
     RADIUS_4,
-    Want::Short(4, 60),
+    Short(4, 60),
 );
-
-/// As many copies as an array can have.
-const MANY: Copies<'_> = Copies {
-    points: &[(0, 0), (327_670, 0), (0, 327_670)],
-    size: Some((32_767, 32_767)),
-    ..ONE
-};
-
-/// The outermost of four arrays of so many copies, one in the other: of the structure `A`, which has one of `B`, which has
-/// one of `C`, which has one of `S`.
-const IN_ARRAYS: &[Part<'_>] = &[Part::Copies(Copies {
-    target: b"A",
-    ..MANY
-})];
-
-const A: Structure<'_> = (
-    b"A",
-    &[Part::Copies(Copies {
-        target: b"B",
-        ..MANY
-    })],
-);
-
-const B: Structure<'_> = (
-    b"B",
-    &[Part::Copies(Copies {
-        target: b"C",
-        ..MANY
-    })],
-);
-
-const C: Structure<'_> = (b"C", &[Part::Copies(MANY)]);
-
-/// A thousand times a thousand copies.
-const MILLION: Copies<'_> = Copies {
-    points: &[(0, 0), (10_000, 0), (0, 10_000)],
-    size: Some((1000, 1000)),
-    ..ONE
-};
-
-/// A path without a cover, since its width is odd. It has 70 bytes.
-const ODD: Wire = (0, 5, (0, 0), &[(0, 0), (10, 0)]);
-
-/// One column of it is too far to the right.
-const FAR: Plate = (1, 0, (0, 0, 1_000_000_001, 10));
-
-/// The small rectangle, placed so that one column is too far to the right.
-const TOO_FAR: Copies<'_> = Copies {
-    points: &[(999_999_997, 0)],
-    ..ONE
-};
-
-/// A copy of the structure `T`, and one of a structure that is not there.
-const TO_T: Copies<'_> = Copies {
-    target: b"T",
-    ..ONE
-};
-
-const TO_X: Copies<'_> = Copies {
-    target: b"X",
-    ..ONE
-};
 
 /// Layouts that are refused. A structure begins with 34 bytes and ends with 4, a rectangle has 64 bytes, a copy 44, and an
 /// array 68.
 const REFUSED: &[LibraryRow] = &[
     // 24: no such structure, also where the top does not reach it, and before each other reason
-    (&[Part::Copies(TO_X)], &[], RADIUS_3, BadLayout(24, 94)),
-    (&[Part::Copies(TO_X)], &[BAR], TOP_S, BadLayout(24, 94)),
-    (
-        &[Part::Copies(TO_T), Part::Copies(TO_X)],
-        &[],
-        RADIUS_3,
-        BadLayout(24, 138),
-    ),
+    (&[TO_X], &[], RADIUS_3, BadLayout(24, 94)),
+    (&[TO_X], &[WITH_BAR], TOP_S, BadLayout(24, 94)),
+    (&[TO_T, TO_X], &[], RADIUS_3, BadLayout(24, 138)),
     // 25: the structure itself, two of them, one that the top does not reach, and one that leads to others
-    (&[Part::Copies(TO_T)], &[], RADIUS_3, BadLayout(25, 60)),
-    (
-        &[Part::Copies(ONE)],
-        &[(b"S", &[Part::Copies(TO_T)])],
-        RADIUS_3,
-        BadLayout(25, 60),
-    ),
-    (
-        &[Part::Plate(LEFT)],
-        &[(b"S", &[Part::Copies(ONE)])],
-        RADIUS_3,
-        BadLayout(25, 162),
-    ),
-    (
-        &[Part::Copies(ONE)],
-        &[(b"S", &[Part::Copies(ONE)])],
-        RADIUS_3,
-        BadLayout(25, 60),
-    ),
+    (&[TO_T], &[], RADIUS_3, BadLayout(25, 60)),
+    (&[COPY], &[BACK], RADIUS_3, BadLayout(25, 60)),
+    (&[BAR], &[ITSELF], RADIUS_3, BadLayout(25, 162)),
+    (&[COPY], &[ITSELF], RADIUS_3, BadLayout(25, 60)),
     // 27: no structure of this name
-    (&[Part::Plate(LEFT)], &[], TOP_S, BadLayout(27, 0)),
+    (&[BAR], &[], TOP_S, BadLayout(27, 0)),
     // 28: at the second structure to which none refers
-    (&[Part::Plate(LEFT)], &[BAR], RADIUS_3, BadLayout(28, 162)),
+    (&[BAR], &[WITH_BAR], RADIUS_3, BadLayout(28, 162)),
     (
-        &[Part::Plate(LEFT)],
-        &[BAR, (b"U", &[])],
+        &[BAR],
+        &[WITH_BAR, (b"U", &[])],
         RADIUS_3,
         BadLayout(28, 162),
     ),
     // 29: one shape more than a million, and many more; at the top, which comes behind another here
-    (
-        &[Part::Copies(MILLION), Part::Plate(LEFT)],
-        &[BAR],
-        RADIUS_3,
-        BadLayout(29, 60),
-    ),
-    (
-        &[Part::Plate(LEFT)],
-        &[(
-            b"S",
-            &[Part::Copies(Copies {
-                target: b"T",
-                ..MANY
-            })],
-        )],
-        RADIUS_3,
-        BadLayout(29, 162),
-    ),
-    (IN_ARRAYS, &[A, B, C, BAR], RADIUS_3, BadLayout(29, 60)),
+    (&[MILLION, BAR], &[WITH_BAR], RADIUS_3, BadLayout(29, 60)),
+    (&[BAR], &[(b"S", &[OF_T])], RADIUS_3, BadLayout(29, 162)),
+    (&[OF_A], &[A, B, C, WITH_BAR], RADIUS_3, BadLayout(29, 60)),
     // 30: at the shape, and of two the one that is placed first
-    (&[Part::Plate(FAR)], &[], RADIUS_3, BadLayout(30, 94)),
-    (&[Part::Copies(TOO_FAR)], &[S], RADIUS_3, BadLayout(30, 176)),
-    (
-        &[Part::Copies(TOO_FAR), Part::Plate(FAR)],
-        &[S],
-        RADIUS_3,
-        BadLayout(30, 240),
-    ),
+    (&[FAR], &[], RADIUS_3, BadLayout(30, 94)),
+    (&[TOO_FAR], &[S], RADIUS_3, BadLayout(30, 176)),
+    (&[TOO_FAR, FAR], &[S], RADIUS_3, BadLayout(30, 240)),
     // 33: at the shape, and of two the one that is placed first; but behind each reason above
-    (&[Part::Wire(ODD)], &[], RADIUS_3, BadLayout(33, 94)),
+    (&[ODD], &[], RADIUS_3, BadLayout(33, 94)),
     (
-        &[Part::Copies(ONE), Part::Wire(ODD)],
-        &[(b"S", &[Part::Plate(LEFT), Part::Wire(ODD)])],
+        &[COPY, ODD],
+        &[(b"S", &[BAR, ODD])],
         RADIUS_3,
         BadLayout(33, 310),
     ),
-    (
-        &[Part::Wire(ODD), Part::Plate(FAR)],
-        &[],
-        RADIUS_3,
-        BadLayout(30, 164),
-    ),
-    (&[Part::Wire(ODD)], &[BAR], RADIUS_3, BadLayout(28, 168)),
+    (&[ODD, FAR], &[], RADIUS_3, BadLayout(30, 164)),
+    (&[ODD], &[WITH_BAR], RADIUS_3, BadLayout(28, 168)),
 ];
 
 #[test]

@@ -1,6 +1,6 @@
-use super::layouts::TWO_BARS;
 use super::runs::{NO_SHORT, SHORT_32, Want, expect};
 use super::tables::{SplicedRow, expect_spliced, spliced_answers};
+use samples::TWO_BARS;
 use std::alloc::Global;
 use std::thread::Threads;
 

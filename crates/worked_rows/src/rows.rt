@@ -1,23 +1,10 @@
-use super::layouts::Plate;
 use super::runs::Want::Short;
-use super::runs::{RADIUS_3, Want};
-use super::structures::Part;
-use super::tables::{LibraryRow, SplicedRow, expect_libraries, expect_spliced};
-
-/// The report on no shapes.
-pub const EMPTY_REPORT: Want = Want::Report(
-    "short m r=3 area=0 weight=1 sum=0\n\
-     open m r=3 area=0 weight=1 sum=0\n\
-     total short 0\n\
-     total open 0\n\
-     total via 0\n\
-     total 0\n\
-     peak short m r=3 sum=0\n\
-     nonzero 0 of 2\n",
-);
+use super::runs::{NO_SHORT, RADIUS_2, RADIUS_3, SHORT_32, Want, expect, layout_answers};
+use super::tables::{SplicedRow, expect_spliced};
+use samples::layouts::{Plate, plates};
 
 /// The report on the two bars.
-pub const BARS_REPORT: Want = Want::Report(
+pub const BARS_REPORT: Want = Want::Text(
     "short m r=3 area=32 weight=1 sum=32\n\
      open m r=3 area=0 weight=1 sum=0\n\
      total short 32\n\
@@ -28,21 +15,20 @@ pub const BARS_REPORT: Want = Want::Report(
      nonzero 1 of 2\n",
 );
 
-/// The file of a layout without a shape: a library `L` with one structure `T`.
-const EMPTY: &[u8; 102] = b"\
-    \x00\x06\x00\x02\x02\x58\
-    \x00\x1C\x01\x02\x00\x00\x00\x00\x00\x00\x00\x00\x00\x00\x00\x00\x00\x00\x00\x00\x00\x00\x00\x00\
-    \x00\x00\x00\x00\
-    \x00\x06\x02\x06\x4C\x00\
-    \x00\x14\x03\x05\x41\x10\x00\x00\x00\x00\x00\x00\x41\x10\x00\x00\x00\x00\x00\x00\
-    \x00\x1C\x05\x02\x00\x00\x00\x00\x00\x00\x00\x00\x00\x00\x00\x00\x00\x00\x00\x00\x00\x00\x00\x00\
-    \x00\x00\x00\x00\
-    \x00\x06\x06\x06\x54\x00\
-    \x00\x04\x07\x00\
-    \x00\x04\x04\x00";
+/// The report on no shapes.
+pub const EMPTY_REPORT: Want = Want::Text(
+    "short m r=3 area=0 weight=1 sum=0\n\
+     open m r=3 area=0 weight=1 sum=0\n\
+     total short 0\n\
+     total open 0\n\
+     total via 0\n\
+     total 0\n\
+     peak short m r=3 sum=0\n\
+     nonzero 0 of 2\n",
+);
 
-/// The empty layout in place of the two bars, and the two bars as they are.
-const REPORTS: &[SplicedRow] = &[(0, EMPTY, 230, EMPTY_REPORT), (230, &[], 230, BARS_REPORT)];
+/// The layout without its two bars: a library `L` with one empty structure `T`. And the layout as it is.
+const REPORTS: &[SplicedRow] = &[(94, &[], 222, EMPTY_REPORT), (230, &[], 230, BARS_REPORT)];
 
 /// The tests `empty_layout_has_its_report` and `two_bars_have_their_report` in one.
 #[test]
@@ -69,95 +55,47 @@ const RADIUS_1: &str = "a --layer 1 --datatype 0 --radius 1";
 
 /// Rectangles, words, and the area of shorts. A defect is near a shape where its centre lies in the shape grown by the
 /// radius on each side. So of two nets of one rectangle each the area is the cells that both grown rectangles have.
-const AREAS: &[LibraryRow] = &[
+const AREAS: &[(&[Plate], &str, Want)] = &[
     // [-2,12) and [12,26) have no column in common
-    (
-        &[Part::Plate(LEFT), Part::Plate(RIGHT)],
-        &[],
-        "a --layer 1 --datatype 0 --radius 2",
-        Short(2, 0),
-    ),
+    (&[LEFT, RIGHT], RADIUS_2, Short(2, 0)),
     // columns [-999986,1000010) and rows [-1000000,1000010): 1999996 times 2000010
     (
-        &[Part::Plate(LEFT), Part::Plate(RIGHT)],
-        &[],
+        &[LEFT, RIGHT],
         "a --layer 1 --datatype 0 --radius 1000000",
         Short(1_000_000, 4_000_011_999_960),
     ),
     // a common corner leaves two nets: [3,5)x[3,5)
-    (
-        &[Part::Plate(SQUARE), Part::Plate((1, 0, (4, 4, 8, 8)))],
-        &[],
-        RADIUS_1,
-        Short(1, 4),
-    ),
+    (&[SQUARE, (1, 0, (4, 4, 8, 8))], RADIUS_1, Short(1, 4)),
     // a common side makes one net
-    (
-        &[Part::Plate(SQUARE), Part::Plate((1, 0, (4, 0, 8, 4)))],
-        &[],
-        RADIUS_1,
-        Short(1, 0),
-    ),
+    (&[SQUARE, (1, 0, (4, 0, 8, 4))], RADIUS_1, Short(1, 0)),
     // shapes on another layer or datatype neither have a net nor join two
-    (
-        &[Part::Plate(LEFT), Part::Plate((2, 0, (14, 0, 24, 10)))],
-        &[],
-        RADIUS_3,
-        Short(3, 0),
-    ),
-    (
-        &[Part::Plate(LEFT), Part::Plate((1, 1, (14, 0, 24, 10)))],
-        &[],
-        RADIUS_3,
-        Short(3, 0),
-    ),
-    (
-        &[Part::Plate(LEFT), Part::Plate((0, 1, (14, 0, 24, 10)))],
-        &[],
-        RADIUS_3,
-        Short(3, 0),
-    ),
-    (
-        &[
-            Part::Plate(LEFT),
-            Part::Plate((2, 0, (10, 0, 14, 10))),
-            Part::Plate(RIGHT),
-        ],
-        &[],
-        RADIUS_3,
-        Short(3, 32),
-    ),
-    (
-        &[
-            Part::Plate(LEFT),
-            Part::Plate((1, 1, (10, 0, 14, 10))),
-            Part::Plate(RIGHT),
-        ],
-        &[],
-        RADIUS_3,
-        Short(3, 32),
-    ),
+    (&[LEFT, (2, 0, (14, 0, 24, 10))], RADIUS_3, NO_SHORT),
+    (&[LEFT, (1, 1, (14, 0, 24, 10))], RADIUS_3, NO_SHORT),
+    (&[LEFT, (0, 1, (14, 0, 24, 10))], RADIUS_3, NO_SHORT),
+    (&[LEFT, (2, 0, (10, 0, 14, 10)), RIGHT], RADIUS_3, SHORT_32),
+    (&[LEFT, (1, 1, (10, 0, 14, 10)), RIGHT], RADIUS_3, SHORT_32),
     // on the layer and datatype that are asked for it joins them
-    (
-        &[Part::Plate(LEFT), Part::Plate(BETWEEN), Part::Plate(RIGHT)],
-        &[],
-        RADIUS_3,
-        Short(3, 0),
-    ),
+    (&[LEFT, BETWEEN, RIGHT], RADIUS_3, NO_SHORT),
     // the greatest layer and datatype
     (
         &[
-            Part::Plate((LAST, LAST, (0, 0, 10, 10))),
-            Part::Plate((LAST, LAST, (14, 0, 24, 10))),
-            Part::Plate((LAST, 65_534, (10, 0, 14, 10))),
+            (LAST, LAST, (0, 0, 10, 10)),
+            (LAST, LAST, (14, 0, 24, 10)),
+            (LAST, 65_534, (10, 0, 14, 10)),
         ],
-        &[],
         "a --layer 65535 --datatype 65535 --radius 3",
-        Short(3, 32),
+        SHORT_32,
     ),
 ];
 
 #[test]
 fn areas_are_those_counted_by_hand(rt: HostRuntime) {
-    expect_libraries(&rt, rt.alloc(), AREAS);
+    for (number, (shapes, words, want)) in AREAS.iter().enumerate() {
+        let layout = plates(rt.alloc(), shapes);
+        expect(
+            &rt,
+            layout_answers(&rt, rt.alloc(), words, layout, want),
+            number,
+        );
+    }
 }

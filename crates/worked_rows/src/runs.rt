@@ -1,13 +1,22 @@
+use super::gauge_kinds::push_kinds;
+use super::reports::{Report, text_of};
 use critarea_core::{Gate, NoGate, Word, run};
 use edge_io::{Files, MemFiles, MemSink};
-use gauges::{Gauge, Nonzero, Peak};
+use gauges::Gauge;
 use lists::{Name, NoMemory};
+use samples::GaugeKind;
 use std::alloc::{AllocError, Global};
 use std::process::Abort;
 use std::thread::Threads;
 
-/// The words that ask for the areas of layer 1 and datatype 0 at the radius 3.
+/// The words that ask for the areas of layer 1 and datatype 0 at the radius 2.
+pub const RADIUS_2: &str = "a --layer 1 --datatype 0 --radius 2";
+
+/// The same at the radius 3.
 pub const RADIUS_3: &str = "a --layer 1 --datatype 0 --radius 3";
+
+/// The same at the radius 4.
+pub const RADIUS_4: &str = "a --layer 1 --datatype 0 --radius 4";
 
 /// What they are answered for the two bars.
 pub const SHORT_32: Want = Want::Short(3, 32);
@@ -96,6 +105,14 @@ impl Answer {
             && self.out.written.as_slice() == out.as_bytes()
             && self.err.written.as_slice() == err.as_bytes()
     }
+
+    /// Whether this report was written, and nothing else. Without one it was not.
+    fn reports(&self, report: Result<String, AllocError>) -> bool {
+        match report {
+            Ok(report) => self.has(0, report.as_str(), ""),
+            Err(_) => false,
+        }
+    }
 }
 
 /// The report of this area of shorts of the metal `m` at this radius of defects, with the weight 1. Of equal products the
@@ -119,7 +136,9 @@ fn line_of(alloc: Global, number: u8, place: usize) -> Result<String, AllocError
 #[derive(Clone, Copy)]
 pub enum Want {
     /// This report.
-    Report(&'static str),
+    Rows(Report),
+    /// The report with this text.
+    Text(&'static str),
     /// The report of shorts: the radius of defects, and the area.
     Short(u32, u64),
     /// The words are refused.
@@ -136,11 +155,9 @@ impl Want {
     /// Whether the answer is the wanted one, which was written out by hand.
     fn is(&self, alloc: Global, answer: &Answer) -> bool {
         match self {
-            Want::Report(report) => answer.has(0, report, ""),
-            Want::Short(radius, area) => match report_of(alloc, *radius, *area) {
-                Ok(report) => answer.has(0, report.as_str(), ""),
-                Err(_) => false,
-            },
+            Want::Rows(report) => answer.reports(text_of(alloc, report)),
+            Want::Text(report) => answer.has(0, report, ""),
+            Want::Short(radius, area) => answer.reports(report_of(alloc, *radius, *area)),
             Want::BadWords => answer.has(2, "", "error 2 at 0\n"),
             Want::BadMap(line) => answer.has(3, "", line),
             Want::BadLayout(number, place) => match line_of(alloc, *number, *place) {
@@ -261,24 +278,6 @@ pub fn run_told(
     run_with_gauges(rt, alloc, given.words, &mut files, failing, gauges, &NoGate)
 }
 
-/// Appends a gauge that counts the rows that are not 0.
-pub fn push_nonzero(alloc: Global, gauges: &mut Vec<Box<dyn Gauge>>) -> Result<(), AllocError> {
-    gauges.push(Box::new(alloc, Nonzero::new(alloc))?)?;
-    Ok(())
-}
-
-/// Appends a gauge that tells the greatest product.
-pub fn push_peak(alloc: Global, gauges: &mut Vec<Box<dyn Gauge>>) -> Result<(), AllocError> {
-    gauges.push(Box::new(alloc, Peak::new(alloc))?)?;
-    Ok(())
-}
-
-/// Appends the gauges that the program has.
-fn push_house_gauges(alloc: Global, gauges: &mut Vec<Box<dyn Gauge>>) -> Result<(), AllocError> {
-    push_peak(alloc, gauges)?;
-    push_nonzero(alloc, gauges)
-}
-
 /// What a run of these words on these files answers, with the gauges that the program has and tiles that pass this gate.
 pub fn run_with<F: Files, G: Gate + Sync>(
     rt: &(impl Threads + Sync),
@@ -289,7 +288,7 @@ pub fn run_with<F: Files, G: Gate + Sync>(
     gate: &G,
 ) -> Result<Answer, NoMemory> {
     let mut gauges: Vec<Box<dyn Gauge>> = Vec::new(alloc);
-    push_house_gauges(alloc, &mut gauges)?;
+    push_kinds(alloc, &mut gauges, &[GaugeKind::Peak, GaugeKind::Nonzero])?;
     run_with_gauges(rt, alloc, words, files, failing, &mut gauges, gate)
 }
 

@@ -2,54 +2,18 @@
 
 use super::rows::BARS_REPORT;
 use super::runs::{RADIUS_3, expect, layout_answers};
-
-/// What stands in front of the elements of a small file: HEADER with the version 600, BGNLIB, LIBNAME `L`, UNITS, BGNSTR and
-/// STRNAME `T`.
-const HEAD: &[u8] = b"\
-    \x00\x06\x00\x02\x02\x58\
-    \x00\x1C\x01\x02\x00\x00\x00\x00\x00\x00\x00\x00\x00\x00\x00\x00\x00\x00\x00\x00\x00\x00\x00\x00\
-    \x00\x00\x00\x00\
-    \x00\x06\x02\x06L\x00\
-    \x00\x14\x03\x05\x41\x10\x00\x00\x00\x00\x00\x00\x41\x10\x00\x00\x00\x00\x00\x00\
-    \x00\x1C\x05\x02\x00\x00\x00\x00\x00\x00\x00\x00\x00\x00\x00\x00\x00\x00\x00\x00\x00\x00\x00\x00\
-    \x00\x00\x00\x00\
-    \x00\x06\x06\x06T\x00";
-
-/// STRCLASS.
-const CLASS: &[u8] = b"\x00\x06\x34\x01\x00\x00";
-
-/// BOUNDARY, and ELFLAGS and PLEX behind it.
-const BOUNDARY: &[u8] = b"\x00\x04\x08\x00";
-
-const FLAGS: &[u8] = b"\x00\x06\x26\x01\x00\x00\x00\x08\x2F\x03\x00\x00\x00\x07";
-
-/// LAYER and DATATYPE of the bars.
-const ON_1: &[u8] = b"\x00\x06\x0D\x02\x00\x01\x00\x06\x0E\x02\x00\x00";
+use samples::records::{
+    BGNSTR, BOUNDARY, BOUNDARY_ON_1, DATATYPE_0, ELFLAGS, ENDEL, ENDLIB, ENDSTR, HEAD, LAYER_1,
+    PLEX, PROPATTR, PROPVALUE, SQUARE, SQUARE_END, SQUARE_TO_THE_RIGHT, STRCLASS, STRNAME_T,
+};
 
 /// BOX, and LAYER and BOXTYPE of the bars.
 const BOX_ON_1: &[u8] = b"\x00\x04\x2D\x00\x00\x06\x0D\x02\x00\x01\x00\x06\x2E\x02\x00\x00";
 
-/// XY of the left bar, and of the right one.
-const LEFT: &[u8] = b"\
-    \x00\x2C\x10\x03\x00\x00\x00\x00\x00\x00\x00\x00\x00\x00\x00\x0A\x00\x00\x00\x00\x00\x00\x00\x0A\
-    \x00\x00\x00\x0A\x00\x00\x00\x00\x00\x00\x00\x0A\x00\x00\x00\x00\x00\x00\x00\x00";
-
-const RIGHT: &[u8] = b"\
-    \x00\x2C\x10\x03\x00\x00\x00\x0E\x00\x00\x00\x00\x00\x00\x00\x18\x00\x00\x00\x00\x00\x00\x00\x18\
-    \x00\x00\x00\x0A\x00\x00\x00\x0E\x00\x00\x00\x0A\x00\x00\x00\x0E\x00\x00\x00\x00";
-
-/// PROPATTR and PROPVALUE: one property, and two others.
-const PROPERTY: &[u8] = b"\x00\x06\x2B\x02\x00\x01\x00\x06\x2C\x06ab";
-
+/// PROPATTR and PROPVALUE of two properties.
 const PROPERTIES: &[u8] = b"\
     \x00\x06\x2B\x02\x00\x01\x00\x0A\x2C\x06net a\x00\
     \x00\x06\x2B\x02\x00\x02\x00\x06\x2C\x06xy";
-
-/// ENDEL.
-const END_ELEMENT: &[u8] = b"\x00\x04\x11\x00";
-
-/// ENDSTR and ENDLIB.
-const END: &[u8] = b"\x00\x04\x07\x00\x00\x04\x04\x00";
 
 /// The head of a usual writer's file: HEADER with the version 5, BGNLIB with dates, REFLIBS with one name, LIBNAME, FONTS with
 /// no name, ATTRTABLE, GENERATIONS, UNITS of a thousandth and of a nanometre, BGNSTR with dates, and STRNAME `T`.
@@ -95,53 +59,37 @@ const NODE: &[u8] = b"\
 /// What fills up the last block of a tape.
 const PADDING: &[u8] = &[0; 100];
 
+/// The records of a list, one behind the other.
+macro_rules! records {
+    ($($record:ident)*) => {
+        &[$($record),*]
+    };
+}
+
 /// Files, part by part: 726, 248 and 230 bytes.
 const FILES: &[&[&[u8]]] = &[
     // file_of_a_usual_writer
-    &[
-        WRITER_HEAD,
-        BOUNDARY,
-        FLAGS,
-        ON_1,
-        LEFT,
-        PROPERTIES,
-        END_ELEMENT,
-        LABEL,
-        SLANTED,
-        NODE,
-        BOUNDARY,
-        ON_1,
-        RIGHT,
-        END_ELEMENT,
-        END,
-        PADDING,
-    ],
+    records! {
+        WRITER_HEAD
+        BOUNDARY ELFLAGS PLEX LAYER_1 DATATYPE_0 SQUARE PROPERTIES ENDEL
+        LABEL SLANTED NODE
+        BOUNDARY_ON_1 SQUARE_TO_THE_RIGHT ENDEL
+        ENDSTR ENDLIB PADDING
+    },
     // strclass_and_property
-    &[
-        HEAD,
-        CLASS,
-        BOUNDARY,
-        ON_1,
-        LEFT,
-        PROPERTY,
-        END_ELEMENT,
-        BOUNDARY,
-        ON_1,
-        RIGHT,
-        END_ELEMENT,
-        END,
-    ],
+    records! {
+        HEAD BGNSTR STRNAME_T STRCLASS
+        BOUNDARY_ON_1 SQUARE PROPATTR PROPVALUE ENDEL
+        BOUNDARY_ON_1 SQUARE_TO_THE_RIGHT ENDEL
+        ENDSTR ENDLIB
+    },
     // two_boxes
-    &[
-        HEAD,
-        BOX_ON_1,
-        LEFT,
-        END_ELEMENT,
-        BOX_ON_1,
-        RIGHT,
-        END_ELEMENT,
-        END,
-    ],
+    records! {
+        HEAD BGNSTR STRNAME_T
+        BOX_ON_1 SQUARE_END
+        BOX_ON_1 SQUARE_TO_THE_RIGHT ENDEL
+        ENDSTR ENDLIB
+    },
 ];
 
 /// The tests `file_of_a_usual_writer`, `strclass_and_property` and `two_boxes` in one: each has the report of the two bars.

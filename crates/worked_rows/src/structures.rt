@@ -1,8 +1,8 @@
 //! Layouts of several structures, as their bytes.
 
-use super::layouts::{
-    Filled, Plate, TWO_BARS, Wire, push_filled, push_plate, push_points, push_record, push_wire,
-    spliced,
+use samples::TWO_BARS;
+use samples::layouts::{
+    Filled, Plate, Wire, push_filled, push_plate, push_points, push_record, push_wire, spliced,
 };
 use std::alloc::{AllocError, Global};
 
@@ -11,7 +11,7 @@ use std::alloc::{AllocError, Global};
 pub enum Part<'a> {
     Plate(Plate),
     Outline(Filled, &'a [(i32, i32)]),
-    Wire(Wire),
+    Wire(Wire<'a>),
     Copies(Copies<'a>),
 }
 

@@ -1,32 +1,10 @@
-//! Rows of tables that several files have, and the runs that try them.
+//! Changes of the two bars' file, and the runs that try them.
 
-use super::layouts::spliced;
 use super::runs::{RADIUS_3, Want, expect, layout_answers};
-use super::structures::{Part, Structure, library_with};
+use samples::layouts::spliced;
 use std::alloc::Global;
 use std::process::Abort;
 use std::thread::Threads;
-
-/// The parts of the structure `T`, the other structures, the words, and the answer.
-pub type LibraryRow = (
-    &'static [Part<'static>],
-    &'static [Structure<'static>],
-    &'static str,
-    Want,
-);
-
-/// Whether a run on these structures answers as the row says.
-fn library_answers(rt: &(impl Threads + Sync), alloc: Global, row: &LibraryRow) -> bool {
-    let (parts, others, words, want) = row;
-    layout_answers(rt, alloc, words, library_with(alloc, parts, others), want)
-}
-
-/// Stops the test where a run does not answer as its row says.
-pub fn expect_libraries(rt: &(impl Abort + Threads + Sync), alloc: Global, rows: &[LibraryRow]) {
-    for (number, row) in rows.iter().enumerate() {
-        expect(rt, library_answers(rt, alloc, row), number);
-    }
-}
 
 /// A change of the two bars' file: the offset up to which it stands, what follows, the offset from which the rest of the
 /// file follows then, and the answer.

@@ -1,5 +1,5 @@
-use super::layouts::TWO_BARS;
 use super::runs::{NO_SHORT, RADIUS_3, SHORT_32, Want, answers, calm, expect};
+use samples::TWO_BARS;
 
 /// Command lines, and what they are answered for the two bars.
 const WORDS: &[(&str, Want)] = &[

@@ -1,9 +1,9 @@
 ghost use Rattle.std.specs.Prelude.{◌≡◌, length};
 
-use super::layouts::{ACROSS, CUTS, STRIPES, Shapes, nets_of};
-use crate::sides::{Sides, rect_of};
+use crate::nets::{ACROSS, CUTS, STRIPES, Shapes, nets_with};
 use geo_core::Rect;
 use net_extract::Nets;
+use samples::sides::{Sides, rect_of};
 use std::alloc::Global;
 use via_clusters::clusters;
 
@@ -37,7 +37,7 @@ fn have_boxes(alloc: Global, nets: &Nets, wanted: &[Sides]) -> bool
 
 /// Whether the shapes have clusters with these rectangles.
 fn come_to(alloc: Global, shapes: &Shapes, wanted: &[Sides]) -> bool {
-    match nets_of(alloc, shapes) {
+    match nets_with(alloc, "", shapes) {
         Ok(nets) => have_boxes(alloc, &nets, wanted),
         Err(_) => false,
     }

@@ -1,9 +1,9 @@
 ghost use Rattle.std.specs.Prelude.{◌≡◌, length};
 
-use super::layouts::{ACROSS, STRIPES, Shapes, nets_of};
-use crate::sides::Sides;
+use crate::nets::{ACROSS, STRIPES, Shapes, nets_with};
 use geo_core::Rect;
 use net_extract::{ContactGroup, Nets, Piece};
+use samples::sides::Sides;
 use std::alloc::Global;
 
 /// A cell: its column and its row.
@@ -74,7 +74,7 @@ fn have_groups(alloc: Global, nets: &Nets, first: &Group, second: &Group) -> boo
 
 /// Whether the shapes have two groups, these.
 fn come_to(alloc: Global, shapes: &Shapes, first: &Group, second: &Group) -> bool {
-    match nets_of(alloc, shapes) {
+    match nets_with(alloc, "", shapes) {
         Ok(nets) => have_groups(alloc, &nets, first, second),
         Err(_) => false,
     }

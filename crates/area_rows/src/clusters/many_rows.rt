@@ -2,10 +2,10 @@
 
 ghost use Rattle.std.specs.Prelude.{◌≡◌, length};
 
-use super::layouts::nets_of;
 use crate::many::{COUNT, Spread, many};
-use crate::sides::{Sides, sides_of};
+use crate::nets::nets_with;
 use net_extract::Nets;
+use samples::sides::{Sides, sides_of};
 use std::alloc::{AllocError, Global};
 use via_clusters::clusters;
 
@@ -31,7 +31,7 @@ fn has_all(alloc: Global, nets: &Nets) -> bool
 
 /// Whether it has where the cut and the lower metal have these shapes, under one plate.
 fn has_one_each(alloc: Global, table: &[Sides]) -> bool {
-    match nets_of(alloc, &[table, &[(0, 0, 210_000, 2)], table]) {
+    match nets_with(alloc, "", &[table, &[(0, 0, 210_000, 2)], table]) {
         Ok(nets) => has_all(alloc, &nets),
         Err(_) => false,
     }

@@ -1,7 +1,7 @@
 use super::drawn::{AROUND, BESIDE, CORNER, Drawn, FRAME, NECK, WIRE, all_islands};
-use crate::sides::{Sides, rect_of};
 use geo_core::Rect;
 use open_grid::open_area;
+use samples::sides::{Sides, rect_of};
 use std::alloc::Global;
 
 /// What is drawn, one metal after the other, a radius, a window, and from how many of its cells a defect parts two terminals.

@@ -1,11 +1,11 @@
 //! The cells at which defects part terminals, as rectangles that serve for any part of the window.
 
 use super::drawn::{AROUND, BESIDE, Drawn, Spot, WIRE, all_islands, islands_with};
-use crate::sides::{Sides, rect_of};
 use fault_model::Island;
 use geo_core::Rect;
 use half_boxes::GREATEST_SIDE;
 use open_grid::open_cells;
+use samples::sides::{Sides, rect_of};
 use std::alloc::Global;
 use union_area::union_area;
 

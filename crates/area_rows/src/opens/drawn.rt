@@ -3,9 +3,9 @@
 ghost use Rattle.std.specs.Prelude.{◌≡◌, length};
 
 use crate::nets::nets_of;
-use crate::sides::Sides;
 use fault_model::Island;
 use net_extract::Nets;
+use samples::sides::Sides;
 use std::alloc::{AllocError, Global};
 
 /// The column and the row of a cell.

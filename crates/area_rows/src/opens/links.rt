@@ -1,8 +1,8 @@
 //! Boxes in a row, of which each touches the next, and by which pairs they are joined.
 
-use crate::sides::rect_of;
 use geo_core::NoMemory;
 use half_boxes::{HalfBox, grown_links, links_of};
+use samples::sides::rect_of;
 use std::alloc::{AllocError, Global};
 
 /// So few are compared one with another.

@@ -5,11 +5,11 @@ ghost use Rattle.std.specs.Prelude.{◌≡◌, length};
 use super::drawn::{add_islands, islands_with};
 use crate::many::{COUNT, Spread, many};
 use crate::nets::nets_of;
-use crate::sides::{Sides, are_near, sides_of};
 use fault_model::Island;
 use geo_core::{Cell, Rect};
 use net_extract::Nets;
 use open_grid::{open_area, parted};
+use samples::sides::{Sides, are_near, sides_of};
 use std::alloc::{AllocError, Global};
 
 /// The sides of bars, side by side.

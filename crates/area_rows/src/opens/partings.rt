@@ -1,8 +1,8 @@
 use super::drawn::{CORNER, Drawn, FRAME, NECK, Spot, WIRE, islands_of};
-use crate::sides::are_near;
 use fault_model::Island;
 use geo_core::Cell;
 use open_grid::parted;
+use samples::sides::are_near;
 use std::alloc::Global;
 
 /// What is drawn, a radius, a cell, and whether the defect there parts two terminals.

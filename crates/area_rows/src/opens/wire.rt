@@ -3,10 +3,10 @@
 ghost use Rattle.std.specs.Prelude.{◌≡◌, length};
 
 use crate::nets::nets_of;
-use crate::sides::have_sides;
 use fault_model::Island;
 use geo_core::Cell;
 use net_extract::Nets;
+use samples::sides::have_sides;
 use std::alloc::Global;
 
 /// A map of two metals and a cut, with two terminals on the first metal.

@@ -1,6 +1,6 @@
 use super::counting::{are_runs_of, cells_at};
-use crate::sides::{Sides, have_sides, rects_of};
 use depth_sweep::{NoMemory, Rect, twice_runs, union_runs};
+use samples::sides::{Sides, have_sides, rects_of};
 use std::alloc::Global;
 
 /// Rectangles, how many cells they have together, and how many lie in two of them or more.

@@ -2,9 +2,9 @@
 
 ghost use Rattle.std.specs.Prelude.{◌≡◌, ◌<◌, IfOk};
 
-use crate::sides::{Sides, rect_of, rects_of};
 use depth_sweep::{area_once, area_twice};
 use geo_core::{NoMemory, Rect, Steps};
+use samples::sides::{Sides, rect_of, rects_of};
 use std::alloc::Global;
 use std::marker::Brand;
 use std::sync::ledger::{Blank, Ledger};

@@ -1,5 +1,5 @@
-use crate::sides::{Sides, rect_of, rects_of};
 use geo_core::Rect;
+use samples::sides::{Sides, rect_of, rects_of};
 use std::alloc::{AllocError, Global};
 use union_area::union_area;
 

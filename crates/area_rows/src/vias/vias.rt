@@ -1,5 +1,5 @@
-use crate::sides::{Sides, are_near, rect_of, rects_of};
 use geo_core::Rect;
+use samples::sides::{Sides, are_near, rect_of, rects_of};
 use std::alloc::Global;
 use via_clusters::via_area;
 

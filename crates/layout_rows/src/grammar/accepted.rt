@@ -1,10 +1,10 @@
-use super::records::*;
 use super::streams::{TWO_BARS, read_elements, read_records};
 use super::wanted::{
     ORIGIN_POINT, RIGHT_SQUARE_POINTS, SQUARE_POINTS, Wanted, has_one_structure, has_structures,
 };
 use gds_syntax::ShapeKind;
 use geo_core::Point;
+use samples::records::*;
 use std::alloc::Global;
 use std::process::Abort;
 

@@ -1,8 +1,8 @@
 //! The stream of the two bars, cut and changed.
 
 use super::streams::{is_refusal, read};
-use crate::reading::records::TWO_SQUARES;
 use gds_syntax::SyntaxFault;
+use samples::TWO_BARS;
 use std::alloc::Global;
 
 /// Its records: where each begins, and its length.
@@ -31,7 +31,7 @@ const RECORDS: &[(u16, u16)] = &[
 fn is_cut_within(alloc: Global, at: u16, length: u16) -> bool {
     let start = usize::from(at);
     for end in start..start + usize::from(length) {
-        let front = TWO_SQUARES.get(..end).unwrap_or(TWO_SQUARES);
+        let front = TWO_BARS.get(..end).unwrap_or(TWO_BARS);
         if !is_refusal(read(alloc, front), 10, u64::from(at)) {
             return false;
         }
@@ -80,7 +80,7 @@ const FLIPS: &[u8] = &[1, 2, 4, 8, 16, 32, 64, 128, 255];
 /// Whether the stream is answered so where the byte at this offset has one of the other values.
 fn is_changed_at(alloc: Global, at: usize, answer: Answer) -> bool {
     for flip in FLIPS {
-        let mut bytes = *TWO_SQUARES;
+        let mut bytes = *TWO_BARS;
         if let Some(byte) = bytes.get_mut(at) {
             *byte ^= *flip;
         }

@@ -1,5 +1,5 @@
-use super::records::*;
 use super::streams::{TWO_BARS, read_elements};
+use samples::records::*;
 use std::alloc::Global;
 
 /// Whether the index of the stream's library has the name at this place, or not at all.

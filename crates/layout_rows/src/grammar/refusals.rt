@@ -1,8 +1,8 @@
-use super::records::*;
 use super::streams::{is_refusal, read, read_elements};
 use crate::told::says;
 use gds_records::{RecordFault, kinds};
 use gds_syntax::SyntaxFault::{self, Missing, Unexpected};
+use samples::records::*;
 use std::alloc::Global;
 use std::process::Abort;
 

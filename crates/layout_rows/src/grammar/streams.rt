@@ -5,8 +5,8 @@ ghost use Rattle.lists.specs.Differing.{AreDifferent};
 ghost use Rattle.library_model.specs.Names.{names_of};
 ghost use Rattle.gds_write.specs.WellFormed.{IsWellFormed};
 
-use super::records::*;
 use gds_syntax::{Library, SyntaxFault, read_library};
+use samples::records::*;
 use std::alloc::{AllocError, Global};
 
 /// The head and the beginning of the structure `T`. Its first element begins at 94.

@@ -1,10 +1,10 @@
 //! What a usual writer of layouts puts into a stream besides shapes.
 
-use super::records::*;
 use super::streams::read_records;
 use super::wanted::{RIGHT_SQUARE_POINTS, SQUARE_POINTS, Wanted, has_one_structure};
 use gds_syntax::{Library, ShapeKind};
 use geo_core::Point;
+use samples::records::*;
 use std::alloc::Global;
 
 /// Version 5, and dates.

@@ -1,8 +1,8 @@
-use super::records::*;
 use super::same::is_same_library;
 use super::streams::{TWO_BARS, joined, read, stream_of};
 use gds_syntax::Library;
 use gds_write::write_library;
+use samples::records::*;
 use std::alloc::Global;
 
 /// Whether the bytes are read as this library, but for offsets.

@@ -6,34 +6,10 @@ use gds_records::kinds::{
     UNITS, XY,
 };
 use gds_records::{Record, Records};
+use samples::TWO_BARS;
 use std::alloc::Global;
 
-/// A stream with the library `L` and in it the structure `T`, which has two squares with sides of 10 on layer 1.
-pub const TWO_SQUARES: &[u8; 230] = b"\
-    \x00\x06\x00\x02\x02\x58\
-    \x00\x1C\x01\x02\x00\x00\x00\x00\x00\x00\x00\x00\x00\x00\x00\x00\x00\x00\x00\x00\x00\x00\x00\x00\
-    \x00\x00\x00\x00\
-    \x00\x06\x02\x06\x4C\x00\
-    \x00\x14\x03\x05\x41\x10\x00\x00\x00\x00\x00\x00\x41\x10\x00\x00\x00\x00\x00\x00\
-    \x00\x1C\x05\x02\x00\x00\x00\x00\x00\x00\x00\x00\x00\x00\x00\x00\x00\x00\x00\x00\x00\x00\x00\x00\
-    \x00\x00\x00\x00\
-    \x00\x06\x06\x06\x54\x00\
-    \x00\x04\x08\x00\
-    \x00\x06\x0D\x02\x00\x01\
-    \x00\x06\x0E\x02\x00\x00\
-    \x00\x2C\x10\x03\x00\x00\x00\x00\x00\x00\x00\x00\x00\x00\x00\x0A\x00\x00\x00\x00\x00\x00\x00\x0A\
-    \x00\x00\x00\x0A\x00\x00\x00\x00\x00\x00\x00\x0A\x00\x00\x00\x00\x00\x00\x00\x00\
-    \x00\x04\x11\x00\
-    \x00\x04\x08\x00\
-    \x00\x06\x0D\x02\x00\x01\
-    \x00\x06\x0E\x02\x00\x00\
-    \x00\x2C\x10\x03\x00\x00\x00\x0E\x00\x00\x00\x00\x00\x00\x00\x18\x00\x00\x00\x00\x00\x00\x00\x18\
-    \x00\x00\x00\x0A\x00\x00\x00\x0E\x00\x00\x00\x0A\x00\x00\x00\x0E\x00\x00\x00\x00\
-    \x00\x04\x11\x00\
-    \x00\x04\x07\x00\
-    \x00\x04\x04\x00";
-
-/// Its records: where each begins, its kind, the form of its data, and the size of its body.
+/// The records of the two bars: where each begins, its kind, the form of its data, and the size of its body.
 const RECORDS: &[(u16, u8, u8, u8)] = &[
     (0, HEADER, TWO_BYTE_NUMBERS, 2),
     (6, BGNLIB, TWO_BYTE_NUMBERS, 24),
@@ -85,12 +61,12 @@ fn stops(bytes: &[u8], count: usize, fault: RecordFault) -> bool {
     bytes.len() < 1000 && ends(Records::new(bytes), count, Err(fault))
 }
 
-/// Whether the two squares, cut anywhere within their record at this offset, are so many records and then truncated.
+/// Whether the two bars, cut anywhere within their record at this offset, are so many records and then truncated.
 fn is_truncated_within(count: usize, at: u16, size: u8) -> bool {
     let start = usize::from(at);
     let fault = Truncated { at: u32::from(at) };
     for end in start..start + 4 + usize::from(size) {
-        let front = TWO_SQUARES.get(..end).unwrap_or(TWO_SQUARES);
+        let front = TWO_BARS.get(..end).unwrap_or(TWO_BARS);
         if !stops(front, count, fault) {
             return false;
         }
@@ -100,7 +76,7 @@ fn is_truncated_within(count: usize, at: u16, size: u8) -> bool {
 
 #[test]
 fn records_come_one_after_the_other(rt: HostRuntime) {
-    let mut records = Records::new(TWO_SQUARES);
+    let mut records = Records::new(TWO_BARS);
     for (at, kind, form, size) in RECORDS {
         assert!(rt; gives(&mut records, *at, *kind, *form, *size), "at {at}");
     }
@@ -114,10 +90,10 @@ fn cut_streams_are_truncated_within_the_record_that_is_cut(rt: HostRuntime) {
     }
 }
 
-/// Whether nothing comes behind the records of the two squares where many of these bytes follow them.
+/// Whether nothing comes behind the records of the two bars where many of these bytes follow them.
 fn are_ignored(fill: u8) -> bool {
     let mut padded = [fill; 230 + 2048];
-    padded[..230].copy_from_slice(TWO_SQUARES);
+    padded[..230].copy_from_slice(TWO_BARS);
     ends(Records::new(&padded), 18, Ok(None))
 }
 

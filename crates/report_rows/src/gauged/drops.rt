@@ -1,14 +1,14 @@
 use crate::rows::{TWO_METALS, rows_of};
 use gauges::{Gauge, append_texts, tell};
-use hostile_gauges::Counted;
 use lists::NoMemory;
 use report::Row;
+use samples::Counted;
 use std::alloc::Global;
 use std::sync::Arc;
 use std::sync::atomic::{AtomicU64, Ordering};
 
 /// Appends a gauge that counts there when it is dropped.
-fn push_counted(
+pub fn push_counted(
     alloc: Global,
     gauges: &mut Vec<Box<dyn Gauge>>,
     drops: &Arc<AtomicU64>,

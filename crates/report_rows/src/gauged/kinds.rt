@@ -1,20 +1,7 @@
 use crate::rows::{Said, rows_of};
 use gauges::{Gauge, Nonzero, Peak, append_texts, tell};
-use hostile_gauges::{Mute, Silent, Tight};
+use samples::{GaugeKind, Mute, Silent, Tight};
 use std::alloc::{AllocError, Global};
-
-/// A kind of gauge.
-#[derive(Clone, Copy)]
-pub enum GaugeKind {
-    Nonzero,
-    Peak,
-    /// It has room for so many rows.
-    Tight(usize),
-    /// It prints nothing.
-    Silent,
-    /// It refuses to print.
-    Mute,
-}
 
 /// A gauge of this kind, which has seen nothing.
 fn boxed(alloc: Global, kind: GaugeKind) -> Result<Box<dyn Gauge>, AllocError> {

@@ -2,8 +2,8 @@
 
 use super::stream::Form;
 use super::wanted::{Wanted, comes_to};
-use crate::stream::Corner;
 use gds_syntax::ShapeKind;
+use samples::layouts::Corner;
 use std::alloc::{AllocError, Global};
 
 /// A walk from (0, 0): its points of one round, how far right each round begins of the one before, how many rounds there are,

@@ -2,8 +2,8 @@
 
 use super::stream::Form;
 use super::wanted::{Wanted, comes_to};
-use crate::stream::Corner;
 use gds_syntax::ShapeKind;
+use samples::layouts::Corner;
 use std::alloc::Global;
 
 /// A square, and round it in the other direction from another corner.

@@ -2,7 +2,7 @@
 
 use super::stream::{Style, path};
 use super::wanted::{Sides, Wanted, comes_to};
-use crate::stream::Corner;
+use samples::layouts::Corner;
 
 /// A path: its style, its points, and the rectangles that it covers.
 type PathRow = (Style, &'static [Corner], &'static [Sides]);

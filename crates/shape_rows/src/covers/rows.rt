@@ -2,8 +2,8 @@
 
 use super::stream::{Form, Style, path};
 use super::wanted::{Wanted, comes_to};
-use crate::stream::Corner;
 use gds_syntax::ShapeKind;
+use samples::layouts::Corner;
 
 /// A path: its style, its points, and the number of its fault.
 type FaultRow = (Style, &'static [Corner], u8);

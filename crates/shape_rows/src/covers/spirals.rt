@@ -2,8 +2,8 @@
 
 use super::stream::Form;
 use super::wanted::{Wanted, comes_to};
-use crate::stream::Corner;
 use gds_syntax::ShapeKind;
+use samples::layouts::Corner;
 use std::alloc::{AllocError, Global};
 
 /// How many rounds it has. Its arm is two cells wide, and so is what it leaves open.

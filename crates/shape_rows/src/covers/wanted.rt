@@ -4,11 +4,11 @@ ghost use Rattle.library_model.specs.Points.{AreWellPointed};
 
 use super::drawing::{library_of, placed_by};
 use super::stream::Form;
-use crate::stream::Corner;
 use flatten::Motion;
 use gds_syntax::Library;
 use geo_core::Rect;
 use rect_cover::{CoverFault, cover};
+use samples::layouts::Corner;
 use std::alloc::Global;
 
 /// The left, the bottom, the right and the top of a rectangle.

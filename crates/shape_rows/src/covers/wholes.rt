@@ -5,10 +5,10 @@ ghost use Rattle.library_model.specs.Points.{AreWellPointed};
 use super::drawing::{all_placed, library_of};
 use super::stream::Form;
 use super::wanted::{Sides, are_cells};
-use crate::stream::Corner;
 use gds_syntax::{Library, ShapeKind};
 use geo_core::RectList;
 use rect_cover::{CoverFault, cover_all};
+use samples::layouts::Corner;
 use std::alloc::Global;
 use std::thread::Threads;
 

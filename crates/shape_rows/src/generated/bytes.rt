@@ -1,6 +1,6 @@
 use super::records::*;
-use crate::stream::{BGNSTR, ENDEL, ENDLIB, ENDSTR};
 use layout_gen::{MOST_COLUMNS, generate};
+use samples::records::{BGNSTR, ENDEL, ENDLIB, ENDSTR};
 use std::alloc::{AllocError, Global};
 
 /// The records of a layout whose array has these counts and these points.

@@ -2,7 +2,7 @@
 
 use super::rows::{CELL, TOO_MANY, TOP};
 use super::stream::{Outcome, Part, begun, comes_to, push_structure};
-use crate::stream::Corner;
+use samples::layouts::Corner;
 use std::alloc::{AllocError, Global};
 
 /// So many points, of which the last is the first.

@@ -1,8 +1,8 @@
 //! What libraries of a few structures place, also at the limits and of layouts that ask for much more than they place.
 
 use super::stream::{Name, Outcome, Part, Structure, structures_come_to};
-use crate::stream::Corner;
 use flatten::PlaceFault;
+use samples::layouts::Corner;
 
 pub const TOP: Name = *b"TOP_";
 

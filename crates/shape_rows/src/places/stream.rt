@@ -1,9 +1,10 @@
 //! Streams of a few structures, and what they place.
 
-use crate::stream::{BGNSTR, Corner, ENDLIB, ENDSTR, HEAD, push_points};
 use flatten::{PlaceFault, Placed, place};
 use gds_syntax::read_library;
 use map_model::{Map, one_metal};
+use samples::layouts::{Corner, push_points};
+use samples::records::{BGNSTR, ENDLIB, ENDSTR, HEAD};
 use std::alloc::{AllocError, Global};
 
 /// The name of a structure.

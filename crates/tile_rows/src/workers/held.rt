@@ -3,8 +3,8 @@
 
 use super::jobs::SumJob;
 use crate::totals::are_totals;
-use holding_gate::{FEW_TURNS, HoldFirst, USUAL_TURNS};
 use lists::NoMemory;
+use samples::{FEW_TURNS, HoldFirst, USUAL_TURNS};
 use std::alloc::Global;
 use std::thread::Threads;
 use tile_board::Board;

@@ -1,9 +1,9 @@
-use crate::layouts::TWO_BARS;
 use crate::runs::expect;
 use critarea_core::{Gate, LayoutFault, NoGate, analyse};
 use layer_map::read_map;
 use map_model::{Map, one_metal};
 use report::Row;
+use samples::TWO_BARS;
 use std::alloc::Global;
 use std::thread::Threads;
 

@@ -4,12 +4,12 @@
 ghost use Rattle.std.specs.Prelude.{◌≤◌};
 
 use super::analysed::{Want as Analysis, answers};
-use crate::generated::ONE_CELL;
-use crate::layouts::TWO_BARS;
+use crate::maps::generated::ONE_CELL;
+use crate::reports::push_row;
 use crate::rows::BARS_REPORT;
 use crate::runs::{Failing, Given, Want, calm, expect, gated_answers, mapped, run_on};
-use holding_gate::{FEW_TURNS, HoldFirst, USUAL_TURNS};
 use map_model::one_metal;
+use samples::{FEW_TURNS, HoldFirst, TWO_BARS, USUAL_TURNS};
 use std::alloc::{AllocError, Global};
 use std::thread::Threads;
 
@@ -157,11 +157,10 @@ fn short_of_bars(radius: u32) -> u32
 }
 
 /// Appends the rows of a kind and a metal.
-fn push_rows(alloc: Global, text: &mut String, words: &str, bars: bool) -> Result<(), AllocError> {
+fn push_rows(text: &mut String, words: &str, bars: bool) -> Result<(), AllocError> {
     for radius in 1..33 {
         let area = if bars { short_of_bars(radius) } else { 0 };
-        let row = format!(in alloc; "{words} r={radius} area={area} weight=1 sum={area}\n")?;
-        text.push_str(row.as_str())?;
+        push_row(text, words, (radius, 1), u64::from(area))?;
     }
     Ok(())
 }
@@ -170,7 +169,7 @@ fn push_rows(alloc: Global, text: &mut String, words: &str, bars: bool) -> Resul
 fn many_rows(alloc: Global) -> Result<String, AllocError> {
     let mut text = String::new(alloc);
     for (words, bars) in BLOCKS {
-        push_rows(alloc, &mut text, words, *bars)?;
+        push_rows(&mut text, words, *bars)?;
     }
     text.push_str(TOTALS)?;
     Ok(text)

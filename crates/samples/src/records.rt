@@ -1,4 +1,4 @@
-//! Records that streams are made of.
+//! Records that layouts are made of.
 
 /// The head of a library `L`: version, dates, name and units.
 pub const HEAD: &[u8] = b"\

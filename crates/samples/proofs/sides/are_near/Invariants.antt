@@ -1,6 +1,6 @@
 use Rattle.std.proofs.Common.{All, take}
 use Rattle.geo_core.specs.Plane.{IsInLayout}
-use Rattle.area_rows.proofs.sides.are_near.Given as goal
+use Rattle.samples.proofs.sides.are_near.Given as goal
 
 abbrev pub invariant-loop-rect : goal.invariant-loop-rect
 invariant-loop-rect l = All IsInLayout (take l.rect-index l.rects)

@@ -1,6 +1,6 @@
 use Rattle.lists.proofs.Reading.{All-read, All-read_all}
 use Rattle.geo_core.specs.Plane.{IsInLayout}
-use Rattle.area_rows.proofs.sides.are_near.Goals as goal
+use Rattle.samples.proofs.sides.are_near.Goals as goal
 
 pub loop-rect-preserved : goal.loop-rect-preserved
 loop-rect-preserved c =

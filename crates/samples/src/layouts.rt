@@ -1,33 +1,12 @@
+//! Layouts of one structure, made element by element.
+
+use crate::records::{ENDEL, PATH_ON_1};
+use crate::sides::Sides;
+use crate::two_bars::TWO_BARS;
 use std::alloc::{AllocError, Global};
 
-/// The file of the two bars, byte for byte: a library `L` with one structure `T`, and in it `[0,10)x[0,10)` and
-/// `[14,24)x[0,10)` on layer 1.
-pub const TWO_BARS: &[u8; 230] = b"\
-    \x00\x06\x00\x02\x02\x58\
-    \x00\x1C\x01\x02\x00\x00\x00\x00\x00\x00\x00\x00\x00\x00\x00\x00\x00\x00\x00\x00\x00\x00\x00\x00\
-    \x00\x00\x00\x00\
-    \x00\x06\x02\x06\x4C\x00\
-    \x00\x14\x03\x05\x41\x10\x00\x00\x00\x00\x00\x00\x41\x10\x00\x00\x00\x00\x00\x00\
-    \x00\x1C\x05\x02\x00\x00\x00\x00\x00\x00\x00\x00\x00\x00\x00\x00\x00\x00\x00\x00\x00\x00\x00\x00\
-    \x00\x00\x00\x00\
-    \x00\x06\x06\x06\x54\x00\
-    \x00\x04\x08\x00\
-    \x00\x06\x0D\x02\x00\x01\
-    \x00\x06\x0E\x02\x00\x00\
-    \x00\x2C\x10\x03\x00\x00\x00\x00\x00\x00\x00\x00\x00\x00\x00\x0A\x00\x00\x00\x00\x00\x00\x00\x0A\
-    \x00\x00\x00\x0A\x00\x00\x00\x00\x00\x00\x00\x0A\x00\x00\x00\x00\x00\x00\x00\x00\
-    \x00\x04\x11\x00\
-    \x00\x04\x08\x00\
-    \x00\x06\x0D\x02\x00\x01\
-    \x00\x06\x0E\x02\x00\x00\
-    \x00\x2C\x10\x03\x00\x00\x00\x0E\x00\x00\x00\x00\x00\x00\x00\x18\x00\x00\x00\x00\x00\x00\x00\x18\
-    \x00\x00\x00\x0A\x00\x00\x00\x0E\x00\x00\x00\x0A\x00\x00\x00\x0E\x00\x00\x00\x00\
-    \x00\x04\x11\x00\
-    \x00\x04\x07\x00\
-    \x00\x04\x04\x00";
-
-/// The left, the bottom, the right and the top of a rectangle.
-pub type Sides = (i32, i32, i32, i32);
+/// A point of a shape.
+pub type Corner = (i32, i32);
 
 /// A layer, a datatype, and a rectangle on them.
 pub type Plate = (u16, u16, Sides);
@@ -68,20 +47,29 @@ pub fn push_record(
     layout.extend_from_slice(body)
 }
 
-/// Appends XY with these points, and ENDEL.
-pub fn push_points(elements: &mut Vec<u8>, points: &[(i32, i32)]) -> Result<(), AllocError> {
-    push_head(elements, 0x10, 3, points.len().saturating_mul(8))?;
+/// Appends the coordinates of these points.
+fn push_coordinates(elements: &mut Vec<u8>, points: &[Corner]) -> Result<(), AllocError> {
     for (x, y) in points {
-        elements.extend_from_slice(&x.to_be_bytes())?;
-        elements.extend_from_slice(&y.to_be_bytes())?;
+        elements.extend_from_slice(x.to_be_bytes().as_slice())?;
+        elements.extend_from_slice(y.to_be_bytes().as_slice())?;
     }
-    push_record(elements, 0x11, 0, &[])
+    Ok(())
+}
+
+/// Appends XY with these points, at most 8,191 of them, and ENDEL.
+pub fn push_points(elements: &mut Vec<u8>, points: &[Corner]) -> Result<(), AllocError> {
+    let most = points.len().min(8191);
+    push_head(elements, 0x10, 3, most * 8)?;
+    push_coordinates(elements, &points[..most])?;
+    elements.extend_from_slice(ENDEL)
 }
 
 /// The two kinds of shapes that fill an outline.
 #[derive(Clone, Copy)]
 pub enum Filled {
+    /// A boundary.
     Boundary,
+    /// A box.
     BoxElement,
 }
 
@@ -100,7 +88,7 @@ pub fn push_filled(
     elements: &mut Vec<u8>,
     filled: Filled,
     (layer, datatype): (u16, u16),
-    points: &[(i32, i32)],
+    points: &[Corner],
 ) -> Result<(), AllocError> {
     let (opening, own) = filled.kinds();
     push_record(elements, opening, 0, &[])?;
@@ -126,10 +114,7 @@ pub fn plates(alloc: Global, shapes: &[Plate]) -> Result<Vec<u8>, AllocError> {
 }
 
 /// A path on layer 1: what its records PATHTYPE and WIDTH say, what BGNEXTN and ENDEXTN say, and its points.
-pub type Wire = (i16, i32, (i32, i32), &'static [(i32, i32)]);
-
-/// PATH, LAYER with the layer 1, and DATATYPE with the datatype 0.
-const PATH: &[u8] = b"\x00\x04\x09\x00\x00\x06\x0D\x02\x00\x01\x00\x06\x0E\x02\x00\x00";
+pub type Wire<'a> = (i16, i32, (i32, i32), &'a [Corner]);
 
 /// Appends records of these kinds, each with a number of four bytes.
 fn push_numbers(elements: &mut Vec<u8>, numbers: &[(u8, i32)]) -> Result<(), AllocError> {
@@ -140,9 +125,9 @@ fn push_numbers(elements: &mut Vec<u8>, numbers: &[(u8, i32)]) -> Result<(), All
 }
 
 /// Appends a path with all of its records.
-pub fn push_wire(elements: &mut Vec<u8>, wire: &Wire) -> Result<(), AllocError> {
+pub fn push_wire(elements: &mut Vec<u8>, wire: &Wire<'_>) -> Result<(), AllocError> {
     let (pathtype, width, (begin, end), points) = *wire;
-    elements.extend_from_slice(PATH)?;
+    elements.extend_from_slice(PATH_ON_1)?;
     push_record(elements, 0x21, 2, &pathtype.to_be_bytes())?;
     push_numbers(elements, &[(0x0F, width), (0x30, begin), (0x31, end)])?;
     push_points(elements, points)

@@ -1,6 +1,5 @@
 //! A gate for tests of workers. It holds the tickets that come first until all others have come, so that a run passes it only
 //! where enough workers draw tickets at once.
-#![tactic(auto)]
 
 use std::sync::atomic::{AtomicU64, Ordering};
 use tile_work::Gate;

@@ -1,4 +1,4 @@
-use Rattle.hostile_gauges.proofs.hostile.MuteGauge.line.Goals as goal
+use Rattle.samples.proofs.hostile.MuteGauge.line.Goals as goal
 
 -- two letters went out
 pub returns-clause-prefix : goal.returns-clause-prefix

@@ -2,11 +2,11 @@
 
 ghost use Rattle.std.specs.Prelude.{◌≡◌, length};
 
-use super::net_rows::nets_with;
-use super::sides::{Sides, sides_of};
+use super::nets::nets_with;
 use geo_core::{Labelled, NoMemory, Rect};
 use islands::label;
 use net_extract::{ContactPiece, Nets, Piece};
+use samples::sides::{Sides, sides_of};
 use short_area::short_area;
 use std::alloc::{AllocError, Global};
 
@@ -132,7 +132,7 @@ fn is_one_net(nets: &Nets) -> bool
 
 /// Whether a plate over all of the squares makes one net of them through a cut of one cell in each.
 fn are_joined(alloc: Global, squares: &[Sides], cells: &[Sides]) -> bool {
-    match nets_with(alloc, "", [squares, &[(0, 0, 1000, 500)], cells]) {
+    match nets_with(alloc, "", &[squares, &[(0, 0, 1000, 500)], cells]) {
         Ok(nets) => is_one_net(&nets),
         Err(_) => false,
     }

@@ -1,16 +1,10 @@
-ghost use Rattle.std.specs.Prelude.{◌≡◌, IfOk, length};
+ghost use Rattle.std.specs.Prelude.{◌≡◌, length};
 
-use super::nets::nets_of;
-use super::sides::Sides;
+use super::nets::{ACROSS, CUTS, STRIPES, Shapes, nets_with};
 use geo_core::{Cell, NoMemory, Rect};
 use net_extract::{Anchor, ContactPiece, Island, NetFault, Nets, Piece};
+use samples::sides::Sides;
 use std::alloc::Global;
-
-/// Two metals and a cut between them.
-const METALS: &str = "version = 1\nradii = [1]\nweights = [1]\n\
-    [[metal]]\nname = \"m1\"\npairs = [[1, 0]]\n\
-    [[metal]]\nname = \"m2\"\npairs = [[3, 0]]\n\
-    [[cut]]\nname = \"v1\"\npairs = [[2, 0]]\nlower = \"m1\"\nupper = \"m2\"\n";
 
 /// Terminals of the first metal at both ends of a wire, and one of the second metal.
 const TERMINALS: &str = "[[terminal]]\nmetal = \"m1\"\nx = 0\ny = 0\n\
@@ -19,18 +13,6 @@ const TERMINALS: &str = "[[terminal]]\nmetal = \"m1\"\nx = 0\ny = 0\n\
 
 /// A terminal of the first metal.
 const ONE_TERMINAL: &str = "[[terminal]]\nmetal = \"m1\"\nx = 5\ny = 5\n";
-
-/// The rectangles of the first metal, the second metal and the cut.
-pub type Shapes<'a> = [&'a [Sides]; 3];
-
-/// The nets of the rectangles, with these terminals.
-pub fn nets_with(alloc: Global, terminals: &str, shapes: Shapes) -> Result<Nets, NetFault>
-    ensures metals { IfOk result (λ nets. length nets.pieces ≡ 2) }
-    ensures cuts { IfOk result (λ nets. length nets.contacts ≡ 1) }
-{
-    let text = format!(in alloc; "{METALS}{terminals}")?;
-    nets_of(alloc, text.as_str(), 2, 1, &shapes)
-}
 
 /// A cell: its column and its row.
 type Place = (i32, i32);
@@ -126,7 +108,7 @@ type Row = (Shapes<'static>, &'static [Named], &'static [Sides]);
 /// Whether the rectangles come to such islands, nets and contacts. How many pieces and contact pieces there are, in which
 /// order they come and which numbers they have is not promised.
 fn come_to(alloc: Global, row: &Row) -> bool {
-    match nets_with(alloc, "", row.0) {
+    match nets_with(alloc, "", &row.0) {
         Ok(nets) => {
             let metals = [nets.pieces(0), nets.pieces(1)];
             have_names(&metals, row.1)
@@ -136,13 +118,6 @@ fn come_to(alloc: Global, row: &Row) -> bool {
         Err(_) => false,
     }
 }
-
-/// Two wires, a bar across both, and a cut on each.
-const STRIPES: &[Sides] = &[(0, 0, 10, 4), (0, 8, 10, 12)];
-
-const BAR: &[Sides] = &[(0, 0, 4, 12)];
-
-const CUTS: &[Sides] = &[(0, 0, 2, 2), (0, 8, 2, 10)];
 
 /// A square, what overlaps its last column, and a cut over the sides of both.
 const SQUARE: &[Sides] = &[(0, 0, 4, 4)];
@@ -168,7 +143,7 @@ const SQUARES: &[Sides] = &[(0, 0, 4, 4), (0, 0, 4, 4)];
 
 const NETS: &[Row] = &[
     (
-        [STRIPES, BAR, CUTS],
+        [STRIPES, ACROSS, CUTS],
         &[
             (0, (9, 1), 'a', 'n'),
             (0, (9, 9), 'b', 'n'),
@@ -177,7 +152,7 @@ const NETS: &[Row] = &[
         CUTS,
     ),
     (
-        [STRIPES, BAR, &[(0, 0, 2, 2)]],
+        [STRIPES, ACROSS, &[(0, 0, 2, 2)]],
         &[
             (0, (9, 1), 'a', 'n'),
             (0, (9, 9), 'b', 'm'),
@@ -295,7 +270,7 @@ const FEW: &[(Shapes<'_>, [usize; 3])] = &[
 
 /// Whether there are so many pieces and contact pieces at most.
 fn are_few(alloc: Global, shapes: Shapes, most: [usize; 3]) -> bool {
-    match nets_with(alloc, "", shapes) {
+    match nets_with(alloc, "", &shapes) {
         Ok(nets) => {
             nets.pieces(0).len() <= most[0]
                 && nets.pieces(1).len() <= most[1]
@@ -379,7 +354,7 @@ fn has_the_wire(alloc: Global, nets: &Nets) -> bool
 
 /// Whether a wire with terminals at its ends is one island with these, and the only one that is handed out.
 fn is_anchored(alloc: Global) -> bool {
-    match nets_with(alloc, TERMINALS, [WIRE, SQUARE, &[]]) {
+    match nets_with(alloc, TERMINALS, &[WIRE, SQUARE, &[]]) {
         Ok(nets) => has_the_wire(alloc, &nets),
         Err(_) => false,
     }
@@ -409,7 +384,7 @@ fn counts(islands: Result<Vec<Island>, NoMemory>) -> Option<(usize, usize)> {
 
 /// The same of the islands of the first metal that are handed out.
 fn handed_out(alloc: Global, terminals: &str, shapes: Shapes) -> Option<(usize, usize)> {
-    match nets_with(alloc, terminals, shapes) {
+    match nets_with(alloc, terminals, &shapes) {
         Ok(nets) => counts(nets.islands(alloc, 0)),
         Err(_) => None,
     }
@@ -431,7 +406,7 @@ const HANDED_OUT: &[(&str, Shapes<'_>, (usize, usize))] = &[
     // one anchor is too few
     (ONE_TERMINAL, [&[(5, 5, 6, 6)], &[], &[]], (0, 0)),
     // without terminals no island is handed out
-    ("", [STRIPES, BAR, CUTS], (0, 0)),
+    ("", [STRIPES, ACROSS, CUTS], (0, 0)),
 ];
 
 #[test]
@@ -446,7 +421,7 @@ fn terminals_at_corner_cells_are_anchors(rt: HostRuntime) {
 
 /// The number and the place of the fault, and 0 and 0 where there is none.
 fn outcome(alloc: Global, terminals: &str, shapes: Shapes) -> (u8, u64) {
-    match nets_with(alloc, terminals, shapes) {
+    match nets_with(alloc, terminals, &shapes) {
         Ok(_) => (0, 0),
         Err(fault) => (fault.number(), fault.place()),
     }

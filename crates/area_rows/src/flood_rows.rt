@@ -3,11 +3,11 @@ ghost use Rattle.std.specs.Prelude.{◌≡◌, length};
 use super::flood::{
     AREA, agree_with, edges, edges_and_contacts, has, is_covered, is_in_all, place_of,
 };
-use super::net_rows::{Shapes, nets_with};
-use super::sides::{Sides, rects_of, sides_of};
+use super::nets::{Shapes, nets_with};
 use geo_core::Rect;
 use islands::label;
 use net_extract::{ContactPiece, Nets, Piece};
+use samples::sides::{Sides, rects_of, sides_of};
 use std::alloc::{AllocError, Global};
 
 /// One of many rectangles of the field, at most `longest` columns and rows long. Other seeds give others.
@@ -265,7 +265,7 @@ fn is_flood(alloc: Global, nets: &Nets, shapes: &Shapes) -> bool
 
 /// Whether the islands and the nets of two metals and a cut are those of a flood.
 fn all_agree(alloc: Global, shapes: Shapes) -> bool {
-    match nets_with(alloc, "", shapes) {
+    match nets_with(alloc, "", &shapes) {
         Ok(nets) => is_flood(alloc, &nets, &shapes),
         Err(_) => false,
     }

@@ -1,8 +1,8 @@
 //! What hangs together on a small field, cell by cell: each cell takes the least number of its neighbours, again and
 //! again.
 
-use super::sides::Sides;
 use geo_core::Rect;
+use samples::sides::Sides;
 use std::alloc::{AllocError, Global};
 
 /// How many cells the field is wide, and how many it is high.

@@ -3,11 +3,11 @@
 
 ghost use Rattle.std.specs.Prelude.{◌≡◌, length};
 
-use super::net_rows::{Shapes, nets_with};
-use super::sides::{Sides, sides_of};
+use super::nets::{Shapes, nets_with};
 use geo_core::{NoMemory, Rect};
 use islands::label;
 use net_extract::{ContactGroup, Island, Nets};
+use samples::sides::{Sides, sides_of};
 use std::alloc::{AllocError, Global};
 use touch_sweep::{meetings, touch_links, touch_pairs};
 
@@ -145,7 +145,7 @@ fn counts_of(alloc: Global, nets: &Nets) -> Option<Counts>
 
 /// Those of the nets of these shapes.
 fn counts_in(alloc: Global, shapes: Shapes) -> Option<Counts> {
-    match nets_with(alloc, "", shapes) {
+    match nets_with(alloc, "", &shapes) {
         Ok(nets) => counts_of(alloc, &nets),
         Err(_) => None,
     }
@@ -216,7 +216,7 @@ fn stairs_are_handed_out(alloc: Global) -> bool {
     let Ok(stairs) = table(alloc, Kind::Stairs) else {
         return false;
     };
-    match nets_with(alloc, ENDS, [stairs.as_slice(), &[], &[]]) {
+    match nets_with(alloc, ENDS, &[stairs.as_slice(), &[], &[]]) {
         Ok(nets) => are_the_stairs(nets.islands(alloc, 0)),
         Err(_) => false,
     }

@@ -1,0 +1,14 @@
+/// A kind of gauge: those of the program, and those that no caller should trust.
+#[derive(Clone, Copy)]
+pub enum GaugeKind {
+    /// It counts the rows that are not 0.
+    Nonzero,
+    /// It tells the greatest product.
+    Peak,
+    /// It has room for so many rows.
+    Tight(usize),
+    /// It prints nothing.
+    Silent,
+    /// It refuses to print.
+    Mute,
+}
