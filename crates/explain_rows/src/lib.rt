@@ -4,6 +4,8 @@
 #[cfg(test)]
 mod inputs;
 #[cfg(test)]
+mod layers;
+#[cfg(test)]
 mod layouts;
 #[cfg(test)]
 mod maps;

@@ -2,8 +2,10 @@
 
 ghost use Rattle.std.specs.Prelude.{◌≤◌};
 
+use crate::asked::{Asked, asked_of};
 use crate::inputs::{Input, LONGEST_LAYOUT, read_again};
 use crate::layouts::{Layout, Origin, tell_layout};
+use crate::listing::tell_listing;
 use crate::maps::tell_map_fault;
 use crate::path_kinds::Paths;
 use crate::telling::Telling;
@@ -166,6 +168,39 @@ fn tell_file<F: Files, P: Paths>(
     }
 }
 
+/// Tells the layers of the layout that these bytes are.
+fn tell_layers(
+    alloc: Global,
+    told: &mut Telling,
+    asked: &Asked<'_>,
+    bytes: &[u8],
+) -> Result<(), NoMemory> {
+    if bytes.len() > LONGEST_LAYOUT {
+        return Ok(());
+    }
+    let layout = Layout {
+        origin: Origin::File(asked.layout.as_bytes()),
+        bytes,
+        top: asked.top.map(str::as_bytes),
+    };
+    tell_listing(alloc, told, &layout, asked.as_map)
+}
+
+/// Tells the layers that are asked for.
+fn tell_asked<F: Files, P: Paths>(
+    alloc: Global,
+    told: &mut Telling,
+    asked: &Asked<'_>,
+    files: &mut F,
+    paths: &P,
+) -> Result<(), NoMemory> {
+    let name = asked.layout.as_bytes();
+    match read_again(alloc, told, files, paths, Input::Layout, name)? {
+        Some(bytes) => tell_layers(alloc, told, asked, bytes.as_slice()),
+        None => Ok(()),
+    }
+}
+
 /// Tells of the run of these words on these files.
 fn tell<F: Files, P: Paths>(
     alloc: Global,
@@ -181,7 +216,8 @@ fn tell<F: Files, P: Paths>(
     }
 }
 
-/// What is to be said of the run of these words on these files.
+/// What is to be said of these words on these files: of a run, or, where they name a layout and at most its top, of that
+/// layout's layers.
 pub fn explain<F: Files, P: Paths>(
     alloc: Global,
     words: &[Word],
@@ -192,7 +228,10 @@ pub fn explain<F: Files, P: Paths>(
         status: 0,
         text: Text::new(alloc),
     };
-    tell(alloc, &mut told, words, files, paths)?;
+    match asked_of(words) {
+        Some(asked) => tell_asked(alloc, &mut told, &asked, files, paths)?,
+        None => tell(alloc, &mut told, words, files, paths)?,
+    }
     let Telling { status, text } = told;
     Ok(Explanation {
         status,

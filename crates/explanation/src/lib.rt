@@ -1,9 +1,12 @@
 //! What critarea finds wrong with the words, the map or the layout of a run, in words for people. It reads the same files
 //! again by the same readers, finds the same first refusal, and tells more of it than a number and a place: the key, the
-//! structure by its name, the element. Its text is no promise, and may change.
+//! structure by its name, the element. Of a layout alone it tells the layers, or a map of them. Its text is no promise, and
+//! may change.
 #![tactic(auto)]
 
+mod asked;
 mod beginnings;
+mod bounds;
 mod explanation;
 mod good;
 mod graph;
@@ -11,19 +14,27 @@ mod inputs;
 mod kind_names;
 mod layer_names;
 mod layouts;
+mod listing;
+mod map_lines;
 mod map_spot;
 mod maps;
+mod metal_islands;
+mod off_metal;
+mod pairs;
 mod path_kinds;
 mod places;
 mod position;
 mod quoted;
 mod refused;
 mod shapes;
+mod skeleton;
 mod spot;
+mod standing;
 mod structures;
 mod telling;
 mod terminals;
 mod text;
+mod texts;
 mod unit;
 mod usage;
 mod words;
