@@ -181,7 +181,10 @@ fn tell_layers(
     let layout = Layout {
         origin: Origin::File(asked.layout.as_bytes()),
         bytes,
-        top: asked.top.map(str::as_bytes),
+        top: match asked.top {
+            Some(top) => Some(top.as_bytes()),
+            None => None,
+        },
     };
     tell_listing(alloc, told, &layout, asked.as_map)
 }

@@ -217,17 +217,24 @@ fn is_meant(spot: Spot, key: &str) -> bool {
     }
 }
 
+/// Goes behind the head of a table of a list in this line.
+fn enter_table(walk: &mut Walk, list: List, line: u64) {
+    let number = tables_of(walk, list);
+    count_table(walk, list);
+    walk.owner = Owner::Item(list.key(), number);
+    if let Some((meant, of)) = table_of(walk.spot) {
+        if meant.key() == list.key() && of == number {
+            walk.table = Some(line);
+        }
+    }
+}
+
 /// Goes behind the head of a table in this line. The answer is the place, where it is found.
 fn pass_head(walk: &mut Walk, key: &str, value: &Value, line: u64) -> Option<Line> {
     walk.owner = Owner::Other;
-    if let (Some(list), Value::Array(_)) = (list_of(key), value) {
-        let number = tables_of(walk, list);
-        count_table(walk, list);
-        walk.owner = Owner::Item(list.key(), number);
-        if let Some((meant, of)) = table_of(walk.spot) {
-            if meant.key() == key && of == number {
-                walk.table = Some(line);
-            }
+    if matches!(value, Value::Array(_)) {
+        if let Some(list) = list_of(key) {
+            enter_table(walk, list, line);
         }
     }
     if is_meant(walk.spot, key) {

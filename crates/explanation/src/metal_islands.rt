@@ -138,18 +138,15 @@ pub fn metal_islands(
 
 /// Tells how many islands a metal has, and how many of them have terminals.
 pub fn tell_island_counts(text: &mut Text, map: &Map, metal: usize, islands: &MetalIslands) {
-    let MetalIslands {
-        none,
-        one,
-        more,
-        ..
-    } = islands;
-    let all = none.saturating_add(*one).saturating_add(*more);
+    let all = islands
+        .none
+        .saturating_add(islands.one)
+        .saturating_add(islands.more);
     tell_layer(text, "  ", map, metal);
     text.number(": ", all, " islands: ");
-    text.number("", *none, " with no terminal, ");
-    text.number("", *one, " with one, ");
-    text.number("", *more, " with more\n");
+    text.number("", islands.none, " with no terminal, ");
+    text.number("", islands.one, " with one, ");
+    text.number("", islands.more, " with more\n");
 }
 
 /// Tells an island by its metal and by a cell that it has.

@@ -180,8 +180,10 @@ pub fn all_pairs(
     for one in texts {
         note_text(&mut pairs, one)?;
     }
-    let Pairs { held, numbers: _ } = pairs;
-    let mut held = held;
+    let Pairs {
+        numbers: _numbers,
+        mut held,
+    } = pairs;
     held.sort_by_key(|one| one.pair)?;
     Ok(held)
 }

@@ -17,14 +17,9 @@ use indexmap::IndexSet;
 use layer_map::{MapFault, read_map};
 use library_model::Library;
 use lists::NoMemory;
+use map_model::limits::{MOST_METALS, MOST_TERMINALS};
 use map_model::{Map, Metal};
 use std::alloc::Global;
-
-/// The most metals of a map.
-const MOST_METALS: u64 = 16;
-
-/// The most terminals of a map.
-const MOST_TERMINALS: usize = 10_000;
 
 /// What stands in front of the lines that are comments until they are wanted.
 const COMMENT: &str = "#";
@@ -67,7 +62,7 @@ fn tell_metal(text: &mut Text, before: &str, held: &PairHeld, has_top: bool) {
 
 /// Tells a metal for each pair with shapes. Those behind the most that a map has are comments.
 fn tell_metals(text: &mut Text, pairs: &[PairHeld], has_top: bool) {
-    let mut count = 0u64;
+    let mut count = 0usize;
     for held in pairs {
         if shapes_of(held) == 0 {
             continue;
@@ -110,15 +105,17 @@ fn add_known(
     mark: &TextMark<'_>,
 ) -> Result<(), NoMemory> {
     let (i, j) = mark.point;
-    for (metal, one) in map.metals.as_slice().iter().enumerate() {
+    let mut metal = 0u32;
+    for one in map.metals.as_slice() {
         if has_layer(one, mark.layer) {
             known.push(Known {
                 index,
-                metal: metal as u32,
+                metal,
                 cell: Cell { i, j },
                 rect: None,
             })?;
         }
+        metal = metal.saturating_add(1);
     }
     Ok(())
 }
