@@ -109,12 +109,6 @@ const ROWS: &[(&[u8], &str)] = &[
          not known: 'note'\n  \
          known: version radii weights metal cut terminal\n",
     ),
-    // one radius too many
-    (
-        b"version = 1\nradii = [1, 2, 3, 4, 5, 6, 7, 8, 9, 10, 11, 12, 13, 14, 15, 16, 17, 18, 19, 20, 21, 22, 23, 24, 25, 26, 27, 28, 29, 30, 31, 32, 33]\n",
-        "error 47 at 3\n\
-         map 'm', line 2, `radii`: it has 33 items, and at most 32 are taken; shorten it, or share them among two maps\n",
-    ),
     // tables in an array
     (
         b"version = 1\nradii = [1]\nweights = [1]\nmetal = [\n  {name = \"a\", pairs = [[1, 0]]},\n  {name = \"b\"},\n]\n",

@@ -6,7 +6,7 @@ ghost use Rattle.library_model.specs.Names.{names_of};
 ghost use Rattle.library_model.specs.Points.{AreWellPointed};
 
 use crate::good::tell_library;
-use crate::graph::{Graph, graph_of, only_top, times_placed};
+use crate::graph::{Graph, first_top, graph_of, only_top, times_placed};
 use crate::layouts::{Layout, tell_syntax};
 use crate::pairs::{PairHeld, all_pairs, tell_pair};
 use crate::skeleton::tell_skeleton;
@@ -54,8 +54,11 @@ fn tell_head(
         return Ok(());
     }
     text.say("\n");
+    if first_top(graph).is_none() {
+        return Ok(());
+    }
     tell_tops(alloc, text, library.structures.as_slice(), graph)?;
-    text.say("  --top NAME names one of them, whose shapes are then told\n");
+    text.say("  --top NAME tells which shapes one of them places\n");
     Ok(())
 }
 

@@ -19,11 +19,6 @@ const RADII: u32 = 3;
 /// The path of the list of terminals.
 const TERMINALS: u32 = 7;
 
-/// What is to be done about too many terminals.
-const FEWER_TERMINALS: &str =
-    "share them among two maps, with those of each island in one, and add up their opens\n  \
-     --explain of a map with some of them lists these by islands, which it tells alike for all maps of the same layers\n";
-
 /// Tells what the reader of TOML says of a text, and where.
 fn tell_syntax(text: &mut Text, bytes: &[u8], error: &toml::de::Error) {
     let Some(span) = error.span() else {
@@ -375,12 +370,7 @@ fn tell_limit(text: &mut Text, document: &Table, path: u32, spot: Spot) {
         _ => 0,
     };
     text.number("it has ", count as u64, " items, and at most ");
-    text.number("", most, " are taken; ");
-    text.say(match path {
-        RADII => "shorten it, or share them among two maps\n",
-        TERMINALS => FEWER_TERMINALS,
-        _ => "shorten it\n",
-    });
+    text.number("", most, " are taken; shorten it, or make two maps\n");
 }
 
 /// Tells what is wrong at a place of a document.
