@@ -8,6 +8,8 @@ mod layers;
 #[cfg(test)]
 mod layouts;
 #[cfg(test)]
+mod many;
+#[cfg(test)]
 mod maps;
 #[cfg(test)]
 mod rows;

@@ -4,7 +4,7 @@ use crate::bounds::{bounds_of, tell_bounds};
 use crate::graph::{Graph, first_top, graph_of};
 use crate::layer_names::tell_layer;
 use crate::layouts::Layout;
-use crate::metal_islands::{MetalIslands, metal_islands, tell_carried, tell_island_counts};
+use crate::metal_islands::{MetalIslands, metal_islands, tell_all_carried, tell_island_counts};
 use crate::pairs::tell_pairs_of;
 use crate::shapes::{Held, Shapes};
 use crate::text::Text;
@@ -136,17 +136,6 @@ fn tell_all_counts(text: &mut Text, map: &Map, layers: &[Held], islands: &[Metal
     }
 }
 
-/// Tells which terminals are on which islands, where the map has terminals.
-fn tell_all_carried(text: &mut Text, map: &Map, layers: &[Held], islands: &[MetalIslands]) {
-    if map.terminals.as_slice().is_empty() {
-        return;
-    }
-    text.say("  terminals by islands, each told by a cell of it; terminals are counted from 1\n");
-    for (metal, (held, islands)) in layers.iter().zip(islands.iter()).enumerate() {
-        tell_carried(text, map, metal, held, islands);
-    }
-}
-
 /// Tells of a layout that is good.
 pub fn tell_good(
     alloc: Global,
@@ -168,6 +157,8 @@ pub fn tell_good(
     text.say("\n");
     tell_layers(text, map, layers);
     tell_all_counts(text, map, layers, islands);
-    tell_all_carried(text, map, layers, islands);
+    if !map.terminals.as_slice().is_empty() {
+        tell_all_carried(text, map, layers, islands);
+    }
     Ok(())
 }

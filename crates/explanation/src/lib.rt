@@ -21,6 +21,7 @@ mod maps;
 mod metal_islands;
 mod off_metal;
 mod pairs;
+mod parting;
 mod path_kinds;
 mod places;
 mod position;

@@ -308,7 +308,7 @@ fn integer_in(value: &Value, key: &str) -> Option<i64> {
 }
 
 /// The metal and the cell of a terminal, where the value is one.
-fn terminal_of(value: &Value) -> Option<(&str, i64, i64)> {
+pub fn terminal_of(value: &Value) -> Option<(&str, i64, i64)> {
     Some((
         text_in(value, "metal")?,
         integer_in(value, "x")?,

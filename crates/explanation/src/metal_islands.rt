@@ -163,7 +163,7 @@ fn tell_island(text: &mut Text, map: &Map, metal: usize, held: &Held, island: us
 }
 
 /// Tells the islands of a metal that have terminals, each in a line with these, counted from 1.
-pub fn tell_carried(text: &mut Text, map: &Map, metal: usize, held: &Held, islands: &MetalIslands) {
+fn tell_carried(text: &mut Text, map: &Map, metal: usize, held: &Held, islands: &MetalIslands) {
     let mut last = None;
     for (island, index) in islands.carried.as_slice() {
         if last != Some(*island) {
@@ -177,5 +177,13 @@ pub fn tell_carried(text: &mut Text, map: &Map, metal: usize, held: &Held, islan
     }
     if last.is_some() {
         text.say("\n");
+    }
+}
+
+/// Tells which terminals are on which islands of the metals.
+pub fn tell_all_carried(text: &mut Text, map: &Map, layers: &[Held], islands: &[MetalIslands]) {
+    text.say("  terminals by islands, each told by a cell of it; terminals are counted from 1\n");
+    for (metal, (held, islands)) in layers.iter().zip(islands.iter()).enumerate() {
+        tell_carried(text, map, metal, held, islands);
     }
 }
