@@ -174,8 +174,10 @@ pub fn placed_shapes(
     requires few_elements { All (λ structure. length structure.elements < 2 ^ 32) library.now.structures }
     requires pointed { AreWellPointed library.now.structures }
 {
-    let placed = place(alloc, library, map, top)?;
-    Ok(shapes_of(alloc, map, library, placed.as_slice(), terminals)?)
+    match place(alloc, library, map, top) {
+        Ok(placed) => Ok(shapes_of(alloc, map, library, placed.as_slice(), terminals)?),
+        Err(fault) => Err(fault),
+    }
 }
 
 /// How many shapes of a layer have no cover for the reason with this number.

@@ -8,6 +8,6 @@ pub shapes_of-requires : goal.shapes_of-requires
 shapes_of-requires c =
     let library = c.args.library.now in
     let layer_map = layer_map_of c.args.map.now in
-    let are = c.ensures.placed in
-    let along = placed_along library.structures layer_map (option_copied c.args.top) c.placed.items are in
-    rw c.as_slice.ensures.value (well_placed library.structures layer_map c.requires.pointed are.routes c.placed.items along)
+    let are = c.in-Ok.ensures.placed in
+    let along = placed_along library.structures layer_map (option_copied c.args.top) c.in-Ok.placed.items are in
+    rw c.as_slice.ensures.value (well_placed library.structures layer_map c.requires.pointed are.routes c.in-Ok.placed.items along)
