@@ -20,12 +20,15 @@ const STANDS: Stands<'static> = Stands {
 /// What is told of the generated layout of one column and one row: its cell has two bars of 12 by 4 cells and two terminals on
 /// the lower metal, one bar of 4 by 12 on the upper, and a contact of 2 by 2 between them.
 const GENERATED: &str = "the generated layout: nothing is wrong, and the run gives its report\n  \
+     metal 'm2': no terminals, so its opens are 0, which says nothing of its wires\n  \
      library 'GEN', a database unit that is no length below a metre, 2 structures, top 'TOP'\n  \
      metal 'm1': 2 shapes with 10 points, from (0, 0) to (12, 12)\n  \
      metal 'm2': 1 shapes with 5 points, from (0, 0) to (4, 12)\n  \
      cut 'v1': 1 shapes with 5 points, from (0, 0) to (2, 2)\n  \
-     metal 'm1': 2 terminals\n  \
-     metal 'm2': no terminals, so its opens are 0, which says nothing of its wires\n";
+     metal 'm1': 2 islands: 1 with no terminal, 0 with one, 1 with more\n  \
+     metal 'm2': 1 islands: 1 with no terminal, 0 with one, 0 with more\n  \
+     terminals by islands, each told by a cell of it; terminals are counted from 1\n    \
+     metal 'm1', island of the cell (0, 0): 1 2\n";
 
 /// Words with a bar between two of them, statuses, and what is told.
 const ROWS: &[(&str, u8, &str)] = &[
@@ -63,6 +66,13 @@ const ROWS: &[(&str, u8, &str)] = &[
         "far|--layer|1|--datatype|0|--radius|3",
         5,
         "layout 'far': the system cannot reach it\n",
+    ),
+    // no run, but its layers
+    ("none", 5, "layout 'none': there is no such file\n"),
+    (
+        "folder|--map-skeleton",
+        5,
+        "layout 'folder': this is a folder, and a file is wanted\n",
     ),
     // the map is looked at first
     (

@@ -9,9 +9,10 @@ const CHANGED: &[(usize, u8, u8, &str)] = &[
         0x00,
         0,
         "layout 'a': nothing is wrong, and the run gives its report\n  \
+         metal 'm': no terminals, so its opens are 0, which says nothing of its wires\n  \
          library 'L', a database unit that is no length below a metre, 1 structures, top 'T'\n  \
          metal 'm': 2 shapes with 10 points, from (0, 0) to (24, 10)\n  \
-         metal 'm': no terminals, so its opens are 0, which says nothing of its wires\n",
+         metal 'm': 2 islands: 2 with no terminal, 0 with one, 0 with more\n",
     ),
     // the unit is 16 to the power of -8 metres, which is 0.23283064.. nanometres
     (
@@ -19,9 +20,10 @@ const CHANGED: &[(usize, u8, u8, &str)] = &[
         0x39,
         0,
         "layout 'a': nothing is wrong, and the run gives its report\n  \
+         metal 'm': no terminals, so its opens are 0, which says nothing of its wires\n  \
          library 'L', a database unit of 0.232831 nm, 1 structures, top 'T'\n  \
          metal 'm': 2 shapes with 10 points, from (0, 0) to (24, 10)\n  \
-         metal 'm': no terminals, so its opens are 0, which says nothing of its wires\n",
+         metal 'm': 2 islands: 2 with no terminal, 0 with one, 0 with more\n",
     ),
     // the layer of both bars is asked for, and one has another
     (
@@ -29,9 +31,10 @@ const CHANGED: &[(usize, u8, u8, &str)] = &[
         0x02,
         0,
         "layout 'a': nothing is wrong, and the run gives its report\n  \
+         metal 'm': no terminals, so its opens are 0, which says nothing of its wires\n  \
          library 'L', a database unit that is no length below a metre, 1 structures, top 'T'\n  \
          metal 'm': 1 shapes with 5 points, from (14, 0) to (24, 10)\n  \
-         metal 'm': no terminals, so its opens are 0, which says nothing of its wires\n",
+         metal 'm': 1 islands: 1 with no terminal, 0 with one, 0 with more\n",
     ),
     // the first byte of a gzip file is another, and its length is odd
     (
@@ -99,35 +102,72 @@ fn changed_layouts_are_told(rt: HostRuntime) {
 
 /// Maps of the two bars with terminals, the status, and what is told.
 const TERMINALS: &[(&[u8], u8, &str)] = &[
+    // one on each bar, and a metal without shapes
     (
         b"version=1\nradii=[1]\nweights=[1]\nmetal=[{name=\"m1\",pairs=[[1,0]]},{name=\"m2\",pairs=[[2,0]]}]\n\
           terminal=[{metal=\"m1\",x=0,y=0},{metal=\"m1\",x=23,y=9}]\n",
         0,
         "layout 'a': nothing is wrong, and the run gives its report\n  \
+         metal 'm2': no shapes, so its areas are 0; are its layers and datatypes those of the layout?\n  \
+         the layout has shapes of these pairs: [1, 0]\n  \
+         metal 'm1': no island with two terminals, so its opens are 0, which says nothing of its wires\n  \
          library 'L', a database unit that is no length below a metre, 1 structures, top 'T'\n  \
          metal 'm1': 2 shapes with 10 points, from (0, 0) to (24, 10)\n  \
-         metal 'm2': no shapes; are its layers and datatypes those of the layout?\n  \
-         metal 'm1': 2 terminals\n  \
-         metal 'm2': no terminals, so its opens are 0, which says nothing of its wires\n",
+         metal 'm1': 2 islands: 0 with no terminal, 2 with one, 0 with more\n  \
+         terminals by islands, each told by a cell of it; terminals are counted from 1\n    \
+         metal 'm1', island of the cell (0, 0): 1\n    \
+         metal 'm1', island of the cell (14, 0): 2\n",
     ),
     (
         b"version=1\nradii=[1]\nweights=[1]\nmetal=[{name=\"m1\",pairs=[[1,0]]}]\n\
           terminal=[{metal=\"m1\",x=14,y=0}]\n",
         0,
         "layout 'a': nothing is wrong, and the run gives its report\n  \
+         metal 'm1': no island with two terminals, so its opens are 0, which says nothing of its wires\n  \
          library 'L', a database unit that is no length below a metre, 1 structures, top 'T'\n  \
          metal 'm1': 2 shapes with 10 points, from (0, 0) to (24, 10)\n  \
-         metal 'm1': 1 terminal, so its opens are 0: an open parts two of one island\n",
+         metal 'm1': 2 islands: 1 with no terminal, 1 with one, 0 with more\n  \
+         terminals by islands, each told by a cell of it; terminals are counted from 1\n    \
+         metal 'm1', island of the cell (14, 0): 1\n",
     ),
-    // in the gap between the bars, and above the first
+    // the second bar has the first terminal, and the first bar the two others
     (
         b"version=1\nradii=[1]\nweights=[1]\nmetal=[{name=\"m1\",pairs=[[1,0]]}]\n\
-          terminal=[{metal=\"m1\",x=9,y=9},{metal=\"m1\",x=10,y=5},{metal=\"m1\",x=5,y=10}]\n",
+          terminal=[{metal=\"m1\",x=14,y=0},{metal=\"m1\",x=9,y=9},{metal=\"m1\",x=0,y=0}]\n",
+        0,
+        "layout 'a': nothing is wrong, and the run gives its report\n  \
+         library 'L', a database unit that is no length below a metre, 1 structures, top 'T'\n  \
+         metal 'm1': 2 shapes with 10 points, from (0, 0) to (24, 10)\n  \
+         metal 'm1': 2 islands: 0 with no terminal, 1 with one, 1 with more\n  \
+         terminals by islands, each told by a cell of it; terminals are counted from 1\n    \
+         metal 'm1', island of the cell (0, 0): 2 3\n    \
+         metal 'm1', island of the cell (14, 0): 1\n",
+    ),
+    // in the gap between the bars, above the first, and off the second by 3 to the right and 2 down
+    (
+        b"version=1\nradii=[1]\nweights=[1]\nmetal=[{name=\"m1\",pairs=[[1,0]]}]\n\
+          terminal=[{metal=\"m1\",x=9,y=9},{metal=\"m1\",x=10,y=5},{metal=\"m1\",x=5,y=10},{metal=\"m1\",x=26,y=-2}]\n",
         4,
         "error 50 at 1\n\
-         layout 'a': no shape of its metal covers [[terminal]] number 2, metal 'm1', cell (10, 5); \
-         move the terminal onto one, or see whether the metal has the right layers and datatypes\n  \
-         nor does one cover [[terminal]] number 3, metal 'm1', cell (5, 10)\n",
+         layout 'a': no shape of its metal covers [[terminal]] number 2, counted from 1, metal 'm1', cell (10, 5); \
+         the nearest cell of the metal is (9, 5), 1 to the left\n  \
+         the nearest shape begins at byte 94: structure 'T', element 1: a boundary on layer 1, datatype 0, first point (0, 0)\n  \
+         move the terminal onto a shape, leave it out, or see whether the metal has the right layers and datatypes\n  \
+         nor does one cover [[terminal]] number 3, counted from 1, metal 'm1', cell (5, 10); \
+         the nearest cell of the metal is (5, 9), 1 down\n  \
+         nor does one cover [[terminal]] number 4, counted from 1, metal 'm1', cell (26, -2); \
+         the nearest cell of the metal is (23, 0), 3 to the left, 2 up\n",
+    ),
+    // the metal has another layer
+    (
+        b"version=1\nradii=[1]\nweights=[1]\nmetal=[{name=\"m1\",pairs=[[2,0]]}]\n\
+          terminal=[{metal=\"m1\",x=0,y=0}]\n",
+        4,
+        "error 50 at 0\n\
+         layout 'a': no shape of its metal covers [[terminal]] number 1, counted from 1, metal 'm1', cell (0, 0)\n  \
+         its metal covers nothing\n  \
+         the layout has shapes of these pairs: [1, 0]\n  \
+         move the terminal onto a shape, leave it out, or see whether the metal has the right layers and datatypes\n",
     ),
 ];
 

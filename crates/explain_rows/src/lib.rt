@@ -4,7 +4,11 @@
 #[cfg(test)]
 mod inputs;
 #[cfg(test)]
+mod layers;
+#[cfg(test)]
 mod layouts;
+#[cfg(test)]
+mod many;
 #[cfg(test)]
 mod maps;
 #[cfg(test)]

@@ -22,14 +22,14 @@ const ROWS: &[(&[u8], &str)] = &[
     (
         b"version = 1\nradii = [1]\nweights = [1]\ncolour = 3\n",
         "error 41 at 1\n\
-         map 'm', the document: it has a key that is not known\n  \
+         map 'm', line 4, the document: it has a key that is not known\n  \
          not known: 'colour'\n  \
          known: version radii weights metal cut terminal\n",
     ),
     (
         b"version = 1\nradii = [5, 2]\n",
         "error 42 at 3\n\
-         map 'm', `radii`: this may not stand there, or is missing\n  \
+         map 'm', line 2, `radii`: this may not stand there\n  \
          there stands, of the kind array: [5, 2]\n  \
          there may stand: an array of 1 to 32 whole numbers from 1 to 1000000, each greater than the one before\n  \
          not greater than the one before it, 5: 2\n",
@@ -37,7 +37,7 @@ const ROWS: &[(&[u8], &str)] = &[
     (
         b"version = 1\nradii = [1]\nweights = [1]\n[[metal]]\nname = \"m 1\"\n",
         "error 42 at 101\n\
-         map 'm', `name` of [[metal]] number 1, 'm 1': this may not stand there, or is missing\n  \
+         map 'm', line 5, `name` of [[metal]] number 1, 'm 1': this may not stand there\n  \
          there stands, of the kind string: \"m 1\"\n  \
          there may stand: a text of 1 to 32 ASCII letters, digits and `_`\n",
     ),
@@ -45,14 +45,14 @@ const ROWS: &[(&[u8], &str)] = &[
         b"version = 1\nradii = [1]\nweights = [1]\n[[metal]]\nname = \"a\"\npairs = [[1, 0]]\n\
           [[metal]]\nname = \"b\"\npairs = [[2, 0], [1, 0]]\n",
         "error 43 at 112\n\
-         map 'm', `pairs` of [[metal]] number 2, 'b': a layer and a datatype stand twice in the map; leave them to one metal or cut\n  \
+         map 'm', line 9, `pairs` of [[metal]] number 2, 'b': a layer and a datatype stand twice in the map; leave them to one metal or cut\n  \
          twice: layer 1, datatype 0\n",
     ),
     (
         b"version = 1\nradii = [1]\nweights = [1]\n[[metal]]\nname = \"a\"\npairs = [[1, 0]]\n\
           [[metal]]\nname = \"b\"\npairs = [[2, 0]]\n[[metal]]\nname = \"b\"\npairs = [[3, 0]]\n",
         "error 44 at 121\n\
-         map 'm', `name` of [[metal]] number 3, 'b': an earlier metal or cut has this name; give each one of its own\n  \
+         map 'm', line 11, `name` of [[metal]] number 3, 'b': an earlier metal or cut has this name; give each one of its own\n  \
          earlier: [[metal]] number 2, 'b'\n",
     ),
     (
@@ -61,14 +61,14 @@ const ROWS: &[(&[u8], &str)] = &[
           [[cut]]\nname = \"v\"\npairs = [[3, 0]]\nlower = \"a\"\nupper = \"b\"\n\
           [[cut]]\nname = \"v\"\npairs = [[4, 0]]\nlower = \"a\"\nupper = \"b\"\n",
         "error 44 at 311\n\
-         map 'm', `name` of [[cut]] number 2, 'v': an earlier metal or cut has this name; give each one of its own\n  \
+         map 'm', line 16, `name` of [[cut]] number 2, 'v': an earlier metal or cut has this name; give each one of its own\n  \
          earlier: [[cut]] number 1, 'v'\n",
     ),
     (
         b"version = 1\nradii = [1]\nweights = [1]\n[[metal]]\nname = \"a\"\npairs = [[1, 0]]\n\
           [[cut]]\nname = \"v\"\npairs = [[2, 0]]\nlower = \"a\"\nupper = \"b\"\n",
         "error 45 at 304\n\
-         map 'm', `upper` of [[cut]] number 1, 'v': no metal has the name that stands there\n  \
+         map 'm', line 11, `upper` of [[cut]] number 1, 'v': no metal has the name that stands there\n  \
          there stands, of the kind string: \"b\"\n  \
          metals: 'a'\n",
     ),
@@ -77,8 +77,44 @@ const ROWS: &[(&[u8], &str)] = &[
           [[terminal]]\nmetal = \"a\"\nx = 0\ny = 0\n[[terminal]]\nmetal = \"a\"\nx = -3\ny = 0\n\
           [[terminal]]\nmetal = \"a\"\nx = -3\ny = 0\n",
         "error 46 at 1020\n\
-         map 'm', [[terminal]] number 3: an earlier terminal is the same cell of the same metal; leave one out\n  \
+         map 'm', line 15, [[terminal]] number 3: an earlier terminal is the same cell of the same metal; leave one out\n  \
          earlier: [[terminal]] number 2, the cell (-3, 0) of 'a'\n",
+    ),
+    // what is missing has no line in the document, and in a table that of the table
+    (
+        b"radii = [1]\n",
+        "error 42 at 2\n\
+         map 'm', `version`: this is missing\n  \
+         there may stand: 1\n",
+    ),
+    (
+        b"version = 1\nradii = [1]\nweights = [1]\n\n# a comment with \"\n[[metal]]\nname = 'a'\n",
+        "error 42 at 102\n\
+         map 'm', line 6, `pairs` of [[metal]] number 1, 'a': this is missing\n  \
+         there may stand: an array of 1 to 16 arrays of a layer and a datatype, each a whole number from 0 to 65535, as [[1, 0]]\n",
+    ),
+    // an array and a text of several lines, with a bracket in a comment
+    (
+        b"version = 1\nradii = [\n  1, # ]\n  2,\n]\nweights = [1, 1]\n[[metal]]\nname = \"\"\"\\\n\n  a\"\"\"\npairs = [[1, 70000]]\n",
+        "error 42 at 102\n\
+         map 'm', line 11, `pairs` of [[metal]] number 1, 'a': this may not stand there\n  \
+         there stands, of the kind array: [[1, 70000]]\n  \
+         there may stand: an array of 1 to 16 arrays of a layer and a datatype, each a whole number from 0 to 65535, as [[1, 0]]\n",
+    ),
+    // a text with what would be a table and a key
+    (
+        b"version = 1\nradii = '''\n[[metal]]\nnote = 1\n'''''\nnote = 2\n",
+        "error 41 at 1\n\
+         map 'm', line 6, the document: it has a key that is not known\n  \
+         not known: 'note'\n  \
+         known: version radii weights metal cut terminal\n",
+    ),
+    // tables in an array
+    (
+        b"version = 1\nradii = [1]\nweights = [1]\nmetal = [\n  {name = \"a\", pairs = [[1, 0]]},\n  {name = \"b\"},\n]\n",
+        "error 42 at 112\n\
+         map 'm', in what begins in line 4, `pairs` of [[metal]] number 2, 'b': this is missing\n  \
+         there may stand: an array of 1 to 16 arrays of a layer and a datatype, each a whole number from 0 to 65535, as [[1, 0]]\n",
     ),
 ];
 

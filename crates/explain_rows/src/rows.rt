@@ -76,7 +76,11 @@ fn explained(alloc: Global, words: &[Word], stands: &Stands<'_>) -> Result<Expla
 }
 
 /// What is told of the words of a line.
-fn explanation_of(alloc: Global, line: &str, stands: &Stands<'_>) -> Result<Explanation, NoMemory> {
+pub fn explanation_of(
+    alloc: Global,
+    line: &str,
+    stands: &Stands<'_>,
+) -> Result<Explanation, NoMemory> {
     let words = words_of(alloc, line)?;
     explained(alloc, words.as_slice(), stands)
 }

@@ -56,7 +56,14 @@ const ROWS: &[(&str, &str)] = &[
         "arguments: two layouts are named, 'a.gds' and 'm.toml'; name one, and a map behind --map",
     ),
     ("--map|m", "arguments: no layout is named"),
-    ("a", "arguments: it is not said which layers are metals"),
+    (
+        "a|--tile|3",
+        "arguments: it is not said which layers are metals; --explain in front of the layout alone lists those that it has",
+    ),
+    (
+        "a|--map|m|--map-skeleton",
+        "arguments: there is no option '--map-skeleton' of a run; it is for --explain, and stands there beside a layout and --top alone",
+    ),
     (
         "a|--map|m|--radius|3",
         "arguments: --radius stands beside --map, which says itself which layers there are, and which radii",

@@ -2,9 +2,12 @@
 
 ghost use Rattle.std.specs.Prelude.{◌≤◌};
 
+use crate::asked::{Asked, asked_of};
 use crate::inputs::{Input, LONGEST_LAYOUT, read_again};
 use crate::layouts::{Layout, Origin, tell_layout};
+use crate::listing::tell_listing;
 use crate::maps::tell_map_fault;
+use crate::parting::{parted_of, tell_parted};
 use crate::path_kinds::Paths;
 use crate::telling::Telling;
 use crate::text::Text;
@@ -37,6 +40,32 @@ fn tell_words(alloc: Global, told: &mut Telling, words: &[Word]) -> Result<(), N
     Ok(())
 }
 
+/// Tells the terminals of a map that has too many by their islands, where the layout is good.
+fn tell_many<F: Files, P: Paths>(
+    alloc: Global,
+    told: &mut Telling,
+    map: &[u8],
+    layout: &[u8],
+    top: Option<&[u8]>,
+    files: &mut F,
+    paths: &P,
+) -> Result<(), NoMemory> {
+    let Some(parted) = parted_of(alloc, map)? else {
+        return Ok(());
+    };
+    // The map is refused, and what may be wrong with the layout is not told.
+    let mut untold = Telling {
+        status: 0,
+        text: Text::new(alloc),
+    };
+    match read_again(alloc, &mut untold, files, paths, Input::Layout, layout)? {
+        Some(bytes) if bytes.len() <= LONGEST_LAYOUT => {
+            tell_parted(alloc, &mut told.text, parted, bytes.as_slice(), top)
+        }
+        _ => Ok(()),
+    }
+}
+
 /// The map that is asked for, where it is good. Else it is told why not.
 fn map_for<F: Files, P: Paths>(
     alloc: Global,
@@ -52,12 +81,25 @@ fn map_for<F: Files, P: Paths>(
             radius,
             ..
         } => Ok(Some(one_metal(alloc, *layer, *datatype, *radius)?)),
-        Task::Mapped { map, .. } => {
+        Task::Mapped { map, layout, top } => {
             let name = map.as_slice();
-            match read_again(alloc, told, files, paths, Input::Map, name)? {
-                Some(bytes) => map_of(alloc, told, name, bytes.as_slice()),
-                None => Ok(None),
+            let Some(bytes) = read_again(alloc, told, files, paths, Input::Map, name)? else {
+                return Ok(None);
+            };
+            let map = map_of(alloc, told, name, bytes.as_slice())?;
+            if map.is_none() {
+                let top = top.as_ref().map(Name::as_slice);
+                tell_many(
+                    alloc,
+                    told,
+                    bytes.as_slice(),
+                    layout.as_slice(),
+                    top,
+                    files,
+                    paths,
+                )?;
             }
+            Ok(map)
         }
         Task::Generated { .. } => map_of(alloc, told, b"", layer_map().as_bytes()),
     }
@@ -161,6 +203,42 @@ fn tell_file<F: Files, P: Paths>(
     }
 }
 
+/// Tells the layers of the layout that these bytes are.
+fn tell_layers(
+    alloc: Global,
+    told: &mut Telling,
+    asked: &Asked<'_>,
+    bytes: &[u8],
+) -> Result<(), NoMemory> {
+    if bytes.len() > LONGEST_LAYOUT {
+        return Ok(());
+    }
+    let layout = Layout {
+        origin: Origin::File(asked.layout.as_bytes()),
+        bytes,
+        top: match asked.top {
+            Some(top) => Some(top.as_bytes()),
+            None => None,
+        },
+    };
+    tell_listing(alloc, told, &layout, asked.as_map)
+}
+
+/// Tells the layers that are asked for.
+fn tell_asked<F: Files, P: Paths>(
+    alloc: Global,
+    told: &mut Telling,
+    asked: &Asked<'_>,
+    files: &mut F,
+    paths: &P,
+) -> Result<(), NoMemory> {
+    let name = asked.layout.as_bytes();
+    match read_again(alloc, told, files, paths, Input::Layout, name)? {
+        Some(bytes) => tell_layers(alloc, told, asked, bytes.as_slice()),
+        None => Ok(()),
+    }
+}
+
 /// Tells of the run of these words on these files.
 fn tell<F: Files, P: Paths>(
     alloc: Global,
@@ -176,7 +254,8 @@ fn tell<F: Files, P: Paths>(
     }
 }
 
-/// What is to be said of the run of these words on these files.
+/// What is to be said of these words on these files: of a run, or, where they name a layout and at most its top, of that
+/// layout's layers.
 pub fn explain<F: Files, P: Paths>(
     alloc: Global,
     words: &[Word],
@@ -187,7 +266,10 @@ pub fn explain<F: Files, P: Paths>(
         status: 0,
         text: Text::new(alloc),
     };
-    tell(alloc, &mut told, words, files, paths)?;
+    match asked_of(words) {
+        Some(asked) => tell_asked(alloc, &mut told, &asked, files, paths)?,
+        None => tell(alloc, &mut told, words, files, paths)?,
+    }
     let Telling { status, text } = told;
     Ok(Explanation {
         status,

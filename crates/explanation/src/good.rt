@@ -1,38 +1,89 @@
-//! What is told of a run that gives a report.
+//! What is told of a run that gives a report: first what makes areas of 0 that say nothing, and then what the layout has.
 
+use crate::bounds::{bounds_of, tell_bounds};
 use crate::graph::{Graph, first_top, graph_of};
-use crate::layer_names::{layer_count, tell_layer};
+use crate::layer_names::tell_layer;
 use crate::layouts::Layout;
-use crate::shapes::Held;
-use crate::terminals::tell_terminal_counts;
+use crate::metal_islands::{MetalIslands, metal_islands, tell_all_carried, tell_island_counts};
+use crate::pairs::tell_pairs_of;
+use crate::shapes::{Held, Shapes};
 use crate::text::Text;
 use crate::unit::tell_unit;
 use library_model::{Library, Structure};
 use lists::NoMemory;
-use map_model::Map;
+use map_model::{Map, Terminal};
 use std::alloc::Global;
+
+/// Tells the layers without shapes, and on which the layout has some.
+fn tell_empty_layers(
+    alloc: Global,
+    text: &mut Text,
+    map: &Map,
+    library: &Library,
+    layers: &[Held],
+) -> Result<(), NoMemory> {
+    let mut is_some_empty = false;
+    for (number, held) in layers.iter().enumerate() {
+        if held.shapes == 0 {
+            is_some_empty = true;
+            tell_layer(text, "  ", map, number);
+            text.say(
+                ": no shapes, so its areas are 0; are its layers and datatypes those of the layout?\n",
+            );
+        }
+    }
+    if is_some_empty {
+        tell_pairs_of(alloc, text, library.structures.as_slice())?;
+    }
+    Ok(())
+}
+
+/// Whether a terminal is on the metal.
+fn has_terminal(terminals: &[Terminal], metal: usize) -> bool {
+    for terminal in terminals {
+        if terminal.metal as usize == metal {
+            return true;
+        }
+    }
+    false
+}
+
+/// Tells why a metal has no opens, where no island of it has two terminals.
+fn tell_no_opens(text: &mut Text, map: &Map, metal: usize, islands: &MetalIslands) {
+    if islands.more > 0 {
+        return;
+    }
+    tell_layer(text, "  ", map, metal);
+    if has_terminal(map.terminals.as_slice(), metal) {
+        text.say(": no island with two terminals");
+    } else {
+        text.say(": no terminals");
+    }
+    text.say(", so its opens are 0, which says nothing of its wires\n");
+}
+
+/// Tells the metals with shapes that have no opens.
+fn tell_opens(text: &mut Text, map: &Map, layers: &[Held], islands: &[MetalIslands]) {
+    for (metal, (held, islands)) in layers.iter().zip(islands.iter()).enumerate() {
+        if held.shapes > 0 {
+            tell_no_opens(text, map, metal, islands);
+        }
+    }
+}
 
 /// Tells what is placed on a layer.
 fn tell_held(text: &mut Text, map: &Map, number: usize, held: &Held) {
-    let Held {
-        shapes,
-        points,
-        bounds,
-    } = *held;
-    tell_layer(text, "  ", map, number);
-    if shapes == 0 {
-        text.say(": no shapes; are its layers and datatypes those of the layout?\n");
+    if held.shapes == 0 {
         return;
     }
-    text.number(": ", shapes, " shapes with ");
-    text.number("", points, " points");
-    match bounds {
-        Some((left, bottom, right, top)) => {
-            text.point(", from ", left as i64, bottom as i64, " to ");
-            text.point("", right as i64, top as i64, "\n");
-        }
-        None => text.say(", which cover nothing\n"),
+    tell_layer(text, "  ", map, number);
+    text.number(": ", held.shapes, " shapes with ");
+    text.number("", held.points, " points");
+    match bounds_of(held.rects.as_slice()) {
+        Some(bounds) => tell_bounds(text, ", from ", bounds),
+        None => text.say(", which cover nothing"),
     }
+    text.say("\n");
 }
 
 /// Tells the name of the first structure that no reference names.
@@ -41,7 +92,7 @@ fn tell_first(text: &mut Text, structures: &[Structure], graph: &Graph) {
         return;
     };
     if let Some(structure) = structures.get(top) {
-        text.name("top ", structure.name.as_slice(), "");
+        text.name(", top ", structure.name.as_slice(), "");
     }
 }
 
@@ -54,29 +105,35 @@ fn tell_top(
 ) -> Result<(), NoMemory> {
     let structures = library.structures.as_slice();
     if let Some(top) = layout.top {
-        text.name("top ", top, "");
+        text.name(", top ", top, "");
         return Ok(());
     }
     tell_first(text, structures, &graph_of(alloc, structures)?);
     Ok(())
 }
 
-/// Tells of the library: its name, its database unit, its structures and its top.
-fn tell_library(
-    alloc: Global,
-    text: &mut Text,
-    layout: &Layout<'_>,
-    library: &Library,
-) -> Result<(), NoMemory> {
-    let count = library.structures.as_slice().len();
-    layout.tell(text);
-    text.say(": nothing is wrong, and the run gives its report\n");
+/// Tells of the library: its name, its database unit and how many structures it has.
+pub fn tell_library(text: &mut Text, library: &Library) {
     text.name("  library ", library.name.as_slice(), ", ");
     tell_unit(text, library.units);
-    text.number(", ", count as u64, " structures, ");
-    tell_top(alloc, text, layout, library)?;
-    text.say("\n");
-    Ok(())
+    let count = library.structures.as_slice().len();
+    text.number(", ", count as u64, " structures");
+}
+
+/// Tells what is placed on each layer.
+fn tell_layers(text: &mut Text, map: &Map, layers: &[Held]) {
+    for (number, held) in layers.iter().enumerate() {
+        tell_held(text, map, number, held);
+    }
+}
+
+/// Tells how many islands the metals with shapes have.
+fn tell_all_counts(text: &mut Text, map: &Map, layers: &[Held], islands: &[MetalIslands]) {
+    for (metal, (held, islands)) in layers.iter().zip(islands.iter()).enumerate() {
+        if held.shapes > 0 {
+            tell_island_counts(text, map, metal, islands);
+        }
+    }
 }
 
 /// Tells of a layout that is good.
@@ -86,12 +143,22 @@ pub fn tell_good(
     map: &Map,
     layout: &Layout<'_>,
     library: &Library,
-    layers: &[Held],
+    shapes: &Shapes,
 ) -> Result<(), NoMemory> {
-    tell_library(alloc, text, layout, library)?;
-    for (number, held) in layers.iter().enumerate() {
-        tell_held(text, map, number, held);
+    let layers = shapes.held.as_slice();
+    let islands = metal_islands(alloc, map, shapes)?;
+    let islands = islands.as_slice();
+    layout.tell(text);
+    text.say(": nothing is wrong, and the run gives its report\n");
+    tell_empty_layers(alloc, text, map, library, layers)?;
+    tell_opens(text, map, layers, islands);
+    tell_library(text, library);
+    tell_top(alloc, text, layout, library)?;
+    text.say("\n");
+    tell_layers(text, map, layers);
+    tell_all_counts(text, map, layers, islands);
+    if !map.terminals.as_slice().is_empty() {
+        tell_all_carried(text, map, layers, islands);
     }
-    tell_terminal_counts(text, map);
     Ok(())
 }

@@ -336,6 +336,20 @@ pub fn first_top(graph: &Graph) -> Option<usize> {
     None
 }
 
+/// The structure that no reference names, where there is exactly one.
+pub fn only_top(graph: &Graph) -> Option<usize> {
+    let mut only = None;
+    for (number, sources) in graph.sources.iter().enumerate() {
+        if sources.is_empty() {
+            if only.is_some() {
+                return None;
+            }
+            only = Some(number);
+        }
+    }
+    only
+}
+
 /// Adds to each target of the links as often as it is placed by a structure that is placed so often.
 fn add_copies(times: &mut Vec<u64>, links: &[Link], of_one: u64) {
     for link in links {

@@ -4,20 +4,19 @@ ghost use Rattle.std.specs.Prelude.{◌≤◌, ◌<◌, ◌^◌, length, All};
 ghost use Rattle.lists.specs.Differing.{AreDifferent};
 ghost use Rattle.library_model.specs.Names.{names_of};
 ghost use Rattle.library_model.specs.Points.{AreWellPointed};
-ghost use Rattle.rect_cover.specs.Coverings.{IsWellPlaced};
 
 use crate::beginnings::{begins_as_text, format_of, is_gdsii};
 use crate::good::tell_good;
 use crate::kind_names::record_name;
+use crate::off_metal::tell_off_metal;
 use crate::places::{tell_before, tell_place};
 use crate::refused::meaning;
-use crate::shapes::{Shapes, shapes_of, tell_uncovered};
+use crate::shapes::{Shapes, placed_shapes, tell_uncovered};
 use crate::spot::{spot_at, spot_before};
 use crate::structures::tell_place_fault;
 use crate::telling::Telling;
-use crate::terminals::{Known, first_off, tell_others, tell_terminal};
+use crate::terminals::{first_off, known_terminals};
 use crate::text::Text;
-use flatten::{Placed, place};
 use gds_records::RecordFault;
 use gds_syntax::{SyntaxFault, read_library};
 use library_model::Library;
@@ -26,7 +25,7 @@ use map_model::Map;
 use std::alloc::Global;
 
 /// The status of a run that refuses a layout.
-const REFUSED: u8 = 4;
+pub const REFUSED: u8 = 4;
 
 /// Where a layout comes from.
 #[derive(Clone, Copy)]
@@ -128,7 +127,7 @@ fn tell_element_fault(told: &mut Telling, layout: &Layout<'_>, fault: SyntaxFaul
 }
 
 /// Tells of bytes that are no library.
-fn tell_syntax(
+pub fn tell_syntax(
     told: &mut Telling,
     layout: &Layout<'_>,
     fault: SyntaxFault,
@@ -147,24 +146,6 @@ fn tell_syntax(
     Ok(())
 }
 
-/// Tells of the terminals that no shape of their metals covers, of which this is the first.
-fn tell_off_metal(
-    told: &mut Telling,
-    map: &Map,
-    layout: &Layout<'_>,
-    known: &[Known],
-    first: Known,
-) {
-    told.refuse(REFUSED, 50, first.index as u64);
-    let text = &mut told.text;
-    layout.tell(text);
-    tell_terminal(text, ": no shape of its metal covers ", map, first);
-    text.say(
-        "; move the terminal onto one, or see whether the metal has the right layers and datatypes\n",
-    );
-    tell_others(text, map, known, first);
-}
-
 /// Tells of a library all of whose placed shapes have covers.
 fn tell_covered(
     alloc: Global,
@@ -174,20 +155,9 @@ fn tell_covered(
     library: &Library,
     shapes: &Shapes,
 ) -> Result<(), NoMemory> {
-    let known = shapes.terminals.as_slice();
-    match first_off(known) {
-        Some(first) => {
-            tell_off_metal(told, map, layout, known, first);
-            Ok(())
-        }
-        None => tell_good(
-            alloc,
-            &mut told.text,
-            map,
-            layout,
-            library,
-            shapes.held.as_slice(),
-        ),
+    match first_off(shapes.terminals.as_slice()) {
+        Some(first) => tell_off_metal(alloc, told, map, layout, library, shapes, first),
+        None => tell_good(alloc, &mut told.text, map, layout, library, shapes),
     }
 }
 
@@ -198,14 +168,11 @@ fn tell_shapes(
     map: &Map,
     layout: &Layout<'_>,
     library: &Library,
-    placed: &[Placed],
-) -> Result<(), NoMemory>
-    requires { All (IsWellPlaced library.now.structures) placed.now }
-{
-    let shapes = shapes_of(alloc, map, library, placed)?;
+    shapes: &Shapes,
+) -> Result<(), NoMemory> {
     let found = shapes.uncovered.as_slice();
     match found.first() {
-        None => tell_covered(alloc, told, map, layout, library, &shapes),
+        None => tell_covered(alloc, told, map, layout, library, shapes),
         Some(first) => {
             tell_number(told, layout, first.number, u64::from(first.at));
             tell_uncovered(alloc, &mut told.text, map, layout, found)
@@ -226,8 +193,9 @@ fn tell_library(
     requires few_elements { All (λ structure. length structure.elements < 2 ^ 32) library.now.structures }
     requires pointed { AreWellPointed library.now.structures }
 {
-    match place(alloc, library, map, layout.top) {
-        Ok(placed) => tell_shapes(alloc, told, map, layout, library, placed.as_slice()),
+    let terminals = known_terminals(alloc, map)?;
+    match placed_shapes(alloc, map, library, layout.top, terminals) {
+        Ok(shapes) => tell_shapes(alloc, told, map, layout, library, &shapes),
         Err(fault) => tell_place_fault(alloc, told, map, layout, library, fault),
     }
 }

@@ -3,10 +3,12 @@
 //! It reads the same files again by the same readers, in the same order, finds the same first refusal, and tells more
 //! of it than a number and a place: the key, the structure by its name, the element. It is proved to be safe and to
 //! come to an end on every input. Its text is no promise, and may change; that it tells the number and the place of the
-//! run is tested.
+//! run is tested. Of a layout alone it tells the layers, or a map of them.
 #![tactic(auto)]
 
+mod asked;
 mod beginnings;
+mod bounds;
 mod explanation;
 mod good;
 mod graph;
@@ -14,19 +16,28 @@ mod inputs;
 mod kind_names;
 mod layer_names;
 mod layouts;
+mod listing;
+mod map_lines;
 mod map_spot;
 mod maps;
+mod metal_islands;
+mod off_metal;
+mod pairs;
+mod parting;
 mod path_kinds;
 mod places;
 mod position;
 mod quoted;
 mod refused;
 mod shapes;
+mod skeleton;
 mod spot;
+mod standing;
 mod structures;
 mod telling;
 mod terminals;
 mod text;
+mod texts;
 mod unit;
 mod usage;
 mod words;

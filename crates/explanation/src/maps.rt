@@ -1,6 +1,7 @@
 //! What is wrong with a map.
 
 use crate::beginnings::{format_of, is_gdsii};
+use crate::map_lines::{Line, line_of};
 use crate::map_spot::{
     DOCUMENT_KEYS, Key, List, Spot, items_of, member, spot_of, text_in, value_at, wanted,
 };
@@ -47,9 +48,19 @@ fn tell_no_document(text: &mut Text, name: &[u8], bytes: &[u8], error: &toml::de
     tell_syntax(text, bytes, error);
 }
 
+/// Tells the line of a map, where one is known.
+fn tell_line(text: &mut Text, line: Option<Line>) {
+    match line {
+        Some(Line::At(line)) => text.number("line ", line, ", "),
+        Some(Line::Within(line)) => text.number("in what begins in line ", line, ", "),
+        None => {}
+    }
+}
+
 /// Tells which place of the map is meant, as the beginning of a line.
-fn tell_spot(text: &mut Text, document: &Table, name: &[u8], spot: Spot) {
+fn tell_spot(text: &mut Text, document: &Table, name: &[u8], spot: Spot, line: Option<Line>) {
     text.name("map ", name, ", ");
+    tell_line(text, line);
     match spot {
         Spot::Document => text.say("the document"),
         Spot::Key(key) => text.word("`", key.name, "`"),
@@ -158,7 +169,7 @@ fn tell_fall(text: &mut Text, value: Option<&Value>) {
     }
 }
 
-/// Tells of a value that may not stand where it does.
+/// Tells of a value that may not stand where it does, or is missing.
 fn tell_bad_value(
     alloc: Global,
     text: &mut Text,
@@ -167,7 +178,11 @@ fn tell_bad_value(
     spot: Spot,
 ) -> Result<(), NoMemory> {
     let value = value_at(document, spot);
-    text.say("this may not stand there, or is missing\n");
+    if value.is_none() {
+        text.word("this is missing\n  there may stand: ", wanted(spot), "\n");
+        return Ok(());
+    }
+    text.say("this may not stand there\n");
     tell_value(alloc, text, value)?;
     text.word("  there may stand: ", wanted(spot), "\n");
     if path == RADII {
@@ -293,7 +308,7 @@ fn integer_in(value: &Value, key: &str) -> Option<i64> {
 }
 
 /// The metal and the cell of a terminal, where the value is one.
-fn terminal_of(value: &Value) -> Option<(&str, i64, i64)> {
+pub fn terminal_of(value: &Value) -> Option<(&str, i64, i64)> {
     Some((
         text_in(value, "metal")?,
         integer_in(value, "x")?,
@@ -404,6 +419,7 @@ pub fn tell_map_fault(
         }
     };
     let spot = spot_of(fault.place() as usize);
-    tell_spot(text, &document, name, spot);
+    let line = line_of(alloc, bytes, spot);
+    tell_spot(text, &document, name, spot, line);
     tell_fault(alloc, text, &document, fault, spot)
 }

@@ -1,7 +1,10 @@
 //! The placed shapes of a layout: what they cover on each layer of the map, which of its terminals they cover, and those that
 //! have no cover.
 
-ghost use Rattle.std.specs.Prelude.{All};
+ghost use Rattle.std.specs.Prelude.{◌<◌, ◌^◌, length, All};
+ghost use Rattle.lists.specs.Differing.{AreDifferent};
+ghost use Rattle.library_model.specs.Names.{names_of};
+ghost use Rattle.library_model.specs.Points.{AreWellPointed};
 ghost use Rattle.rect_cover.specs.Coverings.{IsWellPlaced};
 
 use crate::layer_names::{layer_count, tell_layer};
@@ -9,9 +12,9 @@ use crate::layouts::Layout;
 use crate::places::tell_place;
 use crate::refused::{SHORT_MEANINGS, short_meaning};
 use crate::spot::spot_at;
-use crate::terminals::{Known, known_terminals, note_covered};
+use crate::terminals::{Known, note_covered};
 use crate::text::Text;
-use flatten::Placed;
+use flatten::{PlaceFault, Placed, place};
 use geo_core::Rect;
 use library_model::{Element, Library};
 use lists::NoMemory;
@@ -31,12 +34,14 @@ pub struct Uncovered {
 }
 
 /// What is placed on a layer.
-#[derive(Clone, Copy)]
+#[derive(Drop)]
 pub struct Held {
     pub shapes: u64,
     pub points: u64,
-    /// The left, the bottom, the right and the top of what is covered, where something is.
-    pub bounds: Option<(i32, i32, i32, i32)>,
+    /// The rectangles that its shapes cover.
+    pub rects: Vec<Rect>,
+    /// For each of them the offset of its shape.
+    pub offsets: Vec<u32>,
 }
 
 /// The placed shapes: what each layer holds, those that have no cover, and which terminals are covered.
@@ -58,38 +63,38 @@ fn point_count(library: &Library, placed: &Placed) -> usize {
     }
 }
 
-/// What both reach together.
-fn joined(bounds: Option<(i32, i32, i32, i32)>, rect: Rect) -> (i32, i32, i32, i32) {
-    let (left, bottom, right, top) = bounds.unwrap_or((rect.x0, rect.y0, rect.x1, rect.y1));
-    (
-        left.min(rect.x0),
-        bottom.min(rect.y0),
-        right.max(rect.x1),
-        top.max(rect.y1),
-    )
+/// Notes a rectangle that a shape of a layer covers.
+fn note_rect(shapes: &mut Shapes, one: &Placed, rect: Rect) -> Result<(), NoMemory> {
+    let Some(held) = shapes.held.get_mut(one.layer as usize) else {
+        return Ok(());
+    };
+    let number = held.rects.len();
+    held.rects.push(rect)?;
+    held.offsets.push(one.at)?;
+    note_covered(&mut shapes.terminals, one.layer, rect, number);
+    Ok(())
 }
 
-/// What is placed with one shape more, which has so many points and covers these rectangles.
-fn with_shape(held: Held, points: usize, rects: &[Rect]) -> Held {
-    let mut bounds = held.bounds;
-    for rect in rects {
-        bounds = Some(joined(bounds, *rect));
-    }
-    Held {
-        shapes: held.shapes.saturating_add(1),
-        points: held.points.saturating_add(points as u64),
-        bounds,
-    }
+/// Counts a shape of so many points.
+fn count_shape(held: &mut Held, points: usize) {
+    held.shapes = held.shapes.saturating_add(1);
+    held.points = held.points.saturating_add(points as u64);
 }
 
 /// Notes a shape that covers these rectangles.
-fn note_rects(shapes: &mut Shapes, library: &Library, one: &Placed, rects: &[Rect]) {
+fn note_rects(
+    shapes: &mut Shapes,
+    library: &Library,
+    one: &Placed,
+    rects: &[Rect],
+) -> Result<(), NoMemory> {
     if let Some(held) = shapes.held.get_mut(one.layer as usize) {
-        *held = with_shape(*held, point_count(library, one), rects);
+        count_shape(held, point_count(library, one));
     }
     for rect in rects {
-        note_covered(&mut shapes.terminals, one.layer, *rect);
+        note_rect(shapes, one, *rect)?;
     }
+    Ok(())
 }
 
 /// Notes a shape that has no cover.
@@ -113,32 +118,39 @@ fn note(
     answer: Result<Vec<Rect>, CoverFault>,
 ) -> Result<(), NoMemory> {
     match answer {
-        Ok(rects) => {
-            note_rects(shapes, library, one, rects.as_slice());
-            Ok(())
-        }
+        Ok(rects) => note_rects(shapes, library, one, rects.as_slice()),
         Err(fault) => note_fault(shapes, one, fault),
     }
 }
 
-/// Looks at all placed shapes. The terminals come in the order of the map.
-pub fn shapes_of(
+/// Nothing on each of so many layers.
+fn nothing_held(alloc: Global, count: usize) -> Result<Vec<Held>, NoMemory> {
+    let mut held = Vec::new(alloc);
+    for _ in 0..count {
+        held.push(Held {
+            shapes: 0,
+            points: 0,
+            rects: Vec::new(alloc),
+            offsets: Vec::new(alloc),
+        })?;
+    }
+    Ok(held)
+}
+
+/// Looks at all placed shapes. The terminals, which come by their metals and columns, then come by their numbers.
+fn shapes_of(
     alloc: Global,
     map: &Map,
     library: &Library,
     placed: &[Placed],
+    terminals: Vec<Known>,
 ) -> Result<Shapes, NoMemory>
     requires { All (IsWellPlaced library.now.structures) placed.now }
 {
-    let none = Held {
-        shapes: 0,
-        points: 0,
-        bounds: None,
-    };
     let mut shapes = Shapes {
-        held: vec![in alloc; none; layer_count(map)]?,
+        held: nothing_held(alloc, layer_count(map))?,
         uncovered: Vec::new(alloc),
-        terminals: known_terminals(alloc, map)?,
+        terminals,
     };
     for one in placed {
         let answer = cover(alloc, library, one);
@@ -146,6 +158,26 @@ pub fn shapes_of(
     }
     shapes.terminals.sort_by_key(|one| one.index)?;
     Ok(shapes)
+}
+
+/// What the top places on the layers of the map, and which of these terminals it covers, which come by their metals and
+/// columns.
+pub fn placed_shapes(
+    alloc: Global,
+    map: &Map,
+    library: &Library,
+    top: Option<&[u8]>,
+    terminals: Vec<Known>,
+) -> Result<Shapes, PlaceFault>
+    requires differ { AreDifferent (names_of library.now.structures) }
+    requires few_structures { length library.now.structures < 2 ^ 32 }
+    requires few_elements { All (λ structure. length structure.elements < 2 ^ 32) library.now.structures }
+    requires pointed { AreWellPointed library.now.structures }
+{
+    match place(alloc, library, map, top) {
+        Ok(placed) => Ok(shapes_of(alloc, map, library, placed.as_slice(), terminals)?),
+        Err(fault) => Err(fault),
+    }
 }
 
 /// How many shapes of a layer have no cover for the reason with this number.

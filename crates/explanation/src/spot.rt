@@ -24,7 +24,7 @@ pub struct Spot<'a> {
 }
 
 /// The place at the beginning of a layout.
-const BEGINNING: Spot<'static> = Spot {
+pub const BEGINNING: Spot<'static> = Spot {
     structure: None,
     element: 0,
     kind: None,
@@ -116,7 +116,7 @@ impl<'a> Spot<'a> {
     }
 
     /// Goes behind a record.
-    fn pass(&mut self, record: &Record<'a>) {
+    pub fn pass(&mut self, record: &Record<'a>) {
         self.before = Some(record.kind);
         match record.kind {
             kinds::BGNSTR => self.enter_structure(),
@@ -128,7 +128,7 @@ impl<'a> Spot<'a> {
 }
 
 /// The next record, where one is left.
-fn next_record<'a>(records: &mut Records<'a>) -> Option<Record<'a>> {
+pub fn next_record<'a>(records: &mut Records<'a>) -> Option<Record<'a>> {
     match records.next() {
         Ok(Some(record)) => Some(record),
         _ => None,

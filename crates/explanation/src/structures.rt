@@ -139,7 +139,7 @@ fn tell_some_tops(
 }
 
 /// Tells which structures no reference names.
-fn tell_tops(
+pub fn tell_tops(
     alloc: Global,
     text: &mut Text,
     structures: &[Structure],
@@ -228,7 +228,7 @@ fn tell_counts(
 }
 
 /// Tells that no structure has the wanted name, or that there is none.
-fn tell_no_top(
+pub fn tell_no_top(
     alloc: Global,
     told: &mut Telling,
     layout: &Layout<'_>,

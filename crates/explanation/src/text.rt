@@ -90,6 +90,11 @@ impl Text {
         }
     }
 
+    /// What is there so far.
+    pub fn as_str(&self) -> &str {
+        self.text.as_str()
+    }
+
     /// The text, where memory was left for all of it.
     pub fn whole(self) -> Result<String, NoMemory> {
         let Text { text, is_cut } = self;

@@ -83,6 +83,13 @@ const DASHED_VALUE: &str = " begins with a dash; write such a value in one word,
 const ANSWERED_ALONE: &str =
     "; --help and --version are answered alone, and --explain in front of all other words";
 
+/// The word that asks for a map of a layout's layers.
+pub const MAP_SKELETON: &str = "--map-skeleton";
+
+/// What is said of this word in a run.
+const BESIDE_LAYOUT: &str =
+    " of a run; it is for --explain, and stands there beside a layout and --top alone";
+
 /// What is said of a word that is no option.
 const ALL_OPTIONS: &str =
     "; options are --map, --top, --layer, --datatype, --radius, --tile, --workers and --generate";
@@ -97,6 +104,10 @@ const BESIDE_MAP: &str =
 
 /// What is said of an option of one metal that is not there, while another is.
 const LACKS: &str = " is missing; --layer, --datatype and --radius go together";
+
+/// What is said of a layout alone.
+const NO_METALS: &str =
+    "it is not said which layers are metals; --explain in front of the layout alone lists those that it has";
 
 /// What is said of a layout without a name.
 const EMPTY_NAME: Misfit<'static> = Misfit::Words("the layout's name is empty");
@@ -133,7 +144,7 @@ struct Given<'a> {
 }
 
 /// Whether the word is not taken for an option.
-fn is_plain(word: &str) -> bool {
+pub fn is_plain(word: &str) -> bool {
     !word.starts_with('-') || word == "-"
 }
 
@@ -175,6 +186,8 @@ fn unknown_option(word: &str) -> Misfit<'_> {
         || word.starts_with("--explain")
     {
         ANSWERED_ALONE
+    } else if word == MAP_SKELETON {
+        BESIDE_LAYOUT
     } else {
         ALL_OPTIONS
     };
@@ -309,7 +322,7 @@ fn form_misfit(options: &[(&OptionRule, &str)]) -> Misfit<'static> {
         if has_map {
             return OTHER;
         }
-        return Misfit::Words("it is not said which layers are metals");
+        return Misfit::Words(NO_METALS);
     };
     if has_map {
         return Misfit::Name(name, BESIDE_MAP);

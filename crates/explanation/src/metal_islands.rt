@@ -1,0 +1,189 @@
+//! The islands of the metals, and the terminals on each.
+
+use crate::layer_names::tell_layer;
+use crate::shapes::{Held, Shapes};
+use crate::terminals::Known;
+use crate::text::Text;
+use geo_core::Rect;
+use islands::label;
+use lists::NoMemory;
+use map_model::Map;
+use std::alloc::Global;
+
+/// The islands of a metal.
+#[derive(Drop)]
+pub struct MetalIslands {
+    /// How many have no terminal.
+    pub none: u64,
+    /// How many have one.
+    pub one: u64,
+    /// How many have two or more.
+    pub more: u64,
+    /// Each terminal behind the number of its island, which is that of a rectangle. Those of an island stand together.
+    carried: Vec<(usize, usize)>,
+}
+
+/// How many islands are counted that have one terminal, and that have more.
+#[derive(Clone, Copy)]
+struct Counted {
+    last: Option<usize>,
+    of_last: u64,
+    one: u64,
+    more: u64,
+}
+
+/// What is counted with one terminal more, which is on this island.
+fn with_terminal(counted: Counted, island: usize) -> Counted {
+    if counted.last != Some(island) {
+        return Counted {
+            last: Some(island),
+            of_last: 1,
+            one: counted.one.saturating_add(1),
+            more: counted.more,
+        };
+    }
+    if counted.of_last > 1 {
+        return counted;
+    }
+    Counted {
+        of_last: 2,
+        one: counted.one.saturating_sub(1),
+        more: counted.more.saturating_add(1),
+        ..counted
+    }
+}
+
+/// How many islands have one terminal, and how many more.
+fn count_carrying(carried: &[(usize, usize)]) -> Counted {
+    let mut counted = Counted {
+        last: None,
+        of_last: 0,
+        one: 0,
+        more: 0,
+    };
+    for (island, _) in carried {
+        counted = with_terminal(counted, *island);
+    }
+    counted
+}
+
+/// How many islands there are, where each rectangle has the number of the first one of its island.
+fn count_islands(labels: &[usize]) -> u64 {
+    let mut count = 0u64;
+    for (number, island) in labels.iter().enumerate() {
+        if number == *island {
+            count = count.saturating_add(1);
+        }
+    }
+    count
+}
+
+/// The terminals of the metal behind the numbers of their islands, in the order of these.
+fn carried_by(
+    alloc: Global,
+    terminals: &[Known],
+    metal: usize,
+    labels: &[usize],
+) -> Result<Vec<(usize, usize)>, NoMemory> {
+    let mut carried = Vec::new(alloc);
+    for one in terminals {
+        if one.metal as usize != metal {
+            continue;
+        }
+        if let Some(rect) = one.rect {
+            if let Some(island) = labels.get(rect) {
+                carried.push((*island, one.index))?;
+            }
+        }
+    }
+    carried.sort_unstable();
+    Ok(carried)
+}
+
+/// The islands of the metal of this number, which covers these rectangles.
+fn islands_of(
+    alloc: Global,
+    rects: &[Rect],
+    terminals: &[Known],
+    metal: usize,
+) -> Result<MetalIslands, NoMemory> {
+    let labels = label(alloc, rects)?;
+    let carried = carried_by(alloc, terminals, metal, labels.as_slice())?;
+    let counted = count_carrying(carried.as_slice());
+    let none = count_islands(labels.as_slice())
+        .saturating_sub(counted.one)
+        .saturating_sub(counted.more);
+    Ok(MetalIslands {
+        none,
+        one: counted.one,
+        more: counted.more,
+        carried,
+    })
+}
+
+/// The islands of each metal of the map.
+pub fn metal_islands(
+    alloc: Global,
+    map: &Map,
+    shapes: &Shapes,
+) -> Result<Vec<MetalIslands>, NoMemory> {
+    let terminals = shapes.terminals.as_slice();
+    let metals = map.metals.as_slice().len();
+    let mut all = Vec::new(alloc);
+    for (metal, held) in shapes.held.iter().take(metals).enumerate() {
+        all.push(islands_of(alloc, held.rects.as_slice(), terminals, metal)?)?;
+    }
+    Ok(all)
+}
+
+/// Tells how many islands a metal has, and how many of them have terminals.
+pub fn tell_island_counts(text: &mut Text, map: &Map, metal: usize, islands: &MetalIslands) {
+    let all = islands
+        .none
+        .saturating_add(islands.one)
+        .saturating_add(islands.more);
+    tell_layer(text, "  ", map, metal);
+    text.number(": ", all, " islands: ");
+    text.number("", islands.none, " with no terminal, ");
+    text.number("", islands.one, " with one, ");
+    text.number("", islands.more, " with more\n");
+}
+
+/// Tells an island by its metal and by a cell that it has.
+fn tell_island(text: &mut Text, map: &Map, metal: usize, held: &Held, island: usize) {
+    tell_layer(text, "    ", map, metal);
+    if let Some(rect) = held.rects.get(island) {
+        text.point(
+            ", island of the cell ",
+            i64::from(rect.x0),
+            i64::from(rect.y0),
+            ":",
+        );
+    }
+}
+
+/// Tells the islands of a metal that have terminals, each in a line with these, counted from 1.
+fn tell_carried(text: &mut Text, map: &Map, metal: usize, held: &Held, islands: &MetalIslands) {
+    let mut last = None;
+    for (island, index) in islands.carried.as_slice() {
+        if last != Some(*island) {
+            if last.is_some() {
+                text.say("\n");
+            }
+            tell_island(text, map, metal, held, *island);
+            last = Some(*island);
+        }
+        text.number(" ", (*index as u64).saturating_add(1), "");
+    }
+    if last.is_some() {
+        text.say("\n");
+    }
+}
+
+/// Tells which terminals are on which islands of the metals.
+pub fn tell_all_carried(text: &mut Text, map: &Map, layers: &[Held], islands: &[MetalIslands]) {
+    text.say("  terminals by islands, each told by a cell of it; terminals are counted from 1\n");
+    for (metal, (held, islands)) in layers.iter().zip(islands.iter()).enumerate() {
+        tell_carried(text, map, metal, held, islands);
+    }
+}

@@ -1,0 +1,274 @@
+//! The pairs of a layer and a datatype that a layout has, as its structures have them, each shape and each text once.
+
+ghost use Rattle.library_model.specs.Points.{AreWellPointed};
+
+use crate::bounds::{Bounds, joined, tell_bounds};
+use crate::refused::SHORT_MEANINGS;
+use crate::standing::cover_fault;
+use crate::text::Text;
+use crate::texts::TextMark;
+use geo_core::Point;
+use indexmap::IndexSet;
+use library_model::{Element, Library, Shape, ShapeKind, Structure};
+use lists::NoMemory;
+use std::alloc::Global;
+
+/// The most pairs that are told in a line.
+const MOST_NAMED: usize = 50;
+
+/// What a pair has.
+#[derive(Clone, Copy)]
+pub struct PairHeld {
+    /// The layer, and the datatype or the type of a box or of a text.
+    pub pair: (u16, u16),
+    pub boundaries: u64,
+    pub boxes: u64,
+    pub paths: u64,
+    pub texts: u64,
+    /// Those of all points.
+    pub bounds: Option<Bounds>,
+    /// How many shapes have no cover, for each reason of `SHORT_MEANINGS`.
+    pub uncovered: [u64; 7],
+    /// Whether the top places one of its shapes.
+    pub is_placed: bool,
+}
+
+/// The pairs of a layout.
+#[derive(Drop)]
+struct Pairs {
+    numbers: IndexSet<(u16, u16)>,
+    held: Vec<PairHeld>,
+}
+
+/// A pair that has nothing yet.
+fn nothing_of(pair: (u16, u16)) -> PairHeld {
+    PairHeld {
+        pair,
+        boundaries: 0,
+        boxes: 0,
+        paths: 0,
+        texts: 0,
+        bounds: None,
+        uncovered: [0; 7],
+        is_placed: false,
+    }
+}
+
+/// How many shapes the pair has.
+pub fn shapes_of(held: &PairHeld) -> u64 {
+    held.boundaries
+        .saturating_add(held.boxes)
+        .saturating_add(held.paths)
+}
+
+/// The number of the pair, which is taken up where it is new.
+fn number_of(pairs: &mut Pairs, pair: (u16, u16)) -> Result<usize, NoMemory> {
+    let (number, is_new) = pairs.numbers.insert_full(pair)?;
+    if is_new {
+        pairs.held.push(nothing_of(pair))?;
+    }
+    Ok(number)
+}
+
+/// Counts a shape of this kind.
+fn count_kind(held: &mut PairHeld, kind: ShapeKind) {
+    match kind {
+        ShapeKind::Boundary => held.boundaries = held.boundaries.saturating_add(1),
+        ShapeKind::BoxElement => held.boxes = held.boxes.saturating_add(1),
+        ShapeKind::Path { .. } => held.paths = held.paths.saturating_add(1),
+    }
+}
+
+/// The bounds with one point more.
+fn with_point(bounds: Option<Bounds>, x: i32, y: i32) -> Option<Bounds> {
+    let point = Bounds {
+        left: x,
+        bottom: y,
+        right: x,
+        top: y,
+    };
+    Some(joined(bounds, point))
+}
+
+/// The bounds with these points more.
+fn with_points(bounds: Option<Bounds>, points: &[Point]) -> Option<Bounds> {
+    let mut bounds = bounds;
+    for point in points {
+        bounds = with_point(bounds, point.x, point.y);
+    }
+    bounds
+}
+
+/// Counts a shape without a cover, for the reason with this number.
+fn count_uncovered(held: &mut PairHeld, number: u8) {
+    for (place, (of, _)) in SHORT_MEANINGS.iter().enumerate() {
+        if *of == number {
+            if let Some(count) = held.uncovered.get_mut(place) {
+                *count = count.saturating_add(1);
+            }
+        }
+    }
+}
+
+/// Notes a shape, and the number of the fault for which it has no cover, where it has none.
+fn note_shape(
+    pairs: &mut Pairs,
+    shape: &Shape,
+    fault: Option<u8>,
+    is_placed: bool,
+) -> Result<(), NoMemory> {
+    let number = number_of(pairs, (shape.layer, shape.datatype))?;
+    if let Some(held) = pairs.held.get_mut(number) {
+        count_kind(held, shape.kind);
+        held.bounds = with_points(held.bounds, shape.points.as_slice());
+        held.is_placed = held.is_placed || is_placed;
+        if let Some(fault) = fault {
+            count_uncovered(held, fault);
+        }
+    }
+    Ok(())
+}
+
+/// Notes the shapes of the structure of this number.
+fn note_structure(
+    alloc: Global,
+    pairs: &mut Pairs,
+    library: &Library,
+    number: usize,
+    structure: &Structure,
+    is_placed: bool,
+) -> Result<(), NoMemory>
+    requires { AreWellPointed library.now.structures }
+{
+    for (place, element) in structure.elements.as_slice().iter().enumerate() {
+        if let Element::Shape(shape) = element {
+            let fault = cover_fault(alloc, library, number, place)?;
+            note_shape(pairs, shape, fault, is_placed)?;
+        }
+    }
+    Ok(())
+}
+
+/// Notes a text.
+fn note_text(pairs: &mut Pairs, one: &TextMark<'_>) -> Result<(), NoMemory> {
+    let number = number_of(pairs, (one.layer, one.texttype))?;
+    if let Some(held) = pairs.held.get_mut(number) {
+        held.texts = held.texts.saturating_add(1);
+        let (x, y) = one.point;
+        held.bounds = with_point(held.bounds, x, y);
+    }
+    Ok(())
+}
+
+/// The pairs that the structures and these texts have, in their order, where each structure is placed so often.
+pub fn all_pairs(
+    alloc: Global,
+    library: &Library,
+    texts: &[TextMark<'_>],
+    times: &[u64],
+) -> Result<Vec<PairHeld>, NoMemory>
+    requires { AreWellPointed library.now.structures }
+{
+    let mut pairs = Pairs {
+        numbers: IndexSet::new(alloc),
+        held: Vec::new(alloc),
+    };
+    for (number, structure) in library.structures.as_slice().iter().enumerate() {
+        let is_placed = times.get(number).copied().unwrap_or(0) > 0;
+        note_structure(alloc, &mut pairs, library, number, structure, is_placed)?;
+    }
+    for one in texts {
+        note_text(&mut pairs, one)?;
+    }
+    let Pairs {
+        numbers: _numbers,
+        mut held,
+    } = pairs;
+    held.sort_by_key(|one| one.pair)?;
+    Ok(held)
+}
+
+/// Tells why shapes of the pair have no cover, each reason in a line that begins with these words.
+fn tell_reasons(text: &mut Text, before: &str, held: &PairHeld) {
+    for (place, (number, meaning)) in SHORT_MEANINGS.iter().enumerate() {
+        let count = held.uncovered.get(place).copied().unwrap_or(0);
+        if count > 0 {
+            text.say(before);
+            text.number("  ", count, " of its shapes have no cover: ");
+            text.number("", u64::from(*number), ", ");
+            text.word("", *meaning, "\n");
+        }
+    }
+}
+
+/// Tells what a pair has, in lines that begin with these words, and where a top is known, whether it places a shape of it.
+pub fn tell_pair(text: &mut Text, before: &str, held: &PairHeld, has_top: bool) {
+    let (layer, datatype) = held.pair;
+    text.say(before);
+    text.number("layer ", u64::from(layer), ", datatype ");
+    text.number("", u64::from(datatype), ": boundaries ");
+    text.number("", held.boundaries, ", boxes ");
+    text.number("", held.boxes, ", paths ");
+    text.number("", held.paths, ", texts ");
+    text.number("", held.texts, "");
+    if let Some(bounds) = held.bounds {
+        tell_bounds(text, ", points from ", bounds);
+    }
+    if has_top && shapes_of(held) > 0 {
+        if held.is_placed {
+            text.say("; the top places shapes of it");
+        } else {
+            text.say("; the top places none of it");
+        }
+    }
+    text.say("\n");
+    tell_reasons(text, before, held);
+}
+
+/// Takes up the pairs of the shapes of a structure.
+fn add_pairs(pairs: &mut IndexSet<(u16, u16)>, structure: &Structure) -> Result<(), NoMemory> {
+    for element in structure.elements.as_slice() {
+        if let Element::Shape(shape) = element {
+            pairs.insert((shape.layer, shape.datatype))?;
+        }
+    }
+    Ok(())
+}
+
+/// The pairs of the shapes of structures, in their order.
+fn shape_pairs(alloc: Global, structures: &[Structure]) -> Result<Vec<(u16, u16)>, NoMemory> {
+    let mut pairs = IndexSet::new(alloc);
+    for structure in structures {
+        add_pairs(&mut pairs, structure)?;
+    }
+    let mut sorted = Vec::new(alloc);
+    for pair in pairs.iter() {
+        sorted.push(*pair)?;
+    }
+    sorted.sort_unstable();
+    Ok(sorted)
+}
+
+/// Tells of which pairs of a layer and a datatype structures have shapes, as a map has them.
+pub fn tell_pairs_of(
+    alloc: Global,
+    text: &mut Text,
+    structures: &[Structure],
+) -> Result<(), NoMemory> {
+    let pairs = shape_pairs(alloc, structures)?;
+    if pairs.is_empty() {
+        text.say("  the layout has no shapes\n");
+        return Ok(());
+    }
+    text.say("  the layout has shapes of these pairs:");
+    for (layer, datatype) in pairs.as_slice().iter().take(MOST_NAMED) {
+        text.number(" [", u64::from(*layer), ", ");
+        text.number("", u64::from(*datatype), "]");
+    }
+    if pairs.len() > MOST_NAMED {
+        text.number(", the first ", MOST_NAMED as u64, " of ");
+        text.number("", pairs.len() as u64, "");
+    }
+    text.say("\n");
+    Ok(())
+}

@@ -1,0 +1,138 @@
+//! The terminals of a map that has too many, by their islands, so that one can part them.
+
+ghost use Rattle.std.specs.Prelude.{◌≤◌, ◌<◌, ◌^◌, length, All};
+ghost use Rattle.lists.specs.Differing.{AreDifferent};
+ghost use Rattle.library_model.specs.Names.{names_of};
+ghost use Rattle.library_model.specs.Points.{AreWellPointed};
+
+use crate::maps::terminal_of;
+use crate::metal_islands::{metal_islands, tell_all_carried};
+use crate::shapes::placed_shapes;
+use crate::terminals::Known;
+use crate::text::Text;
+use flatten::PlaceFault;
+use gds_syntax::{SyntaxFault, read_library};
+use geo_core::Cell;
+use layer_map::{MapFault, read_map};
+use library_model::Library;
+use lists::NoMemory;
+use map_model::Map;
+use map_model::limits::MOST_TERMINALS;
+use std::alloc::Global;
+use toml::{Table, Value};
+
+/// A map without its terminals, and these.
+#[derive(Drop)]
+pub struct Parted {
+    map: Map,
+    terminals: Vec<Known>,
+}
+
+/// The number of the metal of this name.
+fn metal_named(map: &Map, name: &str) -> Option<u32> {
+    let mut number = 0u32;
+    for metal in map.metals.as_slice() {
+        if metal.name.as_slice() == name.as_bytes() {
+            return Some(number);
+        }
+        number = number.saturating_add(1);
+    }
+    None
+}
+
+/// The terminal of this number, where it is one of the map.
+fn known_of(map: &Map, index: usize, item: &Value) -> Option<Known> {
+    let (metal, x, y) = terminal_of(item)?;
+    Some(Known {
+        index,
+        metal: metal_named(map, metal)?,
+        cell: Cell {
+            i: i32::try_from(x).ok()?,
+            j: i32::try_from(y).ok()?,
+        },
+        rect: None,
+    })
+}
+
+/// The terminals of the map, by their metals and columns.
+fn all_known(alloc: Global, map: &Map, items: &[Value]) -> Result<Vec<Known>, NoMemory> {
+    let mut known = Vec::new(alloc);
+    for (index, item) in items.iter().enumerate() {
+        if let Some(one) = known_of(map, index, item) {
+            known.push(one)?;
+        }
+    }
+    known.sort_by_key(|one| (one.metal, one.cell.i))?;
+    Ok(known)
+}
+
+/// The map that the document is, where it is one.
+fn map_in(alloc: Global, document: &Table) -> Result<Option<Map>, NoMemory> {
+    let Ok(text) = toml::table_to_string(alloc, document) else {
+        return Ok(None);
+    };
+    match read_map(alloc, text.as_str().as_bytes()) {
+        Ok(map) => Ok(Some(map)),
+        Err(MapFault::Memory) => Err(NoMemory),
+        Err(_) => Ok(None),
+    }
+}
+
+/// The map that the bytes say without its terminals, where it has too many and is good but for them.
+pub fn parted_of(alloc: Global, bytes: &[u8]) -> Result<Option<Parted>, NoMemory> {
+    let Ok(mut document) = toml::table_from_slice(alloc, bytes) else {
+        return Ok(None);
+    };
+    let Some(Value::Array(items)) = document.remove("terminal") else {
+        return Ok(None);
+    };
+    if items.len() <= MOST_TERMINALS {
+        return Ok(None);
+    }
+    let Some(map) = map_in(alloc, &document)? else {
+        return Ok(None);
+    };
+    let terminals = all_known(alloc, &map, items.as_slice())?;
+    Ok(Some(Parted { map, terminals }))
+}
+
+/// Tells the terminals by their islands, where the layout is good.
+fn tell_islands(
+    alloc: Global,
+    text: &mut Text,
+    parted: Parted,
+    library: &Library,
+    top: Option<&[u8]>,
+) -> Result<(), NoMemory>
+    requires differ { AreDifferent (names_of library.now.structures) }
+    requires few_structures { length library.now.structures < 2 ^ 32 }
+    requires few_elements { All (λ structure. length structure.elements < 2 ^ 32) library.now.structures }
+    requires pointed { AreWellPointed library.now.structures }
+{
+    let Parted { map, terminals } = parted;
+    let shapes = match placed_shapes(alloc, &map, library, top, terminals) {
+        Ok(shapes) => shapes,
+        Err(PlaceFault::Memory) => return Err(NoMemory),
+        Err(_) => return Ok(()),
+    };
+    let islands = metal_islands(alloc, &map, &shapes)?;
+    tell_all_carried(text, &map, shapes.held.as_slice(), islands.as_slice());
+    Ok(())
+}
+
+/// Tells the terminals by their islands, where these bytes are a layout that is good.
+pub fn tell_parted(
+    alloc: Global,
+    text: &mut Text,
+    parted: Parted,
+    bytes: &[u8],
+    top: Option<&[u8]>,
+) -> Result<(), NoMemory>
+    requires { length bytes.now ≤ 268435456 }
+{
+    match read_library(alloc, bytes) {
+        Ok(library) => tell_islands(alloc, text, parted, &library, top),
+        Err(SyntaxFault::Memory) => Err(NoMemory),
+        Err(_) => Ok(()),
+    }
+}
