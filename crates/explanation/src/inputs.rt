@@ -12,7 +12,7 @@ use std::alloc::Global;
 const FAILED: u8 = 5;
 
 /// The status that stands for a file that cannot be read a second time. No run ends with it.
-const READ_ONCE: u8 = 8;
+pub const READ_ONCE: u8 = 8;
 
 /// The most bytes that a layout may have.
 pub const LONGEST_LAYOUT: usize = 268_435_456;

@@ -4,6 +4,7 @@
 #![tactic(auto)]
 
 mod beginnings;
+mod ended;
 mod explanation;
 mod good;
 mod graph;
@@ -18,6 +19,7 @@ mod places;
 mod position;
 mod quoted;
 mod refused;
+mod remedies;
 mod shapes;
 mod spot;
 mod structures;
@@ -29,5 +31,6 @@ mod usage;
 mod words;
 
 pub use command_line::Word;
+pub use ended::{answer, answer_untold};
 pub use explanation::{Explanation, explain};
 pub use path_kinds::{OsPaths, PathKind, Paths};
