@@ -25,6 +25,12 @@ const READ_AGAIN: &[(&str, &str)] = &[
         "arguments: --map is the last word, and has no value; --map takes the name of a file\n  \
          critarea LAYOUT --map MAP\n  critarea LAYOUT --layer L --datatype D --radius R\n  critarea --generate N\n",
     ),
+    // the program lists no layers
+    (
+        "2|error 2 at 0\n|a",
+        "arguments: it is not said which layers are metals\n  \
+         critarea LAYOUT --map MAP\n  critarea LAYOUT --layer L --datatype D --radius R\n  critarea --generate N\n",
+    ),
     (
         "5||none|--layer|1|--datatype|0|--radius|3",
         "layout 'none': there is no such file\n",

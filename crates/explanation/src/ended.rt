@@ -1,11 +1,12 @@
 //! Why a run of the program ended as it did: what is found where its words and files are read again, and where that is
 //! something else than the program said, or nothing was to be read, what its status and its line mean.
 
-use crate::explanation::{Explanation, explain};
+use crate::explanation::{Explanation, explain, tell_words};
 use crate::inputs::READ_ONCE;
 use crate::map_spot::{List, Spot, spot_of};
 use crate::path_kinds::Paths;
 use crate::remedies::{Remedy, remedy_of};
+use crate::telling::Telling;
 use crate::text::Text;
 use command_line::Word;
 use edge_io::Files;
@@ -14,6 +15,9 @@ use std::alloc::Global;
 
 /// The word in front of a status, a line and the words of the run that ended so.
 const ENDED: &str = "--ended";
+
+/// The status of a run whose words fit no form.
+const UNFIT: u8 = 2;
 
 /// The status of a run in which a file or an output failed.
 const FAILED: u8 = 5;
@@ -182,6 +186,34 @@ fn tell_found(text: &mut Text, ended: &Ended<'_>, found: &Explanation) {
     }
 }
 
+/// Why these words fit no form.
+fn explain_unfit(alloc: Global, words: &[Word]) -> Result<Explanation, NoMemory> {
+    let mut told = Telling {
+        status: 0,
+        text: Text::new(alloc),
+    };
+    tell_words(alloc, &mut told, words)?;
+    let Telling { status, text } = told;
+    Ok(Explanation {
+        status,
+        text: text.whole()?,
+    })
+}
+
+/// What is found where the words and the files of the run are read again. Words that the program refused are not taken as
+/// those of something that it does not do.
+fn look_again<F: Files, P: Paths>(
+    alloc: Global,
+    ended: &Ended<'_>,
+    files: &mut F,
+    paths: &P,
+) -> Result<Explanation, NoMemory> {
+    if ended.status == UNFIT {
+        return explain_unfit(alloc, ended.words);
+    }
+    explain(alloc, ended.words, files, paths)
+}
+
 /// Tells why the run ended so.
 fn tell_ended<F: Files, P: Paths>(
     alloc: Global,
@@ -191,7 +223,7 @@ fn tell_ended<F: Files, P: Paths>(
     paths: &P,
 ) -> Result<(), NoMemory> {
     if ended.is_of_files() {
-        tell_found(text, ended, &explain(alloc, ended.words, files, paths)?);
+        tell_found(text, ended, &look_again(alloc, ended, files, paths)?);
     } else if ended.status > LAST_STATUS {
         tell_signal(text, ended.status - LAST_STATUS);
     } else {
