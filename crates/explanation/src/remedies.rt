@@ -323,3 +323,11 @@ pub fn remedy_of(status: u8, number: u64) -> Option<&'static Remedy> {
     }
     None
 }
+
+/// What to do where a run ends with a status and a number.
+pub fn what_to_do(status: u8, number: u8) -> &'static str {
+    match remedy_of(status, u64::from(number)) {
+        Some(row) => row.remedy,
+        None => "see docs/REFUSALS.md",
+    }
+}
