@@ -78,7 +78,7 @@ const READ_AGAIN: &[(&str, &str)] = &[
     // a number that no table has
     (
         "4|error 99 at 0\n|pipe|--layer|1|--datatype|0|--radius|3",
-        "the program ended with status 4, which docs/REFUSALS.md does not have with such a line\n  \
+        "the program ended with status 4 in a way that docs/REFUSALS.md does not have; file an issue with the words and the files\n  \
          layout 'pipe': this is a pipe, which cannot be read a second time; save it as a file to be told more\n",
     ),
 ];
@@ -128,7 +128,7 @@ const TOLD_AT_ONCE: &[(&str, &str)] = &[
     ),
     (
         "127||a|--map|m",
-        "the program ended with status 127, which docs/REFUSALS.md does not have with such a line\n",
+        "the program ended with status 127 in a way that docs/REFUSALS.md does not have; file an issue with the words and the files\n",
     ),
 ];
 

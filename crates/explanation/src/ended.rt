@@ -132,7 +132,7 @@ fn tell_meaning(text: &mut Text, ended: &Ended<'_>) {
         None => text.number(
             "the program ended with status ",
             u64::from(ended.status),
-            ", which docs/REFUSALS.md does not have with such a line\n",
+            " in a way that docs/REFUSALS.md does not have; file an issue with the words and the files\n",
         ),
     }
 }
