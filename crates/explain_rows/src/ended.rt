@@ -1,6 +1,8 @@
 use crate::layouts::TWO_BARS;
 use crate::rows::{Stands, expect};
 use explanation::PathKind;
+use std::alloc::Global;
+use std::process::Abort;
 
 /// A layout that is good, and no map.
 const GOOD: Stands<'static> = Stands {
@@ -133,18 +135,18 @@ const TOLD_AT_ONCE: &[(&str, &str)] = &[
 ];
 
 /// Checks rows of ends.
-fn check(rt: &HostRuntime, rows: &[(&str, &str)], stands: &Stands<'_>) {
+fn check<R: Abort>(rt: &R, alloc: Global, rows: &[(&str, &str)], stands: &Stands<'_>) {
     for (end, told) in rows {
-        let line = format!(in rt.alloc(); "--ended|{end}").unwrap_or(String::new(rt.alloc()));
-        expect(rt, rt.alloc(), line.as_str(), stands, 0, ["", *told, ""]);
+        let line = format!(in alloc; "--ended|{end}").unwrap_or(String::new(alloc));
+        expect(rt, alloc, line.as_str(), stands, 0, ["", *told, ""]);
     }
 }
 
 #[test]
 fn ends_are_told(rt: HostRuntime) {
-    check(&rt, READ_AGAIN, &GOOD);
-    check(&rt, OTHERWISE, &EXCHANGED);
-    check(&rt, TOLD_AT_ONCE, &GOOD);
+    check(&rt, rt.alloc(), READ_AGAIN, &GOOD);
+    check(&rt, rt.alloc(), OTHERWISE, &EXCHANGED);
+    check(&rt, rt.alloc(), TOLD_AT_ONCE, &GOOD);
 }
 
 #[test]
