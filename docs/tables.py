@@ -1,12 +1,13 @@
 #!/usr/bin/env python3
-"""Makes the table of clauses in PROVED.md, that of crates in ARCHITECTURE.md and the index in DEFINITIONS.md: `docs/tables.py`
-in the folder of the repository.
+"""Makes the tables of clauses in PROVED.md, of crates in ARCHITECTURE.md and of remedies in REFUSALS.md, and the index in
+DEFINITIONS.md: `docs/tables.py` in the folder of the repository.
 
-Without more it prints all three. `docs/tables.py --write` puts each into its page, between the page's two marks, and
+Without more it prints them. `docs/tables.py --write` puts each into its page, between the page's two marks, and
 `docs/tables.py --check` says which page holds something else, and then ends with status 1. Calls, clauses and laws are taken
 from `src/`, what a crate is for from the first sentence of the `//!` of its first file, what it stands on from `crates.txt`, and
 the words of the index from the pages of `specs/`, each page with the subject that its head names. Pages of `specs/inside/` are
-left out. A crate of tests alone says so in its `//!`. It needs Python 3.8.
+left out. A crate of tests alone says so in its `//!`. Remedies are those of `crates/explanation/src/remedies.rt`, with which
+`explain` tells an end of a run. It needs Python 3.8.
 """
 import pathlib
 import re
@@ -26,6 +27,8 @@ CLAUSE = re.compile(r"^ *ensures(?: (\w+))? \{", re.M)
 BEFORE_CLAUSE = re.compile(r"(?:ensures|requires|decreases|by)(?: \w+)? $")
 FACT = re.compile(r"^ +pub ghost (\w+): \{", re.M)
 OUTPUT = re.compile(r"^ +ghost (output) = \{", re.M)
+REMEDY = re.compile(r"^    Remedy \{\n(.*?)^    \},", re.M | re.S)
+FIELD = re.compile(r'^ +\w+:\s+(?:(\d+)|"((?:[^"\\]|\\.)*)"),$', re.M)
 WORD = re.compile(r"^(?:(?:abbrev|unfoldable) )*pub (?:(?:record|data|unfoldable) )?(?!use |mod )([^\s:({]+)", re.M)
 
 
@@ -256,9 +259,30 @@ def index():
                 yield from textwrap.wrap(line, WIDTH, subsequent_indent="  ", break_long_words=False, break_on_hyphens=False)
 
 
-# ---- the three pages
+# ---- remedies
 
-PARTS = {"PROVED.md": ("clauses", clause_table), "ARCHITECTURE.md": ("crates", crate_table), "DEFINITIONS.md": ("index", index)}
+
+def remedy_table():
+    """The table of what each number means, and what to do, where a run ends with it."""
+    yield "| status | number | what it means | place | what to do |"
+    yield "|---|---|---|---|---|"
+    text = (CRATES / "explanation" / "src" / "remedies.rt").read_text()
+    for row in REMEDY.findall(text):
+        fields = [number or re.sub(r"\\(.)", r"\1", words) for number, words in FIELD.findall(row)]
+        if len(fields) != 5:
+            sys.exit("a remedy without five fields: " + row)
+        status, number, meaning, place, remedy = fields
+        yield "| %s | %s | %s | %s | %s |" % (status, "none" if number == "0" else number, meaning, place, remedy)
+
+
+# ---- the pages
+
+PARTS = {
+    "PROVED.md": ("clauses", clause_table),
+    "ARCHITECTURE.md": ("crates", crate_table),
+    "DEFINITIONS.md": ("index", index),
+    "REFUSALS.md": ("remedies", remedy_table),
+}
 
 
 def with_part(text, name, lines):

@@ -1,10 +1,11 @@
 //! The second program: it hands the words and files of the system to `explanation`.
 //!
-//! What that says goes to standard output, and the status that it gives is the program's.
+//! Its words are those of a run, or say how one ended with its words behind. What is said goes to standard output. The status
+//! is that of the run, and 0 where it is told how the run ended.
 #![tactic(auto)]
 
 use edge_io::OsFiles;
-use explanation::{Explanation, OsPaths, Word, explain};
+use explanation::{Explanation, OsPaths, Word, answer, answer_untold};
 use std::alloc::Global;
 use std::env;
 use std::io::{self, ErrorKind};
@@ -16,9 +17,6 @@ const FAILED: u8 = 5;
 
 /// The status where no memory is left.
 const NO_MEMORY: u8 = 6;
-
-/// The status where the system does not tell the words.
-const WORDS_UNTOLD: u8 = 7;
 
 /// The words after the program's name.
 fn words<R: Env + AllocGlobal>(rt: &R) -> io::Result<Vec<Word>> {
@@ -38,14 +36,14 @@ fn print(rt: &impl Print, told: &Explanation) -> u8 {
 }
 
 fn main(rt: HostRuntime) -> ExitCode {
-    let words = match words(&rt) {
-        Ok(words) => words,
-        Err(error) if error.kind() == ErrorKind::OutOfMemory => return ExitCode::from(NO_MEMORY),
-        Err(_) => return ExitCode::from(WORDS_UNTOLD),
-    };
     let mut files = OsFiles::new(&rt);
     let paths = OsPaths::new(&rt);
-    match explain(rt.alloc(), words.as_slice(), &mut files, &paths) {
+    let told = match words(&rt) {
+        Ok(words) => answer(rt.alloc(), words.as_slice(), &mut files, &paths),
+        Err(error) if error.kind() == ErrorKind::OutOfMemory => return ExitCode::from(NO_MEMORY),
+        Err(_) => answer_untold(rt.alloc()),
+    };
+    match told {
         Ok(told) => ExitCode::from(print(&rt, &told)),
         Err(_) => ExitCode::from(NO_MEMORY),
     }

@@ -1,4 +1,4 @@
-use crate::layouts::TWO_BARS;
+use samples::TWO_BARS;
 use crate::rows::{Stands, expect, explanation_of};
 use std::test::Fail;
 

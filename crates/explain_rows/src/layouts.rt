@@ -50,7 +50,7 @@ const CHANGED: &[(usize, u8, u8, &str)] = &[
         0x08,
         4,
         "error 10 at 8\n\
-         layout 'a', byte 8: the file ends here, and ENDLIB has not come; fetch or write the file anew, since it was cut short\n  \
+         layout 'a', byte 8: the file ends here, or within the record that begins here, and ENDLIB has not come; fetch or write the file anew, since it was cut short\n  \
          behind HEADER, in front of the first structure's name\n",
     ),
     // a LAYER that is a second DATATYPE
@@ -59,7 +59,7 @@ const CHANGED: &[(usize, u8, u8, &str)] = &[
         0x0E,
         4,
         "error 14 at 168\n\
-         layout 'a', byte 168: the record here may not stand where it does; export the layout anew, and for a second XY in one element with fewer points a polygon\n  \
+         layout 'a', byte 168: the record here may not stand where it does; export the layout anew, and for a second XY in one element with fewer points a polygon; docs/PROFILE.md has the order\n  \
          DATATYPE behind DATATYPE, structure 'T', element 2: a boundary, datatype 1\n",
     ),
     // the last point is (15, 0)

@@ -1,4 +1,4 @@
-use crate::layouts::TWO_BARS;
+use samples::TWO_BARS;
 use crate::rows::{Stands, explanation_of};
 use std::alloc::{AllocError, Global};
 use std::test::Fail;

@@ -1,5 +1,5 @@
 use edge_io::MemFiles;
-use explanation::{Explanation, PathKind, Paths, Word, explain};
+use explanation::{Explanation, PathKind, Paths, Word, answer};
 use lists::{Name, NoMemory};
 use std::alloc::Global;
 use std::process::Abort;
@@ -72,7 +72,7 @@ fn files_of(alloc: Global, stands: &Stands<'_>) -> Result<MemFiles, NoMemory> {
 /// What is told of words.
 fn explained(alloc: Global, words: &[Word], stands: &Stands<'_>) -> Result<Explanation, NoMemory> {
     let mut files = files_of(alloc, stands)?;
-    explain(alloc, words, &mut files, stands)
+    answer(alloc, words, &mut files, stands)
 }
 
 /// What is told of the words of a line.

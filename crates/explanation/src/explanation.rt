@@ -31,7 +31,7 @@ pub struct Explanation {
 }
 
 /// Tells why the words fit no form.
-fn tell_words(alloc: Global, told: &mut Telling, words: &[Word]) -> Result<(), NoMemory> {
+pub fn tell_words(alloc: Global, told: &mut Telling, words: &[Word]) -> Result<(), NoMemory> {
     told.refuse(2, 2, 0);
     tell_misfit(&mut told.text, find_misfit(alloc, words)?);
     told.text.say(

@@ -3,6 +3,7 @@
 ghost use Rattle.std.specs.Prelude.{◌≤◌, ◌^◌};
 
 use crate::path_kinds::{PathKind, Paths};
+use crate::remedies::what_to_do;
 use crate::telling::Telling;
 use edge_io::{Files, ReadError, read_whole};
 use lists::NoMemory;
@@ -12,7 +13,7 @@ use std::alloc::Global;
 const FAILED: u8 = 5;
 
 /// The status that stands for a file that cannot be read a second time. No run ends with it.
-const READ_ONCE: u8 = 8;
+pub const READ_ONCE: u8 = 8;
 
 /// The most bytes that a layout may have.
 pub const LONGEST_LAYOUT: usize = 268_435_456;
@@ -85,7 +86,8 @@ fn tell_too_long(told: &mut Telling, input: Input, name: &[u8]) {
     told.refuse(status, number, limit as u64);
     told.text.say(input.word());
     told.text.name(" ", name, ": it has more than ");
-    told.text.number("", limit as u64, " bytes\n");
+    told.text.number("", limit as u64, " bytes; ");
+    told.text.word("", what_to_do(status, number), "\n");
 }
 
 /// Tells what went wrong when a file was read.

@@ -9,6 +9,7 @@
 mod asked;
 mod beginnings;
 mod bounds;
+mod ended;
 mod explanation;
 mod good;
 mod graph;
@@ -29,6 +30,7 @@ mod places;
 mod position;
 mod quoted;
 mod refused;
+mod remedies;
 mod shapes;
 mod skeleton;
 mod spot;
@@ -43,5 +45,6 @@ mod usage;
 mod words;
 
 pub use command_line::Word;
+pub use ended::{answer, answer_untold};
 pub use explanation::{Explanation, explain};
 pub use path_kinds::{OsPaths, PathKind, Paths};

@@ -6,6 +6,7 @@ use crate::map_spot::{
     DOCUMENT_KEYS, Key, List, Spot, items_of, member, spot_of, text_in, value_at, wanted,
 };
 use crate::position::{front, last_line, line_ends};
+use crate::remedies::what_to_do;
 use crate::telling::Telling;
 use crate::text::Text;
 use layer_map::MapFault;
@@ -370,7 +371,8 @@ fn tell_limit(text: &mut Text, document: &Table, path: u32, spot: Spot) {
         _ => 0,
     };
     text.number("it has ", count as u64, " items, and at most ");
-    text.number("", most, " are taken; shorten it, or make two maps\n");
+    text.number("", most, " are taken; ");
+    text.word("", what_to_do(3, 47), "\n");
 }
 
 /// Tells what is wrong at a place of a document.

@@ -1,0 +1,279 @@
+//! Why a run of the program ended as it did: what is found where its words and files are read again, and where that is
+//! something else than the program said, or nothing was to be read, what its status and its line mean.
+
+use crate::explanation::{Explanation, explain, tell_words};
+use crate::inputs::READ_ONCE;
+use crate::map_spot::{List, Spot, spot_of};
+use crate::path_kinds::Paths;
+use crate::remedies::{Remedy, remedy_of};
+use crate::telling::Telling;
+use crate::text::Text;
+use command_line::Word;
+use edge_io::Files;
+use lists::NoMemory;
+use std::alloc::Global;
+
+/// The word in front of a status, a line and the words of the run that ended so.
+const ENDED: &str = "--ended";
+
+/// The status of a run whose words fit no form.
+const UNFIT: u8 = 2;
+
+/// The status of a run in which a file or an output failed.
+const FAILED: u8 = 5;
+
+/// The status of a run to which the system does not tell its words.
+const WORDS_UNTOLD: u8 = 7;
+
+/// The greatest status that no signal gives.
+const LAST_STATUS: u8 = 128;
+
+/// The signals that are told by more than their numbers.
+const SIGNALS: &[(u8, &str)] = &[
+    (2, ", the interrupt of a keyboard"),
+    (
+        9,
+        ", as the system does where memory is short; use a machine with more of it, or take a part of the layout",
+    ),
+    (
+        11,
+        ", as where its stack is too deep; file an issue with the layout and the words",
+    ),
+    (15, ", which asks it to end"),
+];
+
+/// How a run of the program ended.
+#[derive(Clone, Copy)]
+struct Ended<'a> {
+    /// Its status. A signal gives 128 and its number.
+    status: u8,
+    /// What it wrote to standard error.
+    line: &'a str,
+    /// Its words.
+    words: &'a [Word],
+}
+
+/// The number of a text, where it is one.
+fn number_in(text: &str) -> Option<u64> {
+    text.parse::<u64>().ok()
+}
+
+impl<'a> Ended<'a> {
+    /// The number and the place in the line, where the line is a refusal.
+    fn refusal(&self) -> Option<(u64, u64)> {
+        let body = self.line.strip_prefix("error ")?;
+        let (number, rest) = body.split_once(" at ")?;
+        let place = rest.strip_suffix('\n')?;
+        Some((number_in(number)?, number_in(place)?))
+    }
+
+    /// Whether files and words are worth a second look.
+    fn is_of_files(&self) -> bool {
+        self.status <= FAILED && self.status != 1
+    }
+
+    /// What was found behind the line that the program wrote itself, where it is the same end.
+    fn same_end<'b>(&self, found: &'b Explanation) -> Option<&'b str> {
+        if found.status != self.status {
+            return None;
+        }
+        found.text.as_str().strip_prefix(self.line)
+    }
+}
+
+/// Tells which table of a list of the map it is, counted from 1.
+fn tell_item(text: &mut Text, list: List, number: usize) {
+    text.word("[[", list.key(), "]] number ");
+    text.number("", (number as u64).saturating_add(1), "");
+}
+
+/// Tells which place of the map a path is.
+fn tell_path(text: &mut Text, path: usize) {
+    text.say("the map, ");
+    match spot_of(path) {
+        Spot::Document => text.say("the document"),
+        Spot::Key(key) => text.word("`", key.name, "`"),
+        Spot::Item(list, number) => tell_item(text, list, number),
+        Spot::ItemKey(list, number, key) => {
+            text.word("`", key.name, "` of ");
+            tell_item(text, list, number);
+        }
+    }
+    text.say(": ");
+}
+
+/// Tells what a row is about, where its place is this and the meaning does not name it.
+fn tell_subject(text: &mut Text, row: &Remedy, place: u64) {
+    match (row.status, row.number) {
+        (3, 39) | (3, 40) | (4, 9) | (4, 27) => {}
+        (3, _) => tell_path(text, place as usize),
+        (4, 50) => text.number(
+            "the layout, [[terminal]] number ",
+            place.saturating_add(1),
+            " of the map: ",
+        ),
+        (4, _) => {
+            text.word("the layout, ", row.place, " at byte ");
+            text.number("", place, ": ");
+        }
+        _ => {}
+    }
+}
+
+/// Tells what a status and a line mean by themselves.
+fn tell_meaning(text: &mut Text, ended: &Ended<'_>) {
+    let (number, place) = ended.refusal().unwrap_or((0, 0));
+    match remedy_of(ended.status, number) {
+        Some(row) => {
+            tell_subject(text, row, place);
+            text.word("", row.meaning, "; ");
+            text.word("", row.remedy, "\n");
+        }
+        None => text.number(
+            "the program ended with status ",
+            u64::from(ended.status),
+            " in a way that docs/REFUSALS.md does not have; file an issue with the words and the files\n",
+        ),
+    }
+}
+
+/// Tells which signal stopped the program.
+fn tell_signal(text: &mut Text, signal: u8) {
+    text.number("the program was stopped by signal ", u64::from(signal), "");
+    for (number, words) in SIGNALS {
+        if *number == signal {
+            text.say(*words);
+        }
+    }
+    text.say("\n");
+}
+
+/// Puts lines behind the text, each two columns further in.
+fn tell_further_in(text: &mut Text, lines: &str) {
+    for line in lines.split('\n') {
+        if !line.is_empty() {
+            text.word("  ", line, "\n");
+        }
+    }
+}
+
+/// Tells that the words and files, read again, come to another end than that of the program.
+fn tell_other_end(text: &mut Text, ended: &Ended<'_>, found: &Explanation) {
+    text.say("  read again, ");
+    if ended.status == FAILED {
+        text.say("each file can be read: it was an output, or what stands there has changed\n");
+        return;
+    }
+    if found.status == 0 {
+        text.say("nothing is wrong: what stands there has changed\n");
+        return;
+    }
+    text.say("it ends otherwise: what stands there has changed\n");
+    tell_further_in(text, found.text.as_str());
+}
+
+/// Tells what is found where words and files are read again.
+fn tell_found(text: &mut Text, ended: &Ended<'_>, found: &Explanation) {
+    if let Some(behind) = ended.same_end(found) {
+        text.say(behind);
+        return;
+    }
+    tell_meaning(text, ended);
+    if found.status == READ_ONCE {
+        tell_further_in(text, found.text.as_str());
+    } else {
+        tell_other_end(text, ended, found);
+    }
+}
+
+/// Why these words fit no form.
+fn explain_unfit(alloc: Global, words: &[Word]) -> Result<Explanation, NoMemory> {
+    let mut told = Telling {
+        status: 0,
+        text: Text::new(alloc),
+    };
+    tell_words(alloc, &mut told, words)?;
+    let Telling { status, text } = told;
+    Ok(Explanation {
+        status,
+        text: text.whole()?,
+    })
+}
+
+/// What is found where the words and the files of the run are read again. Words that the program refused are not taken as
+/// those of something that it does not do.
+fn look_again<F: Files, P: Paths>(
+    alloc: Global,
+    ended: &Ended<'_>,
+    files: &mut F,
+    paths: &P,
+) -> Result<Explanation, NoMemory> {
+    if ended.status == UNFIT {
+        return explain_unfit(alloc, ended.words);
+    }
+    explain(alloc, ended.words, files, paths)
+}
+
+/// Tells why the run ended so.
+fn tell_ended<F: Files, P: Paths>(
+    alloc: Global,
+    text: &mut Text,
+    ended: &Ended<'_>,
+    files: &mut F,
+    paths: &P,
+) -> Result<(), NoMemory> {
+    if ended.is_of_files() {
+        tell_found(text, ended, &look_again(alloc, ended, files, paths)?);
+    } else if ended.status > LAST_STATUS {
+        tell_signal(text, ended.status - LAST_STATUS);
+    } else {
+        tell_meaning(text, ended);
+    }
+    Ok(())
+}
+
+/// How a run ended, where the first words tell it.
+fn ended_in(words: &[Word]) -> Option<Ended<'_>> {
+    if words.first()?.as_str() != ENDED {
+        return None;
+    }
+    Some(Ended {
+        status: words.get(1)?.as_str().parse::<u8>().ok()?,
+        line: words.get(2)?.as_str(),
+        words: words.get(3..)?,
+    })
+}
+
+/// Answers words: what is to be said of the run of these words on these files, or, where the first three words are `--ended`,
+/// a status and the line that the program wrote, why the run of the words behind them ended so.
+pub fn answer<F: Files, P: Paths>(
+    alloc: Global,
+    words: &[Word],
+    files: &mut F,
+    paths: &P,
+) -> Result<Explanation, NoMemory> {
+    let Some(ended) = ended_in(words) else {
+        return explain(alloc, words, files, paths);
+    };
+    let mut text = Text::new(alloc);
+    tell_ended(alloc, &mut text, &ended, files, paths)?;
+    Ok(Explanation {
+        status: 0,
+        text: text.whole()?,
+    })
+}
+
+/// What is to be said of a run to which the system does not tell its words.
+pub fn answer_untold(alloc: Global) -> Result<Explanation, NoMemory> {
+    let mut text = Text::new(alloc);
+    let ended = Ended {
+        status: WORDS_UNTOLD,
+        line: "",
+        words: &[],
+    };
+    tell_meaning(&mut text, &ended);
+    Ok(Explanation {
+        status: WORDS_UNTOLD,
+        text: text.whole()?,
+    })
+}
