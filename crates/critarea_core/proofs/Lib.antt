@@ -1,7 +1,7 @@
 pub mod CoverReading
 pub mod LayerLaws
 pub mod ReadingLaws
-pub mod VerdictLaws
 pub mod TerminalLaws
 pub mod AnalysisLaws
 pub mod RunLaws
+pub mod laws

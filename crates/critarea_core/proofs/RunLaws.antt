@@ -9,7 +9,7 @@ use Rattle.command_line.specs.declared.request.Request.{Request}
 use Rattle.map_model.specs.MapNames.{layer_map_of}
 use Rattle.map_model.specs.declared.map.Map.{Map}
 use Rattle.questions.specs.declared.row.Row.{Row}
-use Rattle.gauges.specs.GaugeViews.{GaugeView, fresh, AreTold, AreToldPrefixes, texts_after, texts_of}
+use Rattle.gauges.specs.GaugeViews.{GaugeView, AreTold, AreToldPrefixes, texts_after, texts_of}
 use Rattle.gauges.proofs.laws.Told.{texts_gained}
 use Rattle.report.specs.Report.{report_text}
 use Rattle.critarea_core.specs.Contents.{MayContain, MayHave, names_in, map_names, file_names, bytes_from, layout_source, wanted_top}
@@ -18,8 +18,8 @@ use Rattle.critarea_core.specs.inside.Finding.{IsPrinted, IsToldAs, LayoutMayCom
 use Rattle.critarea_core.specs.Layout.{ShortLayoutComesTo, Subject}
 use Rattle.critarea_core.specs.Refusals.{of_layout_fault, usage}
 use Rattle.critarea_core.specs.Verdict.{LayoutComesTo, whole_report}
-use Rattle.critarea_core.specs.Run.{AreUntold, Change, change, Files, KeepTheirTexts, NameSomeFile, Output, Surroundings, HasRisen, IsCalm, MayComeTo, MustComeTo, AreRowsFor}
-use Rattle.critarea_core.specs.Run.{IsComplete, EndsWith, RunsTo, RunsWith, StartsNamed, no_file, map_file, both_files}
+use Rattle.critarea_core.specs.Run.{AreUntold, Change, change, KeepTheirTexts, NameSomeFile, Surroundings, HasRisen, IsCalm, MayComeTo, MustComeTo, AreRowsFor}
+use Rattle.critarea_core.specs.Run.{IsComplete, EndsWith, RunsTo, StartsNamed, no_file, map_file, both_files}
 use Rattle.critarea_core.specs.Run as run
 use Rattle.critarea_core.specs.declared.layout_fault.LayoutFault.{LayoutFault}
 use Rattle.critarea_core.specs.declared.layout_fault.LayoutFault.TheVariants as layout_fault
@@ -27,7 +27,7 @@ use Rattle.critarea_core.specs.declared.refusal.Refusal.{Refusal}
 use Rattle.critarea_core.specs.declared.unreported.Unreported.{Unreported}
 use Rattle.critarea_core.specs.declared.unreported.Unreported.TheVariants.{Refused, FilesFailed, Memory}
 use Rattle.critarea_core.proofs.ReadingLaws.{fault_found, found_as, found_bytes, found_for, not_found, not_read, some_contents, some_may_be}
-use Rattle.critarea_core.proofs.VerdictLaws.{verdicts_agree}
+use Rattle.critarea_core.proofs.laws.VerdictLaws.{verdicts_agree}
 
 -- the one list behind the other
 appends_both : {A : Type 0} (before middle after : Option (List A)) (xs ys : List A) → Appends before middle xs → Appends middle after ys → Appends before after (xs ++ ys)
@@ -237,43 +237,3 @@ module _ (words : List (List ℕ)) (met : Surroundings) where
   pub runs_to : (status : ℕ) → EndsWith words met status → StartsNamed words told met.files.starts → ((name : List ℕ) → met.files.holds.after name ≡ met.files.holds.before name)
       → RunsTo words met status
   runs_to status e started holds = record { ends = e; complete = complete status e; texts = texts status e; started = started; holds = holds }
-
--- ---- a run with gauges that are dropped
-
--- a gauge that has seen nothing, by the text that it prints
-fresh_view : (gauge : GaugeView) (prints : List Row → List ℕ) → gauge.seen ≡ [] → gauge.text ≡ prints → gauge ≡ fresh prints
-fresh_view gauge prints none is =
-    ap (λ seen. record { seen = seen; text = gauge.text }) none ∙ ap (λ text. record { seen = []; text = text }) is
-
-module _ (words : List (List ℕ)) (files : Files) (out err : Output) (status : ℕ) where
-  abbrev pub Runs : List GaugeView → Type 0
-  Runs gauges = RunsWith words gauges files out err status
-
-  -- one gauge, which has seen nothing
-  pub runs_fresh : (gauge : GaugeView) (prints : List Row → List ℕ) → Runs (gauge ∷ []) → gauge.seen ≡ [] → gauge.text ≡ prints
-      → Runs (fresh prints ∷ [])
-  runs_fresh gauge prints runs none is = subst (λ view. Runs (view ∷ [])) (fresh_view gauge prints none is) runs
-
-  -- two
-  pub both_run_fresh : (gauge other : GaugeView) (prints another : List Row → List ℕ) → Runs (gauge ∷ other ∷ [])
-      → gauge.seen ≡ [] → gauge.text ≡ prints → other.seen ≡ [] → other.text ≡ another → Runs (fresh prints ∷ fresh another ∷ [])
-  both_run_fresh gauge other prints another runs none is unseen so =
-      subst (λ view. Runs (view ∷ fresh another ∷ [])) (fresh_view gauge prints none is)
-      (subst (λ view. Runs (gauge ∷ view ∷ [])) (fresh_view other another unseen so) runs)
-
--- ---- a run that does not begin
-
-module _ (words : List (List ℕ)) (gauges : List GaugeView) (holds : List ℕ → Option (List ℕ)) (starts : Option (List (List ℕ)))
-    (failures out_failures err_failures : ℕ) (out err : Option (List ℕ)) where
-  abbrev pub AtRest : ℕ → Type 0
-  AtRest = RunsWith words gauges
-      (record { holds = change holds holds; starts = change starts starts; failures = change failures failures })
-      (record { taken = change out out; failures = change out_failures out_failures })
-      (record { taken = change err err; failures = change err_failures err_failures })
-
-  -- where no memory is left, files, outputs and gauges stay as they are
-  pub runs_nowhere : AtRest 6
-  runs_nowhere = record {
-    gauges_after = gauges;
-    runs = runs_to words _ 6 (run.out_of_memory refl (refl, refl) (refl, refl) refl) (starts_none words holds starts) (λ name. refl);
-  }

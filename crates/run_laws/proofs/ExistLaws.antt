@@ -25,7 +25,7 @@ use Rattle.critarea_core.specs.Layout.{Subject, RouteHolds, route_checks, route_
 use Rattle.critarea_core.specs.Refusals.{usage, map_limit, map_too_long, of_map_fault, layout_limit, layout_too_long, of_layout_fault}
 use Rattle.critarea_core.specs.Verdict.{IsShortEnough, MapTextComesTo, MapComesTo, WordsComeTo, LayoutComesTo, IsVerdict}
 use Rattle.critarea_core.specs.declared.layout_fault.LayoutFault.TheVariants.{Place, Syntax}
-use Rattle.critarea_core.proofs.VerdictLaws.{subject_of}
+use Rattle.critarea_core.proofs.laws.VerdictLaws.{subject_of}
 
 -- ---- maps
 

@@ -18,7 +18,7 @@ use Rattle.critarea_core.specs.Layout.{Subject}
 use Rattle.critarea_core.specs.Verdict.{AreRowsOn, whole_report, MapComesTo, LayoutComesTo, IsVerdict}
 use Rattle.critarea_core.specs.declared.layout_fault.LayoutFault.{LayoutFault}
 use Rattle.critarea_core.specs.declared.refusal.Refusal.{Refusal}
-use Rattle.critarea_core.proofs.VerdictLaws.{short_layouts_agree, verdicts_agree}
+use Rattle.critarea_core.proofs.laws.VerdictLaws.{short_layouts_agree, verdicts_agree}
 
 -- ---- rows and reports
 

@@ -1,6 +1,6 @@
 use denote.Param.Object.{read_made}
 use Rattle.std.proofs.Common.{[], ◌≡◌, ◌∙◌, ap, refl}
-use Rattle.critarea_core.proofs.RunLaws.{runs_fresh, runs_nowhere}
+use Rattle.critarea_core.proofs.laws.FreshRuns.{runs_fresh, runs_nowhere}
 use Rattle.csv_report.specs.CsvText.{csv_text}
 use Rattle.csv_report.proofs.run_gauged.OwnLists.{own-1, at-1-1}
 use Rattle.csv_report.proofs.run_gauged.Goals as goal

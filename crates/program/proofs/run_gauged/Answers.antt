@@ -2,7 +2,7 @@ use denote.Param.Object.{read_made}
 use Rattle.std.proofs.Common.{[], ◌≡◌, ◌∙◌, refl}
 use Rattle.gauges.specs.NonzeroText.{nonzero_text}
 use Rattle.gauges.specs.PeakText.{peak_text}
-use Rattle.critarea_core.proofs.RunLaws.{both_run_fresh, runs_nowhere}
+use Rattle.critarea_core.proofs.laws.FreshRuns.{both_run_fresh, runs_nowhere}
 use Rattle.program.proofs.run_gauged.OwnLists.{own-1, at-1-1, at-1-2}
 use Rattle.program.proofs.run_gauged.Goals as goal
 

@@ -1,4 +1,4 @@
-use Rattle.critarea_core.proofs.RunLaws.{runs_nowhere}
+use Rattle.critarea_core.proofs.laws.FreshRuns.{runs_nowhere}
 use Rattle.critarea_core.proofs.boxed.run_boxed.Goals as goal
 
 pub returns-in_default : goal.returns-in_default

@@ -1,0 +1,3 @@
+-- what the proofs of other crates may cite
+pub mod VerdictLaws
+pub mod FreshRuns
