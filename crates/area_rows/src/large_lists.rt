@@ -4,8 +4,9 @@
 ghost use Rattle.std.specs.Prelude.{◌≡◌, length};
 
 use super::nets::{Shapes, nets_with};
-use geo_core::{NoMemory, Rect};
+use geo_core::Rect;
 use islands::label;
+use lists::NoMemory;
 use net_extract::{ContactGroup, Island, Nets};
 use samples::sides::{Sides, sides_of};
 use std::alloc::{AllocError, Global};

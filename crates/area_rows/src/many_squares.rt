@@ -3,8 +3,9 @@
 ghost use Rattle.std.specs.Prelude.{◌≡◌, length};
 
 use super::nets::nets_with;
-use geo_core::{Labelled, NoMemory, Rect};
+use geo_core::{Labelled, Rect};
 use islands::label;
+use lists::NoMemory;
 use net_extract::{ContactPiece, Nets, Piece};
 use samples::sides::{Sides, sides_of};
 use short_area::short_area;

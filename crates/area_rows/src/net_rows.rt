@@ -1,7 +1,8 @@
 ghost use Rattle.std.specs.Prelude.{◌≡◌, length};
 
 use super::nets::{ACROSS, CUTS, STRIPES, Shapes, nets_with};
-use geo_core::{Cell, NoMemory, Rect};
+use geo_core::{Cell, Rect};
+use lists::NoMemory;
 use net_extract::{Anchor, ContactPiece, Island, NetFault, Nets, Piece};
 use samples::sides::Sides;
 use std::alloc::Global;

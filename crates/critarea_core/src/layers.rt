@@ -3,7 +3,8 @@ ghost use Rattle.std.specs.List.{zip};
 ghost use Rattle.critarea_core.specs.inside.LayoutReaders.{AreListsUpTo, rects_on as rects_on_layer};
 
 use flatten::Placed;
-use geo_core::{NoMemory, RectList};
+use geo_core::RectList;
+use lists::NoMemory;
 use map_model::Layers;
 use std::alloc::Global;
 

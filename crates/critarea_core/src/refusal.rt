@@ -1,4 +1,4 @@
-use geo_core::NoMemory;
+use lists::NoMemory;
 use std::alloc::Global;
 
 /// The most bytes that a map may have.

@@ -10,7 +10,8 @@ use super::bars::bars;
 use super::events::events;
 use super::places::places;
 use cover_tree::CoverTree;
-use geo_core::{NoMemory, Rect, Steps};
+use geo_core::{Rect, Steps};
+use lists::NoMemory;
 use std::alloc::Global;
 use std::sync::ledger::Ledger;
 

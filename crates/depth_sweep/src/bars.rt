@@ -5,7 +5,8 @@ ghost use Rattle.depth_sweep.specs.inside.SweepPlaces.{ArePlaces, moved};
 
 use super::bar::Bar;
 use super::places::{moved_into, number_of};
-use geo_core::{NoMemory, Rect};
+use geo_core::Rect;
+use lists::NoMemory;
 use std::alloc::Global;
 
 /// The bars of the rectangles that have cells in the window.

@@ -5,7 +5,8 @@ ghost use Rattle.depth_sweep.specs.inside.Events.{AreEventsOf, IsAfter, MayHappe
 
 use super::bar::{Bar, Event};
 use cover_tree::CoverTree;
-use geo_core::{NoMemory, Steps};
+use geo_core::Steps;
+use lists::NoMemory;
 use std::alloc::{AllocError, Global};
 use std::sync::ledger::Ledger;
 

@@ -2,7 +2,8 @@ ghost use Rattle.std.specs.Prelude.{ℤ, ◌≡◌, ◌<◌, flat_map, length, C
 ghost use Rattle.cover_tree.specs.Columns.{AreRising, place_at};
 ghost use Rattle.depth_sweep.specs.inside.SweepPlaces.{ArePlaces, moved, moved_sides};
 
-use geo_core::{Interval, NoMemory, Rect};
+use geo_core::{Interval, Rect};
+use lists::NoMemory;
 use std::alloc::{AllocError, Global};
 
 /// The number of the interval, or the end of it, that is nearest to this number.

@@ -1,6 +1,6 @@
-use samples::TWO_BARS;
 use crate::rows::{Stands, expect};
 use explanation::PathKind;
+use samples::TWO_BARS;
 use std::alloc::Global;
 use std::process::Abort;
 

@@ -1,5 +1,5 @@
-use samples::TWO_BARS;
 use crate::rows::{Stands, expect, explanation_of};
+use samples::TWO_BARS;
 use std::test::Fail;
 
 /// A library `L`. Its structure `A` has `[0,10)x[0,10)` on layer 1 and the box `[0,4)x[0,4)` on layer 2. `T` has a path

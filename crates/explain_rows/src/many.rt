@@ -1,5 +1,5 @@
-use samples::TWO_BARS;
 use crate::rows::{Stands, explanation_of};
+use samples::TWO_BARS;
 use std::alloc::{AllocError, Global};
 use std::test::Fail;
 

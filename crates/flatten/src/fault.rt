@@ -1,7 +1,7 @@
 ghost use Rattle.std.specs.Prelude.{◌≡◌};
 ghost use Rattle.flatten.specs.declared.fault.PlaceFault.TheVariants.{Memory};
 
-use geo_core::NoMemory;
+use lists::NoMemory;
 use std::alloc::{AllocError, AllocFailed};
 use std::fmt;
 use thiserror::Error;

@@ -9,8 +9,8 @@ use super::hop::Hop;
 use super::limits::MOST_STEPS;
 use super::part::Part;
 use super::summing::copies;
-use geo_core::NoMemory;
 use library_model::Reference;
+use lists::NoMemory;
 use std::alloc::Global;
 
 /// How often hops are lengthened. Each time a hop has twice as many references or more, or all as far as they stand alone:

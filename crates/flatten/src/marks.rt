@@ -3,7 +3,7 @@ ghost use Rattle.flatten.specs.inside.FollowedParts.{AreBelow, AreNodesBelow, Le
 ghost use Rattle.flatten.specs.inside.Marks.{IsMarked};
 
 use super::part::Part;
-use geo_core::NoMemory;
+use lists::NoMemory;
 use std::alloc::Global;
 
 /// Marks the structure to which the part refers, if it does.

@@ -9,7 +9,7 @@ ghost use Rattle.flatten.specs.declared.summary.State.TheVariants.{New, Done};
 use super::part::Part;
 use super::summary::State;
 use super::summing::summary_of;
-use geo_core::NoMemory;
+use lists::NoMemory;
 
 /// The first reference, from the part at `next` on, to a structure that is not done: its place, and the structure.
 fn next_undone(parts: &[Part<'_>], states: &[State], next: usize) -> Option<(usize, u32)>

@@ -10,8 +10,8 @@ use super::fault::PlaceFault;
 use super::part::Part;
 use super::search::search;
 use super::summary::State;
-use geo_core::NoMemory;
 use library_model::Structure;
+use lists::NoMemory;
 use std::alloc::Global;
 
 /// Surveys the structure `root`, if it is not done. The answer is whether its references lead to an end.

@@ -13,9 +13,9 @@ use super::kept::kept_of;
 use super::own_records::OwnRecords;
 use super::records::{expect, next_record, unexpected};
 use gds_records::{Record, Records, kinds};
-use geo_core::NoMemory;
 use library_grammar::fault::SyntaxFault;
 use library_model::element::Element;
+use lists::NoMemory;
 use std::alloc::Global;
 
 /// Reads the own records of an element, and gives the record behind them, which ends them.

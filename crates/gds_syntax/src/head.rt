@@ -7,8 +7,8 @@ ghost use Rattle.library_grammar.specs.Grammar.{head_kinds};
 
 use super::records::{expect, next_record, unexpected};
 use gds_records::{Record, Records, kinds, text};
-use geo_core::Name;
 use library_grammar::fault::SyntaxFault;
+use lists::Name;
 use std::alloc::Global;
 
 /// What a library's head says: its name, and its units as they stand there.

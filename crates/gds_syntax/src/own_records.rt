@@ -8,7 +8,7 @@ ghost use Rattle.library_grammar.specs.Grammar.{kinds_of};
 ghost use Rattle.library_grammar.specs.Sizes.{BodiesHave};
 
 use gds_records::{Record, i16_at, i32_at, text, u16_at};
-use geo_core::NoMemory;
+use lists::NoMemory;
 use std::alloc::Global;
 use std::marker::Model;
 

@@ -5,7 +5,8 @@ ghost use Rattle.library_grammar.specs.OwnRecords.{body_of, point_in, points_in,
 
 use super::own_records::OwnRecords;
 use gds_records::{Record, i32_at, kinds};
-use geo_core::{NoMemory, Point, Points};
+use geo_core::{Point, Points};
+use lists::NoMemory;
 use std::alloc::Global;
 
 /// How many bytes a point has: two coordinates of four bytes each.

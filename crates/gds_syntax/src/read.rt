@@ -9,9 +9,9 @@ ghost use Rattle.gds_syntax.specs.StreamLimits.{most_bytes};
 use super::head::{Head, read_head};
 use super::structures::read_structures;
 use gds_records::Records;
-use geo_core::Items;
 use library_grammar::fault::SyntaxFault;
 use library_model::library::Library;
+use lists::Items;
 use std::alloc::Global;
 
 /// The library that the bytes say, at most 268,435,456 of them.

@@ -11,9 +11,10 @@ ghost use Rattle.gds_syntax.specs.inside.Quarters.{AreQuarters, ComesTo, IsAngle
 use super::own_records::OwnRecords;
 use super::points::point_of;
 use gds_records::{kinds, real_whole};
-use geo_core::{Name, NoMemory, Turn};
+use geo_core::Turn;
 use library_grammar::fault::SyntaxFault;
 use library_model::element::{Lattice, Reference};
+use lists::{Name, NoMemory};
 use std::alloc::Global;
 
 /// The bit of STRANS that mirrors a reference.

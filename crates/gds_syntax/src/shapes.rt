@@ -8,8 +8,8 @@ ghost use Rattle.library_grammar.specs.Sizes.{BodiesHave};
 use super::own_records::OwnRecords;
 use super::points::points_of;
 use gds_records::kinds;
-use geo_core::NoMemory;
 use library_model::element::{Shape, ShapeKind};
+use lists::NoMemory;
 use std::alloc::Global;
 
 /// The kind of a path: its ends, its width and its extensions.

@@ -11,10 +11,10 @@ use super::elements::read_elements;
 use super::own_records::OwnRecords;
 use super::records::{expect, next_record, unexpected};
 use gds_records::{Record, Records, kinds, text};
-use geo_core::{Items, Name};
 use library_grammar::fault::SyntaxFault;
 use library_model::library::Structure;
 use library_model::name_index::NameIndex;
+use lists::{Items, Name};
 use std::alloc::Global;
 
 /// Reads a structure behind the record that opens it, and puts its name behind those of the structures before it.

@@ -21,7 +21,8 @@ ghost use Rattle.gds_write.specs.Bodies.{
 use byteorder::{BigEndian, ByteOrder};
 use gds_records::forms::{FOUR_BYTE_NUMBERS, NO_DATA, TEXT, TWO_BYTE_NUMBERS};
 use gds_records::kinds::{COLROW, XY};
-use geo_core::{NoMemory, Point};
+use geo_core::Point;
+use lists::NoMemory;
 
 /// The bytes in front of a record's body: its length, its kind and its form.
 const HEAD: usize = 4;

@@ -24,8 +24,9 @@ use super::bodies::{
 use byteorder::{BigEndian, ByteOrder};
 use gds_records::forms::{BITS, EIGHT_BYTE_REALS};
 use gds_records::kinds;
-use geo_core::{NoMemory, Point, Turn};
+use geo_core::{Point, Turn};
 use library_model::{Element, Lattice, Reference, Shape, ShapeKind};
+use lists::NoMemory;
 
 /// STRANS of a turn that mirrors.
 const MIRRORED: u16 = 0x8000;

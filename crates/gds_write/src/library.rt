@@ -7,8 +7,8 @@ use super::bodies::{write_bare, write_date, write_record, write_text, write_unsi
 use super::elements::write_element;
 use gds_records::forms::EIGHT_BYTE_REALS;
 use gds_records::kinds;
-use geo_core::NoMemory;
 use library_model::{Library, Structure};
+use lists::NoMemory;
 use std::alloc::Global;
 
 /// The version of the stream format: Release 6.

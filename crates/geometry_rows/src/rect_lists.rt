@@ -1,4 +1,4 @@
-use geo_core::{Name, NoMemory};
+use lists::{Name, NoMemory};
 use std::alloc::Global;
 
 /// Whether a list made of these bytes has them, and gives them back.

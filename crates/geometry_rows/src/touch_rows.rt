@@ -1,4 +1,5 @@
-use geo_core::{FARTHEST_GROWN, NoMemory, Rect, overlaps, touches};
+use geo_core::{FARTHEST_GROWN, Rect, overlaps, touches};
+use lists::NoMemory;
 use samples::sides::{Sides, rects_of};
 use std::alloc::{AllocError, Global};
 use touch_sweep::{meetings, touch_links, touch_pairs};

@@ -8,7 +8,7 @@ ghost use Rattle.half_boxes.specs.inside.Growths.{IsNext, Reaches};
 
 use super::boxes::HalfBox;
 use super::scan::{Numbered, with_numbers};
-use geo_core::NoMemory;
+use lists::NoMemory;
 use std::alloc::{AllocError, Global};
 
 /// Some pairs of boxes that touch, by which all that touch are joined: no more of them than there are boxes.

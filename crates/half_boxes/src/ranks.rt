@@ -8,7 +8,8 @@ ghost use Rattle.half_boxes.specs.HalfBoxes.{span_along};
 
 use super::boxes::HalfBox;
 use super::span::HalfSpan;
-use geo_core::{Axis, FARTHEST_GROWN, Interval, NoMemory, Rect};
+use geo_core::{Axis, FARTHEST_GROWN, Interval, Rect};
+use lists::NoMemory;
 use std::alloc::{AllocError, Global};
 
 /// The most ends that have ranks up to the greatest coordinate of a rectangle: those of some 500,000,000 boxes at least.

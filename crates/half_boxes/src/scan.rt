@@ -5,7 +5,7 @@ ghost use Rattle.std.specs.Prelude.{◌∷◌, [], length, IfOk, OnOk, ◌≡◌
 ghost use Rattle.half_boxes.specs.inside.Scans.{Adds, AreFound, AreNumbered, AreTouchingPairs, IsByColumn};
 
 use super::boxes::HalfBox;
-use geo_core::NoMemory;
+use lists::NoMemory;
 use std::alloc::{AllocError, Global};
 
 /// A box of a list, with its number there.

@@ -6,7 +6,7 @@ use super::boxes::HalfBox;
 use super::growth::grown_links;
 use super::ranks::ranked;
 use super::scan::touching_pairs;
-use geo_core::NoMemory;
+use lists::NoMemory;
 use std::alloc::Global;
 use touch_sweep::touch_links;
 

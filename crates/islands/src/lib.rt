@@ -9,7 +9,8 @@ ghost use Rattle.fault_model.specs.RectChains.{IsLabelling};
 ghost use Rattle.islands.specs.Islands.{LabelsAreIslands};
 
 use classes::classes;
-use geo_core::{NoMemory, Rect};
+use geo_core::Rect;
+use lists::NoMemory;
 use std::alloc::Global;
 use touch_sweep::touch_links;
 

@@ -1,7 +1,7 @@
 ghost use Rattle.layer_map.specs.declared.fault.MapFault.TheVariants.{Memory};
 ghost use Rattle.std.specs.Prelude.{◌≡◌};
 
-use geo_core::NoMemory;
+use lists::NoMemory;
 use std::alloc::{AllocError, AllocFailed};
 use std::fmt;
 use thiserror::Error;

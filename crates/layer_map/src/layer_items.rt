@@ -45,7 +45,7 @@ use super::items::table_of;
 use super::paths;
 use super::seen::{Layer, Seen};
 use super::values::{text_at, value_at, whole_in};
-use geo_core::NoMemory;
+use lists::NoMemory;
 use map_model::layers::{Pairs, has_pair};
 use map_model::limits::{GREATEST_PAIR_NUMBER, MOST_PAIRS};
 use map_model::name::LayerName;

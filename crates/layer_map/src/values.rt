@@ -21,7 +21,7 @@ ghost use Rattle.layer_map.specs.inside.ReadValues.{AreWholesIn, Finds, IsWholeI
 ghost use Rattle.layer_map.specs.Values.{keys_in, values_in};
 
 use super::fault::MapFault;
-use geo_core::NoMemory;
+use lists::NoMemory;
 use std::alloc::Global;
 use toml::{Table, Value};
 

@@ -4,7 +4,7 @@ ghost use Rattle.layout_gen.specs.Generated.{generated_layout, generated_map};
 use super::library::{MOST_COLUMNS, library_of};
 use super::maps::LAYER_MAP;
 use gds_write::write_library;
-use geo_core::NoMemory;
+use lists::NoMemory;
 use std::alloc::Global;
 
 /// A layout of `n` columns and as many rows of one cell, and its layer map: the bytes of a GDSII stream, and those of a TOML

@@ -5,8 +5,9 @@ ghost use Rattle.layout_gen.specs.Generated as generated;
 ghost use Rattle.layout_gen.specs.SmallOutlines as outlines;
 ghost use Rattle.layout_gen.specs.SmallOutlines.{are_small};
 
-use geo_core::{Items, Name, NoMemory, Point, Turn};
+use geo_core::{Point, Turn};
 use library_model::{Element, Lattice, Library, Reference, Shape, ShapeKind, Structure};
+use lists::{Items, Name, NoMemory};
 use std::alloc::Global;
 
 /// The most columns that a generated layout may have, and the most rows.

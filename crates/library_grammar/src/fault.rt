@@ -2,7 +2,7 @@ ghost use Rattle.std.specs.Prelude.{◌≡◌};
 ghost use Rattle.library_grammar.specs.declared.fault.SyntaxFault.TheVariants.{Memory, Record};
 
 use gds_records::RecordFault;
-use geo_core::NoMemory;
+use lists::NoMemory;
 use std::alloc::{AllocError, AllocFailed};
 use std::error::Error;
 use std::fmt;

@@ -2,7 +2,8 @@ ghost use Rattle.std.specs.Prelude.{◌<◌, ◌≤◌, ◌^◌};
 ghost use Rattle.lists.specs.ByteLists.{AreBytes};
 ghost use Rattle.library_model.specs.Ranges.{ArePoints, IsKind, IsKind-prop, IsPoint, IsStep};
 
-use geo_core::{Items, Name, Point, Points, Turn};
+use geo_core::{Point, Points, Turn};
+use lists::{Items, Name};
 
 /// A filled shape, or an open line with a width, on a layer and with a datatype.
 #[derive(Debug, Drop)]

@@ -2,7 +2,7 @@ ghost use Rattle.std.specs.Prelude.{◌≡◌, length};
 ghost use Rattle.lists.specs.ByteLists.{AreBytes};
 
 use super::element::Elements;
-use geo_core::{Items, Name};
+use lists::{Items, Name};
 
 /// A library: what a GDSII stream contains.
 #[derive(Debug, Drop)]

@@ -18,8 +18,8 @@ ghost use Rattle.lists.specs.Differing.{AreDifferent};
 ghost use Rattle.library_model.specs.Names.{names_of, place_of};
 
 use super::library::Library;
-use geo_core::NoMemory;
 use indexmap::IndexSet;
+use lists::NoMemory;
 use std::alloc::Global;
 use std::marker::Model;
 

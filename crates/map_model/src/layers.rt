@@ -2,7 +2,8 @@ ghost use Rattle.std.specs.Prelude.{◌≢◌, ◌↔◌, IsTrue, Contains};
 ghost use Rattle.map_model.specs.Limits.{ArePairs};
 
 use super::name::LayerName;
-use geo_core::{Cell, Items};
+use geo_core::Cell;
+use lists::Items;
 
 /// A metal: its name, and the layers and datatypes of the shapes that are of it, 1 to 16 pairs.
 #[derive(Drop)]

@@ -7,7 +7,7 @@ ghost use Rattle.map_model.specs.MapView.{layer_map_of};
 use super::layers::{Cuts, Metal, Metals, Pairs, Sizes, Terminals, Weights};
 use super::map::Map;
 use super::name::LayerName;
-use geo_core::NoMemory;
+use lists::NoMemory;
 use std::alloc::Global;
 
 /// The metal `m` of this layer and datatype, alone.

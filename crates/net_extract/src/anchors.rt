@@ -14,7 +14,8 @@ use super::fault::NetFault;
 use super::meetings::meetings;
 use super::metals::IslandList;
 use super::pieces::{Anchor, ContactPiece};
-use geo_core::{Cell, FARTHEST_GROWN, Items, Labelled, NoMemory, Rect};
+use geo_core::{Cell, FARTHEST_GROWN, Labelled, Rect};
+use lists::{Items, NoMemory};
 use map_model::Terminal;
 use std::alloc::Global;
 

@@ -2,7 +2,8 @@ ghost use Rattle.std.specs.Prelude.{◌≡◌, ◌==◌, ◌&&◌, IfOk, map, fi
 ghost use Rattle.net_extract.specs.AnchoredIslands.{AreDifferentCarried};
 
 use super::pieces::{Anchor, Piece};
-use geo_core::{Cell, NoMemory, Rect};
+use geo_core::{Cell, Rect};
+use lists::NoMemory;
 use std::alloc::Global;
 
 /// The islands that the metal's anchors carry, each once.

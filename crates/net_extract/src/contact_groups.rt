@@ -4,7 +4,8 @@ ghost use Rattle.net_extract.specs.ContactGroups.{AreGroupsOf, carries_both, rec
 ghost use Rattle.net_extract.specs.inside.GroupSteps.{AreByIslands, IsFrontOf};
 
 use super::pieces::{ContactGroup, ContactPiece};
-use geo_core::{NoMemory, Rect, RectList};
+use geo_core::{Rect, RectList};
+use lists::NoMemory;
 use std::alloc::Global;
 
 /// The groups of the contact pieces, each once.

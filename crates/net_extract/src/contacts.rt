@@ -8,7 +8,8 @@ use super::meetings::meetings;
 use super::metals::IslandList;
 use super::pieces::ContactList;
 use super::slimming::slim;
-use geo_core::{Items, Labelled, NoMemory, Rect, RectList};
+use geo_core::{Labelled, Rect, RectList};
+use lists::{Items, NoMemory};
 use map_model::Cut;
 use std::alloc::Global;
 

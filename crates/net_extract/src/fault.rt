@@ -1,7 +1,7 @@
 ghost use Rattle.std.specs.Prelude.{◌≡◌};
 ghost use Rattle.net_extract.specs.declared.fault.NetFault.TheVariants.{Memory};
 
-use geo_core::NoMemory;
+use lists::NoMemory;
 use std::alloc::{AllocError, AllocFailed};
 use thiserror::Error;
 

@@ -2,7 +2,7 @@ ghost use Rattle.std.specs.Prelude.{ℕ, ◌≡◌, ◌==◌, All, IfOk, filter}
 ghost use Rattle.std.specs.List.Sorted.{IsNonDecreasingBy};
 
 use super::pieces::Piece;
-use geo_core::NoMemory;
+use lists::NoMemory;
 use std::alloc::Global;
 
 /// The pieces in the order of their islands. Those of one island keep their order.

@@ -6,7 +6,8 @@ ghost use Rattle.net_extract.specs.inside.LabelledCells.{AreMeetings, HasContact
 ghost use Rattle.net_extract.specs.declared.pieces.ContactPiece.{ContactPiece as AnyContact};
 
 use super::pieces::ContactPiece;
-use geo_core::{Labelled, NoMemory, Rect, clip};
+use geo_core::{Labelled, Rect, clip};
+use lists::NoMemory;
 use std::alloc::Global;
 
 /// Contact pieces where rectangles of both lists have cells in common, with the labels of the two. No two are the same.

@@ -3,8 +3,9 @@ ghost use Rattle.map_model.specs.declared.limits.TheConstants.{MOST_METALS};
 ghost use Rattle.net_extract.specs.inside.Numbering.{AreIslandsFrom, AreIslandsOf};
 
 use super::slimming::slim;
-use geo_core::{Items, Labelled, NoMemory, Rect, RectList, join};
+use geo_core::{Labelled, Rect, RectList, join};
 use islands::label;
+use lists::{Items, NoMemory};
 use skyline_runs::merge_rects;
 use std::alloc::Global;
 

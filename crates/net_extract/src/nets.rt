@@ -5,7 +5,8 @@ use super::contact_groups::group_contacts;
 use super::grouped::{by_island, part_of};
 use super::pieces::{Anchor, ContactGroup, ContactList, ContactPiece, Piece, PieceList};
 use fault_model::Island;
-use geo_core::{CellList, Items, NoMemory, RectList};
+use geo_core::{CellList, RectList};
+use lists::{Items, NoMemory};
 use std::alloc::Global;
 use std::marker::Model;
 

@@ -4,7 +4,8 @@ ghost use Rattle.net_extract.specs.inside.Numbering.{AreNetNumbers, IsLink, piec
 use super::metals::IslandList;
 use super::pieces::{ContactList, ContactPiece, Piece, PieceList};
 use classes::classes;
-use geo_core::{Items, Labelled, NoMemory};
+use geo_core::Labelled;
+use lists::{Items, NoMemory};
 use std::alloc::Global;
 
 /// A number for each island, the same for two exactly where contact pieces lead from the one to the other.

@@ -1,6 +1,7 @@
 ghost use Rattle.std.specs.Prelude.{◌<◌, length};
 
-use geo_core::{Cell, Items, Rect, RectList};
+use geo_core::{Cell, Rect, RectList};
+use lists::Items;
 
 /// A rectangle of a metal with the numbers of an island and of a net. In nets that `extract` makes, pieces of one metal
 /// have the same `island` exactly where they are of one island, and pieces of any metals have the same `net` exactly where

@@ -3,7 +3,8 @@ ghost use Rattle.geo_core.specs.declared.plane.Cell.{Cell};
 ghost use Rattle.net_extract.specs.inside.LabelledCells.{HasLabelled, HaveSameLabelled};
 
 use super::meetings::rects_of;
-use geo_core::{Labelled, NoMemory, Rect};
+use geo_core::{Labelled, Rect};
+use lists::NoMemory;
 use skyline_runs::merge_rects;
 use std::alloc::Global;
 

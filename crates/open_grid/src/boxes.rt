@@ -9,9 +9,9 @@ ghost use Rattle.half_boxes.specs.HalfBoxes.{HasHalf};
 ghost use Rattle.open_grid.specs.inside.ZoneSteps.{GainsCells, HaveBoxesOf, HavePieceBoxes, IsSingle};
 
 use fault_model::Island;
-use geo_core::{Cell, FARTHEST_GROWN, NoMemory, Rect};
+use geo_core::{Cell, FARTHEST_GROWN, Rect};
 use half_boxes::HalfBox;
-use lists::Items;
+use lists::{Items, NoMemory};
 use std::alloc::Global;
 
 /// The boxes of the island's rectangles and of its anchors' cells.

@@ -8,8 +8,9 @@ ghost use Rattle.severing.specs.Changes.{Passes, Reaches};
 ghost use Rattle.open_grid.specs.inside.ZoneSteps.{AreChanges, GainsChanges, GainsPlace};
 
 use super::looked::Looked;
-use geo_core::{Axis, Interval, NoMemory, Rect};
+use geo_core::{Axis, Interval, Rect};
 use half_boxes::{HalfBox, HalfSpan};
+use lists::NoMemory;
 use std::alloc::Global;
 
 /// Half of the number, rounded down.

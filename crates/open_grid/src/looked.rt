@@ -8,9 +8,9 @@ ghost use Rattle.open_grid.specs.inside.ZoneSteps.{IsSplitWithout, IsToldAtOnce,
 use super::boxes::boxes_of;
 use super::steps::is_single;
 use fault_model::Island;
-use geo_core::{NoMemory, Rect};
+use geo_core::Rect;
 use half_boxes::{HalfBox, core_of, reach_of};
-use lists::Items;
+use lists::{Items, NoMemory};
 use remnants::Remnant;
 use severing::boxes_and_defects_sever;
 use std::alloc::Global;

@@ -7,7 +7,8 @@ ghost use Rattle.fault_model.specs.Faults.{IsCellsOpen};
 use super::boxes::zone_at;
 use super::looked::{Told, look, look_at};
 use fault_model::Island;
-use geo_core::{Cell, NoMemory};
+use geo_core::Cell;
+use lists::NoMemory;
 use severing::defects_sever_islands;
 use std::alloc::Global;
 

@@ -4,8 +4,9 @@ ghost use Rattle.open_grid.specs.inside.ZoneSteps.{HasSeveral, IsSingle, IsStepO
 
 use super::changes::{changes_of, span_along};
 use super::looked::Looked;
-use geo_core::{Axis, NoMemory, Rect};
+use geo_core::{Axis, Rect};
 use half_boxes::{HalfBox, HalfSpan, reach_of};
+use lists::NoMemory;
 use std::alloc::Global;
 
 /// What comes next of a zone of more than one cell.

@@ -1,7 +1,8 @@
 ghost use Rattle.std.specs.Prelude.{IfOk};
 ghost use Rattle.open_grid.specs.inside.ZoneSteps.{AreStretched, IsStretched};
 
-use geo_core::{Axis, NoMemory, Rect};
+use geo_core::{Axis, Rect};
+use lists::NoMemory;
 use std::alloc::Global;
 
 /// The rectangles along all of the zone.

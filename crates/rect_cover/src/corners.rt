@@ -7,7 +7,8 @@ ghost use Rattle.rect_cover.specs.inside.Corners.{corners_ahead, turns};
 
 use super::course::Course;
 use super::direction::Direction;
-use geo_core::{NoMemory, Point};
+use geo_core::Point;
+use lists::NoMemory;
 use std::alloc::Global;
 
 /// Whether the path turns where it is, if it goes on in this direction. It does not turn at its first point.

@@ -11,8 +11,9 @@ use super::outline::cover_closed;
 use super::path::cover_path;
 use super::style::PathStyle;
 use flatten::Placed;
-use geo_core::{NoMemory, Point, Rect, turn_point};
+use geo_core::{Point, Rect, turn_point};
 use library_model::{Element, Library, Shape, ShapeKind};
+use lists::NoMemory;
 use std::alloc::Global;
 
 /// Rectangles that have together exactly the cells of a placed shape, each within 1,000,000,000 of 0. They may overlap,

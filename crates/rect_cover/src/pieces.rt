@@ -5,7 +5,8 @@ ghost use Rattle.rect_cover.specs.inside.PieceBoxes.{box_value, knot_of, rect_va
 
 use super::piece::{PathCorner, PieceBox};
 use super::style::PathStyle;
-use geo_core::{NoMemory, Point, Rect};
+use geo_core::{Point, Rect};
+use lists::NoMemory;
 use std::alloc::Global;
 
 /// The corner at which the first piece begins.

@@ -8,7 +8,8 @@ use super::halves::halves;
 use super::steps::Step;
 use super::ways::{NONE_TRIED, next_step};
 use super::zones::zones_of;
-use geo_core::{Labelled, NoMemory, Rect};
+use geo_core::{Labelled, Rect};
+use lists::NoMemory;
 use std::alloc::Global;
 use union_area::parts_at;
 

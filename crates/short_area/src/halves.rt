@@ -2,7 +2,8 @@ ghost use Rattle.std.specs.Prelude.{IfOk};
 ghost use Rattle.short_area.specs.inside.Zones.{AreAlikeIn};
 
 use super::zones::zones_in;
-use geo_core::{Labelled, NoMemory, Rect};
+use geo_core::{Labelled, Rect};
+use lists::NoMemory;
 use std::alloc::Global;
 
 /// What the zones have in the one part and in the other. The zones themselves are kept no longer.

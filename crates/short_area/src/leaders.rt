@@ -6,7 +6,8 @@ ghost use Rattle.short_area.specs.inside.Zones.{IsCountOf};
 
 use super::runs::label_runs_within;
 use super::sweeps::{LOOKS_EACH, area_of_two};
-use geo_core::{Labelled, NoMemory, Rect, clip, join};
+use geo_core::{Labelled, Rect, clip, join};
+use lists::NoMemory;
 use std::alloc::Global;
 use union_area::union_area;
 

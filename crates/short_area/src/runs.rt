@@ -2,7 +2,8 @@ ghost use Rattle.std.specs.Prelude.{◌≤◌, AllPairs, IfOk, IfSome, IsTrue, O
 ghost use Rattle.std.specs.List.Sorted.{IsPermutation};
 ghost use Rattle.short_area.specs.inside.LabelRuns.{AreRunsOf, GainsRuns};
 
-use geo_core::{Labelled, NoMemory, Rect};
+use geo_core::{Labelled, Rect};
+use lists::NoMemory;
 use skyline_runs::{runs_within, union_runs};
 use std::alloc::{AllocError, Global};
 

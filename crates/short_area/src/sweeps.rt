@@ -6,7 +6,8 @@ ghost use Rattle.short_area.specs.inside.Zones.{HaveNoThird, HaveSameTwo, IsCoun
 use super::labels::{is_other_whole, split, two_labels, whole_label};
 use super::runs::{label_runs, label_runs_within};
 use depth_sweep::area_twice;
-use geo_core::{Labelled, NoMemory, Rect, Steps, overlaps};
+use geo_core::{Labelled, Rect, Steps, overlaps};
+use lists::NoMemory;
 use std::alloc::Global;
 use std::marker::Brand;
 use std::sync::ledger::{Blank, Ledger};

@@ -8,7 +8,8 @@ use super::steps::Step;
 use super::sweeps::{
     counted_apart, counted_at_once, counted_by_few_looks, counted_by_runs, counted_of_few,
 };
-use geo_core::{Labelled, NoMemory, Rect};
+use geo_core::{Labelled, Rect};
+use lists::NoMemory;
 use std::alloc::Global;
 use union_area::count_of;
 

@@ -5,7 +5,8 @@ ghost use Rattle.geo_core.specs.Intervals.{IsIn};
 ghost use Rattle.geo_core.specs.declared.plane.Cell.{Cell};
 ghost use Rattle.short_area.specs.inside.Zones.{AreAlikeIn, AreZonesOf, GainsZone, IsInside, IsNearCell, IsNearPlaces};
 
-use geo_core::{Interval, Labelled, NoMemory, Rect, clip};
+use geo_core::{Interval, Labelled, Rect, clip};
+use lists::NoMemory;
 use std::alloc::Global;
 
 /// The places within a window that are at most the radius from one of these.

@@ -3,7 +3,8 @@ ghost use Rattle.std.specs.List.Sorted.{IsPermutation};
 ghost use Rattle.skyline_runs.specs.Runs.{AreApart, AreByRow, HaveCellsOfTwo, HaveSameCells};
 
 use super::skyline::Skyline;
-use geo_core::{NoMemory, Rect};
+use geo_core::Rect;
+use lists::NoMemory;
 use std::alloc::{AllocError, Global};
 
 /// Rectangles without common cells that have the cells of the list together. Their order and number are left open. The

@@ -1,7 +1,8 @@
 ghost use Rattle.std.specs.Prelude.{ℤ, List, length, All, Contains, IfOk, IfSome, IfNone, OnOk, ◌+◌, ◌<◌, ◌≤◌, ◌≤ℤ◌, ◌<ℤ◌, ◌≡◌, ◌↔◌, ◌⊎◌};
 ghost use Rattle.skyline_runs.specs.inside.Skylines.{GainsCommon};
 
-use geo_core::{NoMemory, Rect, clip};
+use geo_core::{Rect, clip};
+use lists::NoMemory;
 use std::alloc::Global;
 use std::collections::BTreeMap;
 

@@ -5,7 +5,8 @@ ghost use Rattle.tile_plan.specs.inside.Hulls.{IsHullOf};
 
 use super::nearby::{add_near, is_near};
 use super::rectangular::Rectangular;
-use geo_core::{NoMemory, Rect, join};
+use geo_core::{Rect, join};
+use lists::NoMemory;
 use std::alloc::Global;
 use std::marker::Model;
 

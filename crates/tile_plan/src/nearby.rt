@@ -4,7 +4,8 @@ ghost use Rattle.tile_plan.specs.Near.{AreNear, IsNearTile};
 ghost use Rattle.tile_plan.specs.inside.Gaining.{GainsNear};
 
 use super::rectangular::Rectangular;
-use geo_core::{Interval, NoMemory, Rect};
+use geo_core::{Interval, Rect};
+use lists::NoMemory;
 use std::alloc::Global;
 
 /// Exactly those of the pieces whose rectangle, grown by the reach, has a cell in the tile, in the given order. These alone

@@ -20,8 +20,9 @@ ghost use Rattle.classes.specs.Classes.{AreJoined};
 ghost use Rattle.touch_sweep.specs.Touching.{AreMeeting, AreTouching, ComesBefore};
 
 use across::{joined, meeting_among, touching_across};
-use geo_core::{NoMemory, Rect};
+use geo_core::Rect;
 use link::link;
+use lists::NoMemory;
 use numbered::by_row;
 use order::in_order;
 use search::search;

@@ -6,7 +6,8 @@ ghost use Rattle.geo_core.specs.declared.plane.Rect.{Rect};
 ghost use Rattle.union_area.specs.WindowParts.{HasAllOf};
 
 use super::parts::fills;
-use geo_core::{NoMemory, Rect, clip};
+use geo_core::{Rect, clip};
+use lists::NoMemory;
 use std::alloc::Global;
 
 /// What each of the rectangles has in common with the window, if anything, in their order. The one error is that no

@@ -8,7 +8,8 @@ ghost use Rattle.fault_model.specs.Areas.{Tally, cells_of};
 ghost use Rattle.via_clusters.specs.Blocks.{CoversBox, CoversSomeBox};
 ghost use Rattle.via_clusters.specs.inside.Centres.{AreCovered};
 
-use geo_core::{Interval, NoMemory, Rect};
+use geo_core::{Interval, Rect};
+use lists::NoMemory;
 use std::alloc::Global;
 use union_area::union_area;
 

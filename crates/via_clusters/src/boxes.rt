@@ -3,7 +3,8 @@ ghost use Rattle.fault_model.specs.Areas.{IsBoundsOf};
 ghost use Rattle.geo_core.specs.Unions.{IsInUnion};
 ghost use Rattle.via_clusters.specs.Clusters.{AreClusterBoxes};
 
-use geo_core::{NoMemory, Rect, join};
+use geo_core::{Rect, join};
+use lists::NoMemory;
 use net_extract::Nets;
 use std::alloc::Global;
 

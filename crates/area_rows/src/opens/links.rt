@@ -1,7 +1,7 @@
 //! Boxes in a row, of which each touches the next, and by which pairs they are joined.
 
-use geo_core::NoMemory;
 use half_boxes::{HalfBox, grown_links, links_of};
+use lists::NoMemory;
 use samples::sides::rect_of;
 use std::alloc::{AllocError, Global};
 

@@ -1,7 +1,8 @@
 //! Runs of 70,000 rectangles.
 
 use crate::many::{Spread, many};
-use skyline_runs::{NoMemory, Rect, merge_rects, runs_within, twice_runs, union_runs};
+use lists::NoMemory;
+use skyline_runs::{Rect, merge_rects, runs_within, twice_runs, union_runs};
 use std::alloc::Global;
 
 /// How many cells the rectangle has.

@@ -1,5 +1,6 @@
 use super::counting::{are_runs_of, cells_at};
-use depth_sweep::{NoMemory, Rect, twice_runs, union_runs};
+use depth_sweep::{Rect, twice_runs, union_runs};
+use lists::NoMemory;
 use samples::sides::{Sides, have_sides, rects_of};
 use std::alloc::Global;
 

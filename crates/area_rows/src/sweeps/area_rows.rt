@@ -3,7 +3,8 @@
 ghost use Rattle.std.specs.Prelude.{◌≡◌, ◌<◌, IfOk};
 
 use depth_sweep::{area_once, area_twice};
-use geo_core::{NoMemory, Rect, Steps};
+use geo_core::{Rect, Steps};
+use lists::NoMemory;
 use samples::sides::{Sides, rect_of, rects_of};
 use std::alloc::Global;
 use std::marker::Brand;

@@ -3,7 +3,8 @@
 ghost use Rattle.std.specs.Prelude.{◌≡◌, ◌<◌, ◌≤◌, ◌+◌, ◌*◌, IfOk, length};
 
 use cover_tree::CoverTree;
-use geo_core::{CountRow, NoMemory, Node, Steps};
+use geo_core::{CountRow, Node, Steps};
+use lists::NoMemory;
 use std::alloc::Global;
 use std::marker::Brand;
 use std::sync::ledger::{Blank, Ledger};

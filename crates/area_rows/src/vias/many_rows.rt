@@ -1,7 +1,8 @@
 //! Areas of 70,000 rectangles and boxes.
 
 use crate::many::{Spread, many};
-use geo_core::{NoMemory, Rect};
+use geo_core::Rect;
+use lists::NoMemory;
 use std::alloc::Global;
 use union_area::union_area;
 use via_clusters::via_area;
