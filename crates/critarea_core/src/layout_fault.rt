@@ -9,6 +9,7 @@ ghost use Rattle.critarea_core.specs.inside.Finding.{IsToldAs};
 ghost use Rattle.critarea_core.specs.Refusals.{of_layout_fault};
 ghost use Rattle.critarea_core.specs.declared.layout_fault.LayoutFault.TheVariants.{Syntax, Place, Cover, Net, Memory};
 
+use super::refusal::Refusal;
 use flatten::PlaceFault;
 use gds_syntax::SyntaxFault;
 use lists::NoMemory;
@@ -60,6 +61,18 @@ impl LayoutFault {
             LayoutFault::Cover(fault) => fault.place(),
             LayoutFault::Net(fault) => fault.place(),
             LayoutFault::Memory => 0,
+        }
+    }
+}
+
+impl From<LayoutFault> for Refusal {
+    ghost from_gives = { λ fault refusal. refusal ≡ of_layout_fault fault };
+
+    fn from(fault: LayoutFault) -> Refusal {
+        Refusal {
+            status: 4,
+            number: fault.number(),
+            place: fault.place(),
         }
     }
 }

@@ -25,17 +25,6 @@ pub enum Unreported {
     Memory,
 }
 
-/// The input is refused with this status, by what is wrong with it and where.
-fn refused(status: u8, number: u8, place: u64) -> Unreported
-    ensures { result ≡ Refused (record { status = status; number = number; place = place }) }
-{
-    Unreported::Refused(Refusal {
-        status,
-        number,
-        place,
-    })
-}
-
 impl From<NoMemory> for Unreported {
     ghost from_gives = { λ _ why. why ≡ Memory };
 
@@ -61,7 +50,11 @@ impl From<MapFault> for Unreported {
     fn from(fault: MapFault) -> Unreported {
         match fault {
             MapFault::Memory => Unreported::Memory,
-            _ => refused(3, fault.number(), fault.place()),
+            _ => Unreported::Refused(Refusal {
+                status: 3,
+                number: fault.number(),
+                place: fault.place(),
+            }),
         }
     }
 }
@@ -72,7 +65,7 @@ impl From<LayoutFault> for Unreported {
     fn from(fault: LayoutFault) -> Unreported {
         match fault {
             LayoutFault::Memory => Unreported::Memory,
-            _ => refused(4, fault.number(), fault.place()),
+            _ => Unreported::Refused(Refusal::from(fault)),
         }
     }
 }

@@ -1,4 +1,4 @@
--- what other crates cite
+-- what crates above cite
 pub mod Routes
 pub mod Placings
 pub mod Refusals

@@ -86,7 +86,7 @@ pub fn motions_agree()
 {}
 
 /// No route has more steps than it may have.
-#[tactic(auto, using(crate::proofs::ListedRoutes::routes_are_short))]
+#[tactic(auto, using(crate::proofs::laws::Routes::routes_are_short))]
 pub fn no_route_is_longer_than_its_bound()
     ensures { (structures : List Structure) (most : ℕ) (start : ℕ) →
         All (λ route. length route.steps ≤ most) (routes structures most start) }

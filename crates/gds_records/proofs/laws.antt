@@ -1,4 +1,4 @@
--- what other crates cite
+-- what crates above cite
 pub mod Rules
 pub mod Bodies
 pub mod Reals

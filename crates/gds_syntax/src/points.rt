@@ -36,7 +36,7 @@ fn points_at(alloc: Global, xy: &Record) -> Result<Points, NoMemory>
 }
 
 /// How many points the element has.
-#[tactic(auto, using(library_grammar::proofs::PointLaws::count_of_xy))]
+#[tactic(auto, using(library_grammar::proofs::laws::Points::count_of_xy))]
 pub fn point_count(own: &OwnRecords<'_>) -> usize
     ensures { result ≡ length (points_of own.now) }
 {
@@ -47,7 +47,7 @@ pub fn point_count(own: &OwnRecords<'_>) -> usize
 }
 
 /// Point `k` of the element, counted from 0.
-#[tactic(auto, using(library_grammar::proofs::PointLaws::item_of_xy))]
+#[tactic(auto, using(library_grammar::proofs::laws::Points::item_of_xy))]
 pub fn point_of(own: &OwnRecords<'_>, k: usize) -> Point
     requires { k < length (points_of own.now) }
     ensures { result ≡ point_in (body_of kind.XY own.now) k }

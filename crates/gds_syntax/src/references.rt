@@ -60,7 +60,7 @@ fn quarters_of(own: &OwnRecords<'_>) -> Option<u8>
 }
 
 /// The turn of a reference, if it is as large as its structure, and turned by quarters of a circle and not absolutely.
-#[tactic(auto, using(library_grammar::proofs::SizeLaws::sizes))]
+#[tactic(auto, using(library_grammar::proofs::laws::Sizes::sizes))]
 pub fn turn_of(at: u32, own: &OwnRecords<'_>) -> Result<Turn, SyntaxFault>
     ensures passed { OnOk result (All (ElementHolds own.now) reference_checks) }
     ensures turn { IfOk result (IsTurn own.now) }

@@ -13,7 +13,7 @@ use lists::NoMemory;
 use std::alloc::Global;
 
 /// The kind of a path: its ends, its width and its extensions.
-#[tactic(auto, using(library_grammar::proofs::SizeLaws::sizes))]
+#[tactic(auto, using(library_grammar::proofs::laws::Sizes::sizes))]
 pub fn path_kind_of(own: &OwnRecords<'_>) -> ShapeKind
     ensures kind { result ≡ path_kind own.now }
     ensures range { IsKind result }
@@ -27,7 +27,7 @@ pub fn path_kind_of(own: &OwnRecords<'_>) -> ShapeKind
 }
 
 /// The shape of this kind that begins at `at`. Its datatype is in the record of kind `datatype`.
-#[tactic(auto, using(library_grammar::proofs::SizeLaws::sizes))]
+#[tactic(auto, using(library_grammar::proofs::laws::Sizes::sizes))]
 pub fn shape_of(
     alloc: Global,
     at: u32,

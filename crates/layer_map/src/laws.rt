@@ -13,13 +13,13 @@ pub fn documents_give_one_map()
 {}
 
 /// Bytes come to one layer map or one fault at most.
-#[tactic(auto, using(crate::proofs::UniqueLaws::maps_agree))]
+#[tactic(auto, using(crate::proofs::laws::Maps::maps_agree))]
 pub fn maps_agree()
     ensures { (bytes : List ℕ) → IsUnique (MapComesTo bytes) }
 {}
 
 /// Bytes come to a layer map or a fault: it cannot be that they come to none.
-#[tactic(auto, using(crate::proofs::ExistLaws::maps_cannot_lack))]
+#[tactic(auto, using(crate::proofs::laws::Maps::maps_cannot_lack))]
 pub fn bytes_come_to_something()
     ensures { (bytes : List ℕ) → CannotLack (MapComesTo bytes) }
 {}

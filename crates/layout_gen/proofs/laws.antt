@@ -1,2 +1,2 @@
--- what other crates cite
+-- what crates above cite
 pub mod Generated

@@ -1,4 +1,4 @@
--- what other crates cite
+-- what crates above cite
 pub mod Forms
 pub mod Places
 pub mod NextRecords

@@ -21,25 +21,25 @@ pub fn places_say_what_may_stand()
 {}
 
 /// Bytes come to one thing at most: to one library, or to one first fault, and never to both.
-#[tactic(auto, using(crate::proofs::FaultsAgree::libraries_agree))]
+#[tactic(auto, using(crate::proofs::laws::Libraries::libraries_agree))]
 pub fn libraries_agree()
     ensures { (bytes : List ℕ) → IsUnique (BytesComeTo bytes) }
 {}
 
 /// Bytes come to a library or to a first fault: it cannot be that they come to neither.
-#[tactic(auto, using(crate::proofs::LibraryThere::bytes_come_to_something))]
+#[tactic(auto, using(crate::proofs::laws::Libraries::bytes_come_to_something))]
 pub fn bytes_come_to_something()
     ensures { (bytes : List ℕ) → AreBytes bytes → CannotLack (BytesComeTo bytes) }
 {}
 
 /// No two structures of a library that bytes come to have one name.
-#[tactic(auto, using(crate::proofs::LibraryFacts::library_names_differ))]
+#[tactic(auto, using(crate::proofs::laws::Libraries::library_names_differ))]
 pub fn names_differ()
     ensures { (bytes : List ℕ) (library : Library) → BytesComeTo bytes (value library) → AreDifferent (names_of library.structures) }
 {}
 
 /// Each shape of a library that bytes come to has its points.
-#[tactic(auto, using(crate::proofs::LibraryFacts::library_is_pointed))]
+#[tactic(auto, using(crate::proofs::laws::Libraries::library_is_pointed))]
 pub fn shapes_are_well_pointed()
     ensures { (bytes : List ℕ) (library : Library) → BytesComeTo bytes (value library) → AreWellPointed library.structures }
 {}

@@ -1,3 +1,3 @@
--- what other crates cite
+-- what crates above cite
 pub mod SameParts
 pub mod Names

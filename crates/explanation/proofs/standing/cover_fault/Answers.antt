@@ -5,7 +5,7 @@ use Rattle.lists.proofs.Words.{to_z-of_z}
 use Rattle.geo_core.specs.Plane.{IsInRange}
 use Rattle.library_model.specs.declared.element.Element.TheVariants.{Shape as shape_element}
 use Rattle.flatten.specs.declared.placed.Placed.{Placed}
-use Rattle.rect_cover.specs.Coverings.{IsPlacedShape, IsWellPlaced}
+use Rattle.rect_cover.specs.Coverings.{IsPlacedShape}
 use Rattle.explanation.proofs.UnmovedShapes.{stands_well}
 use Rattle.explanation.proofs.standing.cover_fault.Goals as goal
 
