@@ -30,7 +30,7 @@ const READ_AGAIN: &[(&str, &str)] = &[
     // the program lists no layers
     (
         "2|error 2 at 0\n|a",
-        "arguments: it is not said which layers are metals\n  \
+        "arguments: it is not said which layers are metals; --explain in front of the layout alone lists those that it has\n  \
          critarea LAYOUT --map MAP\n  critarea LAYOUT --layer L --datatype D --radius R\n  critarea --generate N\n",
     ),
     (

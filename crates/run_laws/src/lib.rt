@@ -22,13 +22,13 @@ ghost use Rattle.map_model.specs.LayerMap.{LayerMap};
 ghost use Rattle.questions.specs.declared.row.Row.{Row};
 
 /// A layer map, a top that is wanted or not, and the bytes of a layout come to one subject, or to one refusal, at most.
-#[tactic(auto, using(critarea_core::proofs::VerdictLaws::layout_outcomes_agree))]
+#[tactic(auto, using(critarea_core::proofs::laws::VerdictLaws::layout_outcomes_agree))]
 pub fn layouts_agree()
     ensures { (layer_map : LayerMap) (wanted : Option (List ℕ)) (bytes : List ℕ) → IsUnique (LayoutComesTo layer_map wanted bytes) }
 {}
 
 /// Words have one verdict at most, where files contain this.
-#[tactic(auto, using(critarea_core::proofs::VerdictLaws::verdicts_agree))]
+#[tactic(auto, using(critarea_core::proofs::laws::VerdictLaws::verdicts_agree))]
 pub fn verdicts_agree()
     ensures { (words : List (List ℕ)) (contents : Contents) → IsUnique (IsVerdict words contents) }
 {}
