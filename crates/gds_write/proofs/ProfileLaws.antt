@@ -25,7 +25,7 @@ use Rattle.gds_write.specs.Bodies.{entry, bare, padded, text_entry, unsigned_ent
 use Rattle.gds_write.specs.WellFormed.{IsWritableName, IsWritableShape, IsWritableReference, IsWritableElement, IsWritableStructure, IsWellFormed}
 use Rattle.gds_write.specs.Written.{opening_of_shape, datatype_kind, path_records, own_of_shape, strans_entry, angle_bits, angle_entry, turn_records, array_points, placing_records, own_of_reference}
 use Rattle.gds_write.specs.Written.{opening_of_reference, written_element, written_structure, written}
-use Rattle.gds_write.proofs.Every.{Every, both, maybe, one, each_part}
+use Rattle.gds_write.proofs.Every.{Every, none, more, both, maybe, one, each_part}
 
 -- ---- bytes
 

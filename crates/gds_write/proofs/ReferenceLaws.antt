@@ -19,7 +19,7 @@ use Rattle.gds_write.proofs.FieldLaws.{field_of, first_of, written_of}
 use Rattle.gds_write.proofs.ShapeLaws.{has_found}
 use Rattle.gds_write.proofs.ProfileLaws.{padded_fills}
 use Rattle.gds_write.proofs.NumberLaws.{point_reads, points_read, columns_read, rows_read}
-use Rattle.gds_write.proofs.Every.{all_of, one}
+use Rattle.gds_write.proofs.Every.{more, all_of, one}
 
 -- ---- the turn
 

@@ -15,7 +15,7 @@ use Rattle.gds_write.specs.Bodies.{unsigned_entry, short_entry, long_entry, long
 use Rattle.gds_write.specs.Written.{opening_of_shape, datatype_kind, path_records}
 use Rattle.gds_write.proofs.FieldLaws.{number_reads_by, field_of, first_of, written_of}
 use Rattle.gds_write.proofs.NumberLaws.{short_reads, long_reads, points_read, two_bytes_read}
-use Rattle.gds_write.proofs.Every.{all_of, one}
+use Rattle.gds_write.proofs.Every.{more, all_of, one}
 
 -- a kind that has a field is among the kinds
 pub has_found : (k : ℕ) (own : List Entry) (body : List ℕ) → field k own ≡ Some body → Contains (kinds_of own) k

@@ -11,7 +11,7 @@ use Rattle.gds_write.specs.SameLibrary.{IsSameButOffsets}
 use Rattle.gds_write.specs.WellFormed.{IsWritableElement, IsWritableStructure, IsWellFormed}
 use Rattle.gds_write.specs.Written.{own_of, written_element, written_structure, written_head, written}
 use Rattle.library_grammar.proofs.laws.Forms.{own_ends_no_library, opening_ends_no_library}
-use Rattle.gds_write.proofs.Every.{Every, both, every_of, one, each_part, all_of}
+use Rattle.gds_write.proofs.Every.{Every, more, both, every_of, one, each_part, all_of}
 use Rattle.gds_write.proofs.ReadLaws.{element_in_grammar, library_is_read, library_read, same_library}
 use Rattle.gds_write.proofs.ElementLaws.{form_of_element}
 use Rattle.gds_write.proofs.ProfileLaws.{library_taken}
