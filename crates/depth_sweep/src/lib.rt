@@ -8,5 +8,6 @@ mod events;
 mod places;
 
 pub use areas::{area_once, area_twice};
-pub use geo_core::{NoMemory, Rect};
+pub use geo_core::Rect;
+pub use lists::NoMemory;
 pub use skyline_runs::{merge_rects, runs_within, twice_runs, union_runs};

@@ -1,5 +1,5 @@
-//! Worked rows on the calls of geometry: cells, rectangles, turns, touching pairs, classes, islands, nets and areas of
-//! shorts. Each row's answer was worked out by hand. The crate has tests alone.
+//! Worked rows on the calls of geometry: cells, rectangles, turns, touching pairs, classes, islands and areas of shorts. Each
+//! row's answer was worked out by hand. The crate has tests alone.
 #![tactic(auto)]
 
 #[cfg(test)]

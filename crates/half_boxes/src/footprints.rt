@@ -14,7 +14,7 @@ use super::span::HalfSpan;
 use geo_core::{Interval, Rect};
 
 /// The greatest side of a defect, in database units. The greatest radius is 1,000,000, and so the greatest side of a run
-/// 2,000,000; an odd side one greater reaches no further in half squares.
+/// 2,000,000; an odd side one greater reaches no further in whole cells.
 pub const GREATEST_SIDE: u32 = 2_000_001;
 
 const _: () = prove!(GREATEST_SIDE == 2_000_001);

@@ -152,7 +152,7 @@ pub enum Want {
 }
 
 impl Want {
-    /// Whether the answer is the wanted one, which was written out by hand.
+    /// Whether the answer is the wanted one, whose areas, totals and peak were worked out by hand.
     fn is(&self, alloc: Global, answer: &Answer) -> bool {
         match self {
             Want::Rows(report) => answer.reports(text_of(alloc, report)),
