@@ -50,14 +50,14 @@ returns-in_ok-read_map-in-Mapped-clause-found g c =
 pub returns-in_err-read_map-in-Generated-clause-found : goal.returns-in_err-read_map-in-Generated-clause-found
 returns-in_err-read_map-in-Generated-clause-found g c =
     let told = g.F.Files.holds c.args.files.now in
-    let columns = c.in-Generated.columns in
-    rw c.in-Generated.is (files_serve refl (map_unread told (Generated columns) generated_map (map_of_generated told columns)
+    let n = c.in-Generated.n in
+    rw c.in-Generated.is (files_serve refl (map_unread told (Generated n) generated_map (map_of_generated told n)
     c.in_err-read_map-in-Generated.field-0.0 c.from_residual-in_err-read_map-in-Generated.result c.from_residual-in_err-read_map-in-Generated.ensures.1
     (rw (c.as_bytes.ensures.value ∙ c.layer_map.ensures.text) at c.in_err-read_map-in-Generated.ensures.answers)))
 
 pub returns-in_ok-read_map-in-Generated-clause-found : goal.returns-in_ok-read_map-in-Generated-clause-found
 returns-in_ok-read_map-in-Generated-clause-found g c =
     let told = g.F.Files.holds c.args.files.now in
-    let columns = c.in-Generated.columns in
-    rw c.in-Generated.is (files_serve refl (map_read told (Generated columns) generated_map (map_of_generated told columns)
+    let n = c.in-Generated.n in
+    rw c.in-Generated.is (files_serve refl (map_read told (Generated n) generated_map (map_of_generated told n)
     c.in_ok-read_map-in-Generated.field-0 (rw (c.as_bytes.ensures.value ∙ c.layer_map.ensures.text) at c.in_ok-read_map-in-Generated.ensures.answers)))
