@@ -28,7 +28,7 @@ const SHORT_24: Want = Want::Short(2, 24);
 
 /// A turn: whether it mirrors, and its angle; the long arm and the short arm of the turned L, and two squares, of which each lies
 /// 2 cells beyond the end of an arm.
-type Row = (bool, [u8; 8], [Sides; 2], [Sides; 2]);
+type Row = (bool, [u8; 8], (Sides, Sides), (Sides, Sides));
 
 /// A point `(x, y)` goes, in the order of the turns, to `(x, y)`, `(-y, x)`, `(-x, -y)`, `(y, -x)`, and mirrored to `(x, -y)`,
 /// `(y, x)`, `(-x, y)`, `(-y, -x)`.
@@ -36,50 +36,50 @@ const ROWS: &[Row] = &[
     (
         false,
         ANGLE_0,
-        [(0, 0, 8, 2), (0, 2, 2, 5)],
-        [(10, 0, 12, 2), (0, 7, 2, 9)],
+        ((0, 0, 8, 2), (0, 2, 2, 5)),
+        ((10, 0, 12, 2), (0, 7, 2, 9)),
     ),
     (
         false,
         ANGLE_90,
-        [(-2, 0, 0, 8), (-5, 0, -2, 2)],
-        [(-2, 10, 0, 12), (-9, 0, -7, 2)],
+        ((-2, 0, 0, 8), (-5, 0, -2, 2)),
+        ((-2, 10, 0, 12), (-9, 0, -7, 2)),
     ),
     (
         false,
         ANGLE_180,
-        [(-8, -2, 0, 0), (-2, -5, 0, -2)],
-        [(-12, -2, -10, 0), (-2, -9, 0, -7)],
+        ((-8, -2, 0, 0), (-2, -5, 0, -2)),
+        ((-12, -2, -10, 0), (-2, -9, 0, -7)),
     ),
     (
         false,
         ANGLE_270,
-        [(0, -8, 2, 0), (2, -2, 5, 0)],
-        [(0, -12, 2, -10), (7, -2, 9, 0)],
+        ((0, -8, 2, 0), (2, -2, 5, 0)),
+        ((0, -12, 2, -10), (7, -2, 9, 0)),
     ),
     (
         true,
         ANGLE_0,
-        [(0, -2, 8, 0), (0, -5, 2, -2)],
-        [(10, -2, 12, 0), (0, -9, 2, -7)],
+        ((0, -2, 8, 0), (0, -5, 2, -2)),
+        ((10, -2, 12, 0), (0, -9, 2, -7)),
     ),
     (
         true,
         ANGLE_90,
-        [(0, 0, 2, 8), (2, 0, 5, 2)],
-        [(0, 10, 2, 12), (7, 0, 9, 2)],
+        ((0, 0, 2, 8), (2, 0, 5, 2)),
+        ((0, 10, 2, 12), (7, 0, 9, 2)),
     ),
     (
         true,
         ANGLE_180,
-        [(-8, 0, 0, 2), (-2, 2, 0, 5)],
-        [(-12, 0, -10, 2), (-2, 7, 0, 9)],
+        ((-8, 0, 0, 2), (-2, 2, 0, 5)),
+        ((-12, 0, -10, 2), (-2, 7, 0, 9)),
     ),
     (
         true,
         ANGLE_270,
-        [(-2, -8, 0, 0), (-5, -2, -2, 0)],
-        [(-2, -12, 0, -10), (-9, -2, -7, 0)],
+        ((-2, -8, 0, 0), (-5, -2, -2, 0)),
+        ((-2, -12, 0, -10), (-9, -2, -7, 0)),
     ),
 ];
 
@@ -97,7 +97,7 @@ fn has_24(rt: &(impl Threads + Sync), alloc: Global, parts: &[Part<'_>]) -> bool
 /// Whether the turned L has its 24 cells with the squares, and so have its arms where they stand as rectangles and the L is far
 /// away.
 fn is_turned(rt: &(impl Threads + Sync), alloc: Global, row: &Row) -> bool {
-    let (mirrored, angle, [long, short], [one, other]) = *row;
+    let (mirrored, angle, (long, short), (one, other)) = *row;
     let turned = Part::Copies(Copies {
         mirrored,
         angle,
