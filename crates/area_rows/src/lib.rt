@@ -25,6 +25,8 @@ mod nets;
 #[cfg(test)]
 mod opens;
 #[cfg(test)]
+mod rings;
+#[cfg(test)]
 mod runs;
 #[cfg(test)]
 mod sweeps;

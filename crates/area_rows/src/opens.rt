@@ -3,7 +3,7 @@
 mod areas;
 mod cells;
 mod depth;
-mod drawn;
+pub mod drawn;
 mod links;
 mod many_rows;
 mod partings;

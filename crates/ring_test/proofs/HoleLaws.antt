@@ -1,0 +1,104 @@
+-- holes, and what unions of rectangles and cells have of them
+use Rattle.std.proofs.Common.{ℕ, List, [], ◌<◌, ◌+◌, ◌≡◌, refl, sym, subst, ap, ◌∙◌, inl, inr, ◌⊎◌, arith, ℤ, pos, ◌+ℤ◌, ◌≤ℤ◌, ◌↔◌, All, Contains, length, get_or, take}
+use Rattle.lists.proofs.Words.{ints, All-contains, slice_get_read}
+use Rattle.lists.proofs.Containing.{Contains-slice_get, Contains-take_cases}
+use Rattle.geo_core.specs.Intervals.{IntervalsOverlap, IsPartOf}
+use Rattle.geo_core.specs.Cells.{Has, IsInLayout}
+use Rattle.geo_core.specs.Unions.{IsInUnion}
+use Rattle.geo_core.specs.declared.plane.Cell.{Cell}
+use Rattle.geo_core.specs.declared.plane.Half.{Half}
+use Rattle.geo_core.specs.declared.plane.Rect.{Rect}
+use Rattle.geo_core.proofs.IntervalLaws.{IsIn-at, ends_in, in_ends}
+use Rattle.fault_model.specs.FaultNames.{IsOn, LiesIn}
+use Rattle.fault_model.proofs.HalfLaws.{halves_in, first_half}
+use Rattle.fault_model.proofs.UnionLaws.{union_more, union_none}
+use Rattle.half_boxes.specs.HalfBoxes.{OverlapHalves}
+use Rattle.half_boxes.specs.declared.boxes.HalfBox.{HalfBox}
+use Rattle.ring_test.specs.Rings.{Hole, IsInHole}
+
+pub same_hole : (a b : Hole) → a.left ≡ b.left → a.right ≡ b.right → a.bottom ≡ b.bottom → a.top ≡ b.top → a ≡ b
+same_hole a b left right bottom top =
+    let at : ℤ → ℤ → ℤ → ℤ → Hole = λ l r d t. record { left = l; right = r; bottom = d; top = t } in
+    ap (λ l. at l a.right a.bottom a.top) left ∙ ap (λ r. at b.left r a.bottom a.top) right ∙ ap (λ d. at b.left b.right d a.top) bottom ∙ ap (at b.left b.right b.bottom) top
+
+-- ---- columns and rows of what a layout has of a hole
+
+module _ (rect : Rect) (hole : Hole) (h : Half) (on : IsOn (Has rect) h) (is : IsInHole hole h) where
+  pub columns_in_hole : (left right : ℤ) → left ≡ hole.left → right ≡ hole.right → IntervalsOverlap (rect.x0 +ℤ rect.x0) (rect.x1 +ℤ rect.x1) left right
+  columns_in_hole left right e f = (h.u, halves_in rect.x0 rect.x1 h.u on.0.i on.1.0 on.2.across, IsIn-at left right h.u is.0 e f refl)
+
+  pub rows_in_hole : (bottom top : ℤ) → bottom ≡ hole.bottom → top ≡ hole.top → IntervalsOverlap (rect.y0 +ℤ rect.y0) (rect.y1 +ℤ rect.y1) bottom top
+  rows_in_hole bottom top e f = (h.v, halves_in rect.y0 rect.y1 h.v on.0.j on.1.1 on.2.up, IsIn-at bottom top h.v is.1 e f refl)
+
+-- ---- boxes
+
+pub boxes_overlap : (one other : HalfBox) → IntervalsOverlap one.columns.low one.columns.high other.columns.low other.columns.high
+    → IntervalsOverlap one.rows.low one.rows.high other.rows.low other.rows.high → OverlapHalves one other
+boxes_overlap one other (u, a, b) (v, c, d) = (record { u = u; v = v }, record { across = a; up = c }, record { across = b; up = d })
+
+pub columns_common : (one other : HalfBox) → OverlapHalves one other → IntervalsOverlap one.columns.low one.columns.high other.columns.low other.columns.high
+columns_common one other (h, a, b) = (h.u, a.across, b.across)
+
+pub rows_common : (one other : HalfBox) → OverlapHalves one other → IntervalsOverlap one.rows.low one.rows.high other.rows.low other.rows.high
+rows_common one other (h, a, b) = (h.v, a.up, b.up)
+
+-- ---- cells
+
+abbrev pub HasCell : Hole → Cell → Type 0
+HasCell hole cell = (h : Half) → LiesIn h cell → IsInHole hole h
+
+module _ (hole : Hole) (cell : Cell) where
+  pub cell_in : (i j : ℤ) → i ≡ cell.i → j ≡ cell.j → IsPartOf (i +ℤ i) (i +ℤ i +ℤ pos 2) hole.left hole.right → IsPartOf (j +ℤ j) (j +ℤ j +ℤ pos 2) hole.bottom hole.top → HasCell hole cell
+  cell_in i j e f across up h lies = (
+    across h.u (record { from = let a = lies.0.from in omega (arith, ints); before = let a = lies.0.before in omega (arith, ints) }),
+    up h.v (record { from = let a = lies.1.from in omega (arith, ints); before = let a = lies.1.before in omega (arith, ints) }),
+  )
+
+  pub cell_columns : (i : ℤ) → i ≡ cell.i → HasCell hole cell → IsPartOf (i +ℤ i) (i +ℤ i +ℤ pos 2) hole.left hole.right
+  cell_columns i e all u is =
+      (all (record { u = u; v = cell.j +ℤ cell.j }) (record { from = let a = is.from in omega (arith, ints); before = let a = is.before in omega (arith, ints) }, first_half cell.j)).0
+
+  pub cell_rows : (j : ℤ) → j ≡ cell.j → HasCell hole cell → IsPartOf (j +ℤ j) (j +ℤ j +ℤ pos 2) hole.bottom hole.top
+  cell_rows j e all v is =
+      (all (record { u = cell.i +ℤ cell.i; v = v }) (first_half cell.i, record { from = let a = is.from in omega (arith, ints); before = let a = is.before in omega (arith, ints) })).1
+
+-- ---- lists of rectangles and of cells, one more
+
+pub on_none : (h : Half) → IsOn (IsInUnion []) h → ⊥
+on_none h (c, lies, u) = union_none c u
+
+pub on_more : (pieces : List Rect) (i : ℕ) (piece : Rect) (h : Half) → i < length pieces → piece ≡ get_or pieces i piece
+    → IsOn (IsInUnion (take (i + 1) pieces)) h ↔ (IsOn (IsInUnion (take i pieces)) h ⊎ IsOn (Has piece) h)
+on_more pieces i piece h small is = (
+  λ (c, lies, u). elim ((union_more c pieces i piece small is).0 u) [ inl old ↦ inl (c, lies, old) | inr new ↦ inr (c, lies, new) ],
+  λ either. elim either [
+    | inl (c, lies, old) ↦ (c, lies, (union_more c pieces i piece small is).1 (inl old))
+    | inr (c, lies, new) ↦ (c, lies, (union_more c pieces i piece small is).1 (inr new))
+  ],
+)
+
+-- where no rectangle that a layout may have comes into a hole, none of a layout does
+pub layout_misses : (pieces : List Rect) (hole : Hole) → All IsInLayout pieces → ((rect : Rect) (h : Half) → IsInLayout rect → IsOn (Has rect) h → IsInHole hole h → ⊥)
+    → (h : Half) → IsOn (IsInUnion pieces) h → IsInHole hole h → ⊥
+layout_misses pieces hole all none h (c, lies, u) is = none u.rect h (All-contains IsInLayout pieces u.rect all (Contains-slice_get pieces u.number u.rect u.at)) (c, lies, u.has) is
+
+-- what a rectangle of a list has, its union has
+pub on_piece : (pieces : List Rect) (i : ℕ) (piece : Rect) (h : Half) → i < length pieces → piece ≡ get_or pieces i piece → IsOn (Has piece) h → IsOn (IsInUnion pieces) h
+on_piece pieces i piece h small is (c, lies, has) = (c, lies, record { number = i; rect = piece; at = slice_get_read pieces (length pieces) i piece refl small is; has = has })
+
+-- none of the cells so far lies in the hole
+abbrev pub HasNoneOf : Hole → List Cell → Type 0
+HasNoneOf hole cells = (cell : Cell) → Contains cells cell → HasCell hole cell → ⊥
+
+pub none_more : (hole : Hole) (cells : List Cell) (i : ℕ) (d : Cell) → i < length cells → HasNoneOf hole (take i cells) → (HasCell hole (get_or cells i d) → ⊥) → HasNoneOf hole (take (i + 1) cells)
+none_more hole cells i d small none out e among all = elim (Contains-take_cases cells i d e small among) [
+  | inl old ↦ none e old all
+  | inr new ↦ out (subst (HasCell hole) (sym new) all)
+]
+
+-- a unit lies in an interval by its ends
+pub unit_within : (unit low high : ℤ) → ((low ≤ℤ (unit +ℤ unit)) × ((unit +ℤ unit +ℤ pos 2) ≤ℤ high)) ↔ IsPartOf (unit +ℤ unit) (unit +ℤ unit +ℤ pos 2) low high
+unit_within unit low high = (
+  λ h. in_ends (unit +ℤ unit) (unit +ℤ unit +ℤ pos 2) low high h.0 h.1,
+  ends_in (unit +ℤ unit) (unit +ℤ unit +ℤ pos 2) low high (omega (arith, ints)),
+)

@@ -1,0 +1,3 @@
+-- what only this crate's proofs and private contracts cite
+pub mod RingSides
+pub mod NumberRuns
