@@ -1,10 +1,8 @@
 -- what is checked of arguments
-use Rattle.std.proofs.Common.{Bor, ℕ, ◌≤◌, ◌<◌, ◌==◌, List, ◌≡◌, ◌∙◌, sym, ap, refl, arith, Bool, true, false, not, nat_le, All, length, map, filter, count_by, get_or, inl, inr, ◌+◌, cond}
-use Rattle.lists.proofs.Words.{length-map, eqb_tells, leb_tells, list_all, bytes_eq}
+use Rattle.std.proofs.Common.{Bor, ℕ, suc, ◌<◌, ◌≤◌, ◌==◌, List, [], ◌∷◌, ◌≡◌, ◌∙◌, sym, ap, refl, arith, Bool, true, false, ◌||◌, All, Contains, length, map, filter, count_by, get_or, inl, inr, ◌+◌, cond, subst, take, take_all}
+use Rattle.lists.proofs.Words.{length-map, eqb_tells, list_any, bytes_eq, All-cons, All-map, All-more, All-nil}
 use Rattle.std.proofs.lemmas.List.Sums.{length-filter}
-use Rattle.std.specs.Bool.{Decides}
-use Rattle.std.proofs.lemmas.Bool.Decides.{Decides-by_and}
-use Rattle.std.proofs.lemmas.List.Folds.{fold-map, list_all-map}
+use Rattle.std.proofs.lemmas.List.Folds.{fold-map}
 use Rattle.command_line.specs.declared.option_name.OptionName.{OptionName}
 use Rattle.command_line.specs.declared.option_name.OptionName.TheVariants.{Map, Top, Tile, Workers, Layer, Datatype, Radius, Generate}
 use Rattle.command_line.specs.declared.option_name.TheConstants.{OPTIONS}
@@ -13,14 +11,22 @@ use Rattle.command_line.specs.Requests.{IsNotEmpty, values_of}
 
 -- ---- no text is empty
 
-not_zero : (n : ℕ) → Decides (not (n == 0)) (0 < n)
-not_zero n = elim (eqb_tells n 0) [
-  | inl p ↦ (λ e. let f : not (n == 0) ≡ false = ap not p.0 in let s : true ≡ false = sym e ∙ f in cc s, λ h. absurd (omega arith))
-  | inr p ↦ (λ e. omega arith, λ h. ap not p.0)
+no_length : {A : Type 0} (xs : List A) → length xs ≡ 0 → xs ≡ []
+no_length [] e = refl
+no_length (c ∷ cs) e = absurd (omega arith)
+
+-- a text is empty or not, as a list of any kind
+pub is_empty : {A : Type 0} (text : List A) → (length text == 0) ≡ true → text ≡ []
+is_empty text e = elim (eqb_tells (length text) 0) [
+  | inl p ↦ no_length text p.1
+  | inr p ↦ let s : true ≡ false = sym e ∙ p.0 in cc s
 ]
 
-all_full : {X : Type 0} (text : X → Text) (xs : List X) → Decides (list_all (λ x. not (length (text x) == 0)) xs) (All (λ x. IsNotEmpty (text x)) xs)
-all_full text = Decides-by_and (λ x. not (length (text x) == 0)) (λ x. IsNotEmpty (text x)) (list_all (λ x. not (length (text x) == 0))) (λ x. not_zero (length (text x))) refl (λ x xs. refl)
+is_not_empty : (text : Text) → (length text == 0) ≡ false → IsNotEmpty text
+is_not_empty text e = elim (eqb_tells (length text) 0) [
+  | inl p ↦ let s : true ≡ false = sym p.0 ∙ e in cc s
+  | inr p ↦ omega arith
+]
 
 -- options and positional words as they lie in memory
 abbrev Found : Type 0
@@ -29,28 +35,42 @@ Found = List (OptionName × Bor Text)
 abbrev view : OptionName × Bor Text → OptionName × Text
 view option = (option.0, option.1.now)
 
-pub values_full : (options : Found) → Decides (list_all (λ option. not (length option.1.now == 0)) options) (All (λ option. IsNotEmpty option.1) (map view options))
-values_full options = rw (sym (list_all-map (λ option. not (length option.1 == 0)) view options)) (all_full (λ option. option.1) (map view options))
+-- some positional word is empty, or none is
+abbrev has_empty : List (Bor Text) → Bool
+has_empty = list_any (λ word. length word.now == 0)
 
-pub positions_full : (positions : List (Bor Text)) → Decides (list_all (λ word. not (length word.now == 0)) positions) (All IsNotEmpty (map (λ word. word.now) positions))
-positions_full positions = rw (sym (list_all-map (λ word. not (length word == 0)) (λ word. word.now) positions)) (all_full (λ word. word) (map (λ word. word.now) positions))
+pub some_empty : (words : List (Bor Text)) → has_empty words ≡ true → Contains (map (λ word. word.now) words) []
+some_empty [] e = cc e
+some_empty (w ∷ ws) e = go (length w.now == 0) refl e (some_empty ws) where
+  go : (b : Bool) → (length w.now == 0) ≡ b → (b || has_empty ws) ≡ true → (has_empty ws ≡ true → Contains (map (λ word. word.now) ws) []) → Contains (w.now ∷ map (λ word. word.now) ws) []
+  go true is _ _ = (0, omega arith, is_empty w.now is)
+  go false is e rest = let r = rest e in (suc r.0, omega (arith, r.1), r.2)
+
+pub none_empty : (words : List (Bor Text)) → has_empty words ≡ false → All IsNotEmpty (map (λ word. word.now) words)
+none_empty [] e = All-nil IsNotEmpty
+none_empty (w ∷ ws) e = go (length w.now == 0) refl e (none_empty ws) where
+  go : (b : Bool) → (length w.now == 0) ≡ b → (b || has_empty ws) ≡ false → (has_empty ws ≡ false → All IsNotEmpty (map (λ word. word.now) ws)) → All IsNotEmpty (w.now ∷ map (λ word. word.now) ws)
+  go true is e _ = cc e
+  go false is e rest = All-cons IsNotEmpty w.now _ (is_not_empty w.now is) (rest e)
+
+-- the first two of some positional words
+pub two_named : (slice words : List (Bor Text)) (d e : Bor Text) (one other : Text) → slice ≡ words → 2 ≤ length slice → one ≡ (get_or slice 0 d).now → other ≡ (get_or slice 1 e).now
+    → (more : List Text) × (map (λ word. word.now) words ≡ one ∷ other ∷ more)
+two_named [] words d e one other same two is_one is_other = absurd (omega arith)
+two_named (v ∷ []) words d e one other same two is_one is_other = absurd (omega arith)
+two_named (v ∷ w ∷ ws) words d e one other same two is_one is_other =
+    (map (λ word. word.now) ws, ap (map (λ (word : Bor Text). word.now)) (sym same) ∙ cc (is_one, is_other))
 
 -- ---- each option is given once at most
 
 -- how often an option is given is the number of its values
-counted : (options : Found) (name : OptionName) → count_by (λ option. bytes_eq (name_of option.0) (name_of name)) options ≡ length (values_of (map view options) name)
+pub counted : (options : Found) (name : OptionName) → count_by (λ option. bytes_eq (name_of option.0) (name_of name)) options ≡ length (values_of (map view options) name)
 counted options name =
     let is_name : OptionName × Text → Bool = λ option. bytes_eq (name_of option.0) (name_of name) in
     sym (length-map (filter is_name (map view options)) (λ option. option.1) ∙ length-filter is_name (map view options) ∙ fold-map (λ n option. n + cond (is_name option) 1 0) view 0 options)
 
-few : (n : ℕ) → Decides (nat_le n 1) (n ≤ 1)
-few n = elim (leb_tells n 1) [
-  | inl p ↦ (λ e. p.1, λ h. p.0)
-  | inr p ↦ (λ e. let s : true ≡ false = sym e ∙ p.0 in cc s, λ h. absurd (omega arith))
-]
-
 -- all options are listed
-each_listed : (P : OptionName → Type 0) → All P OPTIONS → (name : OptionName) → P name
+pub each_listed : (P : OptionName → Type 0) → All P OPTIONS → (name : OptionName) → P name
 each_listed P all Map = all 0 Map (omega arith)
 each_listed P all Top = all 1 Map (omega arith)
 each_listed P all Tile = all 2 Map (omega arith)
@@ -60,12 +80,27 @@ each_listed P all Datatype = all 5 Map (omega arith)
 each_listed P all Radius = all 6 Map (omega arith)
 each_listed P all Generate = all 7 Map (omega arith)
 
-pub options_single : (options : Found) → Decides (list_all (λ name. nat_le (count_by (λ option. bytes_eq (name_of option.0) (name_of name)) options) 1) OPTIONS) ((name : OptionName)
-    → length (values_of (map view options) name) ≤ 1)
-options_single options =
-    let times : OptionName → ℕ = λ name. count_by (λ option. bytes_eq (name_of option.0) (name_of name)) options in
-    let all : Decides (list_all (λ name. nat_le (times name) 1) OPTIONS) (All (λ name. times name ≤ 1) OPTIONS) =
-    Decides-by_and (λ name. nat_le (times name) 1) (λ name. times name ≤ 1) (list_all (λ name. nat_le (times name) 1)) (λ name. few (times name)) refl (λ x xs. refl) OPTIONS in (
-      λ e name. let h : times name ≤ 1 = each_listed (λ name. times name ≤ 1) (all.0 e) name in omega (arith, h, counted options name),
-      λ each. all.1 (λ k d within. let h = each (get_or OPTIONS k d) in let e = counted options (get_or OPTIONS k d) in omega (arith, h, e)),
-    )
+module _ (options : Found) where
+  -- the option is given once at most
+  abbrev IsFew : OptionName → Type 0
+  IsFew name = length (values_of (map view options) name) ≤ 1
+
+  -- so an option of which this is the count is given once at most, or more than once
+  module _ (name : OptionName) (n : ℕ) (is : n ≡ count_by (λ option. bytes_eq (name_of option.0) (name_of name)) options) where
+    is_few : n ≤ 1 → IsFew name
+    is_few few = let same = counted options name in omega (arith, same, is, few)
+
+    pub is_repeated : 1 < n → 1 < length (values_of (map view options) name)
+    is_repeated more = let same = counted options name in omega (arith, same, is, more)
+
+  pub one_more_few : (names : List OptionName) (i : ℕ) (d : OptionName) (n : ℕ) → i < length names → All IsFew (take i names)
+      → n ≡ count_by (λ option. bytes_eq (name_of option.0) (name_of (get_or names i d))) options → n ≤ 1 → All IsFew (take (i + 1) names)
+  one_more_few names i d n within before is few = All-more IsFew names i d within before (is_few (get_or names i d) n is few)
+
+  pub each_few : (i : ℕ) → length OPTIONS ≤ i → All IsFew (take i OPTIONS) → (name : OptionName) → IsFew name
+  each_few i past few = each_listed IsFew (subst (All IsFew) (take_all i OPTIONS past) few)
+
+  pub all_full : (items : Found) (i : ℕ) → items ≡ options → length items ≤ i → All (λ option. IsNotEmpty option.1.now) (take i options) → All (λ option. IsNotEmpty option.1) (map view options)
+  all_full items i same past full =
+      let past_them : length options ≤ i = omega (arith, ap length same, past) in
+      All-map (λ option. IsNotEmpty option.1) view options (subst (All (λ option. IsNotEmpty option.1.now)) (take_all i options past_them) full)

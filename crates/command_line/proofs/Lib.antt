@@ -4,4 +4,5 @@ pub mod ReadingLaws
 pub mod CheckLaws
 pub mod TaskLaws
 pub mod AskLaws
+pub mod CauseLaws
 pub mod LimitLaws

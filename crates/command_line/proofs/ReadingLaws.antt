@@ -1,14 +1,16 @@
 -- what readers of texts and of words answer
-use Rattle.std.proofs.Common.{Bor, List, [], ◌∷◌, ◌++◌, ◌≡◌, ◌≢◌, ◌∙◌, sym, ap, ap₂, refl, arith, Option, Some, None, subst, All, Bool, true, false, not, codes, append_assoc, length, ◌<◌}
-use Rattle.lists.proofs.Words.{flat_map, bytes_eq, bytes_eq-Decides, append-nil, All-append, All-cons, All-head, All-nil, flat_map-append}
+use Rattle.std.proofs.Common.{Bor, List, [], ◌∷◌, ◌++◌, ◌≡◌, ◌≢◌, ◌∙◌, sym, ap, ap₂, refl, arith, Option, Some, None, subst, true, false, codes, append_assoc, length, ◌<◌}
+use Rattle.lists.proofs.Words.{flat_map, bytes_eq, bytes_eq-Decides, append-nil, All-append, All-cons, All-nil, flat_map-append}
 use Rattle.command_line.specs.declared.argument.ReadArgument.{ReadArgument}
 use Rattle.command_line.specs.declared.argument.ReadArgument.TheVariants.{Setting, Position}
+use Rattle.command_line.specs.declared.cause.WordsCause.{WordsCause}
+use Rattle.command_line.specs.declared.cause.WordsCause.TheVariants.{NoOption, NoValue, DashedValue}
 use Rattle.command_line.specs.declared.option_name.OptionName.{OptionName}
-use Rattle.command_line.specs.inside.Arguments.{BeginWith, BeginWithNone, HasRead, option_word, options_read, positions_read}
+use Rattle.command_line.specs.inside.Arguments.{AreLast, BeginWith, HasRead, option_word, options_read, positions_read}
 use Rattle.command_line.specs.OptionNames.{Text}
-use Rattle.command_line.specs.Spelling.{Argument, in_one_word, in_two_words, positional, name_word, whole_word, words_of, last_words, IsPlain, IsClearlySpelled, Given, AreSpelled, options_in}
+use Rattle.command_line.specs.Spelling.{Argument, in_one_word, in_two_words, positional, name_word, whole_word, words_of, IsPlain, IsClearlySpelled, Given, AreSpelled, options_in}
 use Rattle.command_line.specs.Spelling.{positions_in}
-use Rattle.command_line.proofs.SpellingLaws.{plain_has_no_dashes, whole_is_no_name, Follows, follow}
+use Rattle.command_line.specs.WordsCauses.{BeginWithNone, no_option, no_value, dashed_value, IsNoOption, StopFor}
 
 -- ---- the first argument of words
 
@@ -35,17 +37,29 @@ fewer words rest read first = go first.argument first.words_are where
   go (in_one_word n v) e = omega (arith, ap length e)
   go other e = omega (arith, ap length e)
 
-pub no_option_first : (words rest : List Text) (word : Text) → words ≡ word ∷ rest → (IsPlain word → ⊥) → ((name : OptionName) (value : Option Text) → word ≢ option_word name value)
-    → BeginWithNone words
-no_option_first words rest word e not_plain no_option (in_one_word n v) more clear f = let w : word ≡ whole_word n v = let s = sym e ∙ f in cc s in no_option n (Some v) w
-no_option_first words rest word e not_plain no_option (in_two_words n v) more clear f = let w : word ≡ name_word n = let s = sym e ∙ f in cc s in no_option n None w
-no_option_first words rest word e not_plain no_option (positional t) more clear f = let w : t ≡ word = let s = sym e ∙ f in cc s in not_plain (subst IsPlain w clear)
+-- the two dashes behind all arguments
+pub dashes_are_last : (words rest : List Text) (word : Text) → words ≡ word ∷ rest → true ≡ bytes_eq word (codes "--") → AreLast words
+dashes_are_last words rest word e is = (Some rest, e ∙ ap (λ w. w ∷ rest) ((bytes_eq-Decides word (codes "--")).0 (sym is)))
 
-pub no_value_first : (words rest : List Text) (word : Text) (name : OptionName) → words ≡ word ∷ rest → word ≡ name_word name
-    → ((value : Text) (more : List Text) → rest ≡ value ∷ more → IsPlain value → ⊥) → BeginWithNone words
-no_value_first words rest word name e is no_value (in_one_word n v) more clear f = let w : word ≡ whole_word n v = let s = sym e ∙ f in cc s in whole_is_no_name n name v (sym w ∙ is)
-no_value_first words rest word name e is no_value (in_two_words n v) more clear f = let r : rest ≡ v ∷ more = let s = sym e ∙ f in cc s in no_value v more r clear
-no_value_first words rest word name e is no_value (positional t) more clear f = let w : t ≡ word = let s = sym e ∙ f in cc s in plain_has_no_dashes t _ clear (w ∙ is)
+pub no_option_first : (words rest : List Text) (word told : Text) → words ≡ word ∷ rest → (IsPlain word → ⊥) → false ≡ bytes_eq word (codes "--")
+    → ((name : OptionName) (value : Option Text) → word ≢ option_word name value) → told ≡ word → BeginWithNone words (NoOption told)
+no_option_first words rest word told e not_plain not_dashes none same =
+    let no : IsNoOption word = record {
+      not_plain = not_plain;
+      not_last = λ dashes. let s : false ≡ true = not_dashes ∙ (bytes_eq-Decides word (codes "--")).1 dashes in cc s;
+      no_name = λ name. none name None;
+      no_setting = λ name value. none name (Some value);
+    } in
+    subst (λ t. BeginWithNone words (NoOption t)) (sym same) (no_option e no)
+
+pub no_value_first : (words rest : List Text) (word : Text) (name : OptionName) → words ≡ word ∷ rest → length rest ≡ 0 → word ≡ name_word name → BeginWithNone words (NoValue name)
+no_value_first words [] word name e none is = no_value (e ∙ ap (λ w. w ∷ []) is)
+no_value_first words (value ∷ more) word name e none is = absurd (omega arith)
+
+pub dashed_first : (words rest more : List Text) (word value told : Text) (name : OptionName) → words ≡ word ∷ rest → rest ≡ value ∷ more → word ≡ name_word name → (IsPlain value → ⊥) → told ≡ value
+    → BeginWithNone words (DashedValue name told)
+dashed_first words rest more word value told name e next is dashed same =
+    subst (λ t. BeginWithNone words (DashedValue name t)) (sym same) (dashed_value (e ∙ ap (λ w. w ∷ rest) is ∙ ap (λ r. name_word name ∷ r) next) dashed)
 
 -- ---- arguments one after the other
 
@@ -93,27 +107,18 @@ last_read words rest positions given whole read e is = record {
   given_is = is ∙ cc (read.options, read.positions);
 }
 
-pub not_spelled : (words rest more : List Text) (word : Text) (given : Given) → HasRead words given rest → BeginWithNone rest → rest ≡ word ∷ more → word ≢ codes "--" → (other : Given)
-    → AreSpelled words other → ⊥
-not_spelled words rest more word given read none e other_word other spelled = go f.more f.clear f.rest_is where
-  f : Follows rest read.arguments spelled.arguments spelled.last
-  f = follow read.arguments spelled.arguments rest spelled.last read.clear spelled.clear (sym read.words_are ∙ spelled.words_are)
+-- words that begin with none stop there
+pub stop_for : (words rest : List Text) (given : Given) (cause : WordsCause) → HasRead words given rest → BeginWithNone rest cause → StopFor words cause
+stop_for words rest given cause read none = record { arguments = read.arguments; clear = read.clear; rest = rest; words_are = read.words_are; stop = none }
 
-  no_end : (last : Option (List Text)) → rest ≡ last_words last → ⊥
-  no_end None r = let s = sym e ∙ r in cc s
-  no_end (Some ws) r = let w : word ≡ codes "--" = let s = sym e ∙ r in cc s in other_word w
+-- the last words where there are none, and where there are some
+pub nothing_last : (words rest : List Text) (given : Given) → HasRead words given rest → length rest ≡ 0 → AreSpelled words given
+nothing_last words [] given read e = all_read words given read
+nothing_last words (word ∷ rest) given read e = absurd (omega arith)
 
-  go : (arguments : List Argument) → All IsClearlySpelled arguments → rest ≡ flat_map words_of arguments ++ last_words spelled.last → ⊥
-  go [] clear r = no_end spelled.last r
-  go (a ∷ others) clear r =
-      none a (flat_map words_of others ++ last_words spelled.last) (All-head IsClearlySpelled a others clear) (r ∙ append_assoc (words_of a) (flat_map words_of others) (last_words spelled.last))
-
--- texts that are told apart differ, and others are one
-pub differ : (xs ys : Text) → true ≡ not (bytes_eq xs ys) → xs ≢ ys
-differ xs ys h e = let same : bytes_eq xs ys ≡ true = (bytes_eq-Decides xs ys).1 e in let s : true ≡ false = h ∙ ap not same in cc s
-
-pub same_text : (xs ys : Text) → false ≡ not (bytes_eq xs ys) → xs ≡ ys
-same_text xs ys h = go (bytes_eq xs ys) refl h where
-  go : (b : Bool) → bytes_eq xs ys ≡ b → false ≡ not b → xs ≡ ys
-  go true e f = (bytes_eq-Decides xs ys).0 e
-  go false e f = cc f
+pub dashes_last : (words rest more : List Text) (word : Text) (given whole : Given) → HasRead words given rest → AreLast rest → rest ≡ word ∷ more
+    → whole ≡ record { options = given.options; positions = given.positions ++ more } → AreSpelled words whole
+dashes_last words rest more word given whole read (None, none) e is = let s = sym none ∙ e in cc s
+dashes_last words rest more word given whole read (Some positions, last) e is =
+    let same : positions ≡ more = let s = sym last ∙ e in cc s in
+    last_read words rest positions given whole read last (is ∙ ap (λ p. record { options = given.options; positions = given.positions ++ p }) (sym same))

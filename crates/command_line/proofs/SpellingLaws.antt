@@ -47,7 +47,7 @@ has_no_equals : (n : OptionName) → list_any is_equals (name_word n) ≡ false
 has_no_equals name =
     elim name as (λ n. list_any is_equals (name_word n) ≡ false) [ Map ↦ refl | Top ↦ refl | Tile ↦ refl | Workers ↦ refl | Layer ↦ refl | Datatype ↦ refl | Radius ↦ refl | Generate ↦ refl ]
 
-no_nameless : (n : OptionName) → name_of n ≡ [] → ⊥
+pub no_nameless : (n : OptionName) → name_of n ≡ [] → ⊥
 no_nameless n e = let s : Some n ≡ None = sym (named n) ∙ ap option_named e in cc s
 
 -- ---- first words

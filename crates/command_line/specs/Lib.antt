@@ -4,5 +4,6 @@ pub mod Numbers
 pub mod RequestLimits
 pub mod Requests
 pub mod WordsFaults
+pub mod WordsCauses
 -- what only this crate's proofs and private contracts cite
 pub mod inside

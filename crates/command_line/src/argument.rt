@@ -1,11 +1,16 @@
-ghost use Rattle.std.specs.Prelude.{◌≡◌, ◌≢◌, ◌↔◌, Option, IsTrue, IfSome, IfNone, MatchOption, option_map};
-ghost use Rattle.command_line.specs.inside.Arguments.{BeginWith, BeginWithNone, option_word};
+ghost use Rattle.std.specs.Prelude.{◌≡◌, ◌≢◌, ◌↔◌, Option, IsTrue, IfSome, IfNone, IfOk, IfErr, MatchOption, option_map};
+ghost use Rattle.command_line.specs.inside.Arguments.{AreLast, BeginWith, option_word};
+ghost use Rattle.command_line.specs.inside.WordsRefusals.{HasCause};
 ghost use Rattle.command_line.specs.OptionNames.{Text};
 ghost use Rattle.command_line.specs.Spelling.{IsPlain};
+ghost use Rattle.command_line.specs.WordsCauses.{BeginWithNone};
 ghost use Rattle.command_line.specs.declared.option_name.OptionName.{OptionName};
 
+use crate::cause::{Refusal, WordsCause};
+use crate::name::name_from;
 use crate::option_name::OptionName;
 use crate::word::Word;
+use std::alloc::Global;
 
 /// An argument, as it was read.
 #[derive(Clone, Copy)]
@@ -16,8 +21,8 @@ pub enum ReadArgument<'a> {
     Position(&'a str),
 }
 
-/// Whether the word is not taken for an option.
-fn is_plain(word: &str) -> bool
+/// Whether the word is not taken for an option: where it begins with a dash, it is the dash alone.
+pub fn is_plain(word: &str) -> bool
     ensures { IsTrue result ↔ IsPlain word.now }
 {
     !word.starts_with('-') || word == "-"
@@ -35,23 +40,39 @@ fn option_in(word: &str) -> Option<(OptionName, Option<&str>)>
     }
 }
 
-/// The argument with which the words begin, and the words after it.
-pub fn first_argument(words: &[Word]) -> Option<(ReadArgument<'_>, &[Word])>
-    ensures { MatchOption result (BeginWithNone words.now) (λ found. BeginWith words.now found.0 found.1.now) }
+/// The argument with which the words begin, and the words after it. There is none at the end of the arguments: where no words
+/// are left, or the first is two dashes.
+pub fn first_argument(
+    alloc: Global,
+    words: &[Word],
+) -> Result<Option<(ReadArgument<'_>, &[Word])>, Refusal>
+    ensures argument { IfOk result (λ first.
+        MatchOption first (AreLast words.now) (λ found. BeginWith words.now found.0 found.1.now)) }
+    ensures cause { IfErr result (HasCause (BeginWithNone words.now)) }
 {
-    let (word, rest) = words.split_first()?;
+    let Some((word, rest)) = words.split_first() else {
+        return Ok(None);
+    };
     let word = word.as_str();
     if is_plain(word) {
-        return Some((ReadArgument::Position(word), rest));
+        return Ok(Some((ReadArgument::Position(word), rest)));
     }
-    let (name, value) = option_in(word)?;
+    if word == "--" {
+        return Ok(None);
+    }
+    let Some((name, value)) = option_in(word) else {
+        return Err(Refusal::Words(WordsCause::NoOption(name_from(alloc, word)?)));
+    };
     if let Some(value) = value {
-        return Some((ReadArgument::Setting(name, value), rest));
+        return Ok(Some((ReadArgument::Setting(name, value), rest)));
     }
-    let (value, rest) = rest.split_first()?;
+    let Some((value, rest)) = rest.split_first() else {
+        return Err(Refusal::Words(WordsCause::NoValue(name)));
+    };
     let value = value.as_str();
     if !is_plain(value) {
-        return None;
+        let value = name_from(alloc, value)?;
+        return Err(Refusal::Words(WordsCause::DashedValue(name, value)));
     }
-    Some((ReadArgument::Setting(name, value), rest))
+    Ok(Some((ReadArgument::Setting(name, value), rest)))
 }

@@ -2,7 +2,8 @@ ghost use Rattle.std.specs.Prelude.{◌≡◌, ◌++◌, ◌∷◌, [], IfOk, On
 ghost use Rattle.command_line.specs.Spelling.{whole_word as option_in_one};
 
 use crate::argument::{ReadArgument, first_argument};
-use crate::fault::WordsFault;
+use crate::cause::{Refusal, WordsCause};
+use crate::name::name_from;
 use crate::option_name::{OPTIONS, OptionName};
 use crate::word::Word;
 use std::alloc::{AllocError, Global};
@@ -17,14 +18,17 @@ pub struct Arguments<'a> {
 }
 
 impl<'a> Arguments<'a> {
-    ghost use Rattle.std.specs.Prelude.{◌↔◌, ◌==◌, Err, IsTrue, count_by, length, nat_le, not};
-    ghost use Rattle.std.specs.List.{list_all};
+    ghost use Rattle.std.specs.Prelude.{ℕ, ◌≤◌, ◌<◌, ◌==◌, [], All, Contains, IfErr, IfNone, IfSome, count_by, length};
+    ghost use Rattle.std.specs.List.{list_any};
     ghost use Rattle.std.specs.Str.{bytes_eq};
     ghost use Rattle.command_line.specs.OptionNames.{name_of};
     ghost use Rattle.command_line.specs.inside.Arguments.{AreSingle, given_by, one_form, words_of_options};
     ghost use Rattle.command_line.specs.inside.Arguments.{options_read, positions_read};
-    ghost use Rattle.command_line.specs.Requests.{HasNoEmptyText};
-    ghost use Rattle.command_line.specs.Spelling.{AreSpelled, Given};
+    ghost use Rattle.command_line.specs.inside.WordsRefusals.{HasCause};
+    ghost use Rattle.command_line.specs.Requests.{HasNoEmptyText, IsNotEmpty, values_of};
+    ghost use Rattle.command_line.specs.Spelling.{AreSpelled};
+    ghost use Rattle.command_line.specs.WordsCauses.{IsCauseIn, StopFor};
+    ghost use Rattle.command_line.specs.declared.option_name.OptionName.{OptionName};
 
     /// The arguments with one more.
     fn push(&mut self, argument: ReadArgument<'a>) -> Result<(), AllocError>
@@ -53,49 +57,46 @@ impl<'a> Arguments<'a> {
         Ok(())
     }
 
-    /// The arguments that the words spell. `Usage` comes exactly where they spell none.
-    pub fn read(alloc: Global, words: &'a [Word]) -> Result<Arguments<'a>, WordsFault>
+    /// The arguments that the words spell, or why they spell none.
+    pub fn read(alloc: Global, words: &'a [Word]) -> Result<Arguments<'a>, Refusal>
         ensures read { IfOk result (λ arguments. AreSpelled words.now (given_by arguments)) }
-        ensures usage { result ≡ Err WordsFault.Usage → (given : Given) → AreSpelled words.now given → ⊥ }
+        ensures cause { IfErr result (HasCause (StopFor words.now)) }
     {
         let mut arguments = Arguments {
             options: Vec::new(alloc),
             positions: Vec::new(alloc),
         };
         let mut rest = words;
-        while let Some((argument, after)) = first_argument(rest) {
+        while let Some((argument, after)) = first_argument(alloc, rest)? {
             arguments.push(argument)?;
             rest = after;
         }
-        let Some((word, positions)) = rest.split_first() else {
+        // what is left begins with two dashes
+        let Some((_, positions)) = rest.split_first() else {
             return Ok(arguments);
         };
-        if word.as_str() != "--" {
-            return Err(WordsFault::Usage);
-        }
         arguments.push_positions(positions)?;
         Ok(arguments)
     }
 
-    /// Whether no value of an option is empty.
-    fn has_no_empty_value(&self) -> bool
-        ensures { result ≡ list_all (λ option. not (length option.1.now == 0)) self.now.options.items }
+    /// The first option whose value is empty.
+    fn empty_option(&self) -> Option<OptionName>
+        ensures some { IfSome result (λ name. Contains (given_by self.now).options (name, [])) }
+        ensures none { IfNone result (All (λ option. IsNotEmpty option.1) (given_by self.now).options) }
     {
-        self.options.iter().all(|option| !option.1.is_empty())
+        for &(name, value) in &self.options {
+            if value.is_empty() {
+                return Some(name);
+            }
+        }
+        None
     }
 
-    /// Whether no positional word is empty.
-    fn has_no_empty_position(&self) -> bool
-        ensures { result ≡ list_all (λ word. not (length word.now == 0)) self.now.positions.items }
+    /// Whether a positional word is empty.
+    fn has_empty_position(&self) -> bool
+        ensures { result ≡ list_any (λ word. length word.now == 0) self.now.positions.items }
     {
-        self.positions.iter().all(|word| !word.is_empty())
-    }
-
-    /// Whether no text is empty.
-    pub fn has_no_empty_text(&self) -> bool
-        ensures { IsTrue result ↔ HasNoEmptyText (given_by self.now) }
-    {
-        self.has_no_empty_value() && self.has_no_empty_position()
+        self.positions.iter().any(|word| word.is_empty())
     }
 
     /// How often the option is given.
@@ -108,19 +109,41 @@ impl<'a> Arguments<'a> {
             .count()
     }
 
-    /// Whether each option is given once at most.
-    fn has_single_options(&self) -> bool
-        ensures { result ≡ list_all (λ name. nat_le (count_by (λ option. bytes_eq (name_of option.0) (name_of name))
-            self.now.options.items) 1) OPTIONS }
+    /// The first of all options that is given more than once.
+    fn repeated_option(&self) -> Option<OptionName>
+        ensures some { IfSome result (λ name. 1 < length (values_of (given_by self.now).options name)) }
+        ensures none { IfNone result ((name : OptionName) → length (values_of (given_by self.now).options name) ≤ 1) }
     {
-        OPTIONS.iter().all(|name| self.count(*name) <= 1)
+        let options: &[OptionName] = &OPTIONS;
+        for name in options {
+            if self.count(*name) > 1 {
+                return Some(*name);
+            }
+        }
+        None
     }
 
-    /// Whether each option and the positional word are given once at most.
-    pub fn are_single(&self) -> bool
-        ensures { IsTrue result ↔ AreSingle (given_by self.now) }
+    /// Sees whether no text is empty, and each option and the positional word are given once at most.
+    pub fn check(&self, alloc: Global) -> Result<(), Refusal>
+        ensures texts { OnOk result (HasNoEmptyText (given_by self.now)) }
+        ensures single { OnOk result (AreSingle (given_by self.now)) }
+        ensures cause { IfErr result (HasCause (IsCauseIn (given_by self.now))) }
     {
-        self.positions.len() <= 1 && self.has_single_options()
+        if let Some(name) = self.empty_option() {
+            return Err(Refusal::Words(WordsCause::EmptyValue(name)));
+        }
+        if self.has_empty_position() {
+            return Err(Refusal::Words(WordsCause::EmptyLayout));
+        }
+        if let Some(name) = self.repeated_option() {
+            return Err(Refusal::Words(WordsCause::Twice(name)));
+        }
+        if let [one, other, ..] = self.positions.as_slice() {
+            let one = name_from(alloc, one)?;
+            let other = name_from(alloc, other)?;
+            return Err(Refusal::Words(WordsCause::TwoLayouts(one, other)));
+        }
+        Ok(())
     }
 
     /// The options, each in one word.

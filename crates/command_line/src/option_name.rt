@@ -1,3 +1,5 @@
+use crate::range::{COLUMNS, EDGES, LAYERS, NumberRange, RADII, WORKERS};
+
 /// An option of the command, which takes one text as its value.
 #[derive(Clone, Copy)]
 pub enum OptionName {
@@ -31,9 +33,25 @@ pub const OPTIONS: [OptionName; 8] = [
     OptionName::Generate,
 ];
 
+/// The options of one metal.
+pub const METAL_OPTIONS: [OptionName; 3] = [
+    OptionName::Layer,
+    OptionName::Datatype,
+    OptionName::Radius,
+];
+
+/// The options that are about files, and stand beside no generated layout.
+pub const FILE_OPTIONS: [OptionName; 5] = [
+    OptionName::Map,
+    OptionName::Top,
+    OptionName::Layer,
+    OptionName::Datatype,
+    OptionName::Radius,
+];
+
 impl OptionName {
     ghost use Rattle.std.specs.Prelude.{◌≡◌, ◌≢◌, IfSome, IfNone};
-    ghost use Rattle.command_line.specs.OptionNames.{name_of};
+    ghost use Rattle.command_line.specs.OptionNames.{name_of, range_of};
     ghost use Rattle.command_line.specs.declared.option_name.OptionName.{OptionName};
 
     /// Its name, as it stands behind two dashes.
@@ -49,6 +67,20 @@ impl OptionName {
             OptionName::Datatype => "datatype",
             OptionName::Radius => "radius",
             OptionName::Generate => "generate",
+        }
+    }
+
+    /// The numbers that it takes, where its value is a number. That of `map` and `top` is a name.
+    pub fn range(self) -> Option<NumberRange>
+        ensures { result ≡ range_of self }
+    {
+        match self {
+            OptionName::Map | OptionName::Top => None,
+            OptionName::Tile => Some(EDGES),
+            OptionName::Workers => Some(WORKERS),
+            OptionName::Layer | OptionName::Datatype => Some(LAYERS),
+            OptionName::Radius => Some(RADII),
+            OptionName::Generate => Some(COLUMNS),
         }
     }
 

@@ -1,13 +1,13 @@
-ghost use Rattle.std.specs.Prelude.{◌≡◌, IfOk, List, MatchResult, map, string_bytes};
+ghost use Rattle.std.specs.Prelude.{◌≡◌, IfErr, IfOk, List, map, string_bytes};
+ghost use Rattle.clap.specs.Values.{kind_of};
 ghost use Rattle.clap.specs.Words.{app_of, with_rule};
 ghost use Rattle.command_line.specs.inside.Arguments.{AreSingle, one_form};
 ghost use Rattle.command_line.specs.inside.Command.{HasWhatIsGiven, rule_of_option, whole_command};
 ghost use Rattle.command_line.specs.Spelling.{Given};
 
-use crate::fault::WordsFault;
 use crate::option_name::{OPTIONS, OptionName};
 use clap::error::ErrorKind;
-use clap::{Arg, ArgMatches, Command};
+use clap::{Arg, ArgMatches, Command, Error};
 use std::alloc::{AllocError, Global};
 
 /// The name by which the positional word is asked for.
@@ -37,24 +37,12 @@ fn command<'a>(alloc: Global) -> Result<Command<'a>, AllocError>
     command.arg(Arg::new(alloc, LAYOUT))
 }
 
-/// What an error of `clap` is to the reader of words.
-fn fault_of(kind: ErrorKind) -> WordsFault
-    ensures { kind ≡ ErrorKind.OutOfMemory → result ≡ WordsFault.Memory }
-{
-    match kind {
-        ErrorKind::OutOfMemory => WordsFault::Memory,
-        _ => WordsFault::Usage,
-    }
-}
-
 /// What `clap` reads in words of the one form, where its only error is that it is out of memory.
-pub fn parse<'a>(alloc: Global, words: &'a [String]) -> Result<ArgMatches<'a>, WordsFault>
-    ensures { (given : Given) → AreSingle given → map string_bytes words.now ≡ one_form given →
-        MatchResult result (HasWhatIsGiven given) (λ fault. fault ≡ WordsFault.Memory) }
+pub fn parse<'a>(alloc: Global, words: &'a [String]) -> Result<ArgMatches<'a>, Error>
+    ensures matches { (given : Given) → AreSingle given → map string_bytes words.now ≡ one_form given →
+        IfOk result (HasWhatIsGiven given) }
+    ensures memory { (given : Given) → AreSingle given → map string_bytes words.now ≡ one_form given →
+        IfErr result (λ error. kind_of error ≡ ErrorKind.OutOfMemory) }
 {
-    let command = command(alloc)?;
-    match command.try_get_matches_from(words) {
-        Ok(matches) => Ok(matches),
-        Err(error) => Err(fault_of(error.kind())),
-    }
+    command(alloc)?.try_get_matches_from(words)
 }

@@ -1,50 +1,34 @@
-ghost use Rattle.std.specs.Prelude.{◌≡◌, ◌≢◌, ◌↔◌, [], ◌∷◌, ℕ, Err, MatchBool, IfOk, IfSome, IfNone, IsTrue, map, option_map, option_to_list};
+ghost use Rattle.std.specs.Prelude.{◌≡◌, ◌≢◌, ◌↔◌, [], ◌∷◌, ℕ, All, Contains, Err, IfErr, IfNone, IfOk, IfSome, MatchBool, MatchOption, Some, option_to_list};
 ghost use Rattle.command_line.specs.inside.Arguments.{AreSingle, given_by};
 ghost use Rattle.command_line.specs.inside.Command.{positions_found, values_found};
-ghost use Rattle.command_line.specs.inside.Readings.{AreNumbers, AreNumbersLeftOut, texts_of};
+ghost use Rattle.command_line.specs.inside.Readings.{AreNumbers, texts_of};
+ghost use Rattle.command_line.specs.inside.WordsRefusals.{HasCause};
+ghost use Rattle.command_line.specs.OptionNames.{range_of};
 ghost use Rattle.command_line.specs.Requests.{Ask, GiveNoOther, IsNumberOnce, IsNumberOrDefault, IsRequestOf, IsTask, IsTextIfGiven, options_for, values_of};
+ghost use Rattle.command_line.specs.WordsCauses.{IsCause, IsCauseOf, metal_options};
 ghost use Rattle.command_line.specs.declared.request.Request.{Request};
-ghost use Rattle.command_line.specs.declared.task.Task.{Task};
 
 use crate::arguments::Arguments;
+use crate::cause::{Refusal, WordsCause};
 use crate::fault::WordsFault;
+use crate::name::name_from;
 use crate::number::number;
-use crate::option_name::OptionName;
+use crate::option_name::{FILE_OPTIONS, METAL_OPTIONS, OptionName};
 use crate::parse::{LAYOUT, parse};
+use crate::range::{COLUMNS, EDGES, LAYERS, NumberRange, RADII, WORKERS};
 use crate::request::Request;
 use crate::task::Task;
 use crate::word::Word;
 use clap::ArgMatches;
+use clap::error::ErrorKind;
 use lists::Name;
 use std::alloc::{AllocError, Global};
-
-/// The greatest layer and the greatest datatype.
-const GREATEST_LAYER: u32 = 65_535;
-
-/// The greatest radius, in database units.
-const GREATEST_RADIUS: u32 = 1_000_000;
-
-/// The most columns of a generated layout.
-const MOST_COLUMNS: u32 = 500;
-
-/// The greatest edge of a tile, in database units.
-const GREATEST_EDGE: u32 = 1_000_000_000;
 
 /// The edge of a tile where none is given, in database units.
 const DEFAULT_EDGE: u32 = 65_536;
 
-/// The greatest number of workers.
-const GREATEST_WORKERS: u32 = 64;
-
 /// How many workers there are where no number is given.
 const DEFAULT_WORKERS: u32 = 4;
-
-/// The name of these bytes.
-fn name(alloc: Global, text: &str) -> Result<Name, AllocError>
-    ensures { IfOk result (λ name. name ≡ text.now) }
-{
-    Ok(Name::from_vec(Vec::from_slice(alloc, text.as_bytes())?))
-}
 
 /// The text of an option, if it is given.
 fn text_of<'a>(matches: &ArgMatches<'a>, name: OptionName) -> Option<&'a str>
@@ -59,48 +43,82 @@ fn name_if_given(alloc: Global, text: Option<&str>) -> Result<Option<Name>, Allo
 {
     match text {
         None => Ok(None),
-        Some(text) => Ok(Some(name(alloc, text)?)),
+        Some(text) => Ok(Some(name_from(alloc, text)?)),
     }
 }
 
-/// The number of an option that must be given.
-fn number_given(matches: &ArgMatches<'_>, name: OptionName, least: u32, most: u32) -> Option<u32>
-    ensures some { IfSome result (IsNumberOnce least most (values_found matches.now name)) }
-    ensures none { IfNone result ((n : ℕ) → IsNumberOnce least most (values_found matches.now name) n → ⊥) }
+/// The number of an option that takes the numbers of this range, if it is given.
+fn number_given(
+    alloc: Global,
+    matches: &ArgMatches<'_>,
+    name: OptionName,
+    range: NumberRange,
+) -> Result<Option<u32>, Refusal>
+    requires { range_of name ≡ Some range }
+    ensures number { IfOk result (λ given. MatchOption given (values_found matches.now name ≡ [])
+        (IsNumberOnce range.least range.most (values_found matches.now name))) }
+    ensures cause { IfErr result (HasCause (IsCauseOf (values_found matches.now) (positions_found matches.now))) }
 {
-    let text = text_of(matches, name)?;
-    number(text, least, most)
+    let Some(text) = text_of(matches, name) else {
+        return Ok(None);
+    };
+    let Some(number) = number(text, range) else {
+        let text = name_from(alloc, text)?;
+        return Err(Refusal::Words(WordsCause::BadNumber(name, text)));
+    };
+    Ok(Some(number))
 }
 
-/// The number of an option that may be left out: from 1 to `most`.
-fn number_or(matches: &ArgMatches<'_>, name: OptionName, most: u32, default: u32) -> Option<u32>
-    ensures some { IfSome result (IsNumberOrDefault 1 most default (values_found matches.now name)) }
-    ensures none { IfNone result ((n : ℕ) → IsNumberOrDefault 1 most default (values_found matches.now name) n → ⊥) }
+/// The number of an option that may be left out.
+fn number_or(
+    alloc: Global,
+    matches: &ArgMatches<'_>,
+    name: OptionName,
+    range: NumberRange,
+    default: u32,
+) -> Result<u32, Refusal>
+    requires { range_of name ≡ Some range }
+    ensures number { IfOk result (IsNumberOrDefault range.least range.most default (values_found matches.now name)) }
+    ensures cause { IfErr result (HasCause (IsCauseOf (values_found matches.now) (positions_found matches.now))) }
 {
-    match text_of(matches, name) {
-        None => Some(default),
-        Some(text) => number(text, 1, most),
-    }
+    let given = number_given(alloc, matches, name, range)?;
+    Ok(given.unwrap_or(default))
+}
+
+/// The number of an option of one metal.
+fn metal_number(
+    alloc: Global,
+    matches: &ArgMatches<'_>,
+    name: OptionName,
+    range: NumberRange,
+) -> Result<u32, Refusal>
+    requires range { range_of name ≡ Some range }
+    requires metal { Contains metal_options name }
+    requires no_map { values_found matches.now OptionName.Map ≡ [] }
+    requires no_columns { values_found matches.now OptionName.Generate ≡ [] }
+    ensures number { IfOk result (IsNumberOnce range.least range.most (values_found matches.now name)) }
+    ensures cause { IfErr result (HasCause (IsCauseOf (values_found matches.now) (positions_found matches.now))) }
+{
+    let Some(number) = number_given(alloc, matches, name, range)? else {
+        return Err(Refusal::Words(WordsCause::Missing(name)));
+    };
+    Ok(number)
 }
 
 /// A layer, a datatype and a radius.
-fn numbers(matches: &ArgMatches<'_>) -> Option<(u16, u16, u32)>
-    ensures some { IfSome result (AreNumbers (values_found matches.now)) }
-    ensures none { IfNone result ((numbers : ℕ × ℕ × ℕ) → AreNumbers (values_found matches.now) numbers → ⊥) }
+fn metal_numbers(alloc: Global, matches: &ArgMatches<'_>) -> Result<(u16, u16, u32), Refusal>
+    requires no_map { values_found matches.now OptionName.Map ≡ [] }
+    requires no_columns { values_found matches.now OptionName.Generate ≡ [] }
+    ensures numbers { IfOk result (AreNumbers (values_found matches.now)) }
+    ensures cause { IfErr result (HasCause (IsCauseOf (values_found matches.now) (positions_found matches.now))) }
 {
-    let layer = number_given(matches, OptionName::Layer, 0, GREATEST_LAYER)?;
-    let datatype = number_given(matches, OptionName::Datatype, 0, GREATEST_LAYER)?;
-    let radius = number_given(matches, OptionName::Radius, 1, GREATEST_RADIUS)?;
-    Some((layer as u16, datatype as u16, radius))
-}
-
-/// Whether an option of one metal is given.
-fn has_number(matches: &ArgMatches<'_>) -> bool
-    ensures { IsTrue result ↔ (AreNumbersLeftOut (values_found matches.now) → ⊥) }
-{
-    text_of(matches, OptionName::Layer).is_some()
-        || text_of(matches, OptionName::Datatype).is_some()
-        || text_of(matches, OptionName::Radius).is_some()
+    let Some(_) = first_given(matches, &METAL_OPTIONS) else {
+        return Err(Refusal::Words(WordsCause::NoMetals));
+    };
+    let layer = metal_number(alloc, matches, OptionName::Layer, LAYERS)?;
+    let datatype = metal_number(alloc, matches, OptionName::Datatype, LAYERS)?;
+    let radius = metal_number(alloc, matches, OptionName::Radius, RADII)?;
+    Ok((layer as u16, datatype as u16, radius))
 }
 
 /// Whether the option is given.
@@ -110,94 +128,93 @@ fn is_given(matches: &ArgMatches<'_>, name: OptionName) -> bool
     text_of(matches, name).is_some()
 }
 
+/// The first of these options that is given.
+fn first_given(matches: &ArgMatches<'_>, names: &[OptionName]) -> Option<OptionName>
+    ensures listed { IfSome result (Contains names.now) }
+    ensures some { IfSome result (λ name. values_found matches.now name ≢ []) }
+    ensures none { IfNone result (All (λ name. values_found matches.now name ≡ []) names.now) }
+{
+    for name in names {
+        if is_given(matches, *name) {
+            return Some(*name);
+        }
+    }
+    None
+}
+
 /// The task of these matches, in which no layout is named.
-fn generated_task(matches: &ArgMatches<'_>) -> Result<Task, WordsFault>
+fn generated_task(alloc: Global, matches: &ArgMatches<'_>) -> Result<Task, Refusal>
     requires { positions_found matches.now ≡ [] }
     ensures task { IfOk result (IsTask (values_found matches.now) (positions_found matches.now)) }
     ensures no_other { IfOk result (λ task. GiveNoOther (values_found matches.now) (options_for task)) }
-    ensures usage { result ≡ Err WordsFault.Usage → (task : Task) →
-        IsTask (values_found matches.now) (positions_found matches.now) task →
-        GiveNoOther (values_found matches.now) (options_for task) → ⊥ }
+    ensures cause { IfErr result (HasCause (IsCauseOf (values_found matches.now) (positions_found matches.now))) }
 {
-    if is_given(matches, OptionName::Map) {
-        return Err(WordsFault::Usage);
-    }
-    if is_given(matches, OptionName::Top) {
-        return Err(WordsFault::Usage);
-    }
-    if has_number(matches) {
-        return Err(WordsFault::Usage);
-    }
-    let Some(n) = number_given(matches, OptionName::Generate, 1, MOST_COLUMNS) else {
-        return Err(WordsFault::Usage);
+    let Some(n) = number_given(alloc, matches, OptionName::Generate, COLUMNS)? else {
+        return Err(Refusal::Words(WordsCause::NoLayout));
     };
+    if let Some(name) = first_given(matches, &FILE_OPTIONS) {
+        return Err(Refusal::Words(WordsCause::BesideGenerate(name)));
+    }
     Ok(Task::Generated { n })
 }
 
 /// The task of these matches, in which the layout of this name is named.
-fn task_on(alloc: Global, matches: &ArgMatches<'_>, layout: &str) -> Result<Task, WordsFault>
+fn task_on(alloc: Global, matches: &ArgMatches<'_>, layout: &str) -> Result<Task, Refusal>
     requires { positions_found matches.now ≡ layout.now ∷ [] }
     ensures task { IfOk result (IsTask (values_found matches.now) (positions_found matches.now)) }
     ensures no_other { IfOk result (λ task. GiveNoOther (values_found matches.now) (options_for task)) }
-    ensures usage { result ≡ Err WordsFault.Usage → (task : Task) →
-        IsTask (values_found matches.now) (positions_found matches.now) task →
-        GiveNoOther (values_found matches.now) (options_for task) → ⊥ }
+    ensures cause { IfErr result (HasCause (IsCauseOf (values_found matches.now) (positions_found matches.now))) }
 {
+    let layout = name_from(alloc, layout)?;
     if is_given(matches, OptionName::Generate) {
-        return Err(WordsFault::Usage);
+        return Err(Refusal::Words(WordsCause::LayoutBesideGenerate(layout)));
     }
     let wanted = text_of(matches, OptionName::Top);
     let top = name_if_given(alloc, wanted)?;
     let Some(map) = text_of(matches, OptionName::Map) else {
-        let Some((layer, datatype, radius)) = numbers(matches) else {
-            return Err(WordsFault::Usage);
-        };
+        let numbers = metal_numbers(alloc, matches)?;
+        let (layer, datatype, radius) = numbers;
         return Ok(Task::OneMetal {
-            layout: name(alloc, layout)?,
+            layout,
             layer,
             datatype,
             radius,
             top,
         });
     };
-    if has_number(matches) {
-        return Err(WordsFault::Usage);
+    if let Some(name) = first_given(matches, &METAL_OPTIONS) {
+        return Err(Refusal::Words(WordsCause::BesideMap(name)));
     }
-    Ok(Task::Mapped {
-        layout: name(alloc, layout)?,
-        map: name(alloc, map)?,
-        top,
-    })
+    let map = name_from(alloc, map)?;
+    Ok(Task::Mapped { layout, map, top })
 }
 
 /// The task of these matches.
-fn task_of(alloc: Global, matches: &ArgMatches<'_>) -> Result<Task, WordsFault>
+fn task_of(alloc: Global, matches: &ArgMatches<'_>) -> Result<Task, Refusal>
     ensures task { IfOk result (IsTask (values_found matches.now) (positions_found matches.now)) }
     ensures no_other { IfOk result (λ task. GiveNoOther (values_found matches.now) (options_for task)) }
-    ensures usage { result ≡ Err WordsFault.Usage → (task : Task) →
-        IsTask (values_found matches.now) (positions_found matches.now) task →
-        GiveNoOther (values_found matches.now) (options_for task) → ⊥ }
+    ensures cause { IfErr result (HasCause (IsCauseOf (values_found matches.now) (positions_found matches.now))) }
 {
     match matches.get_str(LAYOUT) {
         Some(layout) => task_on(alloc, matches, layout),
-        None => generated_task(matches),
+        None => generated_task(alloc, matches),
     }
 }
 
 /// What these matches ask for.
-fn request_of(alloc: Global, matches: &ArgMatches<'_>) -> Result<Request, WordsFault>
+fn request_of(alloc: Global, matches: &ArgMatches<'_>) -> Result<Request, Refusal>
     ensures request { IfOk result (IsRequestOf (values_found matches.now) (positions_found matches.now)) }
-    ensures usage { result ≡ Err WordsFault.Usage → (request : Request) →
-        IsRequestOf (values_found matches.now) (positions_found matches.now) request → ⊥ }
+    ensures cause { IfErr result (HasCause (IsCauseOf (values_found matches.now) (positions_found matches.now))) }
 {
     let task = task_of(alloc, matches)?;
-    let Some(edge) = number_or(matches, OptionName::Tile, GREATEST_EDGE, DEFAULT_EDGE) else {
-        return Err(WordsFault::Usage);
-    };
-    let workers = OptionName::Workers;
-    let Some(workers) = number_or(matches, workers, GREATEST_WORKERS, DEFAULT_WORKERS) else {
-        return Err(WordsFault::Usage);
-    };
+    let edge = number_or(alloc, matches, OptionName::Tile, EDGES, DEFAULT_EDGE)?;
+    let workers = number_or(
+        alloc,
+        matches,
+        OptionName::Workers,
+        WORKERS,
+        DEFAULT_WORKERS,
+    )?;
     Ok(Request {
         task,
         edge,
@@ -206,17 +223,34 @@ fn request_of(alloc: Global, matches: &ArgMatches<'_>) -> Result<Request, WordsF
 }
 
 /// What the arguments ask for.
-fn request_given(alloc: Global, arguments: &Arguments<'_>) -> Result<Request, WordsFault>
+fn request_given(alloc: Global, arguments: &Arguments<'_>) -> Result<Request, Refusal>
     requires { AreSingle (given_by arguments.now) }
     ensures request { let given = given_by arguments.now in
         IfOk result (IsRequestOf (values_of given.options) given.positions) }
-    ensures usage { let given = given_by arguments.now in
-        result ≡ Err WordsFault.Usage → (request : Request) →
-        IsRequestOf (values_of given.options) given.positions request → ⊥ }
+    ensures cause { let given = given_by arguments.now in
+        IfErr result (HasCause (IsCauseOf (values_of given.options) given.positions)) }
 {
     let words = arguments.in_one_form(alloc)?;
-    let matches = parse(alloc, words.as_slice())?;
-    request_of(alloc, &matches)
+    match parse(alloc, words.as_slice()) {
+        Ok(matches) => request_of(alloc, &matches),
+        Err(error) => match error.kind() {
+            ErrorKind::OutOfMemory => Err(Refusal::Memory),
+            _ => unreachable!(),
+        },
+    }
+}
+
+/// What the words of a command ask for, or why they ask for nothing.
+fn read_request(alloc: Global, words: &[Word]) -> Result<Request, Refusal>
+    ensures request { IfOk result (Ask words.now) }
+    ensures cause { IfErr result (HasCause (IsCause words.now)) }
+{
+    if words.is_empty() {
+        return Err(Refusal::Words(WordsCause::NoWords));
+    }
+    let arguments = Arguments::read(alloc, words)?;
+    arguments.check(alloc)?;
+    request_given(alloc, &arguments)
 }
 
 /// What the words of a command ask for. `Usage` comes exactly where they ask for nothing.
@@ -238,12 +272,20 @@ pub fn read_words(alloc: Global, words: &[Word]) -> Result<Request, WordsFault>
     ensures request { IfOk result (Ask words.now) }
     ensures usage { result ≡ Err WordsFault.Usage → (request : Request) → Ask words.now request → ⊥ }
 {
-    let arguments = Arguments::read(alloc, words)?;
-    if !arguments.has_no_empty_text() {
-        return Err(WordsFault::Usage);
+    match read_request(alloc, words) {
+        Ok(request) => Ok(request),
+        Err(Refusal::Words(_)) => Err(WordsFault::Usage),
+        Err(Refusal::Memory) => Err(WordsFault::Memory),
     }
-    if !arguments.are_single() {
-        return Err(WordsFault::Usage);
+}
+
+/// Why the words of a command ask for nothing, where they do. The only error is that no memory is left.
+pub fn cause_of(alloc: Global, words: &[Word]) -> Result<Option<WordsCause>, AllocError>
+    ensures { IfOk result (λ cause. MatchOption cause ((request : Request) × Ask words.now request) (IsCause words.now)) }
+{
+    match read_request(alloc, words) {
+        Ok(_) => Ok(None),
+        Err(Refusal::Words(cause)) => Ok(Some(cause)),
+        Err(Refusal::Memory) => Err(AllocError),
     }
-    request_given(alloc, &arguments)
 }

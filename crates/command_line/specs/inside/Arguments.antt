@@ -1,12 +1,12 @@
 -- inside this crate: what its readers of arguments answer. No definition above rests on it.
-use Rattle.std.specs.Prelude.{List, [], ◌∷◌, ◌++◌, ◌≡◌, ◌≢◌, ◌≤◌, Option, Some, None, length, map, codes, All, flat_map}
+use Rattle.std.specs.Prelude.{List, [], ◌∷◌, ◌++◌, ◌≡◌, ◌≤◌, Option, Some, None, length, map, codes, All, flat_map}
 use Rattle.command_line.specs.declared.argument.ReadArgument.{ReadArgument}
 use Rattle.command_line.specs.declared.argument.ReadArgument.TheVariants.{Setting, Position}
 use Rattle.command_line.specs.declared.arguments.Arguments.{Arguments}
 use Rattle.command_line.specs.declared.option_name.OptionName.{OptionName}
 use Rattle.command_line.specs.OptionNames.{Text}
 use Rattle.command_line.specs.Requests.{values_of}
-use Rattle.command_line.specs.Spelling.{Argument, Given, words_of, name_word, whole_word, IsClearlySpelled, options_in, positions_in}
+use Rattle.command_line.specs.Spelling.{Argument, Given, words_of, name_word, whole_word, last_words, IsClearlySpelled, options_in, positions_in}
 
 -- the word of an option, with its value where it has one
 abbrev pub option_word : OptionName → Option Text → Text
@@ -38,9 +38,9 @@ given_by arguments = record {
   positions = map (λ word. word.now) arguments.positions.items;
 }
 
--- the words begin with no argument
-abbrev pub BeginWithNone : List Text → Type 0
-BeginWithNone words = (argument : Argument) (rest : List Text) → IsClearlySpelled argument → words ≢ words_of argument ++ rest
+-- the words are those behind all arguments
+abbrev pub AreLast : List Text → Type 0
+AreLast words = (last : Option (List Text)) × (words ≡ last_words last)
 
 -- the words begin with arguments that give this, and these are the words after them
 pub record HasRead (words : List Text) (given : Given) (rest : List Text) : Type 0 where

@@ -15,9 +15,3 @@ pub record AreNumbers (values : OptionName → List Text) (numbers : ℕ × ℕ 
   pub layer : IsNumberOnce 0 65535 (values Layer) numbers.0
   pub datatype : IsNumberOnce 0 65535 (values Datatype) numbers.1
   pub radius : IsNumberOnce 1 1000000 (values Radius) numbers.2
-
--- none of them is given
-pub record AreNumbersLeftOut (values : OptionName → List Text) : Type 0 where
-  pub layer : values Layer ≡ []
-  pub datatype : values Datatype ≡ []
-  pub radius : values Radius ≡ []

@@ -6,6 +6,6 @@ returns-clause-some c = record {
   few = omega arith;
   digits = search rules;
   value = search rules;
-  least = c.if-value-least.false;
-  most = c.if-value-most.false;
+  least = c.if-value-range.false;
+  most = c.if-value-range-2.false;
 }

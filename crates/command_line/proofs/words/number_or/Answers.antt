@@ -1,11 +1,5 @@
-use Rattle.lists.proofs.Words.{IfSome_then}
-use Rattle.command_line.specs.Requests.{as_given, left_out}
-use Rattle.command_line.proofs.TaskLaws.{no_text, once}
+use Rattle.command_line.proofs.TaskLaws.{number_or_default}
 use Rattle.command_line.proofs.words.number_or.Goals as goal
 
-pub returns-in-None-clause-some : goal.returns-in-None-clause-some
-returns-in-None-clause-some c = left_out (no_text c.text_of.result _ c.text_of.ensures c.in-None.is)
-
-pub returns-in-Some-clause-some : goal.returns-in-Some-clause-some
-returns-in-Some-clause-some c =
-    IfSome_then c.number.result c.number.ensures.some (λ n is. as_given (once c.text_of.result _ c.text_of.ensures 1 c.args.most c.in-Some.text n c.in-Some.is is))
+pub returns-clause-number : goal.returns-clause-number
+returns-clause-number c = number_or_default c.args.range.least c.args.range.most c.args.default _ c.in_ok-given.given c.unwrap_or.result c.in_ok-given.ensures.number c.unwrap_or.ensures

@@ -1,0 +1,151 @@
+-- words that have a cause why they ask for nothing ask for nothing
+use Rattle.std.proofs.Common.{ℕ, List, [], ◌∷◌, ◌++◌, ◌≡◌, ◌≢◌, ◌∙◌, sym, ap, refl, arith, All, Contains, Some, None, Option, codes, drop, length, subst, append_assoc, false}
+use Rattle.lists.proofs.Words.{flat_map, All-cons, All-contains, All-head, All-nil}
+use Rattle.command_line.specs.declared.cause.WordsCause.{WordsCause}
+use Rattle.command_line.specs.declared.cause.WordsCause.TheVariants.{NoLayout}
+use Rattle.command_line.specs.declared.option_name.OptionName.{OptionName}
+use Rattle.command_line.specs.declared.option_name.OptionName.TheVariants.{Map, Top, Tile, Workers, Layer, Datatype, Radius, Generate}
+use Rattle.command_line.specs.declared.range.NumberRange.{NumberRange}
+use Rattle.command_line.specs.declared.request.Request.{Request}
+use Rattle.command_line.specs.declared.task.Task.{Task}
+use Rattle.command_line.specs.inside.Arguments.{HasRead}
+use Rattle.command_line.specs.Numbers.{IsNumber}
+use Rattle.command_line.specs.OptionNames.{Text, range_of}
+use Rattle.command_line.specs.Requests.{Ask, GiveNoOther, IsNotEmpty, IsNumberOnce, IsNumberOrDefault, as_given as number_given, left_out, IsTask, of_one_metal, of_map, of_generator, options_for, IsRequestOf, is_one_of, permitted, permitted_on_files, values_of}
+use Rattle.command_line.specs.Spelling.{Argument, in_one_word, in_two_words, positional, Given, AreSpelled, IsClearlySpelled, IsPlain, last_words, name_word, whole_word, words_of}
+use Rattle.command_line.specs.WordsCauses.{BeginWithNone, no_option, no_value, dashed_value, StopFor, IsCauseOf, bad_number, no_layout, layout_beside_generate, beside_generate, beside_map, missing, no_metals, IsCauseIn, empty_value, empty_layout, twice, two_layouts, of_values, IsCause, no_words, not_spelled, as_given, file_options, metal_options}
+use Rattle.command_line.proofs.AskLaws.{asks_by_texts, asks_for, asks_once}
+use Rattle.command_line.proofs.ReadingLaws.{all_read, nothing_read}
+use Rattle.command_line.proofs.TaskLaws.{one_is_some}
+use Rattle.command_line.proofs.SpellingLaws.{plain_has_no_dashes, whole_is_no_name, no_nameless, Follows, follow}
+
+-- ---- words that are not spelled
+
+-- words that begin with no argument are not the last words
+not_last : (rest : List Text) (cause : WordsCause) → BeginWithNone rest cause → (last : Option (List Text)) → rest ≡ last_words last → ⊥
+not_last rest cause (no_option e none) None r = let s = sym e ∙ r in cc s
+not_last rest cause (no_option {word = word} e none) (Some ws) r = let dashes : word ≡ codes "--" = let s = sym e ∙ r in cc s in none.not_last dashes
+not_last rest cause (no_value e) None r = let s = sym e ∙ r in cc s
+not_last rest cause (no_value {name = name} e) (Some ws) r =
+    let dashes : name_word name ≡ codes "--" = let s = sym e ∙ r in cc s in no_nameless name (ap (drop 2) dashes)
+not_last rest cause (dashed_value e dashed) None r = let s = sym e ∙ r in cc s
+not_last rest cause (dashed_value {name = name} e dashed) (Some ws) r =
+    let dashes : name_word name ≡ codes "--" = let s = sym e ∙ r in cc s in no_nameless name (ap (drop 2) dashes)
+
+-- and they begin with none
+no_first : (rest more : List Text) (cause : WordsCause) → BeginWithNone rest cause → (argument : Argument) → IsClearlySpelled argument → rest ≡ words_of argument ++ more → ⊥
+no_first rest more cause (no_option {word = word} e none) (in_one_word n v) clear f = let w : word ≡ whole_word n v = let s = sym e ∙ f in cc s in none.no_setting n v w
+no_first rest more cause (no_option {word = word} e none) (in_two_words n v) clear f = let w : word ≡ name_word n = let s = sym e ∙ f in cc s in none.no_name n w
+no_first rest more cause (no_option {word = word} e none) (positional t) clear f = let w : t ≡ word = let s = sym e ∙ f in cc s in none.not_plain (subst IsPlain w clear)
+no_first rest more cause (no_value {name = name} e) (in_one_word n v) clear f = let w : whole_word n v ≡ name_word name = let s = sym e ∙ f in cc s in whole_is_no_name n name v w
+no_first rest more cause (no_value e) (in_two_words n v) clear f = let s = sym e ∙ f in cc s
+no_first rest more cause (no_value {name = name} e) (positional t) clear f = let w : t ≡ name_word name = let s = sym e ∙ f in cc s in plain_has_no_dashes t _ clear w
+no_first rest more cause (dashed_value {name = name} e dashed) (in_one_word n v) clear f =
+    let w : whole_word n v ≡ name_word name = let s = sym e ∙ f in cc s in whole_is_no_name n name v w
+no_first rest more cause (dashed_value {value = value} e dashed) (in_two_words n v) clear f = let w : v ≡ value = let s = sym e ∙ f in cc s in dashed (subst IsPlain w clear)
+no_first rest more cause (dashed_value {name = name} e dashed) (positional t) clear f = let w : t ≡ name_word name = let s = sym e ∙ f in cc s in plain_has_no_dashes t _ clear w
+
+-- words that stop are not spelled
+stop_unspelled : (words : List Text) (cause : WordsCause) → StopFor words cause → (given : Given) → AreSpelled words given → ⊥
+stop_unspelled words cause stops given spelled = go f.more f.clear f.rest_is where
+  f : Follows stops.rest stops.arguments spelled.arguments spelled.last
+  f = follow stops.arguments spelled.arguments stops.rest spelled.last stops.clear spelled.clear (sym stops.words_are ∙ spelled.words_are)
+
+  go : (arguments : List Argument) → All IsClearlySpelled arguments → stops.rest ≡ flat_map words_of arguments ++ last_words spelled.last → ⊥
+  go [] clear r = not_last stops.rest cause stops.stop spelled.last r
+  go (a ∷ others) clear r =
+      no_first stops.rest (flat_map words_of others ++ last_words spelled.last) cause stops.stop a (All-head IsClearlySpelled a others clear)
+      (r ∙ append_assoc (words_of a) (flat_map words_of others) (last_words spelled.last))
+
+-- ---- what options with these values and these positional words ask for
+
+-- of a value that is no number of the range there is no number
+module _ (range : NumberRange) (texts : List Text) (value : Text) (one : texts ≡ value ∷ []) (none : (n : ℕ) → IsNumber range.least range.most value n → ⊥) where
+  not_once : (low high n : ℕ) → Some (record { least = low; most = high }) ≡ Some range → IsNumberOnce low high texts n → ⊥
+  not_once low high n within once =
+      let made : NumberRange = record { least = low; most = high } in
+      let same : made ≡ range = cc within in
+      let text : once.text ≡ value = let s = sym once.once ∙ one in cc s in
+      none n (subst (λ (r : NumberRange). IsNumber r.least r.most value n) same (subst (λ t. IsNumber low high t n) text once.number))
+
+  not_or_default : (low high default n : ℕ) → Some (record { least = low; most = high }) ≡ Some range → IsNumberOrDefault low high default texts n → ⊥
+  not_or_default low high default n within (number_given once) = not_once low high n within once
+  not_or_default low high default n within (left_out e) = one_is_some texts value one e
+
+metal_is_no_map : (name : OptionName) → Contains metal_options name → is_one_of (Map ∷ permitted_on_files) name ≡ false
+metal_is_no_map name listed =
+    let IsOther : OptionName → Type 0 = λ other. is_one_of (Map ∷ permitted_on_files) other ≡ false in
+    All-contains IsOther metal_options name (All-cons IsOther Layer (Datatype ∷ Radius ∷ []) refl (All-cons IsOther Datatype (Radius ∷ []) refl (All-cons IsOther Radius [] refl (All-nil IsOther)))) listed
+
+file_is_no_columns : (name : OptionName) → Contains file_options name → is_one_of (Generate ∷ permitted) name ≡ false
+file_is_no_columns name listed =
+    let IsOther : OptionName → Type 0 = λ other. is_one_of (Generate ∷ permitted) other ≡ false in
+    All-contains IsOther file_options name
+    (All-cons IsOther Map (Top ∷ Layer ∷ Datatype ∷ Radius ∷ []) refl (All-cons IsOther Top (Layer ∷ Datatype ∷ Radius ∷ []) refl (All-cons IsOther Layer (Datatype ∷ Radius ∷ []) refl (All-cons IsOther Datatype (Radius ∷ []) refl (All-cons IsOther Radius [] refl (All-nil IsOther)))))) listed
+
+module _ (values : OptionName → List Text) (positions : List Text) where
+  -- the task of one metal gives each of its options
+  metal_given : (layer datatype radius : ℕ) → IsNumberOnce 0 65535 (values Layer) layer → IsNumberOnce 0 65535 (values Datatype) datatype → IsNumberOnce 1 1000000 (values Radius) radius
+      → (name : OptionName) → Contains metal_options name → values name ≢ []
+  metal_given layer datatype radius a b c name listed =
+      let IsSome : OptionName → Type 0 = λ other. values other ≢ [] in
+      All-contains IsSome metal_options name
+      (All-cons IsSome Layer (Datatype ∷ Radius ∷ []) (one_is_some _ a.text a.once) (All-cons IsSome Datatype (Radius ∷ []) (one_is_some _ b.text b.once) (All-cons IsSome Radius [] (one_is_some _ c.text c.once) (All-nil IsSome)))) listed
+
+  -- a value of an option is a number that it takes
+  fits : (request : Request) → IsRequestOf values positions request → (task : Task) → IsTask values positions task → GiveNoOther values (options_for task) → (name : OptionName)
+      → (range : NumberRange) (value : Text) → range_of name ≡ Some range → values name ≡ value ∷ [] → ((n : ℕ) → IsNumber range.least range.most value n → ⊥) → ⊥
+  fits request asked task is others Map range value within one none = cc within
+  fits request asked task is others Top range value within one none = cc within
+  fits request asked task is others Tile range value within one none = not_or_default range (values Tile) value one none 1 1000000000 65536 request.edge within asked.edge
+  fits request asked task is others Workers range value within one none = not_or_default range (values Workers) value one none 1 64 4 request.workers within asked.workers
+  fits request asked task (of_one_metal {layer = n} _ layer _ _ _) others Layer range value within one none = not_once range (values Layer) value one none 0 65535 n within layer
+  fits request asked task (of_one_metal {datatype = n} _ _ datatype _ _) others Datatype range value within one none = not_once range (values Datatype) value one none 0 65535 n within datatype
+  fits request asked task (of_one_metal {radius = n} _ _ _ radius _) others Radius range value within one none = not_once range (values Radius) value one none 1 1000000 n within radius
+  fits request asked task (of_generator {columns = n} _ columns) others Generate range value within one none = not_once range (values Generate) value one none 1 500 n within columns
+  fits request asked task is others name range value within one none = one_is_some (values name) value one (others name refl)
+
+  -- such a task has none of these causes
+  no_task : (cause : WordsCause) → IsCauseOf values positions cause → (request : Request) → IsRequestOf values positions request → (task : Task) → IsTask values positions task
+      → GiveNoOther values (options_for task) → ⊥
+  no_task cause (bad_number {name = name} {value = value} {range = range} within one none) request asked task is others = fits request asked task is others name range value within one none
+  no_task cause (no_layout none no_columns) request asked task (of_one_metal at _ _ _ _) others = let s = sym none ∙ at in cc s
+  no_task cause (no_layout none no_columns) request asked task (of_map at _ _) others = let s = sym none ∙ at in cc s
+  no_task cause (no_layout none no_columns) request asked task (of_generator _ columns) others = one_is_some (values Generate) columns.text columns.once no_columns
+  no_task cause (layout_beside_generate one columns) request asked task (of_generator none _) others = let s = sym one ∙ none in cc s
+  no_task cause (layout_beside_generate one columns) request asked task (of_one_metal _ _ _ _ _) others = columns (others Generate refl)
+  no_task cause (layout_beside_generate one columns) request asked task (of_map _ _ _) others = columns (others Generate refl)
+  no_task cause (beside_generate {name = name} columns listed some) request asked task (of_generator _ _) others = some (others name (file_is_no_columns name listed))
+  no_task cause (beside_generate columns listed some) request asked task (of_one_metal _ _ _ _ _) others = columns (others Generate refl)
+  no_task cause (beside_generate columns listed some) request asked task (of_map _ _ _) others = columns (others Generate refl)
+  no_task cause (beside_map {name = name} map listed some) request asked task (of_map _ _ _) others = some (others name (metal_is_no_map name listed))
+  no_task cause (beside_map map listed some) request asked task (of_one_metal _ _ _ _ _) others = map (others Map refl)
+  no_task cause (beside_map map listed some) request asked task (of_generator _ _) others = map (others Map refl)
+  no_task cause (missing {name = name} no_map no_columns listed none) request asked task (of_one_metal {layer = a} {datatype = b} {radius = c} _ layer datatype radius _) others =
+      metal_given a b c layer datatype radius name listed none
+  no_task cause (missing no_map no_columns listed none) request asked task (of_map {map = map} _ is _) others = one_is_some (values Map) map is no_map
+  no_task cause (missing no_map no_columns listed none) request asked task (of_generator _ columns) others = one_is_some (values Generate) columns.text columns.once no_columns
+  no_task cause (no_metals no_map no_columns none) request asked task (of_one_metal _ layer _ _ _) others = one_is_some (values Layer) layer.text layer.once (none 0 Layer (omega arith))
+  no_task cause (no_metals no_map no_columns none) request asked task (of_map {map = map} _ is _) others = one_is_some (values Map) map is no_map
+  no_task cause (no_metals no_map no_columns none) request asked task (of_generator _ columns) others = one_is_some (values Generate) columns.text columns.once no_columns
+
+-- ---- what words ask for
+
+module _ (words : List Text) (request : Request) (asks : Ask words request) where
+  given_refuses : (given : Given) → AreSpelled words given → (cause : WordsCause) → IsCauseIn given cause → ⊥
+  given_refuses given spelled cause (empty_value {name = name} listed) =
+      let full : IsNotEmpty [] = All-contains (λ option. IsNotEmpty option.1) given.options (name, []) (asks_by_texts words given spelled request asks).values listed in absurd (omega arith)
+  given_refuses given spelled cause (empty_layout listed) =
+      let full : IsNotEmpty [] = All-contains IsNotEmpty given.positions [] (asks_by_texts words given spelled request asks).positions listed in absurd (omega arith)
+  given_refuses given spelled cause (twice {name = name} more) = let few = (asks_once words given spelled request asks).options name in absurd (omega (arith, few, more))
+  given_refuses given spelled cause (two_layouts two) = let few = (asks_once words given spelled request asks).positions in absurd (omega (arith, few, ap length two))
+  given_refuses given spelled cause (of_values is) =
+      let asked = asks_for words given spelled request asks in
+      no_task (values_of given.options) given.positions cause is request asked request.task asked.task asked.no_other
+
+  pub refuses : (cause : WordsCause) → IsCause words cause → ⊥
+  refuses cause (no_words none) =
+      let empty : Given = record { options = []; positions = [] } in
+      given_refuses empty (all_read words empty (subst (HasRead words empty) none (nothing_read words))) NoLayout (of_values (no_layout refl refl))
+  refuses cause (not_spelled stops) = stop_unspelled words cause stops asks.given asks.spelled
+  refuses cause (as_given {given = given} spelled is) = given_refuses given spelled cause is

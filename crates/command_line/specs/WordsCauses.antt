@@ -1,0 +1,71 @@
+-- why the words of a command ask for nothing
+use Rattle.std.specs.Prelude.{ℕ, List, [], ◌∷◌, ◌++◌, ◌≡◌, ◌≢◌, ◌<◌, All, Contains, Some, codes, flat_map, length}
+use Rattle.command_line.specs.declared.cause.WordsCause.{WordsCause}
+use Rattle.command_line.specs.declared.cause.WordsCause.TheVariants.{NoWords, NoOption, NoValue, DashedValue, EmptyValue, EmptyLayout, Twice, TwoLayouts, BadNumber, NoLayout, LayoutBesideGenerate, BesideGenerate, BesideMap, Missing, NoMetals}
+use Rattle.command_line.specs.declared.option_name.OptionName.{OptionName}
+use Rattle.command_line.specs.declared.option_name.OptionName.TheVariants.{Map, Top, Layer, Datatype, Radius, Generate}
+use Rattle.command_line.specs.declared.range.NumberRange.{NumberRange}
+use Rattle.command_line.specs.Numbers.{IsNumber}
+use Rattle.command_line.specs.OptionNames.{Text, name_of, range_of}
+use Rattle.command_line.specs.Requests.{values_of}
+use Rattle.command_line.specs.Spelling.{Argument, Given, AreSpelled, IsClearlySpelled, IsPlain, name_word, whole_word, words_of}
+
+-- ---- words that are not spelled
+
+-- the word begins with a dash, is neither the dash alone nor two dashes, and is the word of no option
+pub record IsNoOption (word : Text) : Type 0 where
+  pub not_plain : IsPlain word → ⊥
+  pub not_last : word ≢ codes "--"
+  pub no_name : (name : OptionName) → word ≢ name_word name
+  pub no_setting : (name : OptionName) (value : Text) → word ≢ whole_word name value
+
+-- why words begin with no argument, where there are words and the first is not the two dashes behind all arguments
+pub data BeginWithNone (words : List Text) : WordsCause → Type 0 where
+  no_option : {word : Text} {rest : List Text} → words ≡ word ∷ rest → IsNoOption word → BeginWithNone words (NoOption word)
+  no_value : {name : OptionName} → words ≡ name_word name ∷ [] → BeginWithNone words (NoValue name)
+  dashed_value : {name : OptionName} {value : Text} {rest : List Text} → words ≡ name_word name ∷ value ∷ rest → (IsPlain value → ⊥)
+      → BeginWithNone words (DashedValue name value)
+
+-- the words are those of arguments up to some that begin with none, for this cause
+pub record StopFor (words : List Text) (cause : WordsCause) : Type 0 where
+  pub arguments : List Argument
+  pub clear : All IsClearlySpelled arguments
+  pub rest : List Text
+  pub words_are : words ≡ flat_map words_of arguments ++ rest
+  pub stop : BeginWithNone rest cause
+
+-- ---- words that are spelled
+
+-- the options of one metal, and all that are about files
+abbrev pub metal_options : List OptionName
+metal_options = Layer ∷ Datatype ∷ Radius ∷ []
+
+abbrev pub file_options : List OptionName
+file_options = Map ∷ Top ∷ metal_options
+
+-- why options with these values and these positional words ask for no request
+pub data IsCauseOf (values : OptionName → List Text) (positions : List Text) : WordsCause → Type 0 where
+  bad_number : {name : OptionName} {value : Text} {range : NumberRange} → range_of name ≡ Some range → values name ≡ value ∷ []
+      → ((n : ℕ) → IsNumber range.least range.most value n → ⊥) → IsCauseOf values positions (BadNumber name value)
+  no_layout : positions ≡ [] → values Generate ≡ [] → IsCauseOf values positions NoLayout
+  layout_beside_generate : {layout : Text} → positions ≡ layout ∷ [] → values Generate ≢ [] → IsCauseOf values positions (LayoutBesideGenerate layout)
+  beside_generate : {name : OptionName} → values Generate ≢ [] → Contains file_options name → values name ≢ [] → IsCauseOf values positions (BesideGenerate name)
+  beside_map : {name : OptionName} → values Map ≢ [] → Contains metal_options name → values name ≢ [] → IsCauseOf values positions (BesideMap name)
+  missing : {name : OptionName} → values Map ≡ [] → values Generate ≡ [] → Contains metal_options name → values name ≡ [] → IsCauseOf values positions (Missing name)
+  no_metals : values Map ≡ [] → values Generate ≡ [] → All (λ name. values name ≡ []) metal_options → IsCauseOf values positions NoMetals
+
+-- why what is given asks for no request
+pub data IsCauseIn (given : Given) : WordsCause → Type 0 where
+  empty_value : {name : OptionName} → Contains given.options (name, []) → IsCauseIn given (EmptyValue name)
+  empty_layout : Contains given.positions [] → IsCauseIn given EmptyLayout
+  twice : {name : OptionName} → 1 < length (values_of given.options name) → IsCauseIn given (Twice name)
+  two_layouts : {one other : Text} {more : List Text} → given.positions ≡ one ∷ other ∷ more → IsCauseIn given (TwoLayouts one other)
+  of_values : {cause : WordsCause} → IsCauseOf (values_of given.options) given.positions cause → IsCauseIn given cause
+
+-- ---- words
+
+-- why the words ask for nothing
+pub data IsCause (words : List Text) : WordsCause → Type 0 where
+  no_words : words ≡ [] → IsCause words NoWords
+  not_spelled : {cause : WordsCause} → StopFor words cause → IsCause words cause
+  as_given : {given : Given} {cause : WordsCause} → AreSpelled words given → IsCauseIn given cause → IsCause words cause

@@ -1,0 +1,66 @@
+ghost use Rattle.std.specs.Prelude.{◌≡◌};
+ghost use Rattle.command_line.specs.declared.cause.Refusal.TheVariants.{Memory};
+
+use crate::option_name::OptionName;
+use lists::Name;
+use std::alloc::{AllocError, AllocFailed};
+
+/// Why words ask for nothing. Of several causes the first that the reader comes to is told.
+#[derive(Drop)]
+pub enum WordsCause {
+    /// There are no words.
+    NoWords,
+    /// The word begins with a dash, and is none of the options.
+    NoOption(Name),
+    /// The option is the last word, and has no value.
+    NoValue(OptionName),
+    /// The value of the option, in a word of its own, begins with a dash.
+    DashedValue(OptionName, Name),
+    /// A value of the option is empty.
+    EmptyValue(OptionName),
+    /// The name of a layout is empty.
+    EmptyLayout,
+    /// The option is given more than once.
+    Twice(OptionName),
+    /// More than one layout is named, and these are the first two.
+    TwoLayouts(Name, Name),
+    /// The value of the option is no number that it takes.
+    BadNumber(OptionName, Name),
+    /// No layout is named, and none is to be generated.
+    NoLayout,
+    /// The layout of this name is named, and one is to be generated.
+    LayoutBesideGenerate(Name),
+    /// The option, which is about a file of a layout, is given where a layout is to be generated.
+    BesideGenerate(OptionName),
+    /// The option, which is about one metal, is given where a map is named.
+    BesideMap(OptionName),
+    /// No map is named, and of the options of one metal this is left out while another is given.
+    Missing(OptionName),
+    /// No map is named, and none of the options of one metal is given.
+    NoMetals,
+}
+
+/// Why words are answered with no request, as the reader of words knows it.
+#[derive(Drop)]
+pub enum Refusal {
+    /// The words are those of no request, and this is why.
+    Words(WordsCause),
+    /// Out of memory.
+    Memory,
+}
+
+impl From<AllocError> for Refusal {
+    ghost from_gives = { λ _ refusal. refusal ≡ Memory };
+
+    fn from(_error: AllocError) -> Refusal {
+        Refusal::Memory
+    }
+}
+
+impl<T: Drop> From<AllocFailed<T>> for Refusal {
+    ghost from_gives = { λ _ refusal. refusal ≡ Memory };
+
+    fn from(_error: AllocFailed<T>) -> Refusal {
+        Refusal::Memory
+    }
+}

@@ -1,0 +1,35 @@
+/// The numbers that an option takes.
+#[derive(Clone, Copy)]
+pub struct NumberRange {
+    /// The least of them.
+    pub least: u32,
+    /// The greatest of them.
+    pub most: u32,
+}
+
+/// Layers and datatypes.
+pub const LAYERS: NumberRange = NumberRange {
+    least: 0,
+    most: 65_535,
+};
+
+/// Radii, in database units.
+pub const RADII: NumberRange = NumberRange {
+    least: 1,
+    most: 1_000_000,
+};
+
+/// Edges of a tile, in database units.
+pub const EDGES: NumberRange = NumberRange {
+    least: 1,
+    most: 1_000_000_000,
+};
+
+/// Numbers of workers.
+pub const WORKERS: NumberRange = NumberRange { least: 1, most: 64 };
+
+/// Numbers of columns of a generated layout.
+pub const COLUMNS: NumberRange = NumberRange {
+    least: 1,
+    most: 500,
+};
