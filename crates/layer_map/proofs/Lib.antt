@@ -15,3 +15,5 @@ pub mod MapLaws
 pub mod UniqueLaws
 pub mod ExistLaws
 pub mod SampleLaws
+pub mod CauseLaws
+pub mod PlaceLaws

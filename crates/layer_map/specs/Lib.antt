@@ -8,6 +8,8 @@ pub mod CutChecks
 pub mod TerminalChecks
 pub mod MapChecks
 pub mod Documents
+pub mod MapPlaces
+pub mod MapCauses
 -- an example
 pub mod Sample
 -- what a map is, which stands below

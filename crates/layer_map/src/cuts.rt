@@ -25,7 +25,7 @@ use std::alloc::Global;
 use toml::{Table, Value};
 
 /// The keys of a cut.
-const CUT_KEYS: [&str; 4] = ["name", "pairs", "lower", "upper"];
+pub const CUT_KEYS: [&str; 4] = ["name", "pairs", "lower", "upper"];
 
 /// The cuts, at most 16, which are seen behind these metals.
 pub fn read_cuts(

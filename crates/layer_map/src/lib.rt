@@ -4,6 +4,7 @@
 //! passed on here.
 #![tactic(auto)]
 
+pub mod cause;
 mod cuts;
 pub mod fault;
 mod items;
@@ -11,14 +12,17 @@ pub mod laws;
 mod layer_items;
 mod metals;
 pub mod paths;
+pub mod place;
 pub mod read;
 mod seen;
 mod sizes;
 mod terminals;
 mod values;
 
+pub use cause::{Cause, cause_of};
 pub use fault::MapFault;
 pub use map_model::{
     Cut, Cuts, LayerName, Map, Metal, Metals, Pairs, Sizes, Terminal, Terminals, Weights, one_metal,
 };
+pub use place::{ItemKind, Place};
 pub use read::read_map;

@@ -19,7 +19,7 @@ use std::alloc::Global;
 use toml::Table;
 
 /// The keys of a metal.
-const METAL_KEYS: [&str; 2] = ["name", "pairs"];
+pub const METAL_KEYS: [&str; 2] = ["name", "pairs"];
 
 /// The metals, 1 to 16, which are the first layers that are seen.
 pub fn read_metals(alloc: Global, document: &Table, seen: &mut Seen) -> Result<Metals, MapFault>

@@ -31,7 +31,7 @@ use std::alloc::Global;
 use toml::{Table, Value};
 
 /// The keys of a document.
-const MAP_KEYS: [&str; 6] = ["version", "radii", "weights", "metal", "cut", "terminal"];
+pub const MAP_KEYS: [&str; 6] = ["version", "radii", "weights", "metal", "cut", "terminal"];
 
 /// That the document has no key but these, and its version is 1.
 pub fn check_head(document: &Table) -> Result<(), MapFault>

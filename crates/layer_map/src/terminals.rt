@@ -26,7 +26,7 @@ use std::alloc::Global;
 use toml::{Table, Value};
 
 /// The keys of a terminal.
-const TERMINAL_KEYS: [&str; 3] = ["metal", "x", "y"];
+pub const TERMINAL_KEYS: [&str; 3] = ["metal", "x", "y"];
 
 /// The terminals on these metals, at most 10,000.
 pub fn read_terminals(

@@ -75,6 +75,19 @@ pub fn array_or_none_at<'a>(table: &'a Table, key: &str, path: u32) -> Result<&'
     }
 }
 
+/// The items of the array that stands there. Of anything else there are none.
+pub fn items_in(there: Option<&Value>) -> &[Value]
+    ensures { map view result.now ≡ values_in (option_map (λ v. view v.now) there.entry) }
+{
+    match there {
+        Some(value) => match value.as_array() {
+            Some(items) => items.as_slice(),
+            None => &[],
+        },
+        None => &[],
+    }
+}
+
 /// The whole number that the value is, if it is one within these bounds.
 pub fn whole_in(value: &Value, low: u32, high: u32) -> Option<u32>
     ensures { Finds (IsWholeIn low high (view value.now)) result }
