@@ -8,6 +8,7 @@ pub mod fields;
 pub mod forms;
 pub mod kinds;
 pub mod laws;
+mod names;
 pub mod reals;
 pub mod record;
 pub mod records;
@@ -15,6 +16,7 @@ mod table;
 
 pub use fault::RecordFault;
 pub use fields::{i16_at, i32_at, text, u16_at};
+pub use names::kind_name;
 pub use reals::real_whole;
 pub use record::Record;
 pub use records::Records;

@@ -4,7 +4,7 @@ use Rattle.lists.proofs.Words.{All-nil, All-cons}
 use Rattle.library_grammar.specs.GrammarNames.{gives, refuses, refused, Checks, all_hold, one_fails, Entry, ElementForm, IsCount, ElementCheck, has, has_right_count, ElementHolds, element_checks, element_fault, checks_of_sort, IsFaultOfFirst, Judges, IsKept, points_of}
 use Rattle.first_refusal.proofs.AnswerLaws.{handed_on}
 use Rattle.first_refusal.proofs.JudgeLaws.{stops, goes_on, fails_first, unread}
-use Rattle.gds_syntax.specs.inside.ElementKinds.{form_for}
+use Rattle.gds_syntax.specs.ElementKinds.{form_for}
 use Rattle.library_model.specs.declared.element.Element.{Element}
 use Rattle.gds_syntax.specs.declared.element_kind.ElementKind.{ElementKind}
 use Rattle.library_grammar.specs.declared.fault.SyntaxFault.{SyntaxFault}

@@ -5,7 +5,7 @@ use Rattle.library_grammar.specs.GrammarNames.{AreDifferent, Reading, entry_of, 
 use Rattle.lists.proofs.Differing.{different_more}
 use Rattle.gds_records.specs.declared.kinds.TheConstants as kind
 use Rattle.gds_records.specs.declared.record.Record.{Record}
-use Rattle.gds_syntax.specs.inside.ElementKinds.{form_for}
+use Rattle.gds_syntax.specs.ElementKinds.{form_for}
 use Rattle.gds_syntax.specs.inside.LibraryReaders.{TakesRecord, standing, Advances, Stops, ReadsOwnSoFar, IsReady}
 use Rattle.gds_syntax.specs.declared.element_kind.ElementKind.{ElementKind}
 use Rattle.gds_syntax.specs.declared.element_kind.ElementKind.TheVariants.{Boundary, Path, Sref, Aref, Text, Node, BoxElement}

@@ -1,3 +1,2 @@
-pub mod ElementKinds
 pub mod LibraryReaders
 pub mod Quarters

@@ -1,7 +1,7 @@
 ghost use Rattle.std.specs.Prelude.{◌≡◌, ◌↔◌, All, IfErr, IsTrue, OnOk, map};
 ghost use Rattle.first_refusal.specs.Checks.{IsRefusalOfFirst};
 ghost use Rattle.library_grammar.specs.ElementChecks.{ElementHolds, element_fault, has};
-ghost use Rattle.gds_syntax.specs.inside.ElementKinds.{form_for};
+ghost use Rattle.gds_syntax.specs.ElementKinds.{form_for};
 ghost use Rattle.geo_core.specs.Circuits.{IsClosed};
 
 use super::element_kind::ElementKind;

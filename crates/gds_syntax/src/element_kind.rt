@@ -1,6 +1,6 @@
 ghost use Rattle.std.specs.Prelude.{◌≡◌, ◌↔◌, IsTrue, Contains, option_map};
 ghost use Rattle.library_grammar.specs.ElementForms.{IsCount, own_kinds};
-ghost use Rattle.gds_syntax.specs.inside.ElementKinds.{form_for};
+ghost use Rattle.gds_syntax.specs.ElementKinds.{form_for};
 ghost use Rattle.library_grammar.specs.Places.{form_of};
 
 use gds_records::kinds;

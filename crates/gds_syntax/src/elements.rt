@@ -3,7 +3,7 @@ ghost use Rattle.first_refusal.specs.Answers.{Answers};
 ghost use Rattle.gds_records.specs.Reading.{entry_of};
 ghost use Rattle.gds_records.specs.RecordSpelling.{Entry};
 ghost use Rattle.library_grammar.specs.ElementForms.{Opens};
-ghost use Rattle.gds_syntax.specs.inside.ElementKinds.{form_for};
+ghost use Rattle.gds_syntax.specs.ElementKinds.{form_for};
 ghost use Rattle.library_grammar.specs.Libraries.{behind};
 ghost use Rattle.library_grammar.specs.Places.{among_own, behind_attribute, behind_strname};
 ghost use Rattle.gds_syntax.specs.inside.LibraryReaders.{IsAt, IsFirstBehind, IsReady, ReadsElement, ReadsElements, ReadsElementsSoFar, ReadsOrStops, ReadsOwn, ReadsProperties, Stops, StopsAt, standing};

@@ -2,7 +2,7 @@ ghost use Rattle.std.specs.Prelude.{◌≡◌, ◌<◌, length};
 ghost use Rattle.gds_records.specs.declared.kinds.TheConstants as kind;
 ghost use Rattle.library_grammar.specs.ElementChecks.{Judges, checks_of_sort, element_checks};
 ghost use Rattle.library_grammar.specs.ElementForms.{IsCount, array, outline, reference};
-ghost use Rattle.gds_syntax.specs.inside.ElementKinds.{form_for};
+ghost use Rattle.gds_syntax.specs.ElementKinds.{form_for};
 ghost use Rattle.library_grammar.specs.Elements.{IsKept, IsShape};
 ghost use Rattle.library_grammar.specs.OwnRecords.{points_of};
 ghost use Rattle.library_model.specs.Ranges.{IsKind};

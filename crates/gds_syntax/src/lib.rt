@@ -18,6 +18,7 @@ mod references;
 mod shapes;
 mod structures;
 
+pub use element_kind::ElementKind;
 pub use library_grammar::{
     SyntaxFault, bytes_come_to_something, libraries_agree, places_say_what_may_stand,
 };
@@ -25,4 +26,5 @@ pub use library_model::{
     Element, Elements, Lattice, Library, NameIndex, Reference, Shape, ShapeKind, Structure,
     Structures,
 };
+pub use points::point_at;
 pub use read::read_library;

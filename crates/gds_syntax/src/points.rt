@@ -13,7 +13,7 @@ use std::alloc::Global;
 const POINT: usize = 8;
 
 /// Point `k` of a record of points, counted from 0. The point must lie in its body.
-fn point_at(xy: &Record, k: usize) -> Point
+pub fn point_at(xy: &Record, k: usize) -> Point
     requires { HasItem 8 k xy.now.body.now }
     ensures { result ≡ point_in xy.now.body.now k }
 {

@@ -74,8 +74,9 @@ fn place_points(alloc: Global, placed: &Placed, points: &[Point]) -> Result<Vec<
     Ok(moved)
 }
 
-/// Rectangles of the cells of a shape of this kind, whose points lie here and which begins at this offset.
-fn cover_shape(
+/// Rectangles as `cover` gives them, of a shape of this kind that is placed already: its points lie here, and it begins at
+/// this offset. The fault is told at the offset, and is that of the first check that fails.
+pub fn cover_shape(
     alloc: Global,
     kind: ShapeKind,
     points: &[Point],

@@ -17,6 +17,6 @@ mod piece;
 mod pieces;
 mod style;
 
-pub use covering::cover;
+pub use covering::{cover, cover_shape};
 pub use covering_all::cover_all;
 pub use fault::CoverFault;

@@ -1,7 +1,7 @@
 use Rattle.std.proofs.Common.{Contains}
 use Rattle.lists.proofs.Words.{All-more}
 use Rattle.library_grammar.specs.GrammarNames.{kinds_of}
-use Rattle.gds_syntax.specs.inside.ElementKinds.{form_for}
+use Rattle.gds_syntax.specs.ElementKinds.{form_for}
 use Rattle.gds_syntax.proofs.CheckLaws.{needed_are_there, first_missing}
 use Rattle.gds_syntax.proofs.checks.check_required.Goals as goal
 

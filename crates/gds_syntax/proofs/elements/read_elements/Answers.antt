@@ -1,5 +1,5 @@
 use Rattle.std.proofs.Common.{[], sym}
-use Rattle.gds_syntax.specs.inside.ElementKinds.{form_for}
+use Rattle.gds_syntax.specs.ElementKinds.{form_for}
 use Rattle.library_grammar.specs.GrammarNames.{between_elements}
 use Rattle.gds_syntax.specs.inside.LibraryReaders.{standing}
 use Rattle.gds_syntax.proofs.ElementsReading.{elements_go_on, elements_stop, elements_end, element_further, element_fault_stops, opens}

@@ -1,6 +1,6 @@
 use Rattle.std.proofs.Common.{[], inl, inr}
 use Rattle.lists.proofs.Words.{iff_false}
-use Rattle.gds_syntax.specs.inside.ElementKinds.{form_for}
+use Rattle.gds_syntax.specs.ElementKinds.{form_for}
 use Rattle.library_grammar.specs.GrammarNames.{among_own}
 use Rattle.gds_syntax.specs.inside.LibraryReaders.{standing}
 use Rattle.gds_syntax.proofs.OwnReading.{own_begins, own_is_ready, own_further, own_goes_on, own_stops}

@@ -1,5 +1,5 @@
 use Rattle.std.proofs.Common.{◌-◌, length}
-use Rattle.gds_syntax.specs.inside.ElementKinds.{form_for}
+use Rattle.gds_syntax.specs.ElementKinds.{form_for}
 use Rattle.gds_syntax.specs.inside.LibraryReaders.{ReadsOwnSoFar}
 use Rattle.gds_syntax.proofs.elements.read_own.Given as goal
 

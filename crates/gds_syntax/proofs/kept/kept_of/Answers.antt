@@ -2,7 +2,7 @@ use Rattle.std.proofs.Common.{subst, sym, map}
 use Rattle.library_grammar.specs.GrammarNames.{IsCount, IsKept, has}
 use Rattle.first_refusal.proofs.AnswerLaws.{handed_on}
 use Rattle.library_grammar.specs.declared.fault.SyntaxFault.TheVariants.{Memory}
-use Rattle.gds_syntax.specs.inside.ElementKinds.{form_for}
+use Rattle.gds_syntax.specs.ElementKinds.{form_for}
 use Rattle.gds_syntax.proofs.JudgedLaws.{fault_in_front, judged_whole, wrong_count}
 use Rattle.gds_syntax.proofs.kept.kept_of.Goals as goal
 
