@@ -2,6 +2,8 @@
 
 mod areas;
 mod cells;
+mod counted;
+mod counted_partings;
 mod depth;
 pub mod drawn;
 mod links;

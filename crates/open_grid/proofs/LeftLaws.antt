@@ -62,12 +62,13 @@ module _ (zone : Rect) (side : ℕ) where
   some_last islands last c s = record { island = last; among = Contains-push islands last; severed = s }
 
   pub left_none : LeftStandsFor zone side [] []
-  left_none = record { others = []; stand = tt; alike = λ c has. (λ s. s, λ s. s) }
+  left_none = record { others = []; among = λ island among. among; stand = tt; alike = λ c has. (λ s. s, λ s. s) }
 
   module _ (islands : List IslandLists) (left : List Looked) (so_far : LeftStandsFor zone side islands left) (last : IslandLists) where
     pub left_never : IsToldOf zone side last Never → LeftStandsFor zone side (islands ++ last ∷ []) left
     left_never never = record {
       others = so_far.others;
+      among = λ island among. Contains-append_left islands (last ∷ []) island (so_far.among island among);
       stand = so_far.stand;
       alike = λ c has. (
         λ s. elim (some_cases islands last c s) [ inl t ↦ (so_far.alike c has).0 t | inr t ↦ absurd (never c has t) ],
@@ -78,6 +79,10 @@ module _ (zone : Rect) (side : ℕ) where
     pub left_open : (closer : Looked) → IsToldOf zone side last (Open closer) → LeftStandsFor zone side (islands ++ last ∷ []) (left ++ closer ∷ [])
     left_open closer told = record {
       others = so_far.others ++ last ∷ [];
+      among = λ island among. elim (Contains-push_cases so_far.others last island among) [
+        | inl before ↦ Contains-append_left islands (last ∷ []) island (so_far.among island before)
+        | inr is ↦ subst (Contains (islands ++ last ∷ [])) is (Contains-push islands last)
+      ];
       stand = AllZip-push (StandsFor zone side) left so_far.others closer last so_far.stand told;
       alike = λ c has. (
         λ s. elim (some_cases islands last c s) [

@@ -1,7 +1,10 @@
 pub mod ZoneLaws
 pub mod ToldLaws
 pub mod LeftLaws
+pub mod ArcLaws
+pub mod CountLaws
 pub mod CellLaws
 pub mod ChangeLaws
 pub mod BoxLaws
 pub mod PartingLaws
+pub mod CountingLaws

@@ -1,5 +1,5 @@
 -- what an island says of a zone
-use Rattle.std.proofs.Common.{ℕ, ◌≡◌, sym, subst, ◌∙◌, List, inl, inr, ◌↔◌, Bool, true, false, IsTrue, Option, Some, None, arith}
+use Rattle.std.proofs.Common.{ℕ, Contains, ◌≡◌, sym, subst, ◌∙◌, List, inl, inr, ◌↔◌, Bool, true, false, IsTrue, Option, Some, None, arith}
 use Rattle.lists.proofs.Words.{ints, false≢true}
 use Rattle.geo_core.specs.Plane.{Has}
 use Rattle.geo_core.specs.declared.plane.Cell.{Cell}
@@ -8,13 +8,14 @@ use Rattle.geo_core.specs.declared.plane.Rect.{Rect}
 use Rattle.geo_core.proofs.RectLaws.{same_cell}
 use Rattle.fault_model.specs.FaultNames.{IslandLists, IsInFootprint}
 use Rattle.half_boxes.specs.Footprints.{IsReached, IsAlwaysHit}
-use Rattle.half_boxes.specs.HalfBoxes.{HasHalf, HasHalfIn, LiesWithin}
+use Rattle.half_boxes.specs.HalfBoxes.{HasHalf, HasHalfIn, IsInBoxes, LiesWithin}
 use Rattle.half_boxes.specs.declared.boxes.HalfBox.{HalfBox}
 use Rattle.remnants.specs.Remnants.{RemnantLists, IsSplit}
 use Rattle.severing.specs.Changes.{HasNear, IsNoted}
 use Rattle.severing.specs.Severing.{IsSevered}
-use Rattle.open_grid.specs.inside.ZoneNeeds.{IsBetweenDefects, StandsFor}
-use Rattle.open_grid.specs.inside.ZoneSteps.{IsSingle, IsSplitWithout, IsToldOf, KeepsNear}
+use Rattle.ring_test.specs.IslandHoles.{IsOnIsland}
+use Rattle.open_grid.specs.inside.ZoneNeeds.{HaveReached, IsBetweenDefects, StandsFor}
+use Rattle.open_grid.specs.inside.ZoneSteps.{AreOf, IsSingle, IsSplitWithout, IsToldOf, KeepsNear, KeepsWithin}
 use Rattle.open_grid.specs.declared.looked.Looked.{Looked}
 use Rattle.open_grid.specs.declared.looked.Told.TheVariants.{Never, Always, Open}
 
@@ -82,9 +83,15 @@ module _ (zone : Rect) (side : ℕ) (looked : Looked) (island : IslandLists) (st
           let b : IsBetweenDefects zone side core = record { has_core = λ g all. (is g).1 all; in_reach = λ g has'. core_reached g ((is g).0 has') } in
           defects island core side c (λ g has'. (is g).0 has' c has) ((same_as_island core b).0 h)
 
-  pub told_open : (kept : List HalfBox) → KeepsNear inner outer looked.near kept → (made : Looked) → made.remnant ≡ remnant → made.near ≡ kept
-      → IsToldOf zone side island (Open made)
-  told_open kept keeps made remnant_is near_is = record { same = same; has_near = has_near }
+  pub told_open : (kept : List HalfBox) → KeepsNear inner outer looked.near kept → AreOf looked.near kept → (anchors : List HalfBox) → KeepsWithin outer looked.anchors anchors → (made : Looked)
+      → made.remnant ≡ remnant → made.near ≡ kept → made.anchors ≡ anchors → IsToldOf zone side island (Open made)
+  told_open kept keeps of_near anchors keeps_anchors made remnant_is near_is anchors_are = record {
+    anchored = stands.anchored;
+    same = same;
+    has_near = has_near;
+    near_on_island = near_on_island;
+    has_reached = has_reached;
+  }
     where
       same : (removed : HalfBox) → IsBetweenDefects zone side removed → IsSplit made.remnant removed ↔ IsSevered island (HasHalf removed)
       same removed b = subst (λ r. IsSplit r removed ↔ IsSevered island (HasHalf removed)) (sym remnant_is) (same_as_island removed b)
@@ -111,3 +118,14 @@ module _ (zone : Rect) (side : ℕ) (looked : Looked) (island : IslandLists) (st
 
       has_near : HasNear island zone side made.near
       has_near = subst (HasNear island zone side) (sym near_is) kept_near
+
+      near_on_island : (h : Half) → IsInBoxes made.near h → IsOnIsland island h
+      near_on_island h b = stands.near_on_island h (record { one = b.one; among = of_near b.one (subst (λ bs. Contains bs b.one) near_is b.among); has = b.has })
+
+      kept_reached : HaveReached island zone side anchors
+      kept_reached anchor among reached =
+          let b = stands.has_reached anchor among reached in
+          record { one = b.one; among = keeps_anchors b.one b.among (λ h in_one. (reach_is h).1 (reached h ((b.same h).0 in_one))); same = b.same }
+
+      has_reached : HaveReached island zone side made.anchors
+      has_reached = subst (HaveReached island zone side) (sym anchors_are) kept_reached

@@ -40,8 +40,11 @@ module _ (zone sub : Rect) (side : ℕ) (part : (c : Cell) → Has sub c → Has
 
   stands_in_part : (looked : Looked) (island : IslandLists) → StandsFor zone side looked island → StandsFor sub side looked island
   stands_in_part looked island s = record {
+    anchored = s.anchored;
     same = λ removed b. s.same removed (between removed b);
     has_near = near_in_part island looked.near s.has_near;
+    near_on_island = s.near_on_island;
+    has_reached = λ anchor among lies. s.has_reached anchor among (λ h in_anchor. reached h (lies h in_anchor));
   }
 
   -- and so for each of many

@@ -1,2 +1,4 @@
+-- what contracts of other crates cite
+pub mod RingCounts
 -- what only this crate's proofs and private contracts cite
 pub mod inside

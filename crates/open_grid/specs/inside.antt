@@ -1,2 +1,3 @@
 pub mod ZoneNeeds
+pub mod ZoneCounts
 pub mod ZoneSteps

@@ -5,6 +5,7 @@ ghost use Rattle.geo_core.specs.Unions.{IsInUnion};
 ghost use Rattle.geo_core.specs.declared.plane.Cell.{Cell};
 ghost use Rattle.fault_model.specs.Areas.{Tally, cells_of};
 ghost use Rattle.half_boxes.specs.declared.footprints.TheConstants.{GREATEST_SIDE};
+ghost use Rattle.open_grid.specs.RingCounts.{IsSomeRingMany};
 ghost use Rattle.severing.specs.Severing.{IsSomeOpen};
 
 use super::looked::look;
@@ -33,12 +34,31 @@ pub fn open_cells(
     ensures { IfOk result (λ rects. (c : Cell) →
         IsInUnion rects.items c ↔ (Has window c × IsSomeOpen islands.now side c)) }
 {
+    let mut searches = 0;
+    counted_cells(alloc, islands, window, side, &mut searches)
+}
+
+/// The same cells, with a count of the zones that were found to have a ring with more than one arc of an island.
+fn counted_cells(
+    alloc: Global,
+    islands: &[Island],
+    window: Rect,
+    side: u32,
+    searches: &mut u64,
+) -> Result<Vec<Rect>, NoMemory>
+    requires some { 1 ≤ side }
+    requires few { side ≤ GREATEST_SIDE }
+    ensures cells { IfOk result (λ rects. (c : Cell) →
+        IsInUnion rects.items c ↔ (Has window c × IsSomeOpen islands.now side c)) }
+    ensures never_falls { searches.old ≤ searches.new }
+    ensures rises_by_many { searches.old < searches.new → IsSomeRingMany islands.now window side }
+{
     let mut looked = Vec::with_capacity(alloc, islands.len())?;
     for island in islands {
         looked.push(look(alloc, island)?)?;
     }
     defects_sever_islands();
-    open_parts(alloc, looked.as_slice(), window, side)
+    open_parts(alloc, looked.as_slice(), window, side, searches)
 }
 
 /// How many cells of the window are the centre of such a defect of this radius, which is half of the side. A cell counts once,
@@ -50,6 +70,29 @@ pub fn open_area(alloc: Global, islands: &[Island], window: Rect, r: u32) -> Res
     // No edge of a window is further than 1,001,000,000 from 0.
     ensures small { IfOk result (λ n. n < 2 ^ 63) }
 {
-    let rects = open_cells(alloc, islands, window, r + r)?;
+    let mut searches = 0;
+    open_area_counted(alloc, islands, window, r, &mut searches)
+}
+
+/// The same area, with a count of searches. One is added for each zone at whose cells the defects all part two anchors of one
+/// island, where that at a corner cell of the zone covers none of them: there `ring` answers `Many` for this island. So the
+/// count says that such cells were met, and not how many there are. It goes on from what `searches` is, never falls, and stays
+/// at `u64::MAX` once it is there.
+///
+/// The one error is that no memory is left. What was counted until then stays counted.
+pub fn open_area_counted(
+    alloc: Global,
+    islands: &[Island],
+    window: Rect,
+    r: u32,
+    searches: &mut u64,
+) -> Result<u64, NoMemory>
+    requires { IsRadius r }
+    ensures tally { IfOk result (λ n. Tally (IsSomeOpen islands.now (r + r)) (cells_of window) n) }
+    ensures small { IfOk result (λ n. n < 2 ^ 63) }
+    ensures never_falls { searches.old ≤ searches.new }
+    ensures rises_by_many { searches.old < searches.new → IsSomeRingMany islands.now window (r + r) }
+{
+    let rects = counted_cells(alloc, islands, window, r + r, searches)?;
     union_area(alloc, &rects, window)
 }

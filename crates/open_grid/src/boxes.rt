@@ -6,6 +6,7 @@ ghost use Rattle.geo_core.specs.declared.plane.Cell.{Cell as AnyCell};
 ghost use Rattle.geo_core.specs.declared.plane.Half.{Half};
 ghost use Rattle.geo_core.specs.declared.plane.Rect.{Rect as AnyRect};
 ghost use Rattle.half_boxes.specs.HalfBoxes.{HasHalf};
+ghost use Rattle.open_grid.specs.inside.ZoneNeeds.{HaveAnchorBoxes};
 ghost use Rattle.open_grid.specs.inside.ZoneSteps.{GainsCells, HaveBoxesOf, HavePieceBoxes, IsSingle};
 
 use fault_model::Island;
@@ -21,6 +22,16 @@ pub fn boxes_of(alloc: Global, island: &Island) -> Result<Items<HalfBox>, NoMemo
 {
     let mut boxes = piece_boxes(alloc, island.pieces.as_slice())?;
     add_cells(island.anchors.as_slice(), &mut boxes)?;
+    Ok(Items::from_vec(boxes))
+}
+
+/// The boxes of the cells of the island's anchors.
+pub fn anchor_boxes(alloc: Global, island: &Island) -> Result<Items<HalfBox>, NoMemory>
+    ensures { IfOk result (HaveAnchorBoxes island.now) }
+{
+    let anchors = island.anchors.as_slice();
+    let mut boxes = Vec::with_capacity(alloc, anchors.len())?;
+    add_cells(anchors, &mut boxes)?;
     Ok(Items::from_vec(boxes))
 }
 

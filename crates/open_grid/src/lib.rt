@@ -4,8 +4,9 @@
 //! search at each cell would grow with the cells. `open_cells` finds the cells as rectangles, in zones of centres,
 //! first the whole window:
 //!
-//! 1. Each island is looked at (`look_at`): its remnant is narrowed to the defects of the zone, whose reach is what
-//!    some of them has, and whose core is what each of them has (`remnants`).
+//! 1. Each island is looked at (`look_at`). Where it has one arc of the ring round all that some defect has, and no anchor
+//!    there, no defect of the zone parts two, and it is done with (`ring_test`). Else its remnant is narrowed to the defects
+//!    of the zone, whose reach is what some of them has, and whose core is what each of them has (`remnants`).
 //! 2. Where the removal of all that is loose parts no two anchors, no defect of the zone parts two, and the island is
 //!    done with. Where the removal of the core alone parts two, each defect does, and the whole zone is one of the
 //!    rectangles. For a zone of one cell the first question alone decides.
@@ -19,17 +20,22 @@
 //! law of `severing`: the removal of more parts more. Which zones are looked at changes the time alone.
 //!
 //! `open_area` is the area of the rectangles' union in the window. Whoever needs the areas of parts of a window asks
-//! once for the cells of the whole, and takes the union's area in each part. `parted` asks for one defect.
+//! once for the cells of the whole, and takes the union's area in each part.
+//!
+//! `parted` asks for one defect, by the ring round it first (`ring_test`). Where that is `Many`, and there alone, the
+//! island is looked at for the zone of its one cell. `parted_counted` counts these searches.
 #![tactic(auto)]
 
+mod arcs;
 pub mod areas;
 mod boxes;
 mod changes;
+mod covering;
 mod looked;
 mod parting;
 mod steps;
 mod stretching;
 mod zones;
 
-pub use areas::{open_area, open_cells};
-pub use parting::parted;
+pub use areas::{open_area, open_area_counted, open_cells};
+pub use parting::{parted, parted_counted};

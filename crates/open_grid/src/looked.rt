@@ -3,9 +3,10 @@ ghost use Rattle.geo_core.specs.declared.plane.Rect.{Rect as AnyRect};
 ghost use Rattle.fault_model.specs.IslandLists.{IslandLists, IsAnchoredIsland};
 ghost use Rattle.half_boxes.specs.declared.footprints.TheConstants.{GREATEST_SIDE};
 ghost use Rattle.open_grid.specs.inside.ZoneNeeds.{StandsFor};
-ghost use Rattle.open_grid.specs.inside.ZoneSteps.{IsSplitWithout, IsToldAtOnce, IsToldOf, KeepsNear, MayNotMatter};
+ghost use Rattle.open_grid.specs.inside.ZoneSteps.{IsSplitWithout, IsToldAtOnce, IsToldOf, KeepsNear, KeepsWithin};
+ghost use Rattle.open_grid.specs.inside.ZoneSteps.{AreOf, MayNotMatter};
 
-use super::boxes::boxes_of;
+use super::boxes::{anchor_boxes, boxes_of};
 use super::steps::is_single;
 use fault_model::Island;
 use geo_core::Rect;
@@ -15,12 +16,13 @@ use remnants::Remnant;
 use severing::boxes_and_defects_sever;
 use std::alloc::Global;
 
-/// What a zone of centres needs of an island: what is left of it round the zone's defects, and the boxes of the island
-/// whose ends an end of a defect may meet in the zone.
+/// What a zone of centres needs of an island: what is left of it round the zone's defects, the boxes of the island whose
+/// ends an end of a defect may meet in the zone, and those of the anchors that a defect of the zone may cover.
 #[derive(Debug, Drop)]
 pub struct Looked {
     pub remnant: Remnant,
     pub near: Items<HalfBox>,
+    pub anchors: Items<HalfBox>,
 }
 
 /// What an island says of a zone.
@@ -40,8 +42,13 @@ pub fn look(alloc: Global, island: &Island) -> Result<Looked, NoMemory>
     ensures sound { IsAnchoredIsland island.now }
 {
     let near = boxes_of(alloc, island)?;
+    let anchors = anchor_boxes(alloc, island)?;
     let remnant = Remnant::whole(alloc, island)?;
-    Ok(Looked { remnant, near })
+    Ok(Looked {
+        remnant,
+        near,
+        anchors,
+    })
 }
 
 /// Looks at an island for a zone: what lies outside of all defects of the zone stays, and what lies within each of them is
@@ -66,7 +73,12 @@ pub fn look_at(alloc: Global, looked: &Looked, zone: Rect, side: u32) -> Result<
         return Ok(Told::Always);
     }
     let near = near_in(alloc, looked.near.as_slice(), inner, outer)?;
-    Ok(Told::Open(Looked { remnant, near }))
+    let anchors = boxes_within(alloc, looked.anchors.as_slice(), outer)?;
+    Ok(Told::Open(Looked {
+        remnant,
+        near,
+        anchors,
+    }))
 }
 
 /// Whether the removal of the core, if there is one, parts two terminals.
@@ -90,11 +102,29 @@ fn near_in(
     core: Option<HalfBox>,
     reach: HalfBox,
 ) -> Result<Items<HalfBox>, NoMemory>
-    ensures { IfOk result (λ kept. KeepsNear core reach near.now kept) }
+    ensures near { IfOk result (λ kept. KeepsNear core reach near.now kept) }
+    ensures of_near { IfOk result (λ kept. AreOf near.now kept) }
 {
     let mut kept = Vec::new(alloc);
     for one in near {
         if may_matter(*one, core, reach) {
+            kept.push(*one)?;
+        }
+    }
+    Ok(Items::from_vec(kept))
+}
+
+/// The boxes of the list that lie in the reach of a zone's defects, so that one of them may cover them.
+fn boxes_within(
+    alloc: Global,
+    boxes: &[HalfBox],
+    reach: HalfBox,
+) -> Result<Items<HalfBox>, NoMemory>
+    ensures { IfOk result (λ kept. KeepsWithin reach boxes.now kept) }
+{
+    let mut kept = Vec::new(alloc);
+    for one in boxes {
+        if one.is_within(reach) {
             kept.push(*one)?;
         }
     }

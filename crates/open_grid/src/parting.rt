@@ -1,14 +1,17 @@
-ghost use Rattle.std.specs.Prelude.{All, Contains, IfOk, IsTrue, ◌+◌, ◌↔◌};
+ghost use Rattle.std.specs.Prelude.{All, Contains, IfOk, IsTrue, OnErr, OnOk, ◌+◌, ◌<◌, ◌≡◌, ◌↔◌, ◌⊎◌};
 ghost use Rattle.geo_core.specs.Bounds.{IsRadius};
 ghost use Rattle.geo_core.specs.Cells.{IsInLayout};
 ghost use Rattle.geo_core.specs.Unions.{IsInUnion};
 ghost use Rattle.fault_model.specs.Faults.{IsCellsOpen};
+ghost use Rattle.ring_test.specs.Rings.{hole_at};
+ghost use Rattle.ring_test.specs.RingAnswers.{IsRingAnswer};
 
 use super::boxes::zone_at;
 use super::looked::{Told, look, look_at};
 use fault_model::Island;
 use geo_core::Cell;
 use lists::NoMemory;
+use ring_test::{RingAnswer, ring};
 use severing::defects_sever_islands;
 use std::alloc::Global;
 
@@ -18,6 +21,48 @@ use std::alloc::Global;
 ///
 /// The one error is that no memory is left.
 pub fn parted(alloc: Global, island: &Island, cell: Cell, r: u32) -> Result<bool, NoMemory>
+    requires radius { IsRadius r }
+    requires within { All IsInLayout island.now.pieces }
+    ensures { IfOk result (λ answer. IsTrue answer
+        ↔ IsCellsOpen (IsInUnion island.now.pieces) (Contains island.now.anchors) (r + r) cell) }
+{
+    let mut searches = 0;
+    parted_counted(alloc, island, cell, r, &mut searches)
+}
+
+/// What `parted` answers. Only where the ring round the defect is `Many` does it search the island, and count that.
+///
+/// Where no memory is left, the search that failed may have been counted.
+pub fn parted_counted(
+    alloc: Global,
+    island: &Island,
+    cell: Cell,
+    r: u32,
+    searches: &mut u64,
+) -> Result<bool, NoMemory>
+    requires radius { IsRadius r }
+    requires within { All IsInLayout island.now.pieces }
+    requires room { searches.old < u64.MAX }
+    ensures answer { IfOk result (λ answer. IsTrue answer
+        ↔ IsCellsOpen (IsInUnion island.now.pieces) (Contains island.now.anchors) (r + r) cell) }
+    ensures counted { OnOk result (IsRingAnswer island.now (hole_at cell (r + r)) RingAnswer.Many →
+        searches.new ≡ searches.old + 1) }
+    ensures spared { (IsRingAnswer island.now (hole_at cell (r + r)) RingAnswer.Many → ⊥) → searches.new ≡ searches.old }
+    ensures counted_so_far { OnErr result ((searches.new ≡ searches.old) ⊎ (searches.new ≡ searches.old + 1)) }
+{
+    match ring(alloc, island, cell, r)? {
+        RingAnswer::Untouched => Ok(false),
+        // One anchor alone is parted from none, even where it is lost.
+        RingAnswer::OneArc { lost } => Ok(lost && island.anchors.as_slice().len() > 1),
+        RingAnswer::Many => {
+            *searches += 1;
+            parted_by_search(alloc, island, cell, r)
+        }
+    }
+}
+
+/// Whether the defect parts two anchors, by what is left of the island round it.
+fn parted_by_search(alloc: Global, island: &Island, cell: Cell, r: u32) -> Result<bool, NoMemory>
     requires radius { IsRadius r }
     requires within { All IsInLayout island.now.pieces }
     ensures { IfOk result (λ answer. IsTrue answer

@@ -1,7 +1,7 @@
 -- holes, and what unions of rectangles and cells have of them
-use Rattle.std.proofs.Common.{ℕ, List, [], ◌<◌, ◌+◌, ◌≡◌, refl, sym, subst, ap, ◌∙◌, inl, inr, ◌⊎◌, arith, ℤ, pos, ◌+ℤ◌, ◌≤ℤ◌, ◌↔◌, All, Contains, length, get_or, take}
-use Rattle.lists.proofs.Words.{ints, All-contains, slice_get_read}
-use Rattle.lists.proofs.Containing.{Contains-slice_get, Contains-take_cases}
+use Rattle.std.proofs.Common.{ℕ, List, [], ◌∷◌, ◌<◌, ◌+◌, ◌≡◌, refl, sym, subst, ap, ◌∙◌, inl, inr, ◌⊎◌, arith, ℤ, pos, ◌+ℤ◌, ◌≤ℤ◌, ◌↔◌, All, Contains, length, get_or, take}
+use Rattle.lists.proofs.Words.{ints, All-contains, Contains-append_left, Contains-push, slice_get_read, take_more}
+use Rattle.lists.proofs.Containing.{Contains-none, Contains-slice_get, Contains-take_cases}
 use Rattle.geo_core.specs.Intervals.{IntervalsOverlap, IsPartOf}
 use Rattle.geo_core.specs.Cells.{Has, IsInLayout}
 use Rattle.geo_core.specs.Unions.{IsInUnion}
@@ -12,7 +12,7 @@ use Rattle.geo_core.proofs.IntervalLaws.{IsIn-at, ends_in, in_ends}
 use Rattle.fault_model.specs.FaultNames.{IsOn, LiesIn}
 use Rattle.fault_model.proofs.HalfLaws.{halves_in, first_half}
 use Rattle.fault_model.proofs.UnionLaws.{union_more, union_none}
-use Rattle.half_boxes.specs.HalfBoxes.{OverlapHalves}
+use Rattle.half_boxes.specs.HalfBoxes.{HasHalf, IsInBoxes, OverlapHalves}
 use Rattle.half_boxes.specs.declared.boxes.HalfBox.{HalfBox}
 use Rattle.ring_test.specs.Rings.{Hole, IsInHole}
 
@@ -76,6 +76,27 @@ on_more pieces i piece h small is = (
     | inr (c, lies, new) ↦ (c, lies, (union_more c pieces i piece small is).1 (inr new))
   ],
 )
+
+-- the same of boxes
+pub boxes_none : (h : Half) → IsInBoxes [] h → ⊥
+boxes_none h b = Contains-none b.among
+
+pub boxes_more : (boxes : List HalfBox) (i : ℕ) (one : HalfBox) (h : Half) → i < length boxes → one ≡ get_or boxes i one → IsInBoxes (take (i + 1) boxes) h ↔ (IsInBoxes (take i boxes) h ⊎ HasHalf one h)
+boxes_more boxes i one h small is =
+    let added = sym (take_more boxes i one small) in (
+      λ b. elim (Contains-take_cases boxes i one b.one small b.among) [
+        | inl old ↦ inl (record { one = b.one; among = old; has = b.has })
+        | inr last ↦ inr (subst (λ o. HasHalf o h) (sym (is ∙ last)) b.has)
+      ],
+      λ either. elim either [
+        | inl b ↦ record { one = b.one; among = subst (λ xs. Contains xs b.one) added (Contains-append_left (take i boxes) (get_or boxes i one ∷ []) b.one b.among); has = b.has }
+        | inr has ↦ record {
+          one = get_or boxes i one;
+          among = subst (λ xs. Contains xs (get_or boxes i one)) added (Contains-push (take i boxes) (get_or boxes i one));
+          has = subst (λ o. HasHalf o h) is has;
+        }
+      ],
+    )
 
 -- where no rectangle that a layout may have comes into a hole, none of a layout does
 pub layout_misses : (pieces : List Rect) (hole : Hole) → All IsInLayout pieces → ((rect : Rect) (h : Half) → IsInLayout rect → IsOn (Has rect) h → IsInHole hole h → ⊥)

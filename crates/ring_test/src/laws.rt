@@ -1,13 +1,15 @@
 //! Laws of the ring round a hole: some try its definition, one says what it tells of an island.
 
-ghost use Rattle.std.specs.Prelude.{ℤ, pos, ℕ, ◌≡◌, ◌≤◌, ◌+ℤ◌, ◌-ℤ◌, ◌+◌, ◌*◌, ◌↔◌, length};
+ghost use Rattle.std.specs.Prelude.{ℤ, pos, ℕ, List, ◌≡◌, ◌≤◌, ◌+ℤ◌, ◌-ℤ◌, ◌+◌, ◌*◌, ◌↔◌, length};
 ghost use Rattle.geo_core.specs.declared.plane.Cell.{Cell};
 ghost use Rattle.geo_core.specs.declared.plane.Half.{Half};
 ghost use Rattle.fault_model.specs.Halves.{IsInFootprint, Neighbours};
 ghost use Rattle.fault_model.specs.IslandLists.{IslandLists, IsAnchoredIsland};
-ghost use Rattle.half_boxes.specs.HalfBoxes.{HasHalf};
+ghost use Rattle.half_boxes.specs.HalfBoxes.{HasHalf, IsInBoxes};
 ghost use Rattle.half_boxes.specs.declared.boxes.HalfBox.{HalfBox};
 ghost use Rattle.ring_test.specs.IslandHoles.{IsOnIsland, LosesAnchor, ReachesInto};
+ghost use Rattle.ring_test.specs.RingAnswers.{IsRingAnswer};
+ghost use Rattle.ring_test.specs.declared.answers.RingAnswer.TheVariants.{Many};
 ghost use Rattle.severing.specs.Severing.{IsSevered};
 ghost use Rattle.ring_test.specs.Rings.{HasOneArc, HasSome, Hole, IsInHole, IsRingNumber, IsRound, hole_at, hole_of};
 ghost use Rattle.ring_test.specs.Rings.{ring_length, ring_of};
@@ -39,11 +41,23 @@ pub fn defects_have_rings()
 {}
 
 /// Where an island has nothing in the hole, the removal of the hole parts no two anchors. Where what it has of the ring
-/// is one arc, the removal parts two of two or more anchors exactly where one lies wholly in the hole.
+/// is one arc, the removal parts two of two or more anchors exactly where one lies wholly in the hole. So where it parts
+/// two, and none lies wholly in the hole, the island has something in the hole and more than one arc of the ring.
 pub fn one_arc_parts_no_more()
     ensures untouched { (island : IslandLists) (hole : Hole) → IsAnchoredIsland island →
         (ReachesInto island hole → ⊥) → IsSevered island (IsInHole hole) → ⊥ }
     ensures one_arc { (island : IslandLists) (hole : Hole) → IsAnchoredIsland island → HasSome hole →
         2 ≤ length island.anchors → HasOneArc hole (IsOnIsland island) →
         IsSevered island (IsInHole hole) ↔ LosesAnchor island hole }
+    ensures many { (island : IslandLists) (hole : Hole) → IsAnchoredIsland island → HasSome hole →
+        (LosesAnchor island hole → ⊥) → IsSevered island (IsInHole hole) → IsRingAnswer island hole Many }
+{}
+
+/// Where boxes have of the ring round another box what an island has of it, which is one arc, and no anchor lies wholly in
+/// that box, then no defect whose half squares lie in it parts two anchors.
+pub fn one_arc_spares()
+    ensures { (island : IslandLists) (near : List HalfBox) (reach : HalfBox) (s : ℕ) (c : Cell) → IsAnchoredIsland island →
+        ((h : Half) → IsRound (hole_of reach) h → IsInBoxes near h ↔ IsOnIsland island h) →
+        HasOneArc (hole_of reach) (IsInBoxes near) → (LosesAnchor island (hole_of reach) → ⊥) →
+        ((h : Half) → IsInFootprint c s h → HasHalf reach h) → IsSevered island (IsInFootprint c s) → ⊥ }
 {}

@@ -10,8 +10,9 @@ pub mod answers;
 mod holes;
 pub mod laws;
 mod merging;
-mod rounds;
+pub mod rounds;
 mod runs;
 
 pub use answers::{RingAnswer, ring};
-pub use laws::{defects_have_rings, one_arc_parts_no_more, rings_go_round};
+pub use laws::{defects_have_rings, one_arc_parts_no_more, one_arc_spares, rings_go_round};
+pub use rounds::boxes_have_one_arc;

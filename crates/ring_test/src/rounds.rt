@@ -2,7 +2,7 @@ ghost use Rattle.std.specs.Prelude.{ℤ, pos, negsuc, ◌≡◌, ◌+ℤ◌, ◌
 ghost use Rattle.geo_core.specs.Intervals.{IsIn};
 ghost use Rattle.geo_core.specs.Unions.{IsInUnion};
 ghost use Rattle.fault_model.specs.Halves.{IsOn};
-ghost use Rattle.half_boxes.specs.HalfBoxes.{HasHalf};
+ghost use Rattle.half_boxes.specs.HalfBoxes.{HasHalf, IsInBoxes};
 ghost use Rattle.ring_test.specs.Rings.{HasOneArc, IsRingNumber, hole_of, ring_length, ring_of};
 ghost use Rattle.ring_test.specs.inside.RingSides.{IsAbove, IsBelow, IsOnLeft, IsOnRight};
 ghost use Rattle.ring_test.specs.inside.NumberRuns.{IsInRunOf, IsInRuns};
@@ -21,6 +21,28 @@ pub fn has_one_arc(alloc: Global, hole: HalfBox, pieces: &[Rect]) -> Result<bool
     let mut runs = runs_of(alloc, hole, pieces)?;
     runs.sort_unstable_by_key(|run| run.from);
     Ok(merge(&runs).is_arc(length_round(hole)))
+}
+
+/// Whether the boxes have one arc of the ring round the hole. The only error is that no memory is left. For n boxes it takes
+/// n times log n steps, however large the hole.
+pub fn boxes_have_one_arc(alloc: Global, hole: HalfBox, boxes: &[HalfBox]) -> Result<bool, NoMemory>
+    ensures { IfOk result (λ answer. IsTrue answer ↔ HasOneArc (hole_of hole) (IsInBoxes boxes.now)) }
+{
+    let mut runs = runs_of_boxes(alloc, hole, boxes)?;
+    runs.sort_unstable_by_key(|run| run.from);
+    Ok(merge(&runs).is_arc(length_round(hole)))
+}
+
+/// The numbers of the half squares on the ring round the hole that the boxes have, in no order.
+fn runs_of_boxes(alloc: Global, hole: HalfBox, boxes: &[HalfBox]) -> Result<Vec<Run>, AllocError>
+    ensures { IfOk result (λ runs. (k : ℤ) → IsInRuns runs.items k
+        ↔ (IsRingNumber (hole_of hole) k × IsInBoxes boxes.now (ring_of (hole_of hole) k))) }
+{
+    let mut runs = Vec::new(alloc);
+    for one in boxes {
+        add_runs(hole, *one, &mut runs)?;
+    }
+    Ok(runs)
 }
 
 /// The numbers of the half squares on the ring round the hole that the rectangles have, in no order.

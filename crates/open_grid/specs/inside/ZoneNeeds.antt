@@ -5,11 +5,13 @@ use Rattle.geo_core.specs.Plane.{Has, IsInUnion}
 use Rattle.geo_core.specs.declared.plane.Cell.{Cell}
 use Rattle.geo_core.specs.declared.plane.Half.{Half}
 use Rattle.geo_core.specs.declared.plane.Rect.{Rect}
-use Rattle.fault_model.specs.FaultNames.{IslandLists, IsInFootprint}
+use Rattle.fault_model.specs.FaultNames.{IslandLists, IsInFootprint, LiesIn}
+use Rattle.fault_model.specs.IslandLists.{IsAnchoredIsland}
 use Rattle.half_boxes.specs.Footprints.{IsReached, IsAlwaysHit}
-use Rattle.half_boxes.specs.HalfBoxes.{HasHalf}
+use Rattle.half_boxes.specs.HalfBoxes.{HasHalf, IsInBoxes}
 use Rattle.half_boxes.specs.declared.boxes.HalfBox.{HalfBox}
 use Rattle.remnants.specs.Remnants.{IsSplit}
+use Rattle.ring_test.specs.IslandHoles.{IsOnIsland}
 use Rattle.severing.specs.Changes.{HasNear}
 use Rattle.severing.specs.Severing.{IsSevered}
 use Rattle.open_grid.specs.declared.looked.Looked.{Looked}
@@ -19,11 +21,30 @@ pub record IsBetweenDefects (zone : Rect) (side : ℕ) (removed : HalfBox) : Typ
   pub has_core : (h : Half) → IsAlwaysHit zone side h → HasHalf removed h
   pub in_reach : (h : Half) → HasHalf removed h → IsReached zone side h
 
--- what was looked at stands for the island where such a box is removed, and it has the boxes whose ends matter in the zone
+-- the list has a box with just the half squares of the set
+pub record HasBoxOf (boxes : List HalfBox) (set : Half → Type 0) : Type 0 where
+  pub one : HalfBox
+  pub among : Contains boxes one
+  pub same : (h : Half) → HasHalf one h ↔ set h
+
+-- it has one for each anchor's cell
+abbrev pub HaveAnchorBoxes : IslandLists → List HalfBox → Type 0
+HaveAnchorBoxes island boxes = (anchor : Cell) → Contains island.anchors anchor → HasBoxOf boxes (λ h. LiesIn h anchor)
+
+-- it has one for each anchor's cell that the zone's defects cover together
+abbrev pub HaveReached : IslandLists → Rect → ℕ → List HalfBox → Type 0
+HaveReached island zone side boxes = (anchor : Cell) → Contains island.anchors anchor → ((h : Half) → LiesIn h anchor → IsReached zone side h)
+    → HasBoxOf boxes (λ h. LiesIn h anchor)
+
+-- what was looked at stands for the island where such a box is removed, and it has the boxes whose ends matter in the zone, all on
+-- the island, and those of the anchors that its defects cover together
 pub record StandsFor (zone : Rect) (side : ℕ) (looked : Looked) (island : IslandLists) : Type 0 where
+  pub anchored : IsAnchoredIsland island
   pub same : (removed : HalfBox) → IsBetweenDefects zone side removed →
       IsSplit looked.remnant removed ↔ IsSevered island (HasHalf removed)
   pub has_near : HasNear island zone side looked.near
+  pub near_on_island : (h : Half) → IsInBoxes looked.near h → IsOnIsland island h
+  pub has_reached : HaveReached island zone side looked.anchors
 
 -- one island each
 abbrev pub StandForAll : Rect → ℕ → List Looked → List IslandLists → Type 0

@@ -1,5 +1,5 @@
 -- what becomes of a zone when islands are looked at
-use Rattle.std.specs.Prelude.{ℤ, pos, ℕ, List, [], Contains, All, Option, Some, None, Vec, length, slice_get, IsSorted, ◌<◌, ◌/◌, ◌≡◌, ◌≢◌, ◌⊎◌, ◌↔◌, ◌+ℤ◌, ◌<ℤ◌, ⊤}
+use Rattle.std.specs.Prelude.{ℤ, pos, ℕ, List, [], Contains, All, IsTrue, Option, Some, None, Vec, length, slice_get, IsSorted, ◌<◌, ◌/◌, ◌≡◌, ◌≢◌, ◌⊎◌, ◌↔◌, ◌+ℤ◌, ◌<ℤ◌, ⊤}
 use Rattle.std.specs.Ordering.{int_cmp}
 use Rattle.lists.specs.Words.{Global}
 use Rattle.geo_core.specs.Plane.{Has, IsInUnion, low_along, high_along}
@@ -9,13 +9,15 @@ use Rattle.geo_core.specs.declared.plane.Cell.{Cell}
 use Rattle.geo_core.specs.declared.plane.Half.{Half}
 use Rattle.geo_core.specs.declared.plane.Rect.{Rect}
 use Rattle.fault_model.specs.FaultNames.{IslandLists, IsInFootprint, IsOn, LiesIn}
-use Rattle.half_boxes.specs.HalfBoxes.{HasHalf, HasHalfIn}
+use Rattle.half_boxes.specs.HalfBoxes.{HasHalf, HasHalfIn, IsInBoxes, LiesWithin}
 use Rattle.half_boxes.specs.declared.boxes.HalfBox.{HalfBox}
 use Rattle.remnants.specs.Remnants.{RemnantLists, IsSplit}
+use Rattle.ring_test.specs.IslandHoles.{IsOnIsland}
 use Rattle.severing.specs.Changes.{ChangesAt, IsSteady}
 use Rattle.severing.specs.Severing.{IsSevered}
 use Rattle.union_area.specs.WindowParts.{AreInLine, IsBetween, place_along}
-use Rattle.open_grid.specs.inside.ZoneNeeds.{StandsFor, StandForAll, AllSever, SeverAlike}
+use Rattle.open_grid.specs.inside.ZoneNeeds.{HasBoxOf, HaveAnchorBoxes, StandsFor, StandForAll, AllSever, SeverAlike}
+use Rattle.open_grid.specs.RingCounts.{IsSomeRingMany}
 use Rattle.open_grid.specs.declared.looked.Looked.{Looked}
 use Rattle.open_grid.specs.declared.looked.Told.{Told}
 use Rattle.open_grid.specs.declared.looked.Told.TheVariants.{Never, Always, Open}
@@ -37,25 +39,22 @@ pub record IsSingle (zone : Rect) : Type 0 where
   pub column : zone.x0 +ℤ pos 1 ≡ zone.x1
   pub row : zone.y0 +ℤ pos 1 ≡ zone.y1
 
--- the list has a box with just the half squares of the set
-pub record HasBoxOf (boxes : List HalfBox) (set : Half → Type 0) : Type 0 where
-  pub one : HalfBox
-  pub among : Contains boxes one
-  pub same : (h : Half) → HasHalf one h ↔ set h
-
--- it has one for each of the rectangles
-abbrev pub HavePieceBoxes : List Rect → List HalfBox → Type 0
-HavePieceBoxes pieces boxes = (piece : Rect) → Contains pieces piece → HasBoxOf boxes (IsOn (Has piece))
+-- the list has a box for each of the rectangles, and nothing else
+pub record HavePieceBoxes (pieces : List Rect) (boxes : List HalfBox) : Type 0 where
+  pub each : (piece : Rect) → Contains pieces piece → HasBoxOf boxes (IsOn (Has piece))
+  pub only : (h : Half) → IsInBoxes boxes h → IsOn (IsInUnion pieces) h
 
 -- it gains one for each of the cells that some rectangle has
 pub record GainsCells (cells : List Cell) (old new : List HalfBox) : Type 0 where
   pub kept : (one : HalfBox) → Contains old one → Contains new one
   pub gained : (cell : Cell) (rect : Rect) → Contains cells cell → Has rect cell → HasBoxOf new (λ h. LiesIn h cell)
+  pub only : (h : Half) → IsInBoxes new h → IsInBoxes old h ⊎ IsOn (Contains cells) h
 
--- it has one for each rectangle of the island, and one for each anchor's cell
+-- it has one for each rectangle of the island, and one for each anchor's cell, all on the island
 pub record HaveBoxesOf (island : IslandLists) (boxes : List HalfBox) : Type 0 where
-  pub pieces : HavePieceBoxes island.pieces boxes
-  pub anchors : (cell : Cell) → Contains island.anchors cell → HasBoxOf boxes (λ h. LiesIn h cell)
+  pub pieces : (piece : Rect) → Contains island.pieces piece → HasBoxOf boxes (IsOn (Has piece))
+  pub anchors : HaveAnchorBoxes island boxes
+  pub on_island : (h : Half) → IsInBoxes boxes h → IsOnIsland island h
 
 -- what an island says of the zone: no defect of it parts two of the anchors; each does; or this is to be looked at
 abbrev pub IsToldOf : Rect → ℕ → IslandLists → Told → Type 0
@@ -69,20 +68,22 @@ IsToldAtOnce zone Never = ⊤
 IsToldAtOnce zone Always = ⊤
 IsToldAtOnce zone (Open looked) = IsSingle zone → ⊥
 
--- the islands that these are looked at for have the same defects in the zone
+-- the islands of the list that these are looked at for have the same defects in the zone as all of it
 pub record LeftStandsFor (zone : Rect) (side : ℕ) (islands : List IslandLists) (looked : List Looked) : Type 0 where
   pub others : List IslandLists
+  pub among : (island : IslandLists) → Contains others island → Contains islands island
   pub stand : StandForAll zone side looked others
   pub alike : SeverAlike islands others side zone
 
--- what is left of islands in the zone: each defect parts some, or these are to be looked at
+-- what is left of islands in the zone: each defect parts some, and where this is said, the ring round one of them has many arcs
+-- of an island; or these are to be looked at
 abbrev pub IsLeftOf : Rect → ℕ → List IslandLists → Left → Type 0
-IsLeftOf zone side islands Everywhere = AllSever islands side zone
+IsLeftOf zone side islands (Everywhere many) = AllSever islands side zone × (IsTrue many → IsSomeRingMany islands zone side)
 IsLeftOf zone side islands (Of looked) = LeftStandsFor zone side islands looked
 
 -- of one cell nothing is left
 abbrev pub IsDoneAtOnce : Rect → Left → Type 0
-IsDoneAtOnce zone Everywhere = ⊤
+IsDoneAtOnce zone (Everywhere many) = ⊤
 IsDoneAtOnce zone (Of looked) = looked ≢ [] → IsSingle zone → ⊥
 
 -- the removal of the box, where there is one, parts two terminals of the remnant, all else being left of it
@@ -99,6 +100,14 @@ MayNotMatter core reach one =
 -- the boxes of the list that may matter stay
 abbrev pub KeepsNear : Option HalfBox → HalfBox → List HalfBox → List HalfBox → Type 0
 KeepsNear core reach near kept = (one : HalfBox) → Contains near one → Contains kept one ⊎ MayNotMatter core reach one
+
+-- the boxes are of the list
+abbrev pub AreOf : List HalfBox → List HalfBox → Type 0
+AreOf boxes kept = (one : HalfBox) → Contains kept one → Contains boxes one
+
+-- those boxes of the list that lie in the reach stay
+abbrev pub KeepsWithin : HalfBox → List HalfBox → List HalfBox → Type 0
+KeepsWithin reach boxes kept = (one : HalfBox) → Contains boxes one → LiesWithin one reach → Contains kept one
 
 -- the list gains the place, where it lies inside the zone along the axis
 pub record GainsPlace (axis : Axis) (zone : Rect) (place : ℤ) (old new : List ℤ) : Type 0 where

@@ -23,8 +23,9 @@ returns-then-branch-clause-told c = λ island stands.
 pub returns-clause-told : goal.returns-clause-told
 returns-clause-told c = λ island stands.
     told_open c.args.zone c.args.side c.args.looked.now island stands c.core_of-inner.result c.reach_of-outer.result c.core_of-inner.ensures c.reach_of-outer.ensures c.in_ok-remnant.remnant
-    c.in_ok-remnant.ensures.same c.in_ok-near.near (rw c.as_slice.ensures at c.in_ok-near.ensures)
-    (record { remnant = c.in_ok-remnant.remnant; near = c.in_ok-near.near }) refl refl
+    c.in_ok-remnant.ensures.same c.in_ok-near.near (rw c.as_slice.ensures at c.in_ok-near.ensures.near) (rw c.as_slice.ensures at c.in_ok-near.ensures.of_near)
+    c.in_ok-anchors.anchors (rw c.as_slice-2.ensures at c.in_ok-anchors.ensures)
+    (record { remnant = c.in_ok-remnant.remnant; near = c.in_ok-near.near; anchors = c.in_ok-anchors.anchors }) refl refl refl
 
 pub returns-clause-at_once : goal.returns-clause-at_once
 returns-clause-at_once c = λ single. false≢true (sym c.if-is_single.false ∙ c.is_single.ensures.1 single)

@@ -1,5 +1,6 @@
 use Rattle.std.proofs.Common.{◌+◌, ◌∷◌, ◌++◌, [], ◌≡◌, ap, add-one, arith, subst, take, take_all, ◌∙◌}
 use Rattle.open_grid.specs.inside.ZoneSteps.{LeftStandsFor}
+use Rattle.open_grid.proofs.CountLaws.{many_ring}
 use Rattle.open_grid.proofs.LeftLaws.{all_severed, as_many, beside, left_never, left_none, left_open}
 use Rattle.open_grid.proofs.zones.look_closer.Goals as goal
 use Rattle.open_grid.proofs.zones.look_closer.Goals.{in-Never, in-Open+in_ok-push-in-Open}
@@ -9,8 +10,14 @@ loop-one-init c = (λ islands stand. rw c.new-left.ensures.items (left_none c.ar
 
 pub returns-in-Always-clause-left : goal.returns-in-Always-clause-left
 returns-in-Always-clause-left c = λ islands stand.
-    let b = beside c.args.zone c.args.side c.args.looked.now islands c.loop-one.one-index c.one-item.result stand c.loop-one-test.true c.one-item.is in
-    all_severed c.args.zone c.args.side islands b.island b.among (rw c.in-Always.is at (c.in_ok-look_at.ensures.told b.island b.stands))
+    let zone = c.args.zone in
+    let side = c.args.side in
+    let b = beside zone side c.args.looked.now islands c.loop-one.one-index c.one-item.result stand c.loop-one-test.true c.one-item.is in
+    let told = rw c.in-Always.is at (c.in_ok-look_at_ring_first.ensures.told b.island b.stands) in
+    let covers = rw c.as_slice.ensures at c.covers_none_at_a_corner-many.ensures in (
+      all_severed zone side islands b.island b.among told,
+      λ many. many_ring c.one_arc_parts_no_more.ensures.many zone side c.requires.some c.one-item.result b.island b.stands told (covers many) islands b.among,
+    )
 
 pub loop-one-preserved : goal.loop-one-preserved
 loop-one-preserved c = (
@@ -20,7 +27,7 @@ loop-one-preserved c = (
       let i = c.loop-one.one-index in
       let b = beside zone side c.args.looked.now islands i c.one-item.result stand c.loop-one-test.true c.one-item.is in
       let e : take (i + 1) islands ≡ take i islands ++ b.island ∷ [] = ap (λ n. take n islands) (add-one i) ∙ b.more in
-      let told = c.in_ok-look_at.ensures.told b.island b.stands in
+      let told = c.in_ok-look_at_ring_first.ensures.told b.island b.stands in
       let before = c.loop-one.invariant.0 islands stand in
       elim c.match-branch-2.branch [
         | in-Never w ↦ rw (w.left-is, e) (left_never zone side (take i islands) c.loop-one.left.items before b.island (rw w.in-Never.is at told))
@@ -29,7 +36,7 @@ loop-one-preserved c = (
       ],
   elim c.match-branch-2.branch [
     | in-Never w ↦ rw w.left-is c.loop-one.invariant.1
-    | in-Open+in_ok-push-in-Open w ↦ λ some. rw w.in-Open.is at c.in_ok-look_at.ensures.at_once
+    | in-Open+in_ok-push-in-Open w ↦ λ some. rw w.in-Open.is at c.in_ok-look_at_ring_first.ensures.at_once
   ],
 )
 

@@ -1,7 +1,7 @@
 use Rattle.std.proofs.Common.{◌+◌, refl}
 use Rattle.lists.proofs.Words.{false≢true}
 use Rattle.open_grid.proofs.PartingLaws.{always_open, never_open, not_open}
-use Rattle.open_grid.proofs.parting.parted.Goals as goal
+use Rattle.open_grid.proofs.parting.parted_by_search.Goals as goal
 
 pub returns-in_default : goal.returns-in_default
 returns-in_default c = (

@@ -2,7 +2,7 @@ use Rattle.std.proofs.Common.{All, take, ℕ}
 use Rattle.geo_core.specs.declared.plane.Rect.{Rect}
 use Rattle.fault_model.specs.IslandLists.{IsAnchoredIsland}
 use Rattle.open_grid.specs.inside.ZoneNeeds.{StandForAll}
-use Rattle.open_grid.proofs.areas.open_cells.Given as goal
+use Rattle.open_grid.proofs.areas.counted_cells.Given as goal
 
 abbrev pub invariant-loop-island : goal.invariant-loop-island
 invariant-loop-island l =
