@@ -3,5 +3,6 @@ pub mod LayerLaws
 pub mod ReadingLaws
 pub mod TerminalLaws
 pub mod AnalysisLaws
+pub mod StatusLaws
 pub mod RunLaws
 pub mod laws

@@ -19,9 +19,9 @@ use Rattle.map_model.specs.MapNames.{LayerMap, layer_map_of, one_metal_map}
 use Rattle.map_model.specs.declared.map.Map.{Map}
 use Rattle.critarea_core.specs.Contents.{MayContain, MayHave, Source, bytes_from, file}
 use Rattle.critarea_core.specs.inside.Finding.{Analyses, Finds, Gives, gives_thing, gives_refusal, FindsInFiles, files_serve, files_fail, IsToldAs, as_memory, as_known}
-use Rattle.critarea_core.specs.inside.Finding.{AreItems, BytesMayCome, IsMapOf, IsOneOf, MapMayCome}
+use Rattle.critarea_core.specs.inside.Finding.{AreItems, BytesMayCome, IsMapOf, MapMayCome}
 use Rattle.critarea_core.specs.Refusals.{map_limit, map_too_long, of_map_fault}
-use Rattle.critarea_core.specs.Run.{Change, IsCalm, change}
+use Rattle.critarea_core.specs.Run.{Change, IsCalm, IsUnsureOf, change}
 use Rattle.critarea_core.specs.Verdict.{IsShortEnough, ShortMapComesTo}
 use Rattle.critarea_core.specs.declared.layout_fault.LayoutFault.{LayoutFault}
 use Rattle.critarea_core.specs.declared.layout_fault.LayoutFault.TheVariants.{Memory as LayoutMemory}
@@ -169,17 +169,18 @@ module _ (told : List ℕ → Option (List ℕ)) (name : List ℕ) (limit : ℕ)
   }
 
   -- the file was read, or it failed, or some bytes that it may have are too many
-  pub file_found : (before after : ℕ) (started : Type 0) (rest : Option (List ℕ)) (answer : Result (Vec ℕ Global) ReadError) → ReadsWhole (told name) limit before after started rest answer
-      → FindsInFiles (change before after) (IsOneOf (name ∷ [])) (BytesMayCome told (file name) limit too_long) AreItems (as_found too_long answer)
-  file_found before after started rest (Ok bytes) (is_whole whole are short calm opened left) =
+  pub file_found : (sure : List ℕ → Type 0) (before after : ℕ) (started : Type 0) (rest : Option (List ℕ)) (answer : Result (Vec ℕ Global) ReadError)
+      → ReadsWhole (told name) limit before after started rest answer → (answer ≡ Err unread.Fault → sure name → ⊥)
+      → FindsInFiles (change before after) (IsUnsureOf sure (name ∷ [])) (BytesMayCome told (file name) limit too_long) AreItems (as_found too_long answer)
+  file_found sure before after started rest (Ok bytes) (is_whole whole are short calm opened left) unsure =
       let may = may_have_read (told name) bytes.items whole are in
       files_serve calm (gives (gives_thing (bytes_come bytes.items may (value bytes.items) (reads (record { is_text = refl; short = omega (arith, short) }))) refl))
-  file_found before after started rest (Err unread.Fault) (has_failed failed) = files_fail failed.rose (name, Contains-head name [])
-  file_found before after started rest (Err unread.TooLong) (is_too_long more calm opened left) =
+  file_found sure before after started rest (Err unread.Fault) (has_failed failed) unsure = files_fail failed.rose (name, Contains-head name [], unsure refl)
+  file_found sure before after started rest (Err unread.TooLong) (is_too_long more calm opened left) unsure =
       let (bytes, may, long) = long_bytes limit (told name) more in
       let none : (text : List ℕ) → IsShortEnough limit bytes text → ⊥ = λ text is. let short = is.short in absurd (omega (arith, long, short)) in
       files_serve calm (refuses (gives_refusal (bytes_come bytes may (refused too_long) (lacks none))))
-  file_found before after started rest (Err unread.Memory) (has_no_memory calm opened left) = files_serve calm no_memory
+  file_found sure before after started rest (Err unread.Memory) (has_no_memory calm opened left) unsure = files_serve calm no_memory
 
 -- bytes that were found are no more than the limit
 pub found_short : (told : List ℕ → Option (List ℕ)) (source : Source) (limit : ℕ) (too_long : Refusal) (failures : Change ℕ) (SomeFile : Type 0) (read : Vec ℕ Global)

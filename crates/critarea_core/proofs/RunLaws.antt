@@ -1,6 +1,6 @@
 -- what a run found of the words and the files, and what it printed
-use Rattle.std.proofs.Common.{ℕ, ◌≡◌, ◌⊎◌, List, [], ◌∷◌, ◌++◌, refl, sym, ap, subst, ◌∙◌, inl, inr, append_assoc, Option, Some, None, IsErrAnd, Result, Ok, Err, Vec, map}
-use Rattle.lists.proofs.Words.{append-nil, Global, Contains-append_left, Contains-append_right}
+use Rattle.std.proofs.Common.{ℕ, ◌≡◌, ◌≢◌, ◌↔◌, ◌⊎◌, arith, List, [], ◌∷◌, ◌++◌, refl, sym, ap, subst, ◌∙◌, inl, inr, append_assoc, Option, Some, None, IsErrAnd, Result, Ok, Err, Vec, map}
+use Rattle.lists.proofs.Words.{append-nil, Global, Contains-append_right}
 use Rattle.first_refusal.specs.Answers.{gives, refuses}
 use Rattle.first_refusal.specs.Outcomes.{Outcome, Retold, value, refused, reads, lacks, kept, retold, goes_on, stops}
 use Rattle.edge_io.specs.Bytes.{Appends}
@@ -13,12 +13,12 @@ use Rattle.gauges.specs.GaugeViews.{GaugeView, AreTold, AreToldPrefixes, texts_a
 use Rattle.gauges.proofs.laws.Told.{texts_gained}
 use Rattle.report.specs.Report.{report_text}
 use Rattle.critarea_core.specs.Contents.{MayContain, MayHave, names_in, map_names, file_names, bytes_from, layout_source, wanted_top}
-use Rattle.critarea_core.specs.inside.Finding.{Analyses, AreFew, AreItems, Finds, FindsInFiles, files_serve, files_fail, gives_thing, gives_refusal, HasRows, IsFound, IsMapOf, IsOneOf}
+use Rattle.critarea_core.specs.inside.Finding.{Analyses, AreFew, AreItems, Finds, FindsInFiles, files_serve, files_fail, gives_thing, gives_refusal, HasRows, IsFound, IsMapOf}
 use Rattle.critarea_core.specs.inside.Finding.{IsPrinted, IsToldAs, LayoutMayCome, MapMayCome, report_out, report_cut, no_report, line_out, line_cut, no_line}
 use Rattle.critarea_core.specs.Layout.{ShortLayoutComesTo, Subject}
 use Rattle.critarea_core.specs.Refusals.{of_layout_fault, usage}
 use Rattle.critarea_core.specs.Verdict.{LayoutComesTo, whole_report}
-use Rattle.critarea_core.specs.Run.{AreUntold, Change, change, KeepTheirTexts, NameSomeFile, Surroundings, HasRisen, IsCalm, MayComeTo, MustComeTo, AreRowsFor}
+use Rattle.critarea_core.specs.Run.{AreUnsure, AreUntold, CannotFail, Change, change, KeepTheirTexts, Surroundings, HasRisen, IsCalm, IsUnsureOf, MapMayBeGood, MayComeTo, MustComeTo, AreRowsFor}
 use Rattle.critarea_core.specs.Run.{IsComplete, EndsWith, RunsTo, StartsNamed, no_file, map_file, both_files}
 use Rattle.critarea_core.specs.Run as run
 use Rattle.critarea_core.specs.declared.layout_fault.LayoutFault.{LayoutFault}
@@ -27,6 +27,7 @@ use Rattle.critarea_core.specs.declared.refusal.Refusal.{Refusal}
 use Rattle.critarea_core.specs.declared.unreported.Unreported.{Unreported}
 use Rattle.critarea_core.specs.declared.unreported.Unreported.TheVariants.{Refused, FilesFailed, Memory}
 use Rattle.critarea_core.proofs.ReadingLaws.{fault_found, found_as, found_bytes, found_for, not_found, not_read, some_contents, some_may_be}
+use Rattle.critarea_core.proofs.StatusLaws.{refused_status}
 use Rattle.critarea_core.proofs.laws.VerdictLaws.{verdicts_agree}
 
 -- the one list behind the other
@@ -35,10 +36,10 @@ appends_both None middle after xs ys p q = subst (λ m. Appends m after ys) p q
 appends_both (Some all) middle after xs ys p q = subst (λ m. Appends m after ys) p q ∙ ap (λ (zs : List _). Some zs) (append_assoc all xs ys)
 
 -- rows that were found are few
-pub rows_are_few : (words : List (List ℕ)) (told : List ℕ → Option (List ℕ)) (failures : Change ℕ) (found : Result (Vec Row Global) Unreported)
-    → IsFound words told failures found → AreFew found
-rows_are_few words told failures (Ok rows) (files_serve calm (gives (gives_thing comes has))) = has.few
-rows_are_few words told failures (Err why) is = tt
+pub rows_are_few : (words : List (List ℕ)) (told : List ℕ → Option (List ℕ)) (sure : List ℕ → Type 0) (failures : Change ℕ) (found : Result (Vec Row Global) Unreported)
+    → IsFound words told sure failures found → AreFew found
+rows_are_few words told sure failures (Ok rows) (files_serve calm (gives (gives_thing comes has))) = has.few
+rows_are_few words told sure failures (Err why) is = tt
 
 module _ (words : List (List ℕ)) (told : List ℕ → Option (List ℕ)) where
   -- ---- what is found
@@ -57,13 +58,6 @@ module _ (words : List (List ℕ)) (told : List ℕ → Option (List ℕ)) where
     kept (Some names) = ap (λ (n : List (List ℕ)). Some n) (sym (append-nil names))
 
   module _ (request : Request) (asked : Ask words request) where
-    -- the words name the map's file, where there is one, and the layout's
-    name_map : IsOneOf (map_names request.task) → NameSomeFile words
-    name_map (name, among) = (request, name, asked, Contains-append_left (map_names request.task) (names_in (layout_source request.task)) name among)
-
-    name_layout : IsOneOf (names_in (layout_source request.task)) → NameSomeFile words
-    name_layout (name, among) = (request, name, asked, Contains-append_right (map_names request.task) (names_in (layout_source request.task)) name among)
-
     map_refused : (refusal : Refusal) → MapMayCome told request.task (refused refusal) → MayComeTo words told (refused refusal)
     map_refused refusal m = record {
       contents = record { map = m.bytes; layout = some_contents told };
@@ -72,10 +66,16 @@ module _ (words : List (List ℕ)) (told : List ℕ → Option (List ℕ)) where
     }
 
     -- a map that was not found
-    pub no_map : (failures : Change ℕ) (why : Unreported) (result : Result (Vec Row Global) Unreported) → IsErrAnd result (λ same. same ≡ why)
-        → FindsInFiles failures (IsOneOf (map_names request.task)) (MapMayCome told request.task) IsMapOf (Err why) → IsFound words told failures result
-    no_map failures why result gave found =
-        not_found failures (IsOneOf (map_names request.task)) (NameSomeFile words) (MapMayCome told request.task) IsMapOf (MayComeTo words told) HasRows name_map map_refused why result gave found
+    module _ (sure : List ℕ → Type 0) where
+      -- the map's file may be started
+      name_map : IsUnsureOf sure (map_names request.task) → AreUnsure words told sure
+      name_map unsure = record { names = map_names request.task; may_be = map_file request asked; not_sure = unsure }
+
+      pub no_map : (failures : Change ℕ) (why : Unreported) (result : Result (Vec Row Global) Unreported) → IsErrAnd result (λ same. same ≡ why)
+          → FindsInFiles failures (IsUnsureOf sure (map_names request.task)) (MapMayCome told request.task) IsMapOf (Err why) → IsFound words told sure failures result
+      no_map failures why result gave found =
+          not_found failures (IsUnsureOf sure (map_names request.task)) (AreUnsure words told sure) (MapMayCome told request.task) IsMapOf (MayComeTo words told) HasRows name_map
+          map_refused why result gave found
 
     -- the map's file alone
     pub starts_map : {before after : Option (List (List ℕ))} → Appends before after (map_names request.task) → StartsNamed words told (change before after)
@@ -86,17 +86,29 @@ module _ (words : List (List ℕ)) (told : List ℕ → Option (List ℕ)) where
       good : IsCalm (change before middle) × MapMayCome told request.task (value (layer_map_of map))
       good = found_as layer_map_of (MapMayCome told request.task) (change before middle) SomeFile map found_map
 
+      may_be_good : MapMayBeGood told request
+      may_be_good = record { bytes = good.1.bytes; may_be = good.1.may_be; layer_map = layer_map_of map; comes = good.1.comes }
+
       -- the map's file, where there is one, and the layout's behind it
       pub starts_both : {first second third : Option (List (List ℕ))} → Appends first second (map_names request.task)
           → Appends second third (names_in (layout_source request.task)) → StartsNamed words told (change first third)
       starts_both {first} {second} {third} of_map of_layout = record {
         names = file_names request.task;
-        may_be = both_files request asked (record { bytes = good.1.bytes; may_be = good.1.may_be; layer_map = layer_map_of map; comes = good.1.comes });
+        may_be = both_files request asked may_be_good;
         started = appends_both first second third (map_names request.task) (names_in (layout_source request.task)) of_map of_layout;
       }
 
-      -- the files tell then what they told before
-      module _ (later : List ℕ → Option (List ℕ)) (same : (name : List ℕ) → later name ≡ told name) where
+      -- the files tell then what they told before, and are sure of what they were sure of
+      module _ (sure sure_later : List ℕ → Type 0) (as_sure : (name : List ℕ) → sure_later name ↔ sure name)
+          (later : List ℕ → Option (List ℕ)) (same : (name : List ℕ) → later name ≡ told name) where
+        -- the layout's file may be started behind the map's
+        name_layout : IsUnsureOf sure_later (names_in (layout_source request.task)) → AreUnsure words told sure
+        name_layout (name, among, unsure) = record {
+          names = file_names request.task;
+          may_be = both_files request asked may_be_good;
+          not_sure = (name, Contains-append_right (map_names request.task) (names_in (layout_source request.task)) name among, λ is. unsure ((as_sure name).1 is));
+        }
+
         -- what a layout comes to that they may have, the words may come to
         with_layout : (bytes : List ℕ → List ℕ) → MayContain later bytes → (outcome : Outcome Subject Refusal)
             → LayoutComesTo (layer_map_of map) (wanted_top request.task) (bytes_from bytes (layout_source request.task)) outcome → MayComeTo words told outcome
@@ -108,11 +120,11 @@ module _ (words : List (List ℕ)) (told : List ℕ → Option (List ℕ)) where
 
         -- a layout that was not found
         pub no_layout : {after : ℕ} (why : Unreported) (result : Result (Vec Row Global) Unreported) → IsErrAnd result (λ same. same ≡ why)
-            → FindsInFiles (change middle after) (IsOneOf (names_in (layout_source request.task))) (LayoutMayCome later (layout_source request.task)) AreItems (Err why)
-            → IsFound words told (change before after) result
+            → FindsInFiles (change middle after) (IsUnsureOf sure_later (names_in (layout_source request.task))) (LayoutMayCome later (layout_source request.task)) AreItems (Err why)
+            → IsFound words told sure (change before after) result
         no_layout {after} why result gave found =
-            subst (λ first. IsFound words told (change first after) result) good.0
-            (not_found (change middle after) (IsOneOf (names_in (layout_source request.task))) (NameSomeFile words) (LayoutMayCome later (layout_source request.task)) AreItems
+            subst (λ first. IsFound words told sure (change first after) result) good.0
+            (not_found (change middle after) (IsUnsureOf sure_later (names_in (layout_source request.task))) (AreUnsure words told sure) (LayoutMayCome later (layout_source request.task)) AreItems
             (MayComeTo words told) HasRows name_layout (λ refusal l. with_layout l.bytes l.may_be (refused refusal) (stops l.comes)) why result gave found)
 
         -- Below, so was the layout.
@@ -130,13 +142,13 @@ module _ (words : List (List ℕ)) (told : List ℕ → Option (List ℕ)) where
 
           -- its fault
           pub fault_on_layout : (why : LayoutFault) (result : Result (Vec Row Global) Unreported) → IsErrAnd result (IsToldAs layout_fault.Memory Memory (λ known. Refused (of_layout_fault known)) why)
-              → AreOnLayout (Err why) → IsFound words told (change before after) result
+              → AreOnLayout (Err why) → IsFound words told sure (change before after) result
           fault_on_layout why result gave found =
               files_serve (there.0 ∙ good.0) (not_read Memory (λ refusal. Refused refusal) (MayComeTo words told) HasRows layout_fault.Memory of_layout_fault why result gave
               (λ known. on_layout (refused (of_layout_fault why)) (retold (fault_found _ HasRows why found known))))
 
           -- the rows on it
-          pub rows_on_layout : (rows : Vec Row Global) → AreOnLayout (Ok rows) → IsFound words told (change before after) (Ok rows)
+          pub rows_on_layout : (rows : Vec Row Global) → AreOnLayout (Ok rows) → IsFound words told sure (change before after) (Ok rows)
           rows_on_layout rows found =
               let on = found_for _ _ _ _ rows found in files_serve (there.0 ∙ good.0) (gives (gives_thing {v = on.0} (on_layout (value on.0) (kept on.1)) on.2))
 
@@ -177,7 +189,7 @@ module _ (words : List (List ℕ)) (met : Surroundings) where
   never_failed : {T V : Type 0} (Stage : Outcome V Refusal → Type 0) (IsFor : V → T → Type 0) → Finds Stage IsFor (Err FilesFailed) → ⊥
   never_failed Stage IsFor (refuses h) = elim h [ ]
 
-  pub ends : (found : Result (Vec Row Global) Unreported) (status : ℕ) → IsFound words told met.files.failures found → IsPrinted found met.gauges met.out met.err status → EndsWith words met status
+  pub ends : (found : Result (Vec Row Global) Unreported) (status : ℕ) → IsFound words told met.files.sure met.files.failures found → IsPrinted found met.gauges met.out met.err status → EndsWith words met status
   ends (Ok rows) status (files_serve calm (gives (gives_thing {v = subject} comes has))) (report_out takes told, idle) = run.reported (rows_for subject rows comes has) calm takes idle told
   ends (Ok rows) status (files_serve calm (gives (gives_thing {v = subject} comes has))) (report_cut fails told, idle) = run.report_cut_short (rows_for subject rows comes has) calm fails idle told
   ends (Ok rows) status (files_serve calm (gives (gives_thing {v = subject} comes has))) (no_report also some, idle) =
@@ -199,7 +211,7 @@ module _ (words : List (List ℕ)) (met : Surroundings) where
   report_comes status (run.reported is calm takes idle told_all) subject due f o = inl refl
   report_comes status (run.refused_input {refusal = r} is calm idle takes untold) subject due f o = absurd (cc (one_outcome (value subject) (refused r) due is))
   report_comes status (run.files_failed names risen idle also untold) subject due f o = absurd (f risen)
-  report_comes status (run.report_cut_short is calm fails idle told_all) subject due f o = absurd (o fails.0)
+  report_comes status (run.report_cut_short is calm fails idle told_all) subject due f o = absurd (o fails.risen)
   report_comes status (run.refusal_cut_short {refusal = r} is calm idle fails untold) subject due f o = absurd (cc (one_outcome (value subject) (refused r) due is))
   report_comes status (run.out_of_memory calm idle also untold) subject due f o = inr refl
   report_comes status (run.out_of_memory_with_rows is calm idle also some) subject due f o = inr refl
@@ -214,12 +226,26 @@ module _ (words : List (List ℕ)) (met : Surroundings) where
       let same : r ≡ refusal = let outcomes = one_outcome (refused refusal) (refused r) due is in cc outcomes in inl (ap (λ (x : Refusal). x.status) same)
   refusal_comes status (run.files_failed names risen idle also untold) refusal due f e = absurd (f risen)
   refusal_comes status (run.report_cut_short {rows = rows} is calm fails idle told_all) refusal due f e = absurd (not_reported refusal rows due is)
-  refusal_comes status (run.refusal_cut_short is calm idle fails untold) refusal due f e = absurd (e fails.0)
+  refusal_comes status (run.refusal_cut_short is calm idle fails untold) refusal due f e = absurd (e fails.risen)
   refusal_comes status (run.out_of_memory calm idle also untold) refusal due f e = inr refl
   refusal_comes status (run.out_of_memory_with_rows is calm idle also some) refusal due f e = inr refl
 
+  -- the status of a refusal is not that of a failure
+  other_status : (refusal : Refusal) → MayComeTo words told (refused refusal) → refusal.status ≢ 5
+  other_status refusal may = refused_status words may.contents refusal may.verdict
+
+  never_fails : (status : ℕ) → EndsWith words met status → CannotFail words met → status ≢ 5
+  never_fails status (run.reported is calm takes idle told_all) cannot e = cc e
+  never_fails status (run.refused_input {refusal = r} is calm idle takes untold) cannot e = other_status r is e
+  never_fails status (run.files_failed unsure risen idle also untold) cannot e =
+      let (name, among, not_sure) = unsure.not_sure in not_sure (cannot.files unsure.names unsure.may_be name among)
+  never_fails status (run.report_cut_short {rows = rows} is calm fails idle told_all) cannot e = absurd (omega (arith, cannot.out rows is, fails.not_sure))
+  never_fails status (run.refusal_cut_short {refusal = r} is calm idle fails untold) cannot e = absurd (omega (arith, cannot.err r is, fails.not_sure))
+  never_fails status (run.out_of_memory calm idle also untold) cannot e = cc e
+  never_fails status (run.out_of_memory_with_rows is calm idle also some) cannot e = cc e
+
   complete : (status : ℕ) → EndsWith words met status → IsComplete words met status
-  complete status e = record { report = report_comes status e; refusal = refusal_comes status e }
+  complete status e = record { report = report_comes status e; refusal = refusal_comes status e; no_failure = never_fails status e }
 
   -- ---- what gauges print
 

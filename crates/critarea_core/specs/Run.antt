@@ -1,5 +1,5 @@
 -- what a run comes to
-use Rattle.std.specs.Prelude.{ℕ, List, [], ◌≡◌, ◌⊎◌, Contains, Option, map}
+use Rattle.std.specs.Prelude.{ℕ, List, [], length, ◌≡◌, ◌≢◌, ◌<◌, ◌≤◌, ◌⊎◌, Contains, Option, map}
 use Rattle.first_refusal.specs.Outcomes.{Outcome, value, refused}
 use Rattle.edge_io.specs.Bytes.{Appends, AppendsPrefix}
 use Rattle.edge_io.specs.FailureCounts.{Rose}
@@ -46,20 +46,23 @@ pub record Change (A : Type 0) : Type 0 where
 abbrev pub change : {A : Type 0} → A → A → Change A
 change before after = record { before = before; after = after }
 
--- the files: what each holds by its name and which were started, where they tell it, and how many of their calls failed, a
--- count that stands still at its last value
-pub record Files : Type 0 where
+-- the files: what each holds by its name and which were started, where they tell it, of which names they are sure, whose start
+-- and reads cannot fail, and how many of their calls failed, a count that stands still at its last value
+pub record Files : Type 1 where
   pub holds : Change (List ℕ → Option (List ℕ))
+  pub sure : List ℕ → Type 0
   pub starts : Change (Option (List (List ℕ)))
   pub failures : Change ℕ
 
--- an output: what it took, where it tells it, and how many of its calls failed, a count of the same kind
+-- an output: what it took, where it tells it, how many bytes it was sure to take, and how many of its calls failed, a count of
+-- the same kind
 pub record Output : Type 0 where
   pub taken : Change (Option (List ℕ))
+  pub sure : ℕ
   pub failures : Change ℕ
 
 -- the files, the output of the report, that of the refusal's line, and the gauges in their order
-pub record Surroundings : Type 0 where
+pub record Surroundings : Type 1 where
   pub files : Files
   pub out : Output
   pub err : Output
@@ -82,9 +85,15 @@ IsIdle out = (out.taken.after ≡ out.taken.before) × IsCalm out.failures
 abbrev pub Takes : Output → List ℕ → Type 0
 Takes out text = Appends out.taken.before out.taken.after text × IsCalm out.failures
 
--- the output failed, as far as its count tells, and took the first part of the text
-abbrev pub FailsWithin : Output → List ℕ → Type 0
-FailsWithin out text = HasRisen out.failures × AppendsPrefix out.taken.before out.taken.after text
+-- the output failed, as far as its count tells, which was not sure to take the text, and took the first part of it
+pub record FailsWithin (out : Output) (text : List ℕ) : Type 0 where
+  pub risen : HasRisen out.failures
+  pub not_sure : out.sure < length text
+  pub prefix : AppendsPrefix out.taken.before out.taken.after text
+
+-- there is one of these names of which files that are sure of such names are not sure
+abbrev pub IsUnsureOf : (List ℕ → Type 0) → List (List ℕ) → Type 0
+IsUnsureOf sure names = (name : List ℕ) × Contains names name × (sure name → ⊥)
 
 -- the gauges have seen what they had seen, and no more
 abbrev pub AreUntold : Change (List GaugeView) → Type 0
@@ -104,9 +113,18 @@ KeepTheirTexts gauges = map (λ gauge. gauge.text) gauges.after ≡ map (λ gaug
 
 -- ---- the run
 
--- the words name some file
-abbrev pub NameSomeFile : List (List ℕ) → Type 0
-NameSomeFile words = (request : Request) × (name : List ℕ) × Ask words request × Contains (file_names request.task) name
+-- the names of files that a run starts, in order: none; the map's, where there is one; or the layout's behind it, where
+-- the map may be good
+pub data MayBeStarted (words : List (List ℕ)) (told : List ℕ → Option (List ℕ)) : List (List ℕ) → Type 0 where
+  no_file : MayBeStarted words told []
+  map_file : (request : Request) → Ask words request → MayBeStarted words told (map_names request.task)
+  both_files : (request : Request) → Ask words request → MapMayBeGood told request → MayBeStarted words told (file_names request.task)
+
+-- the files are not sure of a name that may be started
+pub record AreUnsure (words : List (List ℕ)) (told : List ℕ → Option (List ℕ)) (sure : List ℕ → Type 0) : Type 0 where
+  pub names : List (List ℕ)
+  pub may_be : MayBeStarted words told names
+  pub not_sure : IsUnsureOf sure names
 
 -- the rows are those on a subject to which the words may come
 pub record AreRowsFor (words : List (List ℕ)) (told : List ℕ → Option (List ℕ)) (rows : List Row) : Type 0 where
@@ -128,8 +146,8 @@ pub data EndsWith (words : List (List ℕ)) (met : Surroundings) : ℕ → Type 
   refused_input : {refusal : Refusal} → IsRefusalFor words met.files.holds.before refusal
       → IsCalm met.files.failures → IsIdle met.out → Takes met.err (refusal_text refusal)
       → AreUntold met.gauges → EndsWith words met refusal.status
-  -- the files failed, as far as their count tells
-  files_failed : NameSomeFile words
+  -- the files failed, as far as their count tells, of which one that may be started may fail
+  files_failed : AreUnsure words met.files.holds.before met.files.sure
       → HasRisen met.files.failures → IsIdle met.out → IsIdle met.err → AreUntold met.gauges → EndsWith words met 5
   -- the output of the report failed, as far as its count tells
   report_cut_short : {rows : List Row} → AreRowsFor words met.files.holds.before rows
@@ -145,20 +163,23 @@ pub data EndsWith (words : List (List ℕ)) (met : Surroundings) : ℕ → Type 
   out_of_memory_with_rows : {rows : List Row} → AreRowsFor words met.files.holds.before rows
       → IsCalm met.files.failures → IsIdle met.out → IsIdle met.err → AreToldSome met.gauges rows → EndsWith words met 6
 
+-- Nothing can fail: the files are sure of each name that may be started, the output of the report of as many bytes as each report
+-- has to which the words may come, and that of the refusal of as many as the line of each such refusal.
+pub record CannotFail (words : List (List ℕ)) (met : Surroundings) : Type 0 where
+  pub files : (names : List (List ℕ)) → MayBeStarted words met.files.holds.before names
+      → (name : List ℕ) → Contains names name → met.files.sure name
+  pub out : (rows : List Row) → AreRowsFor words met.files.holds.before rows
+      → length (whole_report rows met.gauges.before) ≤ met.out.sure
+  pub err : (refusal : Refusal) → IsRefusalFor words met.files.holds.before refusal → length (refusal_text refusal) ≤ met.err.sure
+
 -- what the words must come to comes out, or the run is out of memory, unless the files or the output failed on the way, or
--- their count stands at its last value
+-- their count stands at its last value; and where nothing can fail the run does not end as if something had
 pub record IsComplete (words : List (List ℕ)) (met : Surroundings) (status : ℕ) : Type 0 where
   pub report : (subject : Subject) → MustComeTo words met.files.holds.before (value subject)
       → (HasRisen met.files.failures → ⊥) → (HasRisen met.out.failures → ⊥) → (status ≡ 0) ⊎ (status ≡ 6)
   pub refusal : (refusal : Refusal) → MustComeTo words met.files.holds.before (refused refusal)
       → (HasRisen met.files.failures → ⊥) → (HasRisen met.err.failures → ⊥) → (status ≡ refusal.status) ⊎ (status ≡ 6)
-
--- the names of files that a run starts, in order: none; the map's, where there is one; or the layout's behind it, where
--- the map may be good
-pub data MayBeStarted (words : List (List ℕ)) (told : List ℕ → Option (List ℕ)) : List (List ℕ) → Type 0 where
-  no_file : MayBeStarted words told []
-  map_file : (request : Request) → Ask words request → MayBeStarted words told (map_names request.task)
-  both_files : (request : Request) → Ask words request → MapMayBeGood told request → MayBeStarted words told (file_names request.task)
+  pub no_failure : CannotFail words met → status ≢ 5
 
 -- such names were started, and no others
 pub record StartsNamed (words : List (List ℕ)) (told : List ℕ → Option (List ℕ)) (starts : Change (Option (List (List ℕ)))) : Type 0 where

@@ -24,15 +24,18 @@ pub fn run_boxed<F: Files, O: Sink, E: Sink, const N: usize>(
     ensures { RunsWith words.now (views_of seen text gauges.entry)
         (record {
           holds = change (F.holds files.old) (F.holds files.new);
+          sure = F.sure files.old;
           starts = change (F.starts files.old) (F.starts files.new);
           failures = change (F.faults files.old) (F.faults files.new);
         })
         (record {
           taken = change (O.written out.old) (O.written out.new);
+          sure = O.sure out.old;
           failures = change (O.faults out.old) (O.faults out.new);
         })
         (record {
           taken = change (E.written err.old) (E.written err.new);
+          sure = E.sure err.old;
           failures = change (E.faults err.old) (E.faults err.new);
         })
         result }

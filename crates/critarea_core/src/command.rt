@@ -37,7 +37,7 @@ fn rows_of_request<F: Files, G: Gate + Sync>(
     gate: &G,
 ) -> Result<Vec<Row>, Unreported>
     ensures found { (words : List (List ℕ)) → Ask words request.now →
-        IsFound words (F.holds files.old) (change (F.faults files.old) (F.faults files.new)) result }
+        IsFound words (F.holds files.old) (F.sure files.old) (change (F.faults files.old) (F.faults files.new)) result }
     ensures started { (words : List (List ℕ)) → Ask words request.now →
         StartsNamed words (F.holds files.old) (change (F.starts files.old) (F.starts files.new)) }
     ensures holds { (name : List ℕ) → F.holds files.new name ≡ F.holds files.old name }
@@ -61,7 +61,7 @@ fn find<F: Files, G: Gate + Sync>(
     files: &mut F,
     gate: &G,
 ) -> Result<Vec<Row>, Unreported>
-    ensures found { IsFound words.now (F.holds files.old) (change (F.faults files.old) (F.faults files.new)) result }
+    ensures found { IsFound words.now (F.holds files.old) (F.sure files.old) (change (F.faults files.old) (F.faults files.new)) result }
     ensures started { StartsNamed words.now (F.holds files.old) (change (F.starts files.old) (F.starts files.new)) }
     ensures holds { (name : List ℕ) → F.holds files.new name ≡ F.holds files.old name }
 {
@@ -113,15 +113,18 @@ pub fn run<F: Files, O: Sink, E: Sink, G: Gate + Sync>(
     ensures { RunsTo words.now (record {
       files = record {
         holds = change (F.holds files.old) (F.holds files.new);
+        sure = F.sure files.old;
         starts = change (F.starts files.old) (F.starts files.new);
         failures = change (F.faults files.old) (F.faults files.new);
       };
       out = record {
         taken = change (O.written out.old) (O.written out.new);
+        sure = O.sure out.old;
         failures = change (O.faults out.old) (O.faults out.new);
       };
       err = record {
         taken = change (E.written err.old) (E.written err.new);
+        sure = E.sure err.old;
         failures = change (E.faults err.old) (E.faults err.new);
       };
       gauges = change (views_of seen text gauges.old.items) (views_of seen text gauges.new.items);

@@ -28,6 +28,7 @@ fn print_refusal<E: Sink>(alloc: Global, refusal: Refusal, err: &mut E) -> u8
     ensures { LineEnds refusal
         (record {
           taken = change (E.written err.old) (E.written err.new);
+          sure = E.sure err.old;
           failures = change (E.faults err.old) (E.faults err.new);
         }) result }
 {
@@ -73,6 +74,7 @@ fn print_report<O: Sink>(
     ensures { ReportEnds rows.now (change (views_of seen text gauges.old.items) (views_of seen text gauges.new.items))
         (record {
           taken = change (O.written out.old) (O.written out.new);
+          sure = O.sure out.old;
           failures = change (O.faults out.old) (O.faults out.new);
         }) result }
 {
@@ -98,10 +100,12 @@ pub fn print<O: Sink, E: Sink>(
     ensures { IsPrinted found (change (views_of seen text gauges.old.items) (views_of seen text gauges.new.items))
         (record {
           taken = change (O.written out.old) (O.written out.new);
+          sure = O.sure out.old;
           failures = change (O.faults out.old) (O.faults out.new);
         })
         (record {
           taken = change (E.written err.old) (E.written err.new);
+          sure = E.sure err.old;
           failures = change (E.faults err.old) (E.faults err.new);
         }) result }
 {

@@ -1,8 +1,8 @@
-ghost use Rattle.std.specs.Prelude.{◌≡◌, ◌≤◌, ◌^◌, ℕ, List, [], ◌∷◌};
+ghost use Rattle.std.specs.Prelude.{◌≡◌, ◌≤◌, ◌↔◌, ◌^◌, ℕ, List, [], ◌∷◌};
 ghost use Rattle.edge_io.specs.Bytes.{Appends};
 ghost use Rattle.critarea_core.specs.Contents.{file, layout_source, map_names, names_in};
-ghost use Rattle.critarea_core.specs.inside.Finding.{AreItems, BytesMayCome, FindsInFiles, IsMapOf, IsOneOf, LayoutMayCome, MapMayCome};
-ghost use Rattle.critarea_core.specs.Run.{change};
+ghost use Rattle.critarea_core.specs.inside.Finding.{AreItems, BytesMayCome, FindsInFiles, IsMapOf, LayoutMayCome, MapMayCome};
+ghost use Rattle.critarea_core.specs.Run.{IsUnsureOf, change};
 
 use super::refusal::{LAYOUT_LIMIT, LAYOUT_TOO_LONG, MAP_LIMIT, MAP_TOO_LONG, Refusal};
 use super::unreported::Unreported;
@@ -22,10 +22,11 @@ fn bytes_in<F: Files>(
     too_long: Refusal,
 ) -> Result<Vec<u8>, Unreported>
     requires { limit ≤ 2 ^ 30 }
-    ensures found { FindsInFiles (change (F.faults files.old) (F.faults files.new)) (IsOneOf (name.now ∷ []))
+    ensures found { FindsInFiles (change (F.faults files.old) (F.faults files.new)) (IsUnsureOf (F.sure files.old) (name.now ∷ []))
         (BytesMayCome (F.holds files.old) (file name.now) limit too_long) AreItems result }
     ensures starts { Appends (F.starts files.old) (F.starts files.new) (name.now ∷ []) }
     ensures holds { (n : List ℕ) → F.holds files.new n ≡ F.holds files.old n }
+    ensures sure { (n : List ℕ) → F.sure files.new n ↔ F.sure files.old n }
 {
     match read_whole(alloc, files, name, limit) {
         Ok(bytes) => Ok(bytes),
@@ -38,10 +39,11 @@ fn bytes_in<F: Files>(
 /// The map that is asked for, or why there is none: that of one metal is made, that of a generated layout goes with it, and
 /// any other is in the file that is named.
 pub fn map_for<F: Files>(alloc: Global, request: &Request, files: &mut F) -> Result<Map, Unreported>
-    ensures found { FindsInFiles (change (F.faults files.old) (F.faults files.new)) (IsOneOf (map_names request.now.task))
+    ensures found { FindsInFiles (change (F.faults files.old) (F.faults files.new)) (IsUnsureOf (F.sure files.old) (map_names request.now.task))
         (MapMayCome (F.holds files.old) request.now.task) IsMapOf result }
     ensures starts { Appends (F.starts files.old) (F.starts files.new) (map_names request.now.task) }
     ensures holds { (name : List ℕ) → F.holds files.new name ≡ F.holds files.old name }
+    ensures sure { (name : List ℕ) → F.sure files.new name ↔ F.sure files.old name }
 {
     match &request.task {
         Task::OneMetal {
@@ -66,7 +68,7 @@ pub fn layout_for<F: Files>(
     files: &mut F,
 ) -> Result<Vec<u8>, Unreported>
     ensures found { FindsInFiles (change (F.faults files.old) (F.faults files.new))
-        (IsOneOf (names_in (layout_source request.now.task)))
+        (IsUnsureOf (F.sure files.old) (names_in (layout_source request.now.task)))
         (LayoutMayCome (F.holds files.old) (layout_source request.now.task)) AreItems result }
     ensures starts { Appends (F.starts files.old) (F.starts files.new) (names_in (layout_source request.now.task)) }
     ensures holds { (name : List ℕ) → F.holds files.new name ≡ F.holds files.old name }

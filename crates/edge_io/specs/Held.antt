@@ -1,9 +1,10 @@
--- files in memory
-use Rattle.std.specs.Prelude.{ℕ, ◌≤◌, List, length, drop, ◌+◌, Option, None, IsSomeAnd, option_map, option_and_then, find, position}
+-- files and outputs in memory
+use Rattle.std.specs.Prelude.{ℕ, ◌≡◌, ◌≤◌, ◌-◌, List, [], ◌∷◌, length, vec_len, drop, ◌+◌, Option, None, IsSome, IsSomeAnd, option_map, option_and_then, find, position}
 use Rattle.std.specs.Prelude.{slice_get, Vec}
 use Rattle.lists.specs.Words.{Global, bytes_eq}
 use Rattle.edge_io.specs.FailureCounts.{one_more}
 use Rattle.edge_io.specs.declared.memory_files.MemFiles.{MemFiles}
+use Rattle.edge_io.specs.declared.memory_sink.MemSink.{MemSink}
 
 -- a file: its name and its bytes
 abbrev pub HeldFile : Type 0
@@ -46,3 +47,21 @@ moved_to source place = record source { calls = one_more source.calls; place = p
 -- the source after a call that failed: the call and the failure are counted, and no file is started
 abbrev pub after_failure : MemFiles → MemFiles
 after_failure source = record source { calls = one_more source.calls; faults = one_more source.faults; place = None }
+
+-- no call of the source is to fail
+abbrev pub IsSteady : MemFiles → Type 0
+IsSteady source = source.fails.items ≡ []
+
+-- no call is to fail, and there is a file with this name
+abbrev pub IsSureOf : MemFiles → List ℕ → Type 0
+IsSureOf source name = IsSteady source × IsSome (contents_of source.files.items name)
+
+-- how many bytes a sink takes whatever happens, where these calls are to fail and so much room is left: all of the room where
+-- none is to fail, and else nothing
+abbrev pub sure_of : List ℕ → ℕ → ℕ
+sure_of [] left = left
+sure_of (_ ∷ _) left = 0
+
+-- how many the sink takes
+abbrev pub sure_room : MemSink → ℕ
+sure_room sink = sure_of sink.fails.items (sink.room - vec_len sink.written)

@@ -1,4 +1,4 @@
-ghost use Rattle.std.specs.Prelude.{◌≡◌, ◌≤◌, ◌<◌, List, [], ◌∷◌, ℕ, Option, length, take, OnOk, OnErr, IfOk};
+ghost use Rattle.std.specs.Prelude.{◌≡◌, ◌≤◌, ◌<◌, ◌↔◌, List, [], ◌∷◌, ℕ, Option, length, take, OnOk, OnErr, IfOk};
 ghost use Rattle.edge_io.specs.Bytes.{Appends, Gives};
 ghost use Rattle.edge_io.specs.ReadAnswers.{HasFailed};
 
@@ -25,6 +25,12 @@ pub trait Files {
     /// names that it starts holds as if they were told.
     ghost starts: { Self → Option (List (List ℕ)) };
 
+    /// Whether the source is sure of a name: neither its start nor a read of its file can fail. No call changes it.
+    ghost sure: { Self → List ℕ → Type 0 };
+
+    /// Whether no read of the started file can fail.
+    ghost steady: { Self → Type 0 };
+
     /// How many calls failed. The count never falls: a call that answers `Ok` leaves it as it was, and at a failure it
     /// rises, or stands still where it stood at the last value of `u64`.
     ghost faults: { Self → ℕ };
@@ -34,6 +40,9 @@ pub trait Files {
     fn start(&mut self, name: &[u8]) -> Result<(), Failed>
         ensures holds { (n : List ℕ) → holds self.new n ≡ holds self.old n }
         ensures starts { Appends (starts self.old) (starts self.new) (name.now ∷ []) }
+        ensures sure { (n : List ℕ) → sure self.new n ↔ sure self.old n }
+        ensures steady { OnOk result (sure self.old name.now → steady self.new) }
+        ensures not_sure { OnErr result (sure self.old name.now → ⊥) }
         ensures started { OnOk result (started self.new) }
         ensures rest { OnOk result (rest self.new ≡ holds self.old name.now) }
         ensures calm { OnOk result (faults self.new ≡ faults self.old) }
@@ -47,6 +56,9 @@ pub trait Files {
         requires room { 0 < length buf.old }
         ensures holds { (n : List ℕ) → holds self.new n ≡ holds self.old n }
         ensures starts { starts self.new ≡ starts self.old }
+        ensures sure { (n : List ℕ) → sure self.new n ↔ sure self.old n }
+        ensures steady { OnOk result (steady self.new ↔ steady self.old) }
+        ensures not_steady { OnErr result (steady self.old → ⊥) }
         ensures started { OnOk result (started self.new) }
         ensures within { IfOk result (λ count. count ≤ length buf.new) }
         ensures gives { IfOk result (λ count. Gives (rest self.old) (rest self.new) (take count buf.new)) }

@@ -2,7 +2,7 @@ ghost use Rattle.std.specs.Prelude.{◌≡◌, ◌≤◌, ◌<◌, ◌↔◌, �
 ghost use Rattle.std.specs.Str.{bytes_eq};
 ghost use Rattle.edge_io.specs.Bytes.{Gives};
 ghost use Rattle.edge_io.specs.FailureCounts.{Rose};
-ghost use Rattle.edge_io.specs.Held.{contents_of, beginning_of, place_after, rest_at, unread_of, moved_to, after_failure, IsPlaced, IsStarted};
+ghost use Rattle.edge_io.specs.Held.{contents_of, beginning_of, place_after, rest_at, unread_of, moved_to, after_failure, IsPlaced, IsStarted, IsSureOf, IsSteady};
 
 use super::counts::{count_up, failure, is_listed};
 use super::files::{Failed, Files};
@@ -95,6 +95,10 @@ impl Files for MemFiles {
     ghost started = { IsStarted };
 
     ghost starts = { λ _. None };
+
+    ghost sure = { IsSureOf };
+
+    ghost steady = { IsSteady };
 
     ghost faults = { λ s. s.faults };
 

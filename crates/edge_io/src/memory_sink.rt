@@ -44,8 +44,11 @@ impl MemSink {
 impl Sink for MemSink {
     ghost use Rattle.std.specs.Prelude.{Some};
     ghost use Rattle.edge_io.specs.FailureCounts.{Rose, one_more};
+    ghost use Rattle.edge_io.specs.Held.{sure_room};
 
     ghost written = { λ s. Some s.written.items };
+
+    ghost sure = { sure_room };
 
     ghost faults = { λ s. s.faults };
 

@@ -1,4 +1,4 @@
-ghost use Rattle.std.specs.Prelude.{◌≡◌, ◌≤◌, ◌<◌, ℕ, List, None, IsSome, OnSome, IfSome, IfOk, OnOk, OnErr, IsUtf8, length, take};
+ghost use Rattle.std.specs.Prelude.{◌≡◌, ◌≤◌, ◌<◌, ◌↔◌, ℕ, List, None, IsSome, OnSome, IfSome, IfOk, OnOk, OnErr, IsUtf8, length, take};
 ghost use Rattle.std.specs.Io.KnownBytes.{Consumes, IsAtEnd};
 ghost use Rattle.edge_io.specs.Bytes.{Gives};
 ghost use Rattle.edge_io.specs.ReadAnswers.{HasFailed, ReadsFrom};
@@ -62,10 +62,17 @@ impl<'a, R: rt::Files> Files for OsFiles<'a, R> {
 
     ghost starts = { λ _. None };
 
+    ghost sure = { λ _ _. ⊥ };
+
+    ghost steady = { λ _. ⊥ };
+
     ghost faults = { λ s. s.faults };
 
     fn start(&mut self, name: &[u8]) -> Result<(), Failed>
         ensures text { OnOk result (IsUtf8 name.now) }
+        ensures sure { (n : List ℕ) → ⟦<Self as Files>⟧.sure self.new n ↔ ⟦<Self as Files>⟧.sure self.old n }
+        ensures steady { OnOk result (⟦<Self as Files>⟧.sure self.old name.now → ⟦<Self as Files>⟧.steady self.new) }
+        ensures not_sure { OnErr result (⟦<Self as Files>⟧.sure self.old name.now → ⊥) }
         ensures started { OnOk result (⟦<Self as Files>⟧.started self.new) }
         ensures rest { OnOk result
             (⟦<Self as Files>⟧.rest self.new ≡ ⟦<Self as Files>⟧.holds self.old name.now) }
@@ -87,6 +94,9 @@ impl<'a, R: rt::Files> Files for OsFiles<'a, R> {
     fn read(&mut self, buf: &mut [u8]) -> Result<usize, Failed>
         requires started { ⟦<Self as Files>⟧.started self.old }
         requires room { 0 < length buf.old }
+        ensures sure { (n : List ℕ) → ⟦<Self as Files>⟧.sure self.new n ↔ ⟦<Self as Files>⟧.sure self.old n }
+        ensures steady { OnOk result (⟦<Self as Files>⟧.steady self.new ↔ ⟦<Self as Files>⟧.steady self.old) }
+        ensures not_steady { OnErr result (⟦<Self as Files>⟧.steady self.old → ⊥) }
         ensures started { OnOk result (⟦<Self as Files>⟧.started self.new) }
         ensures within { IfOk result (λ count. count ≤ length buf.new) }
         ensures gives { IfOk result (λ count.

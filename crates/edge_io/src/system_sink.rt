@@ -47,6 +47,8 @@ fn write_and_flush<W: Write>(writer: &mut W, piece: &[u8]) -> Option<usize>
 impl<W: Write> Sink for OsSink<W> {
     ghost written = { λ _. None };
 
+    ghost sure = { λ _. 0 };
+
     ghost faults = { λ s. s.faults };
 
     /// Writes bytes from the front of the piece, and flushes the writer.

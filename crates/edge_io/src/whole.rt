@@ -1,4 +1,4 @@
-ghost use Rattle.std.specs.Prelude.{◌≡◌, ◌≤◌, ◌^◌, List, [], ◌∷◌, ℕ, OnOk, OnErr};
+ghost use Rattle.std.specs.Prelude.{◌≡◌, ◌≤◌, ◌<◌, ◌↔◌, ◌+◌, ◌^◌, Err, length, List, [], ◌∷◌, ℕ, OnOk, OnErr};
 ghost use Rattle.lists.specs.ByteLists.{AreBytes};
 ghost use Rattle.edge_io.specs.Bytes.{Appends, AppendsPrefix};
 ghost use Rattle.edge_io.specs.FailureCounts.{Rose};
@@ -53,6 +53,8 @@ pub fn read_whole<F: Files>(
         (F.started files.new) (F.rest files.new) result }
     ensures holds { (n : List ℕ) → F.holds files.new n ≡ F.holds files.old n }
     ensures starts { Appends (F.starts files.old) (F.starts files.new) (name.now ∷ []) }
+    ensures sure { (n : List ℕ) → F.sure files.new n ↔ F.sure files.old n }
+    ensures not_sure { result ≡ Err Fault → F.sure files.old name.now → ⊥ }
 {
     let mut whole = Vec::new(alloc);
     let mut buf = [0u8; 4096];
@@ -80,6 +82,8 @@ fn tell_bytes(bytes: &[u8])
 #[tactic(auto, using(crate::proofs::ByteLaws::written_more))]
 pub fn write_all<S: Sink>(sink: &mut S, bytes: &[u8]) -> Result<(), Failed>
     ensures written { OnOk result (Appends (S.written sink.old) (S.written sink.new) bytes.now) }
+    ensures sure { OnOk result (S.sure sink.old ≤ S.sure sink.new + length bytes.now) }
+    ensures not_sure { OnErr result (S.sure sink.old < length bytes.now) }
     ensures calm { OnOk result (S.faults sink.new ≡ S.faults sink.old) }
     ensures rose { OnErr result (Rose (S.faults sink.old) (S.faults sink.new)) }
     ensures prefix { OnErr result (AppendsPrefix (S.written sink.old) (S.written sink.new) bytes.now) }

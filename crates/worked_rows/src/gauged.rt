@@ -10,17 +10,17 @@ use std::sync::Arc;
 use std::sync::atomic::{AtomicU64, Ordering};
 use std::thread::Threads;
 
-/// A run on the two bars, or on no bytes.
+/// A run on the two bars, on no bytes, or on a generated cell.
 struct Row {
-    /// The gauge that stands between `Nonzero` and `Peak`.
-    between: GaugeKind,
+    kinds: &'static [GaugeKind],
+    words: &'static str,
     layout: &'static [u8],
     failing: Failing,
     status: u8,
     /// The lines behind the report, or none where there is no report.
     lines: Option<&'static str>,
     err: &'static str,
-    /// What the three gauges print after the run, as far as they print.
+    /// What the gauges print after the run, as far as they print.
     after: &'static str,
 }
 
@@ -34,6 +34,9 @@ total via 0
 total 32
 ";
 
+/// The words that ask for a generated cell.
+const GENERATED: &str = "--generate 1";
+
 /// Gauges that nobody has told anything, of which the middle one has room for two rows.
 const UNTOLD: &str = "nonzero 0 of 0\nseen 0 of 2\npeak none\n";
 
@@ -42,7 +45,8 @@ const TOLD: &str = "nonzero 1 of 2\nseen 2 of 2\npeak short m r=3 sum=32\n";
 
 /// A run that nothing disturbs, and in which the gauges refuse nothing.
 const CALM: Row = Row {
-    between: GaugeKind::Tight(2),
+    kinds: &[GaugeKind::Nonzero, GaugeKind::Tight(2), GaugeKind::Peak],
+    words: RADIUS_3,
     layout: TWO_BARS,
     failing: Failing::Nothing,
     status: 0,
@@ -61,28 +65,51 @@ const REFUSED: Row = Row {
 const ROWS: &[Row] = &[
     CALM,
     Row {
-        between: GaugeKind::Silent,
+        kinds: &[GaugeKind::Nonzero, GaugeKind::Silent, GaugeKind::Peak],
         lines: Some("nonzero 1 of 2\npeak short m r=3 sum=32\n"),
         after: "nonzero 1 of 2\npeak short m r=3 sum=32\n",
         ..CALM
     },
     // it refuses the first row, the second one, or to print
     Row {
-        between: GaugeKind::Tight(0),
+        kinds: &[GaugeKind::Nonzero, GaugeKind::Tight(0), GaugeKind::Peak],
         after: "nonzero 1 of 2\nseen 0 of 0\npeak none\n",
         ..REFUSED
     },
     Row {
-        between: GaugeKind::Tight(1),
+        kinds: &[GaugeKind::Nonzero, GaugeKind::Tight(1), GaugeKind::Peak],
         after: "nonzero 1 of 2\nseen 1 of 1\npeak none\n",
         ..REFUSED
     },
     Row {
-        between: GaugeKind::Mute,
+        kinds: &[GaugeKind::Nonzero, GaugeKind::Mute, GaugeKind::Peak],
         after: "nonzero 1 of 2\nmu",
         ..REFUSED
     },
+    // on a generated cell it refuses the fifth of ten rows, or to print
+    Row {
+        kinds: &[GaugeKind::Nonzero, GaugeKind::Tight(4), GaugeKind::Peak],
+        words: GENERATED,
+        layout: &[],
+        after: "nonzero 5 of 10\nseen 4 of 4\npeak none\n",
+        ..REFUSED
+    },
+    Row {
+        kinds: &[GaugeKind::Peak, GaugeKind::Mute],
+        words: GENERATED,
+        layout: &[],
+        after: "peak open m1 r=2 sum=180\nmu",
+        ..REFUSED
+    },
     // the output fails once the gauges were told
+    Row {
+        kinds: &[GaugeKind::Nonzero],
+        failing: Failing::Out,
+        status: 5,
+        lines: None,
+        after: "nonzero 1 of 2\n",
+        ..CALM
+    },
     Row {
         failing: Failing::Out,
         status: 5,
@@ -151,7 +178,7 @@ fn run_is_answered(
 ) -> bool {
     let given = Given {
         failing: row.failing,
-        ..calm(RADIUS_3, row.layout)
+        ..calm(row.words, row.layout)
     };
     match run_told(rt, alloc, &given, gauges) {
         Ok(answer) => is_answered(&answer, row),
@@ -166,8 +193,7 @@ fn is_right(
     gauges: &mut Vec<Box<dyn Gauge>>,
     row: &Row,
 ) -> bool {
-    let kinds = [GaugeKind::Nonzero, row.between, GaugeKind::Peak];
-    push_kinds(alloc, gauges, &kinds).is_ok()
+    push_kinds(alloc, gauges, row.kinds).is_ok()
         && run_is_answered(rt, alloc, gauges, row)
         && are_printed(alloc, gauges.as_slice(), row.after)
 }
@@ -197,9 +223,19 @@ fn is_told(
 fn go_on(rt: &(impl Threads + Sync), alloc: Global, gauges: &mut Vec<Box<dyn Gauge>>) -> bool {
     is_told(rt, alloc, gauges, "")
         && is_told(rt, alloc, gauges, "")
-        && push_kinds(alloc, gauges, &[GaugeKind::Nonzero]).is_ok()
-        && is_told(rt, alloc, gauges, "nonzero 1 of 2\n")
-        && is_told(rt, alloc, gauges, "nonzero 2 of 4\n")
+        && push_kinds(alloc, gauges, &[GaugeKind::Peak, GaugeKind::Nonzero]).is_ok()
+        && is_told(
+            rt,
+            alloc,
+            gauges,
+            "peak short m r=3 sum=32\nnonzero 1 of 2\n",
+        )
+        && is_told(
+            rt,
+            alloc,
+            gauges,
+            "peak short m r=3 sum=32\nnonzero 2 of 4\n",
+        )
 }
 
 #[test]
@@ -219,27 +255,28 @@ pub fn push_counted(
     Ok(())
 }
 
-/// How many of two gauges were dropped after a run. Their list is dropped behind it.
+/// The status of a run on a generated cell, and how many of its two gauges were dropped after it. Their list is dropped behind
+/// that.
 fn dropped_by_run(
     rt: &(impl Threads + Sync),
     alloc: Global,
     drops: &Arc<AtomicU64>,
-) -> Result<u64, NoMemory> {
+) -> Result<(u8, u64), NoMemory> {
     let mut gauges: Vec<Box<dyn Gauge>> = Vec::new(alloc);
     push_counted(alloc, &mut gauges, drops)?;
     push_counted(alloc, &mut gauges, drops)?;
-    run_told(rt, alloc, &calm(RADIUS_3, TWO_BARS), &mut gauges)?;
-    Ok(drops.load(Ordering::SeqCst))
+    let answer = run_told(rt, alloc, &calm(GENERATED, &[]), &mut gauges)?;
+    Ok((answer.status, drops.load(Ordering::SeqCst)))
 }
 
-/// How many of two gauges were dropped after a run, and how many after their list was dropped.
-fn drops(rt: &(impl Threads + Sync), alloc: Global) -> Result<(u64, u64), NoMemory> {
+/// The status of a run, how many of its two gauges were dropped after it, and how many after their list was dropped.
+fn drops(rt: &(impl Threads + Sync), alloc: Global) -> Result<(u8, u64, u64), NoMemory> {
     let drops = Arc::new(alloc, AtomicU64::new(0))?;
-    let before = dropped_by_run(rt, alloc, &drops)?;
-    Ok((before, drops.load(Ordering::SeqCst)))
+    let (status, before) = dropped_by_run(rt, alloc, &drops)?;
+    Ok((status, before, drops.load(Ordering::SeqCst)))
 }
 
 #[test]
 fn a_run_drops_no_gauge(rt: HostRuntime) {
-    assert!(rt; drops(&rt, rt.alloc()) == Ok((0, 2)));
+    assert!(rt; drops(&rt, rt.alloc()) == Ok((0, 0, 2)));
 }

@@ -135,6 +135,10 @@ impl Files for Zeros {
 
     ghost starts = { λ _. None };
 
+    ghost sure = { λ _ _. Unit {0} };
+
+    ghost steady = { λ _. Unit {0} };
+
     ghost faults = { λ _. 0 };
 
     fn start(&mut self, _name: &[u8]) -> Result<(), Failed> {

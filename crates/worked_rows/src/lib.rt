@@ -9,6 +9,8 @@ mod analyses;
 #[cfg(test)]
 mod covers;
 #[cfg(test)]
+mod devices;
+#[cfg(test)]
 mod failures;
 #[cfg(test)]
 mod gauge_kinds;

@@ -196,7 +196,7 @@ fn push_word(alloc: Global, words: &mut Vec<Word>, word: &str) -> Result<(), All
 }
 
 /// Appends the words of a command line. An empty line has none.
-fn push_words(alloc: Global, words: &mut Vec<Word>, line: &str) -> Result<(), AllocError> {
+pub fn push_words(alloc: Global, words: &mut Vec<Word>, line: &str) -> Result<(), AllocError> {
     if line.is_empty() {
         return Ok(());
     }
@@ -224,7 +224,7 @@ fn push_files(
 }
 
 /// The files of the run.
-fn files_of(alloc: Global, given: &Given<'_>) -> Result<MemFiles, AllocError> {
+pub fn files_of(alloc: Global, given: &Given<'_>) -> Result<MemFiles, AllocError> {
     let fails = Vec::from_slice(alloc, given.failing.calls_of_files())?;
     let mut files = MemFiles::new(Vec::new(alloc), fails);
     push_files(alloc, &mut files.files, given)?;

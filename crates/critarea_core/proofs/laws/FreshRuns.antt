@@ -29,13 +29,13 @@ module _ (words : List (List ℕ)) (files : Files) (out err : Output) (status : 
 
 -- ---- a run that does not begin
 
-module _ (words : List (List ℕ)) (gauges : List GaugeView) (holds : List ℕ → Option (List ℕ)) (starts : Option (List (List ℕ)))
-    (failures out_failures err_failures : ℕ) (out err : Option (List ℕ)) where
+module _ (words : List (List ℕ)) (gauges : List GaugeView) (holds : List ℕ → Option (List ℕ)) (sure : List ℕ → Type 0) (starts : Option (List (List ℕ)))
+    (failures out_failures err_failures out_sure err_sure : ℕ) (out err : Option (List ℕ)) where
   abbrev pub AtRest : ℕ → Type 0
   AtRest = RunsWith words gauges
-      (record { holds = change holds holds; starts = change starts starts; failures = change failures failures })
-      (record { taken = change out out; failures = change out_failures out_failures })
-      (record { taken = change err err; failures = change err_failures err_failures })
+      (record { holds = change holds holds; sure = sure; starts = change starts starts; failures = change failures failures })
+      (record { taken = change out out; sure = out_sure; failures = change out_failures out_failures })
+      (record { taken = change err err; sure = err_sure; failures = change err_failures err_failures })
 
   -- where no memory is left, files, outputs and gauges stay as they are
   pub runs_nowhere : AtRest 6

@@ -1,5 +1,5 @@
 -- inside this crate: what is found before anything is printed, and how the printing ends. No definition above rests on it.
-use Rattle.std.specs.Prelude.{IfOk, ℕ, List, ◌≡◌, ◌≢◌, ◌≤◌, Option, Contains, length, Result, Ok, Err, Vec}
+use Rattle.std.specs.Prelude.{IfOk, ℕ, List, ◌≡◌, ◌≢◌, ◌≤◌, Option, length, Result, Ok, Err, Vec}
 use Rattle.lists.specs.Words.{Global}
 use Rattle.first_refusal.specs.Answers.{Answers}
 use Rattle.first_refusal.specs.Outcomes.{Outcome, Reads, value, refused}
@@ -11,8 +11,8 @@ use Rattle.questions.specs.declared.row.Row.{Row}
 use Rattle.questions.specs.declared.row.TheConstants.{MOST_ROWS}
 use Rattle.critarea_core.specs.Contents.{MayContain, Source, bytes_from}
 use Rattle.critarea_core.specs.Refusals.{layout_limit, layout_too_long, refusal_text}
-use Rattle.critarea_core.specs.Run.{AreToldAll, AreToldSome, AreUntold, Change, FailsWithin, HasRisen}
-use Rattle.critarea_core.specs.Run.{IsCalm, IsIdle, MayComeTo, NameSomeFile, Output, Takes}
+use Rattle.critarea_core.specs.Run.{AreToldAll, AreToldSome, AreUnsure, AreUntold, Change, FailsWithin, HasRisen}
+use Rattle.critarea_core.specs.Run.{IsCalm, IsIdle, MayComeTo, Output, Takes}
 use Rattle.critarea_core.specs.Layout.{Subject}
 use Rattle.critarea_core.specs.Verdict.{IsShortEnough, MapComesTo, AreRowsOn, whole_report}
 use Rattle.critarea_core.specs.declared.layout_fault.LayoutFault.{LayoutFault}
@@ -43,16 +43,12 @@ Finds Stage IsFor = Answers Memory (Gives (λ refusal. Refused refusal) Stage Is
 abbrev pub Analyses : {T V : Type 0} → (Outcome V LayoutFault → Type 0) → (V → T → Type 0) → Result T LayoutFault → Type 0
 Analyses Stage IsFor = Answers LayoutMemory (Gives (λ fault. fault) Stage IsFor)
 
--- where files are read for it: none failed and the answer is so; or they failed, and then there is some file
-pub data FindsInFiles {T V : Type 0} (failures : Change ℕ) (SomeFile : Type 0) (Stage : Outcome V Refusal → Type 0) (IsFor : V → T → Type 0)
+-- where files are read for it: none failed and the answer is so; or they failed, and then this is so of them
+pub data FindsInFiles {T V : Type 0} (failures : Change ℕ) (Unsure : Type 0) (Stage : Outcome V Refusal → Type 0) (IsFor : V → T → Type 0)
     : Result T Unreported → Type 0 where
   files_serve : {answer : Result T Unreported} → IsCalm failures → Finds Stage IsFor answer
-      → FindsInFiles failures SomeFile Stage IsFor answer
-  files_fail : HasRisen failures → SomeFile → FindsInFiles failures SomeFile Stage IsFor (Err FilesFailed)
-
--- there is one of these names
-abbrev pub IsOneOf : List (List ℕ) → Type 0
-IsOneOf names = (name : List ℕ) × Contains names name
+      → FindsInFiles failures Unsure Stage IsFor answer
+  files_fail : HasRisen failures → Unsure → FindsInFiles failures Unsure Stage IsFor (Err FilesFailed)
 
 -- ---- maps and layouts
 
@@ -89,8 +85,8 @@ pub record HasRows (subject : Subject) (rows : Vec Row Global) : Type 0 where
   pub few : length rows.items ≤ MOST_ROWS
 
 -- what is found of the words and the files
-abbrev pub IsFound : List (List ℕ) → (List ℕ → Option (List ℕ)) → Change ℕ → Result (Vec Row Global) Unreported → Type 0
-IsFound words told failures = FindsInFiles failures (NameSomeFile words) (MayComeTo words told) HasRows
+abbrev pub IsFound : List (List ℕ) → (List ℕ → Option (List ℕ)) → (List ℕ → Type 0) → Change ℕ → Result (Vec Row Global) Unreported → Type 0
+IsFound words told sure failures = FindsInFiles failures (AreUnsure words told sure) (MayComeTo words told) HasRows
 
 -- rows that were found are as many as a report may have
 abbrev pub AreFew : Result (Vec Row Global) Unreported → Type 0

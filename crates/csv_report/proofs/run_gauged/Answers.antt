@@ -6,7 +6,7 @@ use Rattle.csv_report.proofs.run_gauged.OwnLists.{own-1, at-1-1}
 use Rattle.csv_report.proofs.run_gauged.Goals as goal
 
 pub returns-in_default : goal.returns-in_default
-returns-in_default g c = runs_nowhere c.args.words.now _ _ _ _ _ _ _ _
+returns-in_default g c = runs_nowhere c.args.words.now _ _ _ _ _ _ _ _ _ _ _
 
 -- what a box tells of itself is what the gauge in it tells: `own-1` has the type that this function boxes, at this place
 pub returns : goal.returns

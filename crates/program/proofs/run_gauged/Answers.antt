@@ -7,7 +7,7 @@ use Rattle.program.proofs.run_gauged.OwnLists.{own-1, at-1-1, at-1-2}
 use Rattle.program.proofs.run_gauged.Goals as goal
 
 pub returns-in_default : goal.returns-in_default
-returns-in_default g c = runs_nowhere c.args.words.now _ _ _ _ _ _ _ _
+returns-in_default g c = runs_nowhere c.args.words.now _ _ _ _ _ _ _ _ _ _ _
 
 -- what a box tells of itself is what the gauge in it tells: `own-1` has the types that this function boxes, at these two places
 pub returns : goal.returns

@@ -11,4 +11,5 @@ returns-in-Ok-write_all g c =
 
 pub returns : goal.returns
 returns g c =
-    report_cut (c.in-Err.ensures.rose, rw (c.as_slice.ensures.value ∙ c.in-Ok.ensures.printed) at c.in-Err.ensures.prefix) c.in-Ok.ensures.told
+    let text = c.as_slice.ensures.value ∙ c.in-Ok.ensures.printed in
+    report_cut (record { risen = c.in-Err.ensures.rose; not_sure = rw text at c.in-Err.ensures.not_sure; prefix = rw text at c.in-Err.ensures.prefix }) c.in-Ok.ensures.told

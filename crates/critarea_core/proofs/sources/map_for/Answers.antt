@@ -3,7 +3,8 @@ use Rattle.lists.proofs.Words.{ints}
 use Rattle.command_line.specs.declared.task.Task.TheVariants.{Generated, Mapped}
 use Rattle.first_refusal.proofs.AnswerLaws.{out_of_memory}
 use Rattle.layout_gen.specs.Generated.{generated_map}
-use Rattle.critarea_core.specs.inside.Finding.{IsOneOf, files_serve}
+use Rattle.critarea_core.specs.inside.Finding.{files_serve}
+use Rattle.critarea_core.specs.Run.{IsUnsureOf}
 use Rattle.critarea_core.proofs.ReadingLaws.{found_bytes, map_of_file, map_of_generated, map_read, map_unread, not_found, one_metal_found, refused_text}
 use Rattle.critarea_core.proofs.sources.map_for.Goals as goal
 
@@ -24,7 +25,7 @@ returns-in_ok-one_metal-in-OneMetal-clause-found g c =
 pub returns-in_err-bytes-in-Mapped-clause-found : goal.returns-in_err-bytes-in-Mapped-clause-found
 returns-in_err-bytes-in-Mapped-clause-found g c =
     let mapped = c.in-Mapped in
-    let named = IsOneOf (mapped.map ∷ []) in
+    let named = IsUnsureOf (g.F.Files.sure c.args.files.now) (mapped.map ∷ []) in
     rw mapped.is (not_found _ named named _ _ _ _ (λ one. one) (refused_text (g.F.Files.holds c.args.files.now) mapped.layout mapped.map mapped.top) c.in_err-bytes-in-Mapped.field-0.0
     c.from_residual-in_err-bytes-in-Mapped.result c.from_residual-in_err-bytes-in-Mapped.ensures.1 (rw c.as_slice.ensures at c.in_err-bytes-in-Mapped.ensures.found))
 

@@ -1,8 +1,12 @@
-use Rattle.std.proofs.Common.{arith, ◌≡◌, ◌≤◌, ◌+◌, ◌++◌, ◌∙◌, List, ℕ, ap, length, take, drop, length-append, vec_len}
+use Rattle.std.proofs.Common.{arith, ◌≡◌, ◌≤◌, ◌+◌, ◌++◌, ◌↔◌, ◌∙◌, List, ℕ, ap, length, take, drop, length-append, vec_len}
 use Rattle.lists.proofs.Words.{append-nil, length-drop, length-take, take-append-le, err_from_is_err_and}
 use Rattle.edge_io.proofs.ByteLaws.{HasRead-more, HasRead-all, HasRead-long, HasRead-Drops, HasRead-DropsUpTo}
 use Rattle.edge_io.specs.ReadAnswers.{is_whole, is_too_long, has_no_memory, has_failed}
 use Rattle.edge_io.proofs.whole.read_whole.Goals as goal
+
+-- two equivalences one behind the other
+then : {A B C : Type 0} → B ↔ A → C ↔ B → C ↔ A
+then first second = (λ c. first.0 (second.0 c), λ a. second.1 (first.1 a))
 
 pub loop-buf-preserved : goal.loop-buf-preserved
 loop-buf-preserved g c =
@@ -12,6 +16,8 @@ loop-buf-preserved g c =
     record {
       holds = λ n. given.holds n ∙ c.loop-buf.invariant.holds n;
       starts = given.starts ∙ c.loop-buf.invariant.starts;
+      sure = λ n. then (c.loop-buf.invariant.sure n) (given.sure n);
+      steady = λ is_sure. given.steady.1 (c.loop-buf.invariant.steady is_sure);
       started = given.started;
       calm = given.calm ∙ c.loop-buf.invariant.calm;
       within = omega (arith, whole.len, ap length front, given.within, c.read.auto.buf, c.min-room.ensures, length-take {A = ℕ}, length-drop {A = ℕ});
@@ -29,12 +35,20 @@ returns-then-count-eq0 g c =
           (given.calm ∙ c.loop-buf.invariant.calm) given.started (rw long (HasRead-Drops _ _ _ (rw append-nil at none)));
       holds = λ n. given.holds n ∙ c.loop-buf.invariant.holds n;
       starts = given.starts ∙ c.loop-buf.invariant.starts;
+      sure = λ n. then (c.loop-buf.invariant.sure n) (given.sure n);
+      not_sure = λ e. absurd (cc e);
     }
 
 pub returns-in_err-start : goal.returns-in_err-start
 returns-in_err-start g c =
     let error = err_from_is_err_and c.from_residual.result c.from_residual.ensures.1 in
-    record { answer = rw (error.1, error.2) (has_failed c.in_err-start.ensures.failed); holds = c.in_err-start.ensures.holds; starts = c.in_err-start.ensures.starts }
+    record {
+      answer = rw (error.1, error.2) (has_failed c.in_err-start.ensures.failed);
+      holds = c.in_err-start.ensures.holds;
+      starts = c.in_err-start.ensures.starts;
+      sure = c.in_err-start.ensures.sure;
+      not_sure = λ _. c.in_err-start.ensures.not_sure;
+    }
 
 pub returns-in_err-count : goal.returns-in_err-count
 returns-in_err-count g c =
@@ -43,6 +57,8 @@ returns-in_err-count g c =
       answer = rw (error.1, error.2) (has_failed (rw c.loop-buf.invariant.calm at c.in_err-count.ensures.failed));
       holds = λ n. c.in_err-count.ensures.holds n ∙ c.loop-buf.invariant.holds n;
       starts = c.in_err-count.ensures.starts ∙ c.loop-buf.invariant.starts;
+      sure = λ n. then (c.loop-buf.invariant.sure n) (c.in_err-count.ensures.sure n);
+      not_sure = λ _ is_sure. c.in_err-count.ensures.not_steady (c.loop-buf.invariant.steady is_sure);
     }
 
 pub returns-in_err-extend_from_slice : goal.returns-in_err-extend_from_slice
@@ -63,6 +79,8 @@ returns-in_err-extend_from_slice g c =
       answer = rw (error.1, error.2) (has_no_memory (c.in_ok-count.ensures.calm ∙ c.loop-buf.invariant.calm) c.in_ok-count.ensures.started (HasRead-DropsUpTo _ _ _ _ more fits));
       holds = λ n. c.in_ok-count.ensures.holds n ∙ c.loop-buf.invariant.holds n;
       starts = c.in_ok-count.ensures.starts ∙ c.loop-buf.invariant.starts;
+      sure = λ n. then (c.loop-buf.invariant.sure n) (c.in_ok-count.ensures.sure n);
+      not_sure = λ e. absurd (cc (error.1, error.2, e));
     }
 
 pub returns : goal.returns
@@ -73,6 +91,8 @@ returns g c =
           (rw past (HasRead-Drops _ _ _ c.loop-buf.invariant.read));
       holds = c.loop-buf.invariant.holds;
       starts = c.loop-buf.invariant.starts;
+      sure = c.loop-buf.invariant.sure;
+      not_sure = λ e. absurd (cc e);
     }
 
 pub read-requires-clause-started : goal.read-requires-clause-started

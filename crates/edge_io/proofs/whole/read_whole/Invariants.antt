@@ -1,4 +1,4 @@
-use Rattle.std.proofs.Common.{◌≡◌, ◌≤◌, ◌+◌, ◌-◌, List, [], ◌∷◌, ℕ, vec_len}
+use Rattle.std.proofs.Common.{◌≡◌, ◌≤◌, ◌↔◌, ◌+◌, ◌-◌, List, [], ◌∷◌, ℕ, vec_len}
 use Rattle.edge_io.specs.Bytes.{Appends}
 use Rattle.edge_io.proofs.ByteLaws.{HasRead}
 use Rattle.edge_io.proofs.whole.read_whole.Given as goal
@@ -9,6 +9,8 @@ invariant-loop-buf g l =
     record {
       holds : (n : List ℕ) → source.holds l.files n ≡ source.holds l.fn.files n;
       starts : Appends (source.starts l.fn.files) (source.starts l.files) (l.fn.name ∷ []);
+      sure : (n : List ℕ) → source.sure l.files n ↔ source.sure l.fn.files n;
+      steady : source.sure l.fn.files l.fn.name → source.steady l.files;
       started : source.started l.files;
       calm : source.faults l.files ≡ source.faults l.fn.files;
       within : vec_len l.whole ≤ l.limit + 1;

@@ -1,4 +1,4 @@
-use Rattle.std.proofs.Common.{◌≡◌, ◌≤◌, ◌-◌, length, take}
+use Rattle.std.proofs.Common.{◌≡◌, ◌≤◌, ◌+◌, ◌-◌, length, take}
 use Rattle.edge_io.specs.Bytes.{Appends}
 use Rattle.edge_io.proofs.whole.write_all.Given as goal
 
@@ -8,6 +8,7 @@ invariant-loop-at g l =
     record {
       within : l.at ≤ length l.bytes;
       written : Appends (device.written l.fn.sink) (device.written l.sink) (take l.at l.bytes);
+      sure : device.sure l.fn.sink ≤ device.sure l.sink + l.at;
       calm : device.faults l.sink ≡ device.faults l.fn.sink;
       untouched : l.at ≡ 0 → l.sink ≡ l.fn.sink;
     }
