@@ -2,3 +2,4 @@ pub mod LayoutBounds
 pub mod Work
 pub mod Indexes
 pub mod Lengthening
+pub mod CountedRows

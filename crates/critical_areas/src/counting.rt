@@ -1,5 +1,5 @@
-ghost use Rattle.std.specs.Prelude.{◌<◌, ◌^◌, IfOk, All};
-ghost use Rattle.fault_model.specs.Areas.{cells_of_window};
+ghost use Rattle.std.specs.Prelude.{◌≤◌, ◌<◌, ◌^◌, IfOk, All, length};
+ghost use Rattle.fault_model.specs.Areas.{cells_of, cells_of_window};
 ghost use Rattle.critical_areas.specs.AskedCounts.{AreCounted};
 
 use super::edges::sensible_plan;
@@ -34,6 +34,21 @@ pub fn amounts<G: Gate + Sync>(
     if asked.questions.is_empty() {
         return Ok(Vec::new(alloc));
     }
+    amounts_over(rt, alloc, asked, window, sharing)
+}
+
+/// What is counted over a window, where something is asked.
+fn amounts_over<G: Gate + Sync>(
+    rt: &(impl Threads + Sync),
+    alloc: Global,
+    asked: Asked<'_>,
+    window: Rect,
+    sharing: Sharing<'_, G>,
+) -> Result<Vec<u64>, NoMemory>
+    requires some { 1 ≤ length asked.questions.now }
+    ensures { IfOk result (λ amounts.
+        AreCounted asked.entry.parts.now (cells_of window) asked.entry.questions.now amounts.items) }
+{
     let plan = sensible_plan(asked, window, sharing.edge);
     let tiles = Tiles::new(alloc, asked, plan)?;
     let slots = asked.questions.len() as u32;

@@ -37,6 +37,7 @@ ghost use Rattle.critical_areas.specs.Rows.{ComeToRows};
 ghost use Rattle.map_model.specs.MapView.{layer_map_of};
 ghost use Rattle.questions.specs.declared.row.TheConstants.{MOST_ROWS};
 
+use answering::counted_rows;
 pub use answering::rows;
 pub use counting::amounts;
 use map_model::{Layers, Map};
@@ -72,7 +73,5 @@ pub fn critical_areas<G: Gate + Sync>(
 {
     let window = window_of(layers.lists.as_slice(), reach(map));
     let parts = prepare(alloc, map, layers)?;
-    let asked = parts.asked();
-    let counted = amounts(rt, alloc, asked, window, sharing)?;
-    Ok(rows(alloc, asked, &counted)?)
+    Ok(counted_rows(rt, alloc, parts.asked(), window, sharing)?)
 }
