@@ -15,17 +15,24 @@ these is the area of blocks.
 import itertools
 import sys
 
+
+def fail(words):
+    """Ends with these words, which the editor would not print if `sys.exit` had them, nor take for a failure."""
+    print(words, file=sys.stderr)
+    sys.exit(1)
+
+
 try:
     import klayout.db as db
 except ImportError:
     try:
         import pya as db
     except ImportError:
-        sys.exit("areas_by_booleans.py: KLayout's module for Python is not there; install `klayout`, or call it by the editor, `klayout -b -r`")
+        fail("areas_by_booleans.py: KLayout's module for Python is not there; install `klayout`, or call it by the editor, `klayout -b -r`")
 try:
     import tomllib
 except ImportError:
-    sys.exit("areas_by_booleans.py: it reads maps with `tomllib`, which Python has from 3.11 on")
+    fail("areas_by_booleans.py: it reads maps with `tomllib`, which Python has from 3.11 on")
 
 
 def region_of(layout, pairs):
@@ -134,6 +141,6 @@ if __name__ == "__main__":
     if None in words:
         words = sys.argv[1:]
     if len(words) != 2:
-        sys.exit(__doc__)
+        fail(__doc__)
     for line in areas(*words):
         print(line)

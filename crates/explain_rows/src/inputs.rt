@@ -1,5 +1,6 @@
 use crate::rows::{Stands, expect};
 use explanation::PathKind;
+use samples::TWO_BARS;
 
 /// What stands at the names that have no file.
 const OTHERS: &[(&str, PathKind)] = &[
@@ -44,13 +45,13 @@ const ROWS: &[(&str, u8, &str)] = &[
     ),
     (
         "pipe|--layer|1|--datatype|0|--radius|3",
-        8,
-        "layout 'pipe': this is a pipe, which cannot be read a second time; save it as a file to be told more\n",
+        5,
+        "layout 'pipe': this is a pipe or a socket, and it cannot be read; save it as a file\n",
     ),
     (
         "terminal|--layer|1|--datatype|0|--radius|3",
-        8,
-        "layout 'terminal': this is a device, which cannot be read a second time; save it as a file to be told more\n",
+        5,
+        "layout 'terminal': this is a device, and it cannot be read; save it as a file\n",
     ),
     (
         "closed|--layer|1|--datatype|0|--radius|3",
@@ -89,4 +90,31 @@ fn layouts_that_cannot_be_read_are_told(rt: HostRuntime) {
     for (line, status, told) in ROWS {
         expect(&rt, rt.alloc(), line, &STANDS, *status, ["", *told, ""]);
     }
+}
+
+/// A layout in a pipe and its map in a device, which both have something to read.
+const FLOWING: Stands<'static> = Stands {
+    layout: TWO_BARS,
+    map: b"version=1\nradii=[1]\nweights=[1]\nmetal=[{name=\"m1\",pairs=[[1,0]]}]\n",
+    others: &[("a", PathKind::Pipe), ("m", PathKind::Device)],
+};
+
+/// What is told of them where no run came before.
+const FLOWING_TOLD: &str = "layout 'a': nothing is wrong, and the run gives its report\n  \
+     metal 'm1': no terminals, so its opens are 0, which says nothing of its wires\n  \
+     library 'L', a database unit that is no length below a metre, 1 structures, top 'T'\n  \
+     metal 'm1': 2 shapes with 10 points, from (0, 0) to (24, 10)\n  \
+     metal 'm1': 2 islands: 2 with no terminal, 0 with one, 0 with more\n";
+
+/// What is told of them behind a run that refused the map.
+const FLOWING_ENDED: &str = "the map is no text in UTF-8, or no TOML document; \
+     see whether it is the file that you mean; `critarea --explain` tells the line\n  \
+     map 'm': this is a device, which cannot be read a second time; save it as a file to be told more\n";
+
+#[test]
+fn pipes_are_read_once(rt: HostRuntime) {
+    let words = "a|--map|m";
+    expect(&rt, rt.alloc(), words, &FLOWING, 0, ["", FLOWING_TOLD, ""]);
+    let ended = "--ended|3|error 40 at 0\n|a|--map|m";
+    expect(&rt, rt.alloc(), ended, &FLOWING, 0, ["", FLOWING_ENDED, ""]);
 }

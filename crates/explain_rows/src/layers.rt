@@ -2,9 +2,9 @@ use crate::rows::{Stands, expect, explanation_of};
 use samples::TWO_BARS;
 use std::test::Fail;
 
-/// A library `L`. Its structure `A` has `[0,10)x[0,10)` on layer 1 and the box `[0,4)x[0,4)` on layer 2. `T` has a path
-/// with round ends from (0, 20) to (10, 20) on layer 3, the texts `P` at (105, 5) and `Q` at (105, 15) on layer 1, and `A`
-/// at (100, 0).
+/// A library `L`. Its structure `A` has `[0,10)x[0,10)` on layer 1, the box `[0,4)x[0,4)` on layer 2, and the text `R` at
+/// (1, 1) on layer 1. `T` has a path with round ends from (0, 20) to (10, 20) on layer 3, the texts `P` at (105, 5) and `Q`
+/// at (105, 15) on layer 1, and `A` at (100, 0).
 const LAYERS: &[u8] = b"\
     \x00\x06\x00\x02\x02\x58\
     \x00\x1C\x01\x02\x00\x00\x00\x00\x00\x00\x00\x00\x00\x00\x00\x00\x00\x00\x00\x00\x00\x00\x00\x00\
@@ -25,6 +25,12 @@ const LAYERS: &[u8] = b"\
     \x00\x06\x2E\x02\x00\x00\
     \x00\x2C\x10\x03\x00\x00\x00\x00\x00\x00\x00\x00\x00\x00\x00\x04\x00\x00\x00\x00\x00\x00\x00\x04\
     \x00\x00\x00\x04\x00\x00\x00\x00\x00\x00\x00\x04\x00\x00\x00\x00\x00\x00\x00\x00\
+    \x00\x04\x11\x00\
+    \x00\x04\x0C\x00\
+    \x00\x06\x0D\x02\x00\x01\
+    \x00\x06\x16\x02\x00\x00\
+    \x00\x0C\x10\x03\x00\x00\x00\x01\x00\x00\x00\x01\
+    \x00\x06\x19\x06\x52\x00\
     \x00\x04\x11\x00\
     \x00\x04\x07\x00\
     \x00\x1C\x05\x02\x00\x00\x00\x00\x00\x00\x00\x00\x00\x00\x00\x00\x00\x00\x00\x00\x00\x00\x00\x00\
@@ -63,7 +69,7 @@ const ROWS: &[(&str, u8, &str)] = &[
         0,
         "layout 'a': its layers; each shape counts once, as its structure has it\n  \
          library 'L', a database unit that is no length below a metre, 2 structures, top 'T'\n  \
-         layer 1, datatype 0: boundaries 1, boxes 0, paths 0, texts 2, points from (0, 0) to (105, 15); the top places shapes of it\n  \
+         layer 1, datatype 0: boundaries 1, boxes 0, paths 0, texts 3, points from (0, 0) to (105, 15); the top places shapes of it\n  \
          layer 2, datatype 0: boundaries 0, boxes 1, paths 0, texts 0, points from (0, 0) to (4, 4); the top places shapes of it\n  \
          layer 3, datatype 0: boundaries 0, boxes 0, paths 1, texts 0, points from (0, 20) to (10, 20); the top places shapes of it\n    \
          1 of its shapes have no cover: 32, round ends\n  \
@@ -74,7 +80,7 @@ const ROWS: &[(&str, u8, &str)] = &[
         0,
         "layout 'a': its layers; each shape counts once, as its structure has it\n  \
          library 'L', a database unit that is no length below a metre, 2 structures, top 'A'\n  \
-         layer 1, datatype 0: boundaries 1, boxes 0, paths 0, texts 2, points from (0, 0) to (105, 15); the top places shapes of it\n  \
+         layer 1, datatype 0: boundaries 1, boxes 0, paths 0, texts 3, points from (0, 0) to (105, 15); the top places shapes of it\n  \
          layer 2, datatype 0: boundaries 0, boxes 1, paths 0, texts 0, points from (0, 0) to (4, 4); the top places shapes of it\n  \
          layer 3, datatype 0: boundaries 0, boxes 0, paths 1, texts 0, points from (0, 20) to (10, 20); the top places none of it\n    \
          1 of its shapes have no cover: 32, round ends\n  \
@@ -97,7 +103,7 @@ const ROWS: &[(&str, u8, &str)] = &[
          radii = [100]\n\
          weights = [1]\n\
          \n\
-         # layer 1, datatype 0: boundaries 1, boxes 0, paths 0, texts 2, points from (0, 0) to (105, 15); the top places shapes of it\n\
+         # layer 1, datatype 0: boundaries 1, boxes 0, paths 0, texts 3, points from (0, 0) to (105, 15); the top places shapes of it\n\
          [[metal]]\n\
          name = \"layer1_0\"\n\
          pairs = [[1, 0]]\n\
@@ -123,7 +129,9 @@ const ROWS: &[(&str, u8, &str)] = &[
          #[[terminal]]\n\
          #metal = \"layer1_0\"\n\
          #x = 105\n\
-         #y = 5\n",
+         #y = 5\n\
+         \n\
+         # texts of the structures that the top places are left out: 1, each counted once\n",
     ),
 ];
 

@@ -25,6 +25,28 @@ const CHANGED: &[(usize, u8, u8, &str)] = &[
          metal 'm': 2 shapes with 10 points, from (0, 0) to (24, 10)\n  \
          metal 'm': 2 islands: 2 with no terminal, 0 with one, 0 with more\n",
     ),
+    // it is 16 to the power of -7 metres, which is 3.72529029.. nanometres
+    (
+        52,
+        0x3A,
+        0,
+        "layout 'a': nothing is wrong, and the run gives its report\n  \
+         metal 'm': no terminals, so its opens are 0, which says nothing of its wires\n  \
+         library 'L', a database unit of 3.72529 nm, 1 structures, top 'T'\n  \
+         metal 'm': 2 shapes with 10 points, from (0, 0) to (24, 10)\n  \
+         metal 'm': 2 islands: 2 with no terminal, 0 with one, 0 with more\n",
+    ),
+    // it is below 0
+    (
+        52,
+        0xB9,
+        0,
+        "layout 'a': nothing is wrong, and the run gives its report\n  \
+         metal 'm': no terminals, so its opens are 0, which says nothing of its wires\n  \
+         library 'L', a database unit that is no length below a metre, 1 structures, top 'T'\n  \
+         metal 'm': 2 shapes with 10 points, from (0, 0) to (24, 10)\n  \
+         metal 'm': 2 islands: 2 with no terminal, 0 with one, 0 with more\n",
+    ),
     // the layer of both bars is asked for, and one has another
     (
         103,
@@ -52,6 +74,24 @@ const CHANGED: &[(usize, u8, u8, &str)] = &[
         "error 10 at 8\n\
          layout 'a', byte 8: the file ends here, or within the record that begins here, and ENDLIB has not come; fetch or write the file anew, since it was cut short\n  \
          behind HEADER, in front of the first structure's name\n",
+    ),
+    // a BOUNDARY that is a TEXTNODE, which is not read
+    (
+        160,
+        0x14,
+        4,
+        "error 12 at 158\n\
+         layout 'a', byte 158: the record here is of a kind that is not read, or its data are not of the form of its kind; export the layout without such records, which docs/PROFILE.md lists\n  \
+         TEXTNODE, 20, with data of form 0, behind ENDEL, structure 'T'\n",
+    ),
+    // one of a kind that the manual does not have
+    (
+        160,
+        0x3C,
+        4,
+        "error 12 at 158\n\
+         layout 'a', byte 158: the record here is of a kind that is not read, or its data are not of the form of its kind; export the layout without such records, which docs/PROFILE.md lists\n  \
+         an unknown kind, 60, with data of form 0, behind ENDEL, structure 'T'\n",
     ),
     // a LAYER that is a second DATATYPE
     (
@@ -143,19 +183,20 @@ const TERMINALS: &[(&[u8], u8, &str)] = &[
          metal 'm1', island of the cell (0, 0): 2 3\n    \
          metal 'm1', island of the cell (14, 0): 1\n",
     ),
-    // in the gap between the bars, above the first, and off the second by 3 to the right and 2 down
+    // in the gap between the bars, above the first, and off the second by 3 to the right and 2 down; the line is that of the
+    // array which has all of them
     (
         b"version=1\nradii=[1]\nweights=[1]\nmetal=[{name=\"m1\",pairs=[[1,0]]}]\n\
           terminal=[{metal=\"m1\",x=9,y=9},{metal=\"m1\",x=10,y=5},{metal=\"m1\",x=5,y=10},{metal=\"m1\",x=26,y=-2}]\n",
         4,
         "error 50 at 1\n\
-         layout 'a': no shape of its metal covers [[terminal]] number 2, counted from 1, metal 'm1', cell (10, 5); \
+         layout 'a': no shape of its metal covers [[terminal]] number 2, counted from 1, in what begins in line 5 of map 'm', metal 'm1', cell (10, 5); \
          the nearest cell of the metal is (9, 5), 1 to the left\n  \
          the nearest shape begins at byte 94: structure 'T', element 1: a boundary on layer 1, datatype 0, first point (0, 0)\n  \
          move the terminal onto a shape, leave it out, or see whether the metal has the right layers and datatypes\n  \
-         nor does one cover [[terminal]] number 3, counted from 1, metal 'm1', cell (5, 10); \
+         nor does one cover [[terminal]] number 3, counted from 1, in what begins in line 5 of map 'm', metal 'm1', cell (5, 10); \
          the nearest cell of the metal is (5, 9), 1 down\n  \
-         nor does one cover [[terminal]] number 4, counted from 1, metal 'm1', cell (26, -2); \
+         nor does one cover [[terminal]] number 4, counted from 1, in what begins in line 5 of map 'm', metal 'm1', cell (26, -2); \
          the nearest cell of the metal is (23, 0), 3 to the left, 2 up\n",
     ),
     // the metal has another layer
@@ -164,10 +205,25 @@ const TERMINALS: &[(&[u8], u8, &str)] = &[
           terminal=[{metal=\"m1\",x=0,y=0}]\n",
         4,
         "error 50 at 0\n\
-         layout 'a': no shape of its metal covers [[terminal]] number 1, counted from 1, metal 'm1', cell (0, 0)\n  \
-         its metal covers nothing\n  \
+         layout 'a': the top places no shapes of metal 'm1', whose pairs are [2, 0]\n  \
          the layout has shapes of these pairs: [1, 0]\n  \
-         move the terminal onto a shape, leave it out, or see whether the metal has the right layers and datatypes\n",
+         so nothing covers [[terminal]] number 1, counted from 1, in what begins in line 5 of map 'm', metal 'm1', cell (0, 0)\n  \
+         give the metal the right layers and datatypes, or leave its terminals out\n",
+    ),
+    // the second metal has two other layers, and two terminals, each in a table of its own
+    (
+        b"version=1\nradii=[1]\nweights=[1]\n[[metal]]\nname=\"m1\"\npairs=[[1,0]]\n\
+          [[metal]]\nname=\"m2\"\npairs=[[2,0],[1,5]]\n\
+          [[terminal]]\nmetal=\"m1\"\nx=0\ny=0\n[[terminal]]\nmetal=\"m2\"\nx=0\ny=0\n\n\
+          [[terminal]] # a pin\nmetal=\"m2\"\nx=14\ny=9\n",
+        4,
+        "error 50 at 1\n\
+         layout 'a': the top places no shapes of metal 'm2', whose pairs are [2, 0] [1, 5]\n  \
+         the layout has shapes of these pairs: [1, 0]\n  \
+         so nothing covers [[terminal]] number 2, counted from 1, line 14 of map 'm', metal 'm2', cell (0, 0)\n  \
+         give the metal the right layers and datatypes, or leave its terminals out\n  \
+         nor does one cover [[terminal]] number 3, counted from 1, line 19 of map 'm', metal 'm2', cell (14, 9); \
+         its metal covers nothing\n",
     ),
 ];
 

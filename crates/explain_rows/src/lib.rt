@@ -14,6 +14,8 @@ mod many;
 #[cfg(test)]
 mod maps;
 #[cfg(test)]
+mod placing;
+#[cfg(test)]
 mod rows;
 #[cfg(test)]
 mod usage;

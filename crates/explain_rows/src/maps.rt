@@ -30,9 +30,85 @@ const ROWS: &[(&[u8], &str)] = &[
         b"version = 1\nradii = [5, 2]\n",
         "error 42 at 3\n\
          map 'm', line 2, `radii`: this may not stand there\n  \
-         there stands, of the kind array: [5, 2]\n  \
-         there may stand: an array of 1 to 32 whole numbers from 1 to 1000000, each greater than the one before\n  \
-         not greater than the one before it, 5: 2\n",
+         there stands as number 2, not greater than the one before it, 5, of the kind integer: 2\n  \
+         there may stand: an array of 1 to 32 whole numbers from 1 to 1000000, each greater than the one before\n",
+    ),
+    // a number that falls behind others, and one out of its range, which is looked for first
+    (
+        b"version = 1\nradii = [1, 7, 9, 9, 8]\n",
+        "error 42 at 3\n\
+         map 'm', line 2, `radii`: this may not stand there\n  \
+         there stands as number 4, not greater than the one before it, 9, of the kind integer: 9\n  \
+         there may stand: an array of 1 to 32 whole numbers from 1 to 1000000, each greater than the one before\n",
+    ),
+    (
+        b"version = 1\nradii = [5, 2, 1000001]\n",
+        "error 42 at 3\n\
+         map 'm', line 2, `radii`: this may not stand there\n  \
+         there stands as number 3, behind 2, of the kind integer: 1000001\n  \
+         there may stand: an array of 1 to 32 whole numbers from 1 to 1000000, each greater than the one before\n",
+    ),
+    (
+        b"version = 1\nradii = [0, 2]\n",
+        "error 42 at 3\n\
+         map 'm', line 2, `radii`: this may not stand there\n  \
+         there stands as number 1, of the kind integer: 0\n  \
+         there may stand: an array of 1 to 32 whole numbers from 1 to 1000000, each greater than the one before\n",
+    ),
+    // of weights how many there are, and then one that is no whole number
+    (
+        b"version = 1\nradii = [1, 2, 3]\nweights = [4, -1]\n",
+        "error 42 at 4\n\
+         map 'm', line 3, `weights`: this may not stand there\n  \
+         there stand 2 weights, and there are 3 radii\n  \
+         there may stand: an array of as many whole numbers as there are radii, from 0 to 1000000000\n",
+    ),
+    (
+        b"version = 1\nradii = [1, 2]\nweights = [4, 0.5]\n",
+        "error 42 at 4\n\
+         map 'm', line 3, `weights`: this may not stand there\n  \
+         there stands as number 2, behind 4, of the kind float: 0.5\n  \
+         there may stand: an array of as many whole numbers as there are radii, from 0 to 1000000000\n",
+    ),
+    // what is no array has no numbers to tell
+    (
+        b"version = 1\nradii = [1, 2]\nweights = 3\n",
+        "error 42 at 4\n\
+         map 'm', line 3, `weights`: this may not stand there\n  \
+         there stands, of the kind integer: 3\n  \
+         there may stand: an array of as many whole numbers as there are radii, from 0 to 1000000000\n",
+    ),
+    (
+        b"version = 1\nradii = []\n",
+        "error 42 at 3\n\
+         map 'm', line 2, `radii`: this may not stand there\n  \
+         there stands, of the kind array: []\n  \
+         there may stand: an array of 1 to 32 whole numbers from 1 to 1000000, each greater than the one before\n",
+    ),
+    // a misspelt key of a table has a line of its own, also behind a table with a key of that name
+    (
+        b"version = 1\nradii = [1]\nweights = [1]\n[[metal]]\nname = \"a\"\npairs = [[1, 0]]\n\
+          [[cut]]\nnmae = 1\n[[metal]]\n# nmae\npairs = [[2, 0]]\nnmae = \"b\"\n",
+        "error 41 at 110\n\
+         map 'm', line 12, [[metal]] number 2: it has a key that is not known\n  \
+         not known: 'nmae'\n  \
+         known: name pairs\n",
+    ),
+    (
+        b"version = 1\nradii = [1]\nweights = [1]\nmetal = [\n  {name = \"a\", pairs = [[1, 0]]},\n  {nmae = \"b\"},\n]\n",
+        "error 41 at 110\n\
+         map 'm', in what begins in line 4, [[metal]] number 2: it has a key that is not known\n  \
+         not known: 'nmae'\n  \
+         known: name pairs\n",
+    ),
+    // two pairs of one item that stand earlier, once in it and once in another
+    (
+        b"version = 1\nradii = [1]\nweights = [1]\n[[metal]]\nname = \"a\"\npairs = [[1, 0]]\n\
+          [[cut]]\nname = \"v\"\npairs = [[2, 0], [2, 0], [1, 0]]\n",
+        "error 43 at 302\n\
+         map 'm', line 9, `pairs` of [[cut]] number 1, 'v': a layer and a datatype stand twice in the map; leave them to one metal or cut\n  \
+         twice: layer 2, datatype 0\n  \
+         twice: layer 1, datatype 0\n",
     ),
     (
         b"version = 1\nradii = [1,2,3,4,5,6,7,8,9,10,11,12,13,14,15,16,17,18,19,20,21,22,23,24,25,26,27,28,29,30,31,32,33]\n",

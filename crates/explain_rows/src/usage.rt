@@ -9,7 +9,10 @@ const NOTHING: Stands<'static> = Stands {
 
 /// Words, with a bar between two of them, and what is told of them between the line of the refusal and the forms.
 const ROWS: &[(&str, &str)] = &[
-    ("", "arguments: there are none"),
+    (
+        "",
+        "arguments: there are none; ./critarea --help tells which there are, and ./critarea --explain LAYOUT which layers a layout has",
+    ),
     (
         "a|--map|m|-r|3",
         "arguments: '-r' begins with one dash; options begin with two, and in front of a file's name with a dash stands `--`",

@@ -1,8 +1,10 @@
 //! Words that are no run, but ask for the layers of a layout: its name, maybe its top, and maybe that they are to come as a
 //! map.
 
-use crate::words::{MAP_SKELETON, is_plain};
-use command_line::Word;
+use command_line::{Word, is_plain};
+
+/// The word that asks for a map of a layout's layers.
+pub const MAP_SKELETON: &str = "--map-skeleton";
 
 /// What is asked for.
 #[derive(Clone, Copy)]
@@ -25,64 +27,49 @@ struct Given<'a> {
     behind_dashes: bool,
 }
 
-/// What is given with the name of a layout, where none is given yet.
-fn with_layout<'a>(given: Given<'a>, name: &'a str) -> Option<Given<'a>> {
-    if given.layout.is_some() || name.is_empty() {
-        return None;
-    }
-    Some(Given {
-        layout: Some(name),
-        ..given
-    })
-}
-
-/// What is given with the name of a top, where none is given yet.
-fn with_top<'a>(given: Given<'a>, name: &'a str) -> Option<Given<'a>> {
-    if given.top.is_some() || name.is_empty() {
-        return None;
-    }
-    Some(Given {
-        top: Some(name),
-        awaits_top: false,
-        ..given
-    })
-}
-
-/// What is given with one word more, which begins with a dash, where it is taken.
-fn with_option<'a>(given: Given<'a>, word: &'a str) -> Option<Given<'a>> {
-    if word == "--" {
-        return Some(Given {
-            behind_dashes: true,
-            ..given
-        });
-    }
-    if word == "--top" {
-        return Some(Given {
-            awaits_top: true,
-            ..given
-        });
-    }
-    if word == MAP_SKELETON && !given.as_map {
-        return Some(Given {
-            as_map: true,
-            ..given
-        });
-    }
-    with_top(given, word.strip_prefix("--top=")?)
-}
-
-/// What is given with one word more, where it is taken.
-fn with_word<'a>(given: Given<'a>, word: &'a str) -> Option<Given<'a>> {
-    if given.awaits_top {
-        if is_plain(word) {
-            return with_top(given, word);
+impl<'a> Given<'a> {
+    /// Takes the name of a layout, where none is given yet.
+    fn take_layout(&mut self, name: &'a str) -> Option<()> {
+        if self.layout.is_some() || name.is_empty() {
+            return None;
         }
-        return None;
+        self.layout = Some(name);
+        Some(())
     }
-    if given.behind_dashes || is_plain(word) {
-        return with_layout(given, word);
+
+    /// Takes the name of a top, where none is given yet.
+    fn take_top(&mut self, name: &'a str) -> Option<()> {
+        if self.top.is_some() || name.is_empty() {
+            return None;
+        }
+        self.top = Some(name);
+        self.awaits_top = false;
+        Some(())
     }
-    with_option(given, word)
+
+    /// Takes one word more, which begins with a dash, where it is an option.
+    fn take_option(&mut self, word: &'a str) -> Option<()> {
+        match word {
+            "--" => self.behind_dashes = true,
+            "--top" => self.awaits_top = true,
+            _ if word == MAP_SKELETON && !self.as_map => self.as_map = true,
+            _ => return self.take_top(word.strip_prefix("--top=")?),
+        }
+        Some(())
+    }
+
+    /// Takes one word more, where it may stand there.
+    fn take(&mut self, word: &'a str) -> Option<()> {
+        if self.awaits_top && is_plain(word) {
+            self.take_top(word)
+        } else if self.awaits_top {
+            None
+        } else if self.behind_dashes || is_plain(word) {
+            self.take_layout(word)
+        } else {
+            self.take_option(word)
+        }
+    }
 }
 
 /// What the words ask for, where they ask for layers.
@@ -95,7 +82,7 @@ pub fn asked_of(words: &[Word]) -> Option<Asked<'_>> {
         behind_dashes: false,
     };
     for word in words {
-        given = with_word(given, word.as_str())?;
+        given.take(word.as_str())?;
     }
     if given.awaits_top {
         return None;

@@ -1,11 +1,9 @@
 //! Formats of files that are known by how they begin.
 
-/// What most GDSII layouts begin with: a HEADER that has a version of two bytes.
-const GDSII: &[u8] = b"\x00\x06\x00\x02";
+use gds_records::{forms, kinds};
 
 /// Beginnings, and what has them.
 const KNOWN: &[(&[u8], &str)] = &[
-    (GDSII, "a GDSII layout"),
     (b"%SEMI-OASIS", "an OASIS layout: export it as GDSII"),
     (b"\x1F\x8B", "a gzip file: unpack it with gunzip"),
     (b"BZh", "a bzip2 file: unpack it with bunzip2"),
@@ -47,7 +45,7 @@ pub fn format_of(bytes: &[u8]) -> Option<&'static str> {
 /// Whether a file that begins with these bytes is a GDSII layout: with a HEADER of any even length.
 pub fn is_gdsii(bytes: &[u8]) -> bool {
     match bytes {
-        [_, low, 0x00, 0x02, ..] => *low % 2 == 0,
+        [_, low, kinds::HEADER, forms::TWO_BYTE_NUMBERS, ..] => *low % 2 == 0,
         _ => false,
     }
 }
@@ -59,10 +57,5 @@ fn is_of_text(byte: u8) -> bool {
 
 /// Whether the bytes begin as a text does, with four printable bytes.
 pub fn begins_as_text(bytes: &[u8]) -> bool {
-    for byte in bytes.iter().take(4) {
-        if !is_of_text(*byte) {
-            return false;
-        }
-    }
-    bytes.len() >= 4
+    bytes.len() >= 4 && bytes[..4].iter().all(|byte| is_of_text(*byte))
 }

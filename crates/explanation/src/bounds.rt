@@ -12,30 +12,28 @@ pub struct Bounds {
     pub top: i32,
 }
 
-/// The bounds of both.
-pub fn joined(one: Option<Bounds>, other: Bounds) -> Bounds {
-    let Some(one) = one else {
-        return other;
-    };
-    Bounds {
-        left: one.left.min(other.left),
-        bottom: one.bottom.min(other.bottom),
-        right: one.right.max(other.right),
-        top: one.top.max(other.top),
-    }
+/// The bounds with a point more.
+pub fn with_point(bounds: Option<Bounds>, x: i32, y: i32) -> Option<Bounds> {
+    let known = bounds.unwrap_or(Bounds {
+        left: x,
+        bottom: y,
+        right: x,
+        top: y,
+    });
+    Some(Bounds {
+        left: known.left.min(x),
+        bottom: known.bottom.min(y),
+        right: known.right.max(x),
+        top: known.top.max(y),
+    })
 }
 
 /// The bounds of all rectangles, where there is one.
 pub fn bounds_of(rects: &[Rect]) -> Option<Bounds> {
     let mut bounds = None;
     for rect in rects {
-        let other = Bounds {
-            left: rect.x0,
-            bottom: rect.y0,
-            right: rect.x1,
-            top: rect.y1,
-        };
-        bounds = Some(joined(bounds, other));
+        bounds = with_point(bounds, rect.x0, rect.y0);
+        bounds = with_point(bounds, rect.x1, rect.y1);
     }
     bounds
 }

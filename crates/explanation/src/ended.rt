@@ -1,9 +1,9 @@
 //! Why a run of the program ended as it did: what is found where its words and files are read again, and where that is
 //! something else than the program said, or nothing was to be read, what its status and its line mean.
 
-use crate::explanation::{Explanation, explain, tell_words};
-use crate::inputs::READ_ONCE;
-use crate::map_spot::{List, Spot, spot_of};
+use crate::explanation::{Explanation, explain, explanation_of, tell_words};
+use crate::inputs::{FAILED, READ_ONCE};
+use crate::maps::{place_of, tell_place};
 use crate::path_kinds::Paths;
 use crate::remedies::{Remedy, remedy_of};
 use crate::telling::Telling;
@@ -18,9 +18,6 @@ const ENDED: &str = "--ended";
 
 /// The status of a run whose words fit no form.
 const UNFIT: u8 = 2;
-
-/// The status of a run in which a file or an output failed.
-const FAILED: u8 = 5;
 
 /// The status of a run to which the system does not tell its words.
 const WORDS_UNTOLD: u8 = 7;
@@ -53,18 +50,13 @@ struct Ended<'a> {
     words: &'a [Word],
 }
 
-/// The number of a text, where it is one.
-fn number_in(text: &str) -> Option<u64> {
-    text.parse::<u64>().ok()
-}
-
 impl<'a> Ended<'a> {
     /// The number and the place in the line, where the line is a refusal.
     fn refusal(&self) -> Option<(u64, u64)> {
         let body = self.line.strip_prefix("error ")?;
         let (number, rest) = body.split_once(" at ")?;
         let place = rest.strip_suffix('\n')?;
-        Some((number_in(number)?, number_in(place)?))
+        Some((number.parse::<u64>().ok()?, place.parse::<u64>().ok()?))
     }
 
     /// Whether files and words are worth a second look.
@@ -81,32 +73,15 @@ impl<'a> Ended<'a> {
     }
 }
 
-/// Tells which table of a list of the map it is, counted from 1.
-fn tell_item(text: &mut Text, list: List, number: usize) {
-    text.word("[[", list.key(), "]] number ");
-    text.number("", (number as u64).saturating_add(1), "");
-}
-
-/// Tells which place of the map a path is.
-fn tell_path(text: &mut Text, path: usize) {
-    text.say("the map, ");
-    match spot_of(path) {
-        Spot::Document => text.say("the document"),
-        Spot::Key(key) => text.word("`", key.name, "`"),
-        Spot::Item(list, number) => tell_item(text, list, number),
-        Spot::ItemKey(list, number, key) => {
-            text.word("`", key.name, "` of ");
-            tell_item(text, list, number);
-        }
-    }
-    text.say(": ");
-}
-
 /// Tells what a row is about, where its place is this and the meaning does not name it.
 fn tell_subject(text: &mut Text, row: &Remedy, place: u64) {
     match (row.status, row.number) {
         (3, 39) | (3, 40) | (4, 9) | (4, 27) => {}
-        (3, _) => tell_path(text, place as usize),
+        (3, _) => {
+            text.say("the map, ");
+            tell_place(text, None, place_of(place));
+            text.say(": ");
+        }
         (4, 50) => text.number(
             "the layout, [[terminal]] number ",
             place.saturating_add(1),
@@ -186,20 +161,6 @@ fn tell_found(text: &mut Text, ended: &Ended<'_>, found: &Explanation) {
     }
 }
 
-/// Why these words fit no form.
-fn explain_unfit(alloc: Global, words: &[Word]) -> Result<Explanation, NoMemory> {
-    let mut told = Telling {
-        status: 0,
-        text: Text::new(alloc),
-    };
-    tell_words(alloc, &mut told, words)?;
-    let Telling { status, text } = told;
-    Ok(Explanation {
-        status,
-        text: text.whole()?,
-    })
-}
-
 /// What is found where the words and the files of the run are read again. Words that the program refused are not taken as
 /// those of something that it does not do.
 fn look_again<F: Files, P: Paths>(
@@ -209,9 +170,11 @@ fn look_again<F: Files, P: Paths>(
     paths: &P,
 ) -> Result<Explanation, NoMemory> {
     if ended.status == UNFIT {
-        return explain_unfit(alloc, ended.words);
+        let mut told = Telling::new(alloc, true);
+        tell_words(alloc, &mut told, ended.words)?;
+        return explanation_of(told);
     }
-    explain(alloc, ended.words, files, paths)
+    explain(alloc, ended.words, files, paths, true)
 }
 
 /// Tells why the run ended so.
@@ -253,27 +216,22 @@ pub fn answer<F: Files, P: Paths>(
     paths: &P,
 ) -> Result<Explanation, NoMemory> {
     let Some(ended) = ended_in(words) else {
-        return explain(alloc, words, files, paths);
+        return explain(alloc, words, files, paths, false);
     };
-    let mut text = Text::new(alloc);
-    tell_ended(alloc, &mut text, &ended, files, paths)?;
-    Ok(Explanation {
-        status: 0,
-        text: text.whole()?,
-    })
+    let mut told = Telling::new(alloc, true);
+    tell_ended(alloc, &mut told.text, &ended, files, paths)?;
+    explanation_of(told)
 }
 
 /// What is to be said of a run to which the system does not tell its words.
 pub fn answer_untold(alloc: Global) -> Result<Explanation, NoMemory> {
-    let mut text = Text::new(alloc);
+    let mut told = Telling::new(alloc, true);
+    told.status = WORDS_UNTOLD;
     let ended = Ended {
         status: WORDS_UNTOLD,
         line: "",
         words: &[],
     };
-    tell_meaning(&mut text, &ended);
-    Ok(Explanation {
-        status: WORDS_UNTOLD,
-        text: text.whole()?,
-    })
+    tell_meaning(&mut told.text, &ended);
+    explanation_of(told)
 }

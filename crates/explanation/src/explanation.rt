@@ -3,17 +3,16 @@
 ghost use Rattle.std.specs.Prelude.{◌≤◌};
 
 use crate::asked::{Asked, asked_of};
-use crate::inputs::{Input, LONGEST_LAYOUT, read_again};
+use crate::good_map::GoodMap;
+use crate::inputs::{Input, LONGEST_LAYOUT, read_input};
 use crate::layouts::{Layout, Origin, tell_layout};
 use crate::listing::tell_listing;
 use crate::maps::tell_map_fault;
 use crate::parting::{parted_of, tell_parted};
 use crate::path_kinds::Paths;
 use crate::telling::Telling;
-use crate::text::Text;
-use crate::usage::tell_misfit;
-use crate::words::find_misfit;
-use command_line::{Request, Task, Word, WordsFault, read_words};
+use crate::words::tell_misfit;
+use command_line::{Request, Task, Word, WordsFault, cause_of, read_words};
 use edge_io::Files;
 use layer_map::read_map;
 use layout_gen::{MOST_COLUMNS, generate, layer_map};
@@ -33,7 +32,7 @@ pub struct Explanation {
 /// Tells why the words fit no form.
 pub fn tell_words(alloc: Global, told: &mut Telling, words: &[Word]) -> Result<(), NoMemory> {
     told.refuse(2, 2, 0);
-    tell_misfit(&mut told.text, find_misfit(alloc, words)?);
+    tell_misfit(&mut told.text, cause_of(alloc, words)?.as_ref());
     told.text.say(
         "\n  critarea LAYOUT --map MAP\n  critarea LAYOUT --layer L --datatype D --radius R\n  critarea --generate N\n",
     );
@@ -54,11 +53,8 @@ fn tell_many<F: Files, P: Paths>(
         return Ok(());
     };
     // The map is refused, and what may be wrong with the layout is not told.
-    let mut untold = Telling {
-        status: 0,
-        text: Text::new(alloc),
-    };
-    match read_again(alloc, &mut untold, files, paths, Input::Layout, layout)? {
+    let mut untold = Telling::new(alloc, told.is_behind_run);
+    match read_input(alloc, &mut untold, files, paths, Input::Layout, layout)? {
         Some(bytes) if bytes.len() <= LONGEST_LAYOUT => {
             tell_parted(alloc, &mut told.text, parted, bytes.as_slice(), top)
         }
@@ -66,42 +62,65 @@ fn tell_many<F: Files, P: Paths>(
     }
 }
 
-/// The map that is asked for, where it is good. Else it is told why not.
-fn map_for<F: Files, P: Paths>(
+/// The map in the file of this name, where it is good. Else it is told why not, and where it has too many terminals, which
+/// of them are on one island of this layout.
+fn map_in_file<'a, F: Files, P: Paths>(
     alloc: Global,
     told: &mut Telling,
-    request: &Request,
+    name: &'a [u8],
+    layout: &[u8],
+    top: Option<&[u8]>,
     files: &mut F,
     paths: &P,
-) -> Result<Option<Map>, NoMemory> {
+) -> Result<Option<GoodMap<'a>>, NoMemory> {
+    let Some(bytes) = read_input(alloc, told, files, paths, Input::Map, name)? else {
+        return Ok(None);
+    };
+    match map_of(alloc, told, name, bytes.as_slice())? {
+        Some(map) => Ok(Some(GoodMap { map, name, bytes })),
+        None => {
+            tell_many(alloc, told, bytes.as_slice(), layout, top, files, paths)?;
+            Ok(None)
+        }
+    }
+}
+
+/// A good map that comes from no file.
+fn of_no_file(alloc: Global, map: Map) -> GoodMap<'static> {
+    GoodMap {
+        map,
+        name: b"",
+        bytes: Vec::new(alloc),
+    }
+}
+
+/// The map that is asked for, where it is good. Else it is told why not.
+fn map_for<'a, F: Files, P: Paths>(
+    alloc: Global,
+    told: &mut Telling,
+    request: &'a Request,
+    files: &mut F,
+    paths: &P,
+) -> Result<Option<GoodMap<'a>>, NoMemory> {
     match &request.task {
         Task::OneMetal {
             layer,
             datatype,
             radius,
             ..
-        } => Ok(Some(one_metal(alloc, *layer, *datatype, *radius)?)),
-        Task::Mapped { map, layout, top } => {
-            let name = map.as_slice();
-            let Some(bytes) = read_again(alloc, told, files, paths, Input::Map, name)? else {
-                return Ok(None);
-            };
-            let map = map_of(alloc, told, name, bytes.as_slice())?;
-            if map.is_none() {
-                let top = top.as_ref().map(Name::as_slice);
-                tell_many(
-                    alloc,
-                    told,
-                    bytes.as_slice(),
-                    layout.as_slice(),
-                    top,
-                    files,
-                    paths,
-                )?;
-            }
-            Ok(map)
+        } => {
+            let map = one_metal(alloc, *layer, *datatype, *radius)?;
+            Ok(Some(of_no_file(alloc, map)))
         }
-        Task::Generated { .. } => map_of(alloc, told, b"", layer_map().as_bytes()),
+        Task::Mapped { map, layout, top } => {
+            let (name, layout) = (map.as_slice(), layout.as_slice());
+            let top = top.as_ref().map(Name::as_slice);
+            map_in_file(alloc, told, name, layout, top, files, paths)
+        }
+        Task::Generated { .. } => match map_of(alloc, told, b"", layer_map().as_bytes())? {
+            Some(map) => Ok(Some(of_no_file(alloc, map))),
+            None => Ok(None),
+        },
     }
 }
 
@@ -125,7 +144,7 @@ fn map_of(
 fn tell_mapped<F: Files, P: Paths>(
     alloc: Global,
     told: &mut Telling,
-    map: &Map,
+    good: &GoodMap<'_>,
     request: &Request,
     files: &mut F,
     paths: &P,
@@ -133,9 +152,9 @@ fn tell_mapped<F: Files, P: Paths>(
     match &request.task {
         Task::OneMetal { layout, top, .. } | Task::Mapped { layout, top, .. } => {
             let top = top.as_ref().map(Name::as_slice);
-            tell_file(alloc, told, map, layout.as_slice(), top, files, paths)
+            tell_file(alloc, told, good, layout.as_slice(), top, files, paths)
         }
-        Task::Generated { n } => tell_generated(alloc, told, map, *n),
+        Task::Generated { n } => tell_generated(alloc, told, good, *n),
     }
 }
 
@@ -148,13 +167,18 @@ fn tell_request<F: Files, P: Paths>(
     paths: &P,
 ) -> Result<(), NoMemory> {
     match map_for(alloc, told, request, files, paths)? {
-        Some(map) => tell_mapped(alloc, told, &map, request, files, paths),
+        Some(good) => tell_mapped(alloc, told, &good, request, files, paths),
         None => Ok(()),
     }
 }
 
 /// Tells of the generated layout of `n` columns.
-fn tell_generated(alloc: Global, told: &mut Telling, map: &Map, n: u32) -> Result<(), NoMemory>
+fn tell_generated(
+    alloc: Global,
+    told: &mut Telling,
+    good: &GoodMap<'_>,
+    n: u32,
+) -> Result<(), NoMemory>
     requires some { 1 ≤ n }
     requires few { n ≤ MOST_COLUMNS }
 {
@@ -164,64 +188,30 @@ fn tell_generated(alloc: Global, told: &mut Telling, map: &Map, n: u32) -> Resul
         bytes: made.0.as_slice(),
         top: None,
     };
-    tell_layout(alloc, told, map, &layout)
-}
-
-/// Tells of the layout that these bytes are.
-fn tell_bytes(
-    alloc: Global,
-    told: &mut Telling,
-    map: &Map,
-    name: &[u8],
-    top: Option<&[u8]>,
-    bytes: &[u8],
-) -> Result<(), NoMemory> {
-    if bytes.len() > LONGEST_LAYOUT {
-        return Ok(());
-    }
-    let layout = Layout {
-        origin: Origin::File(name),
-        bytes,
-        top,
-    };
-    tell_layout(alloc, told, map, &layout)
+    tell_layout(alloc, told, good, &layout)
 }
 
 /// Tells of the layout in the file of this name, of which this top is wanted, or any.
 fn tell_file<F: Files, P: Paths>(
     alloc: Global,
     told: &mut Telling,
-    map: &Map,
+    good: &GoodMap<'_>,
     name: &[u8],
     top: Option<&[u8]>,
     files: &mut F,
     paths: &P,
 ) -> Result<(), NoMemory> {
-    match read_again(alloc, told, files, paths, Input::Layout, name)? {
-        Some(bytes) => tell_bytes(alloc, told, map, name, top, bytes.as_slice()),
-        None => Ok(()),
+    match read_input(alloc, told, files, paths, Input::Layout, name)? {
+        Some(bytes) if bytes.len() <= LONGEST_LAYOUT => {
+            let layout = Layout {
+                origin: Origin::File(name),
+                bytes: bytes.as_slice(),
+                top,
+            };
+            tell_layout(alloc, told, good, &layout)
+        }
+        _ => Ok(()),
     }
-}
-
-/// Tells the layers of the layout that these bytes are.
-fn tell_layers(
-    alloc: Global,
-    told: &mut Telling,
-    asked: &Asked<'_>,
-    bytes: &[u8],
-) -> Result<(), NoMemory> {
-    if bytes.len() > LONGEST_LAYOUT {
-        return Ok(());
-    }
-    let layout = Layout {
-        origin: Origin::File(asked.layout.as_bytes()),
-        bytes,
-        top: match asked.top {
-            Some(top) => Some(top.as_bytes()),
-            None => None,
-        },
-    };
-    tell_listing(alloc, told, &layout, asked.as_map)
 }
 
 /// Tells the layers that are asked for.
@@ -233,9 +223,16 @@ fn tell_asked<F: Files, P: Paths>(
     paths: &P,
 ) -> Result<(), NoMemory> {
     let name = asked.layout.as_bytes();
-    match read_again(alloc, told, files, paths, Input::Layout, name)? {
-        Some(bytes) => tell_layers(alloc, told, asked, bytes.as_slice()),
-        None => Ok(()),
+    match read_input(alloc, told, files, paths, Input::Layout, name)? {
+        Some(bytes) if bytes.len() <= LONGEST_LAYOUT => {
+            let layout = Layout {
+                origin: Origin::File(name),
+                bytes: bytes.as_slice(),
+                top: asked.top.map(str::as_bytes),
+            };
+            tell_listing(alloc, told, &layout, asked.as_map)
+        }
+        _ => Ok(()),
     }
 }
 
@@ -254,25 +251,32 @@ fn tell<F: Files, P: Paths>(
     }
 }
 
+/// The explanation, where memory was left for all of it.
+pub fn explanation_of(told: Telling) -> Result<Explanation, NoMemory> {
+    let Telling {
+        is_behind_run: _,
+        status,
+        text,
+    } = told;
+    Ok(Explanation {
+        status,
+        text: text.whole()?,
+    })
+}
+
 /// What is to be said of these words on these files: of a run, or, where they name a layout and at most its top, of that
-/// layout's layers.
+/// layout's layers. Where a run of the words came before, it has read the files.
 pub fn explain<F: Files, P: Paths>(
     alloc: Global,
     words: &[Word],
     files: &mut F,
     paths: &P,
+    is_behind_run: bool,
 ) -> Result<Explanation, NoMemory> {
-    let mut told = Telling {
-        status: 0,
-        text: Text::new(alloc),
-    };
+    let mut told = Telling::new(alloc, is_behind_run);
     match asked_of(words) {
         Some(asked) => tell_asked(alloc, &mut told, &asked, files, paths)?,
         None => tell(alloc, &mut told, words, files, paths)?,
     }
-    let Telling { status, text } = told;
-    Ok(Explanation {
-        status,
-        text: text.whole()?,
-    })
+    explanation_of(told)
 }

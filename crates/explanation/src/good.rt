@@ -1,17 +1,17 @@
 //! What is told of a run that gives a report: first what makes areas of 0 that say nothing, and then what the layout has.
 
 use crate::bounds::{bounds_of, tell_bounds};
-use crate::graph::{Graph, first_top, graph_of};
+use crate::graph::graph_of;
 use crate::layer_names::tell_layer;
 use crate::layouts::Layout;
 use crate::metal_islands::{MetalIslands, metal_islands, tell_all_carried, tell_island_counts};
 use crate::pairs::tell_pairs_of;
-use crate::shapes::{Held, Shapes};
+use crate::shapes::{Held, Shapes, tell_held};
 use crate::text::Text;
 use crate::unit::tell_unit;
-use library_model::{Library, Structure};
+use library_model::Library;
 use lists::NoMemory;
-use map_model::{Map, Terminal};
+use map_model::Map;
 use std::alloc::Global;
 
 /// Tells the layers without shapes, and on which the layout has some.
@@ -38,23 +38,11 @@ fn tell_empty_layers(
     Ok(())
 }
 
-/// Whether a terminal is on the metal.
-fn has_terminal(terminals: &[Terminal], metal: usize) -> bool {
-    for terminal in terminals {
-        if terminal.metal as usize == metal {
-            return true;
-        }
-    }
-    false
-}
-
-/// Tells why a metal has no opens, where no island of it has two terminals.
-fn tell_no_opens(text: &mut Text, map: &Map, metal: usize, islands: &MetalIslands) {
-    if islands.more > 0 {
-        return;
-    }
+/// Tells that a metal has no opens, and why: no island of it has two terminals.
+fn tell_no_opens(text: &mut Text, map: &Map, metal: usize) {
     tell_layer(text, "  ", map, metal);
-    if has_terminal(map.terminals.as_slice(), metal) {
+    let mut terminals = map.terminals.as_slice().iter();
+    if terminals.any(|terminal| terminal.metal as usize == metal) {
         text.say(": no island with two terminals");
     } else {
         text.say(": no terminals");
@@ -65,35 +53,23 @@ fn tell_no_opens(text: &mut Text, map: &Map, metal: usize, islands: &MetalIsland
 /// Tells the metals with shapes that have no opens.
 fn tell_opens(text: &mut Text, map: &Map, layers: &[Held], islands: &[MetalIslands]) {
     for (metal, (held, islands)) in layers.iter().zip(islands.iter()).enumerate() {
-        if held.shapes > 0 {
-            tell_no_opens(text, map, metal, islands);
+        if held.shapes > 0 && islands.more == 0 {
+            tell_no_opens(text, map, metal);
         }
     }
 }
 
-/// Tells what is placed on a layer.
-fn tell_held(text: &mut Text, map: &Map, number: usize, held: &Held) {
+/// Tells what is placed on a layer, and what it covers.
+fn tell_covered(text: &mut Text, map: &Map, number: usize, held: &Held) {
     if held.shapes == 0 {
         return;
     }
-    tell_layer(text, "  ", map, number);
-    text.number(": ", held.shapes, " shapes with ");
-    text.number("", held.points, " points");
+    tell_held(text, map, number, held);
     match bounds_of(held.rects.as_slice()) {
         Some(bounds) => tell_bounds(text, ", from ", bounds),
         None => text.say(", which cover nothing"),
     }
     text.say("\n");
-}
-
-/// Tells the name of the first structure that no reference names.
-fn tell_first(text: &mut Text, structures: &[Structure], graph: &Graph) {
-    let Some(top) = first_top(graph) else {
-        return;
-    };
-    if let Some(structure) = structures.get(top) {
-        text.name(", top ", structure.name.as_slice(), "");
-    }
 }
 
 /// Tells the name of the top.
@@ -103,12 +79,14 @@ fn tell_top(
     layout: &Layout<'_>,
     library: &Library,
 ) -> Result<(), NoMemory> {
-    let structures = library.structures.as_slice();
     if let Some(top) = layout.top {
         text.name(", top ", top, "");
         return Ok(());
     }
-    tell_first(text, structures, &graph_of(alloc, structures)?);
+    let graph = graph_of(alloc, library.structures.as_slice())?;
+    if let Some(top) = graph.tops.first() {
+        text.name(", top ", graph.name_of(*top), "");
+    }
     Ok(())
 }
 
@@ -118,13 +96,6 @@ pub fn tell_library(text: &mut Text, library: &Library) {
     tell_unit(text, library.units);
     let count = library.structures.as_slice().len();
     text.number(", ", count as u64, " structures");
-}
-
-/// Tells what is placed on each layer.
-fn tell_layers(text: &mut Text, map: &Map, layers: &[Held]) {
-    for (number, held) in layers.iter().enumerate() {
-        tell_held(text, map, number, held);
-    }
 }
 
 /// Tells how many islands the metals with shapes have.
@@ -155,7 +126,9 @@ pub fn tell_good(
     tell_library(text, library);
     tell_top(alloc, text, layout, library)?;
     text.say("\n");
-    tell_layers(text, map, layers);
+    for (number, held) in layers.iter().enumerate() {
+        tell_covered(text, map, number, held);
+    }
     tell_all_counts(text, map, layers, islands);
     if !map.terminals.as_slice().is_empty() {
         tell_all_carried(text, map, layers, islands);

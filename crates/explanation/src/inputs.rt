@@ -1,4 +1,4 @@
-//! The files of a run, read once more.
+//! The files of a run: read for the first time, or once more behind a run that has read them.
 
 ghost use Rattle.std.specs.Prelude.{◌≤◌, ◌^◌};
 
@@ -9,8 +9,8 @@ use edge_io::{Files, ReadError, read_whole};
 use lists::NoMemory;
 use std::alloc::Global;
 
-/// The status of a run whose file could not be read.
-const FAILED: u8 = 5;
+/// The status of a run in which a file or an output failed.
+pub const FAILED: u8 = 5;
 
 /// The status that stands for a file that cannot be read a second time. No run ends with it.
 pub const READ_ONCE: u8 = 8;
@@ -63,20 +63,31 @@ fn words_of(kind: PathKind) -> &'static str {
         PathKind::Forbidden =>
             "the system does not let it be looked at; see who may enter its folder",
         PathKind::Folder => "this is a folder, and a file is wanted",
-        PathKind::Pipe =>
-            "this is a pipe, which cannot be read a second time; save it as a file to be told more",
-        PathKind::Device =>
-            "this is a device, which cannot be read a second time; save it as a file to be told more",
+        PathKind::Pipe => "this is a pipe or a socket, and it cannot be read; save it as a file",
+        PathKind::Device => "this is a device, and it cannot be read; save it as a file",
         PathKind::File => "the file is there and cannot be read; see who may read it",
         PathKind::Untold => "the system cannot reach it",
     }
 }
 
-/// Tells why a file could not be read.
-fn tell_unread(told: &mut Telling, input: Input, name: &[u8], kind: PathKind) {
+/// Why a second reading would not find what the first one did, in words, where that is so.
+fn words_of_once(kind: PathKind) -> Option<&'static str> {
+    match kind {
+        PathKind::Pipe => Some(
+            "this is a pipe, which cannot be read a second time; save it as a file to be told more",
+        ),
+        PathKind::Device => Some(
+            "this is a device, which cannot be read a second time; save it as a file to be told more",
+        ),
+        _ => None,
+    }
+}
+
+/// Tells in these words why a file is not read.
+fn tell_unread(told: &mut Telling, input: Input, name: &[u8], words: &str) {
     told.text.say(input.word());
     told.text.name(" ", name, ": ");
-    told.text.word("", words_of(kind), "\n");
+    told.text.word("", words, "\n");
 }
 
 /// Tells that a file is too long.
@@ -103,11 +114,12 @@ fn tell_read_error(
         return;
     }
     told.status = FAILED;
-    tell_unread(told, input, name, kind);
+    tell_unread(told, input, name, words_of(kind));
 }
 
-/// What the file contains, where it can be read a second time and is not too long. Else it is told why not.
-pub fn read_again<F: Files, P: Paths>(
+/// What the file contains, where it can be read, and behind a run a second time, and is not too long. Else it is told why
+/// not.
+pub fn read_input<F: Files, P: Paths>(
     alloc: Global,
     told: &mut Telling,
     files: &mut F,
@@ -116,10 +128,12 @@ pub fn read_again<F: Files, P: Paths>(
     name: &[u8],
 ) -> Result<Option<Vec<u8>>, NoMemory> {
     let kind = paths.kind(name);
-    if matches!(kind, PathKind::Pipe | PathKind::Device) {
-        told.status = READ_ONCE;
-        tell_unread(told, input, name, kind);
-        return Ok(None);
+    if told.is_behind_run {
+        if let Some(words) = words_of_once(kind) {
+            told.status = READ_ONCE;
+            tell_unread(told, input, name, words);
+            return Ok(None);
+        }
     }
     match read_whole(alloc, files, name, input.limit()) {
         Ok(bytes) => Ok(Some(bytes)),

@@ -4,12 +4,13 @@ ghost use Rattle.std.specs.Prelude.{◌≤◌, ◌<◌, ◌^◌, length, All};
 ghost use Rattle.lists.specs.Differing.{AreDifferent};
 ghost use Rattle.library_model.specs.Names.{names_of};
 ghost use Rattle.library_model.specs.Points.{AreWellPointed};
+ghost use Rattle.explanation.specs.declared.inputs.TheConstants.{LONGEST_LAYOUT};
 
 use crate::beginnings::{begins_as_text, format_of, is_gdsii};
 use crate::good::tell_good;
-use crate::kind_names::record_name;
+use crate::good_map::GoodMap;
 use crate::off_metal::tell_off_metal;
-use crate::places::{tell_before, tell_place};
+use crate::places::{record_name, tell_before, tell_place};
 use crate::refused::meaning;
 use crate::shapes::{Shapes, placed_shapes, tell_uncovered};
 use crate::spot::{spot_at, spot_before};
@@ -21,7 +22,6 @@ use gds_records::RecordFault;
 use gds_syntax::{SyntaxFault, read_library};
 use library_model::Library;
 use lists::NoMemory;
-use map_model::Map;
 use std::alloc::Global;
 
 /// The status of a run that refuses a layout.
@@ -87,37 +87,28 @@ fn tell_no_gdsii(told: &mut Telling, layout: &Layout<'_>, number: u8, place: u64
     text.say("\n");
 }
 
-/// Tells what is at fault with a record.
-fn tell_record_fault(text: &mut Text, fault: SyntaxFault) {
+/// Tells what is wrong with a record, or with where it stands, and what stands in front of it.
+fn tell_record(text: &mut Text, layout: &Layout<'_>, fault: SyntaxFault) {
+    text.say("  ");
     match fault {
         SyntaxFault::Unexpected { kind, .. } => text.word("", record_name(kind), " "),
         SyntaxFault::Record(RecordFault::BadLength { len, .. }) => {
-            text.number("length ", len as u64, ", ");
+            text.number("length ", u64::from(len), ", ");
         }
         SyntaxFault::Record(RecordFault::BadRecord { kind, form, .. }) => {
             text.word("", record_name(kind), ", ");
             text.number("", u64::from(kind), ", with data of form ");
-            text.number("", form as u64, ", ");
+            text.number("", u64::from(form), ", ");
         }
         _ => {}
     }
-}
-
-/// Tells of a fault of a record, or of a record that may not stand where it does.
-fn tell_record(told: &mut Telling, layout: &Layout<'_>, fault: SyntaxFault) {
-    tell_number(told, layout, fault.number(), fault.place());
-    let text = &mut told.text;
     let spot = spot_before(layout.bytes, fault.place() as u32);
-    text.say("  ");
-    tell_record_fault(text, fault);
     tell_before(text, &spot);
     tell_place(text, ", ", &spot, "\n");
 }
 
-/// Tells of a fault of an element, or of a name that stands twice.
-fn tell_element_fault(told: &mut Telling, layout: &Layout<'_>, fault: SyntaxFault) {
-    tell_number(told, layout, fault.number(), fault.place());
-    let text = &mut told.text;
+/// Tells which element is wrong, or which structure has a name that stands twice.
+fn tell_element(text: &mut Text, layout: &Layout<'_>, fault: SyntaxFault) {
     let spot = spot_at(layout.bytes, fault.place() as u32);
     tell_place(text, "  ", &spot, "");
     if let SyntaxFault::Missing { kind, .. } = fault {
@@ -132,51 +123,43 @@ pub fn tell_syntax(
     layout: &Layout<'_>,
     fault: SyntaxFault,
 ) -> Result<(), NoMemory> {
-    match fault {
-        SyntaxFault::Memory => return Err(NoMemory),
-        SyntaxFault::Record(_) | SyntaxFault::Unexpected { .. } => {
-            if is_gdsii(layout.bytes) {
-                tell_record(told, layout, fault);
-            } else {
-                tell_no_gdsii(told, layout, fault.number(), fault.place());
-            }
-        }
-        _ => tell_element_fault(told, layout, fault),
+    if fault == SyntaxFault::Memory {
+        return Err(NoMemory);
+    }
+    let is_of_record = matches!(
+        fault,
+        SyntaxFault::Record(_) | SyntaxFault::Unexpected { .. }
+    );
+    if is_of_record && !is_gdsii(layout.bytes) {
+        tell_no_gdsii(told, layout, fault.number(), fault.place());
+        return Ok(());
+    }
+    tell_number(told, layout, fault.number(), fault.place());
+    if is_of_record {
+        tell_record(&mut told.text, layout, fault);
+    } else {
+        tell_element(&mut told.text, layout, fault);
     }
     Ok(())
 }
 
-/// Tells of a library all of whose placed shapes have covers.
-fn tell_covered(
-    alloc: Global,
-    told: &mut Telling,
-    map: &Map,
-    layout: &Layout<'_>,
-    library: &Library,
-    shapes: &Shapes,
-) -> Result<(), NoMemory> {
-    match first_off(shapes.terminals.as_slice()) {
-        Some(first) => tell_off_metal(alloc, told, map, layout, library, shapes, first),
-        None => tell_good(alloc, &mut told.text, map, layout, library, shapes),
-    }
-}
-
-/// Tells of the shapes of a library.
+/// Tells of the placed shapes that have no cover, else of the terminals that no shape covers, and else that all is good.
 fn tell_shapes(
     alloc: Global,
     told: &mut Telling,
-    map: &Map,
+    good: &GoodMap<'_>,
     layout: &Layout<'_>,
     library: &Library,
     shapes: &Shapes,
 ) -> Result<(), NoMemory> {
     let found = shapes.uncovered.as_slice();
-    match found.first() {
-        None => tell_covered(alloc, told, map, layout, library, shapes),
-        Some(first) => {
-            tell_number(told, layout, first.number, u64::from(first.at));
-            tell_uncovered(alloc, &mut told.text, map, layout, found)
-        }
+    if let Some(first) = found.first() {
+        tell_number(told, layout, first.fault.number(), first.fault.place());
+        return tell_uncovered(alloc, &mut told.text, &good.map, layout, found);
+    }
+    match first_off(shapes.terminals.as_slice()) {
+        Some(first) => tell_off_metal(alloc, told, good, layout, library, shapes, first),
+        None => tell_good(alloc, &mut told.text, &good.map, layout, library, shapes),
     }
 }
 
@@ -184,7 +167,7 @@ fn tell_shapes(
 fn tell_library(
     alloc: Global,
     told: &mut Telling,
-    map: &Map,
+    good: &GoodMap<'_>,
     layout: &Layout<'_>,
     library: &Library,
 ) -> Result<(), NoMemory>
@@ -193,9 +176,10 @@ fn tell_library(
     requires few_elements { All (λ structure. length structure.elements < 2 ^ 32) library.now.structures }
     requires pointed { AreWellPointed library.now.structures }
 {
+    let map = &good.map;
     let terminals = known_terminals(alloc, map)?;
     match placed_shapes(alloc, map, library, layout.top, terminals) {
-        Ok(shapes) => tell_shapes(alloc, told, map, layout, library, &shapes),
+        Ok(shapes) => tell_shapes(alloc, told, good, layout, library, &shapes),
         Err(fault) => tell_place_fault(alloc, told, map, layout, library, fault),
     }
 }
@@ -204,13 +188,13 @@ fn tell_library(
 pub fn tell_layout(
     alloc: Global,
     told: &mut Telling,
-    map: &Map,
+    good: &GoodMap<'_>,
     layout: &Layout<'_>,
 ) -> Result<(), NoMemory>
-    requires { length layout.now.bytes.now ≤ 268435456 }
+    requires { length layout.now.bytes.now ≤ LONGEST_LAYOUT }
 {
     match read_library(alloc, layout.bytes) {
-        Ok(library) => tell_library(alloc, told, map, layout, &library),
+        Ok(library) => tell_library(alloc, told, good, layout, &library),
         Err(fault) => tell_syntax(told, layout, fault),
     }
 }

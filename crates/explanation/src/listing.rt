@@ -4,62 +4,54 @@ ghost use Rattle.std.specs.Prelude.{◌≤◌, ◌<◌, ◌^◌, length, All};
 ghost use Rattle.lists.specs.Differing.{AreDifferent};
 ghost use Rattle.library_model.specs.Names.{names_of};
 ghost use Rattle.library_model.specs.Points.{AreWellPointed};
+ghost use Rattle.explanation.specs.declared.inputs.TheConstants.{LONGEST_LAYOUT};
 
 use crate::good::tell_library;
-use crate::graph::{Graph, first_top, graph_of, only_top, times_placed};
+use crate::graph::{Graph, graph_of};
 use crate::layouts::{Layout, tell_syntax};
 use crate::pairs::{PairHeld, all_pairs, tell_pair};
 use crate::skeleton::tell_skeleton;
 use crate::structures::{tell_no_top, tell_tops};
 use crate::telling::Telling;
 use crate::text::Text;
-use crate::texts::texts_of;
+use crate::texts::{tell_placed_texts, texts_of};
 use gds_syntax::read_library;
-use library_model::{Library, Structure};
+use library_model::Library;
 use lists::NoMemory;
 use std::alloc::Global;
 
-/// The number of the structure of this name.
-fn number_named(structures: &[Structure], name: &[u8]) -> Option<usize> {
-    for (number, structure) in structures.iter().enumerate() {
-        if structure.name.as_slice() == name {
-            return Some(number);
-        }
-    }
-    None
-}
-
 /// The top: the one of the name that is given, or else the only one that no reference names.
-fn chosen_top(layout: &Layout<'_>, structures: &[Structure], graph: &Graph) -> Option<usize> {
-    match layout.top {
-        Some(name) => number_named(structures, name),
-        None => only_top(graph),
+fn chosen_top(layout: &Layout<'_>, graph: &Graph<'_>) -> Option<usize> {
+    match (layout.top, graph.tops.as_slice()) {
+        (Some(name), _) => graph
+            .structures
+            .iter()
+            .position(|structure| structure.name.as_slice() == name),
+        (None, [only]) => Some(*only),
+        (None, _) => None,
     }
 }
 
 /// Tells of the library, and which structure is the top, or which ones may be.
 fn tell_head(
-    alloc: Global,
     text: &mut Text,
     layout: &Layout<'_>,
     library: &Library,
-    graph: &Graph,
+    graph: &Graph<'_>,
     top: Option<&[u8]>,
-) -> Result<(), NoMemory> {
+) {
     layout.tell(text);
     text.say(": its layers; each shape counts once, as its structure has it\n");
     tell_library(text, library);
     if let Some(top) = top {
         text.name(", top ", top, "\n");
-        return Ok(());
+        return;
     }
     text.say("\n");
-    if first_top(graph).is_none() {
-        return Ok(());
+    if !graph.tops.is_empty() {
+        tell_tops(text, graph);
+        text.say("  --top NAME tells which shapes one of them places\n");
     }
-    tell_tops(alloc, text, library.structures.as_slice(), graph)?;
-    text.say("  --top NAME tells which shapes one of them places\n");
-    Ok(())
 }
 
 /// Tells what each pair has.
@@ -74,26 +66,13 @@ fn tell_pairs(text: &mut Text, pairs: &[PairHeld], has_top: bool) {
     text.say("  --map-skeleton behind these words prints a map of these layers, to be edited\n");
 }
 
-/// The name of the structure of this number.
-fn name_at(structures: &[Structure], number: Option<usize>) -> Option<&[u8]> {
-    Some(structures.get(number?)?.name.as_slice())
-}
-
-/// How often the top places each structure; none, where there is no top.
-fn times_of(alloc: Global, graph: &Graph, top: Option<usize>) -> Result<Vec<u64>, NoMemory> {
-    match top {
-        Some(top) => times_placed(alloc, graph, top),
-        None => Ok(Vec::new(alloc)),
-    }
-}
-
 /// Tells the layers of a library, of which this is the top.
 fn tell_layers_of(
     alloc: Global,
     told: &mut Telling,
     layout: &Layout<'_>,
     library: &Library,
-    graph: &Graph,
+    graph: &Graph<'_>,
     top: Option<usize>,
     as_map: bool,
 ) -> Result<(), NoMemory>
@@ -102,16 +81,21 @@ fn tell_layers_of(
     requires few_elements { All (λ structure. length structure.elements < 2 ^ 32) library.now.structures }
     requires pointed { AreWellPointed library.now.structures }
 {
-    let times = times_of(alloc, graph, top)?;
+    let times = graph.times_placed(alloc, top)?;
     let texts = texts_of(alloc, layout.bytes)?;
     let texts = texts.as_slice();
     let pairs = all_pairs(alloc, library, texts, times.as_slice())?;
-    let top = name_at(library.structures.as_slice(), top);
+    let structures = library.structures.as_slice();
+    let top = top.map(|top| graph.name_of(top));
     let text = &mut told.text;
     if as_map {
-        return tell_skeleton(alloc, text, layout, library, pairs.as_slice(), texts, top);
+        tell_skeleton(alloc, text, layout, library, pairs.as_slice(), texts, top)?;
+        return match top {
+            Some(top) => tell_placed_texts(alloc, text, structures, times.as_slice(), texts, top),
+            None => Ok(()),
+        };
     }
-    tell_head(alloc, text, layout, library, graph, top)?;
+    tell_head(text, layout, library, graph, top);
     tell_pairs(text, pairs.as_slice(), top.is_some());
     Ok(())
 }
@@ -129,11 +113,11 @@ fn tell_listed(
     requires few_elements { All (λ structure. length structure.elements < 2 ^ 32) library.now.structures }
     requires pointed { AreWellPointed library.now.structures }
 {
-    let structures = library.structures.as_slice();
-    let graph = graph_of(alloc, structures)?;
-    let top = chosen_top(layout, structures, &graph);
+    let graph = graph_of(alloc, library.structures.as_slice())?;
+    let top = chosen_top(layout, &graph);
     if layout.top.is_some() && top.is_none() {
-        return tell_no_top(alloc, told, layout, structures, &graph);
+        tell_no_top(told, layout, &graph);
+        return Ok(());
     }
     tell_layers_of(alloc, told, layout, library, &graph, top, as_map)
 }
@@ -145,7 +129,7 @@ pub fn tell_listing(
     layout: &Layout<'_>,
     as_map: bool,
 ) -> Result<(), NoMemory>
-    requires { length layout.now.bytes.now ≤ 268435456 }
+    requires { length layout.now.bytes.now ≤ LONGEST_LAYOUT }
 {
     match read_library(alloc, layout.bytes) {
         Ok(library) => tell_listed(alloc, told, layout, &library, as_map),

@@ -1,153 +1,81 @@
 //! In which line of a map a place of its document begins.
 
-ghost use Rattle.std.specs.Prelude.{◌≤◌, length};
-
-use crate::map_spot::{DOCUMENT_KEYS, List, Spot};
-use crate::position::line_ends;
-use lists::NoMemory;
+use crate::position::{front, line_ends};
+use crate::text::Text;
+use layer_map::Place;
 use std::alloc::Global;
 use toml::{Table, Value};
+use toml_parser::text::{first, skip};
+use toml_parser::{quoted, starts_string};
 
-/// What a byte of a document is inside of.
-#[derive(Clone, Copy)]
-enum Inside {
-    Nothing,
-    Comment,
-    /// A text in such quotes, one at each end, or three.
-    Quotes(u8, bool),
-}
-
-/// Where a walk over the bytes of a document stands.
-#[derive(Clone, Copy)]
-struct Scan {
-    inside: Inside,
-    /// How many brackets and braces are open.
-    depth: u32,
-    /// How many bytes more belong to what was last seen.
-    skip: usize,
-}
-
-/// Whether the bytes begin with three of these.
-fn has_three(rest: &[u8], quote: u8) -> bool {
-    match rest {
-        [a, b, c, ..] => *a == quote && *b == quote && *c == quote,
-        _ => false,
+/// The text behind the line that ends next, or no text.
+fn behind_line(text: &str) -> &str {
+    match text.split_once('\n') {
+        Some((_, behind)) => behind,
+        None => "",
     }
 }
 
-/// How many of these the bytes begin with, at most five.
-fn count_quotes(rest: &[u8], quote: u8) -> usize {
-    let mut count = 0usize;
-    for byte in rest.iter().take(5) {
-        if *byte != quote {
-            return count;
-        }
-        count = count.saturating_add(1);
-    }
-    count
-}
-
-/// The walk behind a byte outside of texts and comments, with which these begin.
-fn behind_sign(scan: Scan, byte: u8, rest: &[u8]) -> Scan {
-    match byte {
-        b'#' => Scan {
-            inside: Inside::Comment,
-            ..scan
-        },
-        b'"' | b'\'' => {
-            let is_long = has_three(rest, byte);
-            Scan {
-                inside: Inside::Quotes(byte, is_long),
-                skip: if is_long { 2 } else { 0 },
-                ..scan
-            }
-        }
-        b'[' | b'{' => Scan {
-            depth: scan.depth.saturating_add(1),
-            ..scan
-        },
-        b']' | b'}' => Scan {
-            depth: scan.depth.saturating_sub(1),
-            ..scan
-        },
-        _ => scan,
-    }
-}
-
-/// The walk behind a byte of a text, with which these begin.
-fn behind_quoted(scan: Scan, quote: u8, is_long: bool, byte: u8, rest: &[u8]) -> Scan {
-    if byte == b'\\' && quote == b'"' {
-        return Scan { skip: 1, ..scan };
-    }
-    if byte != quote || is_long && !has_three(rest, quote) {
-        return scan;
-    }
-    // A long text may end with one or two quotes of its own.
-    let more = if is_long {
-        count_quotes(rest, quote)
-    } else {
-        1
-    };
-    Scan {
-        inside: Inside::Nothing,
-        skip: more.saturating_sub(1),
-        ..scan
-    }
-}
-
-/// The walk behind a byte, with which these begin.
-fn behind(scan: Scan, byte: u8, rest: &[u8]) -> Scan {
-    if scan.skip > 0 {
-        return Scan {
-            skip: scan.skip.saturating_sub(1),
-            ..scan
+/// The text behind the sign or the quoted text with which it begins. A document has no others outside of comments.
+fn behind_token(alloc: Global, text: &str) -> &str {
+    if starts_string(text) {
+        return match quoted(alloc, text) {
+            Ok((_, behind)) => behind,
+            Err(_) => "",
         };
     }
-    match scan.inside {
-        Inside::Nothing => behind_sign(scan, byte, rest),
-        Inside::Quotes(quote, is_long) => behind_quoted(scan, quote, is_long, byte, rest),
-        Inside::Comment => {
-            if byte != b'\n' {
-                return scan;
-            }
-            Scan {
-                inside: Inside::Nothing,
-                ..scan
-            }
-        }
+    match first(text) {
+        1..=127 => skip(text, 1),
+        _ => "",
     }
 }
 
-/// Whether a statement of a document may end where the walk stands.
-fn is_outside(scan: Scan) -> bool {
-    scan.depth == 0 && scan.skip == 0 && matches!(scan.inside, Inside::Nothing)
+/// The text behind the first statement of a document, which ends with a line outside of brackets and braces.
+fn behind_statement(alloc: Global, text: &str) -> &str {
+    let mut rest = text;
+    let mut depth = 0u32;
+    for _ in 0..text.len() {
+        match first(rest) {
+            b'[' | b'{' => depth = depth.saturating_add(1),
+            b']' | b'}' => depth = depth.saturating_sub(1),
+            b'#' | b'\n' if depth == 0 => return behind_line(rest),
+            b'#' => {
+                rest = behind_line(rest);
+                continue;
+            }
+            _ => {}
+        }
+        rest = behind_token(alloc, rest);
+    }
+    rest
 }
 
-/// How many bytes the first statement of a document has, with the end of its last line.
-fn statement_length(bytes: &[u8]) -> usize
-    ensures { result ≤ length bytes.now }
-{
-    let mut scan = Scan {
-        inside: Inside::Nothing,
-        depth: 0,
-        skip: 0,
-    };
-    for k in 0..bytes.len() {
-        let rest = &bytes[k..];
-        scan = behind(scan, bytes[k], rest);
-        if bytes[k] == b'\n' && is_outside(scan) {
-            return k + 1;
+/// What is looked for in a map.
+#[derive(Clone, Copy)]
+pub struct Sought {
+    pub place: Place,
+    /// Whether it is not the place itself, but the first key in the table there that is not known.
+    pub is_unknown_key: bool,
+}
+
+impl Sought {
+    /// Whether the key is meant, where it is one of the table at the place or round it.
+    fn is_meant(&self, key: &str) -> bool {
+        match self.place {
+            Place::Document | Place::Item(_, _) => {
+                self.is_unknown_key && !self.place.known_keys().contains(&key)
+            }
+            Place::Key(meant) | Place::ItemKey(_, _, meant) => meant == key,
         }
     }
-    bytes.len()
 }
 
 /// To what the keys of a statement belong.
-#[derive(Clone, Copy, PartialEq, Eq)]
+#[derive(Clone, Copy)]
 enum Owner {
     Document,
-    /// A table of a list with this key, counted from 0.
-    Item(&'static str, usize),
+    /// The item that has the place.
+    Item,
     Other,
 }
 
@@ -160,158 +88,105 @@ pub enum Line {
     Within(u64),
 }
 
+impl Line {
+    /// Tells between some words which line it is, and whether something begins there that has the place within.
+    pub fn tell(self, text: &mut Text, before: &str, after: &str) {
+        text.say(before);
+        match self {
+            Line::At(line) => text.number("line ", line, after),
+            Line::Within(line) => text.number("in what begins in line ", line, after),
+        }
+    }
+}
+
 /// What is known on a walk over the statements of a document.
 #[derive(Clone, Copy)]
 struct Walk {
-    spot: Spot,
+    sought: Sought,
     owner: Owner,
-    metals: usize,
-    cuts: usize,
-    terminals: usize,
+    /// How many tables of the place's list were seen.
+    tables: usize,
     /// The line of the table that is to have the place, once it was seen.
     table: Option<u64>,
 }
 
-/// The list whose key this is.
-fn list_of(key: &str) -> Option<List> {
-    for list in [List::Metal, List::Cut, List::Terminal] {
-        if list.key() == key {
-            return Some(list);
+impl Walk {
+    /// Goes behind the head in this line of an item of the place's list.
+    fn enter_item(&mut self, number: usize, line: u64) {
+        if self.tables == number {
+            self.owner = Owner::Item;
+            self.table = Some(line);
+        }
+        self.tables = self.tables.saturating_add(1);
+    }
+
+    /// The line of the item that is looked for, where it was seen and no key of it is meant.
+    fn item_line(&self) -> Option<Line> {
+        match self.sought.place {
+            Place::Item(_, _) if !self.sought.is_unknown_key => Some(Line::At(self.table?)),
+            _ => None,
         }
     }
-    None
-}
 
-/// How many tables of the list were seen.
-fn tables_of(walk: &Walk, list: List) -> usize {
-    match list {
-        List::Metal => walk.metals,
-        List::Cut => walk.cuts,
-        List::Terminal => walk.terminals,
-    }
-}
-
-/// Counts a table of the list.
-fn count_table(walk: &mut Walk, list: List) {
-    match list {
-        List::Metal => walk.metals = walk.metals.saturating_add(1),
-        List::Cut => walk.cuts = walk.cuts.saturating_add(1),
-        List::Terminal => walk.terminals = walk.terminals.saturating_add(1),
-    }
-}
-
-/// The list and the number of the table that has the place, or that is it.
-fn table_of(spot: Spot) -> Option<(List, usize)> {
-    match spot {
-        Spot::Item(list, number) | Spot::ItemKey(list, number, _) => Some((list, number)),
-        _ => None,
-    }
-}
-
-/// Whether the key of the document is meant: the key itself, or, for the document, one that it does not know.
-fn is_meant(spot: Spot, key: &str) -> bool {
-    match spot {
-        Spot::Document => !DOCUMENT_KEYS.iter().any(|known| known.name == key),
-        Spot::Key(meant) => meant.name == key,
-        _ => false,
-    }
-}
-
-/// Goes behind the head of a table of a list in this line.
-fn enter_table(walk: &mut Walk, list: List, line: u64) {
-    let number = tables_of(walk, list);
-    count_table(walk, list);
-    walk.owner = Owner::Item(list.key(), number);
-    if let Some((meant, of)) = table_of(walk.spot) {
-        if meant.key() == list.key() && of == number {
-            walk.table = Some(line);
+    /// Goes behind the head of a table in this line. The answer is the place, where it is found.
+    fn pass_head(&mut self, key: &str, value: &Value, line: u64) -> Option<Line> {
+        self.owner = Owner::Other;
+        match self.sought.place.item() {
+            Some((kind, number)) if kind.list() == key && value.is_array() => {
+                self.enter_item(number, line);
+                self.item_line()
+            }
+            None if self.sought.is_meant(key) => Some(Line::At(line)),
+            _ => None,
         }
     }
-}
 
-/// Goes behind the head of a table in this line. The answer is the place, where it is found.
-fn pass_head(walk: &mut Walk, key: &str, value: &Value, line: u64) -> Option<Line> {
-    walk.owner = Owner::Other;
-    if matches!(value, Value::Array(_)) {
-        if let Some(list) = list_of(key) {
-            enter_table(walk, list, line);
+    /// Goes behind a key with its value in this line. The answer is the place, where it is found.
+    fn pass_key(&self, key: &str, line: u64) -> Option<Line> {
+        match (self.owner, self.sought.place.item()) {
+            (Owner::Document, None) | (Owner::Item, _) if self.sought.is_meant(key) => {
+                Some(Line::At(line))
+            }
+            (Owner::Document, Some((kind, _))) if kind.list() == key => Some(Line::Within(line)),
+            _ => None,
         }
     }
-    if is_meant(walk.spot, key) {
-        return Some(Line::At(line));
-    }
-    None
-}
 
-/// Goes behind a key with its value in this line. The answer is the place, where it is found.
-fn pass_key(walk: &Walk, key: &str, line: u64) -> Option<Line> {
-    if walk.owner == Owner::Document {
-        if is_meant(walk.spot, key) {
-            return Some(Line::At(line));
+    /// Goes behind a statement that begins in this line, and of which this is the table. It has one key, or none where it is
+    /// blank.
+    fn pass(&mut self, statement: &[u8], table: &Table, line: u64) -> Option<Line> {
+        let (key, value) = table.iter().next()?;
+        if statement.trim_ascii_start().first() == Some(&b'[') {
+            return self.pass_head(key.as_str(), value, line);
         }
-        let (list, _) = table_of(walk.spot)?;
-        if list.key() == key {
-            return Some(Line::Within(line));
-        }
-        return None;
+        self.pass_key(key.as_str(), line)
     }
-    let Spot::ItemKey(list, number, meant) = walk.spot else {
-        return None;
-    };
-    if meant.name == key && walk.owner == Owner::Item(list.key(), number) {
-        return Some(Line::At(line));
-    }
-    None
 }
 
-/// Whether the first sign of a statement is a bracket, as of the head of a table.
-fn is_head(statement: &[u8]) -> bool {
-    for byte in statement {
-        if !matches!(*byte, b' ' | b'\t') {
-            return *byte == b'[';
-        }
-    }
-    false
-}
-
-/// Goes behind a statement that begins in this line, and of which this is the table. It has one key, or none where it is
-/// blank.
-fn pass(walk: &mut Walk, statement: &[u8], table: &Table, line: u64) -> Option<Line> {
-    let (key, value) = table.iter().next()?;
-    if is_head(statement) {
-        return pass_head(walk, key.as_str(), value, line);
-    }
-    pass_key(walk, key.as_str(), line)
-}
-
-/// In which line of a document, of which these are the bytes, the place begins. Where it is missing it is the line of the
-/// table that is to have it, and none where that is the document.
-pub fn line_of(alloc: Global, bytes: &[u8], spot: Spot) -> Option<Line> {
+/// In which line of a document, of which this is the text, begins what is looked for. Where it is missing it is the line of
+/// the table that is to have it, and none where that is the document.
+pub fn line_of(alloc: Global, text: &str, sought: Sought) -> Option<Line> {
     let mut walk = Walk {
-        spot,
+        sought,
         owner: Owner::Document,
-        metals: 0,
-        cuts: 0,
-        terminals: 0,
+        tables: 0,
         table: None,
     };
-    let mut rest = bytes;
+    let mut rest = text;
     let mut line = 1u64;
-    for _ in 0..bytes.len() {
+    for _ in 0..text.len() {
         if rest.is_empty() {
             break;
         }
-        let (statement, others) = rest.split_at(statement_length(rest));
+        let behind = behind_statement(alloc, rest);
+        let statement = front(rest.as_bytes(), rest.len().saturating_sub(behind.len()));
         if let Ok(table) = toml::table_from_slice(alloc, statement) {
-            if let Some(found) = pass(&mut walk, statement, &table, line) {
+            if let Some(found) = walk.pass(statement, &table, line) {
                 return Some(found);
             }
         }
         line = line.saturating_add(line_ends(statement) as u64);
-        rest = others;
+        rest = behind;
     }
-    match walk.table {
-        Some(line) => Some(Line::At(line)),
-        None => None,
-    }
+    Some(Line::At(walk.table?))
 }

@@ -23,61 +23,6 @@ pub struct MetalIslands {
     carried: Vec<(usize, usize)>,
 }
 
-/// How many islands are counted that have one terminal, and that have more.
-#[derive(Clone, Copy)]
-struct Counted {
-    last: Option<usize>,
-    of_last: u64,
-    one: u64,
-    more: u64,
-}
-
-/// What is counted with one terminal more, which is on this island.
-fn with_terminal(counted: Counted, island: usize) -> Counted {
-    if counted.last != Some(island) {
-        return Counted {
-            last: Some(island),
-            of_last: 1,
-            one: counted.one.saturating_add(1),
-            more: counted.more,
-        };
-    }
-    if counted.of_last > 1 {
-        return counted;
-    }
-    Counted {
-        of_last: 2,
-        one: counted.one.saturating_sub(1),
-        more: counted.more.saturating_add(1),
-        ..counted
-    }
-}
-
-/// How many islands have one terminal, and how many more.
-fn count_carrying(carried: &[(usize, usize)]) -> Counted {
-    let mut counted = Counted {
-        last: None,
-        of_last: 0,
-        one: 0,
-        more: 0,
-    };
-    for (island, _) in carried {
-        counted = with_terminal(counted, *island);
-    }
-    counted
-}
-
-/// How many islands there are, where each rectangle has the number of the first one of its island.
-fn count_islands(labels: &[usize]) -> u64 {
-    let mut count = 0u64;
-    for (number, island) in labels.iter().enumerate() {
-        if number == *island {
-            count = count.saturating_add(1);
-        }
-    }
-    count
-}
-
 /// The terminals of the metal behind the numbers of their islands, in the order of these.
 fn carried_by(
     alloc: Global,
@@ -100,6 +45,21 @@ fn carried_by(
     Ok(carried)
 }
 
+/// How many terminals each island has, where there are so many rectangles.
+fn carried_counts(
+    alloc: Global,
+    carried: &[(usize, usize)],
+    rects: usize,
+) -> Result<Vec<usize>, NoMemory> {
+    let mut counts = vec![in alloc; 0usize; rects]?;
+    for (island, _) in carried {
+        if let Some(count) = counts.get_mut(*island) {
+            *count = count.saturating_add(1);
+        }
+    }
+    Ok(counts)
+}
+
 /// The islands of the metal of this number, which covers these rectangles.
 fn islands_of(
     alloc: Global,
@@ -109,14 +69,22 @@ fn islands_of(
 ) -> Result<MetalIslands, NoMemory> {
     let labels = label(alloc, rects)?;
     let carried = carried_by(alloc, terminals, metal, labels.as_slice())?;
-    let counted = count_carrying(carried.as_slice());
-    let none = count_islands(labels.as_slice())
-        .saturating_sub(counted.one)
-        .saturating_sub(counted.more);
+    let counts = carried_counts(alloc, carried.as_slice(), labels.len())?;
+    let (mut none, mut one, mut more) = (0u64, 0u64, 0u64);
+    for (number, (island, count)) in labels.iter().zip(counts.iter()).enumerate() {
+        // An island is told by the first of its rectangles.
+        if number == *island {
+            match *count {
+                0 => none = none.saturating_add(1),
+                1 => one = one.saturating_add(1),
+                _ => more = more.saturating_add(1),
+            }
+        }
+    }
     Ok(MetalIslands {
         none,
-        one: counted.one,
-        more: counted.more,
+        one,
+        more,
         carried,
     })
 }

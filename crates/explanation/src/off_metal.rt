@@ -1,9 +1,11 @@
 //! What is told of terminals that no shape of their metals covers.
 
+use crate::good_map::GoodMap;
+use crate::layer_names::tell_layer;
 use crate::layouts::{Layout, REFUSED};
-use crate::pairs::tell_pairs_of;
+use crate::pairs::{tell_as_in_map, tell_pairs_of};
 use crate::places::tell_place;
-use crate::shapes::{Held, Shapes};
+use crate::shapes::{Held, MOST_LINES, Shapes};
 use crate::spot::spot_at;
 use crate::telling::Telling;
 use crate::terminals::{Known, tell_terminal};
@@ -11,11 +13,8 @@ use crate::text::Text;
 use geo_core::{Cell, Rect};
 use library_model::Library;
 use lists::NoMemory;
-use map_model::Map;
+use map_model::{Map, Metal};
 use std::alloc::Global;
-
-/// The most terminals that are told each in a line.
-const MOST_LINES: usize = 20;
 
 /// A cell that a shape covers, how far it is to the right and up, and the offset of the shape.
 #[derive(Clone, Copy)]
@@ -95,38 +94,92 @@ fn nearest_to(shapes: &Shapes, one: Known) -> Option<Near> {
 }
 
 /// Tells a terminal that is not covered, and what is nearest.
-fn tell_off(text: &mut Text, before: &str, map: &Map, shapes: &Shapes, one: Known) {
-    tell_terminal(text, before, map, one);
-    if let Some(near) = nearest_to(shapes, one) {
-        tell_near(text, near);
+fn tell_off(
+    alloc: Global,
+    text: &mut Text,
+    before: &str,
+    good: &GoodMap<'_>,
+    shapes: &Shapes,
+    one: Known,
+) {
+    tell_terminal(alloc, text, before, good, one);
+    match nearest_to(shapes, one) {
+        Some(near) => tell_near(text, near),
+        None => text.say("; its metal covers nothing"),
     }
     text.say("\n");
 }
 
-/// Tells the shape that is nearest to a terminal, or which layers there are where its metal has none.
-fn tell_nearest_shape(
+/// Tells that a terminal is not covered, what is nearest, and the shape that has it.
+fn tell_beside(
     alloc: Global,
     text: &mut Text,
+    good: &GoodMap<'_>,
     layout: &Layout<'_>,
+    shapes: &Shapes,
+    first: Known,
+    near: Near,
+) {
+    tell_off(
+        alloc,
+        text,
+        ": no shape of its metal covers ",
+        good,
+        shapes,
+        first,
+    );
+    text.number(
+        "  the nearest shape begins at byte ",
+        u64::from(near.offset),
+        ": ",
+    );
+    tell_place(text, "", &spot_at(layout.bytes, near.offset), "\n");
+    text.say(
+        "  move the terminal onto a shape, leave it out, or see whether the metal has the right layers and datatypes\n",
+    );
+}
+
+/// Tells the pairs of a metal.
+fn tell_metal_pairs(text: &mut Text, metal: &Metal) {
+    for pair in metal.pairs.as_slice() {
+        text.say(" ");
+        tell_as_in_map(text, *pair);
+    }
+    text.say("\n");
+}
+
+/// Tells that the metal of this number covers nothing, and its pairs.
+fn tell_empty(text: &mut Text, map: &Map, shapes: &Shapes, number: usize) {
+    let is_some = shapes.held.get(number).is_some_and(|held| held.shapes > 0);
+    if is_some {
+        tell_layer(text, ": nothing is covered by the shapes of ", map, number);
+    } else {
+        tell_layer(text, ": the top places no shapes of ", map, number);
+    }
+    text.say(", whose pairs are");
+    if let Some(metal) = map.metals.as_slice().get(number) {
+        tell_metal_pairs(text, metal);
+    }
+}
+
+/// Tells that a metal covers nothing, which pairs the layout has, and the terminal that is on that metal.
+fn tell_on_empty(
+    alloc: Global,
+    text: &mut Text,
+    good: &GoodMap<'_>,
     library: &Library,
     shapes: &Shapes,
     first: Known,
 ) -> Result<(), NoMemory> {
-    if let Some(near) = nearest_to(shapes, first) {
-        text.number(
-            "  the nearest shape begins at byte ",
-            u64::from(near.offset),
-            ": ",
-        );
-        tell_place(text, "", &spot_at(layout.bytes, near.offset), "\n");
-        return Ok(());
-    }
-    text.say("  its metal covers nothing\n");
-    tell_pairs_of(alloc, text, library.structures.as_slice())
+    tell_empty(text, &good.map, shapes, first.metal as usize);
+    tell_pairs_of(alloc, text, library.structures.as_slice())?;
+    tell_terminal(alloc, text, "  so nothing covers ", good, first);
+    text.say("\n  give the metal the right layers and datatypes, or leave its terminals out\n");
+    Ok(())
 }
 
 /// Tells of the terminals behind the first that no shape of their metals covers either, each in a line.
-fn tell_others(text: &mut Text, map: &Map, shapes: &Shapes, first: Known) {
+fn tell_others(alloc: Global, text: &mut Text, good: &GoodMap<'_>, shapes: &Shapes, first: Known) {
     let mut count: usize = 0;
     for one in shapes.terminals.as_slice() {
         if one.rect.is_some() || one.index == first.index {
@@ -136,7 +189,7 @@ fn tell_others(text: &mut Text, map: &Map, shapes: &Shapes, first: Known) {
             text.say("  and others\n");
             return;
         }
-        tell_off(text, "  nor does one cover ", map, shapes, *one);
+        tell_off(alloc, text, "  nor does one cover ", good, shapes, *one);
         count = count.saturating_add(1);
     }
 }
@@ -145,7 +198,7 @@ fn tell_others(text: &mut Text, map: &Map, shapes: &Shapes, first: Known) {
 pub fn tell_off_metal(
     alloc: Global,
     told: &mut Telling,
-    map: &Map,
+    good: &GoodMap<'_>,
     layout: &Layout<'_>,
     library: &Library,
     shapes: &Shapes,
@@ -154,11 +207,10 @@ pub fn tell_off_metal(
     told.refuse(REFUSED, 50, first.index as u64);
     let text = &mut told.text;
     layout.tell(text);
-    tell_off(text, ": no shape of its metal covers ", map, shapes, first);
-    tell_nearest_shape(alloc, text, layout, library, shapes, first)?;
-    text.say(
-        "  move the terminal onto a shape, leave it out, or see whether the metal has the right layers and datatypes\n",
-    );
-    tell_others(text, map, shapes, first);
+    match nearest_to(shapes, first) {
+        Some(near) => tell_beside(alloc, text, good, layout, shapes, first, near),
+        None => tell_on_empty(alloc, text, good, library, shapes, first)?,
+    }
+    tell_others(alloc, text, good, shapes, first);
     Ok(())
 }

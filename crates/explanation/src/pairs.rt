@@ -1,14 +1,15 @@
 //! The pairs of a layer and a datatype that a layout has, as its structures have them, each shape and each text once.
 
-ghost use Rattle.library_model.specs.Points.{AreWellPointed};
+ghost use Rattle.std.specs.Prelude.{All};
+ghost use Rattle.library_model.specs.Points.{AreWellPointed, IsWellPointed};
 
-use crate::bounds::{Bounds, joined, tell_bounds};
+use crate::bounds::{Bounds, tell_bounds, with_point};
 use crate::refused::SHORT_MEANINGS;
 use crate::standing::cover_fault;
 use crate::text::Text;
 use crate::texts::TextMark;
 use geo_core::Point;
-use indexmap::IndexSet;
+use indexmap::{IndexMap, IndexSet};
 use library_model::{Element, Library, Shape, ShapeKind, Structure};
 use lists::NoMemory;
 use std::alloc::Global;
@@ -33,16 +34,12 @@ pub struct PairHeld {
     pub is_placed: bool,
 }
 
-/// The pairs of a layout.
-#[derive(Drop)]
-struct Pairs {
-    numbers: IndexSet<(u16, u16)>,
-    held: Vec<PairHeld>,
-}
+/// What the pairs of a layout have, by these.
+type Pairs = IndexMap<(u16, u16), PairHeld>;
 
-/// A pair that has nothing yet.
-fn nothing_of(pair: (u16, u16)) -> PairHeld {
-    PairHeld {
+/// What a pair has so far.
+fn held_of(pairs: &Pairs, pair: (u16, u16)) -> PairHeld {
+    pairs.get(&pair).copied().unwrap_or(PairHeld {
         pair,
         boundaries: 0,
         boxes: 0,
@@ -51,7 +48,7 @@ fn nothing_of(pair: (u16, u16)) -> PairHeld {
         bounds: None,
         uncovered: [0; 7],
         is_placed: false,
-    }
+    })
 }
 
 /// How many shapes the pair has.
@@ -61,15 +58,6 @@ pub fn shapes_of(held: &PairHeld) -> u64 {
         .saturating_add(held.paths)
 }
 
-/// The number of the pair, which is taken up where it is new.
-fn number_of(pairs: &mut Pairs, pair: (u16, u16)) -> Result<usize, NoMemory> {
-    let (number, is_new) = pairs.numbers.insert_full(pair)?;
-    if is_new {
-        pairs.held.push(nothing_of(pair))?;
-    }
-    Ok(number)
-}
-
 /// Counts a shape of this kind.
 fn count_kind(held: &mut PairHeld, kind: ShapeKind) {
     match kind {
@@ -77,17 +65,6 @@ fn count_kind(held: &mut PairHeld, kind: ShapeKind) {
         ShapeKind::BoxElement => held.boxes = held.boxes.saturating_add(1),
         ShapeKind::Path { .. } => held.paths = held.paths.saturating_add(1),
     }
-}
-
-/// The bounds with one point more.
-fn with_point(bounds: Option<Bounds>, x: i32, y: i32) -> Option<Bounds> {
-    let point = Bounds {
-        left: x,
-        bottom: y,
-        right: x,
-        top: y,
-    };
-    Some(joined(bounds, point))
 }
 
 /// The bounds with these points more.
@@ -117,32 +94,29 @@ fn note_shape(
     fault: Option<u8>,
     is_placed: bool,
 ) -> Result<(), NoMemory> {
-    let number = number_of(pairs, (shape.layer, shape.datatype))?;
-    if let Some(held) = pairs.held.get_mut(number) {
-        count_kind(held, shape.kind);
-        held.bounds = with_points(held.bounds, shape.points.as_slice());
-        held.is_placed = held.is_placed || is_placed;
-        if let Some(fault) = fault {
-            count_uncovered(held, fault);
-        }
+    let mut held = held_of(pairs, (shape.layer, shape.datatype));
+    count_kind(&mut held, shape.kind);
+    held.bounds = with_points(held.bounds, shape.points.as_slice());
+    held.is_placed = held.is_placed || is_placed;
+    if let Some(fault) = fault {
+        count_uncovered(&mut held, fault);
     }
+    pairs.insert(held.pair, held)?;
     Ok(())
 }
 
-/// Notes the shapes of the structure of this number.
+/// Notes the shapes of a structure.
 fn note_structure(
     alloc: Global,
     pairs: &mut Pairs,
-    library: &Library,
-    number: usize,
     structure: &Structure,
     is_placed: bool,
 ) -> Result<(), NoMemory>
-    requires { AreWellPointed library.now.structures }
+    requires { All IsWellPointed structure.now.elements }
 {
-    for (place, element) in structure.elements.as_slice().iter().enumerate() {
+    for element in structure.elements.as_slice() {
         if let Element::Shape(shape) = element {
-            let fault = cover_fault(alloc, library, number, place)?;
+            let fault = cover_fault(alloc, shape)?;
             note_shape(pairs, shape, fault, is_placed)?;
         }
     }
@@ -151,12 +125,10 @@ fn note_structure(
 
 /// Notes a text.
 fn note_text(pairs: &mut Pairs, one: &TextMark<'_>) -> Result<(), NoMemory> {
-    let number = number_of(pairs, (one.layer, one.texttype))?;
-    if let Some(held) = pairs.held.get_mut(number) {
-        held.texts = held.texts.saturating_add(1);
-        let (x, y) = one.point;
-        held.bounds = with_point(held.bounds, x, y);
-    }
+    let mut held = held_of(pairs, (one.layer, one.texttype));
+    held.texts = held.texts.saturating_add(1);
+    held.bounds = with_point(held.bounds, one.point.x, one.point.y);
+    pairs.insert(held.pair, held)?;
     Ok(())
 }
 
@@ -169,21 +141,18 @@ pub fn all_pairs(
 ) -> Result<Vec<PairHeld>, NoMemory>
     requires { AreWellPointed library.now.structures }
 {
-    let mut pairs = Pairs {
-        numbers: IndexSet::new(alloc),
-        held: Vec::new(alloc),
-    };
+    let mut pairs = IndexMap::new(alloc);
     for (number, structure) in library.structures.as_slice().iter().enumerate() {
         let is_placed = times.get(number).copied().unwrap_or(0) > 0;
-        note_structure(alloc, &mut pairs, library, number, structure, is_placed)?;
+        note_structure(alloc, &mut pairs, structure, is_placed)?;
     }
     for one in texts {
         note_text(&mut pairs, one)?;
     }
-    let Pairs {
-        numbers: _numbers,
-        mut held,
-    } = pairs;
+    let mut held = Vec::new(alloc);
+    for one in pairs.values() {
+        held.push(*one)?;
+    }
     held.sort_by_key(|one| one.pair)?;
     Ok(held)
 }
@@ -249,6 +218,12 @@ fn shape_pairs(alloc: Global, structures: &[Structure]) -> Result<Vec<(u16, u16)
     Ok(sorted)
 }
 
+/// Tells a pair as a map has it.
+pub fn tell_as_in_map(text: &mut Text, (layer, datatype): (u16, u16)) {
+    text.number("[", u64::from(layer), ", ");
+    text.number("", u64::from(datatype), "]");
+}
+
 /// Tells of which pairs of a layer and a datatype structures have shapes, as a map has them.
 pub fn tell_pairs_of(
     alloc: Global,
@@ -261,9 +236,9 @@ pub fn tell_pairs_of(
         return Ok(());
     }
     text.say("  the layout has shapes of these pairs:");
-    for (layer, datatype) in pairs.as_slice().iter().take(MOST_NAMED) {
-        text.number(" [", u64::from(*layer), ", ");
-        text.number("", u64::from(*datatype), "]");
+    for pair in pairs.as_slice().iter().take(MOST_NAMED) {
+        text.say(" ");
+        tell_as_in_map(text, *pair);
     }
     if pairs.len() > MOST_NAMED {
         text.number(", the first ", MOST_NAMED as u64, " of ");

@@ -4,6 +4,7 @@ ghost use Rattle.std.specs.Prelude.{◌≤◌, ◌<◌, ◌^◌, length, All};
 ghost use Rattle.lists.specs.Differing.{AreDifferent};
 ghost use Rattle.library_model.specs.Names.{names_of};
 ghost use Rattle.library_model.specs.Points.{AreWellPointed};
+ghost use Rattle.explanation.specs.declared.inputs.TheConstants.{LONGEST_LAYOUT};
 
 use crate::maps::terminal_of;
 use crate::metal_islands::{metal_islands, tell_all_carried};
@@ -28,24 +29,14 @@ pub struct Parted {
     terminals: Vec<Known>,
 }
 
-/// The number of the metal of this name.
-fn metal_named(map: &Map, name: &str) -> Option<u32> {
-    let mut number = 0u32;
-    for metal in map.metals.as_slice() {
-        if metal.name.as_slice() == name.as_bytes() {
-            return Some(number);
-        }
-        number = number.saturating_add(1);
-    }
-    None
-}
-
 /// The terminal of this number, where it is one of the map.
 fn known_of(map: &Map, index: usize, item: &Value) -> Option<Known> {
-    let (metal, x, y) = terminal_of(item)?;
+    let (name, x, y) = terminal_of(item)?;
+    let mut metals = map.metals.as_slice().iter();
+    let metal = metals.position(|metal| metal.name.as_slice() == name.as_bytes())?;
     Some(Known {
         index,
-        metal: metal_named(map, metal)?,
+        metal: metal as u32,
         cell: Cell {
             i: i32::try_from(x).ok()?,
             j: i32::try_from(y).ok()?,
@@ -128,7 +119,7 @@ pub fn tell_parted(
     bytes: &[u8],
     top: Option<&[u8]>,
 ) -> Result<(), NoMemory>
-    requires { length bytes.now ≤ 268435456 }
+    requires { length bytes.now ≤ LONGEST_LAYOUT }
 {
     match read_library(alloc, bytes) {
         Ok(library) => tell_islands(alloc, text, parted, &library, top),

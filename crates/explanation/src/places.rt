@@ -1,8 +1,28 @@
 //! The wording of a place in a layout.
 
-use crate::kind_names::{element_name, record_name};
 use crate::spot::Spot;
 use crate::text::Text;
+use gds_records::kind_name;
+use gds_syntax::ElementKind;
+use geo_core::Point;
+
+/// The name of a kind of records.
+pub fn record_name(kind: u8) -> &'static str {
+    kind_name(kind).unwrap_or("an unknown kind")
+}
+
+/// What an element is.
+fn element_name(kind: ElementKind) -> &'static str {
+    match kind {
+        ElementKind::Boundary => "a boundary",
+        ElementKind::Path => "a path",
+        ElementKind::Sref => "a reference",
+        ElementKind::Aref => "an array of references",
+        ElementKind::Text => "a text",
+        ElementKind::Node => "a node",
+        ElementKind::BoxElement => "a box",
+    }
+}
 
 /// Tells which structure it is.
 fn tell_structure(text: &mut Text, spot: &Spot<'_>) {
@@ -12,29 +32,24 @@ fn tell_structure(text: &mut Text, spot: &Spot<'_>) {
     }
 }
 
-/// Tells the layer and the datatype, where they are known.
-fn tell_layer(text: &mut Text, spot: &Spot<'_>) {
-    if let Some(layer) = spot.layer {
-        text.number(" on layer ", layer as u64, "");
-    }
-    if let Some(datatype) = spot.datatype {
-        text.number(", datatype ", datatype as u64, "");
-    }
-}
-
-/// Tells which element it is, where it is in one.
+/// Tells which element it is, where it is in one, and what is known of it.
 fn tell_element(text: &mut Text, spot: &Spot<'_>) {
-    let Some(kind) = spot.kind else {
+    let Some(element) = spot.element else {
         return;
     };
-    text.number(", element ", spot.element as u64, ": ");
-    text.say(element_name(kind));
-    if let Some(target) = spot.target {
+    text.number(", element ", u64::from(spot.number), ": ");
+    text.say(element_name(element.kind));
+    if let Some(target) = element.target {
         text.name(" to ", target, "");
     }
-    tell_layer(text, spot);
-    if let Some((x, y)) = spot.point {
-        text.point(", first point ", x as i64, y as i64, "");
+    if let Some(layer) = element.layer {
+        text.number(" on layer ", u64::from(layer), "");
+    }
+    if let Some(datatype) = element.datatype {
+        text.number(", datatype ", u64::from(datatype), "");
+    }
+    if let Some(Point { x, y }) = element.point {
+        text.point(", first point ", i64::from(x), i64::from(y), "");
     }
 }
 

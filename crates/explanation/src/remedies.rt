@@ -316,12 +316,7 @@ const REMEDIES: &[Remedy] = &[
 
 /// What a status with a number means, where a run ends so.
 pub fn remedy_of(status: u8, number: u64) -> Option<&'static Remedy> {
-    for row in REMEDIES {
-        if row.status == status && u64::from(row.number) == number {
-            return Some(row);
-        }
-    }
-    None
+    REMEDIES.iter().find(|row| row.status == status && u64::from(row.number) == number)
 }
 
 /// What to do where a run ends with a status and a number.

@@ -22,15 +22,14 @@ use map_model::Map;
 use rect_cover::{CoverFault, cover};
 use std::alloc::Global;
 
-/// The most shapes that are told each in a line.
-const MOST_LINES: usize = 20;
+/// The most shapes, and the most terminals, that are told each in a line.
+pub const MOST_LINES: usize = 20;
 
-/// A placed shape that has no cover.
+/// A placed shape that has no cover: its layer in the map, and why.
 #[derive(Clone, Copy)]
 pub struct Uncovered {
-    pub number: u8,
     pub layer: u32,
-    pub at: u32,
+    pub fault: CoverFault,
 }
 
 /// What is placed on a layer.
@@ -75,10 +74,13 @@ fn note_rect(shapes: &mut Shapes, one: &Placed, rect: Rect) -> Result<(), NoMemo
     Ok(())
 }
 
-/// Counts a shape of so many points.
-fn count_shape(held: &mut Held, points: usize) {
-    held.shapes = held.shapes.saturating_add(1);
-    held.points = held.points.saturating_add(points as u64);
+/// Counts a shape of a layer that has so many points and is placed so often.
+pub fn count_shape(layers: &mut [Held], layer: u32, points: usize, times: u64) {
+    if let Some(held) = layers.get_mut(layer as usize) {
+        held.shapes = held.shapes.saturating_add(times);
+        let points = times.saturating_mul(points as u64);
+        held.points = held.points.saturating_add(points);
+    }
 }
 
 /// Notes a shape that covers these rectangles.
@@ -88,26 +90,11 @@ fn note_rects(
     one: &Placed,
     rects: &[Rect],
 ) -> Result<(), NoMemory> {
-    if let Some(held) = shapes.held.get_mut(one.layer as usize) {
-        count_shape(held, point_count(library, one));
-    }
+    count_shape(&mut shapes.held, one.layer, point_count(library, one), 1);
     for rect in rects {
         note_rect(shapes, one, *rect)?;
     }
     Ok(())
-}
-
-/// Notes a shape that has no cover.
-fn note_fault(shapes: &mut Shapes, one: &Placed, fault: CoverFault) -> Result<(), NoMemory> {
-    if fault == CoverFault::Memory {
-        return Err(NoMemory);
-    }
-    let uncovered = Uncovered {
-        number: fault.number(),
-        layer: one.layer,
-        at: one.at,
-    };
-    Ok(shapes.uncovered.push(uncovered)?)
 }
 
 /// Notes a shape with its cover, or that it has none.
@@ -119,12 +106,25 @@ fn note(
 ) -> Result<(), NoMemory> {
     match answer {
         Ok(rects) => note_rects(shapes, library, one, rects.as_slice()),
-        Err(fault) => note_fault(shapes, one, fault),
+        Err(CoverFault::Memory) => Err(NoMemory),
+        Err(fault) => Ok(
+            shapes.uncovered.push(Uncovered {
+                layer: one.layer,
+                fault,
+            })?,
+        ),
     }
 }
 
+/// Tells how many shapes and points are placed on the layer of this number.
+pub fn tell_held(text: &mut Text, map: &Map, number: usize, held: &Held) {
+    tell_layer(text, "  ", map, number);
+    text.number(": ", held.shapes, " shapes with ");
+    text.number("", held.points, " points");
+}
+
 /// Nothing on each of so many layers.
-fn nothing_held(alloc: Global, count: usize) -> Result<Vec<Held>, NoMemory> {
+pub fn nothing_held(alloc: Global, count: usize) -> Result<Vec<Held>, NoMemory> {
     let mut held = Vec::new(alloc);
     for _ in 0..count {
         held.push(Held {
@@ -180,22 +180,12 @@ pub fn placed_shapes(
     }
 }
 
-/// How many shapes of a layer have no cover for the reason with this number.
-fn count_of(found: &[Uncovered], number: u8, layer: usize) -> u64 {
-    let mut count = 0u64;
-    for one in found {
-        if one.number == number && one.layer as usize == layer {
-            count = count.saturating_add(1);
-        }
-    }
-    count
-}
-
 /// Tells how many shapes of a layer have no cover for the reason with this number.
 fn tell_count(text: &mut Text, map: &Map, found: &[Uncovered], number: u8, layer: usize) {
-    let count = count_of(found, number, layer);
+    let is_meant = |one: &&Uncovered| one.fault.number() == number && one.layer as usize == layer;
+    let count = found.iter().filter(is_meant).count();
     if count > 0 {
-        text.number("  ", count, " placed shapes of ");
+        text.number("  ", count as u64, " placed shapes of ");
         tell_layer(text, "", map, layer);
         text.number(": ", u64::from(number), ", ");
         text.word("", short_meaning(number), "\n");
@@ -213,9 +203,11 @@ fn tell_uncovered_counts(text: &mut Text, map: &Map, found: &[Uncovered]) {
 
 /// Tells of a shape in a line.
 fn tell_line(text: &mut Text, layout: &Layout<'_>, one: &Uncovered) {
-    text.number("  byte ", u64::from(one.at), ": ");
-    tell_place(text, "", &spot_at(layout.bytes, one.at), ": ");
-    text.word("", short_meaning(one.number), "\n");
+    let place = one.fault.place();
+    let at = u32::try_from(place).unwrap_or(u32::MAX);
+    text.number("  byte ", place, ": ");
+    tell_place(text, "", &spot_at(layout.bytes, at), ": ");
+    text.word("", short_meaning(one.fault.number()), "\n");
 }
 
 /// Tells of the first shapes, each in a line. One that is placed many times has one line.
@@ -231,9 +223,10 @@ fn tell_lines(
             text.say("  and others\n");
             return Ok(());
         }
-        if !told.as_slice().contains(&one.at) {
+        let place = one.fault.place();
+        if !told.as_slice().contains(&place) {
             tell_line(text, layout, one);
-            told.push(one.at)?;
+            told.push(place)?;
         }
     }
     Ok(())

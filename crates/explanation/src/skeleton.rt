@@ -6,19 +6,19 @@ ghost use Rattle.library_model.specs.Names.{names_of};
 ghost use Rattle.library_model.specs.Points.{AreWellPointed};
 
 use crate::layouts::Layout;
-use crate::pairs::{PairHeld, shapes_of, tell_pair};
+use crate::pairs::{PairHeld, shapes_of, tell_as_in_map, tell_pair};
 use crate::shapes::{Shapes, placed_shapes};
 use crate::terminals::Known;
 use crate::text::Text;
 use crate::texts::TextMark;
 use flatten::PlaceFault;
-use geo_core::Cell;
+use geo_core::{Cell, Point};
 use indexmap::IndexSet;
 use layer_map::{MapFault, read_map};
 use library_model::Library;
 use lists::NoMemory;
+use map_model::Map;
 use map_model::limits::{MOST_METALS, MOST_TERMINALS};
-use map_model::{Map, Metal};
 use std::alloc::Global;
 
 /// What stands in front of the lines that are comments until they are wanted.
@@ -36,13 +36,6 @@ fn tell_keys(text: &mut Text, layout: &Layout<'_>) {
     text.say("radii = [100]\nweights = [1]\n");
 }
 
-/// Tells the name of the metal that a pair is.
-fn tell_metal_name(text: &mut Text, pair: (u16, u16)) {
-    let (layer, datatype) = pair;
-    text.number("layer", u64::from(layer), "_");
-    text.number("", u64::from(datatype), "");
-}
-
 /// Tells a metal, in lines that begin with these words.
 fn tell_metal(text: &mut Text, before: &str, held: &PairHeld, has_top: bool) {
     let (layer, datatype) = held.pair;
@@ -53,11 +46,11 @@ fn tell_metal(text: &mut Text, before: &str, held: &PairHeld, has_top: bool) {
         tell_pair(text, "## ", held, has_top);
     }
     text.word(before, "[[metal]]\n", before);
-    text.say("name = \"");
-    tell_metal_name(text, held.pair);
-    text.word("\"\n", before, "pairs = [[");
-    text.number("", u64::from(layer), ", ");
-    text.number("", u64::from(datatype), "]]\n");
+    text.number("name = \"layer", u64::from(layer), "_");
+    text.number("", u64::from(datatype), "\"\n");
+    text.word(before, "pairs = [", "");
+    tell_as_in_map(text, held.pair);
+    text.say("]\n");
 }
 
 /// Tells a metal for each pair with shapes. Those behind the most that a map has are comments.
@@ -87,16 +80,6 @@ fn tell_cut(text: &mut Text) {
     text.say("#lower = \"NAME\"\n#upper = \"NAME\"\n");
 }
 
-/// Whether the metal has shapes of this layer.
-fn has_layer(metal: &Metal, layer: u16) -> bool {
-    for (of, _) in metal.pairs.as_slice() {
-        if *of == layer {
-            return true;
-        }
-    }
-    false
-}
-
 /// Adds the cell at which a text stands as a terminal of each metal of its layer.
 fn add_known(
     known: &mut Vec<Known>,
@@ -104,18 +87,17 @@ fn add_known(
     index: usize,
     mark: &TextMark<'_>,
 ) -> Result<(), NoMemory> {
-    let (i, j) = mark.point;
-    let mut metal = 0u32;
-    for one in map.metals.as_slice() {
-        if has_layer(one, mark.layer) {
+    let Point { x, y } = mark.point;
+    for (metal, one) in map.metals.as_slice().iter().enumerate() {
+        let pairs = one.pairs.as_slice();
+        if pairs.iter().any(|(layer, _)| *layer == mark.layer) {
             known.push(Known {
                 index,
-                metal,
-                cell: Cell { i, j },
+                metal: metal as u32,
+                cell: Cell { i: x, j: y },
                 rect: None,
             })?;
         }
-        metal = metal.saturating_add(1);
     }
     Ok(())
 }

@@ -1,6 +1,23 @@
 //! Places in a layout: which structure and which element stand at an offset.
 
-use gds_records::{Record, Records, kinds, text};
+use gds_records::{Record, Records, kinds, text, u16_at};
+use gds_syntax::{ElementKind, point_at};
+use geo_core::Point;
+
+/// What the records of an element tell of it, as far as they are read.
+#[derive(Clone, Copy)]
+pub struct ElementTold<'a> {
+    pub kind: ElementKind,
+    pub layer: Option<u16>,
+    /// Its datatype, or the type of a box, a text or a node.
+    pub datatype: Option<u16>,
+    /// Its first point, in database units.
+    pub point: Option<Point>,
+    /// The name of the structure that a reference places.
+    pub target: Option<&'a [u8]>,
+    /// What a text says.
+    pub string: Option<&'a [u8]>,
+}
 
 /// What is known of a place in a layout, as far as its records tell.
 #[derive(Clone, Copy)]
@@ -8,17 +25,9 @@ pub struct Spot<'a> {
     /// The name of the structure.
     pub structure: Option<&'a [u8]>,
     /// The number of the element in its structure, counted from 1, and 0 in front of the first.
-    pub element: u32,
-    /// The kind of the element's opening record, where the place is in an element.
-    pub kind: Option<u8>,
-    /// Its layer.
-    pub layer: Option<u16>,
-    /// Its datatype, or the type of a box, a text or a node.
-    pub datatype: Option<u16>,
-    /// Its first point, in database units.
-    pub point: Option<(i32, i32)>,
-    /// The name of the structure that a reference places.
-    pub target: Option<&'a [u8]>,
+    pub number: u32,
+    /// The element, where the place is in one.
+    pub element: Option<ElementTold<'a>>,
     /// The kind of the last record in front of the place.
     pub before: Option<u8>,
 }
@@ -26,113 +35,94 @@ pub struct Spot<'a> {
 /// The place at the beginning of a layout.
 pub const BEGINNING: Spot<'static> = Spot {
     structure: None,
-    element: 0,
-    kind: None,
-    layer: None,
-    datatype: None,
-    point: None,
-    target: None,
+    number: 0,
+    element: None,
     before: None,
 };
 
-/// Whether a record of this kind opens an element.
-fn opens_element(kind: u8) -> bool {
-    matches!(
-        kind,
-        kinds::BOUNDARY
-            | kinds::PATH
-            | kinds::SREF
-            | kinds::AREF
-            | kinds::TEXT
-            | kinds::NODE
-            | kinds::BOX
-    )
-}
-
 /// Whether a record of this kind ends or begins something, so that what stands behind it is no part of an element.
 fn is_border(kind: u8) -> bool {
-    opens_element(kind)
-        || matches!(
-            kind,
-            kinds::BGNSTR | kinds::ENDSTR | kinds::ENDEL | kinds::ENDLIB
-        )
+    matches!(
+        kind,
+        kinds::BGNSTR | kinds::ENDSTR | kinds::ENDEL | kinds::ENDLIB
+    ) || ElementKind::opened_by(kind).is_some()
 }
 
-/// The first number of two bytes, without sign.
-fn first_u16(body: &[u8]) -> Option<u16> {
-    match body {
-        [high, low, ..] => Some(u16::from_be_bytes([*high, *low])),
-        _ => None,
+/// The number that a record of two-byte numbers begins with, where it has one.
+fn first_number(record: &Record<'_>) -> Option<u16> {
+    if record.body.len() < 2 {
+        return None;
     }
+    Some(u16_at(record, 0))
 }
 
-/// The first point.
-fn first_point(body: &[u8]) -> Option<(i32, i32)> {
-    match body {
-        [a, b, c, d, e, f, g, h, ..] => Some((
-            i32::from_be_bytes([*a, *b, *c, *d]),
-            i32::from_be_bytes([*e, *f, *g, *h]),
-        )),
-        _ => None,
+/// The point that a record of points begins with, where it has one.
+fn first_point(record: &Record<'_>) -> Option<Point> {
+    if record.body.len() < 8 {
+        return None;
+    }
+    Some(point_at(record, 0))
+}
+
+impl<'a> ElementTold<'a> {
+    /// An element of which nothing but its opening record is read.
+    fn opened(kind: ElementKind) -> ElementTold<'a> {
+        ElementTold {
+            kind,
+            layer: None,
+            datatype: None,
+            point: None,
+            target: None,
+            string: None,
+        }
+    }
+
+    /// What is told once this record of it is read, too.
+    fn with(self, record: &Record<'a>) -> ElementTold<'a> {
+        let mut told = self;
+        match record.kind {
+            kinds::LAYER => told.layer = first_number(record),
+            kinds::DATATYPE | kinds::TEXTTYPE | kinds::NODETYPE | kinds::BOXTYPE => {
+                told.datatype = first_number(record);
+            }
+            kinds::XY => told.point = first_point(record),
+            kinds::SNAME => told.target = Some(text(record)),
+            kinds::STRING => told.string = Some(text(record)),
+            _ => {}
+        }
+        told
     }
 }
 
 impl<'a> Spot<'a> {
-    /// Goes out of the element.
-    fn leave(&mut self) {
-        self.kind = None;
-        self.layer = None;
-        self.datatype = None;
-        self.point = None;
-        self.target = None;
-    }
-
-    /// Goes behind a record that opens a structure.
-    fn enter_structure(&mut self) {
-        self.leave();
-        self.structure = None;
-        self.element = 0;
-    }
-
-    /// Goes behind a record that opens an element.
-    fn enter_element(&mut self, kind: u8) {
-        self.leave();
-        self.element = self.element.saturating_add(1);
-        self.kind = Some(kind);
-    }
-
-    /// Goes behind a record that tells something.
-    fn pass_field(&mut self, record: &Record<'a>) {
-        match record.kind {
-            kinds::STRNAME => self.structure = Some(text(record)),
-            kinds::SNAME => self.target = Some(text(record)),
-            kinds::LAYER => self.layer = first_u16(record.body),
-            kinds::DATATYPE | kinds::TEXTTYPE | kinds::NODETYPE | kinds::BOXTYPE => {
-                self.datatype = first_u16(record.body);
-            }
-            kinds::XY => self.point = first_point(record.body),
-            _ => {}
+    /// Goes behind a record that opens an element or tells something of one.
+    fn pass_in_structure(&mut self, record: &Record<'a>) {
+        if let Some(kind) = ElementKind::opened_by(record.kind) {
+            self.number = self.number.saturating_add(1);
+            self.element = Some(ElementTold::opened(kind));
+        } else if let Some(element) = self.element {
+            self.element = Some(element.with(record));
         }
     }
 
     /// Goes behind a record.
     pub fn pass(&mut self, record: &Record<'a>) {
-        self.before = Some(record.kind);
         match record.kind {
-            kinds::BGNSTR => self.enter_structure(),
-            kinds::ENDEL | kinds::ENDSTR => self.leave(),
-            kind if opens_element(kind) => self.enter_element(kind),
-            _ => self.pass_field(record),
+            kinds::BGNSTR => *self = BEGINNING,
+            kinds::STRNAME => self.structure = Some(text(record)),
+            kinds::ENDEL | kinds::ENDSTR => self.element = None,
+            _ => self.pass_in_structure(record),
         }
+        self.before = Some(record.kind);
     }
 }
 
-/// The next record, where one is left.
-pub fn next_record<'a>(records: &mut Records<'a>) -> Option<Record<'a>> {
-    match records.next() {
-        Ok(Some(record)) => Some(record),
-        _ => None,
+/// The records of a layout, of which offsets of 32 bits tell the places, and else none.
+pub fn records_of(bytes: &[u8]) -> Records<'_> {
+    if bytes.len() > u32::MAX as usize {
+        return Records::new(&[]);
     }
+    Records::new(bytes)
 }
 
 /// Whether the record stands behind what is told of a place: at it or further on, or, where what the record there opens is
@@ -147,13 +137,10 @@ fn is_behind(record: &Record<'_>, place: u32, with_opened: bool) -> bool {
 /// What the records tell up to a place.
 fn spot_up_to(bytes: &[u8], place: u32, with_opened: bool) -> Spot<'_> {
     let mut spot = BEGINNING;
-    if bytes.len() > u32::MAX as usize {
-        return spot;
-    }
-    let mut records = Records::new(bytes);
+    let mut records = records_of(bytes);
     for _ in 0..bytes.len() {
-        match next_record(&mut records) {
-            Some(record) if !is_behind(&record, place, with_opened) => spot.pass(&record),
+        match records.next() {
+            Ok(Some(record)) if !is_behind(&record, place, with_opened) => spot.pass(&record),
             _ => return spot,
         }
     }

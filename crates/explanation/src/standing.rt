@@ -2,13 +2,12 @@
 
 ghost use Rattle.std.specs.Prelude.{◌↔◌, All, IsTrue};
 ghost use Rattle.geo_core.specs.Bounds.{IsInRange};
-ghost use Rattle.library_model.specs.Points.{AreWellPointed};
+ghost use Rattle.library_model.specs.Points.{HasItsPoints};
 
-use flatten::{Motion, Placed};
 use geo_core::{FARTHEST, Point};
-use library_model::{Element, Library};
+use library_model::Shape;
 use lists::NoMemory;
-use rect_cover::{CoverFault, cover};
+use rect_cover::{CoverFault, cover_shape};
 use std::alloc::Global;
 
 /// The number of a shape that is too far out.
@@ -28,38 +27,15 @@ fn are_in_range(points: &[Point]) -> bool
     points.iter().all(|point| is_in_range(*point))
 }
 
-/// The number of the fault for which the shape that stands at this place has no cover, where it has none.
-pub fn cover_fault(
-    alloc: Global,
-    library: &Library,
-    structure: usize,
-    element: usize,
-) -> Result<Option<u8>, NoMemory>
-    requires { AreWellPointed library.now.structures }
+/// The number of the fault for which a shape has no cover where its structure has it, where it has none.
+pub fn cover_fault(alloc: Global, shape: &Shape) -> Result<Option<u8>, NoMemory>
+    requires { HasItsPoints shape.now.kind shape.now.points }
 {
-    let Some(found) = library.structures.as_slice().get(structure) else {
-        return Ok(None);
-    };
-    let Some(Element::Shape(shape)) = found.elements.as_slice().get(element) else {
-        return Ok(None);
-    };
-    if structure > u32::MAX as usize || element > u32::MAX as usize {
-        return Ok(None);
-    }
-    if !are_in_range(shape.points.as_slice()) {
+    let points = shape.points.as_slice();
+    if !are_in_range(points) {
         return Ok(Some(OUT_OF_RANGE));
     }
-    let motion = Motion::none();
-    let placed = Placed {
-        structure: structure as u32,
-        element: element as u32,
-        at: shape.at,
-        layer: 0,
-        turn: motion.turn,
-        dx: motion.dx,
-        dy: motion.dy,
-    };
-    match cover(alloc, library, &placed) {
+    match cover_shape(alloc, shape.kind, points, shape.at) {
         Ok(_) => Ok(None),
         Err(CoverFault::Memory) => Err(NoMemory),
         Err(fault) => Ok(Some(fault.number())),

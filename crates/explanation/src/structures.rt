@@ -1,14 +1,15 @@
 //! What is wrong with how the structures of a library refer to each other.
 
-use crate::graph::{Graph, chain_end, chain_length, circle_from, graph_of, times_placed, tops_of};
-use crate::layer_names::{layer_count, tell_layer};
+use crate::graph::{Graph, graph_of};
+use crate::layer_names::layer_count;
 use crate::layouts::{Layout, tell_number};
 use crate::places::tell_place;
+use crate::shapes::{Held, count_shape, nothing_held, tell_held};
 use crate::spot::spot_at;
 use crate::telling::Telling;
 use crate::text::Text;
 use flatten::PlaceFault;
-use library_model::{Element, Library, Shape, Structure};
+use library_model::{Element, Library, Structure};
 use lists::NoMemory;
 use map_model::Map;
 use std::alloc::Global;
@@ -21,21 +22,9 @@ const HIDDEN: &[u8] = b"$$$";
 
 /// The number of the structure that begins at this offset.
 fn structure_at(structures: &[Structure], place: u64) -> Option<usize> {
-    for (number, structure) in structures.iter().enumerate() {
-        if u64::from(structure.at) == place {
-            return Some(number);
-        }
-    }
-    None
-}
-
-/// Tells behind some words the name of the structure with this number, and then others.
-fn tell_name(text: &mut Text, before: &str, structures: &[Structure], number: usize, after: &str) {
-    text.say(before);
-    if let Some(structure) = structures.get(number) {
-        text.name("", structure.name.as_slice(), "");
-    }
-    text.say(after);
+    structures
+        .iter()
+        .position(|structure| u64::from(structure.at) == place)
 }
 
 /// Tells a structure whose name differs from this in nothing but capital letters, where there is one.
@@ -53,81 +42,55 @@ fn tell_alike(text: &mut Text, structures: &[Structure], name: &[u8]) {
 fn tell_unknown(text: &mut Text, layout: &Layout<'_>, structures: &[Structure], place: u32) {
     let spot = spot_at(layout.bytes, place);
     tell_place(text, "  ", &spot, "\n");
-    if let Some(target) = spot.target {
+    if let Some(target) = spot.element.and_then(|element| element.target) {
         text.name("  no structure is named ", target, "\n");
         tell_alike(text, structures, target);
     }
 }
 
-/// Tells the structures of a circle in their order, and that it ends where it begins.
-fn tell_around(text: &mut Text, structures: &[Structure], circle: &[usize]) {
-    for number in circle {
-        tell_name(text, " ", structures, *number, " ->");
-    }
-    if circle.len() >= MOST_NAMED {
-        text.say(" ..\n");
-        return;
-    }
-    text.say(" ");
-    if let Some(first) = circle.first() {
-        tell_name(text, "", structures, *first, "");
-    }
-    text.say("\n");
-}
-
-/// Tells the circle to which a structure leads.
+/// Tells the circle to which a structure leads: its structures in their order, and that it ends where it begins.
 fn tell_circle(
     alloc: Global,
     text: &mut Text,
-    structures: &[Structure],
-    graph: &Graph,
+    graph: &Graph<'_>,
     one: usize,
 ) -> Result<(), NoMemory> {
-    let circle = circle_from(alloc, graph, one, MOST_NAMED)?;
-    tell_name(text, "  structure ", structures, one, "; the circle:");
-    tell_around(text, structures, circle.as_slice());
+    let circle = graph.circle_from(alloc, one, MOST_NAMED)?;
+    text.name("  structure ", graph.name_of(one), "; the circle:");
+    for number in circle.as_slice() {
+        text.name(" ", graph.name_of(*number), " ->");
+    }
+    match circle.first() {
+        Some(first) if circle.len() < MOST_NAMED => text.name(" ", graph.name_of(*first), "\n"),
+        _ => text.say(" ..\n"),
+    }
     Ok(())
 }
 
-/// Tells the longest chain from the top.
-fn tell_chain(text: &mut Text, structures: &[Structure], graph: &Graph, top: usize) {
-    let length = chain_length(graph, top);
-    text.number(
-        "  the longest chain has ",
-        length as u64,
-        " references, from ",
-    );
-    tell_name(text, "", structures, top, " to ");
-    tell_name(text, "", structures, chain_end(graph, top), "\n");
-}
-
-/// Whether editors hide the structure with this number.
-fn is_hidden(structures: &[Structure], number: usize) -> bool {
-    match structures.get(number) {
-        Some(structure) => structure.name.as_slice().starts_with(HIDDEN),
-        None => false,
+/// Tells a longest chain from the top.
+fn tell_chain(text: &mut Text, graph: &Graph<'_>, top: usize) {
+    if let Some(chain) = graph.chain_from(top) {
+        text.number("  the longest chain has ", chain.length, " references");
+        text.name(", from ", graph.name_of(top), "");
+        text.name(" to ", graph.name_of(chain.end), "\n");
     }
 }
 
 /// Tells those of the tops that are hidden by editors, or those that are not, in a line behind these words.
-fn tell_some_tops(
-    text: &mut Text,
-    structures: &[Structure],
-    tops: &[usize],
-    hidden: bool,
-    words: &str,
-) {
+fn tell_some_tops(text: &mut Text, graph: &Graph<'_>, hidden: bool, words: &str) {
     let mut count = 0usize;
-    for top in tops {
-        if is_hidden(structures, *top) == hidden {
-            if count == 0 {
-                text.word("  ", words, ":");
-            }
-            if count < MOST_NAMED {
-                tell_name(text, " ", structures, *top, "");
-            }
-            count = count.saturating_add(1);
+    for top in graph.tops.as_slice() {
+        let name = graph.name_of(*top);
+        if name.starts_with(HIDDEN) != hidden {
+            continue;
         }
+        if count == 0 {
+            text.word("  ", words, ":");
+        }
+        if count < MOST_NAMED {
+            text.name(" ", name, "");
+        }
+        count = count.saturating_add(1);
     }
     if count > MOST_NAMED {
         text.number(", the first ", MOST_NAMED as u64, " of ");
@@ -139,66 +102,24 @@ fn tell_some_tops(
 }
 
 /// Tells which structures no reference names.
-pub fn tell_tops(
-    alloc: Global,
-    text: &mut Text,
-    structures: &[Structure],
-    graph: &Graph,
-) -> Result<(), NoMemory> {
-    let tops = tops_of(alloc, graph)?;
-    let tops = tops.as_slice();
-    tell_some_tops(text, structures, tops, false, "named by no reference");
+pub fn tell_tops(text: &mut Text, graph: &Graph<'_>) {
+    tell_some_tops(text, graph, false, "named by no reference");
     tell_some_tops(
         text,
-        structures,
-        tops,
+        graph,
         true,
         "named by no reference, and hidden by editors, which keep notes of their own in them",
     );
-    Ok(())
 }
 
-/// How many shapes and points are placed on a layer.
-#[derive(Clone, Copy)]
-struct Count {
-    shapes: u64,
-    points: u64,
-}
-
-/// A count with one shape more of so many points, which is placed so often.
-fn with_shape(count: Count, points: usize, times: u64) -> Count {
-    Count {
-        shapes: count.shapes.saturating_add(times),
-        points: count
-            .points
-            .saturating_add(times.saturating_mul(points as u64)),
-    }
-}
-
-/// Adds a shape that is placed so often.
-fn add_shape(counts: &mut Vec<Count>, map: &Map, shape: &Shape, times: u64) {
-    if let Some(number) = map.layer_of(shape.layer, shape.datatype) {
-        if let Some(count) = counts.get_mut(number as usize) {
-            *count = with_shape(*count, shape.points.as_slice().len(), times);
-        }
-    }
-}
-
-/// Adds the shapes of a structure that is placed so often.
-fn add_shapes(counts: &mut Vec<Count>, map: &Map, structure: &Structure, times: u64) {
+/// Adds the shapes of a structure that is placed so often to what the layers of the map hold.
+fn add_shapes(held: &mut Vec<Held>, map: &Map, structure: &Structure, times: u64) {
     for element in structure.elements.as_slice() {
         if let Element::Shape(shape) = element {
-            add_shape(counts, map, shape, times);
+            if let Some(layer) = map.layer_of(shape.layer, shape.datatype) {
+                count_shape(held, layer, shape.points.as_slice().len(), times);
+            }
         }
-    }
-}
-
-/// Tells how many shapes and points there are on each layer.
-fn tell_each_count(text: &mut Text, map: &Map, counts: &[Count]) {
-    for (number, count) in counts.iter().enumerate() {
-        tell_layer(text, "  ", map, number);
-        text.number(": ", count.shapes, " shapes with ");
-        text.number("", count.points, " points\n");
     }
 }
 
@@ -207,96 +128,63 @@ fn tell_counts(
     alloc: Global,
     text: &mut Text,
     map: &Map,
-    structures: &[Structure],
-    graph: &Graph,
+    graph: &Graph<'_>,
     top: usize,
 ) -> Result<(), NoMemory> {
-    let times = times_placed(alloc, graph, top)?;
-    let none = Count {
-        shapes: 0,
-        points: 0,
-    };
-    let mut counts = vec![in alloc; none; layer_count(map)]?;
-    for (number, structure) in structures.iter().enumerate() {
-        let times = times.get(number).copied().unwrap_or(0);
-        if times > 0 {
-            add_shapes(&mut counts, map, structure, times);
+    text.name("  the top is ", graph.name_of(top), "\n");
+    let times = graph.times_placed(alloc, Some(top))?;
+    let mut counts = nothing_held(alloc, layer_count(map))?;
+    for (structure, times) in graph.structures.iter().zip(times.iter()) {
+        if *times > 0 {
+            add_shapes(&mut counts, map, structure, *times);
         }
     }
-    tell_each_count(text, map, counts.as_slice());
+    for (number, held) in counts.iter().enumerate() {
+        tell_held(text, map, number, held);
+        text.say("\n");
+    }
     Ok(())
 }
 
 /// Tells that no structure has the wanted name, or that there is none.
-pub fn tell_no_top(
-    alloc: Global,
-    told: &mut Telling,
-    layout: &Layout<'_>,
-    structures: &[Structure],
-    graph: &Graph,
-) -> Result<(), NoMemory> {
+pub fn tell_no_top(told: &mut Telling, layout: &Layout<'_>, graph: &Graph<'_>) {
     told.refuse(4, 27, 0);
     let text = &mut told.text;
-    if structures.is_empty() {
-        layout.tell(text);
+    layout.tell(text);
+    if graph.structures.is_empty() {
         text.say(": it has no structure\n");
-        return Ok(());
+        return;
     }
     let top = layout.top.unwrap_or(b"");
-    layout.tell(text);
     text.name(": no structure has the name ", top, " that --top gives\n");
-    tell_alike(text, structures, top);
-    tell_tops(alloc, text, structures, graph)
+    tell_alike(text, graph.structures, top);
+    tell_tops(text, graph);
 }
 
-/// Tells of what is wrong with the structure at a place.
-fn tell_at_structure(
+/// Tells of the reference, the structure or the shape at which the fault shows.
+fn tell_cause(
     alloc: Global,
     text: &mut Text,
     map: &Map,
-    structures: &[Structure],
-    graph: &Graph,
-    fault: PlaceFault,
-) -> Result<(), NoMemory> {
-    let Some(one) = structure_at(structures, fault.place()) else {
-        return Ok(());
-    };
-    match fault {
-        PlaceFault::Cycle { .. } => tell_circle(alloc, text, structures, graph, one),
-        PlaceFault::TooDeep { .. } => {
-            tell_chain(text, structures, graph, one);
-            Ok(())
-        }
-        PlaceFault::ManyTops { .. } => tell_tops(alloc, text, structures, graph),
-        PlaceFault::TooManyShapes { .. } => {
-            tell_name(text, "  the top is ", structures, one, "\n");
-            tell_counts(alloc, text, map, structures, graph, one)
-        }
-        _ => Ok(()),
-    }
-}
-
-/// Tells why the shapes of structures with this graph are not placed.
-fn tell_with_graph(
-    alloc: Global,
-    told: &mut Telling,
-    map: &Map,
     layout: &Layout<'_>,
-    structures: &[Structure],
-    graph: &Graph,
+    graph: &Graph<'_>,
     fault: PlaceFault,
 ) -> Result<(), NoMemory> {
-    if fault == PlaceFault::NoTop {
-        return tell_no_top(alloc, told, layout, structures, graph);
-    }
-    tell_number(told, layout, fault.number(), fault.place());
-    let text = &mut told.text;
-    match fault {
-        PlaceFault::UnknownStructure { at } => tell_unknown(text, layout, structures, at),
-        PlaceFault::OutOfRange { at } => {
+    match (fault, structure_at(graph.structures, fault.place())) {
+        (PlaceFault::UnknownStructure { at }, _) => tell_unknown(
+            text,
+            layout,
+            graph.structures,
+            at,
+        ),
+        (PlaceFault::OutOfRange { at }, _) => {
             tell_place(text, "  ", &spot_at(layout.bytes, at), "\n");
         }
-        _ => return tell_at_structure(alloc, text, map, structures, graph, fault),
+        (PlaceFault::ManyTops { .. }, _) => tell_tops(text, graph),
+        (PlaceFault::Cycle { .. }, Some(one)) => tell_circle(alloc, text, graph, one)?,
+        (PlaceFault::TooDeep { .. }, Some(top)) => tell_chain(text, graph, top),
+        (PlaceFault::TooManyShapes { .. }, Some(top)) => tell_counts(alloc, text, map, graph, top)?,
+        _ => {}
     }
     Ok(())
 }
@@ -310,10 +198,14 @@ pub fn tell_place_fault(
     library: &Library,
     fault: PlaceFault,
 ) -> Result<(), NoMemory> {
-    let structures = library.structures.as_slice();
     if fault == PlaceFault::Memory {
         return Err(NoMemory);
     }
-    let graph = graph_of(alloc, structures)?;
-    tell_with_graph(alloc, told, map, layout, structures, &graph, fault)
+    let graph = graph_of(alloc, library.structures.as_slice())?;
+    if fault == PlaceFault::NoTop {
+        tell_no_top(told, layout, &graph);
+        return Ok(());
+    }
+    tell_number(told, layout, fault.number(), fault.place());
+    tell_cause(alloc, &mut told.text, map, layout, &graph, fault)
 }

@@ -1,5 +1,6 @@
 //! The terminals of the map, and which of them lie on shapes of their metals.
 
+use crate::good_map::GoodMap;
 use crate::layer_names::tell_layer;
 use crate::text::Text;
 use geo_core::{Cell, Rect};
@@ -52,22 +53,18 @@ pub fn note_covered(known: &mut [Known], metal: u32, rect: Rect, number: usize) 
 
 /// The first terminal that no shape of its metal covers, where there is one.
 pub fn first_off(known: &[Known]) -> Option<Known> {
-    for one in known {
-        if one.rect.is_none() {
-            return Some(*one);
-        }
-    }
-    None
+    known.iter().find(|one| one.rect.is_none()).copied()
 }
 
-/// Tells behind some words which terminal is meant: its number in the map, its metal and its cell.
-pub fn tell_terminal(text: &mut Text, before: &str, map: &Map, one: Known) {
+/// Tells behind some words which terminal is meant: its number and its line in the map, its metal and its cell.
+pub fn tell_terminal(alloc: Global, text: &mut Text, before: &str, good: &GoodMap<'_>, one: Known) {
     text.say(before);
     text.number(
         "[[terminal]] number ",
         (one.index as u64).saturating_add(1),
         ", counted from 1",
     );
-    tell_layer(text, ", ", map, one.metal as usize);
+    good.tell_line(alloc, text, one.index);
+    tell_layer(text, ", ", &good.map, one.metal as usize);
     text.point(", cell ", one.cell.i as i64, one.cell.j as i64, "");
 }

@@ -1,8 +1,15 @@
 //! Text that is put together piece by piece.
 
-use crate::quoted::{MOST_SHOWN, digit, is_shown};
 use lists::NoMemory;
 use std::alloc::Global;
+
+/// The most bytes of a name or a value that are shown.
+const MOST_SHOWN: usize = 256;
+
+/// Whether a byte is shown as it is: printable ASCII is, but for a quote and a backslash.
+fn is_shown(byte: u8) -> bool {
+    matches!(byte, b' '..=b'~') && byte != b'\'' && byte != b'\\'
+}
 
 /// A text. Where no memory is left for a piece, it stays without it and keeps that in mind, so that whoever writes pieces
 /// has no failure to pass on. Most pieces come with what stands in front of them and behind them.
@@ -83,11 +90,12 @@ impl Text {
 
     /// Puts a byte behind it.
     fn byte(&mut self, byte: u8) {
-        if !is_shown(byte) {
-            self.word("\\x", digit(byte / 16), digit(byte % 16));
-        } else if self.text.push(char::from(byte)).is_err() {
-            self.is_cut = true;
-        }
+        let is_cut = if is_shown(byte) {
+            self.text.push(char::from(byte)).is_err()
+        } else {
+            write!(self.text, "\\x{byte:02x}").is_err()
+        };
+        self.is_cut = self.is_cut || is_cut;
     }
 
     /// What is there so far.

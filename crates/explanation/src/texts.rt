@@ -1,7 +1,12 @@
 //! The texts of a layout, which the model of a library leaves out.
 
-use crate::spot::{BEGINNING, Spot, next_record};
-use gds_records::{Record, Records, kinds, text};
+use crate::spot::{BEGINNING, Spot, records_of};
+use crate::text::Text;
+use gds_records::kinds;
+use gds_syntax::ElementKind;
+use geo_core::Point;
+use indexmap::IndexSet;
+use library_model::Structure;
 use lists::NoMemory;
 use std::alloc::Global;
 
@@ -13,54 +18,82 @@ pub struct TextMark<'a> {
     pub layer: u16,
     pub texttype: u16,
     /// Where it stands, in database units.
-    pub point: (i32, i32),
+    pub point: Point,
     /// What it says.
     pub string: &'a [u8],
 }
 
 /// The text that ends at this place, where one does.
-fn mark_of<'a>(spot: &Spot<'a>, string: &'a [u8]) -> Option<TextMark<'a>> {
-    if spot.kind != Some(kinds::TEXT) {
+fn mark_of<'a>(spot: &Spot<'a>) -> Option<TextMark<'a>> {
+    let element = spot.element?;
+    if element.kind != ElementKind::Text {
         return None;
     }
     Some(TextMark {
         structure: spot.structure?,
-        layer: spot.layer?,
-        texttype: spot.datatype?,
-        point: spot.point?,
-        string,
+        layer: element.layer?,
+        texttype: element.datatype?,
+        point: element.point?,
+        string: element.string?,
     })
-}
-
-/// What a text says of which this is the next record, and so far this was said.
-fn string_with<'a>(string: &'a [u8], record: &Record<'a>) -> &'a [u8] {
-    match record.kind {
-        kinds::STRING => text(record),
-        kinds::TEXT => &[],
-        _ => string,
-    }
 }
 
 /// The texts of a layout that is a library, in the order of the stream.
 pub fn texts_of(alloc: Global, bytes: &[u8]) -> Result<Vec<TextMark<'_>>, NoMemory> {
     let mut texts = Vec::new(alloc);
-    if bytes.len() > u32::MAX as usize {
-        return Ok(texts);
-    }
-    let mut records = Records::new(bytes);
     let mut spot = BEGINNING;
-    let mut string: &[u8] = &[];
+    let mut records = records_of(bytes);
     for _ in 0..bytes.len() {
-        let Some(record) = next_record(&mut records) else {
+        let Ok(Some(record)) = records.next() else {
             break;
         };
-        string = string_with(string, &record);
         if record.kind == kinds::ENDEL {
-            if let Some(mark) = mark_of(&spot, string) {
+            if let Some(mark) = mark_of(&spot) {
                 texts.push(mark)?;
             }
         }
         spot.pass(&record);
     }
     Ok(texts)
+}
+
+/// The names of the structures that the top of this name places, each so often.
+fn placed_names<'a>(
+    alloc: Global,
+    structures: &'a [Structure],
+    times: &[u64],
+    top: &[u8],
+) -> Result<IndexSet<&'a [u8]>, NoMemory> {
+    let mut names = IndexSet::new(alloc);
+    for (structure, times) in structures.iter().zip(times.iter()) {
+        let name = structure.name.as_slice();
+        if *times > 0 && name != top {
+            names.insert(name)?;
+        }
+    }
+    Ok(names)
+}
+
+/// Tells as a comment how many texts are of structures that the top of this name places, each so often.
+pub fn tell_placed_texts(
+    alloc: Global,
+    text: &mut Text,
+    structures: &[Structure],
+    times: &[u64],
+    texts: &[TextMark<'_>],
+    top: &[u8],
+) -> Result<(), NoMemory> {
+    let names = placed_names(alloc, structures, times, top)?;
+    let count = texts
+        .iter()
+        .filter(|one| names.contains(one.structure))
+        .count();
+    if count > 0 {
+        text.number(
+            "\n# texts of the structures that the top places are left out: ",
+            count as u64,
+            ", each counted once\n",
+        );
+    }
+    Ok(())
 }
