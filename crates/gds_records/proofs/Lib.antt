@@ -1,5 +1,6 @@
 pub mod Heads
 pub mod TableLaws
+pub mod NameLaws
 pub mod RecordCheckLaws
 pub mod SplitLaws
 pub mod ReadingLaws

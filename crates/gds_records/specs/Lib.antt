@@ -1,4 +1,5 @@
 pub mod Table
+pub mod KindNames
 pub mod RecordSpelling
 pub mod Profile
 pub mod RecordFaults

@@ -1,17 +1,18 @@
 ghost use Rattle.std.specs.Prelude.{◌≡◌};
 
-use std::error::Error;
-use std::fmt;
+use thiserror::Error;
 
 /// Why the bytes at an offset are no record.
-#[derive(Clone, Copy, Debug, PartialEq, Eq)]
+#[derive(Clone, Copy, Debug, PartialEq, Eq, Error)]
 pub enum RecordFault {
     /// Fewer bytes are left than a record's head has, or than its length counts.
+    #[error("the record at byte {at}: the stream ends within it")]
     Truncated {
         /// The record's offset.
         at: u32,
     },
     /// A length that does not count the four bytes of the head, or is odd.
+    #[error("the record at byte {at}: its length is odd or below 4")]
     BadLength {
         /// The record's offset.
         at: u32,
@@ -19,6 +20,7 @@ pub enum RecordFault {
         len: u16,
     },
     /// A kind that is not in the table of records, or one whose data has another form there.
+    #[error("the record at byte {at}: its kind is not known, or not with its form")]
     BadRecord {
         /// The record's offset.
         at: u32,
@@ -28,6 +30,7 @@ pub enum RecordFault {
         form: u8,
     },
     /// A body of a size that the table of records does not permit.
+    #[error("the record at byte {at}: its body has a size that its kind does not have")]
     BadSize {
         /// The record's offset.
         at: u32,
@@ -62,17 +65,3 @@ impl RecordFault {
         }
     }
 }
-
-impl fmt::Display for RecordFault {
-    fn fmt<W: fmt::Write>(&self, f: &mut fmt::Formatter<W>) -> fmt::Result {
-        let what = match self {
-            RecordFault::Truncated { .. } => "the stream ends within it",
-            RecordFault::BadLength { .. } => "its length is odd or below 4",
-            RecordFault::BadRecord { .. } => "its kind is not known, or not with its form",
-            RecordFault::BadSize { .. } => "its body has a size that its kind does not have",
-        };
-        write!(f, "the record at byte {}: {what}", self.place())
-    }
-}
-
-impl Error for RecordFault {}

@@ -1,5 +1,8 @@
 //! The names of the kinds of records.
 
+ghost use Rattle.std.specs.Prelude.{◌≡◌, option_copied};
+ghost use Rattle.gds_records.specs.KindNames.{name_of_kind};
+
 /// The name of each kind in the GDSII Stream Format Manual, Release 6.0, at the kind's number, where it has one. Some are of
 /// kinds that are not read.
 static NAMES: [Option<&str>; 60] = [
@@ -67,6 +70,13 @@ static NAMES: [Option<&str>; 60] = [
 
 /// The name of a kind of records in the GDSII Stream Format Manual, Release 6.0, where it has one, also of a kind that the
 /// table of records does not have.
-pub fn kind_name(kind: u8) -> Option<&'static str> {
-    *NAMES.get(usize::from(kind))?
+pub fn kind_name(kind: u8) -> Option<&'static str>
+    ensures { option_copied result ≡ name_of_kind kind }
+{
+    let number = usize::from(kind);
+    if number < NAMES.len() {
+        NAMES[number]
+    } else {
+        None
+    }
 }

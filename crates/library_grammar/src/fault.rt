@@ -4,15 +4,16 @@ ghost use Rattle.library_grammar.specs.declared.fault.SyntaxFault.TheVariants.{M
 use gds_records::RecordFault;
 use lists::NoMemory;
 use std::alloc::{AllocError, AllocFailed};
-use std::error::Error;
-use std::fmt;
+use thiserror::Error;
 
 /// Why bytes are no library: the first fault in them. Each offset is in bytes from the start of the stream.
-#[derive(Clone, Copy, Debug, PartialEq, Eq)]
+#[derive(Clone, Copy, Debug, PartialEq, Eq, Error)]
 pub enum SyntaxFault {
     /// Bytes that do not begin with a record that is taken, where one has to follow.
+    #[error("bytes are no record")]
     Record(RecordFault),
     /// A record that may not stand where it does.
+    #[error("a record may not stand there")]
     Unexpected {
         /// The record's offset.
         at: u32,
@@ -20,6 +21,7 @@ pub enum SyntaxFault {
         kind: u8,
     },
     /// An element without a record that it needs.
+    #[error("an element lacks a record that it needs")]
     Missing {
         /// The offset of the element's opening record.
         at: u32,
@@ -27,46 +29,55 @@ pub enum SyntaxFault {
         kind: u8,
     },
     /// A structure that has the name of an earlier one.
+    #[error("an earlier structure has the same name")]
     RepeatedStructure {
         /// The offset of STRNAME.
         at: u32,
     },
     /// An element with too few or too many points.
+    #[error("an element has too few or too many points")]
     PointCount {
         /// The offset of the element's opening record.
         at: u32,
     },
     /// A boundary or a box whose last point is not its first.
+    #[error("an outline does not end where it begins")]
     NotClosed {
         /// The offset of the element's opening record.
         at: u32,
     },
     /// A reference that is magnified.
+    #[error("a reference is magnified")]
     Magnified {
         /// The offset of the element's opening record.
         at: u32,
     },
     /// A reference that is turned by an angle other than a multiple of 90 degrees from -360 to 360.
+    #[error("a reference is turned by no whole quarters of a circle")]
     BadAngle {
         /// The offset of the element's opening record.
         at: u32,
     },
     /// A reference with an absolute angle.
+    #[error("a reference has an absolute angle")]
     AbsoluteAngle {
         /// The offset of the element's opening record.
         at: u32,
     },
     /// An array whose columns or rows, as numbers with sign, are below 1.
+    #[error("an array has no columns or no rows")]
     EmptyArray {
         /// The offset of the element's opening record.
         at: u32,
     },
     /// An array whose columns or rows are no whole number of database units apart.
+    #[error("the steps of an array are no whole numbers")]
     UnevenArray {
         /// The offset of the element's opening record.
         at: u32,
     },
     /// Out of memory. This says nothing of the bytes.
+    #[error("no memory is left")]
     Memory,
 }
 
@@ -114,28 +125,6 @@ impl SyntaxFault {
         }
     }
 }
-
-impl fmt::Display for SyntaxFault {
-    fn fmt<W: fmt::Write>(&self, f: &mut fmt::Formatter<W>) -> fmt::Result {
-        f.write_str(match self {
-            SyntaxFault::Record(_) => "bytes are no record",
-            SyntaxFault::Unexpected { .. } => "a record may not stand there",
-            SyntaxFault::Missing { .. } => "an element lacks a record that it needs",
-            SyntaxFault::RepeatedStructure { .. } => "an earlier structure has the same name",
-            SyntaxFault::PointCount { .. } => "an element has too few or too many points",
-            SyntaxFault::NotClosed { .. } => "an outline does not end where it begins",
-            SyntaxFault::Magnified { .. } => "a reference is magnified",
-            SyntaxFault::BadAngle { .. } =>
-                "a reference is turned by no whole quarters of a circle",
-            SyntaxFault::AbsoluteAngle { .. } => "a reference has an absolute angle",
-            SyntaxFault::EmptyArray { .. } => "an array has no columns or no rows",
-            SyntaxFault::UnevenArray { .. } => "the steps of an array are no whole numbers",
-            SyntaxFault::Memory => "no memory is left",
-        })
-    }
-}
-
-impl Error for SyntaxFault {}
 
 impl<T: Drop> From<AllocFailed<T>> for SyntaxFault {
     ghost from_gives = { λ _ fault. fault ≡ Memory };

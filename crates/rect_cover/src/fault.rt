@@ -3,7 +3,6 @@ ghost use Rattle.rect_cover.specs.declared.fault.CoverFault.TheVariants.{Memory}
 
 use lists::NoMemory;
 use std::alloc::{AllocError, AllocFailed};
-use std::fmt;
 use thiserror::Error;
 
 /// Why a shape is not cut into rectangles. Each offset is that of the shape. The checks of a path come in this order, but
@@ -12,20 +11,28 @@ use thiserror::Error;
 #[derive(Clone, Copy, Debug, PartialEq, Eq, Error)]
 pub enum CoverFault {
     /// The path has round ends, which is PATHTYPE 1.
+    #[error("the shape at byte {at} has round ends")]
     RoundPath { at: u32 },
     /// The PATHTYPE of the path is none of 0, 1, 2 and 4, or a piece of the path is no longer than what its extensions take away.
+    #[error("the shape at byte {at} has no such ends")]
     BadExtension { at: u32 },
     /// The width of the path is odd, and half of it no whole number of database units.
+    #[error("the shape at byte {at} has an odd width")]
     OddWidth { at: u32 },
     /// All points of the path are equal.
+    #[error("the shape at byte {at} is a point")]
     PointPath { at: u32 },
     /// Two neighbouring points of the shape differ in both coordinates.
+    #[error("the shape at byte {at} is slanted")]
     NotRectilinear { at: u32 },
     /// A piece of the path leads back along the piece before it.
+    #[error("the shape at byte {at} turns back")]
     Reversal { at: u32 },
     /// A rectangle of the path reaches more than 1,000,000,000 from 0.
+    #[error("the shape at byte {at} is out of range")]
     OutOfRange { at: u32 },
     /// No memory is left, which says nothing of the shape.
+    #[error("no memory is left")]
     Memory,
 }
 
@@ -61,29 +68,6 @@ impl CoverFault {
             | CoverFault::BadExtension { at }
             | CoverFault::PointPath { at } => u64::from(*at),
             CoverFault::Memory => 0,
-        }
-    }
-
-    /// What is wrong with the shape.
-    fn words(&self) -> &'static str {
-        match self {
-            CoverFault::OutOfRange { .. } => "is out of range",
-            CoverFault::NotRectilinear { .. } => "is slanted",
-            CoverFault::RoundPath { .. } => "has round ends",
-            CoverFault::OddWidth { .. } => "has an odd width",
-            CoverFault::Reversal { .. } => "turns back",
-            CoverFault::BadExtension { .. } => "has no such ends",
-            CoverFault::PointPath { .. } => "is a point",
-            CoverFault::Memory => "",
-        }
-    }
-}
-
-impl fmt::Display for CoverFault {
-    fn fmt<W: fmt::Write>(&self, f: &mut fmt::Formatter<W>) -> fmt::Result {
-        match self {
-            CoverFault::Memory => f.write_str("no memory is left"),
-            _ => write!(f, "the shape at byte {} {}", self.place(), self.words()),
         }
     }
 }
