@@ -30,7 +30,7 @@ unnumbered : (k : ℕ) (elements : List Element) → flat_map (λ (e : ℕ × El
 unnumbered k [] = refl
 unnumbered k (e ∷ elements) = ap (λ rs. references_in e ++ rs) (unnumbered (k + 1) elements)
 
-only_there : (o : Option ℕ) (one : ℕ) → Contains (option_to_list o) one → o ≡ Some one
+pub only_there : (o : Option ℕ) (one : ℕ) → Contains (option_to_list o) one → o ≡ Some one
 only_there None one there = absurd (Contains-none there)
 only_there (Some other) one there = ap Some (Contains-one other one there)
 

@@ -1,11 +1,12 @@
 -- what each stage of a plan comes to, by the names that the index has
-use Rattle.std.proofs.Common.{ℕ, ◌≡◌, List, length, Vec, Option, Ok, Err, arith, All}
+use Rattle.std.proofs.Common.{ℕ, ◌≡◌, ◌<◌, List, length, Vec, Option, Ok, Err, arith, All}
 use Rattle.lists.proofs.Words.{Global, AllZip-long}
 use Rattle.first_refusal.specs.Answers.{Answers, gives, refuses, no_memory}
 use Rattle.library_model.specs.Names.{names_of}
 use Rattle.library_model.specs.declared.library.Structure.{Structure}
 use Rattle.map_model.specs.MapNames.{LayerMap}
 use Rattle.flatten.specs.Structures.{all_references}
+use Rattle.flatten.specs.ReferenceChains.{IsEndless}
 use Rattle.flatten.specs.inside.FollowedParts.{AreNodes, IsKnown, AreNodesBelow}
 use Rattle.flatten.specs.inside.Surveys.{AreAllDone, SurveysAll}
 use Rattle.flatten.specs.inside.Plans.{AreSurveyed, Chooses}
@@ -38,6 +39,9 @@ module _ (structures : List Structure) (layer_map : LayerMap) (nodes : List (Vec
       known = known;
       weighed = λ one h. let d = told.done one (omega (arith, nodes_long)) in let weight = told.settled.are_true one d.0 d.1 in (weight.0, weight.1);
     }
+
+    pub all_end : (states : List State) → AreAllDone nodes states → (one : ℕ) → one < length structures → IsEndless structures one → ⊥
+    all_end states told one within = let w = (surveyed_of states told).weighed one within in chains_end structures layer_map nodes are_nodes one w.0 w.1
 
 pub done_by : {structures : List Structure} {nodes : List (Vec Part Global)} {states : Vec State Global} → Answers Memory (SurveysAll nodes structures) (Ok states) → AreAllDone nodes states.items
 done_by (gives done) = done

@@ -1,97 +1,108 @@
--- the top: the structure of the wanted name, or the one that is not marked, where those are marked to which parts lead
-use Rattle.std.proofs.Common.{ℕ, ◌<◌, ◌≡◌, Result, Ok, Err, inl, inr, Bool, List, length, Vec, Option, Some, None, refl, sym, subst, ◌∙◌, arith, IsSome}
+-- the top: the structure of the wanted name, or the only one of the tops
+use Rattle.std.proofs.Common.{ℕ, suc, ◌<◌, ◌≤◌, ◌≡◌, Result, Ok, Err, inl, inr, List, [], ◌∷◌, length, get_or, Option, Some, None, refl, sym, subst, arith, IsSome, All}
 use Rattle.std.specs.Prelude.{IfOk, IfErr}
-use Rattle.lists.proofs.Words.{Global, AllZip-long}
 use Rattle.first_refusal.specs.Answers.{Answers, gives}
 use Rattle.first_refusal.specs.Checks.{all_hold}
 use Rattle.library_model.specs.Names.{names_of, place_of}
 use Rattle.library_model.specs.declared.library.Structure.{Structure}
-use Rattle.map_model.specs.MapNames.{LayerMap}
-use Rattle.flatten.specs.Structures.{numbers_of, targets_of}
+use Rattle.flatten.specs.Structures.{all_references, numbers_of, offset_of}
 use Rattle.flatten.specs.ReferenceChains.{IsEndless}
-use Rattle.flatten.specs.Tops.{IsTop, IsUnnamed, IsOnlyUnnamed, IsNoOtherTop, HasTop}
-use Rattle.flatten.specs.inside.Marks.{IsMarked, IsOnlyUnmarked, IsTopFault, all_marked, second_unmarked}
-use Rattle.flatten.specs.inside.FollowedParts.{LeadsTo, parts_at}
-use Rattle.flatten.specs.inside.Plans.{AreSurveyed, Chooses, IsChosen}
-use Rattle.flatten.specs.declared.part.Part.{Part}
+use Rattle.flatten.specs.Tops.{AreTops, IsTop, IsUnnamed, IsOnlyUnnamed, IsNoOtherTop, HasTop}
+use Rattle.flatten.specs.inside.FollowedParts.{IsKnown}
+use Rattle.flatten.specs.inside.Marks.{IsTopFault, all_named, second_unnamed}
+use Rattle.flatten.specs.inside.Plans.{Chooses, IsChosen}
 use Rattle.flatten.specs.declared.fault.PlaceFault.{PlaceFault}
-use Rattle.flatten.specs.declared.fault.PlaceFault.TheVariants.{NoTop, Memory}
-use Rattle.lists.proofs.Comparing.{equal_or_not}
-use Rattle.lists.proofs.Mapping.{Contains-flat_map, Contains-flat_map_from}
+use Rattle.flatten.specs.declared.fault.PlaceFault.TheVariants.{NoTop, ManyTops, Memory}
+use Rattle.lists.proofs.Containing.{Contains-cons_cases, Contains-head, Contains-none, Contains-one, Contains-tail}
 use Rattle.flatten.proofs.ChoiceLaws.{all_checks, many_refused, none_refused}
-use Rattle.flatten.proofs.GraphLaws.{chains_end, leads, leads_back, named_within}
-use Rattle.flatten.proofs.MarkLaws.{leads_within}
-use Rattle.flatten.proofs.NumberLaws.{number_below, number_there}
+use Rattle.flatten.proofs.GraphLaws.{named_within}
+use Rattle.flatten.proofs.NumberLaws.{number_below}
 use Rattle.flatten.proofs.ChainLaws.{some_bound, some_unnamed}
 
 -- the number of the top is chosen
 abbrev pub Answer : List Structure → Option (List ℕ) → Result ℕ PlaceFault → Type 0
 Answer structures wanted = Answers Memory (Chooses structures wanted (IsChosen structures wanted))
 
-module _ {structures : List Structure} {layer_map : LayerMap} {nodes : List (Vec Part Global)} (surveyed : AreSurveyed structures layer_map nodes) where
-  ends : (one : ℕ) → one < length structures → IsEndless structures one → ⊥
-  ends one within = let w = surveyed.weighed one within in chains_end structures layer_map nodes surveyed.nodes_are one w.0 w.1
-
+module _ (structures : List Structure) (known : All (IsKnown (names_of structures)) (all_references structures)) (ends : (one : ℕ) → one < length structures → IsEndless structures one → ⊥) where
   chosen : (wanted : Option (List ℕ)) (top : ℕ) → top < length structures → HasTop structures wanted → ((one : ℕ) → one < length structures → IsNoOtherTop structures wanted one)
       → IsTop structures wanted top → Answer structures wanted (Ok top)
   chosen wanted top within some alone is =
-      let all = all_checks structures wanted (IsChosen structures wanted) surveyed.known ends some alone in gives (all_hold all (within, all_hold all is))
+      let all = all_checks structures wanted (IsChosen structures wanted) known ends some alone in gives (all_hold all (within, all_hold all is))
 
   -- a wanted top: the structure of the name, or none
   pub name_chosen : (name : List ℕ) (top : ℕ) → place_of (names_of structures) name ≡ Some top → Answer structures (Some name) (Ok top)
   name_chosen name top is = chosen (Some name) top (named_within structures name top is) (rw is refl) (λ one within. tt) is
 
   pub name_refused : (name : List ℕ) → place_of (names_of structures) name ≡ None → Answer structures (Some name) (Err NoTop)
-  name_refused name none = none_refused structures (Some name) _ surveyed.known ends (λ some. let no = subst IsSome none some in cc no)
+  name_refused name none = none_refused structures (Some name) _ known ends (λ some. let no = subst IsSome none some in cc no)
 
-  module _ (marks : List Bool) (marked : (other one : ℕ) → LeadsTo (parts_at nodes other) one → IsMarked marks one) (only : (one : ℕ) → IsMarked marks one → (other : ℕ)
-      × LeadsTo (parts_at nodes other) one) where
-    -- no reference leads to what is not marked
-    unnamed : (one : ℕ) → (IsMarked marks one → ⊥) → IsUnnamed structures one
-    unnamed one unmarked there =
-        let from = Contains-flat_map_from (targets_of structures) (numbers_of structures) one there in
-        unmarked (marked from.0 one (leads_back structures layer_map nodes surveyed.nodes_are from.0 one from.2))
+  -- the only structure to which no reference leads, or why there is none
+  only_chosen : (top : ℕ) → IsOnlyUnnamed structures top → Answer structures None (Ok top)
+  only_chosen top is = chosen None top is.there (let h = is.there in omega arith)
+      (λ one within free other before other_free.
+      let same : one ≡ top = is.only one within free in let also : other ≡ top = is.only other (omega arith) other_free in omega arith) is
 
-    -- and one leads to what is
-    is_named : (one : ℕ) → IsMarked marks one → IsUnnamed structures one → ⊥
-    is_named one mark free =
-        let from = only one mark in
-        let long : length nodes ≡ length structures = AllZip-long _ structures nodes surveyed.nodes_are in
-        let within : from.0 < length structures = omega (arith, leads_within nodes from.0 one from.1) in
-        free (Contains-flat_map (targets_of structures) (numbers_of structures) from.0 one (number_there (length structures) from.0 within)
-        (leads structures layer_map nodes surveyed.nodes_are from.0 one from.1))
+  -- where references lead to all there is no structure
+  none_there : ((one : ℕ) → one < length structures → IsUnnamed structures one → ⊥) → HasTop structures None → ⊥
+  none_there all some =
+      some_bound structures (numbers_of structures) (λ one there. ends one (number_below (length structures) one there))
+      (λ most longest. some_unnamed structures most longest all 0 some)
 
-    -- where others before it are marked but one, that one is the first to which none leads
-    alone : (count first : ℕ) → IsOnlyUnmarked count marks first → (one : ℕ) → one < count → IsNoOtherTop structures None one
-    alone count first is_only one below free other before other_free =
-        elim (equal_or_not one first) [
-          | inr apart ↦ is_named one (is_only.others one below apart) free
-          | inl e ↦ is_named other (is_only.others other (omega arith) (λ f. absurd (let same : other ≡ one = f ∙ sym e in omega arith))) other_free
-        ]
+  fault_refused : (fault : PlaceFault) → IsTopFault structures fault → Answer structures None (Err fault)
+  fault_refused fault (all_named all) = none_refused structures None _ known ends (none_there all)
+  fault_refused fault (second_unnamed {number = number} within before fails) = many_refused structures None _ known ends (omega arith) number within before fails
 
-    -- the only structure that is not marked is the top
-    unmarked_chosen : (top : ℕ) → IsOnlyUnmarked (length structures) marks top → Answer structures None (Ok top)
-    unmarked_chosen top is_only = chosen None top is_only.below (let h = is_only.below in omega arith) (alone (length structures) top is_only) only_top
-      where
-        only_top : IsOnlyUnnamed structures top
-        only_top = record {
-          there = is_only.below;
-          unnamed = unnamed top is_only.unmarked;
-          only = λ other within free. elim (equal_or_not other top) [ inl e ↦ e | inr apart ↦ absurd (is_named other (is_only.others other within apart) free) ];
-        }
+  pub tops_tell : (result : Result ℕ PlaceFault) → IfOk result (IsOnlyUnnamed structures) → IfErr result (IsTopFault structures) → Answer structures None result
+  tops_tell (Ok top) only fault = only_chosen top only
+  tops_tell (Err fault) only is_fault = fault_refused fault is_fault
 
-    -- where all are marked there is no structure
-    none_there : ((one : ℕ) → one < length structures → IsMarked marks one) → HasTop structures None → ⊥
-    none_there all some =
-        some_bound structures (numbers_of structures) (λ one there. ends one (number_below (length structures) one there))
-        (λ most longest. some_unnamed structures most longest (λ one within free. is_named one (all one within) free) 0 some)
+-- what the tops tell, by how many they are
+module _ (structures : List Structure) where
+  pub none_is : (tops : List ℕ) → AreTops structures tops → length tops ≡ 0 → IsTopFault structures NoTop
+  none_is [] are none = all_named (λ one within free. Contains-none ((are.each one).1 (within, free)))
+  none_is (top ∷ tops) are none = absurd (omega arith)
 
-    marks_refused : (fault : PlaceFault) → IsTopFault structures marks fault → Answer structures None (Err fault)
-    marks_refused fault (all_marked all) = none_refused structures None _ surveyed.known ends (none_there all)
-    marks_refused fault (second_unmarked {number = number} {first = first} within unmarked is_only) =
-        many_refused structures None _ surveyed.known ends (omega arith) number within (λ one h. alone number first is_only one h)
-        (λ no_other. no_other (unnamed number unmarked) first is_only.below (unnamed first is_only.unmarked))
+  pub only_is : (tops : List ℕ) → AreTops structures tops → 0 < length tops → length tops ≤ 1 → IsOnlyUnnamed structures (get_or tops 0 0)
+  only_is [] are some few = absurd (omega arith)
+  only_is (top ∷ []) are some few = let is = (are.each top).0 (Contains-head top []) in record {
+    there = is.0;
+    unnamed = is.1;
+    only = λ other within free. sym (Contains-one top other ((are.each other).1 (within, free)));
+  }
+  only_is (first ∷ second ∷ tops) are some few = absurd (omega arith)
 
-    pub marks_tell : (result : Result ℕ PlaceFault) → IfOk result (IsOnlyUnmarked (length structures) marks) → IfErr result (IsTopFault structures marks) → Answer structures None result
-    marks_tell (Ok top) is_only fault = unmarked_chosen top is_only
-    marks_tell (Err fault) is_only is_fault = marks_refused fault is_fault
+  module _ (first second : ℕ) (tops : List ℕ) (are : AreTops structures (first ∷ second ∷ tops)) where
+    first_below : first < second
+    first_below = are.rising 0 1 0 (omega arith) (omega arith)
+
+    second_below : (k : ℕ) (one : ℕ) → k < length tops → second < get_or tops k one
+    second_below k one within = are.rising 1 (suc (suc k)) one (omega arith) (omega arith)
+
+    second_free : (second < length structures) × IsUnnamed structures second
+    second_free = (are.each second).0 (Contains-tail first (second ∷ tops) second (Contains-head second tops))
+
+    -- no top but the first comes before the second
+    is_first : (one : ℕ) → one < second → IsUnnamed structures one → one ≡ first
+    is_first one less free = elim (Contains-cons_cases first (second ∷ tops) one ((are.each one).1 (let h = second_free.0 in omega arith, free))) [
+      | inl same ↦ sym same
+      | inr behind ↦ elim (Contains-cons_cases second tops one behind) [
+        | inl same ↦ absurd (omega arith)
+        | inr (k, within, is) ↦ absurd (let h = second_below k one within in omega arith)
+      ]
+    ]
+
+    pub second_told : IsTopFault structures (ManyTops (offset_of structures second))
+    second_told = second_unnamed second_free.0
+        (λ other less free earlier before earlier_free.
+        let same : other ≡ first = is_first other less free in let also : earlier ≡ first = is_first earlier (omega arith) earlier_free in omega arith)
+        (λ alone. alone second_free.1 first first_below ((are.each first).0 (Contains-head first (second ∷ tops))).1)
+
+  pub second_there : (tops : List ℕ) → AreTops structures tops → 1 < length tops → get_or tops 1 0 < length structures
+  second_there [] are many = absurd (omega arith)
+  second_there (top ∷ []) are many = absurd (omega arith)
+  second_there (first ∷ second ∷ tops) are many = (second_free first second tops are).0
+
+  pub second_is : (tops : List ℕ) → AreTops structures tops → 1 < length tops → IsTopFault structures (ManyTops (offset_of structures (get_or tops 1 0)))
+  second_is [] are many = absurd (omega arith)
+  second_is (top ∷ []) are many = absurd (omega arith)
+  second_is (first ∷ second ∷ tops) are many = second_told first second tops are

@@ -1,5 +1,5 @@
 -- the top: the structure whose placements are wanted
-use Rattle.std.specs.Prelude.{ℕ, List, ◌≡◌, ◌<◌, ◌≤◌, length, Contains, Option, Some, None, IsSome}
+use Rattle.std.specs.Prelude.{ℕ, List, ◌≡◌, ◌<◌, ◌≤◌, ◌↔◌, length, AllPairs, Contains, Option, Some, None, IsSome}
 use Rattle.library_model.specs.Names.{names_of, place_of}
 use Rattle.library_model.specs.declared.library.Structure.{Structure}
 use Rattle.flatten.specs.Structures.{all_targets}
@@ -7,6 +7,11 @@ use Rattle.flatten.specs.Structures.{all_targets}
 -- no reference of the library leads to the structure
 abbrev pub IsUnnamed : List Structure → ℕ → Type 0
 IsUnnamed structures one = Contains (all_targets structures) one → ⊥
+
+-- these are the structures to which no reference of the library leads, in rising order
+pub record AreTops (structures : List Structure) (tops : List ℕ) : Type 0 where
+  pub each : (one : ℕ) → Contains tops one ↔ ((one < length structures) × IsUnnamed structures one)
+  pub rising : AllPairs (λ one other. one < other) tops
 
 -- no reference of the library leads to this structure, and one leads to each other
 pub record IsOnlyUnnamed (structures : List Structure) (one : ℕ) : Type 0 where

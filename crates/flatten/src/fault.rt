@@ -3,29 +3,36 @@ ghost use Rattle.flatten.specs.declared.fault.PlaceFault.TheVariants.{Memory};
 
 use lists::NoMemory;
 use std::alloc::{AllocError, AllocFailed};
-use std::fmt;
 use thiserror::Error;
 
 /// Why a library's shapes are not placed. What comes first here comes first where there is more than one reason.
 #[derive(Clone, Copy, Debug, PartialEq, Eq, Error)]
 pub enum PlaceFault {
     /// The reference at this offset names no structure of the library: the first such, whether the top reaches it or not.
+    #[error("the reference at byte {at} names no structure")]
     UnknownStructure { at: u32 },
     /// References lead on without end from the structure at this offset: the first such.
+    #[error("the structure at byte {at} leads to a cycle of references")]
     Cycle { at: u32 },
     /// No structure has the wanted name, or the library has no structure.
+    #[error("there is no such structure")]
     NoTop,
     /// No name is wanted, and more than one structure is named by no reference. The second of them is at this offset.
+    #[error("the structure at byte {at} is another that no reference names")]
     ManyTops { at: u32 },
     /// A chain of more than 256 references begins at the top, which is at this offset.
+    #[error("the structure at byte {at} begins too long a chain of references")]
     TooDeep { at: u32 },
     /// The top, which is at this offset, places more than 1,000,000 shapes on mapped layers, or more than 8,000,000
     /// points in them.
+    #[error("the structure at byte {at} places too many shapes or points")]
     TooManyShapes { at: u32 },
     /// A point of the shape at this offset is placed more than 1,000,000,000 from 0 in a coordinate: the first such, in
     /// the order of the placed shapes.
+    #[error("the shape at byte {at} is placed out of range")]
     OutOfRange { at: u32 },
     /// No memory is left, which says nothing of the library.
+    #[error("no memory is left")]
     Memory,
 }
 
@@ -62,38 +69,6 @@ impl PlaceFault {
             | PlaceFault::TooManyShapes { at }
             | PlaceFault::OutOfRange { at } => u64::from(*at),
             PlaceFault::NoTop | PlaceFault::Memory => 0,
-        }
-    }
-
-    /// What is at the offset and what is wrong with it, for a fault that has an offset.
-    fn words(&self) -> (&'static str, &'static str) {
-        match self {
-            PlaceFault::NoTop | PlaceFault::Memory => ("", ""),
-            PlaceFault::UnknownStructure { .. } => ("the reference", " names no structure"),
-            PlaceFault::Cycle { .. } => ("the structure", " leads to a cycle of references"),
-            PlaceFault::ManyTops { .. } => ("the structure", " is another that no reference names"),
-            PlaceFault::TooDeep { .. } => (
-                "the structure",
-                " begins too long a chain of references",
-            ),
-            PlaceFault::TooManyShapes { .. } => (
-                "the structure",
-                " places too many shapes or points",
-            ),
-            PlaceFault::OutOfRange { .. } => ("the shape", " is placed out of range"),
-        }
-    }
-}
-
-impl fmt::Display for PlaceFault {
-    fn fmt<W: fmt::Write>(&self, f: &mut fmt::Formatter<W>) -> fmt::Result {
-        match self {
-            PlaceFault::NoTop => f.write_str("there is no such structure"),
-            PlaceFault::Memory => f.write_str("no memory is left"),
-            _ => {
-                let (what, wrong) = self.words();
-                write!(f, "{what} at byte {}{wrong}", self.place())
-            }
         }
     }
 }

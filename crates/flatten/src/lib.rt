@@ -40,3 +40,5 @@ pub use fault::PlaceFault;
 pub use motion::Motion;
 pub use placed::Placed;
 pub use placing::place;
+pub use summing::copies;
+pub use tops::tops_of;

@@ -1,18 +1,19 @@
-ghost use Rattle.std.specs.Prelude.{◌<◌, ◌^◌, All, length, option_copied};
+ghost use Rattle.std.specs.Prelude.{ℕ, ◌<◌, ◌^◌, All, length, option_copied};
 ghost use Rattle.lists.specs.Differing.{AreDifferent};
 ghost use Rattle.library_model.specs.Names.{names_of};
-ghost use Rattle.map_model.specs.LayerMap.{LayerMap};
 ghost use Rattle.map_model.specs.MapView.{layer_map_of};
 ghost use Rattle.first_refusal.specs.Answers.{Answers};
-ghost use Rattle.flatten.specs.inside.Plans.{AreIndexed, AreSurveyed, Chooses, IsChosen, IsPlan};
+ghost use Rattle.flatten.specs.Structures.{all_references};
+ghost use Rattle.flatten.specs.ReferenceChains.{IsEndless};
+ghost use Rattle.flatten.specs.inside.FollowedParts.{IsKnown};
+ghost use Rattle.flatten.specs.inside.Plans.{AreIndexed, Chooses, IsChosen, IsPlan};
 
 use super::fault::PlaceFault;
-use super::marks::marks_of;
 use super::part::Part;
 use super::parts::nodes_of;
 use super::summary::State;
 use super::survey::survey;
-use super::tops::only_unmarked;
+use super::tops::{only_top, tops_with};
 use library_model::{Library, NameIndex, Structure};
 use map_model::Map;
 use std::alloc::Global;
@@ -21,12 +22,12 @@ use std::alloc::Global;
 fn top_of(
     alloc: Global,
     structures: &[Structure],
-    nodes: &[Vec<Part<'_>>],
     index: &NameIndex<'_>,
     wanted: Option<&[u8]>,
 ) -> Result<u32, PlaceFault>
     requires indexed { AreIndexed structures.now index.now }
-    requires surveyed { (layer_map : LayerMap) × AreSurveyed structures.now layer_map nodes.now }
+    requires known { All (IsKnown (names_of structures.now)) (all_references structures.now) }
+    requires ends { (one : ℕ) → one < length structures.now → IsEndless structures.now one → ⊥ }
     ensures { Answers PlaceFault.Memory (Chooses structures.now (option_copied wanted.entry)
         (IsChosen structures.now (option_copied wanted.entry))) result }
 {
@@ -36,8 +37,8 @@ fn top_of(
             None => Err(PlaceFault::NoTop),
         },
         None => {
-            let marks = marks_of(alloc, nodes)?;
-            only_unmarked(structures, marks.as_slice())
+            let tops = tops_with(alloc, structures, index)?;
+            only_top(structures, tops.as_slice())
         }
     }
 }
@@ -68,7 +69,7 @@ fn plan_with<'a>(
 {
     let nodes = nodes_of(alloc, structures, map, index)?;
     let states = survey(alloc, structures, &nodes)?;
-    let top = top_of(alloc, structures, &nodes, index, wanted)?;
+    let top = top_of(alloc, structures, index, wanted)?;
     Ok(Plan { nodes, states, top })
 }
 

@@ -1,6 +1,7 @@
 ghost use Rattle.std.specs.Prelude.{ℕ, [], ◌∷◌, ◌+◌, ◌≡◌, ◌≤◌, ◌<◌, ◌*◌, ◌^◌, length};
 ghost use Rattle.flatten.specs.inside.FollowedParts.{AreBelow};
-ghost use Rattle.flatten.specs.inside.Weights.{Weight, IsKept, StandsFor, both_weights, copies_of, kept_of, no_weight, weight_of, times_weight, weight_over};
+ghost use Rattle.flatten.specs.Steps.{columns_of, rows_of};
+ghost use Rattle.flatten.specs.inside.Weights.{Weight, IsKept, StandsFor, both_weights, kept_of, no_weight, weight_of, times_weight, weight_over};
 ghost use Rattle.flatten.specs.inside.Surveys.{AreWeighed};
 
 use super::limits::{MOST_POINTS, MOST_STEPS};
@@ -10,7 +11,7 @@ use library_model::Reference;
 
 /// How many copies a reference makes: one, unless it is an array.
 pub fn copies(reference: &Reference) -> u64
-    ensures value { result ≡ copies_of reference.now }
+    ensures value { result ≡ rows_of reference.now.lattice * columns_of reference.now.lattice }
     ensures few { result < 2 ^ 30 }
 {
     match &reference.lattice {

@@ -6,3 +6,4 @@ mod limits;
 mod rows;
 mod stream;
 mod texts;
+mod tops;

@@ -44,7 +44,7 @@ fn the_map_has_this_text(rt: HostRuntime) {
 fn is_wanted(map: &Map) -> bool {
     map.metals.as_slice().len() == 2
         && map.cuts.as_slice().len() == 1
-        && map.radii.as_slice().len() == 2
+        && map.sizes.as_slice().len() == 2
         && map.terminals.as_slice().len() == 2
 }
 

@@ -1,6 +1,6 @@
 //! Streams of a few structures, and what they place.
 
-use flatten::{PlaceFault, Placed, place};
+use flatten::{PlaceFault, Placed, place, tops_of};
 use gds_syntax::read_library;
 use map_model::{Map, one_metal};
 use samples::layouts::{Corner, push_points};
@@ -189,4 +189,21 @@ pub fn comes_to(
 /// Whether a library of these structures comes to that.
 pub fn structures_come_to(alloc: Global, structures: &[Structure<'_>], wanted: Outcome) -> bool {
     comes_to(alloc, library_of(alloc, structures), None, wanted)
+}
+
+/// Whether these are the numbers of the structures of a library that no reference names.
+pub fn tops_are(alloc: Global, structures: &[Structure<'_>], wanted: &[u32]) -> bool {
+    let Ok(bytes) = ended(library_of(alloc, structures)) else {
+        return false;
+    };
+    if bytes.len() > 268_435_456 {
+        return false;
+    }
+    match read_library(alloc, bytes.as_slice()) {
+        Ok(library) => match tops_of(alloc, &library) {
+            Ok(tops) => tops.as_slice() == wanted,
+            Err(_) => false,
+        },
+        Err(_) => false,
+    }
 }

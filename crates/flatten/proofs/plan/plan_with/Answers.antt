@@ -3,7 +3,7 @@ use Rattle.first_refusal.proofs.AnswerLaws.{handed_on}
 use Rattle.first_refusal.proofs.JudgeLaws.{given, passed, unread}
 use Rattle.map_model.specs.MapNames.{layer_map_of}
 use Rattle.flatten.proofs.ChoiceLaws.{chosen_by, unknown_refused}
-use Rattle.flatten.proofs.PlanLaws.{nodes_long, nodes_below, cycle_of, done_by, surveyed_of}
+use Rattle.flatten.proofs.PlanLaws.{all_end, nodes_long, nodes_below, cycle_of, done_by, surveyed_of}
 use Rattle.flatten.proofs.plan.plan_with.Goals as goal
 
 pub returns-in_err-nodes : goal.returns-in_err-nodes
@@ -27,11 +27,14 @@ returns-in_err-states c =
     (cycle_of c.args.structures.now (layer_map_of c.args.map.now) c.in_ok-nodes.nodes.items (given told) (passed told) (option_copied c.args.wanted) _ c.in_err-states.field-0.0
     (rw c.deref.ensures.value at c.in_err-states.ensures.answers))
 
-pub top_of-requires-clause-surveyed : goal.top_of-requires-clause-surveyed
-top_of-requires-clause-surveyed c =
+pub top_of-requires-clause-known : goal.top_of-requires-clause-known
+top_of-requires-clause-known c = passed (rw c.requires.indexed.names at c.in_ok-nodes.ensures)
+
+pub top_of-requires-clause-ends : goal.top_of-requires-clause-ends
+top_of-requires-clause-ends c =
     let told = rw c.requires.indexed.names at c.in_ok-nodes.ensures in
     let done = done_by (rw c.deref.ensures.value at c.in_ok-states.ensures.answers) in
-    (layer_map_of c.args.map.now, rw c.deref-2.ensures.value (surveyed_of c.args.structures.now _ c.in_ok-nodes.nodes.items (given told) (passed told) c.in_ok-states.states.items done))
+    all_end c.args.structures.now (layer_map_of c.args.map.now) c.in_ok-nodes.nodes.items (given told) (passed told) c.in_ok-states.states.items done
 
 pub returns-in_err-top : goal.returns-in_err-top
 returns-in_err-top c = handed_on _ _ c.from_residual-in_err-top.result _ c.from_residual-in_err-top.ensures.1 (unread _ _ _ _ _ c.in_err-top.field-0.0 c.in_err-top.ensures)
