@@ -9,11 +9,11 @@ use Rattle.command_line.specs.declared.option_name.OptionName.TheVariants.{Map, 
 use Rattle.command_line.specs.declared.request.Request.{Request}
 use Rattle.command_line.specs.declared.task.Task.{Task}
 use Rattle.command_line.specs.inside.Arguments.{AreSingle}
-use Rattle.command_line.specs.inside.WordsRefusals.{HasCause}
+use Rattle.command_line.specs.inside.WordsRefusals.{HasCause, IsFirstCause}
 use Rattle.command_line.specs.OptionNames.{Text}
 use Rattle.command_line.specs.Requests.{Ask, GiveNoOther, HasNoEmptyText, IsNumberOnce, IsNumberOrDefault, IsTextIfGiven, as_given as number_given, left_out, IsTask, of_one_metal, of_map, of_generator, options_for, IsRequestOf, values_of}
 use Rattle.command_line.specs.Spelling.{Given, AreSpelled}
-use Rattle.command_line.specs.WordsCauses.{StopFor, IsCauseOf, bad_number, no_layout, layout_beside_generate, beside_generate, beside_map, missing, no_metals, IsCauseIn, of_values, IsCause, not_spelled, as_given, metal_options}
+use Rattle.command_line.specs.WordsCauses.{IsCauseOf, bad_number, no_layout, layout_beside_generate, beside_generate, beside_map, missing, no_metals, metal_options}
 use Rattle.command_line.proofs.SpellingLaws.{spellings_agree}
 
 -- ---- the same values ask for the same
@@ -45,13 +45,19 @@ module _ (v w : OptionName → List Text) (p q : List Text) (same : (name : Opti
   cause_moved cause (layout_beside_generate one columns) = layout_beside_generate (sym at ∙ one) (λ none. columns (same Generate ∙ none))
   cause_moved cause (beside_generate {name = name} columns listed some) = beside_generate (λ none. columns (same Generate ∙ none)) listed (λ none. some (same name ∙ none))
   cause_moved cause (beside_map {name = name} map listed some) = beside_map (λ none. map (same Map ∙ none)) listed (λ none. some (same name ∙ none))
-  cause_moved cause (missing {name = name} map columns listed none) = missing (sym (same Map) ∙ map) (sym (same Generate) ∙ columns) listed (sym (same name) ∙ none)
+  cause_moved cause (missing {name = name} map columns listed none one) = missing (sym (same Map) ∙ map) (sym (same Generate) ∙ columns) listed (sym (same name) ∙ none)
+      (record { name = one.name; listed = one.listed; given = λ none. one.given (same one.name ∙ none) })
   cause_moved cause (no_metals map columns none) = no_metals (sym (same Map) ∙ map) (sym (same Generate) ∙ columns)
       (All-weaker (λ name. v name ≡ []) (λ name. w name ≡ []) (λ name e. sym (same name) ∙ e) metal_options none)
 
-  pub refusal_moved : (refusal : Refusal) → HasCause (IsCauseOf v p) refusal → HasCause (IsCauseOf w q) refusal
-  refusal_moved (Words cause) = cause_moved cause
-  refusal_moved Memory = λ _. tt
+-- the same values have the same first causes
+module _ (v w : OptionName → List Text) (p q : List Text) (same : (name : OptionName) → v name ≡ w name) (at : p ≡ q) where
+  pub refusal_moved : (refusal : Refusal) → HasCause (IsFirstCause (IsCauseOf v p)) refusal → HasCause (IsFirstCause (IsCauseOf w q)) refusal
+  refusal_moved (Words cause) told = record {
+    is = cause_moved v w p q same at cause told.is;
+    first = λ other is. told.first other (cause_moved w v q p (λ name. sym (same name)) (sym at) other is);
+  }
+  refusal_moved Memory told = tt
 
 -- ---- what words are refused for
 
@@ -59,20 +65,6 @@ module _ (v w : OptionName → List Text) (p q : List Text) (same : (name : Opti
 pub refused : {T : Type 0} (r : Result T Refusal) (other : Refusal) (P : Refusal → Type 0) → IsErrAnd r (λ refusal. refusal ≡ other) → P other → IfErr r P
 refused (Ok v) other P is has = tt
 refused (Err refusal) other P is has = subst P (sym is) has
-
-module _ (words : List Text) where
-  pub stop_told : (refusal : Refusal) → HasCause (StopFor words) refusal → HasCause (IsCause words) refusal
-  stop_told (Words cause) = not_spelled
-  stop_told Memory = λ _. tt
-
-  module _ (given : Given) (spelled : AreSpelled words given) where
-    pub given_told : (refusal : Refusal) → HasCause (IsCauseIn given) refusal → HasCause (IsCause words) refusal
-    given_told (Words cause) = as_given spelled
-    given_told Memory = λ _. tt
-
-    pub values_told : (refusal : Refusal) → HasCause (IsCauseOf (values_of given.options) given.positions) refusal → HasCause (IsCause words) refusal
-    values_told (Words cause) is = as_given spelled (of_values is)
-    values_told Memory is = tt
 
 -- ---- what is asked for is given once
 

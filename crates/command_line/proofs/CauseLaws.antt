@@ -1,23 +1,28 @@
--- words that have a cause why they ask for nothing ask for nothing
-use Rattle.std.proofs.Common.{ℕ, List, [], ◌∷◌, ◌++◌, ◌≡◌, ◌≢◌, ◌∙◌, sym, ap, refl, arith, All, Contains, Some, None, Option, codes, drop, length, subst, append_assoc, false}
-use Rattle.lists.proofs.Words.{flat_map, All-cons, All-contains, All-head, All-nil}
+-- words that have a cause why they ask for nothing ask for nothing, and which of several causes is told
+use Rattle.std.proofs.Common.{ℕ, ◌≤◌, ◌<◌, List, [], ◌∷◌, ◌++◌, ◌≡◌, ◌≢◌, ◌∙◌, sym, ap, refl, arith, All, Contains, Some, None, Option, codes, drop, length, lit<, subst, append_assoc, false}
+use Rattle.lists.proofs.Words.{flat_map, All-cons, All-contains, All-head, All-nil, All-tail}
+use Rattle.first_refusal.specs.Laws.{IsUnique}
+use Rattle.command_line.specs.declared.cause.Refusal.{Refusal}
+use Rattle.command_line.specs.declared.cause.Refusal.TheVariants.{Words, Memory}
 use Rattle.command_line.specs.declared.cause.WordsCause.{WordsCause}
-use Rattle.command_line.specs.declared.cause.WordsCause.TheVariants.{NoLayout}
+use Rattle.command_line.specs.declared.cause.WordsCause.TheVariants.{NoWords, NoOption, NoValue, NoLayout}
 use Rattle.command_line.specs.declared.option_name.OptionName.{OptionName}
 use Rattle.command_line.specs.declared.option_name.OptionName.TheVariants.{Map, Top, Tile, Workers, Layer, Datatype, Radius, Generate}
 use Rattle.command_line.specs.declared.range.NumberRange.{NumberRange}
 use Rattle.command_line.specs.declared.request.Request.{Request}
 use Rattle.command_line.specs.declared.task.Task.{Task}
-use Rattle.command_line.specs.inside.Arguments.{HasRead}
+use Rattle.command_line.specs.inside.Arguments.{AreSingle, HasRead}
+use Rattle.command_line.specs.inside.WordsRefusals.{HasCause, IsFirstCause, IsOfForm}
 use Rattle.command_line.specs.Numbers.{IsNumber}
 use Rattle.command_line.specs.OptionNames.{Text, range_of}
-use Rattle.command_line.specs.Requests.{Ask, GiveNoOther, IsNotEmpty, IsNumberOnce, IsNumberOrDefault, as_given as number_given, left_out, IsTask, of_one_metal, of_map, of_generator, options_for, IsRequestOf, is_one_of, permitted, permitted_on_files, values_of}
+use Rattle.command_line.specs.Requests.{Ask, GiveNoOther, HasNoEmptyText, IsNotEmpty, IsNumberOnce, IsNumberOrDefault, as_given as number_given, left_out, IsTask, of_one_metal, of_map, of_generator, options_for, IsRequestOf, is_one_of, permitted, permitted_on_files, values_of}
 use Rattle.command_line.specs.Spelling.{Argument, in_one_word, in_two_words, positional, Given, AreSpelled, IsClearlySpelled, IsPlain, last_words, name_word, whole_word, words_of}
-use Rattle.command_line.specs.WordsCauses.{BeginWithNone, no_option, no_value, dashed_value, StopFor, IsCauseOf, bad_number, no_layout, layout_beside_generate, beside_generate, beside_map, missing, no_metals, IsCauseIn, empty_value, empty_layout, twice, two_layouts, of_values, IsCause, no_words, not_spelled, as_given, file_options, metal_options}
+use Rattle.command_line.specs.WordsCauses.{BeginWithNone, no_option, no_value, dashed_value, StopFor, IsCauseOf, bad_number, no_layout, layout_beside_generate, beside_generate, beside_map, missing, no_metals, IsCauseIn, empty_value, empty_layout, twice, two_layouts, of_values, IsCause, no_words, not_spelled, as_given, file_options, metal_options, order_of}
 use Rattle.command_line.proofs.AskLaws.{asks_by_texts, asks_for, asks_once}
 use Rattle.command_line.proofs.ReadingLaws.{all_read, nothing_read}
 use Rattle.command_line.proofs.TaskLaws.{one_is_some}
-use Rattle.command_line.proofs.SpellingLaws.{plain_has_no_dashes, whole_is_no_name, no_nameless, Follows, follow}
+use Rattle.command_line.proofs.OrderLaws.{checked}
+use Rattle.command_line.proofs.SpellingLaws.{plain_has_no_dashes, whole_is_no_name, no_nameless, first_is_one, name_word_is, Follows, follow, spellings_agree}
 
 -- ---- words that are not spelled
 
@@ -56,6 +61,40 @@ stop_unspelled words cause stops given spelled = go f.more f.clear f.rest_is whe
   go (a ∷ others) clear r =
       no_first stops.rest (flat_map words_of others ++ last_words spelled.last) cause stops.stop a (All-head IsClearlySpelled a others clear)
       (r ∙ append_assoc (words_of a) (flat_map words_of others) (last_words spelled.last))
+
+-- where words begin with no argument, there is one cause
+begin_one : (rest : List Text) (one other : WordsCause) → BeginWithNone rest one → BeginWithNone rest other → one ≡ other
+begin_one rest one other (no_option {word = w} e none) (no_option {word = v} f too) = let same : w ≡ v = let s = sym e ∙ f in cc s in ap (λ t. NoOption t) same
+begin_one rest one other (no_option {word = w} e none) (no_value {name = m} f) = let same : w ≡ name_word m = let s = sym e ∙ f in cc s in absurd (none.no_name m same)
+begin_one rest one other (no_option {word = w} e none) (dashed_value {name = m} f dashed) = let same : w ≡ name_word m = let s = sym e ∙ f in cc s in absurd (none.no_name m same)
+begin_one rest one other (no_value {name = n} e) (no_option {word = v} f none) = let same : v ≡ name_word n = let s = sym f ∙ e in cc s in absurd (none.no_name n same)
+begin_one rest one other (no_value {name = n} e) (no_value {name = m} f) =
+    let same : name_word n ≡ name_word m = let s = sym e ∙ f in cc s in ap (λ (name : OptionName). NoValue name) (name_word_is n m same)
+begin_one rest one other (no_value e) (dashed_value f dashed) = let s = sym e ∙ f in cc s
+begin_one rest one other (dashed_value {name = n} e dashed) (no_option {word = v} f none) = let same : v ≡ name_word n = let s = sym f ∙ e in cc s in absurd (none.no_name n same)
+begin_one rest one other (dashed_value e dashed) (no_value f) = let s = sym e ∙ f in cc s
+begin_one rest one other (dashed_value {name = n} {value = v} e dashed) (dashed_value {name = m} {value = w} f too) =
+    let word : name_word n ≡ name_word m = let s = sym e ∙ f in cc s in
+    let names : n ≡ m = name_word_is n m word in
+    let values : v ≡ w = let s = sym e ∙ f in cc s in
+    cc (names, values)
+
+-- words stop for one cause at most
+module _ (one other : WordsCause) where
+  one_stop : (read also : List Argument) → All IsClearlySpelled read → All IsClearlySpelled also → (rest more : List Text) → flat_map words_of read ++ rest ≡ flat_map words_of also ++ more
+      → BeginWithNone rest one → BeginWithNone more other → one ≡ other
+  one_stop [] [] p q rest more e a b = begin_one more one other (subst (λ r. BeginWithNone r one) e a) b
+  one_stop [] (y ∷ ys) p q rest more e a b =
+      absurd (no_first rest (flat_map words_of ys ++ more) one a y (All-head IsClearlySpelled y ys q) (e ∙ append_assoc (words_of y) (flat_map words_of ys) more))
+  one_stop (x ∷ xs) [] p q rest more e a b =
+      absurd (no_first more (flat_map words_of xs ++ rest) other b x (All-head IsClearlySpelled x xs p) (sym e ∙ append_assoc (words_of x) (flat_map words_of xs) rest))
+  one_stop (x ∷ xs) (y ∷ ys) p q rest more e a b =
+      let first = first_is_one x y (flat_map words_of xs ++ rest) (flat_map words_of ys ++ more) (All-head IsClearlySpelled x xs p) (All-head IsClearlySpelled y ys q)
+      (sym (append_assoc (words_of x) (flat_map words_of xs) rest) ∙ e ∙ append_assoc (words_of y) (flat_map words_of ys) more) in
+      one_stop xs ys (All-tail IsClearlySpelled x xs p) (All-tail IsClearlySpelled y ys q) rest more first.1 a b
+
+pub stops_agree : (words : List Text) → IsUnique (StopFor words)
+stops_agree words one other a b = one_stop one other a.arguments b.arguments a.clear b.clear a.rest b.rest (sym a.words_are ∙ b.words_are) a.stop b.stop
 
 -- ---- what options with these values and these positional words ask for
 
@@ -105,29 +144,37 @@ module _ (values : OptionName → List Text) (positions : List Text) where
   fits request asked task (of_generator {columns = n} _ columns) others Generate range value within one none = not_once range (values Generate) value one none 1 500 n within columns
   fits request asked task is others name range value within one none = one_is_some (values name) value one (others name refl)
 
-  -- such a task has none of these causes
+  -- such a task has no cause but a value that is no number
+  no_form : (cause : WordsCause) → IsCauseOf values positions cause → order_of cause < 11 → (task : Task) → IsTask values positions task → GiveNoOther values (options_for task) → ⊥
+  no_form cause (bad_number _ _ _) early task is others = absurd (omega arith)
+  no_form cause (no_layout none no_columns) early task (of_one_metal at _ _ _ _) others = let s = sym none ∙ at in cc s
+  no_form cause (no_layout none no_columns) early task (of_map at _ _) others = let s = sym none ∙ at in cc s
+  no_form cause (no_layout none no_columns) early task (of_generator _ columns) others = one_is_some (values Generate) columns.text columns.once no_columns
+  no_form cause (layout_beside_generate one columns) early task (of_generator none _) others = let s = sym one ∙ none in cc s
+  no_form cause (layout_beside_generate one columns) early task (of_one_metal _ _ _ _ _) others = columns (others Generate refl)
+  no_form cause (layout_beside_generate one columns) early task (of_map _ _ _) others = columns (others Generate refl)
+  no_form cause (beside_generate {name = name} columns listed some) early task (of_generator _ _) others = some (others name (file_is_no_columns name listed))
+  no_form cause (beside_generate columns listed some) early task (of_one_metal _ _ _ _ _) others = columns (others Generate refl)
+  no_form cause (beside_generate columns listed some) early task (of_map _ _ _) others = columns (others Generate refl)
+  no_form cause (beside_map {name = name} map listed some) early task (of_map _ _ _) others = some (others name (metal_is_no_map name listed))
+  no_form cause (beside_map map listed some) early task (of_one_metal _ _ _ _ _) others = map (others Map refl)
+  no_form cause (beside_map map listed some) early task (of_generator _ _) others = map (others Map refl)
+  no_form cause (missing {name = name} no_map no_columns listed none _) early task (of_one_metal {layer = a} {datatype = b} {radius = c} _ layer datatype radius _) others =
+      metal_given a b c layer datatype radius name listed none
+  no_form cause (missing no_map no_columns listed none _) early task (of_map {map = map} _ is _) others = one_is_some (values Map) map is no_map
+  no_form cause (missing no_map no_columns listed none _) early task (of_generator _ columns) others = one_is_some (values Generate) columns.text columns.once no_columns
+  no_form cause (no_metals no_map no_columns none) early task (of_one_metal _ layer _ _ _) others = one_is_some (values Layer) layer.text layer.once (none 0 Layer (omega arith))
+  no_form cause (no_metals no_map no_columns none) early task (of_map {map = map} _ is _) others = one_is_some (values Map) map is no_map
+  no_form cause (no_metals no_map no_columns none) early task (of_generator _ columns) others = one_is_some (values Generate) columns.text columns.once no_columns
+
+  pub task_form : (task : Task) → IsTask values positions task → GiveNoOther values (options_for task) → IsOfForm values positions
+  task_form task is others cause has = let late : order_of cause < 11 → ⊥ = λ early. no_form cause has early task is others in omega (arith, late)
+
+  -- and none at all where it is that of a request
   no_task : (cause : WordsCause) → IsCauseOf values positions cause → (request : Request) → IsRequestOf values positions request → (task : Task) → IsTask values positions task
       → GiveNoOther values (options_for task) → ⊥
   no_task cause (bad_number {name = name} {value = value} {range = range} within one none) request asked task is others = fits request asked task is others name range value within one none
-  no_task cause (no_layout none no_columns) request asked task (of_one_metal at _ _ _ _) others = let s = sym none ∙ at in cc s
-  no_task cause (no_layout none no_columns) request asked task (of_map at _ _) others = let s = sym none ∙ at in cc s
-  no_task cause (no_layout none no_columns) request asked task (of_generator _ columns) others = one_is_some (values Generate) columns.text columns.once no_columns
-  no_task cause (layout_beside_generate one columns) request asked task (of_generator none _) others = let s = sym one ∙ none in cc s
-  no_task cause (layout_beside_generate one columns) request asked task (of_one_metal _ _ _ _ _) others = columns (others Generate refl)
-  no_task cause (layout_beside_generate one columns) request asked task (of_map _ _ _) others = columns (others Generate refl)
-  no_task cause (beside_generate {name = name} columns listed some) request asked task (of_generator _ _) others = some (others name (file_is_no_columns name listed))
-  no_task cause (beside_generate columns listed some) request asked task (of_one_metal _ _ _ _ _) others = columns (others Generate refl)
-  no_task cause (beside_generate columns listed some) request asked task (of_map _ _ _) others = columns (others Generate refl)
-  no_task cause (beside_map {name = name} map listed some) request asked task (of_map _ _ _) others = some (others name (metal_is_no_map name listed))
-  no_task cause (beside_map map listed some) request asked task (of_one_metal _ _ _ _ _) others = map (others Map refl)
-  no_task cause (beside_map map listed some) request asked task (of_generator _ _) others = map (others Map refl)
-  no_task cause (missing {name = name} no_map no_columns listed none) request asked task (of_one_metal {layer = a} {datatype = b} {radius = c} _ layer datatype radius _) others =
-      metal_given a b c layer datatype radius name listed none
-  no_task cause (missing no_map no_columns listed none) request asked task (of_map {map = map} _ is _) others = one_is_some (values Map) map is no_map
-  no_task cause (missing no_map no_columns listed none) request asked task (of_generator _ columns) others = one_is_some (values Generate) columns.text columns.once no_columns
-  no_task cause (no_metals no_map no_columns none) request asked task (of_one_metal _ layer _ _ _) others = one_is_some (values Layer) layer.text layer.once (none 0 Layer (omega arith))
-  no_task cause (no_metals no_map no_columns none) request asked task (of_map {map = map} _ is _) others = one_is_some (values Map) map is no_map
-  no_task cause (no_metals no_map no_columns none) request asked task (of_generator _ columns) others = one_is_some (values Generate) columns.text columns.once no_columns
+  no_task cause has request asked task is others = no_form cause has (lit< tt) task is others
 
 -- ---- what words ask for
 
@@ -148,4 +195,39 @@ module _ (words : List Text) (request : Request) (asks : Ask words request) wher
       let empty : Given = record { options = []; positions = [] } in
       given_refuses empty (all_read words empty (subst (HasRead words empty) none (nothing_read words))) NoLayout (of_values (no_layout refl refl))
   refuses cause (not_spelled stops) = stop_unspelled words cause stops asks.given asks.spelled
-  refuses cause (as_given {given = given} spelled is) = given_refuses given spelled cause is
+  refuses cause (as_given {given = given} _ spelled is) = given_refuses given spelled cause is
+
+-- ---- which of several causes of words is told
+
+module _ (words : List Text) where
+  stop_first : (rest : List Text) (cause : WordsCause) → BeginWithNone rest cause → order_of cause ≡ 0
+  stop_first rest cause (no_option _ _) = refl
+  stop_first rest cause (no_value _) = refl
+  stop_first rest cause (dashed_value _ _) = refl
+
+  -- where no words are there
+  pub no_words_told : words ≡ [] → IsFirstCause (IsCause words) NoWords
+  no_words_told none = record { is = no_words none; first = λ other is. omega arith }
+
+  -- where words are not spelled
+  pub stop_told : (refusal : Refusal) → HasCause (StopFor words) refusal → HasCause (IsFirstCause (IsCause words)) refusal
+  stop_told (Words cause) stops = let least = stop_first stops.rest cause stops.stop in record { is = not_spelled stops; first = λ other is. omega (arith, least) }
+  stop_told Memory stops = tt
+
+  -- where they are
+  module _ (some : words ≢ []) (given : Given) (spelled : AreSpelled words given) where
+    given_first : (cause : WordsCause) → IsFirstCause (IsCauseIn given) cause → IsFirstCause (IsCause words) cause
+    given_first cause told = record { is = as_given some spelled told.is; first = first } where
+      first : (other : WordsCause) → IsCause words other → order_of cause ≤ order_of other
+      first other (no_words none) = absurd (some none)
+      first other (not_spelled stops) = absurd (stop_unspelled words other stops given spelled)
+      first other (as_given {given = also} _ spelled_too is) = told.first other (subst (λ (g : Given). IsCauseIn g other) (spellings_agree words also given spelled_too spelled) is)
+
+    pub given_told : (refusal : Refusal) → HasCause (IsFirstCause (IsCauseIn given)) refusal → HasCause (IsFirstCause (IsCause words)) refusal
+    given_told (Words cause) told = given_first cause told
+    given_told Memory told = tt
+
+    pub values_told : HasNoEmptyText given → AreSingle given
+        → (refusal : Refusal) → HasCause (IsFirstCause (IsCauseOf (values_of given.options) given.positions)) refusal → HasCause (IsFirstCause (IsCause words)) refusal
+    values_told texts single (Words cause) told = given_first cause (checked given texts single cause told)
+    values_told texts single Memory told = tt

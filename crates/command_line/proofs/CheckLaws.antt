@@ -1,5 +1,5 @@
 -- what is checked of arguments
-use Rattle.std.proofs.Common.{Bor, ℕ, suc, ◌<◌, ◌≤◌, ◌==◌, List, [], ◌∷◌, ◌≡◌, ◌∙◌, sym, ap, refl, arith, Bool, true, false, ◌||◌, All, Contains, length, map, filter, count_by, get_or, inl, inr, ◌+◌, cond, subst, take, take_all}
+use Rattle.std.proofs.Common.{Bor, ℕ, suc, ◌<◌, ◌≤◌, ◌==◌, List, [], ◌∷◌, ◌≡◌, ◌≢◌, ◌∙◌, sym, ap, refl, arith, Bool, true, false, ◌||◌, All, Contains, length, map, filter, count_by, get_or, inl, inr, ◌+◌, cond, subst, take, take_all}
 use Rattle.lists.proofs.Words.{length-map, eqb_tells, list_any, bytes_eq, All-cons, All-map, All-more, All-nil}
 use Rattle.std.proofs.lemmas.List.Sums.{length-filter}
 use Rattle.std.proofs.lemmas.List.Folds.{fold-map}
@@ -21,6 +21,9 @@ is_empty text e = elim (eqb_tells (length text) 0) [
   | inl p ↦ no_length text p.1
   | inr p ↦ let s : true ≡ false = sym e ∙ p.0 in cc s
 ]
+
+pub is_no_empty : {A : Type 0} (text : List A) → (length text == 0) ≡ false → text ≢ []
+is_no_empty {A} text e none = let s : false ≡ true = sym e ∙ ap (λ (xs : List A). length xs == 0) none in cc s
 
 is_not_empty : (text : Text) → (length text == 0) ≡ false → IsNotEmpty text
 is_not_empty text e = elim (eqb_tells (length text) 0) [

@@ -4,5 +4,7 @@ pub mod ReadingLaws
 pub mod CheckLaws
 pub mod TaskLaws
 pub mod AskLaws
+pub mod OrderLaws
 pub mod CauseLaws
+pub mod ThereLaws
 pub mod LimitLaws

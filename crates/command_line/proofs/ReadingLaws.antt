@@ -1,5 +1,5 @@
 -- what readers of texts and of words answer
-use Rattle.std.proofs.Common.{Bor, List, [], ◌∷◌, ◌++◌, ◌≡◌, ◌≢◌, ◌∙◌, sym, ap, ap₂, refl, arith, Option, Some, None, subst, true, false, codes, append_assoc, length, ◌<◌}
+use Rattle.std.proofs.Common.{Bor, List, [], ◌∷◌, ◌++◌, ◌≡◌, ◌≢◌, ◌∙◌, sym, ap, refl, arith, Option, Some, None, subst, true, false, codes, append_assoc, length, ◌<◌}
 use Rattle.lists.proofs.Words.{flat_map, bytes_eq, bytes_eq-Decides, append-nil, All-append, All-cons, All-nil, flat_map-append}
 use Rattle.command_line.specs.declared.argument.ReadArgument.{ReadArgument}
 use Rattle.command_line.specs.declared.argument.ReadArgument.TheVariants.{Setting, Position}
@@ -69,19 +69,25 @@ nothing_read words = record { arguments = []; words_are = refl; clear = All-nil 
 flat_map-last : {A : Type 0} (f : Argument → List A) (xs : List Argument) (x : Argument) → flat_map f (xs ++ x ∷ []) ≡ flat_map f xs ++ f x
 flat_map-last f xs x = flat_map-append f xs (x ∷ []) ∙ ap (λ t. flat_map f xs ++ t) (append-nil (f x))
 
+-- one argument more
+pub argument_read : (words rest after : List Text) (given next : Given) (this : Argument) → HasRead words given rest → rest ≡ words_of this ++ after → IsClearlySpelled this
+    → next.options ≡ given.options ++ options_in this → next.positions ≡ given.positions ++ positions_in this → HasRead words next after
+argument_read words rest after given next this so_far is clear options positions =
+    let before = so_far.arguments in
+    record {
+      arguments = before ++ this ∷ [];
+      words_are = so_far.words_are ∙ ap (λ r. flat_map words_of before ++ r) is ∙ sym (append_assoc (flat_map words_of before) (words_of this) after)
+          ∙ ap (λ t. t ++ after) (sym (flat_map-last words_of before this));
+      clear = All-append IsClearlySpelled before (this ∷ []) so_far.clear (All-cons IsClearlySpelled this [] clear (All-nil IsClearlySpelled));
+      options = options ∙ ap (λ o. o ++ options_in this) so_far.options ∙ sym (flat_map-last options_in before this);
+      positions = positions ∙ ap (λ p. p ++ positions_in this) so_far.positions ∙ sym (flat_map-last positions_in before this);
+    }
+
 pub one_more_read : (words rest after : List Text) (given next : Given) (read : ReadArgument) → HasRead words given rest → BeginWith rest read after
     → next ≡ record { options = given.options ++ options_read read; positions = given.positions ++ positions_read read } → HasRead words next after
 one_more_read words rest after given next read so_far first e =
-    let before = so_far.arguments in
-    let this = first.argument in
-    record {
-      arguments = before ++ this ∷ [];
-      words_are = so_far.words_are ∙ ap (λ r. flat_map words_of before ++ r) first.words_are ∙ sym (append_assoc (flat_map words_of before) (words_of this) after)
-          ∙ ap (λ t. t ++ after) (sym (flat_map-last words_of before this));
-      clear = All-append IsClearlySpelled before (this ∷ []) so_far.clear (All-cons IsClearlySpelled this [] first.clear (All-nil IsClearlySpelled));
-      options = ap (λ (g : Given). g.options) e ∙ ap₂ (λ a b. a ++ b) so_far.options first.options ∙ sym (flat_map-last options_in before this);
-      positions = ap (λ (g : Given). g.positions) e ∙ ap₂ (λ a b. a ++ b) so_far.positions first.positions ∙ sym (flat_map-last positions_in before this);
-    }
+    argument_read words rest after given next first.argument so_far first.words_are first.clear
+    (ap (λ (g : Given). g.options) e ∙ ap (λ o. given.options ++ o) first.options) (ap (λ (g : Given). g.positions) e ∙ ap (λ p. given.positions ++ p) first.positions)
 
 same_given : (given : Given) (options : List (OptionName × Text)) (positions : List Text) → given.options ≡ options → given.positions ≡ positions
     → given ≡ record { options = options; positions = positions }

@@ -66,7 +66,7 @@ pub plain_has_no_dashes : (word rest : Text) → IsPlain word → word ≢ 45 �
 plain_has_no_dashes word rest plain e = let dash : 45 ∷ 45 ∷ rest ≡ codes "-" = sym e ∙ plain (ap (λ t. slice_get t 0) e) in cc dash
 
 -- words that begin with one argument begin with no other
-first_is_one : (a b : Argument) (xs ys : List Text) → IsClearlySpelled a → IsClearlySpelled b → words_of a ++ xs ≡ words_of b ++ ys → (a ≡ b) × (xs ≡ ys)
+pub first_is_one : (a b : Argument) (xs ys : List Text) → IsClearlySpelled a → IsClearlySpelled b → words_of a ++ xs ≡ words_of b ++ ys → (a ≡ b) × (xs ≡ ys)
 first_is_one (in_one_word n v) (in_one_word m w) xs ys p q e =
     let word : whole_word n v ≡ whole_word m w = cc e in
     let rest : xs ≡ ys = cc e in

@@ -1,12 +1,12 @@
 -- why the words of a command ask for nothing
-use Rattle.std.specs.Prelude.{ℕ, List, [], ◌∷◌, ◌++◌, ◌≡◌, ◌≢◌, ◌<◌, All, Contains, Some, codes, flat_map, length}
+use Rattle.std.specs.Prelude.{ℕ, List, [], ◌∷◌, ◌++◌, ◌≡◌, ◌≢◌, ◌<◌, ◌≤◌, All, Contains, Some, codes, flat_map, length}
 use Rattle.command_line.specs.declared.cause.WordsCause.{WordsCause}
 use Rattle.command_line.specs.declared.cause.WordsCause.TheVariants.{NoWords, NoOption, NoValue, DashedValue, EmptyValue, EmptyLayout, Twice, TwoLayouts, BadNumber, NoLayout, LayoutBesideGenerate, BesideGenerate, BesideMap, Missing, NoMetals}
 use Rattle.command_line.specs.declared.option_name.OptionName.{OptionName}
 use Rattle.command_line.specs.declared.option_name.OptionName.TheVariants.{Map, Top, Layer, Datatype, Radius, Generate}
 use Rattle.command_line.specs.declared.range.NumberRange.{NumberRange}
 use Rattle.command_line.specs.Numbers.{IsNumber}
-use Rattle.command_line.specs.OptionNames.{Text, name_of, range_of}
+use Rattle.command_line.specs.OptionNames.{Text, range_of}
 use Rattle.command_line.specs.Requests.{values_of}
 use Rattle.command_line.specs.Spelling.{Argument, Given, AreSpelled, IsClearlySpelled, IsPlain, name_word, whole_word, words_of}
 
@@ -43,6 +43,12 @@ metal_options = Layer ∷ Datatype ∷ Radius ∷ []
 abbrev pub file_options : List OptionName
 file_options = Map ∷ Top ∷ metal_options
 
+-- one of these options is given
+pub record IsOneGiven (values : OptionName → List Text) (names : List OptionName) : Type 0 where
+  pub name : OptionName
+  pub listed : Contains names name
+  pub given : values name ≢ []
+
 -- why options with these values and these positional words ask for no request
 pub data IsCauseOf (values : OptionName → List Text) (positions : List Text) : WordsCause → Type 0 where
   bad_number : {name : OptionName} {value : Text} {range : NumberRange} → range_of name ≡ Some range → values name ≡ value ∷ []
@@ -51,7 +57,8 @@ pub data IsCauseOf (values : OptionName → List Text) (positions : List Text) :
   layout_beside_generate : {layout : Text} → positions ≡ layout ∷ [] → values Generate ≢ [] → IsCauseOf values positions (LayoutBesideGenerate layout)
   beside_generate : {name : OptionName} → values Generate ≢ [] → Contains file_options name → values name ≢ [] → IsCauseOf values positions (BesideGenerate name)
   beside_map : {name : OptionName} → values Map ≢ [] → Contains metal_options name → values name ≢ [] → IsCauseOf values positions (BesideMap name)
-  missing : {name : OptionName} → values Map ≡ [] → values Generate ≡ [] → Contains metal_options name → values name ≡ [] → IsCauseOf values positions (Missing name)
+  missing : {name : OptionName} → values Map ≡ [] → values Generate ≡ [] → Contains metal_options name → values name ≡ [] → IsOneGiven values metal_options
+      → IsCauseOf values positions (Missing name)
   no_metals : values Map ≡ [] → values Generate ≡ [] → All (λ name. values name ≡ []) metal_options → IsCauseOf values positions NoMetals
 
 -- why what is given asks for no request
@@ -68,4 +75,29 @@ pub data IsCauseIn (given : Given) : WordsCause → Type 0 where
 pub data IsCause (words : List Text) : WordsCause → Type 0 where
   no_words : words ≡ [] → IsCause words NoWords
   not_spelled : {cause : WordsCause} → StopFor words cause → IsCause words cause
-  as_given : {given : Given} {cause : WordsCause} → AreSpelled words given → IsCauseIn given cause → IsCause words cause
+  as_given : {given : Given} {cause : WordsCause} → words ≢ [] → AreSpelled words given → IsCauseIn given cause → IsCause words cause
+
+-- ---- which of several causes is told
+
+-- the order in which kinds of causes are told: first that words are not spelled, then what is empty or given more than once, then
+-- what a form lacks or does not have, and last a value that is no number. Of those of order 0 words have one at most.
+abbrev pub order_of : WordsCause → ℕ
+order_of NoWords = 0
+order_of (NoOption word) = 0
+order_of (NoValue name) = 0
+order_of (DashedValue name value) = 0
+order_of (EmptyValue name) = 1
+order_of EmptyLayout = 2
+order_of (Twice name) = 3
+order_of (TwoLayouts one other) = 4
+order_of NoLayout = 5
+order_of (LayoutBesideGenerate layout) = 6
+order_of (BesideGenerate name) = 7
+order_of (BesideMap name) = 8
+order_of NoMetals = 9
+order_of (Missing name) = 10
+order_of (BadNumber name value) = 11
+
+-- none of these causes is of a kind that is told before this one's
+abbrev pub IsOfFirstKind : (WordsCause → Type 0) → WordsCause → Type 0
+IsOfFirstKind Is told = (other : WordsCause) → Is other → order_of told ≤ order_of other

@@ -24,7 +24,7 @@ impl<'a> Arguments<'a> {
     ghost use Rattle.command_line.specs.OptionNames.{name_of};
     ghost use Rattle.command_line.specs.inside.Arguments.{AreSingle, given_by, one_form, words_of_options};
     ghost use Rattle.command_line.specs.inside.Arguments.{options_read, positions_read};
-    ghost use Rattle.command_line.specs.inside.WordsRefusals.{HasCause};
+    ghost use Rattle.command_line.specs.inside.WordsRefusals.{HasCause, IsFirstCause};
     ghost use Rattle.command_line.specs.Requests.{HasNoEmptyText, IsNotEmpty, values_of};
     ghost use Rattle.command_line.specs.Spelling.{AreSpelled};
     ghost use Rattle.command_line.specs.WordsCauses.{IsCauseIn, StopFor};
@@ -127,7 +127,7 @@ impl<'a> Arguments<'a> {
     pub fn check(&self, alloc: Global) -> Result<(), Refusal>
         ensures texts { OnOk result (HasNoEmptyText (given_by self.now)) }
         ensures single { OnOk result (AreSingle (given_by self.now)) }
-        ensures cause { IfErr result (HasCause (IsCauseIn (given_by self.now))) }
+        ensures cause { IfErr result (HasCause (IsFirstCause (IsCauseIn (given_by self.now)))) }
     {
         if let Some(name) = self.empty_option() {
             return Err(Refusal::Words(WordsCause::EmptyValue(name)));

@@ -5,16 +5,17 @@ use crate::option_name::OptionName;
 use lists::Name;
 use std::alloc::{AllocError, AllocFailed};
 
-/// Why words ask for nothing. Of several causes the first that the reader comes to is told.
+/// Why words ask for nothing. The kinds of causes stand in the order in which they are told; of the first four words have one
+/// at most.
 #[derive(Drop)]
 pub enum WordsCause {
     /// There are no words.
     NoWords,
-    /// The word begins with a dash, and is none of the options.
+    /// The word begins with a dash, is neither the dash alone nor two dashes, and is the word of no option.
     NoOption(Name),
     /// The option is the last word, and has no value.
     NoValue(OptionName),
-    /// The value of the option, in a word of its own, begins with a dash.
+    /// The value of the option, in a word of its own, begins with a dash and is not the dash alone.
     DashedValue(OptionName, Name),
     /// A value of the option is empty.
     EmptyValue(OptionName),
@@ -24,8 +25,6 @@ pub enum WordsCause {
     Twice(OptionName),
     /// More than one layout is named, and these are the first two.
     TwoLayouts(Name, Name),
-    /// The value of the option is no number that it takes.
-    BadNumber(OptionName, Name),
     /// No layout is named, and none is to be generated.
     NoLayout,
     /// The layout of this name is named, and one is to be generated.
@@ -34,10 +33,12 @@ pub enum WordsCause {
     BesideGenerate(OptionName),
     /// The option, which is about one metal, is given where a map is named.
     BesideMap(OptionName),
-    /// No map is named, and of the options of one metal this is left out while another is given.
-    Missing(OptionName),
     /// No map is named, and none of the options of one metal is given.
     NoMetals,
+    /// No map is named, and of the options of one metal this is left out while another is given.
+    Missing(OptionName),
+    /// The value of the option is no number that it takes.
+    BadNumber(OptionName, Name),
 }
 
 /// Why words are answered with no request, as the reader of words knows it.

@@ -2,10 +2,10 @@ ghost use Rattle.std.specs.Prelude.{◌≡◌, ◌≢◌, ◌↔◌, [], ◌∷�
 ghost use Rattle.command_line.specs.inside.Arguments.{AreSingle, given_by};
 ghost use Rattle.command_line.specs.inside.Command.{positions_found, values_found};
 ghost use Rattle.command_line.specs.inside.Readings.{AreNumbers, texts_of};
-ghost use Rattle.command_line.specs.inside.WordsRefusals.{HasCause};
+ghost use Rattle.command_line.specs.inside.WordsRefusals.{HasCause, IsFirstCause, IsOfForm};
 ghost use Rattle.command_line.specs.OptionNames.{range_of};
 ghost use Rattle.command_line.specs.Requests.{Ask, GiveNoOther, IsNumberOnce, IsNumberOrDefault, IsRequestOf, IsTask, IsTextIfGiven, options_for, values_of};
-ghost use Rattle.command_line.specs.WordsCauses.{IsCause, IsCauseOf, metal_options};
+ghost use Rattle.command_line.specs.WordsCauses.{IsCause, IsCauseOf, IsOfFirstKind, metal_options};
 ghost use Rattle.command_line.specs.declared.request.Request.{Request};
 
 use crate::arguments::Arguments;
@@ -54,10 +54,11 @@ fn number_given(
     name: OptionName,
     range: NumberRange,
 ) -> Result<Option<u32>, Refusal>
-    requires { range_of name ≡ Some range }
+    requires range { range_of name ≡ Some range }
+    requires form { IsOfForm (values_found matches.now) (positions_found matches.now) }
     ensures number { IfOk result (λ given. MatchOption given (values_found matches.now name ≡ [])
         (IsNumberOnce range.least range.most (values_found matches.now name))) }
-    ensures cause { IfErr result (HasCause (IsCauseOf (values_found matches.now) (positions_found matches.now))) }
+    ensures cause { IfErr result (HasCause (IsFirstCause (IsCauseOf (values_found matches.now) (positions_found matches.now)))) }
 {
     let Some(text) = text_of(matches, name) else {
         return Ok(None);
@@ -77,47 +78,51 @@ fn number_or(
     range: NumberRange,
     default: u32,
 ) -> Result<u32, Refusal>
-    requires { range_of name ≡ Some range }
+    requires range { range_of name ≡ Some range }
+    requires form { IsOfForm (values_found matches.now) (positions_found matches.now) }
     ensures number { IfOk result (IsNumberOrDefault range.least range.most default (values_found matches.now name)) }
-    ensures cause { IfErr result (HasCause (IsCauseOf (values_found matches.now) (positions_found matches.now))) }
+    ensures cause { IfErr result (HasCause (IsFirstCause (IsCauseOf (values_found matches.now) (positions_found matches.now)))) }
 {
     let given = number_given(alloc, matches, name, range)?;
     Ok(given.unwrap_or(default))
 }
 
-/// The number of an option of one metal.
-fn metal_number(
+/// The number of an option that is given.
+fn number_of_given(
     alloc: Global,
     matches: &ArgMatches<'_>,
     name: OptionName,
     range: NumberRange,
 ) -> Result<u32, Refusal>
     requires range { range_of name ≡ Some range }
-    requires metal { Contains metal_options name }
-    requires no_map { values_found matches.now OptionName.Map ≡ [] }
-    requires no_columns { values_found matches.now OptionName.Generate ≡ [] }
+    requires form { IsOfForm (values_found matches.now) (positions_found matches.now) }
+    requires given { values_found matches.now name ≢ [] }
     ensures number { IfOk result (IsNumberOnce range.least range.most (values_found matches.now name)) }
-    ensures cause { IfErr result (HasCause (IsCauseOf (values_found matches.now) (positions_found matches.now))) }
+    ensures cause { IfErr result (HasCause (IsFirstCause (IsCauseOf (values_found matches.now) (positions_found matches.now)))) }
 {
     let Some(number) = number_given(alloc, matches, name, range)? else {
-        return Err(Refusal::Words(WordsCause::Missing(name)));
+        unreachable!();
     };
     Ok(number)
 }
 
 /// A layer, a datatype and a radius.
 fn metal_numbers(alloc: Global, matches: &ArgMatches<'_>) -> Result<(u16, u16, u32), Refusal>
+    requires layout { positions_found matches.now ≢ [] }
     requires no_map { values_found matches.now OptionName.Map ≡ [] }
     requires no_columns { values_found matches.now OptionName.Generate ≡ [] }
     ensures numbers { IfOk result (AreNumbers (values_found matches.now)) }
-    ensures cause { IfErr result (HasCause (IsCauseOf (values_found matches.now) (positions_found matches.now))) }
+    ensures cause { IfErr result (HasCause (IsFirstCause (IsCauseOf (values_found matches.now) (positions_found matches.now)))) }
 {
-    let Some(_) = first_given(matches, &METAL_OPTIONS) else {
+    let Some(_given) = first_given(matches, &METAL_OPTIONS) else {
         return Err(Refusal::Words(WordsCause::NoMetals));
     };
-    let layer = metal_number(alloc, matches, OptionName::Layer, LAYERS)?;
-    let datatype = metal_number(alloc, matches, OptionName::Datatype, LAYERS)?;
-    let radius = metal_number(alloc, matches, OptionName::Radius, RADII)?;
+    if let Some(missing) = first_missing(matches, &METAL_OPTIONS) {
+        return Err(Refusal::Words(WordsCause::Missing(missing)));
+    }
+    let layer = number_of_given(alloc, matches, OptionName::Layer, LAYERS)?;
+    let datatype = number_of_given(alloc, matches, OptionName::Datatype, LAYERS)?;
+    let radius = number_of_given(alloc, matches, OptionName::Radius, RADII)?;
     Ok((layer as u16, datatype as u16, radius))
 }
 
@@ -142,19 +147,34 @@ fn first_given(matches: &ArgMatches<'_>, names: &[OptionName]) -> Option<OptionN
     None
 }
 
+/// The first of these options that is left out.
+fn first_missing(matches: &ArgMatches<'_>, names: &[OptionName]) -> Option<OptionName>
+    ensures listed { IfSome result (Contains names.now) }
+    ensures some { IfSome result (λ name. values_found matches.now name ≡ []) }
+    ensures none { IfNone result (All (λ name. values_found matches.now name ≢ []) names.now) }
+{
+    for name in names {
+        if !is_given(matches, *name) {
+            return Some(*name);
+        }
+    }
+    None
+}
+
 /// The task of these matches, in which no layout is named.
 fn generated_task(alloc: Global, matches: &ArgMatches<'_>) -> Result<Task, Refusal>
     requires { positions_found matches.now ≡ [] }
     ensures task { IfOk result (IsTask (values_found matches.now) (positions_found matches.now)) }
     ensures no_other { IfOk result (λ task. GiveNoOther (values_found matches.now) (options_for task)) }
-    ensures cause { IfErr result (HasCause (IsCauseOf (values_found matches.now) (positions_found matches.now))) }
+    ensures cause { IfErr result (HasCause (IsFirstCause (IsCauseOf (values_found matches.now) (positions_found matches.now)))) }
 {
-    let Some(n) = number_given(alloc, matches, OptionName::Generate, COLUMNS)? else {
+    if !is_given(matches, OptionName::Generate) {
         return Err(Refusal::Words(WordsCause::NoLayout));
-    };
+    }
     if let Some(name) = first_given(matches, &FILE_OPTIONS) {
         return Err(Refusal::Words(WordsCause::BesideGenerate(name)));
     }
+    let n = number_of_given(alloc, matches, OptionName::Generate, COLUMNS)?;
     Ok(Task::Generated { n })
 }
 
@@ -163,7 +183,7 @@ fn task_on(alloc: Global, matches: &ArgMatches<'_>, layout: &str) -> Result<Task
     requires { positions_found matches.now ≡ layout.now ∷ [] }
     ensures task { IfOk result (IsTask (values_found matches.now) (positions_found matches.now)) }
     ensures no_other { IfOk result (λ task. GiveNoOther (values_found matches.now) (options_for task)) }
-    ensures cause { IfErr result (HasCause (IsCauseOf (values_found matches.now) (positions_found matches.now))) }
+    ensures cause { IfErr result (HasCause (IsFirstCause (IsCauseOf (values_found matches.now) (positions_found matches.now)))) }
 {
     let layout = name_from(alloc, layout)?;
     if is_given(matches, OptionName::Generate) {
@@ -193,7 +213,7 @@ fn task_on(alloc: Global, matches: &ArgMatches<'_>, layout: &str) -> Result<Task
 fn task_of(alloc: Global, matches: &ArgMatches<'_>) -> Result<Task, Refusal>
     ensures task { IfOk result (IsTask (values_found matches.now) (positions_found matches.now)) }
     ensures no_other { IfOk result (λ task. GiveNoOther (values_found matches.now) (options_for task)) }
-    ensures cause { IfErr result (HasCause (IsCauseOf (values_found matches.now) (positions_found matches.now))) }
+    ensures cause { IfErr result (HasCause (IsFirstCause (IsCauseOf (values_found matches.now) (positions_found matches.now)))) }
 {
     match matches.get_str(LAYOUT) {
         Some(layout) => task_on(alloc, matches, layout),
@@ -204,7 +224,7 @@ fn task_of(alloc: Global, matches: &ArgMatches<'_>) -> Result<Task, Refusal>
 /// What these matches ask for.
 fn request_of(alloc: Global, matches: &ArgMatches<'_>) -> Result<Request, Refusal>
     ensures request { IfOk result (IsRequestOf (values_found matches.now) (positions_found matches.now)) }
-    ensures cause { IfErr result (HasCause (IsCauseOf (values_found matches.now) (positions_found matches.now))) }
+    ensures cause { IfErr result (HasCause (IsFirstCause (IsCauseOf (values_found matches.now) (positions_found matches.now)))) }
 {
     let task = task_of(alloc, matches)?;
     let edge = number_or(alloc, matches, OptionName::Tile, EDGES, DEFAULT_EDGE)?;
@@ -228,7 +248,7 @@ fn request_given(alloc: Global, arguments: &Arguments<'_>) -> Result<Request, Re
     ensures request { let given = given_by arguments.now in
         IfOk result (IsRequestOf (values_of given.options) given.positions) }
     ensures cause { let given = given_by arguments.now in
-        IfErr result (HasCause (IsCauseOf (values_of given.options) given.positions)) }
+        IfErr result (HasCause (IsFirstCause (IsCauseOf (values_of given.options) given.positions))) }
 {
     let words = arguments.in_one_form(alloc)?;
     match parse(alloc, words.as_slice()) {
@@ -243,7 +263,7 @@ fn request_given(alloc: Global, arguments: &Arguments<'_>) -> Result<Request, Re
 /// What the words of a command ask for, or why they ask for nothing.
 fn read_request(alloc: Global, words: &[Word]) -> Result<Request, Refusal>
     ensures request { IfOk result (Ask words.now) }
-    ensures cause { IfErr result (HasCause (IsCause words.now)) }
+    ensures cause { IfErr result (HasCause (IsFirstCause (IsCause words.now))) }
 {
     if words.is_empty() {
         return Err(Refusal::Words(WordsCause::NoWords));
@@ -279,9 +299,11 @@ pub fn read_words(alloc: Global, words: &[Word]) -> Result<Request, WordsFault>
     }
 }
 
-/// Why the words of a command ask for nothing, where they do. The only error is that no memory is left.
+/// Why the words of a command ask for nothing, where they do. Of several causes one of the first kind is told, by their order in
+/// [`WordsCause`]. The only error is that no memory is left.
 pub fn cause_of(alloc: Global, words: &[Word]) -> Result<Option<WordsCause>, AllocError>
-    ensures { IfOk result (λ cause. MatchOption cause ((request : Request) × Ask words.now request) (IsCause words.now)) }
+    ensures cause { IfOk result (λ cause. MatchOption cause ((request : Request) × Ask words.now request) (IsCause words.now)) }
+    ensures first { IfOk result (λ cause. IfSome cause (IsOfFirstKind (IsCause words.now))) }
 {
     match read_request(alloc, words) {
         Ok(_) => Ok(None),

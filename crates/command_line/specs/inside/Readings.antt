@@ -1,5 +1,5 @@
 -- inside this crate: what its readers of texts answer. No definition above rests on it.
-use Rattle.std.specs.Prelude.{ℕ, List, [], ◌≡◌, Option, option_map, option_to_list}
+use Rattle.std.specs.Prelude.{ℕ, List, Option, option_map, option_to_list}
 use Rattle.lists.specs.Words.{Bor}
 use Rattle.command_line.specs.declared.option_name.OptionName.{OptionName}
 use Rattle.command_line.specs.declared.option_name.OptionName.TheVariants.{Layer, Datatype, Radius}

@@ -1,20 +1,24 @@
-use Rattle.std.proofs.Common.{◌≡◌, [], rules}
-use Rattle.command_line.specs.declared.option_name.OptionName.TheVariants.{Generate}
-use Rattle.command_line.specs.inside.Command.{values_found}
-use Rattle.command_line.specs.Requests.{IsNumberOnce, of_generator}
-use Rattle.command_line.specs.WordsCauses.{beside_generate, no_layout}
-use Rattle.command_line.proofs.TaskLaws.{one_is_some}
+use Rattle.command_line.specs.inside.Command.{positions_found, values_found}
+use Rattle.command_line.specs.Requests.{of_generator}
+use Rattle.command_line.proofs.OrderLaws.{beside_generate_told, generated_form, no_layout_told}
+use Rattle.command_line.proofs.TaskLaws.{generated_no_other}
 use Rattle.command_line.proofs.words.generated_task.Goals as goal
 
-pub returns-in_default-clause-cause : goal.returns-in_default-clause-cause
-returns-in_default-clause-cause c = let none : values_found c.args.matches.now Generate ≡ [] = search rules in no_layout c.requires none
+pub returns-then-not-is_given-clause-cause : goal.returns-then-not-is_given-clause-cause
+returns-then-not-is_given-clause-cause c =
+    no_layout_told (values_found c.args.matches.now) (positions_found c.args.matches.now) c.requires (rw c.if-not-is_given.true at c.is_given.ensures)
 
-pub returns-in-Some-first_given-clause-cause : goal.returns-in-Some-first_given-clause-cause
-returns-in-Some-first_given-clause-cause c =
-    let number : IsNumberOnce 1 500 (values_found c.args.matches.now Generate) c.in-Some.n = search rules in
-    beside_generate (one_is_some _ number.text number.once) c.in-Some-first_given.ensures.listed c.in-Some-first_given.ensures.some
+pub returns-in-Some-clause-cause : goal.returns-in-Some-clause-cause
+returns-in-Some-clause-cause c =
+    beside_generate_told (values_found c.args.matches.now) (positions_found c.args.matches.now) c.requires (rw c.if-not-is_given.false at c.is_given.ensures)
+    c.in-Some.name c.in-Some.ensures.listed c.in-Some.ensures.some
+
+pub number_of_given-requires-clause-form : goal.number_of_given-requires-clause-form
+number_of_given-requires-clause-form c =
+    generated_form (values_found c.args.matches.now) (positions_found c.args.matches.now) c.requires (rw c.if-not-is_given.false at c.is_given.ensures) c.in_default.ensures.none
 
 pub returns-clause-task : goal.returns-clause-task
-returns-clause-task c =
-    let number : IsNumberOnce 1 500 (values_found c.args.matches.now Generate) c.in-Some.n = search rules in
-    of_generator c.requires number
+returns-clause-task c = of_generator c.requires c.in_ok-n.ensures.number
+
+pub returns-clause-no_other : goal.returns-clause-no_other
+returns-clause-no_other c = generated_no_other (values_found c.args.matches.now) c.in_default.ensures.none
