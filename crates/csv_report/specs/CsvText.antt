@@ -1,7 +1,6 @@
 -- rows as CSV: a head, and a line for each row
 use Rattle.std.specs.Prelude.{ℕ, List, [], ◌∷◌, ◌++◌, codes, flat_map}
 use Rattle.lists.specs.Words.{concat, decimal}
-use Rattle.map_model.specs.Measures.{listed_of}
 use Rattle.questions.specs.KindTexts.{kind_text}
 use Rattle.questions.specs.declared.row.Row.{Row}
 use Rattle.report.specs.Report.{letter_of}
@@ -10,7 +9,7 @@ use Rattle.report.specs.Report.{letter_of}
 abbrev pub csv_line : Row → List ℕ
 csv_line row = concat (
     kind_text row.kind ∷ codes "," ∷ row.layer
-    ∷ codes "," ∷ letter_of row.measure ∷ codes "," ∷ decimal (listed_of row.measure)
+    ∷ codes "," ∷ letter_of row.measure ∷ codes "," ∷ decimal row.size
     ∷ codes "," ∷ decimal row.area
     ∷ codes "," ∷ decimal row.weight
     ∷ codes "\n" ∷ [])

@@ -68,7 +68,7 @@ fn write_line(text: &mut String, row: &Row) -> Result<(), NoMemory>
 {
     let layer = row.layer.as_str();
     let letter = letter(row.measure);
-    let size = row.measure.listed();
+    let size = row.size;
     writeln!(
         text,
         "{},{layer},{letter},{size},{},{}",

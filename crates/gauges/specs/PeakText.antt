@@ -2,7 +2,6 @@
 use Rattle.std.specs.Prelude.{ℕ, Bool, List, [], ◌∷◌, Option, nat_le, codes, find}
 use Rattle.lists.specs.Words.{concat, decimal, option_map_or}
 use Rattle.std.specs.List.{list_all}
-use Rattle.map_model.specs.Measures.{listed_of}
 use Rattle.questions.specs.KindTexts.{kind_text}
 use Rattle.questions.specs.declared.row.Row.{Row}
 use Rattle.report.specs.Report.{letter_of, product_of}
@@ -19,7 +18,7 @@ peak_of rows = find (is_greatest rows) rows
 abbrev pub peak_line : Row → List ℕ
 peak_line row = concat (
     codes "peak " ∷ kind_text row.kind ∷ codes " " ∷ row.layer
-    ∷ codes " " ∷ letter_of row.measure ∷ codes "=" ∷ decimal (listed_of row.measure)
+    ∷ codes " " ∷ letter_of row.measure ∷ codes "=" ∷ decimal row.size
     ∷ codes " sum=" ∷ decimal (product_of row)
     ∷ codes "\n" ∷ [])
 

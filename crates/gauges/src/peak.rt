@@ -69,7 +69,7 @@ fn line_of(alloc: Global, row: &Row) -> Result<String, NoMemory>
 {
     let layer = row.layer.as_str();
     let letter = letter(row.measure);
-    let size = row.measure.listed();
+    let size = row.size;
     let sum = product(row);
     let mut text = String::new(alloc);
     writeln!(text, "peak {} {layer} {letter}={size} sum={sum}", row.kind)?;

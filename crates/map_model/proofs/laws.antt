@@ -1,2 +1,3 @@
 -- what the proofs of other crates may cite
+pub mod MeasureLaws
 pub mod PairLaws

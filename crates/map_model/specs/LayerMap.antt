@@ -1,13 +1,13 @@
 -- layer maps: which layers of a layout are metals and cuts, and for which sizes of defects areas are wanted
 use Rattle.std.specs.Prelude.{ℕ, Bool, ◌≡◌, ◌/◌, List, [], ◌∷◌, ◌++◌, map, codes, fold, max, Contains, slice_get, Some}
 use Rattle.geo_core.specs.declared.plane.Cell.{Cell}
-use Rattle.map_model.specs.Measures.{side_of}
+use Rattle.map_model.specs.Measures.{side_by}
 use Rattle.map_model.specs.declared.measure.Measure.{Measure}
 use Rattle.map_model.specs.declared.measure.Measure.TheVariants.{Radius}
 
--- a size of defects, and its weight
+-- a size of defects, by the measure of its map, and its weight
 pub record DefectSize : Type 0 where
-  pub measure : Measure
+  pub size : ℕ
   pub weight : ℕ
 
 -- a metal's or a cut's name, and the layers and datatypes of its shapes
@@ -22,10 +22,11 @@ pub record MappedCut : Type 0 where
   pub upper : ℕ
   pub has_terminals : Bool
 
--- The terminals are cells, each with the number of its metal.
+-- One measure tells what all sizes are. The terminals are cells, each with the number of its metal.
 pub record LayerMap : Type 0 where
   pub metals : List MappedLayer
   pub cuts : List MappedCut
+  pub measure : Measure
   pub sizes : List DefectSize
   pub terminals : List (ℕ × Cell)
 
@@ -45,17 +46,18 @@ IsMappedTo layer_map = HasPair (layers_of layer_map)
 
 -- how far a defect reaches at most: half of the greatest side, rounded down
 abbrev pub reach_of : LayerMap → ℕ
-reach_of layer_map = fold max 0 (map (λ size. side_of size.measure / 2) layer_map.sizes)
+reach_of layer_map = fold max 0 (map (λ size. side_by layer_map.measure size.size / 2) layer_map.sizes)
 
--- a radius with its weight, as a size of defects
-abbrev pub radius_size : ℕ × ℕ → DefectSize
-radius_size weighed = record { measure = Radius weighed.0; weight = weighed.1 }
+-- a number with its weight, as a size of defects
+abbrev pub weighed_size : ℕ × ℕ → DefectSize
+weighed_size weighed = record { size = weighed.0; weight = weighed.1 }
 
 -- one metal named m, of one layer and datatype; one radius, of weight 1; and nothing else
 abbrev pub one_metal_map : ℕ → ℕ → ℕ → LayerMap
 one_metal_map layer datatype radius = record {
   metals = record { name = codes "m"; pairs = (layer, datatype) ∷ [] } ∷ [];
   cuts = [];
-  sizes = radius_size (radius, 1) ∷ [];
+  measure = Radius;
+  sizes = weighed_size (radius, 1) ∷ [];
   terminals = [];
 }

@@ -1,16 +1,27 @@
 -- the numbers that a map may have
 use Rattle.std.specs.Prelude.{ℕ, ◌≡◌, ◌≤◌, List, length, All}
 use Rattle.std.specs.List.Sorted.{IsStrictlyIncreasing}
-use Rattle.geo_core.specs.Plane.{IsRadius}
+use Rattle.map_model.specs.Measures.{greatest_size}
+use Rattle.map_model.specs.declared.measure.Measure.{Measure}
 
--- the numbers are the radii of a map: 1 to 32 radii, each greater than the one before
-pub record AreRadii (radii : List ℕ) : Type 0 where
-  pub some : 1 ≤ length radii
-  pub few : length radii ≤ 32
-  pub each : All IsRadius radii
-  pub rising : IsStrictlyIncreasing radii
+-- the number is a side of defects: from 1 to 2,000,000
+pub record IsSide (s : ℕ) : Type 0 where
+  pub least : 1 ≤ s
+  pub most : s ≤ 2000000
 
--- the numbers are the weights of so many radii: as many, each at most 1,000,000,000
+-- the number is a size by this measure: a radius of 1 to 1,000,000, or a side of 1 to 2,000,000
+pub record IsSize (measure : Measure) (size : ℕ) : Type 0 where
+  pub least : 1 ≤ size
+  pub most : size ≤ greatest_size measure
+
+-- the numbers are the sizes of a map by this measure: 1 to 32 sizes, each greater than the one before
+pub record AreSizes (measure : Measure) (sizes : List ℕ) : Type 0 where
+  pub some : 1 ≤ length sizes
+  pub few : length sizes ≤ 32
+  pub each : All (IsSize measure) sizes
+  pub rising : IsStrictlyIncreasing sizes
+
+-- the numbers are the weights of so many sizes: as many, each at most 1,000,000,000
 pub record AreWeights (count : ℕ) (weights : List ℕ) : Type 0 where
   pub as_many : length weights ≡ count
   pub each : All (λ weight. weight ≤ 1000000000) weights

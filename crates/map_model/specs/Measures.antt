@@ -1,12 +1,14 @@
 -- how sizes of defects are measured
 use Rattle.std.specs.Prelude.{ℕ, ◌+◌}
 use Rattle.map_model.specs.declared.measure.Measure.{Measure}
-use Rattle.map_model.specs.declared.measure.Measure.TheVariants.{Radius}
+use Rattle.map_model.specs.declared.measure.Measure.TheVariants.{Radius, Side}
 
--- the number that is listed and printed
-abbrev pub listed_of : Measure → ℕ
-listed_of (Radius radius) = radius
+-- the side of a defect of this size: twice the radius, or the side itself
+abbrev pub side_by : Measure → ℕ → ℕ
+side_by Radius radius = radius + radius
+side_by Side side = side
 
--- the side of the defect: twice the radius
-abbrev pub side_of : Measure → ℕ
-side_of (Radius radius) = radius + radius
+-- the greatest size
+abbrev pub greatest_size : Measure → ℕ
+greatest_size Radius = 1000000
+greatest_size Side = 2000000

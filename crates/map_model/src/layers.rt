@@ -44,10 +44,10 @@ pub type Cuts = Items<Cut>;
 /// Terminals, by number.
 pub type Terminals = Items<Terminal>;
 
-/// Radii of defects, in database units.
+/// Sizes of defects: radii or sides, in database units.
 pub type Sizes = Items<u32>;
 
-/// Weights of the radii, in the same order.
+/// Weights of the sizes, in the same order.
 pub type Weights = Items<u64>;
 
 /// Whether the pair is one of these.

@@ -1,29 +1,38 @@
-ghost use Rattle.std.specs.Prelude.{◌≡◌, ◌/◌};
-ghost use Rattle.map_model.specs.Measures.{listed_of, side_of};
+ghost use Rattle.std.specs.Prelude.{◌≡◌, ◌≤◌};
+ghost use Rattle.map_model.specs.Measures.{greatest_size, side_by};
+ghost use Rattle.map_model.specs.declared.limits.TheConstants.{GREATEST_SIDE};
 
-/// How a size of defects is measured.
+use super::limits::GREATEST_SIDE;
+use geo_core::GREATEST_REACH;
+
+/// What the sizes of a map say of defects.
 #[derive(Clone, Copy, Debug, PartialEq, Eq)]
 pub enum Measure {
-    /// The radius, in database units: the square is twice as wide.
-    Radius(u32),
+    /// Radii, in database units: each square is twice as wide.
+    Radius,
+    /// Sides, in database units, odd ones too.
+    Side,
 }
 
 impl Measure {
-    /// The number that a map lists and a report prints.
-    pub fn listed(&self) -> u32
-        ensures { result ≡ listed_of self.now }
+    /// The greatest size that a map may list: a radius of 1,000,000, or a side of 2,000,000.
+    pub fn greatest(self) -> u32
+        ensures { result ≡ greatest_size self }
     {
         match self {
-            Measure::Radius(radius) => *radius,
+            Measure::Radius => GREATEST_REACH as u32,
+            Measure::Side => GREATEST_SIDE,
         }
     }
 
-    /// How far a defect reaches: half of its side, rounded down.
-    pub fn reach(&self) -> u32
-        ensures { result ≡ side_of self.now / 2 }
+    /// The side of a defect of this size.
+    pub fn side(self, size: u32) -> u32
+        requires small { side_by self size ≤ GREATEST_SIDE }
+        ensures { result ≡ side_by self size }
     {
         match self {
-            Measure::Radius(radius) => *radius,
+            Measure::Radius => size + size,
+            Measure::Side => size,
         }
     }
 }

@@ -6,6 +6,7 @@ ghost use Rattle.map_model.specs.MapView.{layer_map_of};
 
 use super::layers::{Cuts, Metal, Metals, Pairs, Sizes, Terminals, Weights};
 use super::map::Map;
+use super::measure::Measure;
 use super::name::LayerName;
 use lists::NoMemory;
 use std::alloc::Global;
@@ -30,7 +31,8 @@ pub fn one_metal(alloc: Global, layer: u16, datatype: u16, radius: u32) -> Resul
         metals: metal_of(alloc, layer, datatype)?,
         cuts: Cuts::from_vec(Vec::new(alloc)),
         terminals: Terminals::from_vec(Vec::new(alloc)),
-        radii: Sizes::from_vec(vec![in alloc; radius]?),
+        measure: Measure::Radius,
+        sizes: Sizes::from_vec(vec![in alloc; radius]?),
         weights: Weights::from_vec(vec![in alloc; 1]?),
     })
 }

@@ -3,23 +3,23 @@ use Rattle.std.proofs.Common.{◌≡◌, ℕ, ◌+◌, ◌<◌, ◌≤◌, List,
 use Rattle.lists.proofs.Words.{enumerate_from, zip, length-map, length-enumerate_from, slice_get-map, slice_get-get_or, slice_get_read, length-zip, map-map}
 use Rattle.lists.proofs.Numbering.{slice_get-enumerate}
 use Rattle.lists.proofs.Pairing.{slice_get-zip}
-use Rattle.map_model.specs.MapNames.{MappedCut, radius_size, cut_layer, mapped_cut, metal_layer, layer_map_of, sizes_of}
+use Rattle.map_model.specs.MapNames.{MappedCut, weighed_size, cut_layer, mapped_cut, metal_layer, layer_map_of, sizes_of}
 use Rattle.map_model.specs.declared.layers.Cut.{Cut}
 use Rattle.map_model.specs.declared.layers.Metal.{Metal}
 use Rattle.map_model.specs.declared.map.Map.{Map}
 use Rattle.questions.specs.Questions.{cut_layers, metal_layers}
 
--- the radius and the weight at one place, and that there are no more sizes than radii
-module _ (radii weights : List ℕ) (as_many : length weights ≡ length radii) (k : ℕ) where
-  pub size_at : (rs ws : List ℕ) → rs ≡ radii → ws ≡ weights → k < length rs → slice_get (sizes_of radii weights) k ≡ Some (radius_size (get_or rs k 0, get_or ws k 0))
+-- the number and the weight at one place, and that there are no more sizes than numbers
+module _ (numbers weights : List ℕ) (as_many : length weights ≡ length numbers) (k : ℕ) where
+  pub size_at : (rs ws : List ℕ) → rs ≡ numbers → ws ≡ weights → k < length rs → slice_get (sizes_of numbers weights) k ≡ Some (weighed_size (get_or rs k 0, get_or ws k 0))
   size_at rs ws e f small =
-      let radius : slice_get radii k ≡ Some (get_or rs k 0) = subst (λ (xs : List ℕ). slice_get xs k ≡ Some (get_or rs k 0)) e (slice_get-get_or rs k 0 small) in
+      let number : slice_get numbers k ≡ Some (get_or rs k 0) = subst (λ (xs : List ℕ). slice_get xs k ≡ Some (get_or rs k 0)) e (slice_get-get_or rs k 0 small) in
       let within : k < length ws = omega (arith, ap length e, ap length f) in
       let weight : slice_get weights k ≡ Some (get_or ws k 0) = subst (λ (xs : List ℕ). slice_get xs k ≡ Some (get_or ws k 0)) f (slice_get-get_or ws k 0 within) in
-      slice_get-map radius_size (zip radii weights) k ∙ ap (option_map radius_size) (slice_get-zip radii weights k _ _ radius weight)
+      slice_get-map weighed_size (zip numbers weights) k ∙ ap (option_map weighed_size) (slice_get-zip numbers weights k _ _ number weight)
 
-  pub past_sizes : (rs : List ℕ) → rs ≡ radii → length rs ≤ k → length (sizes_of radii weights) ≤ k
-  past_sizes rs e past = omega (arith, ap length e, length-zip radii weights, length-map (zip radii weights) radius_size)
+  pub past_sizes : (rs : List ℕ) → rs ≡ numbers → length rs ≤ k → length (sizes_of numbers weights) ≤ k
+  past_sizes rs e past = omega (arith, ap length e, length-zip numbers weights, length-map (zip numbers weights) weighed_size)
 
 -- things as layers with their numbers
 module _ {M L : Type 0} (as_layer : M → L) (first : ℕ) (things items : List M) (e : items ≡ things) (k : ℕ) where

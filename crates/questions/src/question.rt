@@ -1,7 +1,7 @@
 ghost use Rattle.std.specs.Prelude.{◌≡◌, ◌≤◌, ◌<◌, ◌^◌, ◌++◌, IfOk, OnOk, All, length};
 ghost use Rattle.map_model.specs.MapView.{layer_map_of};
-ghost use Rattle.map_model.specs.declared.limits.TheConstants.{GREATEST_WEIGHT};
-ghost use Rattle.questions.specs.Questions.{IsAskable, IsRowFor, cut_layers, metal_layers, of_kind, of_sizes, questions};
+ghost use Rattle.map_model.specs.declared.limits.TheConstants.{GREATEST_SIDE, GREATEST_WEIGHT};
+ghost use Rattle.questions.specs.Questions.{IsAskable, IsRowFor, cut_layers, metal_layers, of_kind, of_sizes, questions, side_of};
 ghost use Rattle.questions.specs.declared.kind.Kind.TheVariants.{Via};
 ghost use Rattle.questions.specs.declared.row.TheConstants.{MOST_ROWS};
 
@@ -20,13 +20,23 @@ pub struct Question {
     pub number: u32,
     /// Its name.
     pub layer: LayerName,
-    /// The size of the defects.
+    /// Whether the size is a radius or a side.
     pub measure: Measure,
+    /// The size of the defects.
+    pub size: u32,
     /// By what the area counts in the totals.
     pub weight: u64,
 }
 
 impl Question {
+    /// The side of the defects, in database units.
+    pub fn side(&self) -> u32
+        requires small { side_of self.now ≤ GREATEST_SIDE }
+        ensures { result ≡ side_of self.now }
+    {
+        self.measure.side(self.size)
+    }
+
     /// The row that answers the question by this area.
     pub fn row(&self, area: u64) -> Row
         requires small_area { area < 2 ^ 63 }
@@ -38,6 +48,7 @@ impl Question {
             kind: self.kind,
             layer: self.layer,
             measure: self.measure,
+            size: self.size,
             area,
             weight: self.weight,
         }
@@ -61,7 +72,7 @@ pub fn questions_of(alloc: Global, map: &Map) -> Result<Vec<Question>, NoMemory>
 /// Adds the questions of this kind of each metal.
 fn ask_of_metals(map: &Map, kind: Kind, asked: &mut Vec<Question>) -> Result<(), NoMemory>
     ensures { let layer_map = layer_map_of map.now in
-        OnOk result (asked.new.items ≡ asked.old.items ++ of_kind kind (metal_layers layer_map) layer_map.sizes) }
+        OnOk result (asked.new.items ≡ asked.old.items ++ of_kind kind (metal_layers layer_map) layer_map.measure layer_map.sizes) }
 {
     for (number, metal) in map.metals.as_slice().iter().enumerate() {
         ask(map, kind, number as u32, metal.name, asked)?;
@@ -72,7 +83,7 @@ fn ask_of_metals(map: &Map, kind: Kind, asked: &mut Vec<Question>) -> Result<(),
 /// Adds the questions of each cut. The numbers of cuts go on behind those of the metals.
 fn ask_of_cuts(map: &Map, asked: &mut Vec<Question>) -> Result<(), NoMemory>
     ensures { let layer_map = layer_map_of map.now in
-        OnOk result (asked.new.items ≡ asked.old.items ++ of_kind Via (cut_layers layer_map) layer_map.sizes) }
+        OnOk result (asked.new.items ≡ asked.old.items ++ of_kind Via (cut_layers layer_map) layer_map.measure layer_map.sizes) }
 {
     let metals = map.metals.as_slice().len();
     for (number, cut) in map.cuts.as_slice().iter().enumerate() {
@@ -89,15 +100,16 @@ fn ask(
     layer: LayerName,
     asked: &mut Vec<Question>,
 ) -> Result<(), NoMemory>
-    ensures { OnOk result
-        (asked.new.items ≡ asked.old.items ++ of_sizes kind number layer (layer_map_of map.now).sizes) }
+    ensures { let layer_map = layer_map_of map.now in
+        OnOk result (asked.new.items ≡ asked.old.items ++ of_sizes kind number layer layer_map.measure layer_map.sizes) }
 {
-    for (k, radius) in map.radii.as_slice().iter().enumerate() {
+    for (k, size) in map.sizes.as_slice().iter().enumerate() {
         asked.push(Question {
             kind,
             number,
             layer,
-            measure: Measure::Radius(*radius),
+            measure: map.measure,
+            size: *size,
             weight: map.weights.as_slice()[k],
         })?;
     }

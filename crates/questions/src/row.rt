@@ -14,8 +14,10 @@ pub struct Row {
     pub kind: Kind,
     /// The name of the metal or cut.
     pub layer: LayerName,
-    /// The size of the defect.
+    /// Whether the size is a radius or a side.
     pub measure: Measure,
+    /// The size of the defect, as its map lists it.
+    pub size: u32,
     /// How many cells of the window have the fault. No edge of a window is further than 1,001,000,000 from 0, so these
     /// are fewer than 2^63.
     pub area: u64,

@@ -1,9 +1,8 @@
 -- the text of a report: a line for each row, and then the totals
 use Rattle.std.specs.Prelude.{ℕ, Bool, true, false, List, [], ◌∷◌, ◌++◌, ◌*◌, codes, filter, sum_by, flat_map}
 use Rattle.lists.specs.Words.{concat, decimal}
-use Rattle.map_model.specs.Measures.{listed_of}
 use Rattle.map_model.specs.declared.measure.Measure.{Measure}
-use Rattle.map_model.specs.declared.measure.Measure.TheVariants.{Radius}
+use Rattle.map_model.specs.declared.measure.Measure.TheVariants.{Radius, Side}
 use Rattle.questions.specs.declared.kind.Kind.{Kind}
 use Rattle.questions.specs.declared.kind.Kind.TheVariants.{Short, Open, Via}
 use Rattle.questions.specs.KindTexts.{kind_text}
@@ -30,13 +29,14 @@ total_of rows = sum_by product_of rows
 
 -- the letter that stands before the size
 abbrev pub letter_of : Measure → List ℕ
-letter_of (Radius radius) = codes "r"
+letter_of Radius = codes "r"
+letter_of Side = codes "s"
 
 -- a row's line, with the newline at its end
 abbrev pub line_text : Row → List ℕ
 line_text row = concat (
     kind_text row.kind ∷ codes " " ∷ row.layer
-    ∷ codes " " ∷ letter_of row.measure ∷ codes "=" ∷ decimal (listed_of row.measure)
+    ∷ codes " " ∷ letter_of row.measure ∷ codes "=" ∷ decimal row.size
     ∷ codes " area=" ∷ decimal row.area
     ∷ codes " weight=" ∷ decimal row.weight
     ∷ codes " sum=" ∷ decimal (product_of row)

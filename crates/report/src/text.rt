@@ -42,7 +42,7 @@ fn write_line(text: &mut String, row: &Row) -> Result<(), NoMemory>
 {
     let layer = row.layer.as_str();
     let letter = letter(row.measure);
-    let size = row.measure.listed();
+    let size = row.size;
     let sum = product(row);
     writeln!(
         text,
@@ -52,12 +52,13 @@ fn write_line(text: &mut String, row: &Row) -> Result<(), NoMemory>
     Ok(())
 }
 
-/// The letter that stands before a size: `r` before a radius.
+/// The letter that stands before a size: `r` before a radius, and `s` before a side.
 pub fn letter(measure: Measure) -> &'static str
     ensures { result.now ≡ letter_of measure }
 {
     match measure {
-        Measure::Radius(_) => "r",
+        Measure::Radius => "r",
+        Measure::Side => "s",
     }
 }
 

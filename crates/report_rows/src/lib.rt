@@ -5,6 +5,8 @@
 #[cfg(test)]
 mod gauged;
 #[cfg(test)]
+mod letters;
+#[cfg(test)]
 mod reports;
 #[cfg(test)]
 mod rows;

@@ -4,7 +4,7 @@ use map_model::{LayerName, Measure};
 use report::{Kind, Row};
 use std::alloc::Global;
 
-/// What a row says: kind, name of the layer, radius, area and weight.
+/// What a row says: kind, name of the layer, size, area and weight.
 pub type Said<'a> = (Kind, &'a str, u32, u64, u64);
 
 /// The greatest area.
@@ -26,7 +26,12 @@ pub const TWO_METALS: &[Said<'static>] = &[
 
 /// The row that says this, and `None` where a number or the name may not stand in a row.
 pub fn row(said: &Said<'_>) -> Option<Row> {
-    let (kind, name, radius, area, weight) = *said;
+    row_by(Measure::Radius, said)
+}
+
+/// The same, where the size is measured so.
+pub fn row_by(measure: Measure, said: &Said<'_>) -> Option<Row> {
+    let (kind, name, size, area, weight) = *said;
     if area > GREATEST_AREA || weight > GREATEST_WEIGHT {
         return None;
     }
@@ -34,7 +39,8 @@ pub fn row(said: &Said<'_>) -> Option<Row> {
     Some(Row {
         kind,
         layer,
-        measure: Measure::Radius(radius),
+        measure,
+        size,
         area,
         weight,
     })

@@ -7,4 +7,4 @@ use Rattle.questions.proofs.question.ask_of_cuts.Given as goal
 abbrev pub invariant-loop-number : goal.invariant-loop-number
 invariant-loop-number l =
     let layer_map = layer_map_of l.map in
-    l.asked.items ≡ l.initial.asked.items ++ of_kind Via (take l.number (cut_layers layer_map)) layer_map.sizes
+    l.asked.items ≡ l.initial.asked.items ++ of_kind Via (take l.number (cut_layers layer_map)) layer_map.measure layer_map.sizes

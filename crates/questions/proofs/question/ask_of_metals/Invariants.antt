@@ -6,4 +6,4 @@ use Rattle.questions.proofs.question.ask_of_metals.Given as goal
 abbrev pub invariant-loop-number : goal.invariant-loop-number
 invariant-loop-number l =
     let layer_map = layer_map_of l.map in
-    l.asked.items ≡ l.initial.asked.items ++ of_kind l.kind (take l.number (metal_layers layer_map)) layer_map.sizes
+    l.asked.items ≡ l.initial.asked.items ++ of_kind l.kind (take l.number (metal_layers layer_map)) layer_map.measure layer_map.sizes

@@ -1,6 +1,6 @@
 use Rattle.std.proofs.Common.{List, length, arith, ap, sym, subst, All}
 use Rattle.lists.proofs.Words.{zip, length-map, length-zip}
-use Rattle.map_model.specs.MapNames.{radius_size, metal_layer, mapped_cut, layer_map_of}
+use Rattle.map_model.specs.MapNames.{weighed_size, metal_layer, mapped_cut, layer_map_of}
 use Rattle.questions.specs.Questions.{IsAskable, questions}
 use Rattle.questions.specs.declared.question.Question.{Question}
 use Rattle.questions.proofs.Asking.{asked_in_order, askable, askable_sizes, few_questions}
@@ -14,7 +14,7 @@ returns-clause-askable c =
     let given = c.args.map.now in
     let metals = length-map given.metals metal_layer in
     let cuts = length-map given.cuts mapped_cut in
-    let each = askable (layer_map_of given) (askable_sizes given.radii given.weights given.are_radii.each given.are_weights.each) in
+    let each = askable (layer_map_of given) (askable_sizes given.measure given.sizes given.weights given.are_sizes.each given.are_weights.each) in
     let by_metals = subst (λ n. All (IsAskable n (length (layer_map_of given).cuts)) (questions (layer_map_of given))) metals each in
     let by_both = subst (λ n. All (IsAskable (length given.metals) n) (questions (layer_map_of given))) cuts by_metals in
     subst (λ (qs : List Question). All (IsAskable (length given.metals) (length given.cuts)) qs) (sym (returns-clause-questions c)) by_both
@@ -23,5 +23,5 @@ pub returns-clause-few : goal.returns-clause-few
 returns-clause-few c =
     let given = c.args.map.now in
     let few = few_questions (layer_map_of given) (omega (arith, length-map given.metals metal_layer)) (omega (arith, length-map given.cuts mapped_cut))
-    (omega (arith, length-map (zip given.radii given.weights) radius_size, length-zip given.radii given.weights)) in
+    (omega (arith, length-map (zip given.sizes given.weights) weighed_size, length-zip given.sizes given.weights)) in
     omega (arith, few, ap length (returns-clause-questions c))
