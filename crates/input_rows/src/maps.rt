@@ -4,6 +4,7 @@ mod hostile;
 mod limits;
 mod order;
 mod samples;
+mod sides;
 mod single;
 mod texts;
 mod whole;

@@ -6,6 +6,7 @@ use Rattle.geo_core.specs.declared.plane.Cell.{Cell}
 use Rattle.toml.specs.Data.{Data, Members}
 use Rattle.layer_map.specs.CutChecks.{cut_checks}
 use Rattle.layer_map.specs.Documents.{GivesCut, GivesLayer, GivesMap, GivesTerminal, NamesMetal}
+use Rattle.layer_map.specs.DocumentSizes.{measure_of}
 use Rattle.layer_map.specs.LayerChecks.{layer_checks}
 use Rattle.map_model.specs.MapNames.{LayerMap, MappedCut, MappedLayer, names_of, sizes_of}
 use Rattle.lists.specs.Differing.{AreDifferent}
@@ -105,16 +106,17 @@ module _ (document : Members) (all : All (Holds document) (checks_of document)) 
 
   pub a_map : (layer_map : LayerMap) × GivesMap document layer_map
   a_map =
-      let radii = all 4 has_known_keys (omega arith) in
+      let sizes = all 4 has_known_keys (omega arith) in
       let weights = all 5 has_known_keys (omega arith) in
       let cuts = list_for (GivesCut metals.0) (cuts_in document) a_cut in
       let terminals = list_for (GivesTerminal metals.0) (terminals_in document) a_terminal in (
-        record { metals = metals.0; cuts = cuts.0; sizes = sizes_of radii.0 weights.0; terminals = terminals.0 },
+        record { metals = metals.0; cuts = cuts.0; measure = measure_of document; sizes = sizes_of sizes.0 weights.0; terminals = terminals.0 },
         record {
-          radii = radii.0;
+          numbers = sizes.0;
           weights = weights.0;
-          has_radii = radii.1;
+          has_sizes = sizes.1;
           has_weights = weights.1;
+          measure = refl;
           sizes = refl;
           metals = metals.1;
           names_differ = names_differ;

@@ -7,6 +7,7 @@ pub mod ReferenceLaws
 pub mod PairLaws
 pub mod SeenLaws
 pub mod SizeLaws
+pub mod VersionLaws
 pub mod EachLaws
 pub mod CutLaws
 pub mod CellLaws
@@ -17,3 +18,4 @@ pub mod ExistLaws
 pub mod SampleLaws
 pub mod CauseLaws
 pub mod PlaceLaws
+pub mod FirstLaws

@@ -4,17 +4,19 @@ use Rattle.layer_map.specs.inside.ReadValues.{IsThere}
 use Rattle.lists.proofs.Words.{length-map}
 use Rattle.toml.specs.Data.{Members}
 use Rattle.layer_map.specs.Documents.{GivesMap, IsDocument, MapComesTo, value_as}
-use Rattle.map_model.specs.MapNames.{mapped_cut, metal_layer, layer_map_of, sizes_of, terminal_of, AreRadii, AreWeights}
+use Rattle.map_model.specs.MapNames.{mapped_cut, metal_layer, layer_map_of, sizes_of, terminal_of, AreSizes, AreWeights}
+use Rattle.map_model.specs.declared.measure.Measure.{Measure}
 use Rattle.first_refusal.specs.Outcomes.{Reads, stops as ends, goes_on as goes_further}
 use Rattle.first_refusal.specs.Checks.{all_hold, one_fails}
-use Rattle.layer_map.specs.MapChecks.{Holds, checks_of, fault_of, has_radii, radii_are_array, radii_are_few}
+use Rattle.layer_map.specs.MapChecks.{Holds, checks_of, fault_of, has_sizes, sizes_are_array, sizes_are_few}
 use Rattle.first_refusal.specs.Answers.{Answers, gives, refuses, no_memory}
 use Rattle.toml.specs.View.{table_view}
 use Rattle.toml.specs.declared.value.Value.{Value}
 use Rattle.layer_map.specs.inside.ReadMetals.{TakesMetals}
 use Rattle.layer_map.specs.inside.ReadCuts.{TakesCuts}
 use Rattle.layer_map.specs.inside.ReadTerminals.{TakesTerminals}
-use Rattle.layer_map.specs.Values.{radii_in, values_in, weights_in, whole_number, whole_numbers}
+use Rattle.layer_map.specs.Values.{values_in, weights_in, whole_number, whole_numbers}
+use Rattle.layer_map.specs.DocumentSizes.{measure_of, sizes_in}
 use Rattle.layer_map.specs.declared.fault.MapFault.{MapFault}
 use Rattle.layer_map.specs.declared.fault.MapFault.TheVariants.{Memory, Syntax}
 use Rattle.map_model.specs.declared.layers.Cut.{Cut}
@@ -26,21 +28,23 @@ use Rattle.first_refusal.proofs.JudgeLaws.{Judges, given}
 use Rattle.layer_map.proofs.ValueLaws.{listed-items_of}
 use Rattle.layer_map.proofs.SeenLaws.{layer_names_differ}
 
--- how many radii there are
-pub radii_count : (document : Members) {radii : List ℕ} → Judges Memory (Holds document) (radii_are_array ∷ radii_are_few ∷ has_radii ∷ []) fault_of
-    (IsThere whole_numbers AreRadii (radii_in document)) (Ok radii) → length radii ≡ length (values_in (radii_in document))
-radii_count document {radii} told = sym (ap length (ap values_in (given told).written ∙ listed-items_of (map whole_number radii)) ∙ length-map radii whole_number)
+-- how many sizes there are
+pub sizes_count : (document : Members) {sizes : List ℕ} → Judges Memory (Holds document) (sizes_are_array ∷ sizes_are_few ∷ has_sizes ∷ []) fault_of
+    (IsThere whole_numbers (AreSizes (measure_of document)) (sizes_in document)) (Ok sizes) → length sizes ≡ length (values_in (sizes_in document))
+sizes_count document {sizes} told = sym (ap length (ap values_in (given told).written ∙ listed-items_of (map whole_number sizes)) ∙ length-map sizes whole_number)
 
 -- the map of what was read
-pub gives_map : (document : Members) {seen : Seen} {radii weights : List ℕ} {metals : List Metal} {cuts : List Cut} {terminals : List Terminal}
-    → IsThere whole_numbers AreRadii (radii_in document) radii → IsThere whole_numbers (AreWeights (length radii)) (weights_in document) weights
+pub gives_map : (document : Members) {seen : Seen} {measure : Measure} {numbers weights : List ℕ} {metals : List Metal} {cuts : List Cut} {terminals : List Terminal}
+    → measure ≡ measure_of document
+    → IsThere whole_numbers (AreSizes (measure_of document)) (sizes_in document) numbers → IsThere whole_numbers (AreWeights (length numbers)) (weights_in document) weights
     → TakesMetals document seen metals → TakesCuts document metals cuts → TakesTerminals document metals terminals
-    → GivesMap document (record { metals = map metal_layer metals; cuts = map mapped_cut cuts; sizes = sizes_of radii weights; terminals = map terminal_of terminals })
-gives_map document {seen} {radii} {weights} {metals} radii_there weights_there takes_metals takes_cuts takes_terminals = record {
-  radii = radii;
+    → GivesMap document (record { metals = map metal_layer metals; cuts = map mapped_cut cuts; measure = measure; sizes = sizes_of numbers weights; terminals = map terminal_of terminals })
+gives_map document {seen} {measure} {numbers} {weights} {metals} measured sizes_there weights_there takes_metals takes_cuts takes_terminals = record {
+  numbers = numbers;
   weights = weights;
-  has_radii = radii_there.written;
+  has_sizes = sizes_there.written;
   has_weights = weights_there.written;
+  measure = measured;
   sizes = refl;
   metals = takes_metals.gives_them;
   names_differ = layer_names_differ document seen metals takes_metals;

@@ -8,12 +8,12 @@ use Rattle.std.proofs.lemmas.Bool.{not-true}
 use Rattle.std.proofs.lemmas.Str.Ascii.{IsAscii-from_all}
 use Rattle.first_refusal.specs.Outcomes.{goes_on, reads, value}
 use Rattle.first_refusal.specs.Checks.{all_hold}
-use Rattle.geo_core.specs.Plane.{IsRadius}
 use Rattle.toml.specs.Data.{Data, Members, no_members, member, string, table, as_str}
 use Rattle.toml.specs.Parse.{parse_document}
 use Rattle.toml.proofs.OnLiterals.{toml_on_literals}
 use Rattle.layer_map.specs.Documents.{GivesMap, IsDocument, MapComesTo, NamesMetal}
-use Rattle.map_model.specs.MapNames.{AreRadii, AreWeights, IsPair, ArePairs, IsLayerName, is_name_byte}
+use Rattle.map_model.specs.MapNames.{AreSizes, AreWeights, IsSize, IsPair, ArePairs, IsLayerName, is_name_byte}
+use Rattle.map_model.specs.declared.measure.Measure.TheVariants.{Radius}
 use Rattle.lists.specs.Differing.{AreDifferent}
 use Rattle.layer_map.specs.MapChecks.{MapCheck, Holds, checks_of, checks_of_cuts, checks_of_metals, checks_of_terminals, first_checks, map_keys}
 use Rattle.layer_map.specs.LayerChecks.{metal_keys}
@@ -86,11 +86,11 @@ is_document = record {
 }
 
 -- what the checks are about
-radii_are : AreRadii (2 ∷ 5 ∷ [])
+radii_are : AreSizes Radius (2 ∷ 5 ∷ [])
 radii_are = record {
   some = omega arith;
   few = omega arith;
-  each = All-from_recursion IsRadius (2 ∷ 5 ∷ []) (record { least = omega arith; most = omega (arith, ints) }, (record { least = omega arith; most = omega (arith, ints) }, tt));
+  each = All-from_recursion (IsSize Radius) (2 ∷ 5 ∷ []) (record { least = omega arith; most = omega arith }, (record { least = omega arith; most = omega arith }, tt));
   rising = rising;
 } where
   rising : IsStrictlyIncreasing (2 ∷ 5 ∷ [])
@@ -124,9 +124,9 @@ abbrev Sound : MapCheck → Type 0
 Sound = Holds sample_document
 
 head_holds : All Sound first_checks
-head_holds = All-from_recursion Sound first_checks (keys, (refl, (refl, (omega arith, ((2 ∷ 5 ∷ [], refl, radii_are), ((10 ∷ 1 ∷ [], refl, weights_are), tt)))))) where
-  keys : All (Contains map_keys) (codes "cut" ∷ codes "metal" ∷ codes "radii" ∷ codes "terminal" ∷ codes "version" ∷ codes "weights" ∷ [])
-  keys = All-from_recursion (Contains map_keys) (codes "cut" ∷ codes "metal" ∷ codes "radii" ∷ codes "terminal" ∷ codes "version" ∷ codes "weights" ∷ [])
+head_holds = All-from_recursion Sound first_checks (keys, ((1, refl, (omega arith, omega arith)), (refl, (omega arith, ((2 ∷ 5 ∷ [], refl, radii_are), ((10 ∷ 1 ∷ [], refl, weights_are), tt)))))) where
+  keys : All (Contains (map_keys Radius)) (codes "cut" ∷ codes "metal" ∷ codes "radii" ∷ codes "terminal" ∷ codes "version" ∷ codes "weights" ∷ [])
+  keys = All-from_recursion (Contains (map_keys Radius)) (codes "cut" ∷ codes "metal" ∷ codes "radii" ∷ codes "terminal" ∷ codes "version" ∷ codes "weights" ∷ [])
       ((4, omega arith, refl), ((3, omega arith, refl), ((1, omega arith, refl), ((5, omega arith, refl), ((0, omega arith, refl), ((2, omega arith, refl), tt))))))
 
 -- the keys and the name of an item and its pairs
@@ -177,10 +177,11 @@ sample_holds =
 
 sample_gives : GivesMap sample_document sample_map
 sample_gives = record {
-  radii = 2 ∷ 5 ∷ [];
+  numbers = 2 ∷ 5 ∷ [];
   weights = 10 ∷ 1 ∷ [];
-  has_radii = refl;
+  has_sizes = refl;
   has_weights = refl;
+  measure = refl;
   sizes = refl;
   metals = (record { name = refl; pairs = refl }, (record { name = refl; pairs = refl }, tt));
   names_differ = are_different name_code (codes "m1" ∷ codes "m2" ∷ []) refl;

@@ -6,6 +6,7 @@ use Rattle.first_refusal.specs.Laws.{IsUnique}
 use Rattle.toml.specs.Data.{Data, Members}
 use Rattle.layer_map.specs.Documents.{GivesCut, GivesLayer, GivesMap, GivesTerminal, IsDocument}
 use Rattle.map_model.specs.MapNames.{DefectSize, MappedCut, MappedLayer, names_of, sizes_of, LayerMap}
+use Rattle.map_model.specs.declared.measure.Measure.{Measure}
 use Rattle.lists.specs.Differing.{AreDifferent}
 use Rattle.layer_map.specs.Values.{array_of, pair_value, cuts_in, terminals_in, values_in, whole_number}
 use Rattle.layer_map.proofs.ValueLaws.{listed-items_of}
@@ -60,11 +61,13 @@ maps_tell document one other p q =
     (subst (λ (ms : List MappedLayer). AllZip (GivesCut ms) (cuts_in document) other.cuts) (sym metals) q.cuts) in
     let terminals : one.terminals ≡ other.terminals = zip_tells (GivesTerminal one.metals) (terminals_tell one.metals p.names_differ) _ one.terminals other.terminals p.terminals
     (subst (λ (ms : List MappedLayer). AllZip (GivesTerminal ms) (terminals_in document) other.terminals) (sym metals) q.terminals) in
-    let radii : p.radii ≡ q.radii = arrays_tell whole_number number_tells _ p.radii q.radii p.has_radii q.has_radii in
+    let numbers : p.numbers ≡ q.numbers = arrays_tell whole_number number_tells _ p.numbers q.numbers p.has_sizes q.has_sizes in
     let weights : p.weights ≡ q.weights = arrays_tell whole_number number_tells _ p.weights q.weights p.has_weights q.has_weights in
-    let sizes : one.sizes ≡ other.sizes = p.sizes ∙ ap (λ (rs : List ℕ). sizes_of rs p.weights) radii ∙ ap (λ (ws : List ℕ). sizes_of q.radii ws) weights ∙ sym q.sizes in
-    let made : List MappedLayer → List MappedCut → List DefectSize → List (ℕ × Cell) → LayerMap = λ ms cs ss ts. record { metals = ms; cuts = cs; sizes = ss; terminals = ts } in
-    let same : made one.metals one.cuts one.sizes one.terminals ≡ made other.metals other.cuts other.sizes other.terminals = cc (metals, cuts, sizes, terminals) in same
+    let sizes : one.sizes ≡ other.sizes = p.sizes ∙ ap (λ (ns : List ℕ). sizes_of ns p.weights) numbers ∙ ap (λ (ws : List ℕ). sizes_of q.numbers ws) weights ∙ sym q.sizes in
+    let measures : one.measure ≡ other.measure = p.measure ∙ sym q.measure in
+    let made : List MappedLayer → List MappedCut → Measure → List DefectSize → List (ℕ × Cell) → LayerMap =
+    λ ms cs measure ss ts. record { metals = ms; cuts = cs; measure = measure; sizes = ss; terminals = ts } in
+    let same : made one.metals one.cuts one.measure one.sizes one.terminals ≡ made other.metals other.cuts other.measure other.sizes other.terminals = cc (metals, cuts, measures, sizes, terminals) in same
 
 pub documents_agree : (bytes : List ℕ) → IsUnique (IsDocument bytes)
 documents_agree bytes one other p q = same_Some _ _ (sym p.parsed ∙ q.parsed)

@@ -8,8 +8,8 @@ document_path = 1
 abbrev pub version_path : ℕ
 version_path = 2
 
-abbrev pub radii_path : ℕ
-radii_path = 3
+abbrev pub sizes_path : ℕ
+sizes_path = 3
 
 abbrev pub weights_path : ℕ
 weights_path = 4

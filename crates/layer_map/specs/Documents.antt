@@ -8,8 +8,9 @@ use Rattle.toml.specs.Data.{Data, string, integer, Members}
 use Rattle.toml.specs.Parse.{parse_document}
 use Rattle.lists.specs.Differing.{AreDifferent}
 use Rattle.map_model.specs.MapNames.{LayerMap, MappedLayer, MappedCut, names_of, sizes_of}
-use Rattle.layer_map.specs.Values.{whole_numbers, pairs_value, radii_in, weights_in, metals_in, cuts_in, terminals_in, name_of_item}
+use Rattle.layer_map.specs.Values.{whole_numbers, pairs_value, weights_in, metals_in, cuts_in, terminals_in, name_of_item}
 use Rattle.layer_map.specs.Values.{pairs_of_item, lower_of_item, upper_of_item, metal_of_item, x_of_item, y_of_item}
+use Rattle.layer_map.specs.DocumentSizes.{measure_of, sizes_in}
 use Rattle.layer_map.specs.MapChecks.{Holds, checks_of, fault_of}
 use Rattle.layer_map.specs.declared.fault.MapFault.{MapFault}
 use Rattle.layer_map.specs.declared.fault.MapFault.TheVariants.{Syntax}
@@ -43,14 +44,16 @@ pub record GivesTerminal (metals : List MappedLayer) (item : Data) (terminal : �
   pub column : x_of_item item ≡ Some (integer terminal.1.i)
   pub row : y_of_item item ≡ Some (integer terminal.1.j)
 
--- The document gives this layer map: its radii with their weights, and item by item its metals, cuts and terminals.
+-- The document gives this layer map: its sizes with their weights, and what measures them, and item by item its metals, cuts
+-- and terminals.
 -- The names of metals differ (where the checks hold they do), so a name tells one number.
 pub record GivesMap (document : Members) (layer_map : LayerMap) : Type 0 where
-  pub radii : List ℕ
+  pub numbers : List ℕ
   pub weights : List ℕ
-  pub has_radii : radii_in document ≡ Some (whole_numbers radii)
+  pub has_sizes : sizes_in document ≡ Some (whole_numbers numbers)
   pub has_weights : weights_in document ≡ Some (whole_numbers weights)
-  pub sizes : layer_map.sizes ≡ sizes_of radii weights
+  pub measure : layer_map.measure ≡ measure_of document
+  pub sizes : layer_map.sizes ≡ sizes_of numbers weights
   pub metals : AllZip GivesLayer (metals_in document) layer_map.metals
   pub names_differ : AreDifferent (names_of layer_map.metals)
   pub cuts : AllZip (GivesCut layer_map.metals) (cuts_in document) layer_map.cuts

@@ -1,5 +1,6 @@
 -- the documents that name them
 pub mod Values
+pub mod DocumentSizes
 pub mod DocumentPaths
 pub mod MapFaults
 pub mod ItemChecks
@@ -10,6 +11,7 @@ pub mod MapChecks
 pub mod Documents
 pub mod MapPlaces
 pub mod MapCauses
+pub mod FirstPlaces
 -- an example
 pub mod Sample
 -- what a map is, which stands below

@@ -3,10 +3,12 @@ use Rattle.std.specs.Prelude.{ℕ, ◌≡◌, ◌≤◌, List, [], ◌∷◌, �
 use Rattle.std.specs.Prelude.{IsSomeAnd, IfSome, All, Contains}
 use Rattle.lists.specs.Words.{range_with_len}
 use Rattle.toml.specs.Data.{Data, Members, as_array}
-use Rattle.map_model.specs.MapNames.{AreRadii, AreWeights}
-use Rattle.layer_map.specs.Values.{whole_number, whole_numbers, StandsAs, keys_in, values_in, version_in, radii_in, weights_in, cut_in}
+use Rattle.map_model.specs.MapNames.{AreSizes, AreWeights}
+use Rattle.map_model.specs.declared.measure.Measure.{Measure}
+use Rattle.layer_map.specs.Values.{whole_number, whole_numbers, StandsAs, keys_in, values_in, version_in, weights_in, cut_in}
 use Rattle.layer_map.specs.Values.{terminal_in, metals_in, cuts_in, terminals_in}
-use Rattle.layer_map.specs.DocumentPaths.{document_path, version_path, radii_path, weights_path, metals_path, cuts_path, terminals_path}
+use Rattle.layer_map.specs.DocumentSizes.{measure_of, sizes_in, sizes_key}
+use Rattle.layer_map.specs.DocumentPaths.{document_path, version_path, sizes_path, weights_path, metals_path, cuts_path, terminals_path}
 use Rattle.layer_map.specs.DocumentPaths.{metal_path, cut_path, terminal_path}
 use Rattle.layer_map.specs.LayerChecks.{LayerCheck, layer_checks, LayerHolds, layer_fault, metal_keys}
 use Rattle.layer_map.specs.CutChecks.{CutCheck, cut_checks, CutHolds, cut_fault}
@@ -18,9 +20,9 @@ use Rattle.layer_map.specs.declared.fault.MapFault.TheVariants.{BadKey, BadValue
 pub data MapCheck : Type 0 where
   has_known_keys : MapCheck
   has_version : MapCheck
-  radii_are_array : MapCheck
-  radii_are_few : MapCheck
-  has_radii : MapCheck
+  sizes_are_array : MapCheck
+  sizes_are_few : MapCheck
+  has_sizes : MapCheck
   has_weights : MapCheck
   has_metals : MapCheck
   metals_are_few : MapCheck
@@ -32,9 +34,14 @@ pub data MapCheck : Type 0 where
   terminals_are_few : MapCheck
   of_terminal : ℕ → TerminalCheck → MapCheck
 
--- the keys of a document
-abbrev pub map_keys : List (List ℕ)
-map_keys = codes "version" ∷ codes "radii" ∷ codes "weights" ∷ codes "metal" ∷ codes "cut" ∷ codes "terminal" ∷ []
+-- the keys of a document whose sizes are measured so
+abbrev pub map_keys : Measure → List (List ℕ)
+map_keys measure =
+    codes "version" ∷ sizes_key measure ∷ codes "weights" ∷ codes "metal" ∷ codes "cut" ∷ codes "terminal" ∷ []
+
+-- the number is that of a version: 1 or 2
+abbrev pub IsVersion : ℕ → Type 0
+IsVersion number = (1 ≤ number) × (number ≤ 2)
 
 -- an array stands there
 abbrev pub IsArray : Option Data → Type 0
@@ -46,12 +53,12 @@ IsArrayOrNone there = IfSome there (λ value. IsSome (as_array value))
 
 -- What each demands of the document. To a cut every metal is an earlier layer.
 abbrev pub Holds : Members → MapCheck → Type 0
-Holds document has_known_keys = All (Contains map_keys) (keys_in document)
-Holds document has_version = version_in document ≡ Some (whole_number 1)
-Holds document radii_are_array = IsArray (radii_in document)
-Holds document radii_are_few = length (values_in (radii_in document)) ≤ 32
-Holds document has_radii = StandsAs whole_numbers AreRadii (radii_in document)
-Holds document has_weights = StandsAs whole_numbers (AreWeights (length (values_in (radii_in document)))) (weights_in document)
+Holds document has_known_keys = All (Contains (map_keys (measure_of document))) (keys_in document)
+Holds document has_version = StandsAs whole_number IsVersion (version_in document)
+Holds document sizes_are_array = IsArray (sizes_in document)
+Holds document sizes_are_few = length (values_in (sizes_in document)) ≤ 32
+Holds document has_sizes = StandsAs whole_numbers (AreSizes (measure_of document)) (sizes_in document)
+Holds document has_weights = StandsAs whole_numbers (AreWeights (length (values_in (sizes_in document)))) (weights_in document)
 Holds document has_metals = 1 ≤ length (metals_in document)
 Holds document metals_are_few = length (metals_in document) ≤ 16
 Holds document (of_metal number check) =
@@ -71,9 +78,9 @@ Holds document (of_terminal number check) =
 abbrev pub checks_of_each : {C : Type 0} → (ℕ → C → MapCheck) → List C → List Data → List MapCheck
 checks_of_each of_item checks items = flat_map (λ number. map (of_item number) checks) (range_with_len 0 (length items))
 
--- the checks of the keys, the version, the radii and the weights
+-- the checks of the keys, the version, the sizes and the weights
 abbrev pub first_checks : List MapCheck
-first_checks = has_known_keys ∷ has_version ∷ radii_are_array ∷ radii_are_few ∷ has_radii ∷ has_weights ∷ []
+first_checks = has_known_keys ∷ has_version ∷ sizes_are_array ∷ sizes_are_few ∷ has_sizes ∷ has_weights ∷ []
 
 -- the checks of the metals: of them all, and then of each
 abbrev pub checks_of_metals : Members → List MapCheck
@@ -95,9 +102,9 @@ checks_of document = first_checks ++ (checks_of_metals document ++ (checks_of_cu
 abbrev pub fault_of : MapCheck → MapFault
 fault_of has_known_keys = BadKey document_path
 fault_of has_version = BadValue version_path
-fault_of radii_are_array = BadValue radii_path
-fault_of radii_are_few = LimitPassed radii_path
-fault_of has_radii = BadValue radii_path
+fault_of sizes_are_array = BadValue sizes_path
+fault_of sizes_are_few = LimitPassed sizes_path
+fault_of has_sizes = BadValue sizes_path
 fault_of has_weights = BadValue weights_path
 fault_of has_metals = BadValue metals_path
 fault_of metals_are_few = LimitPassed metals_path

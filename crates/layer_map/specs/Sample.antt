@@ -1,6 +1,7 @@
 -- a sample: a text, and the layer map that it is to give
 use Rattle.std.specs.Prelude.{ℕ, pos, false, List, [], ◌∷◌, codes}
-use Rattle.map_model.specs.MapNames.{LayerMap, radius_size}
+use Rattle.map_model.specs.MapNames.{LayerMap, weighed_size}
+use Rattle.map_model.specs.declared.measure.Measure.TheVariants.{Radius}
 
 -- two metals, one cut between them, two radii, and one terminal
 abbrev pub sample_text : List ℕ
@@ -12,6 +13,7 @@ abbrev pub sample_map : LayerMap
 sample_map = record {
   metals = record { name = codes "m1"; pairs = (1, 0) ∷ (1, 20) ∷ [] } ∷ record { name = codes "m2"; pairs = (3, 0) ∷ [] } ∷ [];
   cuts = record { mapped = record { name = codes "v1"; pairs = (2, 0) ∷ [] }; lower = 0; upper = 1; has_terminals = false } ∷ [];
-  sizes = radius_size (2, 10) ∷ radius_size (5, 1) ∷ [];
+  measure = Radius;
+  sizes = weighed_size (2, 10) ∷ weighed_size (5, 1) ∷ [];
   terminals = (0, record { i = pos 0; j = pos 0 }) ∷ [];
 }

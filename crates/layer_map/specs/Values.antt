@@ -51,9 +51,6 @@ StandsAs {A} written Is there = (thing : A) × (there ≡ Some (written thing)) 
 abbrev pub version_in : Members → Option Data
 version_in = get_member (codes "version")
 
-abbrev pub radii_in : Members → Option Data
-radii_in = get_member (codes "radii")
-
 abbrev pub weights_in : Members → Option Data
 weights_in = get_member (codes "weights")
 

@@ -3,7 +3,6 @@ ghost use Rattle.std.specs.Prelude.{◌≡◌};
 
 use lists::NoMemory;
 use std::alloc::{AllocError, AllocFailed};
-use std::fmt;
 use thiserror::Error;
 
 /// Why bytes are no layer map. A path is the number of a place in the document:
@@ -11,7 +10,7 @@ use thiserror::Error;
 /// | path | place |
 /// |---|---|
 /// | 1 | the document |
-/// | 2, 3, 4 | `version`, `radii`, `weights` |
+/// | 2, 3, 4 | `version`, `radii` or `sides`, `weights` |
 /// | 5, 6, 7 | `metal`, `cut`, `terminal` |
 /// | 100, 110, 120, .. | the first, second, third, .. item of `metal`; its `name` is 1 further, its `pairs` 2 |
 /// | 300, 310, 320, .. | those of `cut`; `name`, `pairs`, `lower` and `upper` are 1, 2, 3 and 4 further |
@@ -20,24 +19,33 @@ use thiserror::Error;
 pub enum MapFault {
     /// The bytes are no text in UTF-8, or the text is no TOML document, by TOML 1.1 as the crate `toml` reads it. So
     /// whole numbers beyond 64 bits and values nested more than 80 deep are refused here, too.
+    #[error("the map is no TOML document")]
     Syntax,
     /// A table has a key that it may not have.
+    #[error("the table at path {path} has an unknown key")]
     BadKey { path: u32 },
     /// What stands there may not stand there. It is missing, or not of the kind that belongs there; a number is too
-    /// small or too great; a list is empty; a layer has more than 16 pairs; the radii do not rise; there is not one
-    /// weight for each radius; a name is none; or a cut's upper metal is its lower.
+    /// small or too great; a list is empty; a layer has more than 16 pairs; the sizes do not rise; there is not one
+    /// weight for each size; a name is none; or a cut's upper metal is its lower.
+    #[error("what stands at path {path} is missing or may not stand there")]
     BadValue { path: u32 },
     /// A pair of a layer and a datatype stands twice, in one layer or in two.
+    #[error("the pairs at path {path} have one that stands earlier")]
     RepeatedPair { path: u32 },
     /// An earlier metal or cut has this name.
+    #[error("the name at path {path} is that of an earlier layer")]
     RepeatedName { path: u32 },
     /// No metal has this name.
+    #[error("no metal has the name at path {path}")]
     UnknownMetal { path: u32 },
     /// An earlier terminal has the same metal and the same cell.
+    #[error("the terminal at path {path} stands earlier")]
     RepeatedTerminal { path: u32 },
-    /// More than 32 radii, 16 metals, 16 cuts or 10,000 terminals. (A layer with too many pairs is a `BadValue`.)
+    /// More than 32 sizes, 16 metals, 16 cuts or 10,000 terminals. (A layer with too many pairs is a `BadValue`.)
+    #[error("the list at path {path} is too long")]
     LimitPassed { path: u32 },
     /// No memory is left, which says nothing of the bytes.
+    #[error("no memory is left")]
     Memory,
 }
 
@@ -74,33 +82,6 @@ impl MapFault {
             | MapFault::UnknownMetal { path }
             | MapFault::RepeatedTerminal { path }
             | MapFault::LimitPassed { path } => u64::from(*path),
-        }
-    }
-
-    /// What is at the path and what is wrong with it, for a fault that has a path.
-    fn words(&self) -> (&'static str, &'static str) {
-        match self {
-            MapFault::Syntax | MapFault::Memory => ("", ""),
-            MapFault::BadKey { .. } => ("the table", " has an unknown key"),
-            MapFault::BadValue { .. } => ("what stands", " is missing or may not stand there"),
-            MapFault::RepeatedPair { .. } => ("the pairs", " have one that stands earlier"),
-            MapFault::RepeatedName { .. } => ("the name", " is that of an earlier layer"),
-            MapFault::UnknownMetal { .. } => ("no metal has the name", ""),
-            MapFault::RepeatedTerminal { .. } => ("the terminal", " stands earlier"),
-            MapFault::LimitPassed { .. } => ("the list", " is too long"),
-        }
-    }
-}
-
-impl fmt::Display for MapFault {
-    fn fmt<W: fmt::Write>(&self, f: &mut fmt::Formatter<W>) -> fmt::Result {
-        match self {
-            MapFault::Syntax => f.write_str("the map is no TOML document"),
-            MapFault::Memory => f.write_str("no memory is left"),
-            _ => {
-                let (what, wrong) = self.words();
-                write!(f, "{what} at path {}{wrong}", self.place())
-            }
         }
     }
 }

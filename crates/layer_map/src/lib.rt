@@ -7,6 +7,7 @@
 pub mod cause;
 mod cuts;
 pub mod fault;
+pub mod firsts;
 mod items;
 pub mod laws;
 mod layer_items;
@@ -21,8 +22,11 @@ mod values;
 
 pub use cause::{Cause, cause_of};
 pub use fault::MapFault;
+pub use firsts::{first_named, first_pair, first_terminal};
 pub use map_model::{
-    Cut, Cuts, LayerName, Map, Metal, Metals, Pairs, Sizes, Terminal, Terminals, Weights, one_metal,
+    Cut, Cuts, LayerName, Map, Measure, Metal, Metals, Pairs, Sizes, Terminal, Terminals, Weights,
+    one_metal,
 };
 pub use place::{ItemKind, Place};
 pub use read::read_map;
+pub use sizes::measure_of;

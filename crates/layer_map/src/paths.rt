@@ -10,8 +10,8 @@ pub const DOCUMENT: u32 = 1;
 /// What stands at `version`.
 pub const VERSION: u32 = 2;
 
-/// What stands at `radii`.
-pub const RADII: u32 = 3;
+/// What stands at `radii`, or at `sides`.
+pub const SIZES: u32 = 3;
 
 /// What stands at `weights`.
 pub const WEIGHTS: u32 = 4;

@@ -1,17 +1,19 @@
 //! The places of a document, of which each has a path.
 
-ghost use Rattle.std.specs.Prelude.{◌≡◌, ◌+◌, ◌<◌, IfSome, map, option_map};
+ghost use Rattle.std.specs.Prelude.{ℕ, ◌≡◌, ◌+◌, ◌*◌, ◌<◌, ◌≤◌, None, Some, IfSome, IsSomeAnd, length, map, option_map};
 ghost use Rattle.toml.specs.View.{table_view, view};
 ghost use Rattle.layer_map.specs.DocumentPaths.{version_path};
+ghost use Rattle.map_model.specs.declared.measure.Measure.{Measure as Measured};
 ghost use Rattle.layer_map.specs.MapChecks.{map_keys};
-ghost use Rattle.layer_map.specs.MapPlaces.{HasPath, item_keys, item_of, item_path, items_of, known_at, list_key, there};
+ghost use Rattle.layer_map.specs.MapPlaces.{HasPath, IsWithinLimits, item_keys, item_of, item_path, items_of, known_at, list_key, there};
 
 use super::cuts::CUT_KEYS;
 use super::metals::METAL_KEYS;
 use super::paths;
-use super::sizes::MAP_KEYS;
+use super::sizes::map_keys;
 use super::terminals::TERMINAL_KEYS;
 use super::values::{items_in, value_at};
+use map_model::Measure;
 use toml::{Table, Value};
 
 /// What the items of a list of a document say.
@@ -67,9 +69,11 @@ pub enum Place {
 }
 
 impl Place {
-    /// The place with this path, if one has it.
-    pub fn of_path(path: u32) -> Option<Place>
-        ensures { IfSome result (λ place. HasPath place path) }
+    /// The place with this path in a document whose sizes are measured so, if one has it: none exactly where no item within the
+    /// limits of a document, no key and not the document has the path.
+    pub fn of_path(path: u32, measure: Measure) -> Option<Place>
+        ensures path { IfSome result (λ place. HasPath measure place path) }
+        ensures each { (place : Place) → IsWithinLimits place → HasPath measure place path → IsSomeAnd result IsWithinLimits }
     {
         if path >= paths::terminal(0) {
             return item_place(ItemKind::Terminal, path - paths::terminal(0));
@@ -81,7 +85,7 @@ impl Place {
             return item_place(ItemKind::Metal, path - paths::metal(0));
         }
         if path >= paths::VERSION {
-            return key_place((path - paths::VERSION) as usize);
+            return key_place((path - paths::VERSION) as usize, measure);
         }
         if path == paths::DOCUMENT {
             return Some(Place::Document);
@@ -114,22 +118,24 @@ impl Place {
         }
     }
 
-    /// The keys that the table there may have. At a key they are those of the table round it.
-    pub fn known_keys(self) -> &'static [&'static str]
-        ensures { map (λ key. key.now) result.now ≡ known_at self }
+    /// The keys that the table there may have, in a document whose sizes are measured so. At a key they are those of the table
+    /// round it.
+    pub fn known_keys(self, measure: Measure) -> &'static [&'static str]
+        ensures { map (λ key. key.now) result.now ≡ known_at measure self }
     {
         match self {
-            Place::Document | Place::Key(_) => &MAP_KEYS,
+            Place::Document | Place::Key(_) => map_keys(measure),
             Place::Item(kind, _) | Place::ItemKey(kind, _, _) => kind.keys(),
         }
     }
 }
 
 /// What stands at a key of the document, by the number of the key.
-fn key_place(number: usize) -> Option<Place>
-    ensures { IfSome result (λ place. HasPath place (version_path + number)) }
+fn key_place(number: usize, measure: Measure) -> Option<Place>
+    ensures path { IfSome result (λ place. HasPath measure place (version_path + number)) }
+    ensures each { number < length (map_keys measure) → IsSomeAnd result (λ place. item_of place ≡ None) }
 {
-    match MAP_KEYS.get(number) {
+    match map_keys(measure).get(number) {
         Some(key) => Some(Place::Key(*key)),
         None => None,
     }
@@ -137,7 +143,9 @@ fn key_place(number: usize) -> Option<Place>
 
 /// An item, or what stands at a key of it, by how much its path is past that of the first item.
 fn item_place(kind: ItemKind, past: u32) -> Option<Place>
-    ensures { IfSome result (λ place. HasPath place (item_path kind 0 + past)) }
+    ensures path { (measure : Measured) → IfSome result (λ place. HasPath measure place (item_path kind 0 + past)) }
+    ensures each { (number further : ℕ) → further ≤ length (item_keys kind) → past ≡ 10 * number + further →
+        IsSomeAnd result (λ place. item_of place ≡ Some (kind, number)) }
 {
     let number = (past / 10) as usize;
     let further = (past % 10) as usize;

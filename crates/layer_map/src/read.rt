@@ -10,14 +10,14 @@ use super::cuts::read_cuts;
 use super::fault::MapFault;
 use super::metals::read_metals;
 use super::seen::Seen;
-use super::sizes::{check_head, read_radii, read_weights};
+use super::sizes::{check_head, measure_of, read_sizes, read_weights};
 use super::terminals::read_terminals;
 use map_model::map::Map;
 use std::alloc::Global;
 use toml::Table;
 
 /// The layer map that the bytes say, or why they say none: `Syntax` for bytes that are no TOML document, and else the
-/// first fault in this order: the document's keys, version, radii, weights, metals, cuts, terminals, and of these one
+/// first fault in this order: the document's keys, version, sizes, weights, metals, cuts, terminals, and of these one
 /// item after the other.
 pub fn read_map(alloc: Global, bytes: &[u8]) -> Result<Map, MapFault>
     ensures answers { Answers MapFault.Memory (λ outcome. MapComesTo bytes.now (value_as layer_map_of outcome)) result }
@@ -49,8 +49,8 @@ fn map_of(alloc: Global, document: &Table) -> Result<Map, MapFault>
         (λ made. GivesMap (table_view document.now) (layer_map_of made))) result }
 {
     check_head(document)?;
-    let radii = read_radii(alloc, document)?;
-    let weights = read_weights(alloc, document, radii.as_slice().len())?;
+    let sizes = read_sizes(alloc, document)?;
+    let weights = read_weights(alloc, document, sizes.as_slice().len())?;
     let mut seen = Seen::new(alloc);
     let metals = read_metals(alloc, document, &mut seen)?;
     let cuts = read_cuts(alloc, document, metals.as_slice(), &mut seen)?;
@@ -59,7 +59,8 @@ fn map_of(alloc: Global, document: &Table) -> Result<Map, MapFault>
         metals,
         cuts,
         terminals,
-        radii,
+        measure: measure_of(document),
+        sizes,
         weights,
     })
 }

@@ -1,50 +1,89 @@
-//! The version, the radii and the weights.
+//! The version, the sizes and the weights.
 
 ghost use Rattle.std.specs.Prelude.{◌≡◌, ◌↔◌, ◌≤◌, [], ◌∷◌, map, option_map, Some, length, IsTrue, IfOk};
 ghost use Rattle.std.specs.List.Sorted.{IsStrictlyIncreasing};
-ghost use Rattle.map_model.specs.MapNames.{AreRadii, AreWeights};
+ghost use Rattle.map_model.specs.MapNames.{AreSizes, AreWeights};
+ghost use Rattle.layer_map.specs.DocumentSizes.{measure_of, sizes_in};
 ghost use Rattle.first_refusal.specs.Checks.{Checks};
 ghost use Rattle.toml.specs.View.{table_view, view};
 ghost use Rattle.layer_map.specs.MapChecks.{
   Holds,
+  IsVersion,
   fault_of,
   has_known_keys,
-  has_radii,
+  has_sizes,
   has_version,
   has_weights,
-  radii_are_array,
-  radii_are_few,
+  map_keys,
+  sizes_are_array,
+  sizes_are_few,
 };
 ghost use Rattle.first_refusal.specs.Answers.{Answers};
-ghost use Rattle.layer_map.specs.inside.ReadValues.{Finds, AreWritten, IsThere};
-ghost use Rattle.layer_map.specs.Values.{radii_in, values_in, version_in, weights_in, whole_number, whole_numbers};
+ghost use Rattle.layer_map.specs.inside.ReadValues.{Finds, AreWritten, IsThere, texts_of};
+ghost use Rattle.layer_map.specs.Values.{StandsAs, values_in, weights_in, whole_number, whole_numbers};
 ghost use Rattle.map_model.specs.declared.limits.TheConstants.{MOST_SIZES};
 
 use super::fault::MapFault;
 use super::paths;
-use super::values::{array_at, has_only, value_at, whole_in, wholes_in};
-use geo_core::GREATEST_REACH;
+use super::values::{array_in, has_only, value_at, whole_in, wholes_in};
 use lists::NoMemory;
+use map_model::Measure;
 use map_model::layers::{Sizes, Weights};
 use map_model::limits::{GREATEST_WEIGHT, MOST_SIZES};
 use std::alloc::Global;
 use toml::{Table, Value};
 
-/// The keys of a document.
-pub const MAP_KEYS: [&str; 6] = ["version", "radii", "weights", "metal", "cut", "terminal"];
+/// The keys of a document whose sizes are radii, in the order of their paths.
+pub const RADII_KEYS: [&str; 6] = ["version", "radii", "weights", "metal", "cut", "terminal"];
 
-/// That the document has no key but these, and its version is 1.
+/// The keys of one whose sizes are sides.
+pub const SIDES_KEYS: [&str; 6] = ["version", "sides", "weights", "metal", "cut", "terminal"];
+
+/// The keys of a document whose sizes are measured so, in the order of their paths.
+pub fn map_keys(measure: Measure) -> &'static [&'static str]
+    ensures { texts_of result.now ≡ map_keys measure }
+{
+    match measure {
+        Measure::Radius => &RADII_KEYS,
+        Measure::Side => &SIDES_KEYS,
+    }
+}
+
+/// What measures the sizes of the document: sides where the whole number 2 stands at `version`, and else radii.
+pub fn measure_of(document: &Table) -> Measure
+    ensures { result ≡ measure_of (table_view document.now) }
+{
+    let Some(version) = value_at(document, "version") else {
+        return Measure::Radius;
+    };
+    match whole_in(version, 2, 2) {
+        Some(_) => Measure::Side,
+        None => Measure::Radius,
+    }
+}
+
+/// What stands at the key of the document's sizes.
+pub fn sizes_at(document: &Table) -> Option<&Value>
+    ensures { option_map (λ v. view v.now) result ≡ sizes_in (table_view document.now) }
+{
+    match measure_of(document) {
+        Measure::Radius => value_at(document, "radii"),
+        Measure::Side => value_at(document, "sides"),
+    }
+}
+
+/// That the document has no key but those of its sizes and these, and its version is 1 or 2.
 pub fn check_head(document: &Table) -> Result<(), MapFault>
     ensures { Answers MapFault.Memory (Checks
         (Holds (table_view document.now)) (has_known_keys ∷ has_version ∷ []) fault_of
         (λ _. Unit {0})) result }
 {
-    if !has_only(document, &MAP_KEYS) {
+    if !has_only(document, map_keys(measure_of(document))) {
         return Err(MapFault::BadKey {
             path: paths::DOCUMENT,
         });
     }
-    if !is_version_1(document) {
+    if !is_version(value_at(document, "version")) {
         return Err(MapFault::BadValue {
             path: paths::VERSION,
         });
@@ -52,45 +91,47 @@ pub fn check_head(document: &Table) -> Result<(), MapFault>
     Ok(())
 }
 
-fn is_version_1(document: &Table) -> bool
-    ensures { IsTrue result ↔ (version_in (table_view document.now) ≡ Some (whole_number 1)) }
+/// Whether a version stands there.
+fn is_version(there: Option<&Value>) -> bool
+    ensures { IsTrue result ↔ StandsAs whole_number IsVersion (option_map (λ v. view v.now) there.entry) }
 {
-    match value_at(document, "version") {
-        Some(value) => whole_in(value, 1, 1).is_some(),
+    match there {
+        Some(value) => whole_in(value, 1, 2).is_some(),
         None => false,
     }
 }
 
-/// The radii.
-pub fn read_radii(alloc: Global, document: &Table) -> Result<Sizes, MapFault>
+/// The sizes: radii, or sides.
+pub fn read_sizes(alloc: Global, document: &Table) -> Result<Sizes, MapFault>
     ensures { Answers MapFault.Memory (Checks
-        (Holds (table_view document.now)) (radii_are_array ∷ radii_are_few ∷ has_radii ∷ [])
-        fault_of (IsThere whole_numbers AreRadii (radii_in (table_view document.now)))) result }
+        (Holds (table_view document.now)) (sizes_are_array ∷ sizes_are_few ∷ has_sizes ∷ [])
+        fault_of (IsThere whole_numbers (AreSizes (measure_of (table_view document.now))) (sizes_in (table_view document.now)))) result }
 {
-    let values = array_at(document, "radii", paths::RADII)?;
+    let values = array_in(sizes_at(document), paths::SIZES)?;
     if values.len() > MOST_SIZES {
-        return Err(MapFault::LimitPassed { path: paths::RADII });
+        return Err(MapFault::LimitPassed { path: paths::SIZES });
     }
-    match radii_of(alloc, values)? {
-        Some(radii) => Ok(Sizes::from_vec(radii)),
-        None => Err(MapFault::BadValue { path: paths::RADII }),
+    match sizes_of(alloc, values, measure_of(document))? {
+        Some(sizes) => Ok(Sizes::from_vec(sizes)),
+        None => Err(MapFault::BadValue { path: paths::SIZES }),
     }
 }
 
-/// The radii that the values are, which are not too many.
-fn radii_of(alloc: Global, values: &[Value]) -> Result<Option<Vec<u32>>, NoMemory>
+/// The sizes by this measure that the values are, which are not too many.
+fn sizes_of(alloc: Global, values: &[Value], measure: Measure) -> Result<Option<Vec<u32>>, NoMemory>
     requires { length values.now ≤ MOST_SIZES }
-    ensures { IfOk result (λ found. Finds (AreWritten whole_number AreRadii (map view values.now)) (option_map (λ v. v.items) found)) }
+    ensures { IfOk result (λ found.
+        Finds (AreWritten whole_number (AreSizes measure) (map view values.now)) (option_map (λ v. v.items) found)) }
 {
-    match wholes_in(alloc, values, 1, GREATEST_REACH as u32)? {
-        Some(radii) => {
-            if radii.is_empty() {
+    match wholes_in(alloc, values, 1, measure.greatest())? {
+        Some(sizes) => {
+            if sizes.is_empty() {
                 return Ok(None);
             }
-            if !is_rising(&radii) {
+            if !is_rising(&sizes) {
                 return Ok(None);
             }
-            Ok(Some(radii))
+            Ok(Some(sizes))
         }
         None => Ok(None),
     }
@@ -108,9 +149,9 @@ fn is_rising(numbers: &[u32]) -> bool
     true
 }
 
-/// The weights of so many radii.
+/// The weights of so many sizes.
 pub fn read_weights(alloc: Global, document: &Table, count: usize) -> Result<Weights, MapFault>
-    ensures { count ≡ length (values_in (radii_in (table_view document.now))) →
+    ensures { count ≡ length (values_in (sizes_in (table_view document.now))) →
         Answers MapFault.Memory (Checks (Holds (table_view document.now)) (has_weights ∷ []) fault_of
         (IsThere whole_numbers (AreWeights count) (weights_in (table_view document.now)))) result }
 {

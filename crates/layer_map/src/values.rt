@@ -50,7 +50,17 @@ pub fn array_at<'a>(table: &'a Table, key: &str, path: u32) -> Result<&'a [Value
     ensures refused { IfErr result (λ fault.
         (fault ≡ MapFault.BadValue path) × (IsArray (get_member key.now (table_view table.now)) → ⊥)) }
 {
-    match value_at(table, key) {
+    array_in(value_at(table, key), path)
+}
+
+/// The same of the array that stands there.
+pub fn array_in(there: Option<&Value>, path: u32) -> Result<&[Value], MapFault>
+    ensures array { IfOk result (λ items. option_map (λ v. view v.now) there.entry ≡
+        Some (array (items_view items.now))) }
+    ensures refused { IfErr result (λ fault.
+        (fault ≡ MapFault.BadValue path) × (IsArray (option_map (λ v. view v.now) there.entry) → ⊥)) }
+{
+    match there {
         Some(value) => match value.as_array() {
             Some(items) => Ok(items.as_slice()),
             None => Err(MapFault::BadValue { path }),

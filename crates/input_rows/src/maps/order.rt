@@ -18,12 +18,12 @@ const TERMINAL: &str = "metal = \"m1\"\nx = 0\ny = 0\n";
 const DOCUMENTS: &[Row] = &[
     (
         "version = 1\nradii = [2, 5]",
-        "version = 2\nradii = 5\nq = 1",
+        "version = 3\nradii = 5\nq = 1",
         (41, 1),
     ),
     (
         "version = 1\nradii = [2, 5]",
-        "version = 2\nradii = 5",
+        "version = 3\nradii = 5",
         (42, 2),
     ),
     ("version = 1\nradii = [2, 5]", "radii = [5]", (42, 2)),

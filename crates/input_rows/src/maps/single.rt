@@ -95,7 +95,7 @@ fn counts(map: &Map) -> (usize, usize, usize) {
 
 /// Whether these are the sizes of the sample, and so many metals, cuts and terminals as it has.
 fn is_sample(map: &Map) -> bool {
-    map.radii.as_slice() == RADII && map.weights.as_slice() == WEIGHTS && counts(map) == (2, 1, 1)
+    map.sizes.as_slice() == RADII && map.weights.as_slice() == WEIGHTS && counts(map) == (2, 1, 1)
 }
 
 /// Radii of the sample, and their weights.

@@ -4,8 +4,8 @@ use Rattle.layer_map.specs.MapPlaces.{item_keys, item_path}
 use Rattle.layer_map.proofs.PlaceLaws.{item_paths}
 use Rattle.layer_map.proofs.place.item_place.Goals as goal
 
-pub returns-in-Some : goal.returns-in-Some
-returns-in-Some c =
+pub returns-in-Some-clause-path : goal.returns-in-Some-clause-path
+returns-in-Some-clause-path c measure =
     let past = c.args.past in
     let k = past % 10 - 1 in
     let keys = c.keys.result.now in
