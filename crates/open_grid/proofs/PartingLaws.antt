@@ -1,9 +1,8 @@
 -- defects at one cell, and what they part of an island
-use Rattle.std.proofs.Common.{ℕ, pos, ◌+ℤ◌, ◌+◌, List, ◌↔◌, All, Contains, arith}
+use Rattle.std.proofs.Common.{ℕ, pos, ◌+ℤ◌, ◌≤◌, List, ◌↔◌, All, Contains, arith}
 use Rattle.lists.proofs.Words.{ints, All-contains}
 use Rattle.lists.proofs.Containing.{Contains-slice_get}
 use Rattle.paths.proofs.PathLaws.{within}
-use Rattle.geo_core.specs.Bounds.{IsRadius}
 use Rattle.geo_core.specs.Plane.{Has, IsInLayout, IsInUnion}
 use Rattle.geo_core.specs.declared.plane.Cell.{Cell}
 use Rattle.geo_core.specs.declared.plane.Half.{Half}
@@ -13,6 +12,7 @@ use Rattle.fault_model.specs.Faults.{IsCellsOpen}
 use Rattle.fault_model.proofs.CellLaws.{Contains-cells_of}
 use Rattle.fault_model.proofs.TallyLaws.{Tally-same}
 use Rattle.fault_model.specs.IslandLists.{IsAnchoredIsland}
+use Rattle.half_boxes.specs.declared.footprints.TheConstants.{GREATEST_SIDE}
 use Rattle.severing.specs.Severing.{IsSevered, IsSomeOpen}
 use Rattle.open_grid.specs.inside.ZoneNeeds.{HaveOpenCells}
 use Rattle.open_grid.specs.inside.ZoneSteps.{IsToldOf}
@@ -22,13 +22,12 @@ use Rattle.open_grid.specs.declared.looked.Told.TheVariants.{Never, Always}
 abbrev pub DefectsSeverIslands : Type 0
 DefectsSeverIslands = (island : IslandLists) (s : ℕ) (c : Cell) → IsAnchoredIsland island → IsCellsOpen (IsInUnion island.pieces) (Contains island.anchors) s c ↔ IsSevered island (IsInFootprint c s)
 
-module _ (pieces : List Rect) (in_layout : All IsInLayout pieces) (r : ℕ) (radius : IsRadius r) (cell : Cell) (out : (rect : Rect) → Has rect cell → ⊥) where
+module _ (pieces : List Rect) (in_layout : All IsInLayout pieces) (side : ℕ) (few : side ≤ GREATEST_SIDE) (cell : Cell) (out : (rect : Rect) → Has rect cell → ⊥) where
   -- a defect whose cell no rectangle may have does not reach a layout
-  none_hit : (h : Half) → IsOn (IsInUnion pieces) h → IsInFootprint cell (r + r) h → ⊥
+  none_hit : (h : Half) → IsOn (IsInUnion pieces) h → IsInFootprint cell side h → ⊥
   none_hit h on hit =
       let u = on.2 in
       let small = All-contains IsInLayout pieces u.rect in_layout (Contains-slice_get pieces u.number u.rect u.at) in
-      let most = radius.most in
       let a = hit.0.from in let b = hit.0.before in let d = hit.1.from in let e = hit.1.before in
       let f = on.1.0.from in let g = on.1.0.before in let k = on.1.1.from in let l = on.1.1.before in
       let m = u.has.across.from in let n = u.has.across.before in let o = u.has.up.from in let p = u.has.up.before in
@@ -46,7 +45,7 @@ module _ (pieces : List Rect) (in_layout : All IsInLayout pieces) (r : ℕ) (rad
       })
 
   -- so it parts nothing
-  pub not_open : (anchors : List Cell) → IsCellsOpen (IsInUnion pieces) (Contains anchors) (r + r) cell → ⊥
+  pub not_open : (anchors : List Cell) → IsCellsOpen (IsInUnion pieces) (Contains anchors) side cell → ⊥
   not_open anchors o = o.parted o.tied.0 o.tied.1 o.tied.2 o.tied.3 (within (λ h on. (on, none_hit h on)) o.tied.4)
 
 module _ (law : DefectsSeverIslands) where

@@ -1,5 +1,4 @@
-ghost use Rattle.std.specs.Prelude.{IfOk, ◌+◌, ◌^◌, ◌<◌, ◌≤◌, ◌↔◌};
-ghost use Rattle.geo_core.specs.Bounds.{IsRadius};
+ghost use Rattle.std.specs.Prelude.{IfOk, ◌^◌, ◌<◌, ◌≤◌, ◌↔◌};
 ghost use Rattle.geo_core.specs.Cells.{Has};
 ghost use Rattle.geo_core.specs.Unions.{IsInUnion};
 ghost use Rattle.geo_core.specs.declared.plane.Cell.{Cell};
@@ -18,8 +17,8 @@ use std::alloc::Global;
 use union_area::union_area;
 
 /// The cells of the window that are the centre of a defect that parts two anchors of at least one of the islands, as
-/// rectangles in no order. The defect is the square of this side round the cell's centre, in database units. The islands may
-/// be of one metal, or of several that do not know of one another.
+/// rectangles in no order. The defect is the square of this side, 1 to 2,000,000 database units, round the cell's centre. The
+/// islands may be of one metal, or of several that do not know of one another.
 ///
 /// The rectangles serve for any part of the window, so that islands need to be looked at once a side. The one error is
 /// that no memory is left.
@@ -61,38 +60,44 @@ fn counted_cells(
     open_parts(alloc, looked.as_slice(), window, side, searches)
 }
 
-/// How many cells of the window are the centre of such a defect of this radius, which is half of the side. A cell counts once,
-/// however many islands it parts. The one error is that no memory is left.
-pub fn open_area(alloc: Global, islands: &[Island], window: Rect, r: u32) -> Result<u64, NoMemory>
-    requires { IsRadius r }
-    ensures tally { IfOk result (λ n. Tally (IsSomeOpen islands.now (r + r)) (cells_of window) n) }
+/// How many cells of the window are the centre of such a defect. A cell counts once, however many islands it parts. The one
+/// error is that no memory is left.
+pub fn open_area(
+    alloc: Global,
+    islands: &[Island],
+    window: Rect,
+    side: u32,
+) -> Result<u64, NoMemory>
+    requires some { 1 ≤ side }
+    requires few { side ≤ GREATEST_SIDE }
+    ensures tally { IfOk result (λ n. Tally (IsSomeOpen islands.now side) (cells_of window) n) }
 
     // No edge of a window is further than 1,001,000,000 from 0.
     ensures small { IfOk result (λ n. n < 2 ^ 63) }
 {
     let mut searches = 0;
-    open_area_counted(alloc, islands, window, r, &mut searches)
+    open_area_counted(alloc, islands, window, side, &mut searches)
 }
 
-/// The same area, with a count of searches. One is added for each zone at whose cells the defects all part two anchors of one
-/// island, where that at a corner cell of the zone covers none of them: there `ring` answers `Many` for this island. So the
-/// count says that such cells were met, and not how many there are. It goes on from what `searches` is, never falls, and stays
-/// at `u64::MAX` once it is there.
+/// The same area, with a count of searches that goes on from what `searches` is and never falls. Where it rises, the ring round
+/// a defect at some cell of the window has two or more arcs of an island (`ring` would answer `Many`); by how much it rises, and
+/// which cells it counts, no clause says. It stays at `u64::MAX` once it is there.
 ///
-/// The one error is that no memory is left. What was counted until then stays counted.
+/// The one error is that no memory is left.
 pub fn open_area_counted(
     alloc: Global,
     islands: &[Island],
     window: Rect,
-    r: u32,
+    side: u32,
     searches: &mut u64,
 ) -> Result<u64, NoMemory>
-    requires { IsRadius r }
-    ensures tally { IfOk result (λ n. Tally (IsSomeOpen islands.now (r + r)) (cells_of window) n) }
+    requires some { 1 ≤ side }
+    requires few { side ≤ GREATEST_SIDE }
+    ensures tally { IfOk result (λ n. Tally (IsSomeOpen islands.now side) (cells_of window) n) }
     ensures small { IfOk result (λ n. n < 2 ^ 63) }
     ensures never_falls { searches.old ≤ searches.new }
-    ensures rises_by_many { searches.old < searches.new → IsSomeRingMany islands.now window (r + r) }
+    ensures rises_by_many { searches.old < searches.new → IsSomeRingMany islands.now window side }
 {
-    let rects = counted_cells(alloc, islands, window, r + r, searches)?;
+    let rects = counted_cells(alloc, islands, window, side, searches)?;
     union_area(alloc, &rects, window)
 }

@@ -6,3 +6,4 @@ pub mod SideLaws
 pub mod HoleLaws
 pub mod ToldLaws
 pub mod AnswerLaws
+pub mod CaseLaws

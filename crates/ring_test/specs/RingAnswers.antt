@@ -6,7 +6,7 @@ use Rattle.ring_test.specs.IslandHoles.{IsOnIsland, ReachesInto, LosesAnchor}
 use Rattle.ring_test.specs.declared.answers.RingAnswer.{RingAnswer}
 use Rattle.ring_test.specs.declared.answers.RingAnswer.TheVariants.{Untouched, OneArc, Many}
 
--- The answer is right. One of the three cases holds, and no two of them, so each answer comes exactly in its case.
+-- The answer is right. One of the three cases holds, and no two of them (a law says so), so each answer comes exactly in its case.
 abbrev pub IsRingAnswer : IslandLists → Hole → RingAnswer → Type 0
 IsRingAnswer island hole Untouched = ReachesInto island hole → ⊥
 IsRingAnswer island hole (OneArc lost) =

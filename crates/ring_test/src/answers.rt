@@ -1,11 +1,11 @@
-ghost use Rattle.std.specs.Prelude.{All, IfOk, ◌+◌, ◌≤◌, ◌↔◌, IsTrue, Contains, length};
-ghost use Rattle.geo_core.specs.Bounds.{IsRadius};
+ghost use Rattle.std.specs.Prelude.{All, IfOk, ◌≤◌, ◌↔◌, IsTrue, Contains, length};
 ghost use Rattle.geo_core.specs.Cells.{IsInLayout};
 ghost use Rattle.geo_core.specs.Unions.{IsInUnion};
 ghost use Rattle.geo_core.specs.declared.plane.Cell.{Cell as AnyCell};
 ghost use Rattle.geo_core.specs.declared.plane.Half.{Half};
 ghost use Rattle.fault_model.specs.Faults.{IsCellsOpen};
 ghost use Rattle.fault_model.specs.Halves.{IsOn, LiesIn};
+ghost use Rattle.half_boxes.specs.declared.footprints.TheConstants.{GREATEST_SIDE};
 ghost use Rattle.ring_test.specs.Rings.{IsInHole, hole_at, hole_of};
 ghost use Rattle.ring_test.specs.RingAnswers.{IsRingAnswer, Settles};
 
@@ -23,7 +23,8 @@ use std::alloc::Global;
 pub enum RingAnswer {
     /// The defect has no half square of the island.
     Untouched,
-    /// The island has none of the half squares round the defect, all of them, or one run of consecutive ones.
+    /// The defect has a half square of the island, which has none of the half squares round the defect, all of them, or one run
+    /// of consecutive ones.
     OneArc {
         /// Whether the defect has all of an anchor.
         lost: bool,
@@ -33,19 +34,20 @@ pub enum RingAnswer {
 }
 
 /// What the half squares round a defect tell of the island: those outside the defect that share an edge or a corner with
-/// one that it has, in their cyclic order. The defect is the square of side `2r` round the cell's centre, in database
-/// units. For an island with two or more anchors the answer settles whether the defect parts two, unless it is `Many`.
+/// one that it has, in their cyclic order. The defect is the square of this side, 1 to 2,000,000 database units, round the
+/// cell's centre. For an island with two or more anchors the answer settles whether the defect parts two, unless it is `Many`.
 ///
-/// The one error is that no memory is left. For n rectangles it takes n times log n steps, whatever the radius.
-pub fn ring(alloc: Global, island: &Island, cell: Cell, r: u32) -> Result<RingAnswer, NoMemory>
-    requires radius { IsRadius r }
+/// The one error is that no memory is left.
+pub fn ring(alloc: Global, island: &Island, cell: Cell, side: u32) -> Result<RingAnswer, NoMemory>
+    requires some { 1 ≤ side }
+    requires few { side ≤ GREATEST_SIDE }
     requires within { All IsInLayout island.now.pieces }
-    ensures answer { IfOk result (IsRingAnswer island.now (hole_at cell (r + r))) }
+    ensures answer { IfOk result (IsRingAnswer island.now (hole_at cell side)) }
     ensures parted { IfOk result (λ answer. 2 ≤ length island.now.anchors → Settles answer
-        (IsCellsOpen (IsInUnion island.now.pieces) (Contains island.now.anchors) (r + r) cell)) }
+        (IsCellsOpen (IsInUnion island.now.pieces) (Contains island.now.anchors) side cell)) }
 {
     defects_sever_islands();
-    let Some(hole) = defect_hole(cell, r + r) else {
+    let Some(hole) = defect_hole(cell, side) else {
         return Ok(RingAnswer::Untouched);
     };
     let pieces = island.pieces.as_slice();

@@ -7,6 +7,7 @@
 #![tactic(auto)]
 
 pub mod answers;
+pub mod cases;
 mod holes;
 pub mod laws;
 mod merging;
@@ -14,5 +15,6 @@ pub mod rounds;
 mod runs;
 
 pub use answers::{RingAnswer, ring};
+pub use cases::ring_answers_are_cases;
 pub use laws::{defects_have_rings, one_arc_parts_no_more, one_arc_spares, rings_go_round};
 pub use rounds::boxes_have_one_arc;

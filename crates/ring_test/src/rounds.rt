@@ -23,8 +23,7 @@ pub fn has_one_arc(alloc: Global, hole: HalfBox, pieces: &[Rect]) -> Result<bool
     Ok(merge(&runs).is_arc(length_round(hole)))
 }
 
-/// Whether the boxes have one arc of the ring round the hole. The only error is that no memory is left. For n boxes it takes
-/// n times log n steps, however large the hole.
+/// Whether the boxes have one arc of the ring round the hole. The only error is that no memory is left.
 pub fn boxes_have_one_arc(alloc: Global, hole: HalfBox, boxes: &[HalfBox]) -> Result<bool, NoMemory>
     ensures { IfOk result (λ answer. IsTrue answer ↔ HasOneArc (hole_of hole) (IsInBoxes boxes.now)) }
 {

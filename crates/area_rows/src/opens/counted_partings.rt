@@ -7,75 +7,81 @@ use open_grid::parted_counted;
 use samples::sides::are_near;
 use std::alloc::Global;
 
-/// A radius, a cell, the count before, whether the defect there parts two terminals, and the count behind it.
+/// A side, a cell, the count before, whether the defect there parts two terminals, and the count behind it.
 type Step = (u32, Spot, u64, bool, u64);
 
 const WIRE_STEPS: &[Step] = &[
     // a terminal is covered, a cut, and nothing of the wire comes near
-    (1, (0, 0), 0, true, 0),
-    (2, (10, 0), 0, true, 1),
-    (1, (50, 50), 0, false, 0),
+    (2, (0, 0), 0, true, 0),
+    (4, (10, 0), 0, true, 1),
+    (2, (50, 50), 0, false, 0),
     // a count that has begun, up to the last one
-    (1, (0, 0), 7, true, 7),
-    (2, (10, 0), 7, true, 8),
-    (1, (50, 50), 7, false, 7),
+    (2, (0, 0), 7, true, 7),
+    (4, (10, 0), 7, true, 8),
+    (2, (50, 50), 7, false, 7),
     (
-        2,
+        4,
         (10, 1),
         18_446_744_073_709_551_614,
         true,
         18_446_744_073_709_551_615,
     ),
     // from the row above a cut one row of cells is left in part; half of a terminal is left; half a cell is left between
-    (2, (10, 2), 0, false, 0),
-    (2, (2, -1), 0, false, 0),
-    (1, (10, 3), 0, false, 0),
+    (4, (10, 2), 0, false, 0),
+    (4, (2, -1), 0, false, 0),
+    (2, (10, 3), 0, false, 0),
+    // an odd side: a terminal is covered, a cut, and one row of the wire is left
+    (1, (0, 0), 0, true, 0),
+    (3, (10, 0), 0, true, 1),
+    (3, (10, 2), 0, false, 0),
 ];
 
 const FRAME_STEPS: &[Step] = &[
     // a side is cut, which leaves the way round
-    (2, (10, 0), 0, false, 1),
-    (2, (10, 1), 7, false, 8),
+    (4, (10, 0), 0, false, 1),
+    (4, (10, 1), 7, false, 8),
     // a terminal is covered at a cut, and half of a side is left
-    (2, (0, 10), 0, true, 1),
-    (2, (2, 10), 0, false, 0),
+    (4, (0, 10), 0, true, 1),
+    (4, (2, 10), 0, false, 0),
     // all of the frame lies in the defect, and none of it does
-    (11, (10, 10), 0, true, 0),
-    (2, (10, 10), 0, false, 0),
+    (22, (10, 10), 0, true, 0),
+    (4, (10, 10), 0, false, 0),
 ];
 
 const NECK_STEPS: &[Step] = &[
     // half of the second is left on the side of one of the others, and the second is covered
-    (1, (11, 0), 0, true, 1),
-    (1, (10, 0), 0, true, 1),
-    (1, (8, 0), 0, false, 0),
+    (2, (11, 0), 0, true, 1),
+    (2, (10, 0), 0, true, 1),
+    (2, (8, 0), 0, false, 0),
 ];
 
 const CORNER_STEPS: &[Step] = &[
     // the way round is cut, all and half of it, and a square is
-    (2, (4, 10), 0, true, 1),
-    (1, (4, 10), 0, false, 0),
-    (2, (3, 3), 0, false, 1),
+    (4, (4, 10), 0, true, 1),
+    (2, (4, 10), 0, false, 0),
+    (4, (3, 3), 0, false, 1),
+    (3, (4, 10), 0, true, 1),
+    (3, (3, 3), 0, false, 1),
 ];
 
 /// With the first terminal alone, which is parted from none.
 const ONE_TERMINAL_STEPS: &[Step] = &[
     // it is covered, and the wire is cut
-    (1, (0, 0), 0, false, 0),
-    (2, (10, 0), 0, false, 1),
-    (2, (10, 1), 7, false, 8),
-    (1, (50, 50), 0, false, 0),
+    (2, (0, 0), 0, false, 0),
+    (4, (10, 0), 0, false, 1),
+    (4, (10, 1), 7, false, 8),
+    (2, (50, 50), 0, false, 0),
 ];
 
 /// Whether the defect parts two of the island's terminals, and the count is, as a step says.
 fn is_right(alloc: Global, island: &Island, step: &Step) -> bool {
-    let (radius, (i, j), before, wanted, behind) = *step;
-    if radius == 0 || radius > 1_000_000 || before == u64::MAX {
+    let (side, (i, j), before, wanted, behind) = *step;
+    if side == 0 || side > 2_000_000 || before == u64::MAX {
         return false;
     }
     let mut searches = before;
     are_near(island.pieces.as_slice())
-        && parted_counted(alloc, island, Cell { i, j }, radius, &mut searches) == Ok(wanted)
+        && parted_counted(alloc, island, Cell { i, j }, side, &mut searches) == Ok(wanted)
         && searches == behind
 }
 

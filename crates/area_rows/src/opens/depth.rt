@@ -8,7 +8,7 @@ use std::alloc::Global;
 /// So many squares make the wire.
 const PIECES: usize = 10_000;
 
-/// The area of a wire of squares with a side of 10, with a terminal at either end, for the radius 6, from all columns but the
+/// The area of a wire of squares with a side of 10, with a terminal at either end, for the side 12, from all columns but the
 /// first and the last thousand.
 fn area_of_wire(alloc: Global) -> Option<u64> {
     let mut squares = Vec::new(alloc);
@@ -18,7 +18,7 @@ fn area_of_wire(alloc: Global) -> Option<u64> {
     }
     let islands = islands_with(alloc, squares.as_slice(), &[(0, 0), (99_999, 9)])?;
     let window = Rect::new(1_000, -10, 99_000, 20);
-    open_area(alloc, islands.as_slice(), window, 6).ok()
+    open_area(alloc, islands.as_slice(), window, 12).ok()
 }
 
 /// A defect with a side of 12 cuts the wire where it has all of the rows 0 to 9: from row 4, where it reaches from half of row

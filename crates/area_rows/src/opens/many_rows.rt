@@ -28,7 +28,7 @@ fn long_wire(alloc: Global) -> Option<Vec<Island>> {
     islands_with(alloc, &table, &[(0, 0), (69_999, 0)])
 }
 
-/// Whether the wire has so many pieces, and is parted by a defect of radius 1 from each cell of its lower row and from no other. All
+/// Whether the wire has so many pieces, and is parted by a defect of side 2 from each cell of its lower row and from no other. All
 /// half squares of such a cell lie under a defect round it, and beside the upper row the wire ends. One round a cell above or below
 /// leaves half of the lower row.
 fn is_cut(alloc: Global, islands: &[Island]) -> bool {
@@ -37,9 +37,9 @@ fn is_cut(alloc: Global, islands: &[Island]) -> bool {
     };
     wire.pieces.as_slice().len() == COUNT
         && are_near(wire.pieces.as_slice())
-        && parted(alloc, wire, Cell { i: 35_000, j: 0 }, 1) == Ok(true)
-        && parted(alloc, wire, Cell { i: 35_000, j: 1 }, 1) == Ok(false)
-        && open_area(alloc, islands, Rect::new(-10, -10, 70_010, 10), 1) == Ok(70_000)
+        && parted(alloc, wire, Cell { i: 35_000, j: 0 }, 2) == Ok(true)
+        && parted(alloc, wire, Cell { i: 35_000, j: 1 }, 2) == Ok(false)
+        && open_area(alloc, islands, Rect::new(-10, -10, 70_010, 10), 2) == Ok(70_000)
 }
 
 /// Whether the long wire is.
@@ -87,7 +87,7 @@ fn are_parted(alloc: Global, nets: &Nets) -> bool
     requires { length nets.now.pieces ≡ 1 }
 {
     match many_pairs(alloc, nets) {
-        Some(islands) => open_area(alloc, &islands, Rect::new(0, 0, 2, 2), 1) == Ok(2),
+        Some(islands) => open_area(alloc, &islands, Rect::new(0, 0, 2, 2), 2) == Ok(2),
         None => false,
     }
 }
