@@ -4,15 +4,14 @@ use Rattle.lists.proofs.Words.{AllZip, AllZip-long}
 use Rattle.geo_core.specs.Plane.{IsCoveredIn}
 use Rattle.geo_core.specs.declared.plane.Cell.{Cell}
 use Rattle.geo_core.specs.declared.plane.Rect.{Rect}
-use Rattle.fault_model.specs.FaultNames.{Tally, IsShort}
+use Rattle.fault_model.specs.FaultNames.{Tally}
 use Rattle.fault_model.proofs.TallyLaws.{Tally-same_all}
-use Rattle.map_model.specs.MapNames.{LayerMap, side_of}
+use Rattle.map_model.specs.MapNames.{LayerMap}
 use Rattle.net_extract.specs.Cuts.{cuts_of}
-use Rattle.questions.specs.Questions.{IsAskable}
+use Rattle.questions.specs.Questions.{IsAskable, side_of}
 use Rattle.questions.specs.declared.kind.Kind.{Kind}
 use Rattle.questions.specs.declared.kind.Kind.TheVariants.{Short, Open, Via}
 use Rattle.questions.specs.declared.question.Question.{Question}
-use Rattle.short_area.specs.Labels.{TouchesTwoLabels}
 use Rattle.via_clusters.specs.Blocks.{CoversSomeBox}
 use Rattle.critical_areas.specs.AreaParts.{ArePartsOf}
 use Rattle.critical_areas.specs.AskedCounts.{AreCounted, IsCounted, IsCountedAs}
@@ -21,7 +20,7 @@ use Rattle.critical_areas.specs.Rows.{AreAmounts, IsAmount}
 use Rattle.critical_areas.specs.declared.parts.Parts.{Parts}
 use Rattle.critical_areas.proofs.CutLaws.{block_is}
 use Rattle.critical_areas.proofs.FaultLaws.{opens_of_cells}
-use Rattle.critical_areas.proofs.PieceLaws.{even, reach_is_radius, touched_is}
+use Rattle.critical_areas.proofs.PieceLaws.{reached_is}
 use Rattle.critical_areas.proofs.ZippedLaws.{item_has, zipped_at, zipped_by}
 
 module _ (layer_map : LayerMap) (lists : List (List Rect)) (parts : Parts) (are : ArePartsOf layer_map lists parts) where
@@ -30,21 +29,20 @@ module _ (layer_map : LayerMap) (lists : List (List Rect)) (parts : Parts) (are 
   Faulty kind number side = IsFault layer_map (IsCoveredIn lists) kind number side
 
   module _ (question : Question) (askable : IsAskable (length parts.metals) (length parts.cuts) question) (c : Cell) where
-    abbrev half : ℕ
-    half = side_of question.measure / 2
+    abbrev side : ℕ
+    side = side_of question
 
     by_kind : (kind : Kind) → question.kind ≡ kind
-        → IsCountedAs kind parts question.number (side_of question.measure) c ↔ Faulty kind question.number (side_of question.measure) c
+        → IsCountedAs kind parts question.number side c ↔ Faulty kind question.number side c
     by_kind Short e =
         let of_metal : question.number < length parts.metals = askable.of_metal (λ via. cc (e, via)) in
         let small : question.number < length layer_map.metals = omega (arith, are.one_each) in
-        subst (λ s. TouchesTwoLabels (slice_index_or parts.metals question.number []) half c ↔ IsShort (IsCoveredIn lists) (cuts_of layer_map) question.number s c) (even question.measure)
-        (touched_is (IsCoveredIn lists) (cuts_of layer_map) question.number (slice_index_or parts.metals question.number []) (are.pieces question.number small) half c)
+        reached_is (IsCoveredIn lists) (cuts_of layer_map) question.number (slice_index_or parts.metals question.number []) (are.pieces question.number small) side c askable.is_side.least
     by_kind Open e =
         let of_metal : question.number < length parts.metals = askable.of_metal (λ via. cc (e, via)) in
         let small : question.number < length layer_map.metals = omega (arith, are.one_each) in
-        let parted = are.islands question.number small (side_of question.measure) c in
-        let fault = opens_of_cells layer_map are.cells_alone (IsCoveredIn lists) question.number (side_of question.measure) c in
+        let parted = are.islands question.number small side c in
+        let fault = opens_of_cells layer_map are.cells_alone (IsCoveredIn lists) question.number side c in
         (λ o. fault.0 (parted.0 o), λ f. parted.1 (fault.1 f))
     by_kind Via e =
         let k = question.number - length parts.metals in
@@ -52,11 +50,10 @@ module _ (layer_map : LayerMap) (lists : List (List Rect)) (parts : Parts) (are 
         let of_cut = askable.of_cut e in
         let small : k < length layer_map.cuts = omega (arith, are.each_once.boxes.one_each) in
         let at : length layer_map.metals + k ≡ question.number = omega (arith, are.one_each) in
-        let least = (reach_is_radius question.measure askable.some askable.within).least in
-        let Blocks : ℕ → ℕ → Type 0 = λ number side. CoversSomeBox (slice_index_or parts.cuts k []) half c ↔ Faulty Via number side c in
-        subst (λ number. Blocks number (side_of question.measure)) at (subst (Blocks (length layer_map.metals + k)) (even question.measure) (block_is layer_map k small lists parts are half least c))
+        subst (λ number. CoversSomeBox (slice_index_or parts.cuts k []) ((side + 1) / 2) c ↔ Faulty Via number side c) at
+        (block_is layer_map k small lists parts are side askable.is_side.least c)
 
-    counted_is_fault : IsCounted parts question c ↔ Faulty question.kind question.number (side_of question.measure) c
+    counted_is_fault : IsCounted parts question c ↔ Faulty question.kind question.number side c
     counted_is_fault = by_kind question.kind refl
 
   -- so numbers that are counted for the questions of the parts are the amounts of the layer map

@@ -1,10 +1,11 @@
 -- the boxes of a cut's via clusters, and where a defect makes the fault of its question
-use Rattle.std.proofs.Common.{ℕ, ◌+◌, ◌<◌, ◌≤◌, ◌≡◌, refl, sym, ap, ◌∙◌, subst, List, [], ◌∷◌, ◌++◌, inl, inr, length, length-append, get_or, arith, ◌↔◌, Some, slice_get, slice_index_or, option_map, Contains}
+use Rattle.std.proofs.Common.{ℕ, ◌+◌, ◌/◌, ◌<◌, ◌≤◌, ◌≡◌, refl, sym, ap, ◌∙◌, subst, List, [], ◌∷◌, ◌++◌, inl, inr, length, length-append, get_or, arith, ◌↔◌, Some, slice_get, slice_index_or, option_map, Contains}
 use Rattle.lists.proofs.Words.{cases_lt, get_or_append_left, get_or_push, slice_get-get_or, slice_get-map, get_or-enumerate_from, length-enumerate_from}
 use Rattle.geo_core.specs.Plane.{IsCoveredIn}
 use Rattle.geo_core.specs.declared.plane.Cell.{Cell}
 use Rattle.geo_core.specs.declared.plane.Rect.{Rect}
 use Rattle.fault_model.specs.FaultNames.{Cut, IsViaBlock}
+use Rattle.fault_model.proofs.FaultLaws.{block_at}
 use Rattle.lists.proofs.Containing.{Contains-slice_get}
 use Rattle.lists.proofs.Mapping.{Contains-map_from}
 use Rattle.lists.proofs.Numbering.{numbered_alike}
@@ -47,12 +48,13 @@ module _ (layer_map : LayerMap) (k : ℕ) (small : k < length layer_map.cuts) wh
       ap cut_of (sym same) ∙ found.2
 
   -- a defect covers one of the cut's boxes exactly where it makes the fault of the cut's question
-  pub block_is : (lists : List (List Rect)) (parts : Parts) → ArePartsOf layer_map lists parts → (radius : ℕ) → 1 ≤ radius → (c : Cell)
-      → CoversSomeBox (slice_index_or parts.cuts k []) radius c ↔ IsFault layer_map (IsCoveredIn lists) Via (length layer_map.metals + k) (radius + radius) c
-  block_is lists parts are radius some c =
-      let boxed = are.boxes k (cut_of numbered) cut_at radius c some in (
-        λ h. (cut_of numbered, Contains-slice_get (cuts_of layer_map) k (cut_of numbered) cut_at, refl, boxed.0 h),
-        λ f. boxed.1 (subst (λ (cut : Cut). IsViaBlock (IsCoveredIn lists) cut (radius + radius) c) (sym (only_cut f.0 f.1 f.2)) f.3),
+  pub block_is : (lists : List (List Rect)) (parts : Parts) → ArePartsOf layer_map lists parts → (side : ℕ) → 1 ≤ side → (c : Cell)
+      → CoversSomeBox (slice_index_or parts.cuts k []) ((side + 1) / 2) c ↔ IsFault layer_map (IsCoveredIn lists) Via (length layer_map.metals + k) side c
+  block_is lists parts are side some c =
+      let boxed = are.boxes k (cut_of numbered) cut_at ((side + 1) / 2) c (omega arith) in
+      let at = block_at (IsCoveredIn lists) side some (cut_of numbered) c in (
+        λ h. (cut_of numbered, Contains-slice_get (cuts_of layer_map) k (cut_of numbered) cut_at, refl, at.1 (boxed.0 h)),
+        λ f. boxed.1 (at.0 (subst (λ (cut : Cut). IsViaBlock (IsCoveredIn lists) cut side c) (sym (only_cut f.0 f.1 f.2)) f.3)),
       )
 
 -- one list more

@@ -7,10 +7,11 @@ use Rattle.fault_model.specs.Faults.{IsCellsOpen}
 use Rattle.fault_model.proofs.AlikeLaws.{block_alike, open_alike, short_alike}
 use Rattle.fault_model.proofs.TallyLaws.{Tally-same_all}
 use Rattle.fault_model.proofs.TerminalLaws.{no_vias}
-use Rattle.map_model.specs.MapNames.{LayerMap, MappedCut, layer_map_of, mapped_cut, side_of}
+use Rattle.map_model.specs.MapNames.{LayerMap, MappedCut, layer_map_of, mapped_cut}
 use Rattle.map_model.specs.declared.map.Map.{Map}
 use Rattle.net_extract.specs.Cuts.{cut_of, cuts_of, terminal_cuts_of}
 use Rattle.critical_areas.specs.FaultKinds.{IsFault}
+use Rattle.questions.specs.Questions.{side_of}
 use Rattle.questions.specs.declared.question.Question.{Question}
 use Rattle.critical_areas.specs.Rows.{Answers}
 use Rattle.questions.specs.declared.kind.Kind.{Kind}
@@ -57,8 +58,8 @@ module _ (layer_map : LayerMap) where
   answers_follow one other same cells q row a = record {
     is_for = a.is_for;
     area = Tally-same_all cells row.area (λ c. (
-      fault_follows one other same q.kind q.number (side_of q.measure) c,
+      fault_follows one other same q.kind q.number (side_of q) c,
       fault_follows other one (λ m d. let k = same m d in
-          (k.1, k.0)) q.kind q.number (side_of q.measure) c,
+          (k.1, k.0)) q.kind q.number (side_of q) c,
     )) a.area;
   }

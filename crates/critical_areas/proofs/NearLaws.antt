@@ -1,7 +1,7 @@
 -- of what tells what a defect does at a cell, the list that matters is what is near
 use Rattle.std.proofs.Common.{ℕ, ◌+◌, List, ◌↔◌, Contains, arith}
 use Rattle.lists.proofs.Words.{IsPermutation, ints}
-use Rattle.geo_core.specs.Plane.{Has, IsRadius}
+use Rattle.geo_core.specs.Plane.{Has}
 use Rattle.geo_core.specs.declared.plane.Cell.{Cell}
 use Rattle.geo_core.specs.declared.plane.Labelled.{Labelled}
 use Rattle.geo_core.specs.declared.plane.Rect.{Rect}
@@ -36,7 +36,7 @@ covered_is_hit box r c covered =
     let half = some_half d in
     (half.0, (d, half.1, has), covered half.0 (d, half.1, has))
 
-module _ (tile : Rect) (r : ℕ) (is : IsRadius r) (c : Cell) (inside : Has tile c) where
+module _ (tile : Rect) (r : ℕ) (c : Cell) (inside : Has tile c) where
   hit_near : (rect : Rect) → IsHit c (r + r) rect → IsNearTile tile r rect
   hit_near rect hit = hit_is_near tile rect r (r + r) c inside (omega arith) hit
 
@@ -55,15 +55,15 @@ module _ (tile : Rect) (r : ℕ) (is : IsRadius r) (c : Cell) (inside : Has tile
   )
 
 -- what is counted over what is near a tile, in any order, is counted over all
-module _ (tile : Rect) (r : ℕ) (is : IsRadius r) (n : ℕ) where
+module _ (tile : Rect) (r : ℕ) (n : ℕ) where
   pub near_shorts : (pieces index near : List Labelled) → IsPermutation pieces index → AreNear (λ (piece : Labelled). piece.rect) tile r index near
       → Tally (TouchesTwoLabels near r) (cells_of tile) n → Tally (TouchesTwoLabels pieces r) (cells_of tile) n
   near_shorts pieces index near order are =
       let exact = near_in_any_order (λ (piece : Labelled). piece.rect) tile r pieces index near order are in
-      Tally-same (cells_of tile) n (λ c listed. near_touches tile r is c ((Contains-cells_of tile c).0 listed) pieces near exact)
+      Tally-same (cells_of tile) n (λ c listed. near_touches tile r c ((Contains-cells_of tile c).0 listed) pieces near exact)
 
   pub near_blocks : (boxes index near : List Rect) → IsPermutation boxes index → AreNear (λ (box : Rect). box) tile r index near
       → Tally (CoversSomeBox near r) (cells_of tile) n → Tally (CoversSomeBox boxes r) (cells_of tile) n
   near_blocks boxes index near order are =
       let exact = near_in_any_order (λ (box : Rect). box) tile r boxes index near order are in
-      Tally-same (cells_of tile) n (λ c listed. near_covers tile r is c ((Contains-cells_of tile c).0 listed) boxes near exact)
+      Tally-same (cells_of tile) n (λ c listed. near_covers tile r c ((Contains-cells_of tile c).0 listed) boxes near exact)

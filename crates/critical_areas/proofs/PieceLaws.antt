@@ -1,19 +1,21 @@
 -- pieces labelled by nets, and where a defect touches two of them
-use Rattle.std.proofs.Common.{ℕ, ◌+◌, ◌/◌, ◌≤◌, ◌≡◌, refl, sym, ◌∙◌, List, arith, ◌↔◌, ◌≤ℤ◌, pos}
-use Rattle.geo_core.specs.Plane.{Has, IsRadius}
-use Rattle.geo_core.specs.declared.bounds.TheConstants.{GREATEST_REACH}
+use Rattle.std.proofs.Common.{ℕ, ◌+◌, ◌/◌, ◌≤◌, ◌≡◌, refl, sym, ◌∙◌, List, arith, ◌↔◌, inl, inr}
+use Rattle.lists.proofs.Words.{cases_lt, ints}
+use Rattle.geo_core.specs.Plane.{Has}
 use Rattle.geo_core.specs.declared.plane.Cell.{Cell}
 use Rattle.geo_core.specs.declared.plane.Half.{Half}
 use Rattle.geo_core.specs.declared.plane.Labelled.{Labelled}
 use Rattle.geo_core.specs.declared.plane.Rect.{Rect}
 use Rattle.fault_model.specs.FaultNames.{IsShort, IsOn, IsInFootprint, Cut}
-use Rattle.map_model.specs.MapNames.{side_of}
-use Rattle.map_model.specs.declared.measure.Measure.{Measure}
-use Rattle.map_model.specs.declared.measure.Measure.TheVariants.{Radius}
+use Rattle.fault_model.proofs.FaultLaws.{none_at, short_at}
 use Rattle.short_area.specs.Labels.{TouchesLabel, TouchesTwoLabels}
 use Rattle.tile_plan.specs.Near.{HasExactlyNear, HitsLabel, HitsTwoLabels}
 use Rattle.tile_plan.proofs.laws.SeamLaws.{same_two_labels}
 use Rattle.critical_areas.specs.AreaParts.{IsInPieces, ArePiecesOf}
+
+-- a defect of radius 0 touches nothing
+pub touches_none : (pieces : List Labelled) (r : ℕ) (c : Cell) → r ≡ 0 → TouchesTwoLabels pieces r c → ⊥
+touches_none pieces r c e t = let hit = t.touches_one.hit.0 in let from = hit.from in let before = hit.before in omega (arith, ints)
 
 module _ (covers : ℕ → Cell → Type 0) (cuts : List Cut) (m : ℕ) (pieces : List Labelled) (are : ArePiecesOf covers cuts m pieces) where
   module _ (s : ℕ) (c : Cell) where
@@ -74,9 +76,9 @@ module _ (covers : ℕ → Cell → Type 0) (cuts : List Cut) (m : ℕ) (pieces 
         λ short. let h = is.1 short in record { one = h.one; other = h.other; touches_one = touched h.one h.hits_one; touches_other = touched h.other h.hits_other; different = h.different },
       )
 
--- the side of a radius is even
-pub even : (measure : Measure) → side_of measure / 2 + side_of measure / 2 ≡ side_of measure
-even (Radius radius) = omega arith
-
-pub reach_is_radius : (measure : Measure) → 1 ≤ side_of measure → pos (side_of measure / 2) ≤ℤ GREATEST_REACH → IsRadius (side_of measure / 2)
-reach_is_radius measure some within = let same = even measure in record { least = omega arith; most = within }
+  -- and so has one of another side that reaches no less far; side 1 makes no short
+  pub reached_is : (s : ℕ) (c : Cell) → 1 ≤ s → TouchesTwoLabels pieces (s / 2) c ↔ IsShort covers cuts m s c
+  reached_is s c some = elim (cases_lt s 2) [
+    | inl one ↦ (λ t. absurd (touches_none pieces (s / 2) c (omega arith) t), λ short. absurd (none_at covers cuts s m c (omega arith) short))
+    | inr more ↦ let is = touched_is (s / 2) c in let at = short_at covers cuts s more m c in (λ t. at.1 (is.0 t), λ short. is.1 (at.0 short))
+  ]

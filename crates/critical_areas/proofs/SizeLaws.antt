@@ -1,34 +1,41 @@
--- the sizes of a map, which are radii with their weights
+-- the sizes of a map, which are numbers with their weights, and how far defects of them reach
 use Rattle.std.proofs.Common.{ℕ, suc, ◌+◌, ◌-◌, ◌/◌, ◌≤◌, ◌<◌, ◌≡◌, refl, sym, ap, subst, ◌∙◌, List, [], ◌∷◌, length, get_or, arith, map, fold, max}
 use Rattle.lists.proofs.Words.{IsStrictlyIncreasing}
-use Rattle.map_model.specs.MapNames.{sizes_of, side_of}
+use Rattle.map_model.specs.MapNames.{sizes_of, side_by}
+use Rattle.map_model.specs.declared.measure.Measure.{Measure}
+use Rattle.map_model.specs.declared.measure.Measure.TheVariants.{Radius, Side}
 
-half_twice : (n : ℕ) → (n + n) / 2 ≡ n
-half_twice n = omega arith
+-- a greater size reaches no less far
+reaches_rise : (measure : Measure) (m n : ℕ) → m < n → side_by measure m / 2 ≤ side_by measure n / 2
+reaches_rise Radius m n below = omega arith
+reaches_rise Side m n below = omega arith
 
--- half of each side is the radius
-halves : (radii weights : List ℕ) → length weights ≡ length radii → map (λ size. side_of size.measure / 2) (sizes_of radii weights) ≡ radii
-halves [] weights e = refl
-halves (r ∷ radii) [] e = absurd (omega arith)
-halves (r ∷ radii) (w ∷ weights) e = let rest = halves radii weights (omega arith) in ap (λ x. x ∷ map (λ size. side_of size.measure / 2) (sizes_of radii weights)) (half_twice r)
-    ∙ ap (λ xs. r ∷ xs) rest
-
--- the greatest of rising numbers is the last
 rest_rises : (x : ℕ) (xs : List ℕ) → IsStrictlyIncreasing (x ∷ xs) → IsStrictlyIncreasing xs
 rest_rises x xs rising k small =
     let next : suc k + 1 ≡ suc (k + 1) = omega arith in
     let h : get_or (x ∷ xs) (suc k) 0 < get_or (x ∷ xs) (suc k + 1) 0 = rising (suc k) (omega arith) in
     subst (λ i. get_or xs k 0 < get_or (x ∷ xs) i 0) next h
 
-last_is_greatest : (a x : ℕ) (xs : List ℕ) → a ≤ x → IsStrictlyIncreasing (x ∷ xs) → fold max a (x ∷ xs) ≡ get_or (x ∷ xs) (length xs) 0
-last_is_greatest a x [] low rising = omega arith
-last_is_greatest a x (y ∷ xs) low rising =
-    let next : x < y = rising 0 (omega arith) in
-    last_is_greatest (max a x) y xs (omega arith) (rest_rises x (y ∷ xs) rising)
+module _ (measure : Measure) where
+  abbrev reach_by : ℕ → ℕ
+  reach_by size = side_by measure size / 2
 
-pub greatest_radius : (radii weights : List ℕ) → 1 ≤ length radii → length weights ≡ length radii → IsStrictlyIncreasing radii
-    → get_or radii (length radii - 1) 0 ≡ fold max 0 (map (λ size. side_of size.measure / 2) (sizes_of radii weights))
-greatest_radius [] weights some e rising = absurd (omega arith)
-greatest_radius (r ∷ radii) weights some e rising =
-    let last : length (r ∷ radii) - 1 ≡ length radii = omega arith in
-    ap (λ k. get_or (r ∷ radii) k 0) last ∙ sym (last_is_greatest 0 r radii (omega arith) rising) ∙ ap (fold max 0) (sym (halves (r ∷ radii) weights e))
+  -- how far each size reaches
+  reaches : (numbers weights : List ℕ) → length weights ≡ length numbers → map (λ size. side_by measure size.size / 2) (sizes_of numbers weights) ≡ map reach_by numbers
+  reaches [] weights e = refl
+  reaches (n ∷ numbers) [] e = absurd (omega arith)
+  reaches (n ∷ numbers) (w ∷ weights) e = ap (λ xs. reach_by n ∷ xs) (reaches numbers weights (omega arith))
+
+  -- of rising sizes the last reaches furthest
+  last_reaches_furthest : (a x : ℕ) (xs : List ℕ) → a ≤ reach_by x → IsStrictlyIncreasing (x ∷ xs) → fold max a (map reach_by (x ∷ xs)) ≡ reach_by (get_or (x ∷ xs) (length xs) 0)
+  last_reaches_furthest a x [] low rising = omega arith
+  last_reaches_furthest a x (y ∷ xs) low rising =
+      let more = reaches_rise measure x y (rising 0 (omega arith)) in
+      last_reaches_furthest (max a (reach_by x)) y xs (omega arith) (rest_rises x (y ∷ xs) rising)
+
+  pub greatest_reach : (numbers weights : List ℕ) → 1 ≤ length numbers → length weights ≡ length numbers → IsStrictlyIncreasing numbers
+      → reach_by (get_or numbers (length numbers - 1) 0) ≡ fold max 0 (map (λ size. side_by measure size.size / 2) (sizes_of numbers weights))
+  greatest_reach [] weights some e rising = absurd (omega arith)
+  greatest_reach (n ∷ numbers) weights some e rising =
+      let last : length (n ∷ numbers) - 1 ≡ length numbers = omega arith in
+      ap (λ k. reach_by (get_or (n ∷ numbers) k 0)) last ∙ sym (last_reaches_furthest 0 n numbers (omega arith) rising) ∙ ap (fold max 0) (sym (reaches (n ∷ numbers) weights e))

@@ -7,10 +7,10 @@ use Rattle.geo_core.specs.Plane.{IsCoveredIn}
 use Rattle.geo_core.specs.declared.plane.Cell.{Cell}
 use Rattle.geo_core.specs.declared.plane.Rect.{Rect}
 use Rattle.fault_model.specs.FaultNames.{Tally, IsCovered, IsWindowOf, cells_of_window}
-use Rattle.map_model.specs.MapNames.{LayerMap, reach_of, side_of}
+use Rattle.map_model.specs.MapNames.{LayerMap, reach_of}
 use Rattle.net_extract.specs.Extraction.{IsOnItsMetal, off_metal}
 use Rattle.net_extract.specs.declared.fault.NetFault.{NetFault}
-use Rattle.questions.specs.Questions.{IsRowFor, questions}
+use Rattle.questions.specs.Questions.{IsRowFor, questions, side_of}
 use Rattle.questions.specs.declared.question.Question.{Question}
 use Rattle.questions.specs.declared.row.Row.{Row}
 use Rattle.critical_areas.specs.FaultKinds.{IsFault}
@@ -18,7 +18,7 @@ use Rattle.critical_areas.specs.FaultKinds.{IsFault}
 -- so many of the cells have the fault that the question names
 abbrev pub IsAmount : LayerMap → (ℕ → Cell → Type 0) → List Cell → Question → ℕ → Type 0
 IsAmount layer_map covers cells question =
-    Tally (IsFault layer_map covers question.kind question.number (side_of question.measure)) cells
+    Tally (IsFault layer_map covers question.kind question.number (side_of question)) cells
 
 -- one amount over the cells for each question of the map, in order
 abbrev pub AreAmounts : LayerMap → (ℕ → Cell → Type 0) → List Cell → List ℕ → Type 0

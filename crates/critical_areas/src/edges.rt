@@ -3,6 +3,7 @@ ghost use Rattle.questions.specs.Questions.{IsAskable};
 ghost use Rattle.critical_areas.specs.inside.Lengthening.{IsDoubled};
 
 use super::parts::{Asked, Parts};
+use super::sizes::reach_of_side;
 use geo_core::Rect;
 use questions::{Kind, Question};
 use tile_plan::{Rectangular, TilePlan, plan};
@@ -39,14 +40,14 @@ fn sensible_edge(asked: Asked<'_>, window: Rect, edge: u32) -> u32
     ensures short { result ≤ 1000000000 }
     ensures edge { IsDoubled edge result }
 {
-    doubled(asked, window, greatest_reach(asked.questions), edge)
+    doubled(asked, window, greatest_reach(asked), edge)
 }
 
 /// How far a defect that is asked for reaches at most.
-fn greatest_reach(questions: &[Question]) -> u32 {
+fn greatest_reach(asked: Asked<'_>) -> u32 {
     let mut reach = 0;
-    for question in questions {
-        reach = question.measure.reach().max(reach);
+    for question in asked.questions {
+        reach = reach_of_side(question.side()).max(reach);
     }
     reach
 }

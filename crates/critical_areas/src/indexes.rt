@@ -6,7 +6,6 @@ ghost use Rattle.questions.specs.declared.kind.Kind.TheVariants.{Open};
 ghost use Rattle.critical_areas.specs.inside.Indexes.{AreOpensIn, HasItsOpens};
 
 use super::parts::{Asked, Parts};
-use super::sizes::defect_side;
 use geo_core::Rect;
 use lists::{Items, NoMemory};
 use open_grid::open_cells;
@@ -57,7 +56,7 @@ fn opens_for(
     match question.kind {
         Kind::Open => {
             let islands = parts.islands.as_slice()[question.number as usize].as_slice();
-            let side = defect_side(question.measure);
+            let side = question.side();
             let cells = open_cells(alloc, islands, window, side)?;
             NearIndex::new(alloc, &cells)
         }

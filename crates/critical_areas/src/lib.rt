@@ -54,7 +54,8 @@ use window::{reach, window_of};
 /// The rows of the report on what the rectangles cover, of which there is one list for each layer of the map: shorts of
 /// each metal, then opens of each, and then via blocks of each cut, for each size in order.
 ///
-/// An area is a number of cells of the window: the bounds of what all layers cover, grown by the greatest radius. It is counted
+/// An area is a number of cells of the window: the bounds of what all layers cover, grown by as far as the greatest defect
+/// reaches, which is half of its side, rounded down. It is counted
 /// tile by tile, by workers who share the tiles as `sharing` says, and the rows are the same for each sharing.
 ///
 /// The error is 50 with the number, counted from 0, of the first terminal whose cell its metal does not cover, or that no

@@ -1,28 +1,24 @@
-//! How wide the defects are that questions ask about, and how far they reach.
+//! Which radii stand for the defects of a side. A defect of an odd side lies on whole cells, so that it touches what the
+//! radius below half of its side touches, and covers what the radius above it covers. For an even side both are half of it.
 
-ghost use Rattle.std.specs.Prelude.{pos, ◌≡◌, ◌≤◌, ◌≤ℤ◌, ◌/◌};
+ghost use Rattle.std.specs.Prelude.{◌≡◌, ◌≤◌, ◌+◌, ◌/◌};
 ghost use Rattle.geo_core.specs.Bounds.{IsRadius};
-ghost use Rattle.map_model.specs.Measures.{side_of};
+ghost use Rattle.map_model.specs.Limits.{IsSide};
 
-use map_model::Measure;
-
-/// The side of the defects, in database units.
-pub fn defect_side(measure: Measure) -> u32
-    requires some { 1 ≤ side_of measure }
-    requires within { pos (side_of measure / 2) ≤ℤ pos 1000000 }
-    ensures side { result ≡ side_of measure }
-    ensures some { 1 ≤ result }
-    ensures few { result ≤ 2000000 }
+/// How far a defect of this side reaches from its cell: half of the side, rounded down. From side 1 none is reached.
+pub fn reach_of_side(side: u32) -> u32
+    requires { IsSide side }
+    ensures half { result ≡ side / 2 }
+    ensures within { result ≤ 1000000 }
 {
-    2 * measure.reach()
+    side / 2
 }
 
-/// Their radius: half of the side, which is how far they reach.
-pub fn defect_radius(measure: Measure) -> u32
-    requires some { 1 ≤ side_of measure }
-    requires within { pos (side_of measure / 2) ≤ℤ pos 1000000 }
-    ensures half { result ≡ side_of measure / 2 }
+/// The radius of the defects that cover the same cells as those of this side: half of the side, rounded up.
+pub fn covering_radius(side: u32) -> u32
+    requires { IsSide side }
+    ensures half { result ≡ (side + 1) / 2 }
     ensures radius { IsRadius result }
 {
-    measure.reach()
+    (side + 1) / 2
 }

@@ -1,4 +1,4 @@
-ghost use Rattle.std.specs.Prelude.{◌≡◌, ◌+◌, ◌↔◌, IfOk, Some, length, slice_get};
+ghost use Rattle.std.specs.Prelude.{◌≡◌, ◌≤◌, ◌↔◌, IfOk, Some, length, slice_get};
 ghost use Rattle.std.specs.List.Sorted.{IsPermutation};
 ghost use Rattle.std.specs.Option.{ForSome};
 ghost use Rattle.fault_model.specs.Areas.{Tally, cells_of};
@@ -6,6 +6,7 @@ ghost use Rattle.geo_core.specs.Bounds.{IsRadius};
 ghost use Rattle.geo_core.specs.Cells.{Has};
 ghost use Rattle.geo_core.specs.Unions.{IsInUnion};
 ghost use Rattle.geo_core.specs.declared.plane.Cell.{Cell};
+ghost use Rattle.map_model.specs.Limits.{IsSide};
 ghost use Rattle.questions.specs.Questions.{IsAskable};
 ghost use Rattle.severing.specs.Severing.{IsSomeOpen};
 ghost use Rattle.short_area.specs.Labels.{TouchesTwoLabels};
@@ -13,7 +14,7 @@ ghost use Rattle.via_clusters.specs.Blocks.{CoversSomeBox};
 
 use super::indexes::{indexes_of, opens_of};
 use super::parts::Asked;
-use super::sizes::defect_radius;
+use super::sizes::{covering_radius, reach_of_side};
 use fault_model::Island;
 use geo_core::{Labelled, Rect};
 use lists::NoMemory;
@@ -105,20 +106,22 @@ impl<'a> Tiles<'a> {
     {
         let parts = self.asked.parts;
         let number = question.number as usize;
-        let reach = defect_radius(question.measure);
+        let side = question.side();
         match question.kind {
             Kind::Short => {
+                let reach = reach_of_side(side);
                 let pieces = parts.metals.as_slice()[number].as_slice();
                 shorts_of_tile(alloc, pieces, self.metals.get(number), tile, reach)
             }
             Kind::Open => {
                 let islands = parts.islands.as_slice()[number].as_slice();
-                opens_of_tile(alloc, islands, self.opens.get(slot), tile, reach)
+                opens_of_tile(alloc, islands, self.opens.get(slot), tile, side)
             }
             Kind::Via => {
+                let radius = covering_radius(side);
                 let cut = number - parts.metals.as_slice().len();
                 let boxes = parts.cuts.as_slice()[cut].as_slice();
-                blocks_of_tile(alloc, boxes, self.cuts.get(cut), tile, reach)
+                blocks_of_tile(alloc, boxes, self.cuts.get(cut), tile, radius)
             }
         }
     }
@@ -146,8 +149,8 @@ impl TileJob for Tiles<'_> {
     }
 }
 
-/// At how many cells of the tile a defect that reaches so far touches pieces of two labels. Where there is an index of the pieces
-/// it tells which are near.
+/// At how many cells of the tile a defect that reaches so far touches pieces of two labels. One that reaches no other cell than
+/// its own touches no two. Where there is an index of the pieces it tells which are near.
 fn shorts_of_tile(
     alloc: Global,
     pieces: &[Labelled],
@@ -155,10 +158,13 @@ fn shorts_of_tile(
     tile: Rect,
     reach: u32,
 ) -> Result<u64, NoMemory>
-    requires radius { IsRadius reach }
+    requires within { reach ≤ 1000000 }
     requires index { ForSome index (λ same. IsPermutation pieces.now same.now) }
     ensures { IfOk result (Tally (TouchesTwoLabels pieces.now reach) (cells_of tile)) }
 {
+    if reach == 0 {
+        return Ok(0);
+    }
     let Some(pieces) = index else {
         return short_area(alloc, pieces, tile, reach);
     };
@@ -166,43 +172,43 @@ fn shorts_of_tile(
     short_area(alloc, &near, tile, reach)
 }
 
-/// At how many cells of the tile a defect that reaches so far parts two anchors of an island. Where the cells of all opens are
-/// known they are counted.
+/// At how many cells of the tile a defect of this side parts two anchors of an island. Where the cells of all opens are known
+/// they are counted.
 fn opens_of_tile(
     alloc: Global,
     islands: &[Island],
     opens: Option<&NearIndex<Rect>>,
     tile: Rect,
-    reach: u32,
+    side: u32,
 ) -> Result<u64, NoMemory>
-    requires radius { IsRadius reach }
+    requires is_side { IsSide side }
     requires opens { ForSome opens (λ cells. (c : Cell) → Has tile c →
-        IsInUnion cells.now c ↔ IsSomeOpen islands.now (reach + reach) c) }
-    ensures { IfOk result (Tally (IsSomeOpen islands.now (reach + reach)) (cells_of tile)) }
+        IsInUnion cells.now c ↔ IsSomeOpen islands.now side c) }
+    ensures { IfOk result (Tally (IsSomeOpen islands.now side) (cells_of tile)) }
 {
     let Some(opens) = opens else {
-        return open_area(alloc, islands, tile, reach);
+        return open_area(alloc, islands, tile, side);
     };
     let near = opens.near(alloc, tile, 0)?;
     union_area(alloc, &near, tile)
 }
 
-/// At how many cells of the tile a defect that reaches so far covers a box. Where there is an index of the boxes it tells which
+/// At how many cells of the tile a defect of this radius covers a box. Where there is an index of the boxes it tells which
 /// are near.
 fn blocks_of_tile(
     alloc: Global,
     boxes: &[Rect],
     index: Option<&NearIndex<Rect>>,
     tile: Rect,
-    reach: u32,
+    radius: u32,
 ) -> Result<u64, NoMemory>
-    requires radius { IsRadius reach }
+    requires radius { IsRadius radius }
     requires index { ForSome index (λ same. IsPermutation boxes.now same.now) }
-    ensures { IfOk result (Tally (CoversSomeBox boxes.now reach) (cells_of tile)) }
+    ensures { IfOk result (Tally (CoversSomeBox boxes.now radius) (cells_of tile)) }
 {
     let Some(boxes) = index else {
-        return via_area(alloc, boxes, tile, reach);
+        return via_area(alloc, boxes, tile, radius);
     };
-    let near = boxes.near(alloc, tile, reach)?;
-    via_area(alloc, &near, tile, reach)
+    let near = boxes.near(alloc, tile, radius)?;
+    via_area(alloc, &near, tile, radius)
 }

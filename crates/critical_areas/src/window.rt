@@ -1,6 +1,5 @@
 ghost use Rattle.std.specs.Prelude.{pos, ◌≡◌, ◌≤ℤ◌, ◌++◌, List, All};
 ghost use Rattle.std.specs.List.{flat_map};
-ghost use Rattle.geo_core.specs.Bounds.{IsRadius};
 ghost use Rattle.geo_core.specs.Cells.{IsInLayout};
 ghost use Rattle.geo_core.specs.declared.bounds.TheConstants.{GREATEST_REACH};
 ghost use Rattle.geo_core.specs.declared.plane.Rect.{Rect as Rectangle};
@@ -13,13 +12,13 @@ ghost use Rattle.map_model.specs.MapView.{layer_map_of};
 use geo_core::{Rect, RectList, grow, join};
 use map_model::Map;
 
-/// How far a defect of the map reaches at most: the greatest radius, which is the last.
+/// How far a defect of the map reaches at most: half of the greatest side, rounded down. The greatest size is the last.
 pub fn reach(map: &Map) -> u32
     ensures reach { result ≡ reach_of (layer_map_of map.now) }
-    ensures radius { IsRadius result }
+    ensures within { pos result ≤ℤ GREATEST_REACH }
 {
-    let radii = map.radii.as_slice();
-    radii[radii.len() - 1]
+    let last = map.sizes.as_slice().len() - 1;
+    map.side(last as u32) / 2
 }
 
 /// The bounds of the rectangles, where there are any.

@@ -25,7 +25,7 @@ module _ (layer_map : LayerMap) (covers : ℕ → Cell → Type 0) where
   answers_agree cells (q ∷ asked) (row ∷ rows) (other ∷ others) h g =
       let f = h.0.is_for in
       let e = g.0.is_for in
-      let same = same_row row other (f.kind ∙ sym e.kind) (f.layer ∙ sym e.layer) (f.measure ∙ sym e.measure) (Tally-unique cells row.area other.area h.0.area g.0.area) (f.weight ∙ sym e.weight) in
+      let same = same_row row other (f.kind ∙ sym e.kind) (f.layer ∙ sym e.layer) (f.measure ∙ sym e.measure) (f.size ∙ sym e.size) (Tally-unique cells row.area other.area h.0.area g.0.area) (f.weight ∙ sym e.weight) in
       ap (λ r. r ∷ rows) same ∙ ap (λ rs. other ∷ rs) (answers_agree cells asked rows others h.1 g.1)
 
   -- and there is one window

@@ -5,7 +5,7 @@ use Rattle.geo_core.specs.Plane.{Has, IsInUnion}
 use Rattle.geo_core.specs.declared.plane.Cell.{Cell}
 use Rattle.geo_core.specs.declared.plane.Labelled.{Labelled}
 use Rattle.geo_core.specs.declared.plane.Rect.{Rect}
-use Rattle.map_model.specs.MapNames.{side_of}
+use Rattle.questions.specs.Questions.{side_of}
 use Rattle.questions.specs.declared.kind.Kind.TheVariants.{Open}
 use Rattle.questions.specs.declared.question.Question.{Question}
 use Rattle.severing.specs.Severing.{IsSomeOpen}
@@ -20,7 +20,7 @@ AreReordered lists indexes = (number : ℕ) → number < length indexes
 abbrev pub AreOpensIn : Parts → Rect → Question → List Rect → Type 0
 AreOpensIn parts window question rects =
     (c : Cell) → IsInUnion rects c
-    ↔ (Has window c × IsSomeOpen (slice_index_or parts.islands question.number []) (side_of question.measure) c)
+    ↔ (Has window c × IsSomeOpen (slice_index_or parts.islands question.number []) (side_of question) c)
 
 -- a question on opens has them
 abbrev pub HasItsOpens : Parts → Rect → Question → List Rect → Type 0

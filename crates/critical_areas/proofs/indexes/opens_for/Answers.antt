@@ -4,7 +4,7 @@ use Rattle.geo_core.specs.Plane.{Has, IsInUnion}
 use Rattle.geo_core.specs.declared.plane.Cell.{Cell}
 use Rattle.geo_core.specs.declared.plane.Rect.{Rect}
 use Rattle.fault_model.specs.FaultNames.{IslandLists}
-use Rattle.map_model.specs.MapNames.{side_of}
+use Rattle.questions.specs.Questions.{side_of}
 use Rattle.severing.specs.Severing.{IsSomeOpen}
 use Rattle.critical_areas.specs.inside.Indexes.{AreOpensIn}
 use Rattle.critical_areas.proofs.IndexLaws.{opens_permuted}
@@ -25,7 +25,7 @@ read c =
 opens : (c : goal.After-drop-cells) → AreOpensIn c.args.parts.now c.args.window c.args.question.now c.in_ok-cells-in-Open.cells.items
 opens c =
     let Opens : List IslandLists → ℕ → Type 0 = λ islands side. (d : Cell) → IsInUnion c.in_ok-cells-in-Open.cells.items d ↔ (Has c.args.window d × IsSomeOpen islands side d) in
-    subst (λ islands. Opens islands (side_of c.args.question.now.measure)) (read c) (subst (Opens c.as_slice-islands.result.now) c.defect_side-side.ensures.side c.in_ok-cells-in-Open.ensures)
+    subst (λ islands. Opens islands (side_of c.args.question.now)) (read c) (subst (Opens c.as_slice-islands.result.now) c.side-side.ensures c.in_ok-cells-in-Open.ensures)
 
 pub returns-in_ok-cells-in-Open : goal.returns-in_ok-cells-in-Open
 returns-in_ok-cells-in-Open c =

@@ -1,4 +1,4 @@
-use Rattle.std.proofs.Common.{ℕ, ◌+◌, subst}
+use Rattle.std.proofs.Common.{ℕ, subst}
 use Rattle.lists.proofs.Words.{IfOk-weaker}
 use Rattle.geo_core.specs.Plane.{IsInUnion}
 use Rattle.geo_core.specs.declared.plane.Rect.{Rect}
@@ -15,7 +15,7 @@ returns c =
     let opens = c.in-Some.opens in
     let near = c.in_ok-near.near.items in
     let exact = exactly_near (λ (rect : Rect). rect) tile 0 opens.now near c.in_ok-near.ensures in
-    IfOk-weaker c.union_area.result (Tally (IsInUnion c.deref.result.now) (cells_of tile)) (Tally (IsSomeOpen c.args.islands.now (c.args.reach + c.args.reach)) (cells_of tile)) (λ (n : ℕ) counted.
+    IfOk-weaker c.union_area.result (Tally (IsInUnion c.deref.result.now) (cells_of tile)) (Tally (IsSomeOpen c.args.islands.now c.args.side) (cells_of tile)) (λ (n : ℕ) counted.
     Tally-same (cells_of tile) n (λ d listed.
     let has = (Contains-cells_of tile d).0 listed in
     let same = same_cells opens.now near tile 0 d exact has in

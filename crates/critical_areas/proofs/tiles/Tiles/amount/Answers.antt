@@ -2,11 +2,11 @@ use Rattle.std.proofs.Common.{◌≡◌, ◌∙◌, ◌<◌, ◌+◌, ◌-◌, �
 use Rattle.std.specs.Slice.{IsItemAt}
 use Rattle.geo_core.specs.Plane.{Has, IsInUnion}
 use Rattle.fault_model.specs.FaultNames.{IslandLists}
-use Rattle.map_model.specs.MapNames.{side_of}
+use Rattle.map_model.specs.MapNames.{IsSide}
+use Rattle.questions.specs.Questions.{side_of}
 use Rattle.severing.specs.Severing.{IsSomeOpen}
 use Rattle.critical_areas.specs.inside.Work.{Work}
 use Rattle.critical_areas.proofs.IndexLaws.{list_read, opens_at, reordered_at}
-use Rattle.critical_areas.proofs.PieceLaws.{even}
 use Rattle.critical_areas.proofs.tiles.Tiles.amount.Goals as goal
 
 -- ---- shorts
@@ -21,7 +21,7 @@ pieces_are c =
 pub shorts_of_tile-requires : goal.shorts_of_tile-requires
 shorts_of_tile-requires c =
     record {
-      radius = c.defect_radius-reach.ensures.radius;
+      within = c.reach_of_side-reach.ensures.within;
       index = reordered_at c.self.inside.asked.parts.now.metals c.self.inside.metals.items c.deref.result.now c.args.question.now.number c.as_slice-pieces.result.now c.get.result
           c.self.invariant.of_metals (pieces_are c) c.deref.ensures.value c.get.ensures.lookup;
     }
@@ -42,15 +42,14 @@ opens_of_tile-requires c =
     let question = c.args.question.now in
     let at = subst (λ (w : Work). slice_get w.questions c.args.slot ≡ Some question) (sym c.self.view_is) c.requires.asked in
     let item = subst (λ xs. IsItemAt xs c.args.slot c.get-in-Open.result) c.deref-in-Open.ensures.value c.get-in-Open.ensures.lookup in
-    let side = ap (λ r. r + r) c.defect_radius-reach.ensures.half ∙ even question.measure in
     record {
-      radius = c.defect_radius-reach.ensures.radius;
+      is_side = subst IsSide (sym c.side-side.ensures) c.requires.askable.is_side;
       opens = λ cells is d has.
           let within = subst (λ (w : Work). Has w.plan.window d) (sym c.self.view_is) (c.requires.within d has) in
           let known = opens_at asked.parts.now asked.questions.now c.self.inside.plan.window _ _ _ c.self.invariant c.args.slot question at c.in-Open.is c.get-in-Open.result item cells is d in
           let Same : List IslandLists → ℕ → Type 0 = λ islands s. IsInUnion cells.now d ↔ IsSomeOpen islands s d in
-          let same : Same (get_or asked.parts.now.islands question.number []) (side_of question.measure) = (λ v. (known.0 v).1, λ o. known.1 (within, o)) in
-          subst (Same c.as_slice-islands.result.now) (sym side) (subst (λ islands. Same islands (side_of question.measure)) (sym (islands_are c)) same);
+          let same : Same (get_or asked.parts.now.islands question.number []) (side_of question) = (λ v. (known.0 v).1, λ o. known.1 (within, o)) in
+          subst (Same c.as_slice-islands.result.now) (sym c.side-side.ensures) (subst (λ islands. Same islands (side_of question)) (sym (islands_are c)) same);
     }
 
 -- ---- blocks
