@@ -5,4 +5,3 @@ pub mod TerminalLaws
 pub mod AnalysisLaws
 pub mod StatusLaws
 pub mod RunLaws
-pub mod laws

@@ -6,6 +6,8 @@ pub mod Layout
 -- what words and contents come to, and a run
 pub mod Refusals
 pub mod Verdict
+-- what the laws of sides alone cite
+pub mod WholeCells
 -- the rows on the bytes of a layout
 pub mod Analysis
 pub mod Run

@@ -96,7 +96,7 @@ pub fn rows_of_layout<G: Gate + Sync>(
 /// The layout is at most 268,435,456 bytes of a GDSII stream. `top` is the name of the structure that is analysed with all
 /// that it places; where it is left out it is the one that no reference names. `edge` is that of the tiles over which areas
 /// are counted, 1 to 1,000,000,000 database units, and `workers`, 1 to 64, share them at once, in threads of their own where
-/// these can be started. Each tile passes the gate before its amounts are asked for. None of these changes a row.
+/// these can be started. None of these changes a row, and no gate does.
 ///
 /// The error is the layout's first fault: of its bytes, then of the placement of its shapes, then of the cover of each placed
 /// shape, and at last the first terminal of the map whose cell its metal does not cover; or that no memory is left.

@@ -79,8 +79,8 @@ fn find<F: Files, G: Gate + Sync>(
 ///
 /// `files` gives the map and the layout, `out` gets the report, and `err` the line of a refusal. The gauges are told the rows
 /// of the report, and print at its end, in their order, for all rows that they have seen. A run drops none of them, and a run
-/// that is refused tells them nothing. Each tile passes the gate before its amounts are asked for, and no gate changes what is
-/// printed.
+/// that is refused tells them nothing. No gate changes what is printed. That each tile passes the gate once is tested, and no
+/// clause says it.
 ///
 /// | why it ended | status | printed to `out` | printed to `err` |
 /// |---|---|---|---|

@@ -10,6 +10,7 @@
 mod analysis;
 mod boxed;
 mod command;
+pub mod laws;
 mod layers;
 mod layout_fault;
 mod printing;

@@ -1,3 +1,6 @@
 pub mod MapLaws
 pub mod ExistLaws
+pub mod NameLaws
 pub mod SameLaws
+pub mod StageLaws
+pub mod TallyLaws

@@ -1,24 +1,25 @@
 -- words that ask for the same come to the same, and what comes to one subject has one report
 use Rattle.std.proofs.Common.{ℕ, ◌≡◌, List, ap, subst, ◌∙◌, Option, Vec}
 use Rattle.lists.proofs.Words.{Global}
-use Rattle.first_refusal.specs.Outcomes.{Outcome, value, refused, reads, lacks, Then, stops, goes_on}
+use Rattle.first_refusal.specs.Outcomes.{Outcome, value, refused, reads, lacks, stops, goes_on}
 use Rattle.first_refusal.specs.Laws.{IsUnique}
 use Rattle.command_line.specs.Requests.{Ask}
 use Rattle.command_line.specs.declared.request.Request.{Request}
-use Rattle.command_line.specs.declared.task.Task.{Task}
 use Rattle.command_line.proofs.laws.Requests.{requests_agree}
 use Rattle.map_model.specs.MapNames.{LayerMap}
 use Rattle.gauges.specs.GaugeViews.{GaugeView}
 use Rattle.critical_areas.proofs.laws.UniqueLaws.{rows_agree}
 use Rattle.questions.specs.declared.row.Row.{Row}
 use Rattle.critarea_core.specs.Analysis.{AnalysisComesTo, has_rows, has_fault}
-use Rattle.critarea_core.specs.Contents.{Contents, bytes_from, layout_source, wanted_top}
+use Rattle.critarea_core.specs.Contents.{Contents}
 use Rattle.critarea_core.specs.Coverage.{IsCoveredOn}
 use Rattle.critarea_core.specs.Layout.{Subject}
-use Rattle.critarea_core.specs.Verdict.{AreRowsOn, whole_report, MapComesTo, LayoutComesTo, IsVerdict}
+use Rattle.critarea_core.specs.Verdict.{AreRowsOn, whole_report, IsVerdict}
 use Rattle.critarea_core.specs.declared.layout_fault.LayoutFault.{LayoutFault}
 use Rattle.critarea_core.specs.declared.refusal.Refusal.{Refusal}
 use Rattle.critarea_core.proofs.laws.VerdictLaws.{short_layouts_agree, verdicts_agree}
+use Rattle.run_laws.specs.NamedFiles.{HoldTheSame}
+use Rattle.run_laws.proofs.NameLaws.{TaskComesTo, same_files_same_verdict}
 
 -- ---- rows and reports
 
@@ -33,11 +34,6 @@ reports_agree subject rows others gauges are these = ap (λ rows. whole_report r
 
 -- ---- what tiles and workers change: nothing
 
--- the verdict on the task, where the words ask for it
-abbrev TaskComesTo : Contents → Task → Outcome Subject Refusal → Type 0
-TaskComesTo contents task =
-    Then (MapComesTo task contents.map) (λ layer_map. LayoutComesTo layer_map (wanted_top task) (bytes_from contents.layout (layout_source task)))
-
 pub same_task_same_verdict : (words other : List (List ℕ)) (one same : Request) → Ask words one → Ask other same → one.task ≡ same.task
     → (contents : Contents) (outcome : Outcome Subject Refusal) → IsVerdict words contents outcome → IsVerdict other contents outcome
 same_task_same_verdict words other one same asks also alike contents outcome (stops (lacks none)) = absurd (none one asks)
@@ -46,11 +42,12 @@ same_task_same_verdict words other one same asks also alike contents outcome (go
     goes_on {v = same} (reads also) (subst (λ task. TaskComesTo contents task outcome) (ap (λ (r : Request). r.task) is ∙ alike) comes)
 
 pub same_task_same_report : (words other : List (List ℕ)) (one same : Request) → Ask words one → Ask other same → one.task ≡ same.task
-    → (contents : Contents) (subject also : Subject) (rows others : List Row) (gauges : List GaugeView)
-    → IsVerdict words contents (value subject) → AreRowsOn subject rows → IsVerdict other contents (value also) → AreRowsOn also others → whole_report rows gauges ≡ whole_report others gauges
-same_task_same_report words other one same asks too alike contents subject also rows others gauges verdict are verdict_too these =
-    let moved = same_task_same_verdict words other one same asks too alike contents (value subject) verdict in
-    let subjects : subject ≡ also = cc (verdicts_agree other contents (value subject) (value also) moved verdict_too) in
+    → (contents found : Contents) → HoldTheSame one.task contents found → (subject also : Subject) (rows others : List Row) (gauges : List GaugeView)
+    → IsVerdict words contents (value subject) → AreRowsOn subject rows → IsVerdict other found (value also) → AreRowsOn also others → whole_report rows gauges ≡ whole_report others gauges
+same_task_same_report words other one same asks too alike contents found files subject also rows others gauges verdict are verdict_too these =
+    let named = same_files_same_verdict words one asks contents found files (value subject) verdict in
+    let moved = same_task_same_verdict words other one same asks too alike found (value subject) named in
+    let subjects : subject ≡ also = cc (verdicts_agree other found (value subject) (value also) moved verdict_too) in
     reports_agree also rows others gauges (subst (λ s. AreRowsOn s rows) subjects are) these
 
 -- ---- what is found in the bytes of a layout

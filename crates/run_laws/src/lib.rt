@@ -20,6 +20,12 @@ ghost use Rattle.critarea_core.specs.declared.layout_fault.LayoutFault.{LayoutFa
 ghost use Rattle.critarea_core.specs.declared.refusal.Refusal.{Refusal};
 ghost use Rattle.map_model.specs.LayerMap.{LayerMap};
 ghost use Rattle.questions.specs.declared.row.Row.{Row};
+ghost use Rattle.fault_model.specs.Areas.{Tally};
+ghost use Rattle.geo_core.specs.declared.plane.Cell.{Cell};
+ghost use Rattle.run_laws.specs.NamedFiles.{HoldTheSame};
+ghost use Rattle.run_laws.specs.RefusalStages.{IsOfStage};
+
+use fault_model::Property;
 
 /// A layer map, a top that is wanted or not, and the bytes of a layout come to one subject, or to one refusal, at most.
 #[tactic(auto, using(critarea_core::proofs::laws::VerdictLaws::layout_outcomes_agree))]
@@ -44,19 +50,37 @@ pub fn contents_have_verdicts()
         CannotLack (IsVerdict words contents) }
 {}
 
+/// A refusal of a verdict tells its stage. Of the words it has the status 2 and the number 2; of the map the status 3 and a number
+/// from 39 to 47; of the layout the status 4 and a number from 9 to 36, or 50 where a terminal is not on its metal.
+#[tactic(auto, using(crate::proofs::StageLaws::refusals_tell_stages))]
+pub fn refusals_tell_stages()
+    ensures { (words : List (List ℕ)) (contents : Contents) (refusal : Refusal) →
+        IsVerdict words contents (refused refusal) → IsOfStage refusal }
+{}
+
 /// Words that ask for the same task have the same verdict, whatever they say of tiles and workers.
 pub fn tiles_and_workers_change_no_verdict()
     ensures { (words other : List (List ℕ)) (one same : Request) → Ask words one → Ask other same → one.task ≡ same.task →
         (contents : Contents) (outcome : Outcome Subject Refusal) → IsVerdict words contents outcome → IsVerdict other contents outcome }
 {}
 
-/// Words that ask for the same task have the same report where the same gauges are told of it, byte for byte: the whole report
-/// of rows on the subject to which the ones come is that of rows on the subject to which the others come.
+/// A verdict looks at the named files alone: where the file that the words name as the map holds the same as a map, and the one
+/// that they name as the layout the same as a layout, the verdict is the same, whatever other files hold.
+pub fn verdicts_look_at_named_files()
+    ensures { (words : List (List ℕ)) (request : Request) → Ask words request →
+        (contents other : Contents) → HoldTheSame request.task contents other →
+        (outcome : Outcome Subject Refusal) → IsVerdict words contents outcome → IsVerdict words other outcome }
+{}
+
+/// Words that ask for the same task have the same report where the named files hold the same and the same gauges are told of it,
+/// byte for byte: the whole report of rows on the subject to which the ones come is that of rows on the subject to which the
+/// others come.
 pub fn tiles_and_workers_change_no_byte()
     ensures { (words other : List (List ℕ)) (one same : Request) → Ask words one → Ask other same → one.task ≡ same.task →
-        (contents : Contents) (subject also : Subject) (rows others : List Row) (gauges : List GaugeView) →
+        (contents found : Contents) → HoldTheSame one.task contents found →
+        (subject also : Subject) (rows others : List Row) (gauges : List GaugeView) →
         IsVerdict words contents (value subject) → AreRowsOn subject rows →
-        IsVerdict other contents (value also) → AreRowsOn also others → whole_report rows gauges ≡ whole_report others gauges }
+        IsVerdict other found (value also) → AreRowsOn also others → whole_report rows gauges ≡ whole_report others gauges }
 {}
 
 /// A layer map, a top that is wanted or not, and the bytes of a layout come to one list of rows, or to one fault, and never to
@@ -89,4 +113,9 @@ pub fn reports_agree()
 pub fn maps_name_terminals()
     ensures { (task : Task) (bytes : List ℕ → List ℕ) (layer_map : LayerMap) →
         MapComesTo task bytes (value layer_map) → All (λ cut. cut.has_terminals ≡ false) layer_map.cuts }
+{}
+
+/// A property has a tally over each list of cells: it cannot be that it has none.
+pub fn tallies_cannot_be_lacking<P: Property>()
+    ensures { (cells : List Cell) → CannotLack (Tally P.holds cells) }
 {}

@@ -1,0 +1,70 @@
+//! Laws of the sides of defects: which side makes the faults of which other one.
+//!
+//! Each defect has its centre in the middle of a cell. One of an even side has the cells at its rim in halves, and one of
+//! an odd side has each cell wholly or not at all.
+
+ghost use Rattle.std.specs.Prelude.{ℕ, pos, List, ◌+◌, ◌-◌, ◌/◌, ◌≤◌, ◌↔◌};
+ghost use Rattle.critarea_core.specs.Coverage.{IsCoveredOn};
+ghost use Rattle.critarea_core.specs.WholeCells.{IsOfWholeCells};
+ghost use Rattle.critical_areas.specs.FaultKinds.{IsFault};
+ghost use Rattle.fault_model.specs.Areas.{Tally};
+ghost use Rattle.fault_model.specs.Faults.{AreParted, IsCellsOpen, IsShort, IsViaBlock};
+ghost use Rattle.fault_model.specs.Halves.{IsSwallowed, IsTouched};
+ghost use Rattle.fault_model.specs.Nets.{Cut};
+ghost use Rattle.fault_model.specs.Vias.{IsViasOpen};
+ghost use Rattle.flatten.specs.Routes.{Route};
+ghost use Rattle.geo_core.specs.Cells.{IsNear};
+ghost use Rattle.geo_core.specs.declared.plane.Cell.{Cell};
+ghost use Rattle.map_model.specs.LayerMap.{LayerMap};
+ghost use Rattle.questions.specs.declared.kind.Kind.TheVariants.{Open, Short, Via};
+
+use fault_model::{HalfSet, Layout, Property};
+
+/// A defect of side `s` touches the cells up to a distance of `s / 2`, and has all of those up to a distance of
+/// `(s - 1) / 2`, where of the distances in the two directions the greater one counts. So on what placed shapes cover, a side of
+/// 2 or more makes the shorts of the radius `s / 2`, side 1 makes none, and a side of 1 or more makes the via blocks of the
+/// radius `(s + 1) / 2`. All are whole parts.
+pub fn sides_as_halves()
+    ensures touches { (s : ℕ) (c d : Cell) → 1 ≤ s → IsTouched c s d ↔ IsNear c d (pos (s / 2)) }
+    ensures covers { (s : ℕ) (c d : Cell) → 1 ≤ s → IsSwallowed c s d ↔ IsNear c d (pos ((s - 1) / 2)) }
+    ensures shorts { (layer_map : LayerMap) (routes : List Route) (cuts : List Cut) (m s : ℕ) (c : Cell) → 2 ≤ s →
+        IsShort (IsCoveredOn layer_map routes) cuts m s c ↔ IsShort (IsCoveredOn layer_map routes) cuts m (s / 2 + s / 2) c }
+    ensures no_short { (layer_map : LayerMap) (routes : List Route) (cuts : List Cut) (m : ℕ) (c : Cell) →
+        IsShort (IsCoveredOn layer_map routes) cuts m 1 c → ⊥ }
+    ensures blocks { (layer_map : LayerMap) (routes : List Route) (cut : Cut) (s : ℕ) (c : Cell) → 1 ≤ s →
+        IsViaBlock (IsCoveredOn layer_map routes) cut s c
+        ↔ IsViaBlock (IsCoveredOn layer_map routes) cut ((s + 1) / 2 + (s + 1) / 2) c }
+{}
+
+/// A defect of an odd side has each cell wholly or not at all.
+pub fn odd_sides_have_whole_cells()
+    ensures { (k : ℕ) (c d : Cell) → IsTouched c (k + k + 1) d → IsSwallowed c (k + k + 1) d }
+{}
+
+/// A defect of an odd side parts what one of the next even side at the same cell parts, of whatever is made of whole cells.
+pub fn odd_sides_part_as_the_next<P: Property, R: HalfSet, S: HalfSet>()
+    ensures { (k : ℕ) (c : Cell) → IsOfWholeCells R.has → IsOfWholeCells S.has →
+        AreParted P.holds c (k + k + 1) R.has S.has ↔ AreParted P.holds c (k + k + 2) R.has S.has }
+{}
+
+/// So it makes the same opens, whether cells alone are terminals, or via clusters are, too.
+pub fn odd_sides_open_as_the_next<L: Layout, T: Property>()
+    ensures cells { (m k : ℕ) (c : Cell) →
+        IsCellsOpen (L.covers m) T.holds (k + k + 1) c ↔ IsCellsOpen (L.covers m) T.holds (k + k + 2) c }
+    ensures vias { (cuts : List Cut) (m k : ℕ) (c : Cell) →
+        IsViasOpen L.covers cuts T.holds m (k + k + 1) c ↔ IsViasOpen L.covers cuts T.holds m (k + k + 2) c }
+{}
+
+/// So each area of an odd side is that of an even neighbour over the same cells: shorts have the area of the side before, where
+/// that is 2 or more, and opens and via blocks that of the next.
+pub fn odd_sides_have_even_areas<L: Layout>()
+    ensures shorts { (layer_map : LayerMap) (cells : List Cell) (number k n : ℕ) → 1 ≤ k →
+        Tally (IsFault layer_map L.covers Short number (k + k + 1)) cells n
+        ↔ Tally (IsFault layer_map L.covers Short number (k + k)) cells n }
+    ensures opens { (layer_map : LayerMap) (cells : List Cell) (number k n : ℕ) →
+        Tally (IsFault layer_map L.covers Open number (k + k + 1)) cells n
+        ↔ Tally (IsFault layer_map L.covers Open number (k + k + 2)) cells n }
+    ensures blocks { (layer_map : LayerMap) (cells : List Cell) (number k n : ℕ) →
+        Tally (IsFault layer_map L.covers Via number (k + k + 1)) cells n
+        ↔ Tally (IsFault layer_map L.covers Via number (k + k + 2)) cells n }
+{}

@@ -1,0 +1,166 @@
+-- of which stage each refusal of a verdict is
+use Rattle.std.proofs.Common.{ℕ, ◌≤◌, List, Option, refl, sym, subst, lit≤}
+use Rattle.first_refusal.specs.Checks.{one_fails}
+use Rattle.first_refusal.specs.Outcomes.{refused, lacks, retold, stops, goes_on}
+use Rattle.command_line.specs.declared.task.Task.{Task}
+use Rattle.command_line.specs.declared.task.Task.TheVariants.{OneMetal, Mapped, Generated}
+use Rattle.gds_records.specs.RecordSpelling.{Entry}
+use Rattle.gds_records.specs.Split.{End}
+use Rattle.gds_records.specs.declared.fault.RecordFault.{RecordFault}
+use Rattle.gds_records.specs.declared.fault.RecordFault.TheVariants.{Truncated}
+use Rattle.library_grammar.specs.ElementChecks.{ElementCheck, has, element_fault}
+use Rattle.library_grammar.specs.FirstFault.{Shows, may_not_stand, repeats, is_faulty, IsFirstFault, at_record, at_end, BytesComeTo, have_fault}
+use Rattle.library_grammar.specs.SyntaxFaults as syntax_faults
+use Rattle.library_grammar.specs.declared.fault.SyntaxFault.{SyntaxFault}
+use Rattle.library_grammar.specs.declared.fault.SyntaxFault.TheVariants.{Record}
+use Rattle.library_model.specs.declared.library.Structure.{Structure}
+use Rattle.flatten.specs.PlaceFaults as place_faults
+use Rattle.flatten.specs.Placements.{LibraryCheck, has_its_target, library_fault, TopCheck, is_shallow, top_fault, Placing}
+use Rattle.flatten.specs.declared.fault.PlaceFault.{PlaceFault}
+use Rattle.layer_map.specs.CutChecks.{CutCheck, as_layer, of_lower, of_upper, cut_fault}
+use Rattle.layer_map.specs.Documents as document
+use Rattle.layer_map.specs.ItemChecks.{TableCheck, is_table, table_fault, ReferenceCheck, is_text, reference_fault}
+use Rattle.layer_map.specs.LayerChecks.{LayerCheck, as_table as layer_as_table, layer_fault}
+use Rattle.layer_map.specs.MapChecks.{MapCheck, of_metal, of_cut, of_terminal as of_terminal_item, fault_of}
+use Rattle.layer_map.specs.MapFaults as map_faults
+use Rattle.layer_map.specs.TerminalChecks.{TerminalCheck, as_table as terminal_as_table, metal_named, terminal_fault as terminal_item_fault}
+use Rattle.layer_map.specs.declared.fault.MapFault.{MapFault}
+use Rattle.layout_gen.specs.Generated.{generated_map}
+use Rattle.map_model.specs.MapNames.{LayerMap}
+use Rattle.library_model.specs.declared.library.Library.{Library}
+use Rattle.rect_cover.specs.CoverFaults as cover_faults
+use Rattle.rect_cover.specs.ShapeChecks.{ShapeCheck, is_not_round, shape_fault}
+use Rattle.critarea_core.specs.Contents.{Contents}
+use Rattle.critarea_core.specs.Layout.{LibraryComesTo, ShapesComeTo, ShortLayoutComesTo}
+use Rattle.critarea_core.specs.Refusals.{of_layout_fault}
+use Rattle.critarea_core.specs.Verdict.{IsVerdict, LayoutComesTo, MapComesTo, MapTextComesTo, WordsComeTo}
+use Rattle.critarea_core.specs.declared.layout_fault.LayoutFault.{LayoutFault}
+use Rattle.critarea_core.specs.declared.refusal.Refusal.{Refusal}
+use Rattle.run_laws.specs.RefusalStages.{IsOfStage, of_words, of_map, of_layout, of_terminal}
+
+-- ---- the numbers of faults of maps
+
+abbrev IsMapNumber : ℕ → Type 0
+IsMapNumber number = (39 ≤ number) × (number ≤ 47)
+
+table_number : (path : ℕ) (check : TableCheck) → IsMapNumber (map_faults.number_of (table_fault path check))
+table_number path is_table = (lit≤ tt, lit≤ tt)
+table_number path check = (lit≤ tt, lit≤ tt)
+
+reference_number : (path : ℕ) (check : ReferenceCheck) → IsMapNumber (map_faults.number_of (reference_fault path check))
+reference_number path is_text = (lit≤ tt, lit≤ tt)
+reference_number path check = (lit≤ tt, lit≤ tt)
+
+layer_number : (path : ℕ) (check : LayerCheck) → IsMapNumber (map_faults.number_of (layer_fault path check))
+layer_number path (layer_as_table check) = table_number path check
+layer_number path check = (lit≤ tt, lit≤ tt)
+
+cut_number : (path : ℕ) (check : CutCheck) → IsMapNumber (map_faults.number_of (cut_fault path check))
+cut_number path (as_layer check) = layer_number path check
+cut_number path (of_lower check) = reference_number _ check
+cut_number path (of_upper check) = reference_number _ check
+cut_number path check = (lit≤ tt, lit≤ tt)
+
+terminal_number : (path : ℕ) (check : TerminalCheck) → IsMapNumber (map_faults.number_of (terminal_item_fault path check))
+terminal_number path (terminal_as_table check) = table_number path check
+terminal_number path (metal_named check) = reference_number _ check
+terminal_number path check = (lit≤ tt, lit≤ tt)
+
+check_number : (check : MapCheck) → IsMapNumber (map_faults.number_of (fault_of check))
+check_number (of_metal number check) = layer_number _ check
+check_number (of_cut number check) = cut_number _ check
+check_number (of_terminal_item number check) = terminal_number _ check
+check_number check = (lit≤ tt, lit≤ tt)
+
+map_number : (text : List ℕ) (fault : MapFault) → document.MapComesTo text (refused fault) → IsMapNumber (map_faults.number_of fault)
+map_number text fault (stops (lacks none)) = (lit≤ tt, lit≤ tt)
+map_number text fault (goes_on members (one_fails first)) =
+    subst (λ (f : MapFault). IsMapNumber (map_faults.number_of f)) (sym first.is_its_refusal) (check_number first.check)
+
+-- ---- the numbers of faults of layouts
+
+abbrev IsLayoutNumber : ℕ → Type 0
+IsLayoutNumber number = (9 ≤ number) × (number ≤ 36)
+
+abbrev HasNumber : SyntaxFault → Type 0
+HasNumber fault = IsLayoutNumber (syntax_faults.number_of fault)
+
+record_number : (why : RecordFault) → HasNumber (Record why)
+record_number (Truncated at) = (lit≤ tt, lit≤ tt)
+record_number why = (lit≤ tt, lit≤ tt)
+
+element_number : (at : ℕ) (check : ElementCheck) → HasNumber (element_fault at check)
+element_number at (has kind) = (lit≤ tt, lit≤ tt)
+element_number at check = (lit≤ tt, lit≤ tt)
+
+shown_number : (before : List Entry) (e : Entry) (fault : SyntaxFault) → Shows before e fault → HasNumber fault
+shown_number before e fault (may_not_stand _) = (lit≤ tt, lit≤ tt)
+shown_number before e fault (repeats _ _ _ _) = (lit≤ tt, lit≤ tt)
+shown_number before e fault (is_faulty {at = at} _ _ first) = subst HasNumber (sym first.is_its_refusal) (element_number at first.check)
+
+first_number : (entries : List Entry) (end : End) (fault : SyntaxFault) → IsFirstFault entries end fault → HasNumber fault
+first_number entries end fault (at_record before after e _ _ shows) = shown_number before e fault shows
+first_number entries end fault (at_end {why = why} _) = record_number why
+
+syntax_number : (bytes : List ℕ) (fault : SyntaxFault) → BytesComeTo bytes (refused fault) → HasNumber fault
+syntax_number bytes fault (have_fault {entries = entries} {end = end} splits first) = first_number entries end fault first
+
+abbrev HasPlaceNumber : PlaceFault → Type 0
+HasPlaceNumber fault = IsLayoutNumber (place_faults.number_of fault)
+
+library_number : (structures : List Structure) (check : LibraryCheck) → HasPlaceNumber (library_fault structures check)
+library_number structures (has_its_target reference) = (lit≤ tt, lit≤ tt)
+library_number structures check = (lit≤ tt, lit≤ tt)
+
+top_number : (structures : List Structure) (top : ℕ) (check : TopCheck) → HasPlaceNumber (top_fault structures top check)
+top_number structures top is_shallow = (lit≤ tt, lit≤ tt)
+top_number structures top check = (lit≤ tt, lit≤ tt)
+
+place_number : (structures : List Structure) (layer_map : LayerMap) (wanted : Option (List ℕ)) (fault : PlaceFault) → Placing structures layer_map wanted (refused fault) → HasPlaceNumber fault
+place_number structures layer_map wanted fault (stops (one_fails first)) = subst HasPlaceNumber (sym first.is_its_refusal) (library_number structures first.check)
+place_number structures layer_map wanted fault (goes_on {v = top} chosen (one_fails first)) =
+    subst HasPlaceNumber (sym first.is_its_refusal) (top_number structures top first.check)
+
+shape_number : (at : ℕ) (check : ShapeCheck) → IsLayoutNumber (cover_faults.number_of (shape_fault at check))
+shape_number at (is_not_round style) = (lit≤ tt, lit≤ tt)
+shape_number at check = (lit≤ tt, lit≤ tt)
+
+-- ---- the stages of refusals
+
+abbrev IsLayoutFault : LayoutFault → Type 0
+IsLayoutFault fault = IsOfStage (of_layout_fault fault)
+
+library_stage : (layer_map : LayerMap) (wanted : Option (List ℕ)) (library : Library) (fault : LayoutFault) → LibraryComesTo layer_map wanted library (refused fault) → IsLayoutFault fault
+library_stage layer_map wanted library fault (stops (retold {fault = placing} comes)) =
+    let number = place_number library.structures layer_map wanted placing comes in of_layout refl number.0 number.1
+library_stage layer_map wanted library fault (goes_on placed (one_fails first)) =
+    let number = shape_number first.check.0.shape.at first.check.1 in subst IsLayoutFault (sym first.is_its_refusal) (of_layout refl number.0 number.1)
+
+shapes_stage : (layer_map : LayerMap) (wanted : Option (List ℕ)) (bytes : List ℕ) (fault : LayoutFault) → ShapesComeTo layer_map wanted bytes (refused fault) → IsLayoutFault fault
+shapes_stage layer_map wanted bytes fault (stops (retold {fault = syntax} comes)) = let number = syntax_number bytes syntax comes in of_layout refl number.0 number.1
+shapes_stage layer_map wanted bytes fault (goes_on {v = library} read comes) = library_stage layer_map wanted library fault comes
+
+short_stage : (layer_map : LayerMap) (wanted : Option (List ℕ)) (bytes : List ℕ) (fault : LayoutFault) → ShortLayoutComesTo layer_map wanted bytes (refused fault) → IsLayoutFault fault
+short_stage layer_map wanted bytes fault (stops comes) = shapes_stage layer_map wanted bytes fault comes
+short_stage layer_map wanted bytes fault (goes_on shapes (one_fails first)) = subst IsLayoutFault (sym first.is_its_refusal) (of_terminal refl refl)
+
+layout_stage : (layer_map : LayerMap) (wanted : Option (List ℕ)) (layout : List ℕ) (refusal : Refusal) → LayoutComesTo layer_map wanted layout (refused refusal) → IsOfStage refusal
+layout_stage layer_map wanted layout refusal (stops (lacks long)) = of_layout refl (lit≤ tt) (lit≤ tt)
+layout_stage layer_map wanted layout refusal (goes_on {v = text} short (retold {fault = fault} comes)) = short_stage layer_map wanted text fault comes
+
+map_text_stage : (bytes : List ℕ) (refusal : Refusal) → MapTextComesTo bytes (refused refusal) → IsOfStage refusal
+map_text_stage bytes refusal (stops (lacks long)) = of_map refl (lit≤ tt) (lit≤ tt)
+map_text_stage bytes refusal (goes_on {v = text} short (retold {fault = fault} comes)) = let number = map_number text fault comes in of_map refl number.0 number.1
+
+map_stage : (task : Task) (bytes : List ℕ → List ℕ) (refusal : Refusal) → MapComesTo task bytes (refused refusal) → IsOfStage refusal
+map_stage (OneMetal layout layer datatype radius top) bytes refusal comes = cc comes
+map_stage (Mapped layout map top) bytes refusal comes = map_text_stage (bytes map) refusal comes
+map_stage (Generated columns) bytes refusal comes = map_text_stage generated_map refusal comes
+
+words_stage : (words : List (List ℕ)) (refusal : Refusal) → WordsComeTo words (refused refusal) → IsOfStage refusal
+words_stage words refusal (lacks none) = of_words refl refl
+
+pub refusals_tell_stages : (words : List (List ℕ)) (contents : Contents) (refusal : Refusal) → IsVerdict words contents (refused refusal) → IsOfStage refusal
+refusals_tell_stages words contents refusal (stops comes) = words_stage words refusal comes
+refusals_tell_stages words contents refusal (goes_on {v = request} asked (stops comes)) = map_stage request.task contents.map refusal comes
+refusals_tell_stages words contents refusal (goes_on asked (goes_on map comes)) = layout_stage _ _ _ refusal comes

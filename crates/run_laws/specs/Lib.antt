@@ -1,0 +1,3 @@
+-- what the laws of runs say of refusals and of files
+pub mod RefusalStages
+pub mod NamedFiles
