@@ -1,7 +1,7 @@
 //! Shapes of every kind: outlines that wind more than once, boxes, and paths with each kind of end.
 
 use super::rows::RIGHT;
-use super::runs::Want::{BadLayout, Short};
+use super::runs::Want::Short;
 use super::runs::{RADIUS_2, RADIUS_3, RADIUS_4, SHORT_32, Want, expect, layout_answers};
 use super::structures::{Part, library_with};
 use samples::layouts::{Filled, Plate, Wire};
@@ -70,37 +70,6 @@ fn paths_cover_their_pieces(rt: HostRuntime) {
         let wire = Part::Wire(*wire);
         let want = Short(2, *area);
         let holds = part_answers(&rt, rt.alloc(), RADIUS_2, wire, *beside, &want);
-        expect(&rt, holds, number);
-    }
-}
-
-/// Paths that have no cover, and what is wrong. Where several things are, the order of the checks decides.
-const REFUSED: &[(Wire<'_>, u8)] = &[
-    ((1, 4, (0, 0), CORNER), 32),
-    ((3, 4, (0, 0), CORNER), 35),
-    ((0, 5, (0, 0), CORNER), 33),
-    ((0, 4, (0, 0), &[(0, 0), (0, 0)]), 36),
-    ((0, 4, (0, 0), &[(0, 0)]), 36),
-    ((0, 4, (0, 0), &[(0, 0), (3, 4)]), 31),
-    ((0, 4, (0, 0), &[(0, 0), (10, 0), (4, 0)]), 34),
-    // what its extension takes away, and all that there is
-    ((4, 4, (-12, 0), &[(0, 0), (10, 0)]), 35),
-    ((4, 4, (-10, 0), &[(0, 0), (10, 0)]), 35),
-    // half a width past the farthest point
-    ((2, 4, (0, 0), &[(999_999_999, 0), (1_000_000_000, 0)]), 30),
-    // round ends come first, then unknown ends, an odd width, and a way back before a piece that is eaten up
-    ((1, 5, (0, 0), CORNER), 32),
-    ((3, 5, (0, 0), CORNER), 35),
-    ((0, 5, (0, 0), &[(0, 0), (0, 0)]), 33),
-    ((4, 4, (-12, 0), &[(0, 0), (10, 0), (4, 0)]), 34),
-];
-
-#[test]
-fn paths_without_a_cover_are_refused(rt: HostRuntime) {
-    for (number, (wire, fault)) in REFUSED.iter().enumerate() {
-        let wire = Part::Wire(*wire);
-        let want = BadLayout(*fault, 94);
-        let holds = part_answers(&rt, rt.alloc(), RADIUS_2, wire, BEFORE, &want);
         expect(&rt, holds, number);
     }
 }

@@ -1,16 +1,16 @@
-//! Runs in which each call of the files and each byte of the outputs fails in turn.
+//! Runs on devices that fail, at each call and each byte in turn, and on devices that give and take one byte a call.
 
 use super::gauge_kinds::push_kinds;
 use super::maps::{AT_1, CUT, METALS};
 use super::reports::{Report, text_of};
 use super::runs::{Failing, Given, Want, answers, calm, expect, files_of, mapped, push_words};
 use critarea_core::{NoGate, run};
-use edge_io::{Failed, Sink};
+use edge_io::{Failed, Files, MemFiles, MemSink, Sink};
 use gauges::Gauge;
 use lists::NoMemory;
 use samples::GaugeKind;
 use samples::layouts::{Plate, plates};
-use std::alloc::Global;
+use std::alloc::{AllocError, Global};
 use std::thread::Threads;
 
 /// An output that takes one byte a call, and fails once it has taken so many.
@@ -50,50 +50,34 @@ impl Sink for Dripping {
     }
 }
 
-/// What a run whose outputs drip answered.
+/// Files of which each read gives one byte.
 #[derive(Drop)]
-struct Dripped {
-    status: u8,
-    out: Dripping,
-    err: Dripping,
+struct Sipping<F> {
+    files: F,
 }
 
-impl Dripped {
-    /// Whether this is the status, and these bytes were taken.
-    fn has(&self, status: u8, out: &[u8], err: &[u8]) -> bool {
-        self.status == status
-            && self.out.taken.as_slice() == out
-            && self.err.taken.as_slice() == err
+impl<F: Files> Files for Sipping<F> {
+    ghost holds = { λ s. F.holds s.files };
+
+    ghost rest = { λ s. F.rest s.files };
+
+    ghost started = { λ s. F.started s.files };
+
+    ghost starts = { λ s. F.starts s.files };
+
+    ghost sure = { λ s. F.sure s.files };
+
+    ghost steady = { λ s. F.steady s.files };
+
+    ghost faults = { λ s. F.faults s.files };
+
+    fn start(&mut self, name: &[u8]) -> Result<(), Failed> {
+        self.files.start(name)
     }
-}
 
-/// What a run answers whose outputs take so many bytes, one a call.
-fn run_dripping(
-    rt: &(impl Threads + Sync),
-    alloc: Global,
-    given: &Given<'_>,
-    most_out: usize,
-    most_err: usize,
-) -> Result<Dripped, NoMemory> {
-    let mut words = Vec::new(alloc);
-    push_words(alloc, &mut words, given.words)?;
-    let mut files = files_of(alloc, given)?;
-    let mut gauges: Vec<Box<dyn Gauge>> = Vec::new(alloc);
-    push_kinds(alloc, &mut gauges, &[GaugeKind::Peak, GaugeKind::Nonzero])?;
-    let mut out = Dripping::new(alloc, most_out);
-    let mut err = Dripping::new(alloc, most_err);
-    let words = words.as_slice();
-    let status = run(
-        rt,
-        alloc,
-        words,
-        &mut files,
-        &mut out,
-        &mut err,
-        &mut gauges,
-        &NoGate,
-    );
-    Ok(Dripped { status, out, err })
+    fn read(&mut self, buf: &mut [u8]) -> Result<usize, Failed> {
+        self.files.read(&mut buf[..1])
+    }
 }
 
 /// Two bars under a strap, with a contact on each: two via clusters of one net.
@@ -114,80 +98,354 @@ const REPORT: Report = Report {
     ..AT_1
 };
 
-/// Calls of the files. Each of the two is started, read, and read again to see its end.
-const CALLS: &[&[u64]] = &[&[0], &[1], &[2], &[3], &[4], &[5]];
+/// The line of a map that is no document.
+const LINE: &[u8] = b"error 40 at 0\n";
 
-/// A call behind the last.
-const NO_CALL: &[u64] = &[6];
+/// A run of a map that is no document.
+const REFUSED: Ending<'static> = Ending {
+    status: 3,
+    out: b"",
+    err: LINE,
+};
 
-/// Whether runs fail where a call of the files does, each call in turn, and report where none does.
-fn calls_fail_in_turn(rt: &(impl Threads + Sync), alloc: Global, given: &Given<'_>) -> bool {
-    for calls in CALLS {
-        let failing = Failing::Files(*calls);
-        if !answers(rt, alloc, &Given { failing, ..*given }, &Want::Fault) {
-            return false;
+/// A run in which something failed before it wrote a byte.
+const FAILED: Ending<'static> = Ending {
+    status: 5,
+    out: b"",
+    err: b"",
+};
+
+/// How a run ends: its status, and what its outputs took.
+#[derive(Clone, Copy)]
+struct Ending<'a> {
+    status: u8,
+    out: &'a [u8],
+    err: &'a [u8],
+}
+
+impl Ending<'_> {
+    /// Whether this is the status, and these bytes were taken.
+    fn is(&self, status: u8, out: &[u8], err: &[u8]) -> bool {
+        self.status == status && self.out == out && self.err == err
+    }
+}
+
+/// The files of a run on the bars under the strap, and the text of its report.
+#[derive(Drop)]
+struct Strap {
+    layout: Vec<u8>,
+    map: Vec<u8>,
+    text: String,
+}
+
+impl Strap {
+    fn new(alloc: Global) -> Result<Strap, AllocError> {
+        let sizes = b"version=1\nradii=[5]\nweights=[1]\n".as_slice();
+        Ok(Strap {
+            layout: plates(alloc, BARS_UNDER_A_STRAP)?,
+            map: [sizes, METALS, CUT].concat(alloc)?,
+            text: text_of(alloc, &REPORT)?,
+        })
+    }
+
+    /// What the run is given.
+    fn given(&self) -> Given<'_> {
+        mapped(self.layout.as_slice(), self.map.as_slice())
+    }
+
+    /// The text of its report.
+    fn text(&self) -> &[u8] {
+        self.text.as_str().as_bytes()
+    }
+
+    /// How it ends where nothing fails.
+    fn reported(&self) -> Ending<'_> {
+        Ending {
+            status: 0,
+            out: self.text(),
+            err: b"",
         }
     }
-    let failing = Failing::Files(NO_CALL);
-    answers(rt, alloc, &Given { failing, ..*given }, &Want::Rows(REPORT))
+
+    /// The run.
+    fn trial(&self) -> Trial<'_> {
+        Trial {
+            given: self.given(),
+            whole: self.reported(),
+        }
+    }
+}
+
+/// The status of a run of these words on such devices, with the gauges that the program has.
+fn status_on<F: Files, O: Sink, E: Sink>(
+    rt: &(impl Threads + Sync),
+    alloc: Global,
+    line: &str,
+    files: &mut F,
+    out: &mut O,
+    err: &mut E,
+) -> Result<u8, NoMemory> {
+    let mut words = Vec::new(alloc);
+    push_words(alloc, &mut words, line)?;
+    let words = words.as_slice();
+    let mut gauges: Vec<Box<dyn Gauge>> = Vec::new(alloc);
+    push_kinds(alloc, &mut gauges, &[GaugeKind::Peak, GaugeKind::Nonzero])?;
+    Ok(run(rt, alloc, words, files, out, err, &mut gauges, &NoGate))
+}
+
+/// Whether a run ends so whose outputs take so many bytes, one a call.
+fn drips(
+    rt: &(impl Threads + Sync),
+    alloc: Global,
+    given: &Given<'_>,
+    most: usize,
+    want: &Ending<'_>,
+) -> Result<bool, NoMemory> {
+    let mut files = files_of(alloc, given)?;
+    let mut out = Dripping::new(alloc, most);
+    let mut err = Dripping::new(alloc, most);
+    let status = status_on(rt, alloc, given.words, &mut files, &mut out, &mut err)?;
+    Ok(want.is(status, out.taken.as_slice(), err.taken.as_slice()))
 }
 
 /// Whether runs write a prefix of the report and fail where the output takes no more, each prefix in turn, and report whole
 /// where it takes all.
-fn bytes_fail_in_turn(
-    rt: &(impl Threads + Sync),
-    alloc: Global,
-    given: &Given<'_>,
-    text: &[u8],
-) -> Result<bool, NoMemory> {
+fn report_is_cut_short(rt: &(impl Threads + Sync), alloc: Global) -> Result<bool, NoMemory> {
+    let strap = Strap::new(alloc)?;
+    let (given, text) = (strap.given(), strap.text());
     for most in 0..text.len() {
-        if !run_dripping(rt, alloc, given, most, 0)?.has(5, &text[..most], b"") {
+        let cut = Ending {
+            out: &text[..most],
+            ..FAILED
+        };
+        if !drips(rt, alloc, &given, most, &cut)? {
             return Ok(false);
         }
     }
-    Ok(run_dripping(rt, alloc, given, text.len(), 0)?.has(0, text, b""))
+    drips(rt, alloc, &given, text.len(), &strap.reported())
 }
 
-/// What each of these runs is given, and whether the answers are right.
-fn devices_fail_in_turn(rt: &(impl Threads + Sync), alloc: Global) -> Result<bool, NoMemory> {
-    let layout = plates(alloc, BARS_UNDER_A_STRAP)?;
-    let map = [
-        b"version=1\nradii=[5]\nweights=[1]\n".as_slice(),
-        METALS,
-        CUT,
-    ]
-    .concat(alloc)?;
-    let given = mapped(layout.as_slice(), map.as_slice());
-    let text = text_of(alloc, &REPORT)?;
+/// Whether runs of a refused map write a prefix of the line and fail where the error output takes no more, each prefix in
+/// turn, and are refused where it takes all.
+fn line_is_cut_short(rt: &(impl Threads + Sync), alloc: Global) -> Result<bool, NoMemory> {
+    let given = mapped(b"", b"x");
+    for most in 0..LINE.len() {
+        let cut = Ending {
+            err: &LINE[..most],
+            ..FAILED
+        };
+        if !drips(rt, alloc, &given, most, &cut)? {
+            return Ok(false);
+        }
+    }
+    drips(rt, alloc, &given, LINE.len(), &REFUSED)
+}
+
+#[test]
+fn outputs_fail_behind_each_byte_in_turn(rt: HostRuntime) {
+    assert!(rt; report_is_cut_short(&rt, rt.alloc()) == Ok(true));
+    assert!(rt; line_is_cut_short(&rt, rt.alloc()) == Ok(true));
+}
+
+/// Whether a run reports whose reads give one byte and whose outputs take one byte a call.
+fn reports_byte_by_byte(rt: &(impl Threads + Sync), alloc: Global) -> Result<bool, NoMemory> {
+    let strap = Strap::new(alloc)?;
+    let given = strap.given();
+    let mut files = Sipping {
+        files: files_of(alloc, &given)?,
+    };
+    let mut out = Dripping::new(alloc, strap.text().len());
+    let mut err = Dripping::new(alloc, 0);
+    let status = status_on(rt, alloc, given.words, &mut files, &mut out, &mut err)?;
     Ok(
-        calls_fail_in_turn(rt, alloc, &given)
-            && bytes_fail_in_turn(rt, alloc, &given, text.as_str().as_bytes())?,
+        strap
+            .reported()
+            .is(status, out.taken.as_slice(), err.taken.as_slice()),
     )
 }
 
 #[test]
-fn files_and_output_fail_in_turn(rt: HostRuntime) {
-    assert!(rt; devices_fail_in_turn(&rt, rt.alloc()) == Ok(true));
+fn files_are_read_byte_by_byte(rt: HostRuntime) {
+    assert!(rt; reports_byte_by_byte(&rt, rt.alloc()) == Ok(true));
 }
 
-/// The line of a map that is no document.
-const LINE: &[u8] = b"error 40 at 0\n";
+/// One of the devices of a run.
+#[derive(Clone, Copy)]
+enum Device {
+    Files,
+    Out,
+    ErrorOut,
+}
 
-/// Whether runs of a refused map write a prefix of the line and fail where the error output takes no more, each prefix in
-/// turn, and are refused where it takes all.
-fn line_fails_in_turn(rt: &(impl Threads + Sync), alloc: Global) -> Result<bool, NoMemory> {
-    let given = mapped(b"", b"x");
-    for most in 0..LINE.len() {
-        if !run_dripping(rt, alloc, &given, 0, most)?.has(5, b"", &LINE[..most]) {
+/// The devices of a run, in memory.
+#[derive(Drop)]
+struct Devices {
+    files: MemFiles,
+    out: MemSink,
+    err: MemSink,
+}
+
+impl Devices {
+    /// Those of which nothing fails, with so much room for what each output takes.
+    fn new(alloc: Global, given: &Given<'_>, room: usize) -> Result<Devices, NoMemory> {
+        Ok(Devices {
+            files: files_of(alloc, given)?,
+            out: MemSink::with(alloc, room, Vec::new(alloc))?,
+            err: MemSink::with(alloc, room, Vec::new(alloc))?,
+        })
+    }
+
+    /// Lets one fail at the call of this number, and all count failures on from this number.
+    fn fail(&mut self, device: Device, call: u64, faults: u64) -> Result<(), AllocError> {
+        self.files.faults = faults;
+        self.out.faults = faults;
+        self.err.faults = faults;
+        match device {
+            Device::Files => self.files.fails.push(call)?,
+            Device::Out => self.out.fails.push(call)?,
+            Device::ErrorOut => self.err.fails.push(call)?,
+        }
+        Ok(())
+    }
+
+    /// The status of a run of these words on them.
+    fn run(
+        &mut self,
+        rt: &(impl Threads + Sync),
+        alloc: Global,
+        words: &str,
+    ) -> Result<u8, NoMemory> {
+        let (out, err) = (&mut self.out, &mut self.err);
+        status_on(rt, alloc, words, &mut self.files, out, err)
+    }
+
+    /// Whether a run with this status that they were handed ended so.
+    fn are_left(&self, status: u8, want: &Ending<'_>) -> bool {
+        want.is(
+            status,
+            self.out.written.as_slice(),
+            self.err.written.as_slice(),
+        )
+    }
+}
+
+/// A run that is tried on devices in memory, and how it ends where none fails.
+#[derive(Clone, Copy)]
+struct Trial<'a> {
+    given: Given<'a>,
+    whole: Ending<'a>,
+}
+
+/// More room than a report or a line takes.
+const ROOM: usize = 1000;
+
+impl Trial<'_> {
+    /// How many calls of the device end the run with 5 and nothing written where they fail, each in turn, until one is not made:
+    /// at most 9. Failures are counted on from `faults`.
+    fn calls_of(
+        &self,
+        rt: &(impl Threads + Sync),
+        alloc: Global,
+        device: Device,
+        faults: u64,
+    ) -> Result<Option<u64>, NoMemory> {
+        for call in 0..10 {
+            let mut devices = Devices::new(alloc, &self.given, ROOM)?;
+            devices.fail(device, call, faults)?;
+            let status = devices.run(rt, alloc, self.given.words)?;
+            if devices.are_left(status, &self.whole) {
+                return Ok(Some(call));
+            }
+            if !devices.are_left(status, &FAILED) {
+                return Ok(None);
+            }
+        }
+        Ok(None)
+    }
+
+    /// Whether the run ends so where its outputs have so much room.
+    fn ends_by(
+        &self,
+        rt: &(impl Threads + Sync),
+        alloc: Global,
+        room: usize,
+        want: &Ending<'_>,
+    ) -> Result<bool, NoMemory> {
+        let mut devices = Devices::new(alloc, &self.given, room)?;
+        let status = devices.run(rt, alloc, self.given.words)?;
+        Ok(devices.are_left(status, want))
+    }
+
+    /// Whether runs fail with nothing written where their outputs have too little room, by each number of bytes in turn, and end
+    /// whole where they have enough.
+    fn needs_its_room(&self, rt: &(impl Threads + Sync), alloc: Global) -> Result<bool, NoMemory> {
+        let need = self.whole.out.len().max(self.whole.err.len());
+        for room in 0..need {
+            if !self.ends_by(rt, alloc, room, &FAILED)? {
+                return Ok(false);
+            }
+        }
+        self.ends_by(rt, alloc, need, &self.whole)
+    }
+}
+
+/// A run of a map that is no document.
+const REFUSED_RUN: Trial<'static> = Trial {
+    given: Given {
+        words: "a --map m",
+        layout: b"",
+        map: b"x",
+        failing: Failing::Nothing,
+    },
+    whole: REFUSED,
+};
+
+/// The devices, and how many calls of each a run has that reports, and one of a refused map. A file is started, read, and read
+/// again to see its end, and a report or a line is written at once.
+const CALLS: &[(Device, u64, u64)] = &[
+    (Device::Files, 6, 3),
+    (Device::Out, 1, 0),
+    (Device::ErrorOut, 0, 1),
+];
+
+/// Whether each call of both runs fails in turn. Failures are counted on from this number.
+fn each_call_fails(
+    rt: &(impl Threads + Sync),
+    alloc: Global,
+    faults: u64,
+) -> Result<bool, NoMemory> {
+    let strap = Strap::new(alloc)?;
+    let run = strap.trial();
+    for (device, reported, refused) in CALLS {
+        if run.calls_of(rt, alloc, *device, faults)? != Some(*reported)
+            || REFUSED_RUN.calls_of(rt, alloc, *device, faults)? != Some(*refused)
+        {
             return Ok(false);
         }
     }
-    Ok(run_dripping(rt, alloc, &given, 0, LINE.len())?.has(3, b"", LINE))
+    Ok(true)
+}
+
+/// Numbers of failures before a run: none, and so many that the count stands still.
+const COUNTS: &[u64] = &[0, u64::MAX];
+
+#[test]
+fn devices_fail_at_each_call_in_turn(rt: HostRuntime) {
+    for faults in COUNTS {
+        let holds = each_call_fails(&rt, rt.alloc(), *faults) == Ok(true);
+        assert!(rt; holds, "{faults} failures before");
+    }
+}
+
+/// Whether both runs need all of their room.
+fn rooms_are_needed(rt: &(impl Threads + Sync), alloc: Global) -> Result<bool, NoMemory> {
+    let strap = Strap::new(alloc)?;
+    Ok(strap.trial().needs_its_room(rt, alloc)? && REFUSED_RUN.needs_its_room(rt, alloc)?)
 }
 
 #[test]
-fn error_output_fails_in_turn(rt: HostRuntime) {
-    assert!(rt; line_fails_in_turn(&rt, rt.alloc()) == Ok(true));
+fn outputs_in_memory_need_their_room(rt: HostRuntime) {
+    assert!(rt; rooms_are_needed(&rt, rt.alloc()) == Ok(true));
 }
 
 /// A map that is also named as the layout.

@@ -1,6 +1,6 @@
-//! Layouts of the whole grammar: what is read though nothing is asked of it, what is counted, and tops.
+//! Layouts of the whole grammar: what is read though nothing is asked of it, and what is counted.
 
-use super::runs::{NO_SHORT, SHORT_32, Want};
+use super::runs::{NO_SHORT, SHORT_32};
 use super::tables::{SplicedRow, expect_spliced};
 use samples::records::STRCLASS;
 
@@ -37,16 +37,6 @@ const BOX: &[u8] = b"\
     \x00\x2C\x10\x03\x00\x00\x00\x00\x00\x00\x00\x00\x00\x00\x00\x0A\x00\x00\x00\x00\x00\x00\x00\x0A\
     \x00\x00\x00\x0A\x00\x00\x00\x00\x00\x00\x00\x0A\x00\x00\x00\x00\x00\x00\x00\x00\x00\x04\x11\x00";
 
-/// A reference to the structure `T`.
-const REFERENCE: &[u8] = b"\
-    \x00\x04\x0A\x00\x00\x06\x12\x06T\x00\
-    \x00\x0C\x10\x03\x00\x00\x00\x00\x00\x00\x00\x00\x00\x04\x11\x00";
-
-/// A second structure, `U`, without elements.
-const SECOND: &[u8] = b"\
-    \x00\x1C\x05\x02\x00\x00\x00\x00\x00\x00\x00\x00\x00\x00\x00\x00\x00\x00\x00\x00\x00\x00\x00\x00\
-    \x00\x00\x00\x00\x00\x06\x06\x06U\x00\x00\x04\x07\x00";
-
 /// What is put into the file of the two bars, or stands in place of a part of it, and the answer.
 const ROWS: &[SplicedRow] = &[
     // read, and nothing is asked of it: behind the name, in the first element, and among the elements
@@ -58,11 +48,6 @@ const ROWS: &[SplicedRow] = &[
     // beside the left bar, whose net grows by no cell that is nearer to the right one, and on it
     (94, PATH, 94, SHORT_32),
     (94, BOX, 94, SHORT_32),
-    // a reference of the structure to itself
-    (94, REFERENCE, 94, Want::BadLayout(25, 60)),
-    // one_top_is_wanted: without its structure a library has no top, and with a second one it has two
-    (60, &[], 226, Want::BadLayout(27, 0)),
-    (226, SECOND, 226, Want::BadLayout(28, 226)),
     // other_layers_are_not_looked_at: in place of the bars, a slanted boundary on a layer that is not asked for
     (94, SLANTED, 222, NO_SHORT),
 ];

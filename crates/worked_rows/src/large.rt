@@ -1,10 +1,5 @@
 use super::reports::Report;
-use super::runs::{
-    Answer, Failing, RADIUS_3, Want, answers, expect, layout_answers, mapped, run_with,
-};
-use critarea_core::NoGate;
-use edge_io::{Failed, Files};
-use lists::NoMemory;
+use super::runs::{RADIUS_3, Want, answers, expect, layout_answers, mapped};
 use samples::layouts::{Plate, plates};
 use std::alloc::{AllocError, Global};
 use std::thread::Threads;
@@ -115,73 +110,4 @@ fn island_answers(rt: &(impl Threads + Sync), alloc: Global) -> Result<bool, All
 #[test]
 fn islands_are_large(rt: HostRuntime) {
     assert!(rt; island_answers(&rt, rt.alloc()) == Ok(true));
-}
-
-/// Files whose bytes are all zero. Each has so many.
-#[derive(Drop)]
-struct Zeros {
-    size: usize,
-    unread: usize,
-}
-
-impl Files for Zeros {
-    ghost use Rattle.std.specs.Prelude.{None};
-
-    ghost holds = { λ _ _. None };
-
-    ghost rest = { λ _. None };
-
-    ghost started = { λ _. Unit {0} };
-
-    ghost starts = { λ _. None };
-
-    ghost sure = { λ _ _. Unit {0} };
-
-    ghost steady = { λ _. Unit {0} };
-
-    ghost faults = { λ _. 0 };
-
-    fn start(&mut self, _name: &[u8]) -> Result<(), Failed> {
-        self.unread = self.size;
-        Ok(())
-    }
-
-    fn read(&mut self, buf: &mut [u8]) -> Result<usize, Failed> {
-        let count = buf.len().min(self.unread);
-        buf[..count].fill(0);
-        self.unread -= count;
-        Ok(count)
-    }
-}
-
-/// What a run on a file of so many zero bytes answers.
-fn run_on_zeros(
-    rt: &(impl Threads + Sync),
-    alloc: Global,
-    size: usize,
-) -> Result<Answer, NoMemory> {
-    let mut files = Zeros { size, unread: 0 };
-    run_with(rt, alloc, RADIUS_3, &mut files, Failing::Nothing, &NoGate)
-}
-
-/// Whether the answer to a file of so many zero bytes is this line.
-fn is_answered(rt: &(impl Threads + Sync), alloc: Global, size: usize, line: &str) -> bool {
-    match run_on_zeros(rt, alloc, size) {
-        Ok(answer) => answer.has(4, "", line),
-        Err(_) => false,
-    }
-}
-
-/// Lengths of layouts, and the line: the longest is read, and its first record has
-/// no length, and with one byte more it is too long.
-const LONG_LAYOUTS: &[(usize, &str)] = &[
-    (268_435_456, "error 11 at 0\n"),
-    (268_435_457, "error 9 at 268435456\n"),
-];
-
-#[test]
-fn layouts_are_as_long_as_the_limit(rt: HostRuntime) {
-    for (size, line) in LONG_LAYOUTS {
-        expect(&rt, is_answered(&rt, rt.alloc(), *size, line), *size);
-    }
 }

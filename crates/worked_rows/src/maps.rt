@@ -1,4 +1,4 @@
-//! Layer maps and their reports, or what is refused, whatever the tiles and the workers.
+//! Layer maps and their reports, whatever the tiles and the workers.
 
 /// A table of rows: rectangles, a map, and the answer.
 macro_rules! rows {
@@ -24,11 +24,11 @@ macro_rules! areas {
 mod cuts;
 pub mod generated;
 mod opens;
+mod sides;
 
 use super::reports::Report;
 use super::rows::{LEFT, RIGHT};
-use super::runs::{Failing, Given, Want, answers, expect, mapped};
-use samples::TWO_BARS;
+use super::runs::{Given, Want, answers, expect, mapped};
 use samples::layouts::{Plate, plates};
 use std::alloc::Global;
 use std::process::Abort;
@@ -174,65 +174,4 @@ const REPORTS: &[MapRow] = &[
 #[test]
 fn maps_have_their_reports(rt: HostRuntime) {
     expect_maps(&rt, rt.alloc(), REPORTS);
-}
-
-/// Maps that are refused, and the line.
-const BAD_MAPS: &[(&[u8], Want)] = &[
-    (b"x", Want::BadMap("error 40 at 0\n")),
-    (b"\xff", Want::BadMap("error 40 at 0\n")),
-    (b"", Want::BadMap("error 42 at 2\n")),
-    (b"q = 1", Want::BadMap("error 41 at 1\n")),
-    (b"version = 3", Want::BadMap("error 42 at 2\n")),
-    (b"version = 1", Want::BadMap("error 42 at 3\n")),
-    // a cut whose lower metal is none
-    (
-        b"version=1\nradii=[3]\nweights=[1]\nmetal=[{name=\"a\",pairs=[[1,0]]},{name=\"b\",pairs=[[2,0]]}]\n\
-          cut=[{name=\"c\",pairs=[[3,0]],lower=\"d\",upper=\"b\"}]\n",
-        Want::BadMap("error 45 at 303\n"),
-    ),
-];
-
-/// A refused map comes before the layout, which is not looked at: here it is no layout, and the fourth call of the files,
-/// which would start it, fails.
-#[test]
-fn bad_maps_are_refused(rt: HostRuntime) {
-    for (number, (map, want)) in BAD_MAPS.iter().enumerate() {
-        let given = Given {
-            words: "a --map m",
-            layout: b"",
-            map,
-            failing: Failing::Files(&[3]),
-        };
-        expect(&rt, answers(&rt, rt.alloc(), &given, want), number);
-    }
-}
-
-/// Whether a run answers so to a map of so many bytes that is none.
-fn long_map_answers(rt: &(impl Threads + Sync), alloc: Global, length: usize, want: &Want) -> bool {
-    match vec![in alloc; b'x'; length] {
-        Ok(map) => answers(rt, alloc, &mapped(TWO_BARS, map.as_slice()), want),
-        Err(_) => false,
-    }
-}
-
-/// Lengths of maps: at the limit a map is read, and found to be none, and with one byte more it is too long.
-const LONG_MAPS: &[(usize, Want)] = &[
-    (1_048_576, Want::BadMap("error 40 at 0\n")),
-    (1_048_577, Want::BadMap("error 39 at 1048576\n")),
-];
-
-#[test]
-fn maps_are_as_long_as_the_limit(rt: HostRuntime) {
-    for (length, want) in LONG_MAPS {
-        let holds = long_map_answers(&rt, rt.alloc(), *length, want);
-        expect(&rt, holds, *length);
-    }
-}
-
-/// With a good map the layout is judged as ever.
-#[test]
-fn bad_layouts_are_refused_behind_good_maps(rt: HostRuntime) {
-    let given = mapped(b"", TWO_METALS);
-    let holds = answers(&rt, rt.alloc(), &given, &Want::BadLayout(10, 0));
-    expect(&rt, holds, 0);
 }

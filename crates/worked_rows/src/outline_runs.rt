@@ -1,5 +1,4 @@
 use super::rows::RIGHT;
-use super::runs::Want::BadLayout;
 use super::runs::{NO_SHORT, RADIUS_3, SHORT_32, Want, layout_answers};
 use super::structures::{Part, library_with};
 use samples::layouts::Filled::Boundary;
@@ -28,10 +27,8 @@ fn expect_outlines(
     }
 }
 
-/// The greatest coordinate of a layout, and the next.
+/// The greatest coordinate of a layout.
 const FAR: i32 = 1_000_000_000;
-
-const PAST: i32 = 1_000_000_001;
 
 /// Outlines that go round a rectangle. In place of the left one of the two bars, the rectangle and the right bar are two
 /// nets, which have 2 columns of 16 rows or 2 rows of 16 columns in common where both are grown by 3.
@@ -70,47 +67,4 @@ const EMPTY: &[Points] = &[
 #[test]
 fn outlines_may_be_empty(rt: HostRuntime) {
     expect_outlines(&rt, rt.alloc(), EMPTY, &NO_SHORT);
-}
-
-/// The number of a refusal at the outline, and outlines that are refused so.
-const REFUSED: &[(u8, &[Points])] = &[
-    // outlines with a slanted side: two leaning ones, a bow, and two triangles
-    (
-        31,
-        &[
-            &[(0, 0), (10, 0), (11, 10), (1, 10), (0, 0)],
-            &[(0, 0), (10, 1), (10, 11), (0, 10), (0, 0)],
-            &[(0, 0), (10, 10), (10, 0), (0, 10), (0, 0)],
-            &[(0, 0), (10, 0), (10, 10), (0, 0), (0, 0)],
-            &[(0, 0), (10, 0), (10, 10), (0, 0)],
-        ],
-    ),
-    // outlines that go one step too far, to each side
-    (
-        30,
-        &[
-            &[(-PAST, 0), (10, 0), (10, 10), (-PAST, 10), (-PAST, 0)],
-            &[(0, -PAST), (10, -PAST), (10, 10), (0, 10), (0, -PAST)],
-            &[(0, 14), (PAST, 14), (PAST, 24), (0, 24), (0, 14)],
-            &[(0, 0), (10, 0), (10, PAST), (0, PAST), (0, 0)],
-        ],
-    ),
-    // outlines that are not closed
-    (
-        18,
-        &[
-            &[(0, 0), (10, 0), (10, 10), (0, 10), (0, 1)],
-            &[(0, 0), (10, 0), (10, 10), (0, 10), (1, 0)],
-            &[(0, 0), (10, 0), (10, 10), (0, 10)],
-        ],
-    ),
-    // outlines of too few points
-    (17, &[&[], &[(0, 0)], &[(0, 0), (10, 0), (0, 0)]]),
-];
-
-#[test]
-fn other_outlines_are_refused(rt: HostRuntime) {
-    for (number, outlines) in REFUSED {
-        expect_outlines(&rt, rt.alloc(), outlines, &BadLayout(*number, 94));
-    }
 }

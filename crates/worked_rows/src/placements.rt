@@ -1,7 +1,7 @@
-//! Layouts of several structures: which shapes they place, and which of them are refused.
+//! Layouts of several structures: which shapes they place.
 
 use super::rows::{EMPTY_REPORT, LEFT, RIGHT};
-use super::runs::Want::{BadLayout, Short};
+use super::runs::Want::Short;
 use super::runs::{NO_SHORT, RADIUS_2, RADIUS_3, RADIUS_4, SHORT_32, Want, expect, layout_answers};
 use super::structures::{
     ANGLE_90, ANGLE_270, ANGLE_MINUS_90, Copies, ONE, Part, Structure, chain_of, library_with,
@@ -37,15 +37,15 @@ const TOP_S: &str = "a --layer 1 --datatype 0 --radius 3 --top S";
 const SMALL: Part<'_> = Part::Plate((1, 0, (0, 0, 4, 2)));
 
 /// A structure with this rectangle.
-const S: Structure<'_> = (b"S", &[SMALL]);
+pub const S: Structure<'_> = (b"S", &[SMALL]);
 
 /// The left one of the two bars, and a structure with it.
-const BAR: Part<'_> = Part::Plate(LEFT);
+pub const BAR: Part<'_> = Part::Plate(LEFT);
 
-const WITH_BAR: Structure<'_> = (b"S", &[BAR]);
+pub const WITH_BAR: Structure<'_> = (b"S", &[BAR]);
 
 /// One copy of the structure `S`.
-const COPY: Part<'_> = Part::Copies(ONE);
+pub const COPY: Part<'_> = Part::Copies(ONE);
 
 /// An array of 3 columns and 2 rows, whose columns go up by 10 and whose rows go left by 10.
 const LATTICE: Copies<'_> = Copies {
@@ -91,27 +91,20 @@ const TWO_COPIES: Part<'_> = Part::Copies(Copies {
     ..ONE
 });
 
-/// The small rectangle, placed as far as a shape may lie, and so that one column is too far to the right.
+/// The small rectangle, placed as far as a shape may lie.
 const FARTHEST: Part<'_> = Part::Copies(Copies {
     points: &[(999_999_996, -1_000_000_000)],
     ..ONE
 });
 
-const TOO_FAR: Part<'_> = Part::Copies(Copies {
-    points: &[(999_999_997, 0)],
-    ..ONE
-});
-
-/// A rectangle of which one column is too far to the right, and one like it on another layer.
-const FAR: Part<'_> = Part::Plate((1, 0, (0, 0, 1_000_000_001, 10)));
-
+/// A rectangle on another layer, of which one column is too far to the right.
 const FAR_ON_2: Part<'_> = Part::Plate((2, 0, (0, 0, 1_000_000_001, 10)));
 
 /// A path without a cover, since its width is odd. It has 70 bytes.
-const ODD: Part<'_> = Part::Wire((0, 5, (0, 0), &[(0, 0), (10, 0)]));
+pub const ODD: Part<'_> = Part::Wire((0, 5, (0, 0), &[(0, 0), (10, 0)]));
 
 /// As many copies as an array can have.
-const MOST: Copies<'_> = Copies {
+pub const MOST: Copies<'_> = Copies {
     points: &[(0, 0), (327_670, 0), (0, 327_670)],
     size: Some((32_767, 32_767)),
     ..ONE
@@ -120,7 +113,7 @@ const MOST: Copies<'_> = Copies {
 const MANY: Part<'_> = Part::Copies(MOST);
 
 /// As many of the structures `A`, `B` and `C`, of which each has as many of the next.
-const OF_A: Part<'_> = Part::Copies(Copies {
+pub const OF_A: Part<'_> = Part::Copies(Copies {
     target: b"A",
     ..MOST
 });
@@ -135,40 +128,11 @@ const OF_C: Part<'_> = Part::Copies(Copies {
     ..MOST
 });
 
-const A: Structure<'_> = (b"A", &[OF_B]);
+pub const A: Structure<'_> = (b"A", &[OF_B]);
 
-const B: Structure<'_> = (b"B", &[OF_C]);
+pub const B: Structure<'_> = (b"B", &[OF_C]);
 
-const C: Structure<'_> = (b"C", &[MANY]);
-
-/// As many of the structure `T`.
-const OF_T: Part<'_> = Part::Copies(Copies {
-    target: b"T",
-    ..MOST
-});
-
-/// A thousand times a thousand copies.
-const MILLION: Part<'_> = Part::Copies(Copies {
-    points: &[(0, 0), (10_000, 0), (0, 10_000)],
-    size: Some((1000, 1000)),
-    ..ONE
-});
-
-/// A copy of the structure `T`, and one of a structure that is not there.
-const TO_T: Part<'_> = Part::Copies(Copies {
-    target: b"T",
-    ..ONE
-});
-
-const TO_X: Part<'_> = Part::Copies(Copies {
-    target: b"X",
-    ..ONE
-});
-
-/// Structures that refer to `T`, and to themselves.
-const BACK: Structure<'_> = (b"S", &[TO_T]);
-
-const ITSELF: Structure<'_> = (b"S", &[COPY]);
+pub const C: Structure<'_> = (b"C", &[MANY]);
 
 /// Layouts that are placed, and their areas of shorts.
 const PLACED: &[LibraryRow] = &[
@@ -262,70 +226,15 @@ const NESTED: LibraryRow = (
     Short(4, 60),
 );
 
-/// Layouts that are refused. A structure begins with 34 bytes and ends with 4, a rectangle has 64 bytes, a copy 44, and an
-/// array 68.
-const REFUSED: &[LibraryRow] = &[
-    // 24: no such structure, also where the top does not reach it, and before each other reason
-    (&[TO_X], &[], RADIUS_3, BadLayout(24, 94)),
-    (&[TO_X], &[WITH_BAR], TOP_S, BadLayout(24, 94)),
-    (&[TO_T, TO_X], &[], RADIUS_3, BadLayout(24, 138)),
-    // 25: the structure itself, two of them, one that the top does not reach, and one that leads to others
-    (&[TO_T], &[], RADIUS_3, BadLayout(25, 60)),
-    (&[COPY], &[BACK], RADIUS_3, BadLayout(25, 60)),
-    (&[BAR], &[ITSELF], RADIUS_3, BadLayout(25, 162)),
-    (&[COPY], &[ITSELF], RADIUS_3, BadLayout(25, 60)),
-    // 27: no structure of this name
-    (&[BAR], &[], TOP_S, BadLayout(27, 0)),
-    // 28: at the second structure to which none refers
-    (&[BAR], &[WITH_BAR], RADIUS_3, BadLayout(28, 162)),
-    (
-        &[BAR],
-        &[WITH_BAR, (b"U", &[])],
-        RADIUS_3,
-        BadLayout(28, 162),
-    ),
-    // 29: one shape more than a million, and many more; at the top, which comes behind another here
-    (&[MILLION, BAR], &[WITH_BAR], RADIUS_3, BadLayout(29, 60)),
-    (&[BAR], &[(b"S", &[OF_T])], RADIUS_3, BadLayout(29, 162)),
-    (&[OF_A], &[A, B, C, WITH_BAR], RADIUS_3, BadLayout(29, 60)),
-    // 30: at the shape, and of two the one that is placed first
-    (&[FAR], &[], RADIUS_3, BadLayout(30, 94)),
-    (&[TOO_FAR], &[S], RADIUS_3, BadLayout(30, 176)),
-    (&[TOO_FAR, FAR], &[S], RADIUS_3, BadLayout(30, 240)),
-    // 33: at the shape, and of two the one that is placed first; but behind each reason above
-    (&[ODD], &[], RADIUS_3, BadLayout(33, 94)),
-    (
-        &[COPY, ODD],
-        &[(b"S", &[BAR, ODD])],
-        RADIUS_3,
-        BadLayout(33, 310),
-    ),
-    (&[ODD, FAR], &[], RADIUS_3, BadLayout(30, 164)),
-    (&[ODD], &[WITH_BAR], RADIUS_3, BadLayout(28, 168)),
-];
-
 #[test]
 fn references_are_followed(rt: HostRuntime) {
     expect_libraries(&rt, rt.alloc(), PLACED);
 }
 
+/// A chain of as many references as there may be.
 #[test]
-fn bad_references_are_refused(rt: HostRuntime) {
-    expect_libraries(&rt, rt.alloc(), REFUSED);
-}
-
-/// Whether a run on a chain of so many references answers so.
-fn chain_answers(rt: &(impl Threads + Sync), alloc: Global, references: u16, want: &Want) -> bool {
-    layout_answers(rt, alloc, RADIUS_3, chain_of(alloc, references, LEFT), want)
-}
-
-/// So many references one after the other, and the answer: with one more the chain that begins at the top is too long.
-const CHAINS: &[(u16, Want)] = &[(256, NO_SHORT), (257, BadLayout(26, 60))];
-
-#[test]
-fn chains_have_an_end(rt: HostRuntime) {
-    for (references, want) in CHAINS {
-        let holds = chain_answers(&rt, rt.alloc(), *references, want);
-        expect(&rt, holds, usize::from(*references));
-    }
+fn chains_of_256_references_are_followed(rt: HostRuntime) {
+    let layout = chain_of(rt.alloc(), 256, LEFT);
+    let holds = layout_answers(&rt, rt.alloc(), RADIUS_3, layout, &NO_SHORT);
+    expect(&rt, holds, 256);
 }

@@ -106,6 +106,14 @@ impl Answer {
             && self.err.written.as_slice() == err.as_bytes()
     }
 
+    /// Whether the run was refused with this status, and the line of this number and place was written and nothing else.
+    pub fn refuses(&self, alloc: Global, status: u8, number: u8, place: usize) -> bool {
+        match line_of(alloc, number, place) {
+            Ok(line) => self.has(status, "", line.as_str()),
+            Err(_) => false,
+        }
+    }
+
     /// Whether this report was written, and nothing else. Without one it was not.
     fn reports(&self, report: Result<String, AllocError>) -> bool {
         match report {
@@ -143,8 +151,6 @@ pub enum Want {
     Short(u32, u64),
     /// The words are refused.
     BadWords,
-    /// The map is refused, and this is the line.
-    BadMap(&'static str),
     /// The layout is refused: the number of what is wrong, and the offset at which it shows.
     BadLayout(u8, usize),
     /// A file or an output failed, and nothing was written.
@@ -158,12 +164,8 @@ impl Want {
             Want::Rows(report) => answer.reports(text_of(alloc, report)),
             Want::Text(report) => answer.has(0, report, ""),
             Want::Short(radius, area) => answer.reports(report_of(alloc, *radius, *area)),
-            Want::BadWords => answer.has(2, "", "error 2 at 0\n"),
-            Want::BadMap(line) => answer.has(3, "", line),
-            Want::BadLayout(number, place) => match line_of(alloc, *number, *place) {
-                Ok(line) => answer.has(4, "", line.as_str()),
-                Err(_) => false,
-            },
+            Want::BadWords => answer.refuses(alloc, 2, 2, 0),
+            Want::BadLayout(number, place) => answer.refuses(alloc, 4, *number, *place),
             Want::Fault => answer.has(5, "", ""),
         }
     }

@@ -32,37 +32,6 @@ const WORDS: &[(&str, Want)] = &[
     ("- --layer 1 --datatype 0 --radius 3", Want::Fault),
     ("--layer 1 --datatype 0 --radius 3 -- -a", Want::Fault),
     ("a --map b", Want::Fault),
-    // other_words_are_refused: words that fit neither form
-    ("", Want::BadWords),
-    ("a", Want::BadWords),
-    ("a --layer 1", Want::BadWords),
-    ("a --layer 1 --datatype 0", Want::BadWords),
-    ("a --layer 1 --datatype 0 --radius", Want::BadWords),
-    ("--layer 1 --datatype 0 --radius 3", Want::BadWords),
-    (
-        "a --layer 1 --datatype 0 --radius 3 --map m",
-        Want::BadWords,
-    ),
-    ("a --layer 1 --datatype 0 --radius 3 b", Want::BadWords),
-    ("--map m", Want::BadWords),
-    ("--tile 0", Want::BadWords),
-    ("--help", Want::BadWords),
-    (
-        "a --layer 1 --layer 1 --datatype 0 --radius 3",
-        Want::BadWords,
-    ),
-    ("a --layer 1 --datatype 0 --radius 0", Want::BadWords),
-    ("a --layer 1 --datatype 0 --radius 1000001", Want::BadWords),
-    ("a --layer 65536 --datatype 0 --radius 3", Want::BadWords),
-    ("a --layer 1 --datatype 0 --radius 3 --top", Want::BadWords),
-    (
-        "a --layer 1 --datatype 0 --radius 3 --top T --top T",
-        Want::BadWords,
-    ),
-    ("--generate 0", Want::BadWords),
-    ("--generate 501", Want::BadWords),
-    ("a --generate 1", Want::BadWords),
-    ("--generate 1 --map m", Want::BadWords),
 ];
 
 #[test]

@@ -108,30 +108,3 @@ const OPENS: &[MapRow] = rows! {
 fn opens_are_those_counted_by_hand(rt: HostRuntime) {
     expect_maps(&rt, rt.alloc(), OPENS);
 }
-
-/// A map whose one terminal has a row and a column of 5.
-const TERMINAL_AT_5: MapText = &[SIZE_1, METALS, CUT, b"terminal=[{metal=\"m1\",x=5,y=5}]\n"];
-
-/// A map whose second terminal is on the wire, but of the second metal.
-const SECOND_OFF: MapText = &[
-    SIZE_1,
-    METALS,
-    b"terminal=[{metal=\"m1\",x=0,y=0},{metal=\"m2\",x=19,y=1},{metal=\"m1\",x=0,y=2}]\n",
-];
-
-/// Rectangles, a map with terminals of which some are not on their metals, and the refusal of the first that is not.
-const OFF: &[MapRow] = rows! {
-    &[(1, 0, (0, 0, 2, 2)), CONTACT, SECOND], TERMINAL_AT_5 => Want::BadLayout(50, 0);
-    &[WIRE, SECOND], SECOND_OFF => Want::BadLayout(50, 1);
-    // a wire that ends in front of the second terminal
-    &[(1, 0, (0, 0, 19, 2))], RADIUS_1 => Want::BadLayout(50, 1);
-    // nothing is covered
-    &[], RADIUS_1 => Want::BadLayout(50, 0);
-    // a shape that reaches too far is refused before terminals are looked at
-    &[(1, 0, (0, 0, 1_000_000_001, 2))], TERMINAL_AT_5 => Want::BadLayout(30, 94);
-};
-
-#[test]
-fn terminals_off_their_metals_are_refused(rt: HostRuntime) {
-    expect_maps(&rt, rt.alloc(), OFF);
-}
