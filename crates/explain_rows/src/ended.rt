@@ -89,7 +89,7 @@ const READ_AGAIN: &[(&str, &str)] = &[
 const OTHERWISE: &[(&str, &str)] = &[
     (
         "3|error 47 at 5\n|a|--map|m",
-        "the map, `metal`: there are too many: 32 radii, 16 metals, 16 cuts and 10,000 terminals are the most; \
+        "the map, `metal`: there are too many: 32 radii or sides, 16 metals, 16 cuts and 10,000 terminals are the most; \
          shorten the list; of terminals make two maps with those of each island in one, and add up their opens, as docs/GUIDE.md says\n  \
          read again, it ends otherwise: what stands there has changed\n  \
          error 40 at 0\n  \

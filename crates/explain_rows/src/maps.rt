@@ -55,6 +55,37 @@ const ROWS: &[(&[u8], &str)] = &[
          there stands as number 1, of the kind integer: 0\n  \
          there may stand: an array of 1 to 32 whole numbers from 1 to 1000000, each greater than the one before\n",
     ),
+    // sides in place of radii, and radii in place of sides
+    (
+        b"version = 2\nradii = [1]\n",
+        "error 41 at 1\n\
+         map 'm', line 2, the document: it has a key that is not known\n  \
+         not known: 'radii'\n  \
+         known: version sides weights metal cut terminal\n  \
+         version 2 has `sides` in place of `radii`\n",
+    ),
+    (
+        b"version = 1\nsides = [1]\n",
+        "error 41 at 1\n\
+         map 'm', line 2, the document: it has a key that is not known\n  \
+         not known: 'sides'\n  \
+         known: version radii weights metal cut terminal\n  \
+         version 1 has `radii` in place of `sides`, which stand in version 2\n",
+    ),
+    (
+        b"version = 2\n# not yet\nsides = [2, 2000001]\n",
+        "error 42 at 3\n\
+         map 'm', line 3, `sides`: this may not stand there\n  \
+         there stands as number 2, behind 2, of the kind integer: 2000001\n  \
+         there may stand: an array of 1 to 32 whole numbers from 1 to 2000000, each greater than the one before\n",
+    ),
+    (
+        b"version = 2\nsides = [2, 3]\nweights = [1]\n",
+        "error 42 at 4\n\
+         map 'm', line 3, `weights`: this may not stand there\n  \
+         there stand 1 weights, and there are 2 sides\n  \
+         there may stand: an array of as many whole numbers as there are sides, from 0 to 1000000000\n",
+    ),
     // of weights how many there are, and then one that is no whole number
     (
         b"version = 1\nradii = [1, 2, 3]\nweights = [4, -1]\n",
@@ -167,7 +198,7 @@ const ROWS: &[(&[u8], &str)] = &[
         b"radii = [1]\n",
         "error 42 at 2\n\
          map 'm', `version`: this is missing\n  \
-         there may stand: 1\n",
+         there may stand: 1, or 2 with `sides` in place of `radii`\n",
     ),
     (
         b"version = 1\nradii = [1]\nweights = [1]\n\n# a comment with \"\n[[metal]]\nname = 'a'\n",

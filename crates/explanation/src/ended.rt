@@ -10,6 +10,7 @@ use crate::telling::Telling;
 use crate::text::Text;
 use command_line::Word;
 use edge_io::Files;
+use layer_map::Measure;
 use lists::NoMemory;
 use std::alloc::Global;
 
@@ -73,13 +74,24 @@ impl<'a> Ended<'a> {
     }
 }
 
+/// Tells which place of a map is meant whose document is not known, so that its sizes may be radii or sides.
+fn tell_map_place(text: &mut Text, place: u64) {
+    let of_radii = place_of(place, Measure::Radius);
+    let of_sides = place_of(place, Measure::Side);
+    tell_place(text, None, of_radii);
+    if of_sides != of_radii {
+        text.say(" or ");
+        tell_place(text, None, of_sides);
+    }
+}
+
 /// Tells what a row is about, where its place is this and the meaning does not name it.
 fn tell_subject(text: &mut Text, row: &Remedy, place: u64) {
     match (row.status, row.number) {
         (3, 39) | (3, 40) | (4, 9) | (4, 27) => {}
         (3, _) => {
             text.say("the map, ");
-            tell_place(text, None, place_of(place));
+            tell_map_place(text, place);
             text.say(": ");
         }
         (4, 50) => text.number(

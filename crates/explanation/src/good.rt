@@ -1,7 +1,11 @@
 //! What is told of a run that gives a report: first what makes areas of 0 that say nothing, and then what the layout has.
 
+ghost use Rattle.std.specs.Prelude.{◌<◌, ◌^◌, length};
+ghost use Rattle.lists.specs.Differing.{AreDifferent};
+ghost use Rattle.library_model.specs.Names.{names_of};
+
 use crate::bounds::{bounds_of, tell_bounds};
-use crate::graph::graph_of;
+use crate::graph::name_of;
 use crate::layer_names::tell_layer;
 use crate::layouts::Layout;
 use crate::metal_islands::{MetalIslands, metal_islands, tell_all_carried, tell_island_counts};
@@ -9,6 +13,7 @@ use crate::pairs::tell_pairs_of;
 use crate::shapes::{Held, Shapes, tell_held};
 use crate::text::Text;
 use crate::unit::tell_unit;
+use flatten::tops_of;
 use library_model::Library;
 use lists::NoMemory;
 use map_model::Map;
@@ -78,14 +83,18 @@ fn tell_top(
     text: &mut Text,
     layout: &Layout<'_>,
     library: &Library,
-) -> Result<(), NoMemory> {
+) -> Result<(), NoMemory>
+    requires differ { AreDifferent (names_of library.now.structures) }
+    requires few { length library.now.structures < 2 ^ 32 }
+{
     if let Some(top) = layout.top {
         text.name(", top ", top, "");
         return Ok(());
     }
-    let graph = graph_of(alloc, library.structures.as_slice())?;
-    if let Some(top) = graph.tops.first() {
-        text.name(", top ", graph.name_of(*top), "");
+    let tops = tops_of(alloc, library)?;
+    if let Some(top) = tops.first() {
+        let structures = library.structures.as_slice();
+        text.name(", top ", name_of(structures, *top as usize), "");
     }
     Ok(())
 }
@@ -115,7 +124,10 @@ pub fn tell_good(
     layout: &Layout<'_>,
     library: &Library,
     shapes: &Shapes,
-) -> Result<(), NoMemory> {
+) -> Result<(), NoMemory>
+    requires differ { AreDifferent (names_of library.now.structures) }
+    requires few { length library.now.structures < 2 ^ 32 }
+{
     let layers = shapes.held.as_slice();
     let islands = metal_islands(alloc, map, shapes)?;
     let islands = islands.as_slice();

@@ -25,6 +25,7 @@ impl GoodMap<'_> {
         let sought = Sought {
             place: Place::Item(ItemKind::Terminal, index),
             is_unknown_key: false,
+            measure: self.map.measure,
         };
         if let Some(line) = line_of(alloc, written, sought) {
             line.tell(text, ", ", " of map ");

@@ -1,8 +1,9 @@
-//! References between the structures of a library: which are named by none, which lead on without end, how long chains are,
-//! and how often each structure is placed.
+//! References between the structures of a library: which lead on without end, how long chains are, and how often each
+//! structure is placed.
 
+use flatten::copies;
 use indexmap::IndexSet;
-use library_model::{Element, Reference, Structure};
+use library_model::{Element, Structure};
 use lists::NoMemory;
 use std::alloc::Global;
 
@@ -27,8 +28,6 @@ pub struct Chain {
 struct Node {
     /// Whether its references are followed.
     is_entered: bool,
-    /// Whether a reference that is followed names it.
-    is_named: bool,
     /// A longest chain from it, where references do not lead on from it without end.
     chain: Option<Chain>,
 }
@@ -52,16 +51,6 @@ pub struct Graph<'a> {
     nodes: Vec<Node>,
     /// Those that lead to an end, each behind all to which it leads.
     order: Vec<usize>,
-    /// Those that no reference names.
-    pub tops: Vec<usize>,
-}
-
-/// How often a reference places its structure.
-fn copies_of(reference: &Reference) -> u64 {
-    match &reference.lattice {
-        None => 1,
-        Some(lattice) => u64::from(lattice.columns).saturating_mul(u64::from(lattice.rows)),
-    }
 }
 
 /// The references of a structure to structures of these names.
@@ -74,8 +63,10 @@ fn links_of(
     for element in structure.elements.as_slice() {
         if let Element::Reference(reference) = element {
             if let Some(target) = names.get_index_of(reference.target.as_slice()) {
-                let copies = copies_of(reference);
-                links.push(Link { target, copies })?;
+                links.push(Link {
+                    target,
+                    copies: copies(reference),
+                })?;
             }
         }
     }
@@ -103,7 +94,6 @@ fn unfollowed<'a>(alloc: Global, structures: &'a [Structure]) -> Result<Graph<'a
     }
     let node = Node {
         is_entered: false,
-        is_named: false,
         chain: None,
     };
     Ok(Graph {
@@ -111,7 +101,6 @@ fn unfollowed<'a>(alloc: Global, structures: &'a [Structure]) -> Result<Graph<'a
         links,
         nodes: vec![in alloc; node; structures.len()]?,
         order: Vec::new(alloc),
-        tops: Vec::new(alloc),
     })
 }
 
@@ -123,7 +112,6 @@ pub fn graph_of<'a>(alloc: Global, structures: &'a [Structure]) -> Result<Graph<
         steps.push(Step::Enter(one))?;
     }
     graph.follow(&mut steps)?;
-    graph.note_tops()?;
     Ok(graph)
 }
 
@@ -136,15 +124,15 @@ fn add_copies(times: &mut [u64], links: &[Link], of_one: u64) {
     }
 }
 
-impl<'a> Graph<'a> {
-    /// The name of the structure.
-    pub fn name_of(&self, one: usize) -> &'a [u8] {
-        match self.structures.get(one) {
-            Some(structure) => structure.name.as_slice(),
-            None => b"",
-        }
+/// The name of the structure with this number.
+pub fn name_of(structures: &[Structure], one: usize) -> &[u8] {
+    match structures.get(one) {
+        Some(structure) => structure.name.as_slice(),
+        None => b"",
     }
+}
 
+impl Graph<'_> {
     /// The references of the structure.
     fn links_at(&self, one: usize) -> &[Link] {
         match self.links.get(one) {
@@ -182,14 +170,8 @@ impl<'a> Graph<'a> {
             _ => return Ok(()),
         }
         steps.push(Step::Leave(one))?;
-        let Some(links) = self.links.get(one) else {
-            return Ok(());
-        };
-        for link in links.as_slice() {
+        for link in self.links_at(one) {
             steps.push(Step::Enter(link.target))?;
-            if let Some(target) = self.nodes.get_mut(link.target) {
-                target.is_named = true;
-            }
         }
         Ok(())
     }
@@ -213,16 +195,6 @@ impl<'a> Graph<'a> {
                 Some(Step::Enter(one)) => self.enter(steps, one)?,
                 Some(Step::Leave(one)) => self.leave(one)?,
                 None => return Ok(()),
-            }
-        }
-        Ok(())
-    }
-
-    /// Notes which structures no reference names.
-    fn note_tops(&mut self) -> Result<(), NoMemory> {
-        for (number, node) in self.nodes.iter().enumerate() {
-            if !node.is_named {
-                self.tops.push(number)?;
             }
         }
         Ok(())

@@ -151,7 +151,10 @@ fn tell_shapes(
     layout: &Layout<'_>,
     library: &Library,
     shapes: &Shapes,
-) -> Result<(), NoMemory> {
+) -> Result<(), NoMemory>
+    requires differ { AreDifferent (names_of library.now.structures) }
+    requires few { length library.now.structures < 2 ^ 32 }
+{
     let found = shapes.uncovered.as_slice();
     if let Some(first) = found.first() {
         tell_number(told, layout, first.fault.number(), first.fault.place());

@@ -7,7 +7,7 @@ ghost use Rattle.library_model.specs.Points.{AreWellPointed};
 ghost use Rattle.explanation.specs.declared.inputs.TheConstants.{LONGEST_LAYOUT};
 
 use crate::good::tell_library;
-use crate::graph::{Graph, graph_of};
+use crate::graph::{graph_of, name_of};
 use crate::layouts::{Layout, tell_syntax};
 use crate::pairs::{PairHeld, all_pairs, tell_pair};
 use crate::skeleton::tell_skeleton;
@@ -15,19 +15,19 @@ use crate::structures::{tell_no_top, tell_tops};
 use crate::telling::Telling;
 use crate::text::Text;
 use crate::texts::{tell_placed_texts, texts_of};
+use flatten::tops_of;
 use gds_syntax::read_library;
-use library_model::Library;
+use library_model::{Library, Structure};
 use lists::NoMemory;
 use std::alloc::Global;
 
 /// The top: the one of the name that is given, or else the only one that no reference names.
-fn chosen_top(layout: &Layout<'_>, graph: &Graph<'_>) -> Option<usize> {
-    match (layout.top, graph.tops.as_slice()) {
-        (Some(name), _) => graph
-            .structures
+fn chosen_top(layout: &Layout<'_>, structures: &[Structure], tops: &[u32]) -> Option<usize> {
+    match (layout.top, tops) {
+        (Some(name), _) => structures
             .iter()
             .position(|structure| structure.name.as_slice() == name),
-        (None, [only]) => Some(*only),
+        (None, [only]) => Some(*only as usize),
         (None, _) => None,
     }
 }
@@ -37,7 +37,7 @@ fn tell_head(
     text: &mut Text,
     layout: &Layout<'_>,
     library: &Library,
-    graph: &Graph<'_>,
+    tops: &[u32],
     top: Option<&[u8]>,
 ) {
     layout.tell(text);
@@ -48,8 +48,8 @@ fn tell_head(
         return;
     }
     text.say("\n");
-    if !graph.tops.is_empty() {
-        tell_tops(text, graph);
+    if !tops.is_empty() {
+        tell_tops(text, library.structures.as_slice(), tops);
         text.say("  --top NAME tells which shapes one of them places\n");
     }
 }
@@ -72,7 +72,7 @@ fn tell_layers_of(
     told: &mut Telling,
     layout: &Layout<'_>,
     library: &Library,
-    graph: &Graph<'_>,
+    tops: &[u32],
     top: Option<usize>,
     as_map: bool,
 ) -> Result<(), NoMemory>
@@ -81,12 +81,12 @@ fn tell_layers_of(
     requires few_elements { All (λ structure. length structure.elements < 2 ^ 32) library.now.structures }
     requires pointed { AreWellPointed library.now.structures }
 {
-    let times = graph.times_placed(alloc, top)?;
+    let structures = library.structures.as_slice();
+    let times = graph_of(alloc, structures)?.times_placed(alloc, top)?;
     let texts = texts_of(alloc, layout.bytes)?;
     let texts = texts.as_slice();
     let pairs = all_pairs(alloc, library, texts, times.as_slice())?;
-    let structures = library.structures.as_slice();
-    let top = top.map(|top| graph.name_of(top));
+    let top = top.map(|top| name_of(structures, top));
     let text = &mut told.text;
     if as_map {
         tell_skeleton(alloc, text, layout, library, pairs.as_slice(), texts, top)?;
@@ -95,7 +95,7 @@ fn tell_layers_of(
             None => Ok(()),
         };
     }
-    tell_head(text, layout, library, graph, top);
+    tell_head(text, layout, library, tops, top);
     tell_pairs(text, pairs.as_slice(), top.is_some());
     Ok(())
 }
@@ -113,13 +113,14 @@ fn tell_listed(
     requires few_elements { All (λ structure. length structure.elements < 2 ^ 32) library.now.structures }
     requires pointed { AreWellPointed library.now.structures }
 {
-    let graph = graph_of(alloc, library.structures.as_slice())?;
-    let top = chosen_top(layout, &graph);
+    let structures = library.structures.as_slice();
+    let tops = tops_of(alloc, library)?;
+    let top = chosen_top(layout, structures, tops.as_slice());
     if layout.top.is_some() && top.is_none() {
-        tell_no_top(told, layout, &graph);
+        tell_no_top(told, layout, structures, tops.as_slice());
         return Ok(());
     }
-    tell_layers_of(alloc, told, layout, library, &graph, top, as_map)
+    tell_layers_of(alloc, told, layout, library, tops.as_slice(), top, as_map)
 }
 
 /// Tells the layers of a layout, as a map where this is asked for. What is no layout is told as it is of a run.

@@ -2,7 +2,7 @@
 
 use crate::position::{front, line_ends};
 use crate::text::Text;
-use layer_map::Place;
+use layer_map::{Measure, Place};
 use std::alloc::Global;
 use toml::{Table, Value};
 use toml_parser::text::{first, skip};
@@ -56,6 +56,8 @@ pub struct Sought {
     pub place: Place,
     /// Whether it is not the place itself, but the first key in the table there that is not known.
     pub is_unknown_key: bool,
+    /// What measures the sizes of the map, by which its keys are known.
+    pub measure: Measure,
 }
 
 impl Sought {
@@ -63,7 +65,7 @@ impl Sought {
     fn is_meant(&self, key: &str) -> bool {
         match self.place {
             Place::Document | Place::Item(_, _) => {
-                self.is_unknown_key && !self.place.known_keys().contains(&key)
+                self.is_unknown_key && !self.place.known_keys(self.measure).contains(&key)
             }
             Place::Key(meant) | Place::ItemKey(_, _, meant) => meant == key,
         }

@@ -7,7 +7,10 @@ use crate::remedies::what_to_do;
 use crate::telling::Telling;
 use crate::text::Text;
 use crate::wanted::wanted;
-use layer_map::{Cause, ItemKind, MapFault, Place, cause_of};
+use layer_map::{
+    Cause, ItemKind, MapFault, Measure, Place, cause_of, first_named, first_pair, first_terminal,
+    measure_of,
+};
 use lists::NoMemory;
 use std::alloc::Global;
 use toml::{Table, Value};
@@ -41,10 +44,10 @@ fn tell_no_document(text: &mut Text, name: &[u8], bytes: &[u8], error: &toml::de
     tell_syntax(text, bytes, error);
 }
 
-/// The place of a path, and the document where none has it.
-pub fn place_of(path: u64) -> Place {
+/// The place of a path in a document whose sizes are measured so, and the document where none has it.
+pub fn place_of(path: u64, measure: Measure) -> Place {
     match u32::try_from(path) {
-        Ok(path) => Place::of_path(path).unwrap_or(Place::Document),
+        Ok(path) => Place::of_path(path, measure).unwrap_or(Place::Document),
         Err(_) => Place::Document,
     }
 }
@@ -80,12 +83,6 @@ fn tell_item(text: &mut Text, document: Option<&Table>, kind: ItemKind, number: 
     }
 }
 
-/// The item that has the place, or that it is.
-fn item_at(document: &Table, place: Place) -> Option<&Value> {
-    let (kind, number) = place.item()?;
-    kind.items_of(document).get(number)
-}
-
 /// Tells a value and its kind, as the end of a line.
 fn tell_kind(alloc: Global, text: &mut Text, value: &Value) -> Result<(), NoMemory> {
     let shown = format!(in alloc; "{value}")?;
@@ -95,9 +92,9 @@ fn tell_kind(alloc: Global, text: &mut Text, value: &Value) -> Result<(), NoMemo
     Ok(())
 }
 
-/// Whether the table at the place may have the key.
-fn is_known(place: Place, key: &str) -> bool {
-    for known in place.known_keys() {
+/// Whether the table at the place may have the key, in a document whose sizes are measured so.
+fn is_known(place: Place, measure: Measure, key: &str) -> bool {
+    for known in place.known_keys(measure) {
         if *known == key {
             return true;
         }
@@ -107,21 +104,46 @@ fn is_known(place: Place, key: &str) -> bool {
 
 /// Tells the keys of the table at a place that are not known, and those that are.
 fn tell_bad_key(text: &mut Text, document: &Table, place: Place) {
+    let measure = measure_of(document);
     text.say("it has a key that is not known\n  not known:");
     let table = match place.value_in(document) {
         Some(Value::Table(table)) => table,
         _ => document,
     };
     for key in table.keys() {
-        if !is_known(place, key.as_str()) {
+        if !is_known(place, measure, key.as_str()) {
             text.name(" ", key.as_bytes(), "");
         }
     }
     text.say("\n  known:");
-    for key in place.known_keys() {
+    for key in place.known_keys(measure) {
         text.word(" ", *key, "");
     }
     text.say("\n");
+    if place == Place::Document {
+        tell_other_sizes(text, document, measure);
+    }
+}
+
+/// Tells which sizes the versions have, where the document has those of the other one.
+fn tell_other_sizes(text: &mut Text, document: &Table, measure: Measure) {
+    match measure {
+        Measure::Side if document.get("radii").is_some() => {
+            text.say("  version 2 has `sides` in place of `radii`\n");
+        }
+        Measure::Radius if document.get("sides").is_some() => {
+            text.say("  version 1 has `radii` in place of `sides`, which stand in version 2\n");
+        }
+        _ => {}
+    }
+}
+
+/// What sizes are that are measured so.
+fn word_for_sizes(measure: Measure) -> &'static str {
+    match measure {
+        Measure::Radius => "radii",
+        Measure::Side => "sides",
+    }
 }
 
 /// Tells the value with this number of a list, which may not stand there, and between these words the one before it.
@@ -150,17 +172,24 @@ fn tell_one_of(
 }
 
 /// Tells what stands at a place where it may not, by its cause.
-fn tell_there(alloc: Global, text: &mut Text, value: &Value, cause: Cause) -> Result<(), NoMemory> {
+fn tell_there(
+    alloc: Global,
+    text: &mut Text,
+    value: &Value,
+    cause: Option<Cause>,
+    measure: Measure,
+) -> Result<(), NoMemory> {
     match (cause, value) {
-        (Cause::Uneven { weights, radii }, Value::Array(_)) => {
+        (Some(Cause::Uneven { weights, sizes }), Value::Array(_)) => {
             text.number("  there stand ", weights as u64, " weights, and there are ");
-            text.number("", radii as u64, " radii\n");
+            text.number("", sizes as u64, " ");
+            text.word("", word_for_sizes(measure), "\n");
             Ok(())
         }
-        (Cause::Outside { number, .. }, Value::Array(values)) => {
+        (Some(Cause::Outside { number, .. }), Value::Array(values)) => {
             tell_one_of(alloc, text, values, number, ", behind ")
         }
-        (Cause::Falls { number }, Value::Array(values)) => {
+        (Some(Cause::Falls { number }), Value::Array(values)) => {
             tell_one_of(
                 alloc,
                 text,
@@ -183,87 +212,53 @@ fn tell_bad_value(
     document: &Table,
     place: Place,
 ) -> Result<(), NoMemory> {
+    let measure = measure_of(document);
     match place.value_in(document) {
         Some(value) => {
             text.say("this may not stand there\n");
-            tell_there(alloc, text, value, cause_of(document, place))?;
+            tell_there(alloc, text, value, cause_of(document, place), measure)?;
         }
         None => text.say("this is missing\n"),
     }
-    text.word("  there may stand: ", wanted(place), "\n");
+    text.word("  there may stand: ", wanted(place, measure), "\n");
     Ok(())
 }
 
-/// Tells each of the pairs of an item that stands earlier, where it is the item that is meant. Those so far are `seen`.
-fn tell_pairs<'a>(
-    text: &mut Text,
-    seen: &mut Vec<&'a Value>,
-    item: &'a Value,
-    is_meant: bool,
-) -> Result<(), NoMemory> {
-    let Some(Value::Array(pairs)) = item.get("pairs") else {
-        return Ok(());
-    };
-    for pair in pairs {
-        if is_meant && seen.as_slice().contains(&pair) {
-            tell_twice(text, pair);
-        }
-        seen.push(pair)?;
-    }
-    Ok(())
-}
-
-/// Tells a layer and a datatype that stand twice.
-fn tell_twice(text: &mut Text, pair: &Value) {
+/// Tells a layer and a datatype of this place that stand twice, if the place is not the first that has them.
+fn tell_twice(text: &mut Text, document: &Table, pair: &Value, here: (ItemKind, usize, usize)) {
     if let Value::Array(numbers) = pair {
         if let [Value::Integer(layer), Value::Integer(datatype)] = numbers.as_slice() {
-            text.signed("  twice: layer ", *layer, ", datatype ");
-            text.signed("", *datatype, "\n");
+            if let (Ok(layer), Ok(datatype)) = (u16::try_from(*layer), u16::try_from(*datatype)) {
+                if first_pair(document, layer, datatype) != Some(here) {
+                    text.number("  twice: layer ", u64::from(layer), ", datatype ");
+                    text.number("", u64::from(datatype), "\n");
+                }
+            }
         }
     }
 }
 
 /// Tells which pairs of the item at a place stand twice.
-fn tell_repeated_pair(
-    alloc: Global,
-    text: &mut Text,
-    document: &Table,
-    place: Place,
-) -> Result<(), NoMemory> {
+fn tell_repeated_pair(text: &mut Text, document: &Table, place: Place) {
     text.say("a layer and a datatype stand twice in the map; leave them to one metal or cut\n");
-    let mut seen = Vec::new(alloc);
-    for kind in [ItemKind::Metal, ItemKind::Cut] {
-        for (number, item) in kind.items_of(document).iter().enumerate() {
-            let is_meant =
-                matches!(place, Place::ItemKey(of, which, _) if of == kind && which == number);
-            tell_pairs(text, &mut seen, item, is_meant)?;
+    let Some((kind, number)) = place.item() else {
+        return;
+    };
+    if let Some(Value::Array(pairs)) = place.value_in(document) {
+        for (at, pair) in pairs.iter().enumerate() {
+            tell_twice(text, document, pair, (kind, number, at));
         }
     }
-    Ok(())
-}
-
-/// The number of the first item of the kind that has the same at these keys as this one.
-fn first_alike(document: &Table, kind: ItemKind, item: &Value, keys: &[&str]) -> Option<usize> {
-    for (number, other) in kind.items_of(document).iter().enumerate() {
-        if keys.iter().all(|key| item.get(*key) == other.get(*key)) {
-            return Some(number);
-        }
-    }
-    None
 }
 
 /// Tells which metal or cut is the first to have the name that stands at a place.
 fn tell_first_named(text: &mut Text, document: &Table, place: Place) {
     text.say("an earlier metal or cut has this name; give each one of its own\n");
-    let Some(item) = item_at(document, place) else {
-        return;
-    };
-    for kind in [ItemKind::Metal, ItemKind::Cut] {
-        if let Some(number) = first_alike(document, kind, item, &["name"]) {
+    if let Some(Value::String(name)) = place.value_in(document) {
+        if let Some((kind, number)) = first_named(document, name.as_str()) {
             text.say("  earlier: ");
             tell_item(text, Some(document), kind, number);
             text.say("\n");
-            return;
         }
     }
 }
@@ -280,17 +275,17 @@ pub fn terminal_of(value: &Value) -> Option<(&str, i64, i64)> {
 /// Tells which terminal is the first to have the cell and the metal of the one at a place.
 fn tell_first_terminal(text: &mut Text, document: &Table, place: Place) {
     text.say("an earlier terminal is the same cell of the same metal; leave one out\n");
-    let Some(item) = item_at(document, place) else {
+    let Some(item) = place.value_in(document) else {
         return;
     };
-    let keys = ItemKind::Terminal.keys();
-    if let Some(number) = first_alike(document, ItemKind::Terminal, item, keys) {
+    let Some((metal, x, y)) = terminal_of(item) else {
+        return;
+    };
+    if let Some(number) = first_terminal(document, metal, x, y) {
         text.say("  earlier: ");
         tell_item(text, Some(document), ItemKind::Terminal, number);
-        if let Some((metal, x, y)) = terminal_of(item) {
-            text.point(", the cell ", x, y, " of ");
-            text.name("", metal.as_bytes(), "\n");
-        }
+        text.point(", the cell ", x, y, " of ");
+        text.name("", metal.as_bytes(), "\n");
     }
 }
 
@@ -315,7 +310,7 @@ fn tell_unknown_metal(
 
 /// Tells how long a list is that is too long.
 fn tell_limit(text: &mut Text, document: &Table, place: Place) {
-    if let Cause::TooMany { count, most } = cause_of(document, place) {
+    if let Some(Cause::TooMany { count, most }) = cause_of(document, place) {
         text.number("it has ", count as u64, " items, and at most ");
         text.number("", most as u64, " are taken; ");
     }
@@ -333,7 +328,7 @@ fn tell_fault(
     match fault {
         MapFault::BadKey { .. } => tell_bad_key(text, document, place),
         MapFault::BadValue { .. } => tell_bad_value(alloc, text, document, place)?,
-        MapFault::RepeatedPair { .. } => tell_repeated_pair(alloc, text, document, place)?,
+        MapFault::RepeatedPair { .. } => tell_repeated_pair(text, document, place),
         MapFault::RepeatedName { .. } => tell_first_named(text, document, place),
         MapFault::UnknownMetal { .. } => tell_unknown_metal(alloc, text, document, place)?,
         MapFault::RepeatedTerminal { .. } => tell_first_terminal(text, document, place),
@@ -352,10 +347,12 @@ fn tell_document(
     document: &Table,
     fault: MapFault,
 ) -> Result<(), NoMemory> {
-    let place = place_of(fault.place());
+    let measure = measure_of(document);
+    let place = place_of(fault.place(), measure);
     let sought = Sought {
         place,
         is_unknown_key: matches!(fault, MapFault::BadKey { .. }),
+        measure,
     };
     text.name("map ", name, ", ");
     if let Ok(written) = str::from_utf8(bytes) {

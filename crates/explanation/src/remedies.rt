@@ -84,7 +84,7 @@ const REMEDIES: &[Remedy] = &[
     Remedy {
         status: 3,
         number: 47,
-        meaning: "there are too many: 32 radii, 16 metals, 16 cuts and 10,000 terminals are the most",
+        meaning: "there are too many: 32 radii or sides, 16 metals, 16 cuts and 10,000 terminals are the most",
         place: "the list",
         remedy: "shorten the list; of terminals make two maps with those of each island in one, and add up their opens, as docs/GUIDE.md says",
     },

@@ -1,6 +1,10 @@
 //! What is wrong with how the structures of a library refer to each other.
 
-use crate::graph::{Graph, graph_of};
+ghost use Rattle.std.specs.Prelude.{◌<◌, ◌^◌, length};
+ghost use Rattle.lists.specs.Differing.{AreDifferent};
+ghost use Rattle.library_model.specs.Names.{names_of};
+
+use crate::graph::{Graph, graph_of, name_of};
 use crate::layer_names::layer_count;
 use crate::layouts::{Layout, tell_number};
 use crate::places::tell_place;
@@ -8,7 +12,7 @@ use crate::shapes::{Held, count_shape, nothing_held, tell_held};
 use crate::spot::spot_at;
 use crate::telling::Telling;
 use crate::text::Text;
-use flatten::PlaceFault;
+use flatten::{PlaceFault, tops_of};
 use library_model::{Element, Library, Structure};
 use lists::NoMemory;
 use map_model::Map;
@@ -56,12 +60,20 @@ fn tell_circle(
     one: usize,
 ) -> Result<(), NoMemory> {
     let circle = graph.circle_from(alloc, one, MOST_NAMED)?;
-    text.name("  structure ", graph.name_of(one), "; the circle:");
+    text.name(
+        "  structure ",
+        name_of(graph.structures, one),
+        "; the circle:",
+    );
     for number in circle.as_slice() {
-        text.name(" ", graph.name_of(*number), " ->");
+        text.name(" ", name_of(graph.structures, *number), " ->");
     }
     match circle.first() {
-        Some(first) if circle.len() < MOST_NAMED => text.name(" ", graph.name_of(*first), "\n"),
+        Some(first) if circle.len() < MOST_NAMED => text.name(
+            " ",
+            name_of(graph.structures, *first),
+            "\n",
+        ),
         _ => text.say(" ..\n"),
     }
     Ok(())
@@ -71,16 +83,22 @@ fn tell_circle(
 fn tell_chain(text: &mut Text, graph: &Graph<'_>, top: usize) {
     if let Some(chain) = graph.chain_from(top) {
         text.number("  the longest chain has ", chain.length, " references");
-        text.name(", from ", graph.name_of(top), "");
-        text.name(" to ", graph.name_of(chain.end), "\n");
+        text.name(", from ", name_of(graph.structures, top), "");
+        text.name(" to ", name_of(graph.structures, chain.end), "\n");
     }
 }
 
 /// Tells those of the tops that are hidden by editors, or those that are not, in a line behind these words.
-fn tell_some_tops(text: &mut Text, graph: &Graph<'_>, hidden: bool, words: &str) {
+fn tell_some_tops(
+    text: &mut Text,
+    structures: &[Structure],
+    tops: &[u32],
+    hidden: bool,
+    words: &str,
+) {
     let mut count = 0usize;
-    for top in graph.tops.as_slice() {
-        let name = graph.name_of(*top);
+    for top in tops {
+        let name = name_of(structures, *top as usize);
         if name.starts_with(HIDDEN) != hidden {
             continue;
         }
@@ -101,12 +119,13 @@ fn tell_some_tops(text: &mut Text, graph: &Graph<'_>, hidden: bool, words: &str)
     }
 }
 
-/// Tells which structures no reference names.
-pub fn tell_tops(text: &mut Text, graph: &Graph<'_>) {
-    tell_some_tops(text, graph, false, "named by no reference");
+/// Tells the structures with these numbers, which no reference names.
+pub fn tell_tops(text: &mut Text, structures: &[Structure], tops: &[u32]) {
+    tell_some_tops(text, structures, tops, false, "named by no reference");
     tell_some_tops(
         text,
-        graph,
+        structures,
+        tops,
         true,
         "named by no reference, and hidden by editors, which keep notes of their own in them",
     );
@@ -131,7 +150,7 @@ fn tell_counts(
     graph: &Graph<'_>,
     top: usize,
 ) -> Result<(), NoMemory> {
-    text.name("  the top is ", graph.name_of(top), "\n");
+    text.name("  the top is ", name_of(graph.structures, top), "\n");
     let times = graph.times_placed(alloc, Some(top))?;
     let mut counts = nothing_held(alloc, layer_count(map))?;
     for (structure, times) in graph.structures.iter().zip(times.iter()) {
@@ -146,19 +165,24 @@ fn tell_counts(
     Ok(())
 }
 
-/// Tells that no structure has the wanted name, or that there is none.
-pub fn tell_no_top(told: &mut Telling, layout: &Layout<'_>, graph: &Graph<'_>) {
+/// Tells that no structure has the wanted name, or that there is none. These are the numbers of those that no reference names.
+pub fn tell_no_top(
+    told: &mut Telling,
+    layout: &Layout<'_>,
+    structures: &[Structure],
+    tops: &[u32],
+) {
     told.refuse(4, 27, 0);
     let text = &mut told.text;
     layout.tell(text);
-    if graph.structures.is_empty() {
+    if structures.is_empty() {
         text.say(": it has no structure\n");
         return;
     }
     let top = layout.top.unwrap_or(b"");
     text.name(": no structure has the name ", top, " that --top gives\n");
-    tell_alike(text, graph.structures, top);
-    tell_tops(text, graph);
+    tell_alike(text, structures, top);
+    tell_tops(text, structures, tops);
 }
 
 /// Tells of the reference, the structure or the shape at which the fault shows.
@@ -167,23 +191,20 @@ fn tell_cause(
     text: &mut Text,
     map: &Map,
     layout: &Layout<'_>,
-    graph: &Graph<'_>,
+    structures: &[Structure],
     fault: PlaceFault,
 ) -> Result<(), NoMemory> {
-    match (fault, structure_at(graph.structures, fault.place())) {
-        (PlaceFault::UnknownStructure { at }, _) => tell_unknown(
-            text,
-            layout,
-            graph.structures,
-            at,
-        ),
+    let graph = graph_of(alloc, structures)?;
+    match (fault, structure_at(structures, fault.place())) {
+        (PlaceFault::UnknownStructure { at }, _) => tell_unknown(text, layout, structures, at),
         (PlaceFault::OutOfRange { at }, _) => {
             tell_place(text, "  ", &spot_at(layout.bytes, at), "\n");
         }
-        (PlaceFault::ManyTops { .. }, _) => tell_tops(text, graph),
-        (PlaceFault::Cycle { .. }, Some(one)) => tell_circle(alloc, text, graph, one)?,
-        (PlaceFault::TooDeep { .. }, Some(top)) => tell_chain(text, graph, top),
-        (PlaceFault::TooManyShapes { .. }, Some(top)) => tell_counts(alloc, text, map, graph, top)?,
+        (PlaceFault::Cycle { .. }, Some(one)) => tell_circle(alloc, text, &graph, one)?,
+        (PlaceFault::TooDeep { .. }, Some(top)) => tell_chain(text, &graph, top),
+        (PlaceFault::TooManyShapes { .. }, Some(top)) => tell_counts(
+            alloc, text, map, &graph, top,
+        )?,
         _ => {}
     }
     Ok(())
@@ -197,15 +218,23 @@ pub fn tell_place_fault(
     layout: &Layout<'_>,
     library: &Library,
     fault: PlaceFault,
-) -> Result<(), NoMemory> {
+) -> Result<(), NoMemory>
+    requires differ { AreDifferent (names_of library.now.structures) }
+    requires few { length library.now.structures < 2 ^ 32 }
+{
     if fault == PlaceFault::Memory {
         return Err(NoMemory);
     }
-    let graph = graph_of(alloc, library.structures.as_slice())?;
+    let structures = library.structures.as_slice();
+    let tops = tops_of(alloc, library)?;
     if fault == PlaceFault::NoTop {
-        tell_no_top(told, layout, &graph);
+        tell_no_top(told, layout, structures, tops.as_slice());
         return Ok(());
     }
     tell_number(told, layout, fault.number(), fault.place());
-    tell_cause(alloc, &mut told.text, map, layout, &graph, fault)
+    if let PlaceFault::ManyTops { .. } = fault {
+        tell_tops(&mut told.text, structures, tops.as_slice());
+        return Ok(());
+    }
+    tell_cause(alloc, &mut told.text, map, layout, structures, fault)
 }
