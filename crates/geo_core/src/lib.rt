@@ -13,7 +13,7 @@ pub mod plane;
 pub mod turns;
 
 pub use axis::Axis;
-pub use bounds::{FARTHEST, FARTHEST_GROWN, GREATEST_REACH};
+pub use bounds::{FARTHEST, FARTHEST_GROWN, GREATEST_REACH, GREATEST_SIDE};
 pub use boxes::{clip, grow, join, overlaps, touches};
 pub use counts::{CountRow, Node, Steps};
 pub use interval::Interval;

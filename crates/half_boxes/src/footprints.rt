@@ -4,20 +4,14 @@
 ghost use Rattle.std.specs.Prelude.{ℤ, ◌≤◌, ◌↔◌, IfSome, IfNone};
 ghost use Rattle.fault_model.specs.Halves.{IsUnder};
 ghost use Rattle.geo_core.specs.Intervals.{IsIn};
+ghost use Rattle.geo_core.specs.declared.bounds.TheConstants.{GREATEST_SIDE};
 ghost use Rattle.geo_core.specs.declared.plane.Half.{Half};
 ghost use Rattle.half_boxes.specs.Footprints.{IsAlwaysHit, IsReached};
 ghost use Rattle.half_boxes.specs.HalfBoxes.{HasHalf, HasHalfIn};
-ghost use Rattle.half_boxes.specs.declared.footprints.TheConstants.{GREATEST_SIDE};
 
 use super::boxes::HalfBox;
 use super::span::HalfSpan;
-use geo_core::{Interval, Rect};
-
-/// The greatest side of a defect, in database units. The greatest radius is 1,000,000, and so the greatest side of a run
-/// 2,000,000; an odd side one greater reaches no further in whole cells.
-pub const GREATEST_SIDE: u32 = 2_000_001;
-
-const _: () = prove!(GREATEST_SIDE == 2_000_001);
+use geo_core::{GREATEST_SIDE, Interval, Rect};
 
 /// The half squares that some defect of this side with its centre in the zone has: all of a box, since the defects of
 /// neighbouring cells overlap, or abut.

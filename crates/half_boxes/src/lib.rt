@@ -15,7 +15,7 @@ pub mod span;
 pub mod touching;
 
 pub use boxes::HalfBox;
-pub use footprints::{GREATEST_SIDE, core_of, reach_of};
+pub use footprints::{core_of, reach_of};
 pub use growth::grown_links;
 pub use outside::Outside;
 pub use span::{FARTHEST_HALF, HalfSpan};

@@ -4,7 +4,7 @@ ghost use Rattle.half_boxes.specs.declared.span.TheConstants.{FARTHEST_HALF};
 use geo_core::Interval;
 
 /// The greatest amount of the end of a span, in half units. A cell of a window is at most 1,001,000,000 from 0, a defect
-/// reaches at most 1,000,000 and a half from the middle of its cell, and one half unit is left to grow by.
+/// reaches at most 1,000,000 from the middle of its cell, and half units are left to grow by.
 pub const FARTHEST_HALF: i32 = 2_004_000_001;
 
 // Definitions have the number itself, so that a changed bound is refused here.

@@ -4,11 +4,6 @@ use Rattle.std.specs.List.Sorted.{IsStrictlyIncreasing}
 use Rattle.map_model.specs.Measures.{greatest_size}
 use Rattle.map_model.specs.declared.measure.Measure.{Measure}
 
--- the number is a side of defects: from 1 to 2,000,000
-pub record IsSide (s : ℕ) : Type 0 where
-  pub least : 1 ≤ s
-  pub most : s ≤ 2000000
-
 -- the number is a size by this measure: a radius of 1 to 1,000,000, or a side of 1 to 2,000,000
 pub record IsSize (measure : Measure) (size : ℕ) : Type 0 where
   pub least : 1 ≤ size

@@ -18,9 +18,6 @@ pub const MOST_CUTS: usize = 16;
 /// The most sizes.
 pub const MOST_SIZES: usize = 32;
 
-/// The greatest side of a defect, which reaches half of it.
-pub const GREATEST_SIDE: u32 = 2_000_000;
-
 /// The greatest weight.
 pub const GREATEST_WEIGHT: u64 = 1_000_000_000;
 
@@ -39,8 +36,6 @@ const _: () = prove!(MOST_METALS == 16);
 const _: () = prove!(MOST_CUTS == 16);
 
 const _: () = prove!(MOST_SIZES == 32);
-
-const _: () = prove!(GREATEST_SIDE == 2_000_000);
 
 const _: () = prove!(GREATEST_WEIGHT == 1_000_000_000);
 

@@ -38,7 +38,7 @@ pub struct Map {
 
 impl Map {
     ghost use Rattle.std.specs.Prelude.{slice_index};
-    ghost use Rattle.map_model.specs.Limits.{IsSide};
+    ghost use Rattle.geo_core.specs.Bounds.{IsSide};
     ghost use Rattle.map_model.specs.MapView.{layer_map_of};
     ghost use Rattle.map_model.specs.Measures.{side_by};
 

@@ -1,9 +1,8 @@
 ghost use Rattle.std.specs.Prelude.{◌≡◌, ◌≤◌};
+ghost use Rattle.geo_core.specs.declared.bounds.TheConstants.{GREATEST_SIDE};
 ghost use Rattle.map_model.specs.Measures.{greatest_size, side_by};
-ghost use Rattle.map_model.specs.declared.limits.TheConstants.{GREATEST_SIDE};
 
-use super::limits::GREATEST_SIDE;
-use geo_core::GREATEST_REACH;
+use geo_core::{GREATEST_REACH, GREATEST_SIDE};
 
 /// What the sizes of a map say of defects.
 #[derive(Clone, Copy, Debug, PartialEq, Eq)]

@@ -12,7 +12,7 @@ use Rattle.fault_model.specs.Faults.{IsCellsOpen}
 use Rattle.fault_model.proofs.CellLaws.{Contains-cells_of}
 use Rattle.fault_model.proofs.TallyLaws.{Tally-same}
 use Rattle.fault_model.specs.IslandLists.{IsAnchoredIsland}
-use Rattle.half_boxes.specs.declared.footprints.TheConstants.{GREATEST_SIDE}
+use Rattle.geo_core.specs.declared.bounds.TheConstants.{GREATEST_SIDE}
 use Rattle.severing.specs.Severing.{IsSevered, IsSomeOpen}
 use Rattle.open_grid.specs.inside.ZoneNeeds.{HaveOpenCells}
 use Rattle.open_grid.specs.inside.ZoneSteps.{IsToldOf}

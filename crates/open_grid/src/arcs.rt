@@ -2,7 +2,7 @@ ghost use Rattle.std.specs.Prelude.{Contains, IfOk, IsTrue, ◌≤◌};
 ghost use Rattle.fault_model.specs.IslandLists.{IslandLists};
 ghost use Rattle.half_boxes.specs.HalfBoxes.{LiesWithin};
 ghost use Rattle.half_boxes.specs.declared.boxes.HalfBox.{HalfBox as AnyBox};
-ghost use Rattle.half_boxes.specs.declared.footprints.TheConstants.{GREATEST_SIDE};
+ghost use Rattle.geo_core.specs.declared.bounds.TheConstants.{GREATEST_SIDE};
 ghost use Rattle.open_grid.specs.declared.looked.Told.TheVariants.{Never};
 ghost use Rattle.open_grid.specs.inside.ZoneNeeds.{StandsFor};
 ghost use Rattle.open_grid.specs.inside.ZoneSteps.{IsToldAtOnce, IsToldOf};

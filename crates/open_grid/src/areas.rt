@@ -3,7 +3,7 @@ ghost use Rattle.geo_core.specs.Cells.{Has};
 ghost use Rattle.geo_core.specs.Unions.{IsInUnion};
 ghost use Rattle.geo_core.specs.declared.plane.Cell.{Cell};
 ghost use Rattle.fault_model.specs.Areas.{Tally, cells_of};
-ghost use Rattle.half_boxes.specs.declared.footprints.TheConstants.{GREATEST_SIDE};
+ghost use Rattle.geo_core.specs.declared.bounds.TheConstants.{GREATEST_SIDE};
 ghost use Rattle.open_grid.specs.RingCounts.{IsSomeRingMany};
 ghost use Rattle.severing.specs.Severing.{IsSomeOpen};
 

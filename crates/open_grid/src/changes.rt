@@ -2,7 +2,7 @@
 
 ghost use Rattle.std.specs.Prelude.{ℤ, pos, negsuc, [], ◌∷◌, ◌≡◌, ◌+ℤ◌, ◌≤ℤ◌, ◌≤◌, IfOk, IsSorted, OnOk};
 ghost use Rattle.std.specs.Ordering.{int_cmp};
-ghost use Rattle.half_boxes.specs.declared.footprints.TheConstants.{GREATEST_SIDE};
+ghost use Rattle.geo_core.specs.declared.bounds.TheConstants.{GREATEST_SIDE};
 ghost use Rattle.half_boxes.specs.HalfBoxes.{span_along as span_of};
 ghost use Rattle.severing.specs.Changes.{Passes, Reaches};
 ghost use Rattle.open_grid.specs.inside.ZoneSteps.{AreChanges, GainsChanges, GainsPlace};

@@ -1,7 +1,7 @@
 ghost use Rattle.std.specs.Prelude.{ℕ, ◌≤◌, IfOk, IsTrue, ◌⊎◌};
 ghost use Rattle.geo_core.specs.declared.plane.Rect.{Rect as AnyRect};
 ghost use Rattle.fault_model.specs.IslandLists.{IslandLists, IsAnchoredIsland};
-ghost use Rattle.half_boxes.specs.declared.footprints.TheConstants.{GREATEST_SIDE};
+ghost use Rattle.geo_core.specs.declared.bounds.TheConstants.{GREATEST_SIDE};
 ghost use Rattle.open_grid.specs.inside.ZoneNeeds.{StandsFor};
 ghost use Rattle.open_grid.specs.inside.ZoneSteps.{IsSplitWithout, IsToldAtOnce, IsToldOf, KeepsNear, KeepsWithin};
 ghost use Rattle.open_grid.specs.inside.ZoneSteps.{AreOf, MayNotMatter};

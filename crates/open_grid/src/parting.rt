@@ -2,7 +2,7 @@ ghost use Rattle.std.specs.Prelude.{All, Contains, IfOk, IsTrue, OnErr, OnOk, â—
 ghost use Rattle.geo_core.specs.Cells.{IsInLayout};
 ghost use Rattle.geo_core.specs.Unions.{IsInUnion};
 ghost use Rattle.fault_model.specs.Faults.{IsCellsOpen};
-ghost use Rattle.half_boxes.specs.declared.footprints.TheConstants.{GREATEST_SIDE};
+ghost use Rattle.geo_core.specs.declared.bounds.TheConstants.{GREATEST_SIDE};
 ghost use Rattle.ring_test.specs.Rings.{hole_at};
 ghost use Rattle.ring_test.specs.RingAnswers.{IsRingAnswer};
 

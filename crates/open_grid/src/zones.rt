@@ -1,6 +1,6 @@
 ghost use Rattle.std.specs.Prelude.{List, ◌<◌, ◌≤◌, IfOk, IsTrue};
 ghost use Rattle.fault_model.specs.IslandLists.{IslandLists};
-ghost use Rattle.half_boxes.specs.declared.footprints.TheConstants.{GREATEST_SIDE};
+ghost use Rattle.geo_core.specs.declared.bounds.TheConstants.{GREATEST_SIDE};
 ghost use Rattle.open_grid.specs.inside.ZoneCounts.{CountsMany};
 ghost use Rattle.open_grid.specs.inside.ZoneNeeds.{HaveOpenCells, StandForAll};
 ghost use Rattle.open_grid.specs.inside.ZoneSteps.{IsDoneAtOnce, IsLeftOf};

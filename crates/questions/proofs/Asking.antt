@@ -1,7 +1,8 @@
 -- what holds of each question of a map, and how many there are
 use Rattle.std.proofs.Common.{ℕ, ◌+◌, ◌*◌, ◌<◌, ◌≤◌, ◌≡◌, ◌∙◌, List, [], ◌∷◌, ◌++◌, length, map, ap, arith, refl, length-append, All, ◌≢◌}
 use Rattle.lists.proofs.Words.{enumerate_from, length-map, All-append, All-cons, All-head, All-map, All-nil, All-tail, All-weaker, length-enumerate_from}
-use Rattle.map_model.specs.MapNames.{DefectSize, IsSide, IsSize, LayerMap, MappedCut, MappedLayer, sizes_of, side_by}
+use Rattle.geo_core.specs.Bounds.{IsSide}
+use Rattle.map_model.specs.MapNames.{DefectSize, IsSize, LayerMap, MappedCut, MappedLayer, sizes_of, side_by}
 use Rattle.map_model.specs.declared.measure.Measure.{Measure}
 use Rattle.map_model.proofs.laws.MeasureLaws.{size_is_side}
 use Rattle.map_model.specs.declared.limits.TheConstants.{GREATEST_WEIGHT, MOST_CUTS, MOST_METALS, MOST_SIZES}

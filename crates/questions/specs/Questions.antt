@@ -1,7 +1,8 @@
 -- the questions that a layer map asks, and the rows that answer them
 use Rattle.std.specs.Prelude.{ℕ, ◌≡◌, ◌≢◌, ◌+◌, ◌<◌, ◌≤◌, List, ◌++◌, length, map, flat_map}
 use Rattle.lists.specs.Words.{enumerate_from}
-use Rattle.map_model.specs.MapNames.{DefectSize, IsSide, MappedLayer, LayerMap, side_by}
+use Rattle.geo_core.specs.Bounds.{IsSide}
+use Rattle.map_model.specs.MapNames.{DefectSize, MappedLayer, LayerMap, side_by}
 use Rattle.map_model.specs.declared.measure.Measure.{Measure}
 use Rattle.questions.specs.declared.kind.Kind.{Kind}
 use Rattle.questions.specs.declared.kind.Kind.TheVariants.{Short, Open, Via}

@@ -1,6 +1,7 @@
 ghost use Rattle.std.specs.Prelude.{◌≡◌, ◌≤◌, ◌<◌, ◌^◌, ◌++◌, IfOk, OnOk, All, length};
 ghost use Rattle.map_model.specs.MapView.{layer_map_of};
-ghost use Rattle.map_model.specs.declared.limits.TheConstants.{GREATEST_SIDE, GREATEST_WEIGHT};
+ghost use Rattle.geo_core.specs.declared.bounds.TheConstants.{GREATEST_SIDE};
+ghost use Rattle.map_model.specs.declared.limits.TheConstants.{GREATEST_WEIGHT};
 ghost use Rattle.questions.specs.Questions.{IsAskable, IsRowFor, cut_layers, metal_layers, of_kind, of_sizes, questions, side_of};
 ghost use Rattle.questions.specs.declared.kind.Kind.TheVariants.{Via};
 ghost use Rattle.questions.specs.declared.row.TheConstants.{MOST_ROWS};

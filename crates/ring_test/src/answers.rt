@@ -5,7 +5,7 @@ ghost use Rattle.geo_core.specs.declared.plane.Cell.{Cell as AnyCell};
 ghost use Rattle.geo_core.specs.declared.plane.Half.{Half};
 ghost use Rattle.fault_model.specs.Faults.{IsCellsOpen};
 ghost use Rattle.fault_model.specs.Halves.{IsOn, LiesIn};
-ghost use Rattle.half_boxes.specs.declared.footprints.TheConstants.{GREATEST_SIDE};
+ghost use Rattle.geo_core.specs.declared.bounds.TheConstants.{GREATEST_SIDE};
 ghost use Rattle.ring_test.specs.Rings.{IsInHole, hole_at, hole_of};
 ghost use Rattle.ring_test.specs.RingAnswers.{IsRingAnswer, Settles};
 

@@ -5,7 +5,7 @@ ghost use Rattle.geo_core.specs.declared.plane.Half.{Half};
 ghost use Rattle.geo_core.specs.declared.plane.Rect.{Rect as AnyRect};
 ghost use Rattle.fault_model.specs.Halves.{IsOn, LiesIn};
 ghost use Rattle.half_boxes.specs.HalfBoxes.{OverlapHalves};
-ghost use Rattle.half_boxes.specs.declared.footprints.TheConstants.{GREATEST_SIDE};
+ghost use Rattle.geo_core.specs.declared.bounds.TheConstants.{GREATEST_SIDE};
 ghost use Rattle.ring_test.specs.Rings.{IsInHole, hole_at, hole_of};
 
 use geo_core::{Cell, FARTHEST_GROWN};

@@ -2,8 +2,7 @@
 
 use super::drawn::{AROUND, BESIDE, Drawn, Spot, WIRE, all_islands, islands_with};
 use fault_model::Island;
-use geo_core::Rect;
-use half_boxes::GREATEST_SIDE;
+use geo_core::{GREATEST_SIDE, Rect};
 use open_grid::open_cells;
 use samples::sides::{Sides, rect_of};
 use std::alloc::Global;

@@ -1,6 +1,7 @@
 -- sizes as sides
 use Rattle.std.proofs.Common.{ℕ, arith}
-use Rattle.map_model.specs.MapNames.{IsSide, IsSize, side_by}
+use Rattle.geo_core.specs.Bounds.{IsSide}
+use Rattle.map_model.specs.MapNames.{IsSize, side_by}
 use Rattle.map_model.specs.declared.measure.Measure.{Measure}
 use Rattle.map_model.specs.declared.measure.Measure.TheVariants.{Radius, Side}
 

@@ -1,5 +1,6 @@
 use Rattle.std.proofs.Common.{◌≡◌, ℕ, ◌<◌, List, get_or, length, subst, sym}
-use Rattle.map_model.specs.MapNames.{IsSide, side_by}
+use Rattle.geo_core.specs.Bounds.{IsSide}
+use Rattle.map_model.specs.MapNames.{side_by}
 use Rattle.map_model.specs.declared.map.Map.{Map}
 use Rattle.map_model.proofs.laws.MeasureLaws.{size_is_side}
 use Rattle.map_model.proofs.map.Map.side.Goals as goal
