@@ -1,5 +1,5 @@
 -- All that is checked of a map's document, one check after the other, and the fault of each.
-use Rattle.std.specs.Prelude.{ℕ, ◌≡◌, ◌≤◌, List, [], ◌∷◌, ◌++◌, codes, length, map, flat_map, take, slice_get, Option, Some, IsSome}
+use Rattle.std.specs.Prelude.{ℕ, ◌≤◌, List, [], ◌∷◌, ◌++◌, codes, length, map, flat_map, take, slice_get, Option, IsSome}
 use Rattle.std.specs.Prelude.{IsSomeAnd, IfSome, All, Contains}
 use Rattle.lists.specs.Words.{range_with_len}
 use Rattle.toml.specs.Data.{Data, Members, as_array}

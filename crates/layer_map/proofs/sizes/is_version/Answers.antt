@@ -1,4 +1,3 @@
-use Rattle.std.proofs.Common.{◌≡◌, ◌∙◌, ap, is_some, subst, sym, true, ◌↔◌}
 use Rattle.layer_map.proofs.VersionLaws.{version_found}
 use Rattle.layer_map.proofs.sizes.is_version.Goals as goal
 

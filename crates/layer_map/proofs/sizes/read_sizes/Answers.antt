@@ -1,6 +1,5 @@
-use Rattle.std.proofs.Common.{[], ◌∷◌, ◌≡◌, ◌∙◌, None, Some, arith, refl, sym, subst}
-use Rattle.toml.specs.Data.{array}
-use Rattle.toml.specs.View.{items_view, table_view}
+use Rattle.std.proofs.Common.{[], ◌∷◌, ◌∙◌, None, Some, arith, refl, sym, subst}
+use Rattle.toml.specs.View.{table_view}
 use Rattle.layer_map.specs.DocumentSizes.{measure_of, sizes_in}
 use Rattle.layer_map.specs.MapChecks.{IsArray, has_sizes, sizes_are_array, sizes_are_few}
 use Rattle.layer_map.specs.Values.{whole_number}
