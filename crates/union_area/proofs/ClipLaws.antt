@@ -7,6 +7,7 @@ use Rattle.fault_model.specs.FaultNames.{Tally, cells_of}
 use Rattle.fault_model.proofs.CellLaws.{Contains-cells_of}
 use Rattle.fault_model.proofs.TallyLaws.{Tally-none, Tally-same}
 use Rattle.fault_model.proofs.UnionLaws.{among_union, union_more, union_push}
+use Rattle.skyline_runs.specs.Runs.{HaveSameCells}
 use Rattle.union_area.proofs.laws.PartLaws.{whole_tally}
 
 -- the one list has the cells of the other list that lie in the window
@@ -47,6 +48,10 @@ module _ (rects : List Rect) (window : Rect) where
 
   pub clipped_all : (k : ℕ) (inside : List Rect) → length rects ≤ k → ClippedSoFar rects window k inside → AreClipped rects window inside
   clipped_all k inside past so_far = subst (λ (rs : List Rect). AreClipped rs window inside) (take_all k rects past) so_far.cells
+
+-- another list with the same cells
+pub clipped_same : (rects : List Rect) (window : Rect) (inside same : List Rect) → AreClipped rects window inside → HaveSameCells inside same → AreClipped rects window same
+clipped_same rects window inside same clipped alike c = let one = alike c in let other = clipped c in (λ u. other.0 (one.0 u), λ h. one.1 (other.1 h))
 
 -- ---- tallies
 

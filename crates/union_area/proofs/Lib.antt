@@ -1,3 +1,4 @@
 pub mod CutLaws
 pub mod ClipLaws
 pub mod RunLaws
+pub mod SpanLaws

@@ -1,4 +1,4 @@
-ghost use Rattle.std.specs.Prelude.{◌<◌, ◌^◌, ◌≡◌, IfOk, IfSome};
+ghost use Rattle.std.specs.Prelude.{◌<◌, ◌^◌, ◌≡◌, ◌↔◌, IfOk, IfSome};
 ghost use Rattle.geo_core.specs.Cells.{Has};
 ghost use Rattle.geo_core.specs.Unions.{IsInUnion};
 ghost use Rattle.geo_core.specs.declared.plane.Cell.{Cell};
@@ -7,6 +7,7 @@ ghost use Rattle.fault_model.specs.Areas.{Tally, cells_of};
 ghost use Rattle.union_area.specs.WindowParts.{AreParts};
 
 use super::parts::count_of;
+use super::spans::joined;
 use super::survey::Survey;
 use super::windows::{clipped, is_filled};
 use depth_sweep::area_once;
@@ -28,7 +29,7 @@ pub fn union_area(alloc: Global, rects: &[Rect], window: Rect) -> Result<u64, No
     ensures tally { IfOk result (λ n. Tally (IsInUnion rects.now) (cells_of window) n) }
     ensures small { IfOk result (λ n. n < 2 ^ 63) }
 {
-    let inside = clipped(alloc, rects, window)?;
+    let inside = within(alloc, rects, window)?;
     let inside = inside.as_slice();
     if inside.is_empty() {
         return Ok(0);
@@ -44,6 +45,15 @@ pub fn union_area(alloc: Global, rects: &[Rect], window: Rect) -> Result<u64, No
             Ok(one + other)
         }
     }
+}
+
+/// What the rectangles have in common with the window.
+fn within(alloc: Global, rects: &[Rect], window: Rect) -> Result<Vec<Rect>, NoMemory>
+    ensures { IfOk result (λ inside. (c : Cell) →
+        IsInUnion inside.items c ↔ (IsInUnion rects.now c × Has window c)) }
+{
+    let inside = clipped(alloc, rects, window)?;
+    joined(alloc, inside, window)
 }
 
 /// Two parts of the window, where the rectangles are better parted than swept. They lie in the window.

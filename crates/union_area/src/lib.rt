@@ -3,15 +3,17 @@
 //! Of parts it is said how many cells a window has, what has all of it, where it is halved, and how the tallies of its parts
 //! make its own (`parts`, `middles`, `laws`).
 //!
-//! The window is parted for as long as that parts the rectangles well, mostly half way. Of what is left, rectangles without common cells are
-//! added up where they are soon found, and else a sweep counts. Which parts are taken, and when the sweep begins, changes the
-//! time alone: the areas of any two parts add up, and a rectangle that has no cell in a part does not matter there.
+//! The window is parted for as long as that parts the rectangles well, mostly half way. Rectangles that reach over all rows of
+//! a part, or over all its columns, are joined there where they touch (`spans`). Of what is left, rectangles without common cells are
+//! added up where they are soon found, and else a sweep counts. Which parts are taken, what is joined, and when the sweep begins,
+//! changes the time alone: the areas of any two parts add up, and a rectangle that has no cell in a part does not matter there.
 #![tactic(auto)]
 
 mod areas;
 pub mod laws;
 pub mod middles;
 pub mod parts;
+mod spans;
 mod survey;
 mod windows;
 
