@@ -30,25 +30,28 @@ pub opens_permuted : (parts : Parts) (window : Rect) (question : Question) (xs y
 opens_permuted parts window question xs ys order are c =
     let same = union_permuted xs ys order c in (λ v. (are c).0 (same.0 v), λ o. same.1 ((are c).1 o))
 
-reordered : {X : Type 0} (lists indexes : List (List X)) → AllZip IsPermutation lists indexes → AreReordered lists indexes
+pub reordered : {X : Type 0} (lists indexes : List (List X)) → AllZip IsPermutation lists indexes → AreReordered lists indexes
 reordered lists indexes each number small =
     let long = AllZip-long IsPermutation lists indexes each in AllZip-get_or IsPermutation lists indexes number [] [] each (omega (arith, long))
+
+pub no_lists : {X : Type 0} (lists : List (List X)) → AreReordered lists []
+no_lists lists number small = absurd (omega arith)
 
 module _ (parts : Parts) (questions : List Question) (window : Rect) where
   -- all indexes, or none
   pub are_indexes : (opens : List (List Rect)) (metals : List (List Labelled)) (cuts : List (List Rect)) → AllZip (HasItsOpens parts window) questions opens
-      → AllZip IsPermutation parts.metals metals → AllZip IsPermutation parts.cuts cuts → AreIndexesOf parts questions window opens metals cuts
+      → AreReordered parts.metals metals → AllZip IsPermutation parts.cuts cuts → AreIndexesOf parts questions window opens metals cuts
   are_indexes opens metals cuts of_opens of_metals of_cuts = record {
     of_opens = λ slot question small at. zipped_at (HasItsOpens parts window) questions opens [] of_opens slot question at;
-    of_metals = reordered parts.metals metals of_metals;
+    of_metals = of_metals;
     of_cuts = reordered parts.cuts cuts of_cuts;
   }
 
   pub no_indexes : AreIndexesOf parts questions window [] [] []
   no_indexes = record {
     of_opens = λ slot question small at. absurd (omega arith);
-    of_metals = λ number small. absurd (omega arith);
-    of_cuts = λ number small. absurd (omega arith);
+    of_metals = no_lists parts.metals;
+    of_cuts = no_lists parts.cuts;
   }
 
 -- ---- what is found

@@ -14,7 +14,8 @@ use Rattle.critical_areas.specs.declared.parts.Parts.{Parts}
 
 -- a defect of this side at the cell touches pieces of two labels of the metal with this number, parts two anchors of one of its
 -- islands, or covers one of the boxes of the cut with this number; the numbers of cuts go on behind those of the metals. The
--- side touches what half of it, rounded down, touches as a radius, and covers what half of it, rounded up, covers.
+-- side touches what half of it, rounded down, touches as a radius, and covers what half of it, rounded up, covers. Side 1 has one
+-- cell, which two nets do not share, so it is counted as touching none.
 abbrev pub IsCountedAs : Kind → Parts → ℕ → ℕ → Cell → Type 0
 IsCountedAs Short parts number side = TouchesTwoLabels (slice_index_or parts.metals number []) (side / 2)
 IsCountedAs Open parts number side = IsSomeOpen (slice_index_or parts.islands number []) side

@@ -14,7 +14,8 @@ use tile_board::Board;
 use tile_work::{Gate, close_sums, run_tiles};
 
 /// For each question, in order, at how many cells of the window, where there is one, a defect of its size touches pieces of two
-/// labels of its metal, parts two anchors of an island of its metal, or covers a box of its cut, by the question's kind.
+/// labels of its metal, parts two anchors of an island of its metal, or covers a box of its cut, by the question's kind. At side 1,
+/// whose defect has one cell, which no two nets share, no cell is counted for two labels.
 ///
 /// They are counted over tiles, which workers share. The only error is that no memory is left.
 pub fn amounts<G: Gate + Sync>(

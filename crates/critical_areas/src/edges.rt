@@ -44,7 +44,7 @@ fn sensible_edge(asked: Asked<'_>, window: Rect, edge: u32) -> u32
 }
 
 /// How far a defect that is asked for reaches at most.
-fn greatest_reach(asked: Asked<'_>) -> u32 {
+pub fn greatest_reach(asked: Asked<'_>) -> u32 {
     let mut reach = 0;
     for question in asked.questions {
         reach = reach_of_side(question.side()).max(reach);

@@ -3,10 +3,11 @@ ghost use Rattle.std.specs.List.{AllZip};
 ghost use Rattle.std.specs.List.Sorted.{IsPermutation};
 ghost use Rattle.questions.specs.Questions.{IsAskable};
 ghost use Rattle.questions.specs.declared.kind.Kind.TheVariants.{Open};
-ghost use Rattle.critical_areas.specs.inside.Indexes.{AreOpensIn, HasItsOpens};
+ghost use Rattle.critical_areas.specs.inside.Indexes.{AreOpensIn, AreReordered, HasItsOpens};
 
+use super::edges::greatest_reach;
 use super::parts::{Asked, Parts};
-use geo_core::Rect;
+use geo_core::{Labelled, Rect};
 use lists::{Items, NoMemory};
 use open_grid::open_cells;
 use questions::{Kind, Question};
@@ -25,6 +26,17 @@ pub fn indexes_of<T: Rectangular + Drop>(
         indexes.push(NearIndex::new(alloc, list.as_slice())?)?;
     }
     Ok(indexes)
+}
+
+/// An index of the pieces of each metal. Where no defect reaches beyond its own cell none is asked for what is near, and there is
+/// none.
+pub fn metals_of(alloc: Global, asked: Asked<'_>) -> Result<Vec<NearIndex<Labelled>>, NoMemory>
+    ensures { IfOk result (λ metals. AreReordered asked.entry.parts.now.metals metals.items) }
+{
+    if greatest_reach(asked) == 0 {
+        return Ok(Vec::new(alloc));
+    }
+    indexes_of(alloc, asked.parts.metals.as_slice())
 }
 
 /// For each question an index of the cells of the window at which there is an open, where it asks for opens, and else of none.

@@ -6,13 +6,13 @@ ghost use Rattle.geo_core.specs.Bounds.{IsRadius};
 ghost use Rattle.geo_core.specs.Cells.{Has};
 ghost use Rattle.geo_core.specs.Unions.{IsInUnion};
 ghost use Rattle.geo_core.specs.declared.plane.Cell.{Cell};
-ghost use Rattle.map_model.specs.Limits.{IsSide};
+ghost use Rattle.geo_core.specs.Bounds.{IsSide};
 ghost use Rattle.questions.specs.Questions.{IsAskable};
 ghost use Rattle.severing.specs.Severing.{IsSomeOpen};
 ghost use Rattle.short_area.specs.Labels.{TouchesTwoLabels};
 ghost use Rattle.via_clusters.specs.Blocks.{CoversSomeBox};
 
-use super::indexes::{indexes_of, opens_of};
+use super::indexes::{indexes_of, metals_of, opens_of};
 use super::parts::Asked;
 use super::sizes::{covering_radius, reach_of_side};
 use fault_model::Island;
@@ -40,7 +40,7 @@ pub struct Tiles<'a> {
     plan: TilePlan,
     /// For each question the cells of the window at which there is an open, where it asks for opens.
     opens: Vec<NearIndex<Rect>>,
-    /// The pieces of each metal.
+    /// The pieces of each metal, where a question asks what is near them.
     metals: Vec<NearIndex<Labelled>>,
     /// The boxes of each cut.
     cuts: Vec<NearIndex<Rect>>,
@@ -80,7 +80,7 @@ impl<'a> Tiles<'a> {
             });
         }
         let opens = opens_of(alloc, asked, plan.window)?;
-        let metals = indexes_of(alloc, asked.parts.metals.as_slice())?;
+        let metals = metals_of(alloc, asked)?;
         let cuts = indexes_of(alloc, asked.parts.cuts.as_slice())?;
         Ok(Tiles {
             asked,

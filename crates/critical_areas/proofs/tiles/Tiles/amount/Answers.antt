@@ -1,8 +1,8 @@
-use Rattle.std.proofs.Common.{◌≡◌, ◌∙◌, ◌<◌, ◌+◌, ◌-◌, ℕ, List, [], Some, ap, arith, get_or, length, slice_get, subst, sym, ◌↔◌}
+use Rattle.std.proofs.Common.{◌≡◌, ◌<◌, ◌-◌, ℕ, List, [], Some, ap, arith, get_or, length, slice_get, subst, sym, ◌↔◌}
 use Rattle.std.specs.Slice.{IsItemAt}
 use Rattle.geo_core.specs.Plane.{Has, IsInUnion}
 use Rattle.fault_model.specs.FaultNames.{IslandLists}
-use Rattle.map_model.specs.MapNames.{IsSide}
+use Rattle.geo_core.specs.Bounds.{IsSide}
 use Rattle.questions.specs.Questions.{side_of}
 use Rattle.severing.specs.Severing.{IsSomeOpen}
 use Rattle.critical_areas.specs.inside.Work.{Work}

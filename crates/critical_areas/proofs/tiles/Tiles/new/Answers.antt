@@ -1,6 +1,5 @@
 use Rattle.std.proofs.Common.{List, subst}
 use Rattle.lists.proofs.Words.{AllZip, IsPermutation}
-use Rattle.geo_core.specs.declared.plane.Labelled.{Labelled}
 use Rattle.geo_core.specs.declared.plane.Rect.{Rect}
 use Rattle.critical_areas.proofs.IndexLaws.{are_indexes, no_indexes}
 use Rattle.critical_areas.proofs.tiles.Tiles.new.Goals as goal
@@ -14,5 +13,5 @@ pub invariant_of-result-2 : goal.invariant_of-result-2
 invariant_of-result-2 c =
     let asked = c.args.asked in
     are_indexes asked.parts.now asked.questions.now c.args.plan.window c.in_ok-opens.opens.items c.in_ok-metals.metals.items c.in_ok-cuts.cuts.items c.in_ok-opens.ensures
-    (subst (λ (lists : List (List Labelled)). AllZip IsPermutation lists c.in_ok-metals.metals.items) c.as_slice.ensures c.in_ok-metals.ensures)
-    (subst (λ (lists : List (List Rect)). AllZip IsPermutation lists c.in_ok-cuts.cuts.items) c.as_slice-2.ensures c.in_ok-cuts.ensures)
+    c.in_ok-metals.ensures
+    (subst (λ (lists : List (List Rect)). AllZip IsPermutation lists c.in_ok-cuts.cuts.items) c.as_slice.ensures c.in_ok-cuts.ensures)
