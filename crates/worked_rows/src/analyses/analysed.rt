@@ -150,6 +150,42 @@ fn terminal_is_told(rt: &(impl Threads + Sync), alloc: Global) -> bool {
     }
 }
 
+/// Maps of the bars' metal with one side, and the area of shorts. The bars are 4 apart: defects of side 5 reach 2 cells, and touch
+/// both nowhere, those of side 7 reach 3, from 2 by 16 cells, and those of side 8 reach 4, from 4 by 18.
+const SIDES: &[(&[u8], u64)] = &[
+    (
+        b"version=2\nsides=[5]\nweights=[1]\nmetal=[{name=\"m\",pairs=[[1,0]]}]\n",
+        0,
+    ),
+    (
+        b"version=2\nsides=[7]\nweights=[1]\nmetal=[{name=\"m\",pairs=[[1,0]]}]\n",
+        32,
+    ),
+    (
+        b"version=2\nsides=[8]\nweights=[1]\nmetal=[{name=\"m\",pairs=[[1,0]]}]\n",
+        72,
+    ),
+];
+
+/// Whether the bars have this area of shorts by the map.
+fn shorts_are_answered(
+    rt: &(impl Threads + Sync),
+    alloc: Global,
+    (map, shorts): &(&'static [u8], u64),
+) -> bool {
+    match read_map(alloc, map) {
+        Ok(map) => each_of_tiles_answers(rt, alloc, &map, TWO_BARS, None, Want::Areas(*shorts, 0)),
+        Err(_) => false,
+    }
+}
+
+#[test]
+fn sides_are_analysed(rt: HostRuntime) {
+    for (number, row) in SIDES.iter().enumerate() {
+        expect(&rt, shorts_are_answered(&rt, rt.alloc(), row), number);
+    }
+}
+
 #[test]
 fn terminals_off_their_metal_are_told(rt: HostRuntime) {
     assert!(rt; terminal_is_told(&rt, rt.alloc()));
