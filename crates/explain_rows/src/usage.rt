@@ -1,4 +1,6 @@
 use crate::rows::{Stands, expect};
+use std::alloc::Global;
+use std::process::Abort;
 
 /// No file is there, and none is looked at.
 const NOTHING: Stands<'static> = Stands {
@@ -90,14 +92,74 @@ const ROWS: &[(&str, &str)] = &[
     ),
 ];
 
+/// Words that ask for nothing for several causes, of which one is told: first a word that is none of any argument, the earliest
+/// of these, then what is empty, what is given more than once, what a form lacks or does not have, and last a bad number.
+const SEVERAL_CAUSES: &[(&str, &str)] = &[
+    (
+        "a|-r|--maps|m",
+        "arguments: '-r' begins with one dash; options begin with two, and in front of a file's name with a dash stands `--`",
+    ),
+    (
+        "|--map=|--top",
+        "arguments: --top is the last word, and has no value; --top takes the name of a structure",
+    ),
+    (
+        "|b|--map=",
+        "arguments: --map has an empty value; --map takes the name of a file",
+    ),
+    (
+        "|b|--map=m|--map=n",
+        "arguments: the layout's name is empty",
+    ),
+    (
+        "a|b|--map=m|--top=t|--top=u",
+        "arguments: --top stands twice; --top takes the name of a structure",
+    ),
+    (
+        "a|b|--map=m|--radius=3",
+        "arguments: two layouts are named, 'a' and 'b'; name one, and a map behind --map",
+    ),
+    ("--map=m|--radius=0", "arguments: no layout is named"),
+    (
+        "a|--generate=0|--top=T",
+        "arguments: the layout 'a' is named beside --generate, which makes one",
+    ),
+    (
+        "--generate=0|--map=m",
+        "arguments: --map stands beside --generate, which makes its layout and its map itself",
+    ),
+    (
+        "a|--map=m|--radius=0",
+        "arguments: --radius stands beside --map, which says itself which layers there are, and which radii",
+    ),
+    (
+        "a|--tile=0",
+        "arguments: it is not said which layers are metals; --explain in front of the layout alone lists those that it has",
+    ),
+    (
+        "a|--layer=65536|--radius=3",
+        "arguments: --datatype is missing; --layer, --datatype and --radius go together",
+    ),
+];
+
 /// The forms of the command.
 const FORMS: &str =
     "\n  critarea LAYOUT --map MAP\n  critarea LAYOUT --layer L --datatype D --radius R\n  critarea --generate N\n";
 
+/// Checks that each of these rows is told.
+fn expect_rows(rt: &impl Abort, alloc: Global, rows: &[(&str, &str)]) {
+    for (line, told) in rows {
+        let pieces = ["error 2 at 0\n", *told, FORMS];
+        expect(rt, alloc, *line, &NOTHING, 2, pieces);
+    }
+}
+
 #[test]
 fn words_are_told(rt: HostRuntime) {
-    for (line, told) in ROWS {
-        let pieces = ["error 2 at 0\n", *told, FORMS];
-        expect(&rt, rt.alloc(), line, &NOTHING, 2, pieces);
-    }
+    expect_rows(&rt, rt.alloc(), ROWS);
+}
+
+#[test]
+fn the_first_of_several_causes_is_told(rt: HostRuntime) {
+    expect_rows(&rt, rt.alloc(), SEVERAL_CAUSES);
 }

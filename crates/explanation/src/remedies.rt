@@ -16,8 +16,11 @@ pub struct Remedy {
     pub remedy: &'static str,
 }
 
-/// All statuses with their numbers.
-const REMEDIES: &[Remedy] = &[
+// The rows stand in several lists, each of which one function reads: what it takes to prove such a function grows with the
+// square of its list.
+
+/// Words and maps that are refused.
+const OF_WORDS_AND_MAPS: &[Remedy] = &[
     Remedy {
         status: 2,
         number: 2,
@@ -88,6 +91,10 @@ const REMEDIES: &[Remedy] = &[
         place: "the list",
         remedy: "shorten the list; of terminals make two maps with those of each island in one, and add up their opens, as docs/GUIDE.md says",
     },
+];
+
+/// Layouts whose bytes are refused.
+const OF_RECORDS: &[Remedy] = &[
     Remedy {
         status: 4,
         number: 9,
@@ -193,6 +200,10 @@ const REMEDIES: &[Remedy] = &[
         place: "the element",
         remedy: "flatten it, or use a database unit that divides its steps",
     },
+];
+
+/// Layouts whose references, shapes or terminals are refused.
+const OF_SHAPES: &[Remedy] = &[
     Remedy {
         status: 4,
         number: 24,
@@ -291,6 +302,10 @@ const REMEDIES: &[Remedy] = &[
         place: "the number of the first such, counted from 0 in the map",
         remedy: "move it to a cell that its metal covers, leave it out, or see whether the metal has the right pairs",
     },
+];
+
+/// Runs that are given up.
+const OF_SYSTEMS: &[Remedy] = &[
     Remedy {
         status: 5,
         number: 0,
@@ -314,9 +329,37 @@ const REMEDIES: &[Remedy] = &[
     },
 ];
 
+/// The row of these with a status and a number, where one has them.
+fn row_in(rows: &'static [Remedy], status: u8, number: u64) -> Option<&'static Remedy> {
+    rows.iter().find(|row| row.status == status && u64::from(row.number) == number)
+}
+
+/// The row among those of words and maps.
+fn in_words_and_maps(status: u8, number: u64) -> Option<&'static Remedy> {
+    row_in(OF_WORDS_AND_MAPS, status, number)
+}
+
+/// The row among those of the bytes of layouts.
+fn in_records(status: u8, number: u64) -> Option<&'static Remedy> {
+    row_in(OF_RECORDS, status, number)
+}
+
+/// The row among those of what layouts place.
+fn in_shapes(status: u8, number: u64) -> Option<&'static Remedy> {
+    row_in(OF_SHAPES, status, number)
+}
+
+/// The row among those of runs that are given up.
+fn in_systems(status: u8, number: u64) -> Option<&'static Remedy> {
+    row_in(OF_SYSTEMS, status, number)
+}
+
 /// What a status with a number means, where a run ends so.
 pub fn remedy_of(status: u8, number: u64) -> Option<&'static Remedy> {
-    REMEDIES.iter().find(|row| row.status == status && u64::from(row.number) == number)
+    in_words_and_maps(status, number)
+        .or(in_records(status, number))
+        .or(in_shapes(status, number))
+        .or(in_systems(status, number))
 }
 
 /// What to do where a run ends with a status and a number.
