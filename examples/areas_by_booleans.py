@@ -4,13 +4,13 @@
     python3 areas_by_booleans.py LAYOUT MAP
     klayout -b -r areas_by_booleans.py -rd path=LAYOUT -rd map=MAP
 
-MAP is a layer map; terminals in it are passed over. The first call needs KLayout's module for Python, the second the
-editor. It prints one line for each area of shorts and of via blocks, as `short m1 3 32`.
+MAP is a layer map, of radii or of sides; terminals in it are passed over. The first call needs KLayout's module for
+Python, the second the editor. It prints the beginning of each row of shorts and of via blocks, as `short m1 r=3 area=32`.
 
 A net is what overlaps or shares a part of an edge, on one metal or through a cut that lies in both of its metals. Each
-net is grown by the radius, and what two nets or more have then is the area of shorts. A cluster is all that a cut joins
-of one piece below and one above; the centres from which a square covers its bounds are a rectangle, and the union of
-these is the area of blocks.
+net is grown by as many cells as a defect reaches, and what two nets or more have then is the area of shorts. A cluster is
+all that a cut joins of one piece below and one above; the centres from which a defect covers its bounds are a rectangle,
+and the union of these is the area of blocks.
 """
 import itertools
 import sys
@@ -100,39 +100,56 @@ class Design:
             self.joined[passed] = piece
         return piece
 
-    def shorts(self, metal, radius):
-        """The number of cells near two nets of the metal."""
+    def shorts(self, metal, defect):
+        """The number of cells at which the defect touches two nets of the metal."""
         nets = {}
         for number, polygon in enumerate(self.metals[metal].polygons):
             nets.setdefault(self.net(metal, number), db.Region()).insert(polygon)
         near = db.Region()
         for net in nets.values():
-            near += net.sized(radius).merged()
+            near += net.sized(defect.touched).merged()
         near.merge(False, 2)
         return near.area()
 
-    def blocks(self, cut, radius):
-        """The number of cells from which a square covers a whole cluster."""
+    def blocks(self, cut, defect):
+        """The number of cells at which the defect covers a whole cluster."""
         centres = db.Region()
+        beside = defect.covered + 1
         for box in self.boxes[cut]:
-            left, right = box.right - radius, box.left + radius
-            low, high = box.top - radius, box.bottom + radius
+            left, right = box.right - beside, box.left + beside
+            low, high = box.top - beside, box.bottom + beside
             if left < right and low < high:
                 centres.insert(db.Box(left, low, right, high))
         return centres.merged().area()
 
 
+class Defect:
+    """How far from its own cell, along both axes, the cells are that a defect touches, and those that it covers."""
+
+    def __init__(self, measure, size):
+        self.name = f"{measure[0]}={size}"
+        side = 2 * size if measure == "radii" else size
+        if side % 2:
+            # It is made of whole cells: its own, and as many on each side of it.
+            self.touched = self.covered = (side - 1) // 2
+        else:
+            # Its rim cuts the cells that are half a side away. All before them it has wholly.
+            self.touched, self.covered = side // 2, side // 2 - 1
+
+
 def areas(path, map_path):
-    """One line for each area."""
+    """The beginning of each row."""
     layout = db.Layout()
     layout.read(path)
     with open(map_path, "rb") as file:
         layer_map = tomllib.load(file)
     design = Design(layout, layer_map)
-    for metal, radius in itertools.product(layer_map["metal"], layer_map["radii"]):
-        yield f"short {metal['name']} {radius} {design.shorts(metal['name'], radius)}"
-    for cut, radius in itertools.product(layer_map.get("cut", []), layer_map["radii"]):
-        yield f"via {cut['name']} {radius} {design.blocks(cut['name'], radius)}"
+    measure = "sides" if layer_map["version"] == 2 else "radii"
+    defects = [Defect(measure, size) for size in layer_map[measure]]
+    for metal, defect in itertools.product(layer_map["metal"], defects):
+        yield f"short {metal['name']} {defect.name} area={design.shorts(metal['name'], defect)}"
+    for cut, defect in itertools.product(layer_map.get("cut", []), defects):
+        yield f"via {cut['name']} {defect.name} area={design.blocks(cut['name'], defect)}"
 
 
 if __name__ == "__main__":

@@ -1,10 +1,11 @@
 #!/usr/bin/env python3
 """Draws a report as curves A(r): `./critarea WORDS | examples/plot_report.py [NANOMETRES] > curves.svg`.
 
-It reads the report and prints a picture, SVG, with a curve for each kind of fault on each metal or cut: area over radius,
-both on scales of powers of ten. Areas of 0 have no place there and are left out, and so is a curve without others. With
-the length of a database unit in nanometres, which `./critarea --explain` tells, radii are in µm and areas in µm², and
-else both are in database units. Shorts are drawn as full lines, opens dashed, and via blocks dotted.
+It reads the report and prints a picture, SVG, with a curve for each kind of fault on each metal or cut: area over size,
+both on scales of powers of ten. A size is a radius or a side, as in the map. Areas of 0 have no place there and are left
+out, and so is a curve without others. With the length of a database unit in nanometres, which `./critarea --explain`
+tells, sizes are in µm and areas in µm², and else both are in database units. Shorts are drawn as full lines, opens
+dashed, and via blocks dotted.
 
 It needs Python 3.8.
 """
@@ -15,21 +16,23 @@ WIDTH, HEIGHT = 760, 480
 LEFT, TOP, RIGHT, BOTTOM = 90, 20, 590, 420
 COLOURS = ["#1f77b4", "#d62728", "#2ca02c", "#9467bd", "#ff7f0e", "#8c564b", "#17becf", "#7f7f7f"]
 DASHES = {"short": "none", "open": "8 4", "via": "2 3"}
+MEASURES = {"r": "radius", "s": "side"}
 
 
 def curves_of(report, unit):
-    """The points of each kind and layer, in the order of the report, and whether the report came to its totals."""
-    curves, has_totals = {}, False
+    """The points of each kind and layer, in the order of the report, what its sizes are, and whether it came to its totals."""
+    curves, measure, has_totals = {}, None, False
     for line in report:
         words = line.split()
         if words[:1] == ["total"]:
             has_totals = True
         elif words and words[0] in DASHES:
-            radius, area = (int(word.split("=")[1]) for word in words[2:4])
+            letter, size = words[2].split("=")
+            measure, area = MEASURES[letter], int(words[3].split("=")[1])
             points = curves.setdefault((words[0], words[1]), [])
             if area > 0:
-                points.append((radius * unit, area * unit * unit))
-    return {name: points for name, points in curves.items() if points}, has_totals
+                points.append((int(size) * unit, area * unit * unit))
+    return {name: points for name, points in curves.items() if points}, measure, has_totals
 
 
 class Scale:
@@ -58,7 +61,7 @@ def line(x1, y1, x2, y2, style):
     return '<line x1="%.1f" y1="%.1f" x2="%.1f" y2="%.1f" %s/>' % (x1, y1, x2, y2, style)
 
 
-def axes(across, up, is_in_units):
+def axes(across, up, measure, is_in_units):
     for mark in across.marks:
         x = across.place(mark)
         yield line(x, TOP, x, BOTTOM, 'stroke="#ddd"')
@@ -68,7 +71,7 @@ def axes(across, up, is_in_units):
         yield line(LEFT, y, RIGHT, y, 'stroke="#ddd"')
         yield text(LEFT - 6, y + 4, "%g" % mark, "end")
     yield '<rect x="%d" y="%d" width="%d" height="%d" fill="none" stroke="#000"/>' % (LEFT, TOP, RIGHT - LEFT, BOTTOM - TOP)
-    yield text((LEFT + RIGHT) / 2, BOTTOM + 42, "radius, database units" if is_in_units else "radius, µm")
+    yield text((LEFT + RIGHT) / 2, BOTTOM + 42, measure + (", database units" if is_in_units else ", µm"))
     middle = (TOP + BOTTOM) / 2
     yield text(22, middle, "area, cells" if is_in_units else "area, µm²", more=' transform="rotate(-90 22 %.1f)"' % middle)
 
@@ -80,7 +83,7 @@ def curve(points, colour, dashes):
         yield '<circle cx="%.1f" cy="%.1f" r="2" fill="%s"/>' % (x, y, colour)
 
 
-def picture(curves, is_in_units):
+def picture(curves, measure, is_in_units):
     points = [point for each in curves.values() for point in each]
     across = Scale([x for x, _ in points], LEFT, RIGHT)
     up = Scale([y for _, y in points], BOTTOM, TOP)
@@ -88,7 +91,7 @@ def picture(curves, is_in_units):
     size = WIDTH, max(HEIGHT, TOP + 18 * len(curves))
     yield '<svg xmlns="http://www.w3.org/2000/svg" width="%d" height="%d" font-family="sans-serif" font-size="12">' % size
     yield '<rect width="100%" height="100%" fill="#fff"/>'
-    yield from axes(across, up, is_in_units)
+    yield from axes(across, up, measure, is_in_units)
     for number, ((kind, layer), of_layer) in enumerate(curves.items()):
         colour, dashes = COLOURS[layers.index(layer) % len(COLOURS)], DASHES[kind]
         yield from curve([(across.place(x), up.place(y)) for x, y in of_layer], colour, dashes)
@@ -106,13 +109,13 @@ def main():
     if nanometres is not None and not 0 < nanometres < math.inf:
         sys.exit("plot_report.py: a database unit is longer than 0 nanometres")
     unit = 1 if nanometres is None else nanometres / 1000
-    curves, has_totals = curves_of(sys.stdin, unit)
+    curves, measure, has_totals = curves_of(sys.stdin, unit)
     if not has_totals:
         sys.exit("plot_report.py: no report came: it has no line that begins with 'total'")
     if not curves:
         sys.exit("plot_report.py: all areas are 0, so there is nothing to draw")
     sys.stdout.reconfigure(encoding="utf-8")
-    for part in picture(curves, nanometres is None):
+    for part in picture(curves, measure, nanometres is None):
         print(part)
 
 

@@ -4,7 +4,8 @@
 Each line has the layout, the map and the top as they were named, the database unit in metres by the layout's record
 UNITS, what `critarea --version` says, and then one row of the report. The totals and the lines behind them are left out:
 they follow from the rows. Where the map or the top is not named, its column is empty. Of a run with `--generate` the
-layout is this word with its number, and has no unit. Areas are numbers of cells, each of which is a square of one unit.
+layout is this word with its number, and has no unit. The measure is `r` where the size is a radius, and `s` where it is a
+whole side. Areas are numbers of cells, each of which is a square of one unit.
 
 Where no totals come, as of a run that was refused, it prints no line and fails. It needs Python 3.8.
 """
@@ -52,7 +53,7 @@ def rows_of(report):
     for line in report:
         words = line.split()
         if words and words[0] in ("short", "open", "via"):
-            rows.append(words[:2] + [word.split("=", 1)[1] for word in words[2:]])
+            rows.append(words[:2] + words[2].split("=", 1) + [word.split("=", 1)[1] for word in words[3:]])
         has_totals = has_totals or words[:1] == ["total"]
     if not has_totals:
         sys.exit("report_as_csv.py: no report came: it has no line that begins with 'total'")
@@ -67,7 +68,7 @@ def main():
     named = [words.layout, "%.9g" % unit_of(words.layout)] if words.layout else ["--generate=" + words.generate, ""]
     about = [named[0], words.map, words.top, named[1], version]
     table = csv.writer(sys.stdout, lineterminator="\n")
-    table.writerow("layout map top unit version kind layer radius area weight sum".split())
+    table.writerow("layout map top unit version kind layer measure size area weight sum".split())
     for row in rows:
         table.writerow(about + row)
 
