@@ -1,5 +1,6 @@
 ghost use Rattle.std.specs.Prelude.{◌≡◌, length};
 
+use super::anchors::are_cells;
 use super::nets::{ACROSS, CUTS, STRIPES, Shapes, nets_with};
 use geo_core::{Cell, Rect};
 use lists::NoMemory;
@@ -330,7 +331,9 @@ fn have_the_wire(rects: &[Rect]) -> bool {
 /// Whether the one island is the wire with its ends.
 fn are_the_wire(islands: &[Island]) -> bool {
     match islands {
-        [island] => { have_the_wire(island.pieces.as_slice()) && island.anchors.as_slice() == ENDS }
+        [island] => {
+            have_the_wire(island.pieces.as_slice()) && are_cells(island.anchors.as_slice(), ENDS)
+        }
         _ => false,
     }
 }

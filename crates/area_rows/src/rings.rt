@@ -1,6 +1,6 @@
 //! What the half squares round a defect tell of an island.
 
-use crate::opens::drawn::{CORNER, Drawn, FRAME, NECK, Spot, WIRE, islands_of};
+use crate::opens::drawn::{CORNER, Drawn, FRAME, NECK, Place, WIRE, islands_of};
 use fault_model::Island;
 use geo_core::Cell;
 use ring_test::{RingAnswer, ring};
@@ -8,7 +8,7 @@ use samples::sides::are_near;
 use std::alloc::Global;
 
 /// What is drawn, a side, a cell, and what the ring round the defect there tells.
-type Row = (Drawn, u32, Spot, RingAnswer);
+type Row = (Drawn, u32, Place, RingAnswer);
 
 const UNTOUCHED: RingAnswer = RingAnswer::Untouched;
 
@@ -87,11 +87,11 @@ const ROWS: &[Row] = &[
 ];
 
 /// Whether the ring tells this of the one island.
-fn tells(alloc: Global, islands: &[Island], side: u32, spot: Spot, wanted: RingAnswer) -> bool {
+fn tells(alloc: Global, islands: &[Island], side: u32, place: Place, wanted: RingAnswer) -> bool {
     if side == 0 || side > 2_000_000 {
         return false;
     }
-    let (i, j) = spot;
+    let (i, j) = place;
     match islands {
         [island] => {
             are_near(island.pieces.as_slice())
@@ -103,9 +103,9 @@ fn tells(alloc: Global, islands: &[Island], side: u32, spot: Spot, wanted: RingA
 
 /// Whether it does of the one that is drawn.
 fn is_right(alloc: Global, row: &Row) -> bool {
-    let (drawn, side, spot, wanted) = row;
+    let (drawn, side, place, wanted) = row;
     match islands_of(alloc, drawn) {
-        Some(islands) => tells(alloc, islands.as_slice(), *side, *spot, *wanted),
+        Some(islands) => tells(alloc, islands.as_slice(), *side, *place, *wanted),
         None => false,
     }
 }

@@ -1,17 +1,28 @@
 -- unions of lists of rectangles: by what the list contains, and as it grows
-use Rattle.std.proofs.Common.{List, [], get_or, inl, inr, length, subst, sym, take, ℕ, ◌++◌, ◌+◌, ◌<◌, ◌∷◌, ◌≡◌, ◌⊎◌, Contains, ◌↔◌}
-use Rattle.lists.proofs.Words.{Contains-append_cases, Contains-append_left, Contains-append_right, Contains-permutation, IsPermutation-sym, IsPermutation}
+use Rattle.std.proofs.Common.{List, [], arith, get_or, inl, inr, length, refl, subst, sym, take, ℕ, ◌++◌, ◌+◌, ◌<◌, ◌∷◌, ◌≡◌, ◌≢◌, ◌⊎◌, Contains, ◌↔◌}
+use Rattle.lists.proofs.Words.{Contains-append_cases, Contains-append_left, Contains-append_right, Contains-permutation, IsPermutation-sym, IsPermutation, ints}
 use Rattle.lists.proofs.Containing.{Contains-head, Contains-none, Contains-one, Contains-slice_get, number_of}
 use Rattle.lists.proofs.Reading.{taken_more}
 use Rattle.geo_core.specs.Plane.{Has, IsInUnion}
 use Rattle.geo_core.specs.declared.plane.Cell.{Cell}
 use Rattle.geo_core.specs.declared.plane.Rect.{Rect}
 
+-- a rectangle has a cell
+pub corner_of : (rect : Rect) → (c : Cell) × Has rect c
+corner_of rect =
+    let a = rect.across.some in let b = rect.up.some in
+    (record { i = rect.x0; j = rect.y0 }, record { across = record { from = omega (arith, ints); before = a }; up = record { from = omega (arith, ints); before = b } })
+
 pub in_union : (rects : List Rect) (rect : Rect) (c : Cell) → Contains rects rect → Has rect c → IsInUnion rects c
 in_union rects rect c among has = let number = number_of rects rect among in record { number = number.0; rect = rect; at = number.1; has = has }
 
 pub among_union : (rects : List Rect) (c : Cell) (u : IsInUnion rects c) → Contains rects u.rect
 among_union rects c u = Contains-slice_get rects u.number u.rect u.at
+
+-- the union of rectangles of which there is one has a cell
+pub cell_of_some : (rects : List Rect) → rects ≢ [] → (c : Cell) × IsInUnion rects c
+cell_of_some [] some = absurd (some refl)
+cell_of_some (rect ∷ rects) some = let c = corner_of rect in (c.0, in_union (rect ∷ rects) rect c.0 (Contains-head rect rects) c.1)
 
 -- what has the rectangles of a list has its union
 pub union_within : (xs ys : List Rect) (c : Cell) → ((x : Rect) → Contains xs x → Contains ys x) → IsInUnion xs c → IsInUnion ys c

@@ -4,7 +4,7 @@ pub use Rattle.fault_model.specs.Areas.{from, or_zero, row, range}
 pub use Rattle.fault_model.specs.FaultConsequences.{IsEquivalenceOn}
 pub use Rattle.fault_model.specs.Faults.{IsShort, IsViaBlock, IsOpen}
 pub use Rattle.fault_model.specs.Halves.{IsOn, IsInFootprint, LiesIn, Neighbours, IsTouched, IsSwallowed, IsHalfOf}
-pub use Rattle.fault_model.specs.IslandLists.{IslandLists}
+pub use Rattle.fault_model.specs.IslandLists.{IslandLists, IsInAnchor, IsIslandOpen}
 pub use Rattle.fault_model.specs.Nets.{Cut, IsSameNetOn, IsContact, Place, Joins, NetStep, along, through, IsOnMetal, NetWalk, IsSameNet}
 pub use Rattle.fault_model.specs.RectChains.{IsAt, TouchAt, AreChained, IsLabelling}
 pub use Rattle.fault_model.specs.Vias.{IsViasOpen}

@@ -1,11 +1,26 @@
-use geo_core::{CellList, RectList};
+ghost use Rattle.std.specs.Prelude.{[], ◌≢◌};
+
+use geo_core::RectList;
+use lists::Items;
 use std::marker::Model;
 
-/// An island of a metal: its rectangles, which are connected, and its anchors, which are different cells of it.
+/// What a terminal has on its island: the cells of at least one rectangle, such as the one cell that a map names, or all
+/// contacts of a via cluster.
+#[derive(Debug, Drop)]
+pub struct Spot {
+    pub rects: RectList,
+    pub ghost some: { rects ≢ [] },
+}
+
+/// Spots, by number.
+pub type Spots = Items<Spot>;
+
+/// An island of a metal: its rectangles, which are connected, and the spots of its anchors, which lie on it. Two spots may
+/// have the same cells.
 #[derive(Debug, Drop)]
 pub struct Island {
     pub pieces: RectList,
-    pub anchors: CellList,
+    pub anchors: Spots,
 }
 
 impl Model for Island {

@@ -1,8 +1,8 @@
 //! What a square defect does in a layout, and what an area is: definitions and laws.
 //!
 //! These are shorts, opens and via blocks, the islands and nets that these speak of, and areas as tallies of cells. The
-//! definitions stand in `specs/`. The code is the type `Island`, whose facts these are, and laws: each is a function
-//! with an empty body, and its contract says what holds of the definitions.
+//! definitions stand in `specs/`. The code is the types `Island` and `Spot`, whose facts these are, and laws: each is a
+//! function with an empty body, and its contract says what holds of the definitions.
 //!
 //! Nothing here knows of texts. Which cells each metal and each cut covers is a parameter,
 //! `covers : ℕ → Cell → Type 0`, which `critical_areas` fills with what lists of rectangles cover, and `critarea_core`
@@ -24,7 +24,7 @@ pub use faults::{
     blocks_are_near_whole_clusters, clusters_are_classes, larger_sides_keep_faults,
     shorts_are_near_two_nets, sides_as_halves,
 };
-pub use island::Island;
+pub use island::{Island, Spot, Spots};
 pub use nets::{
     contacts_join, cuts_without_contacts_join_nothing, islands_lie_in_nets, nets_are_classes,
     nets_keep_to_metals, nets_without_cuts_are_islands,

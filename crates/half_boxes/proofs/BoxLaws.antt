@@ -1,12 +1,12 @@
 -- boxes of half squares by their columns and their rows
 use Rattle.std.proofs.Common.{◌≡◌, refl, sym, subst, ap, ◌∙◌, arith, inl, inr, ◌⊎◌, ℤ, ◌+ℤ◌, ◌↔◌}
 use Rattle.lists.proofs.Words.{ints}
-use Rattle.geo_core.specs.Plane.{IsIn, IntervalsOverlap, IntervalsTouch, IsPartOf, Has}
+use Rattle.geo_core.specs.Plane.{IsIn, IntervalsOverlap, IntervalsTouch, IsPartOf, IsIntervalJoin, Has}
 use Rattle.geo_core.specs.declared.plane.Half.{Half}
 use Rattle.geo_core.specs.declared.plane.Rect.{Rect}
 use Rattle.fault_model.specs.FaultNames.{IsOn}
 use Rattle.fault_model.proofs.HalfLaws.{Neighbours-sym, halves_in, whole_in}
-use Rattle.half_boxes.specs.HalfBoxes.{HasHalf, LiesWithin, OverlapHalves, TouchHalves}
+use Rattle.half_boxes.specs.HalfBoxes.{HasHalf, IsBoxJoin, LiesWithin, OverlapHalves, TouchHalves}
 use Rattle.half_boxes.specs.declared.boxes.HalfBox.{HalfBox}
 
 same_half : (p q : Half) → p.u ≡ q.u → p.v ≡ q.v → p ≡ q
@@ -93,3 +93,14 @@ clipped a b common across up h = (
   λ k. let x = (across h.u).0 k.across in let y = (up h.v).0 k.up in (record { across = x.0; up = y.0 }, record { across = x.1; up = y.1 }),
   λ k. record { across = (across h.u).1 (k.0.across, k.1.across); up = (up h.v).1 (k.0.up, k.1.up) },
 )
+
+-- a box that has the columns and the rows of both, and no more than it must
+pub joined : (a b both : HalfBox) → IsIntervalJoin a.columns.low a.columns.high b.columns.low b.columns.high both.columns.low both.columns.high
+    → IsIntervalJoin a.rows.low a.rows.high b.rows.low b.rows.high both.rows.low both.rows.high → IsBoxJoin a b both
+joined a b both across up = record {
+  first = all_in a both across.first up.first;
+  second = all_in b both across.second up.second;
+  least = λ box p q. all_in both box
+      (across.least box.columns.low box.columns.high (columns_in a box p) (columns_in b box q))
+      (up.least box.rows.low box.rows.high (rows_in a box p) (rows_in b box q));
+}

@@ -33,6 +33,12 @@ pub record IsInBoxes (boxes : List HalfBox) (h : Half) : Type 0 where
 abbrev pub LiesWithin : HalfBox → HalfBox → Type 0
 LiesWithin one other = (h : Half) → HasHalf one h → HasHalf other h
 
+-- the least box in which both lie
+pub record IsBoxJoin (one other joined : HalfBox) : Type 0 where
+  pub first : LiesWithin one joined
+  pub second : LiesWithin other joined
+  pub least : (box : HalfBox) → LiesWithin one box → LiesWithin other box → LiesWithin joined box
+
 -- the boxes have a half square in common
 abbrev pub OverlapHalves : HalfBox → HalfBox → Type 0
 OverlapHalves one other = (h : Half) × HasHalf one h × HasHalf other h

@@ -13,7 +13,7 @@ impl HalfBox {
     ghost use Rattle.geo_core.specs.Cells.{Has};
     ghost use Rattle.geo_core.specs.declared.plane.Half.{Half};
     ghost use Rattle.fault_model.specs.Halves.{IsOn};
-    ghost use Rattle.half_boxes.specs.HalfBoxes.{HasHalf, LiesWithin, OverlapHalves, TouchHalves};
+    ghost use Rattle.half_boxes.specs.HalfBoxes.{HasHalf, IsBoxJoin, LiesWithin, OverlapHalves, TouchHalves};
 
     /// The half squares of the rectangle's cells.
     pub fn of_rect(rect: Rect) -> HalfBox
@@ -33,6 +33,16 @@ impl HalfBox {
         let columns = self.columns.clip(other.columns)?;
         let rows = self.rows.clip(other.rows)?;
         Some(HalfBox { columns, rows })
+    }
+
+    /// The least box that has the half squares of both.
+    pub fn join(self, other: HalfBox) -> HalfBox
+        ensures { IsBoxJoin self other result }
+    {
+        HalfBox {
+            columns: self.columns.join(other.columns),
+            rows: self.rows.join(other.rows),
+        }
     }
 
     /// Whether all of its half squares lie in the other box.

@@ -20,7 +20,7 @@ pub struct HalfSpan {
 
 impl HalfSpan {
     ghost use Rattle.std.specs.Prelude.{ℤ, ◌≡◌, ◌+ℤ◌, ◌<ℤ◌, ◌≤ℤ◌, ◌↔◌, IsTrue, IfSome, IfNone};
-    ghost use Rattle.geo_core.specs.Intervals.{IsIn, IntervalsOverlap, IntervalsTouch, IsPartOf};
+    ghost use Rattle.geo_core.specs.Intervals.{IsIn, IntervalsOverlap, IntervalsTouch, IsIntervalJoin, IsPartOf};
 
     /// The half units of these units.
     pub fn of_units(units: Interval) -> HalfSpan
@@ -77,6 +77,16 @@ impl HalfSpan {
             low,
             high: self.high,
         })
+    }
+
+    /// The least span that has the half units of both.
+    pub fn join(self, other: HalfSpan) -> HalfSpan
+        ensures { IsIntervalJoin self.low self.high other.low other.high result.low result.high }
+    {
+        HalfSpan {
+            low: self.low.min(other.low),
+            high: self.high.max(other.high),
+        }
     }
 
     /// Whether there is a common half unit.

@@ -6,8 +6,10 @@ use Rattle.geo_core.specs.Plane.{Has, IsInUnion}
 use Rattle.geo_core.specs.declared.plane.Cell.{Cell}
 use Rattle.geo_core.specs.declared.plane.Rect.{Rect}
 use Rattle.lists.specs.Differing.{AreDifferent}
-use Rattle.net_extract.specs.AnchoredIslands.{rects_of_island, anchors_of_island, IsIslandNumbered, AreAnchoredIslands, AreDifferentCarried}
+use Rattle.net_extract.specs.AnchoredIslands.{rects_of_island, anchors_of_island, IsSpotOf, IsIslandNumbered, AreAnchoredIslands, AreDifferentCarried}
+use Rattle.net_extract.specs.inside.Anchoring.{MayBeCovered}
 use Rattle.fault_model.specs.FaultNames.{IslandLists}
+use Rattle.fault_model.specs.declared.island.Spot.{Spot}
 use Rattle.fault_model.proofs.UnionLaws.{in_union, among_union}
 use Rattle.fault_model.specs.IslandLists.{IsAnchoredIsland}
 use Rattle.net_extract.specs.NetFacts.{AreNets}
@@ -16,7 +18,8 @@ use Rattle.net_extract.specs.declared.pieces.Anchor.{Anchor}
 use Rattle.net_extract.specs.declared.pieces.Piece.{Piece}
 use Rattle.lists.proofs.Pairing.{AllZip-push}
 use Rattle.net_extract.proofs.MadeLaws.{place_of}
-use Rattle.lists.proofs.Containing.{Contains-slice_get, some_item}
+use Rattle.net_extract.proofs.laws.BesideLaws.{back_from}
+use Rattle.lists.proofs.Containing.{Contains-slice_get, all_of_each, some_item}
 use Rattle.lists.proofs.Differing.{AllPairs-map, AllPairs-unmap}
 use Rattle.lists.proofs.Filtering.{Contains-filter, Contains-filter_passes, Contains-from_filter}
 use Rattle.lists.proofs.Mapping.{Contains-map, Contains-map_from}
@@ -94,7 +97,7 @@ module _ (nets : NetLists) (metal : ℕ) where
           (subst (IsIslandCell nets a.anchor.metal a.anchor.island) a.at on)))
 
       -- anchors of one metal are told from one another by their cells
-      cells_differ : AreDifferent cells
+      pub cells_differ : AreDifferent cells
       cells_differ =
           let apart = AllPairs-filter (λ a b. place_of a ≢ place_of b) here nets.anchors (AllPairs-unmap (λ p q. p ≢ q) place_of nets.anchors are.anchors_differ) in
           let all = filter_passes here nets.anchors in
@@ -107,12 +110,14 @@ module _ (nets : NetLists) (metal : ℕ) where
           let pair : ℕ → Cell → ℕ × Cell = λ m c. (m, c) in
           apart i j d before small (ap (λ m. pair m one.cell) (one_on ∙ sym other_on) ∙ ap (pair other.metal) same))
 
-      pub one_island : IsAnchoredIsland (record { pieces = rects; anchors = cells })
-      one_island = record {
+      -- with a spot for the cell of each anchor
+      pub one_island : (spots : List Spot) → AllZip IsSpotOf cells spots → IsAnchoredIsland (record { pieces = rects; anchors = spots })
+      one_island spots zip = record {
         connected = λ p q p_on q_on. within (λ h on. (on.0, on.1, in_rects on.0 on.2)) (are.connected metal number p q (p_on.0, p_on.1, island_cell p_on.0 p_on.2)
             (q_on.0, q_on.1, island_cell q_on.0 q_on.2));
-        on_pieces = on_pieces;
-        anchors_differ = cells_differ;
+        on_pieces = λ spot c among has.
+            let found = back_from IsSpotOf cells spots spot zip among in
+            subst (IsInUnion rects) (sym ((found.2 c).0 has)) (on_pieces found.0 found.1);
       }
 
   -- ---- island by island
@@ -149,13 +154,18 @@ module _ (nets : NetLists) (metal : ℕ) where
       each = each;
     }
 
--- islands that are carried under numbers are connected and have different anchors
+-- the cell of an anchor lies on a piece
+pub may_be_covered : (nets : NetLists) → AreNets nets → All (λ (anchor : Anchor). MayBeCovered anchor.cell) nets.anchors
+may_be_covered nets are = all_of_each (λ (anchor : Anchor). MayBeCovered anchor.cell) nets.anchors (λ anchor among.
+    let on = are.anchored anchor among in
+    (on.piece.rect, on.has))
+
+-- islands that are carried under numbers are connected, and their anchors lie on them
 pub each_island : (nets : NetLists) (metal : ℕ) → AreNets nets → (numbers : List ℕ) (islands : List IslandLists) → AllZip (IsIslandNumbered nets metal) numbers islands → All IsAnchoredIsland islands
 each_island nets metal are [] [] each = All-nil IsAnchoredIsland
 each_island nets metal are [] (island ∷ islands) each = absurd each
 each_island nets metal are (number ∷ numbers) [] each = absurd each
 each_island nets metal are (number ∷ numbers) (island ∷ islands) each =
-    let make : List Rect → List Cell → IslandLists = λ rects cells. record { pieces = rects; anchors = cells } in
-    let same : make (rects_of_island nets metal number) (anchors_of_island nets metal number) ≡ island = ap (λ rects. make rects (anchors_of_island nets metal number)) (sym each.0.pieces)
-    ∙ ap (make island.pieces) (sym each.0.anchors) in
-    All-cons IsAnchoredIsland island islands (subst IsAnchoredIsland same (one_island nets metal number are)) (each_island nets metal are numbers islands each.1)
+    let here = one_island nets metal number are island.anchors each.0.anchors in
+    All-cons IsAnchoredIsland island islands (subst (λ rects. IsAnchoredIsland (record { pieces = rects; anchors = island.anchors })) (sym each.0.pieces) here)
+    (each_island nets metal are numbers islands each.1)

@@ -5,10 +5,10 @@ use Rattle.geo_core.specs.declared.plane.Labelled.{Labelled}
 use Rattle.map_model.specs.declared.layers.Terminal.{Terminal}
 use Rattle.net_extract.specs.inside.LabelledCells.{HasLabelled, AreMeetings}
 use Rattle.net_extract.specs.inside.Numbering.{islands_on}
-use Rattle.net_extract.specs.inside.Anchoring.{IsTerminalAt, AreSpots, Meets, IsMarked, AreFound}
+use Rattle.net_extract.specs.inside.Anchoring.{IsTerminalAt, AreTerminalsOn, Meets, IsMarked, AreFound}
 use Rattle.net_extract.specs.declared.pieces.ContactPiece.{ContactPiece}
 use Rattle.net_extract.proofs.MetalLaws.{before_or_past}
-use Rattle.net_extract.proofs.laws.UnitLaws.{some_cell}
+use Rattle.fault_model.proofs.UnionLaws.{corner_of}
 use Rattle.lists.proofs.Containing.{Contains-none}
 
 -- ---- lists, item by item
@@ -103,14 +103,14 @@ module _ (terminals : List Terminal) (islands : List (List Labelled)) where
     on_none = λ number island terminal t_at at small. absurd (omega arith);
   }
 
-  module _ (metal : ℕ) (old new : List (Option ℕ)) (spots : List Labelled) (met : List ContactPiece) (are : AreFound terminals islands metal old) (are_spots : AreSpots terminals metal spots)
-      (meet : AreMeetings spots (islands_on islands metal) met) (is : IsMarked old met new) where
+  module _ (metal : ℕ) (old new : List (Option ℕ)) (cells : List Labelled) (met : List ContactPiece) (are : AreFound terminals islands metal old) (are_cells : AreTerminalsOn terminals metal cells)
+      (meet : AreMeetings cells (islands_on islands metal) met) (is : IsMarked old met new) where
     -- a terminal's number meets an island exactly where the terminal stands on it
     stands : (number island : ℕ) (terminal : Terminal) → slice_get terminals number ≡ Some terminal → Meets met number island → HasLabelled (islands_on islands terminal.metal) island terminal.cell
     stands number island terminal at m =
-        let cell = some_cell m.meeting.rect in
+        let cell = corner_of m.meeting.rect in
         let both = (meet number island cell.0).0 (record { contact = m.meeting; among = m.among; lower_is = m.lower_is; upper_is = m.upper_is; has = cell.1 }) in
-        let t = are_spots.sound number cell.0 both.0 in
+        let t = are_cells.sound number cell.0 both.0 in
         let t_at = t.numbered in
         let same : t.terminal ≡ terminal = cc (at, t_at) in
         let metal_is = sym t.on_metal ∙ ap (λ (x : Terminal). x.metal) same in
@@ -121,7 +121,7 @@ module _ (terminals : List Terminal) (islands : List (List Labelled)) where
         → Meets met number island
     meets number island terminal at e h =
         let t : IsTerminalAt terminals metal number terminal.cell = record { terminal = terminal; numbered = at; on_metal = e; at = refl } in
-        let m = (meet number island terminal.cell).1 (are_spots.complete number terminal.cell h.labelled.rect t h.has, h) in
+        let m = (meet number island terminal.cell).1 (are_cells.complete number terminal.cell h.labelled.rect t h.has, h) in
         record { meeting = m.contact; among = m.among; lower_is = m.lower_is; upper_is = m.upper_is }
 
     pub one_metal_more : AreFound terminals islands (metal + 1) new

@@ -4,7 +4,7 @@ pub mod MetalLaws
 pub mod MeetingLaws
 pub mod OnceLaws
 pub mod ContactLaws
-pub mod SpotLaws
+pub mod TerminalLaws
 pub mod FoundLaws
 pub mod AnchorLaws
 pub mod WalkLaws

@@ -22,7 +22,7 @@ use Rattle.net_extract.specs.declared.pieces.Anchor.{Anchor}
 use Rattle.net_extract.specs.declared.pieces.ContactPiece.{ContactPiece}
 use Rattle.net_extract.specs.declared.pieces.Piece.{Piece}
 use Rattle.net_extract.proofs.IslandLaws.{got_mapped}
-use Rattle.net_extract.proofs.laws.UnitLaws.{some_cell}
+use Rattle.fault_model.proofs.UnionLaws.{corner_of}
 use Rattle.net_extract.proofs.WalkLaws.{cuts_behind, cut_given, contacts_at, walk_from_links, links_from_walk, keeps_island}
 use Rattle.lists.proofs.Containing.{Contains-none, Contains-slice_get, number_of, some_item}
 use Rattle.lists.proofs.Differing.{AreDifferent-map}
@@ -80,7 +80,7 @@ labels_small lists metals count islands are n e m d m_small j other j_small =
     let same = get_or_default islands m d [] m_small in
     let island = get_or (get_or islands m d) j other in
     let among = subst (λ xs. Contains xs island) same (Contains-get_or (get_or islands m d) j other j_small) in
-    let cell = some_cell island.rect in
+    let cell = corner_of island.rect in
     let small = are.below m island.label cell.0 (record { labelled = island; among = among; carries = refl; has = cell.1 }) in
     omega arith
 

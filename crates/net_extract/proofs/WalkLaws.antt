@@ -22,7 +22,7 @@ use Rattle.net_extract.specs.inside.Numbering.{AreIslandsOf, AreContactLists, Is
 use Rattle.net_extract.specs.declared.pieces.ContactPiece.{ContactPiece}
 use Rattle.lists.proofs.Numbering.{slice_get-enumerate}
 use Rattle.net_extract.proofs.IslandLaws.{got_mapped, got_unmapped}
-use Rattle.net_extract.proofs.laws.UnitLaws.{some_cell}
+use Rattle.fault_model.proofs.UnionLaws.{corner_of}
 use Rattle.lists.proofs.Containing.{Contains-none, Contains-slice_get, number_of, some_item}
 
 -- an item with its number, by its number
@@ -112,7 +112,7 @@ module _ (lists : List (List Rect)) (metals count : ℕ) (islands : List (List L
       let number = number_of contacts l.list l.listed in
       let one_each = lists_are.one_each in
       let cut = some_item given number.0 (let small = slice_get_within contacts number.0 l.list number.1 in omega arith) in
-      let cell = some_cell l.contact.rect in
+      let cell = corner_of l.contact.rect in
       let listed = get_or_from_slice_get contacts number.0 l.list [] number.1 in
       let among = subst (λ xs. Contains xs l.contact) (sym listed) l.among in
       let told = (contacts_at number.0 cut.0 cut.1 i k cell.0).0 (record { contact = l.contact; among = among; lower_is = l.lower_is; upper_is = l.upper_is; has = cell.1 }) in

@@ -3,4 +3,5 @@ pub mod BesideLaws
 pub mod CarryLaws
 pub mod UnitLaws
 pub mod ClusterLaws
+pub mod SpotLaws
 pub mod OpenLaws

@@ -6,7 +6,7 @@ ghost use Rattle.geo_core.specs.declared.plane.Cell.{Cell};
 ghost use Rattle.geo_core.specs.declared.plane.Rect.{Rect as AnyRect};
 ghost use Rattle.map_model.specs.MapView.{terminal_of};
 ghost use Rattle.map_model.specs.declared.limits.TheConstants.{MOST_TERMINALS};
-ghost use Rattle.net_extract.specs.inside.Anchoring.{AreFound, AreSpots, IsAnchorOf, IsMarked, IsOnIsland, IsSpotOf};
+ghost use Rattle.net_extract.specs.inside.Anchoring.{AreFound, AreTerminalsOn, IsAnchorOf, IsMarked, IsOnIsland, IsTerminalOn};
 ghost use Rattle.first_refusal.specs.Answers.{Answers};
 ghost use Rattle.net_extract.specs.Extraction.{off_metal};
 
@@ -59,8 +59,8 @@ fn islands_at(
 {
     let mut found = vec![in alloc; None; terminals.len()]?;
     for metal in 0..islands.len() {
-        let spots = spots_on(alloc, terminals, metal)?;
-        let met = meetings(alloc, &spots, islands[metal].as_slice())?;
+        let cells = terminals_on(alloc, terminals, metal)?;
+        let met = meetings(alloc, &cells, islands[metal].as_slice())?;
         mark(&mut found, &met);
     }
     Ok(found)
@@ -78,21 +78,25 @@ fn mark(found: &mut [Option<usize>], met: &[ContactPiece])
 }
 
 /// The cells of the metal's terminals as rectangles, labelled by the numbers of the terminals.
-fn spots_on(alloc: Global, terminals: &[Terminal], metal: usize) -> Result<Vec<Labelled>, NoMemory>
-    ensures { IfOk result (λ spots. AreSpots terminals.now metal spots.items) }
+fn terminals_on(
+    alloc: Global,
+    terminals: &[Terminal],
+    metal: usize,
+) -> Result<Vec<Labelled>, NoMemory>
+    ensures { IfOk result (λ cells. AreTerminalsOn terminals.now metal cells.items) }
 {
-    let mut spots = Vec::new(alloc);
+    let mut cells = Vec::new(alloc);
     for (number, terminal) in terminals.iter().enumerate() {
-        if let Some(spot) = spot_of(terminal, number, metal) {
-            spots.push(spot)?;
+        if let Some(cell) = terminal_on(terminal, number, metal) {
+            cells.push(cell)?;
         }
     }
-    Ok(spots)
+    Ok(cells)
 }
 
 /// The cell of the terminal as a rectangle, labelled by the terminal's number, if the terminal is on the metal.
-fn spot_of(terminal: &Terminal, number: usize, metal: usize) -> Option<Labelled>
-    ensures { IsSpotOf terminal.now number metal result }
+fn terminal_on(terminal: &Terminal, number: usize, metal: usize) -> Option<Labelled>
+    ensures { IsTerminalOn terminal.now number metal result }
 {
     if terminal.metal as usize != metal {
         return None;

@@ -1,7 +1,11 @@
-ghost use Rattle.std.specs.Prelude.{◌≡◌, ◌==◌, ◌&&◌, IfOk, map, filter};
-ghost use Rattle.net_extract.specs.AnchoredIslands.{AreDifferentCarried};
+ghost use Rattle.std.specs.Prelude.{◌≡◌, ◌==◌, ◌&&◌, All, IfOk, map, filter};
+ghost use Rattle.std.specs.List.{AllZip};
+ghost use Rattle.net_extract.specs.AnchoredIslands.{AreDifferentCarried, IsSpotOf};
+ghost use Rattle.net_extract.specs.inside.Anchoring.{MayBeCovered};
 
 use super::pieces::{Anchor, Piece};
+use super::spots::spots_at;
+use fault_model::Spot;
 use geo_core::{Cell, Rect};
 use lists::NoMemory;
 use std::alloc::Global;
@@ -25,8 +29,23 @@ pub fn islands_carried(
     Ok(numbers)
 }
 
+/// For each of the metal's anchors that carry the island, the spot that has the anchor's cell alone.
+pub fn spots_on(
+    alloc: Global,
+    anchors: &[Anchor],
+    metal: u32,
+    island: usize,
+) -> Result<Vec<Spot>, NoMemory>
+    requires { All (λ anchor. MayBeCovered anchor.cell) anchors.now }
+    ensures { IfOk result (λ spots. AllZip IsSpotOf (map (λ anchor. anchor.cell)
+        (filter (λ anchor. (anchor.metal == metal) && (anchor.island == island)) anchors.now)) spots.items) }
+{
+    let cells = cells_on(alloc, anchors, metal, island)?;
+    spots_at(alloc, &cells)
+}
+
 /// The cells of the metal's anchors that carry the island.
-pub fn cells_on(
+fn cells_on(
     alloc: Global,
     anchors: &[Anchor],
     metal: u32,

@@ -2,9 +2,9 @@
 
 ghost use Rattle.std.specs.Prelude.{ℕ, ◌≡◌, ◌↔◌, Contains, List, Some, slice_get};
 ghost use Rattle.fault_model.specs.Faults.{IsCellsOpen};
-ghost use Rattle.fault_model.specs.IslandLists.{IslandLists};
+ghost use Rattle.fault_model.specs.IslandLists.{IslandLists, IsIslandOpen};
 ghost use Rattle.fault_model.specs.Nets.{Cut};
-ghost use Rattle.geo_core.specs.Unions.{IsCoveredIn, IsInUnion};
+ghost use Rattle.geo_core.specs.Unions.{IsCoveredIn};
 ghost use Rattle.geo_core.specs.declared.plane.Cell.{Cell};
 ghost use Rattle.geo_core.specs.declared.plane.Rect.{Rect};
 ghost use Rattle.map_model.specs.LayerMap.{LayerMap};
@@ -27,6 +27,6 @@ pub fn groups_are_clusters()
 pub fn opens_are_of_islands()
     ensures { (layer_map : LayerMap) (lists : List (List Rect)) (nets : NetLists) (metal : ℕ) (islands : List IslandLists) →
         AreNetsOf layer_map lists nets → AreAnchoredIslands nets metal islands → (s : ℕ) (c : Cell) →
-        ((island : IslandLists) × Contains islands island × IsCellsOpen (IsInUnion island.pieces) (Contains island.anchors) s c)
+        ((island : IslandLists) × Contains islands island × IsIslandOpen island s c)
         ↔ IsCellsOpen (IsCoveredIn lists metal) (λ d. Contains layer_map.terminals (metal, d)) s c }
 {}

@@ -53,6 +53,7 @@ mod nets;
 mod numbers;
 mod pieces;
 mod slimming;
+mod spots;
 
 ghost use Rattle.std.specs.Prelude.{◌≡◌, ◌+◌, IfOk, length, map};
 ghost use Rattle.std.specs.List.{AllZip};

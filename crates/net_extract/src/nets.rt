@@ -1,11 +1,11 @@
 ghost use Rattle.std.specs.Prelude.{◌≡◌, ◌<◌, All, IfOk, length};
 
-use super::carried::{cells_on, islands_carried, rects_on};
+use super::carried::{islands_carried, rects_on, spots_on};
 use super::contact_groups::group_contacts;
 use super::grouped::{by_island, part_of};
 use super::pieces::{Anchor, ContactGroup, ContactList, ContactPiece, Piece, PieceList};
-use fault_model::Island;
-use geo_core::{CellList, RectList};
+use fault_model::{Island, Spots};
+use geo_core::RectList;
 use lists::{Items, NoMemory};
 use std::alloc::Global;
 use std::marker::Model;
@@ -106,9 +106,9 @@ impl Nets {
         self.anchors.as_slice()
     }
 
-    /// The islands of the metal with this number that have two anchors or more, each with its rectangles and with the
-    /// cells of its anchors, which are in the order of the map's terminals. The islands come in no promised order. The
-    /// only error is that no memory is left.
+    /// The islands of the metal with this number that have two anchors or more, each with its rectangles and with a spot
+    /// of one cell for each of its anchors, in the order of the map's terminals. The islands come in no promised order.
+    /// The only error is that no memory is left.
     pub fn islands(&self, alloc: Global, metal: u32) -> Result<Vec<Island>, NoMemory>
         requires { metal < length self.now.pieces }
         ensures islands { IfOk result (λ islands. AreAnchoredIslands self.now metal islands.items) }
@@ -118,12 +118,12 @@ impl Nets {
         let sorted = by_island(alloc, self.pieces(metal))?;
         let mut islands = Vec::new(alloc);
         for number in &numbers {
-            let anchors = cells_on(alloc, self.anchors(), metal, *number)?;
+            let anchors = spots_on(alloc, self.anchors(), metal, *number)?;
             if anchors.len() >= 2 {
                 let pieces = rects_on(alloc, part_of(&sorted, *number), *number)?;
                 islands.push(Island {
                     pieces: RectList::from_vec(pieces),
-                    anchors: CellList::from_vec(anchors),
+                    anchors: Spots::from_vec(anchors),
                 })?;
             }
         }

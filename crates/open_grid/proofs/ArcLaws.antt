@@ -6,6 +6,7 @@ use Rattle.geo_core.specs.declared.plane.Half.{Half}
 use Rattle.geo_core.specs.declared.plane.Rect.{Rect}
 use Rattle.fault_model.specs.FaultNames.{IslandLists, IsInFootprint}
 use Rattle.fault_model.specs.IslandLists.{IsAnchoredIsland}
+use Rattle.fault_model.proofs.UnionLaws.{corner_of}
 use Rattle.half_boxes.specs.Footprints.{IsReached}
 use Rattle.half_boxes.specs.HalfBoxes.{HasHalf, IsInBoxes, LiesWithin}
 use Rattle.half_boxes.specs.declared.boxes.HalfBox.{HalfBox}
@@ -16,7 +17,6 @@ use Rattle.open_grid.specs.inside.ZoneNeeds.{StandsFor}
 use Rattle.open_grid.specs.inside.ZoneSteps.{IsToldOf}
 use Rattle.open_grid.specs.declared.looked.Looked.{Looked}
 use Rattle.open_grid.specs.declared.looked.Told.TheVariants.{Never}
-use Rattle.open_grid.proofs.ToldLaws.{corner_of}
 
 -- the law of one arc
 abbrev pub OneArcSpares : Type 0
@@ -48,8 +48,8 @@ module _ (zone : Rect) (side : ℕ) (looked : Looked) (island : IslandLists) (st
 
   none_lost : ((one : HalfBox) → Contains looked.anchors one → LiesWithin one reach → ⊥) → LosesAnchor island (hole_of reach) → ⊥
   none_lost outside lost =
-      let b = stands.has_reached lost.anchor lost.among (λ h lies. (reach_is h).0 (in_reach h (lost.covered h lies))) in
-      outside b.one b.among (λ h has. in_reach h (lost.covered h ((b.same h).0 has)))
+      let b = stands.has_reached lost.spot lost.among (λ h lies. (reach_is h).0 (in_reach h (lost.covered h lies))) in
+      outside b.one b.among ((b.hull.lies reach).1 (λ h lies. in_reach h (lost.covered h lies)))
 
   pub one_arc_never : OneArcSpares → ((one : HalfBox) → Contains looked.anchors one → LiesWithin one reach → ⊥) → HasOneArc (hole_of reach) (IsInBoxes looked.near) → IsToldOf zone side island Never
   one_arc_never law outside arc c has severed =

@@ -1,23 +1,25 @@
--- the boxes of an island, and which of them may matter
-use Rattle.std.proofs.Common.{ℕ, ◌+◌, ◌<◌, ◌≤◌, ◌≡◌, refl, sym, subst, ◌∙◌, List, [], ◌∷◌, ◌++◌, length, take, take_all, get_or, inl, inr, ◌⊎◌, ◌↔◌, arith, ℤ, pos, ◌+ℤ◌, Contains, Option}
-use Rattle.lists.proofs.Words.{ints, Contains-append_left, Contains-push, Contains-push_cases, take_more}
-use Rattle.lists.proofs.Containing.{Contains-none, Contains-take_cases}
-use Rattle.geo_core.specs.Plane.{Has, IsIn, IntervalsTouch}
+-- the boxes of an island and the hulls of its spots, and which of them may matter
+use Rattle.std.proofs.Common.{ℕ, ◌+◌, ◌<◌, ◌≤◌, ◌≡◌, ◌≢◌, refl, sym, subst, ◌∙◌, List, [], ◌∷◌, ◌++◌, length, take, take_all, get_or, inl, inr, ◌⊎◌, ◌↔◌, arith, ℤ, pos, ◌+ℤ◌, Contains, Option}
+use Rattle.lists.proofs.Words.{ints, AllZip, Contains-append_left, Contains-push, Contains-push_cases, take_more}
+use Rattle.lists.proofs.Containing.{Contains-cons_cases, Contains-head, Contains-none, Contains-tail, Contains-take_cases}
+use Rattle.lists.proofs.Reading.{taken_more}
+use Rattle.geo_core.specs.Plane.{Has, IsIn, IsInUnion, IntervalsTouch}
 use Rattle.geo_core.specs.Intervals.{IsWithin}
 use Rattle.geo_core.specs.declared.plane.Cell.{Cell}
 use Rattle.geo_core.specs.declared.plane.Half.{Half}
 use Rattle.geo_core.specs.declared.plane.Rect.{Rect}
 use Rattle.geo_core.proofs.RectLaws.{same_cell}
 use Rattle.geo_core.proofs.IntervalLaws.{touching}
-use Rattle.fault_model.specs.FaultNames.{IsOn, IslandLists, LiesIn}
+use Rattle.fault_model.specs.FaultNames.{IsOn, IslandLists}
 use Rattle.fault_model.specs.IslandLists.{IsAnchoredIsland}
-use Rattle.fault_model.proofs.UnionLaws.{union_more}
-use Rattle.half_boxes.specs.HalfBoxes.{HasHalf, IsInBoxes, LiesWithin}
+use Rattle.fault_model.specs.declared.island.Spot.{Spot}
+use Rattle.fault_model.proofs.UnionLaws.{in_union, union_one, union_push, union_within}
+use Rattle.half_boxes.specs.HalfBoxes.{HasHalf, IsBoxJoin, LiesWithin}
 use Rattle.half_boxes.specs.declared.boxes.HalfBox.{HalfBox}
 use Rattle.half_boxes.specs.declared.span.HalfSpan.{HalfSpan}
 use Rattle.severing.specs.Changes.{HasNear}
-use Rattle.open_grid.specs.inside.ZoneNeeds.{HasBoxOf, HaveAnchorBoxes, HaveReached}
-use Rattle.open_grid.specs.inside.ZoneSteps.{AreOf, GainsCells, HaveBoxesOf, HavePieceBoxes, KeepsNear, KeepsWithin, MayNotMatter}
+use Rattle.open_grid.specs.inside.ZoneNeeds.{HasHullOf, HaveAnchorBoxes, HaveReached, IsHullOf}
+use Rattle.open_grid.specs.inside.ZoneSteps.{AreOf, GainsBoxes, HaveBoxesOf, IsOfSpots, KeepsNear, KeepsWithin, MayNotMatter}
 
 -- ---- cells
 
@@ -31,86 +33,159 @@ is_cell rect cell left right bottom top c = (
   }),
 )
 
--- the half squares of that rectangle are those of the cell
-pub box_is : (one : HalfBox) (zone : Rect) (cell : Cell) → ((h : Half) → HasHalf one h ↔ IsOn (Has zone) h) → ((c : Cell) → Has zone c ↔ (c ≡ cell)) → (h : Half) → HasHalf one h ↔ LiesIn h cell
-box_is one zone cell same alone h = (
-  λ has. let on = (same h).0 has in subst (LiesIn h) ((alone on.0).0 on.2) on.1,
-  λ lies. (same h).1 (cell, lies, (alone cell).1 refl),
-)
-
 -- ---- list by list
 
-module _ {set : Half → Type 0} where
-  pub grown : (old more : List HalfBox) → HasBoxOf old set → HasBoxOf (old ++ more) set
-  grown old more b = record { one = b.one; among = Contains-append_left old more b.one b.among; same = b.same }
+-- what is among the items so far of a list, and one more
+among_more : {X : Type 0} (xs : List X) (i : ℕ) (x : X) → i < length xs → x ≡ get_or xs i x → (y : X) → Contains (take (i + 1) xs) y ↔ (Contains (take i xs) y ⊎ (x ≡ y))
+among_more xs i x small is y = (
+  λ among. elim (Contains-take_cases xs i x y small among) [ inl before ↦ inl before | inr last ↦ inr (is ∙ last) ],
+  λ h. subst (λ ys. Contains ys y) (sym (taken_more xs i x small is)) (elim h [
+    | inl before ↦ Contains-append_left (take i xs) (x ∷ []) y before
+    | inr e ↦ subst (Contains (take i xs ++ x ∷ [])) e (Contains-push (take i xs) x)
+  ]),
+)
 
-  pub last_box : (old : List HalfBox) (one : HalfBox) → ((h : Half) → HasHalf one h ↔ set h) → HasBoxOf (old ++ one ∷ []) set
-  last_box old one same = record { one = one; among = Contains-push old one; same = same }
+-- ---- boxes of rectangles
 
-pub no_pieces : HavePieceBoxes [] []
-no_pieces = record { each = λ piece among. absurd (Contains-none among); only = λ h b. absurd (Contains-none b.among) }
+gains_none : (gained : Rect → Type 0) (boxes : List HalfBox) → ((rect : Rect) → gained rect → ⊥) → GainsBoxes gained boxes boxes
+gains_none gained boxes none = record { kept = λ one among. among; each = λ rect has. absurd (none rect has); only = λ h b. inl b }
 
--- what a list of boxes has, or its last box
-last_or_before : (old new : List HalfBox) (one : HalfBox) (h : Half) → new ≡ old ++ one ∷ [] → IsInBoxes new h → IsInBoxes old h ⊎ HasHalf one h
-last_or_before old new one h e b = elim (Contains-push_cases old one b.one (subst (λ xs. Contains xs b.one) e b.among)) [
-  | inl before ↦ inl (record { one = b.one; among = before; has = b.has })
-  | inr is ↦ inr (subst (λ o. HasHalf o h) (sym is) b.has)
-]
-
-pub piece_more : (pieces : List Rect) (i : ℕ) (piece : Rect) (old new : List HalfBox) (one : HalfBox) → i < length pieces → piece ≡ get_or pieces i piece → new ≡ old ++ one ∷ []
-    → ((h : Half) → HasHalf one h ↔ IsOn (Has piece) h) → HavePieceBoxes (take i pieces) old → HavePieceBoxes (take (i + 1) pieces) new
-piece_more pieces i piece old new one small is e same so_far = record {
-  each = λ other among. subst (λ xs. HasBoxOf xs (IsOn (Has other))) (sym e) (elim (Contains-take_cases pieces i piece other small among) [
-    | inl before ↦ grown old (one ∷ []) (so_far.each other before)
-    | inr last ↦ subst (λ p. HasBoxOf (old ++ one ∷ []) (IsOn (Has p))) (is ∙ last) (last_box old one same)
-  ]);
-  only = λ h b. elim (last_or_before old new one h e b) [
-    | inl before ↦ let o = so_far.only h before in (o.0, o.1, (union_more o.0 pieces i piece small is).1 (inl o.2))
-    | inr has ↦ let o = (same h).0 has in (o.0, o.1, (union_more o.0 pieces i piece small is).1 (inr o.2))
+gains_one : (old : List HalfBox) (rect : Rect) (one : HalfBox) → ((h : Half) → HasHalf one h ↔ IsOn (Has rect) h) → GainsBoxes (λ other. rect ≡ other) old (old ++ one ∷ [])
+gains_one old rect one same = record {
+  kept = Contains-append_left old (one ∷ []);
+  each = λ other is. record { one = one; among = Contains-push old one; same = subst (λ (r : Rect). (h : Half) → HasHalf one h ↔ IsOn (Has r) h) is same };
+  only = λ h b. elim (Contains-push_cases old one b.one b.among) [
+    | inl before ↦ inl (record { one = b.one; among = before; has = b.has })
+    | inr is ↦ inr (rect, refl, (same h).0 (subst (λ o. HasHalf o h) (sym is) b.has))
   ];
 }
 
-pub pieces_all : (pieces : List Rect) (i : ℕ) (boxes : List HalfBox) → length pieces ≤ i → HavePieceBoxes (take i pieces) boxes → HavePieceBoxes pieces boxes
-pieces_all pieces i boxes past all = subst (λ ps. HavePieceBoxes ps boxes) (take_all i pieces past) all
+-- one gain after the other
+gains_on : (first second both : Rect → Type 0) (old mid new : List HalfBox) → ((rect : Rect) → both rect ↔ (first rect ⊎ second rect)) → GainsBoxes first old mid → GainsBoxes second mid new
+    → GainsBoxes both old new
+gains_on first second both old mid new either one other = record {
+  kept = λ box among. other.kept box (one.kept box among);
+  each = λ rect gained. elim ((either rect).0 gained) [
+    | inl early ↦ let b = one.each rect early in record { one = b.one; among = other.kept b.one b.among; same = b.same }
+    | inr late ↦ other.each rect late
+  ];
+  only = λ h b. elim (other.only h b) [
+    | inl in_mid ↦ elim (one.only h in_mid) [ inl before ↦ inl before | inr (rect, early, on) ↦ inr (rect, (either rect).1 (inl early), on) ]
+    | inr (rect, late, on) ↦ inr (rect, (either rect).1 (inr late), on)
+  ];
+}
 
-pub no_cells : (boxes : List HalfBox) → GainsCells [] boxes boxes
-no_cells boxes = record { kept = λ one h. h; gained = λ cell rect among. absurd (Contains-none among); only = λ h b. inl b }
+pub no_rects : (boxes : List HalfBox) → GainsBoxes (Contains []) boxes boxes
+no_rects boxes = gains_none (Contains []) boxes (λ rect among. Contains-none among)
 
-module _ (cells : List Cell) (i : ℕ) (d : Cell) (old mid : List HalfBox) (small : i < length cells) (so_far : GainsCells (take i cells) old mid) where
-  here : Contains (take (i + 1) cells) (get_or cells i d)
-  here = subst (λ cs. Contains cs (get_or cells i d)) (sym (take_more cells i d small)) (Contains-push (take i cells) (get_or cells i d))
+pub rects_more : (rects : List Rect) (i : ℕ) (rect : Rect) (one : HalfBox) (old mid new : List HalfBox) → i < length rects → rect ≡ get_or rects i rect
+    → ((h : Half) → HasHalf one h ↔ IsOn (Has rect) h) → new ≡ mid ++ one ∷ [] → GainsBoxes (Contains (take i rects)) old mid → GainsBoxes (Contains (take (i + 1) rects)) old new
+rects_more rects i rect one old mid new small is same e so_far =
+    gains_on (Contains (take i rects)) (λ other. rect ≡ other) (Contains (take (i + 1) rects)) old mid new (among_more rects i rect small is) so_far
+    (subst (GainsBoxes (λ other. rect ≡ other) mid) (sym e) (gains_one mid rect one same))
 
-  on_so_far : (h : Half) → IsInBoxes old h ⊎ IsOn (Contains (take i cells)) h → IsInBoxes old h ⊎ IsOn (Contains (take (i + 1) cells)) h
-  on_so_far h either = elim either [
-    | inl before ↦ inl before
-    | inr (c, lies, among) ↦ inr (c, lies, subst (λ cs. Contains cs c) (sym (take_more cells i d small)) (Contains-append_left (take i cells) (get_or cells i d ∷ []) c among))
-  ]
+pub no_spots : (boxes : List HalfBox) → GainsBoxes (IsOfSpots []) boxes boxes
+no_spots boxes = gains_none (IsOfSpots []) boxes (λ rect (spot, among, listed). Contains-none among)
 
-  pub cell_more : (new : List HalfBox) (one : HalfBox) → new ≡ mid ++ one ∷ [] → ((h : Half) → HasHalf one h ↔ LiesIn h (get_or cells i d)) → GainsCells (take (i + 1) cells) old new
-  cell_more new one e same = subst (GainsCells (take (i + 1) cells) old) (sym e) (record {
-    kept = λ other h. Contains-append_left mid (one ∷ []) other (so_far.kept other h);
-    gained = λ other rect among has. elim (Contains-take_cases cells i d other small among) [
-      | inl before ↦ grown mid (one ∷ []) (so_far.gained other rect before has)
-      | inr last ↦ subst (λ c. HasBoxOf (mid ++ one ∷ []) (λ h. LiesIn h c)) last (last_box mid one same)
-    ];
-    only = λ h b. elim (last_or_before mid (mid ++ one ∷ []) one h refl b) [
-      | inl before ↦ on_so_far h (so_far.only h before)
-      | inr has ↦ inr (get_or cells i d, (same h).0 has, here)
-    ];
-  })
+pub spots_more : (spots : List Spot) (i : ℕ) (spot : Spot) (old mid new : List HalfBox) → i < length spots → spot ≡ get_or spots i spot → GainsBoxes (IsOfSpots (take i spots)) old mid
+    → GainsBoxes (Contains spot.rects) mid new → GainsBoxes (IsOfSpots (take (i + 1) spots)) old new
+spots_more spots i spot old mid new small is so_far last =
+    gains_on (IsOfSpots (take i spots)) (Contains spot.rects) (IsOfSpots (take (i + 1) spots)) old mid new of_more so_far last
+  where
+    of_more : (rect : Rect) → IsOfSpots (take (i + 1) spots) rect ↔ (IsOfSpots (take i spots) rect ⊎ Contains spot.rects rect)
+    of_more rect = (
+      λ (other, among, listed). elim ((among_more spots i spot small is other).0 among) [
+        | inl before ↦ inl (other, before, listed)
+        | inr e ↦ inr (subst (λ (s : Spot). Contains s.rects rect) (sym e) listed)
+      ],
+      λ h. elim h [
+        | inl (other, before, listed) ↦ (other, (among_more spots i spot small is other).1 (inl before), listed)
+        | inr listed ↦ (spot, (among_more spots i spot small is spot).1 (inr refl), listed)
+      ],
+    )
 
-  pub cell_past : ((rect : Rect) → Has rect (get_or cells i d) → ⊥) → GainsCells (take (i + 1) cells) old mid
-  cell_past far = record {
-    kept = so_far.kept;
-    gained = λ other rect among has. elim (Contains-take_cases cells i d other small among) [
-      | inl before ↦ so_far.gained other rect before has
-      | inr last ↦ absurd (far rect (subst (Has rect) (sym last) has))
-    ];
-    only = λ h b. on_so_far h (so_far.only h b);
+-- the spots of an island lie on it
+pub boxes_of_island : (island : IslandLists) (pieces boxes : List HalfBox) → IsAnchoredIsland island → GainsBoxes (Contains island.pieces) [] pieces
+    → GainsBoxes (IsOfSpots island.anchors) pieces boxes → HaveBoxesOf island boxes
+boxes_of_island island pieces boxes facts first second = record {
+  pieces = λ piece among. let b = first.each piece among in record { one = b.one; among = second.kept b.one b.among; same = b.same };
+  anchors = second.each;
+  on_island = λ h b. elim (second.only h b) [
+    | inl before ↦ elim (first.only h before) [
+      | inl none ↦ absurd (Contains-none none.among)
+      | inr (rect, listed, (c, lies, has)) ↦ (c, lies, in_union island.pieces rect c listed has)
+    ]
+    | inr (rect, (spot, among, listed), (c, lies, has)) ↦ (c, lies, facts.on_pieces spot c among (in_union spot.rects rect c listed has))
+  ];
+}
+
+-- ---- hulls
+
+pub hull_one : (rect : Rect) (one : HalfBox) → ((h : Half) → HasHalf one h ↔ IsOn (Has rect) h) → IsHullOf (rect ∷ []) one
+hull_one rect one same = record {
+  lies = λ box. (
+    λ inside h (c, lies, u). inside h ((same h).1 (c, lies, (union_one c rect).0 u)),
+    λ all h has. let on = (same h).0 has in all h (on.0, on.1, (union_one on.0 rect).1 on.2),
+  );
+}
+
+-- a hull that is joined with the box of one rectangle more
+hull_joined : (rects : List Rect) (rect : Rect) (hull one both : HalfBox) → ((h : Half) → HasHalf one h ↔ IsOn (Has rect) h) → IsBoxJoin hull one both → IsHullOf rects hull
+    → IsHullOf (rects ++ rect ∷ []) both
+hull_joined rects rect hull one both same join so_far = record {
+  lies = λ box. (
+    λ inside h (c, lies, u). elim ((union_push c rects rect).0 u) [
+      | inl before ↦ (so_far.lies box).0 (λ g has. inside g (join.first g has)) h (c, lies, before)
+      | inr has ↦ inside h (join.second h ((same h).1 (c, lies, has)))
+    ],
+    λ all. join.least box
+        ((so_far.lies box).1 (λ h (c, lies, u). all h (c, lies, (union_push c rects rect).1 (inl u))))
+        (λ h has. let on = (same h).0 has in all h (on.0, on.1, (union_push on.0 rects rect).1 (inr on.2))),
+  );
+}
+
+module _ (first : Rect) (rects : List Rect) (i : ℕ) where
+  pub hull_more : (rect : Rect) (hull one both : HalfBox) → i < length rects → rect ≡ get_or rects i rect → ((h : Half) → HasHalf one h ↔ IsOn (Has rect) h) → IsBoxJoin hull one both
+      → IsHullOf (first ∷ take i rects) hull → IsHullOf (first ∷ take (i + 1) rects) both
+  hull_more rect hull one both small is same join so_far =
+      subst (λ xs. IsHullOf (first ∷ xs) both) (sym (taken_more rects i rect small is)) (hull_joined (first ∷ take i rects) rect hull one both same join so_far)
+
+  -- a rectangle that comes twice adds nothing
+  pub hull_all : (hull : HalfBox) → length rects ≤ i → Contains rects first → IsHullOf (first ∷ take i rects) hull → IsHullOf rects hull
+  hull_all hull past among so_far = record {
+    lies = λ box. (
+      λ inside h (c, lies, u). (all.lies box).0 inside h (c, lies, more c u),
+      λ inside. (all.lies box).1 (λ h (c, lies, u). inside h (c, lies, fewer c u)),
+    );
   }
+    where
+      all : IsHullOf (first ∷ rects) hull
+      all = subst (λ xs. IsHullOf (first ∷ xs) hull) (take_all i rects past) so_far
 
-pub cells_all : (cells : List Cell) (i : ℕ) (old new : List HalfBox) → length cells ≤ i → GainsCells (take i cells) old new → GainsCells cells old new
-cells_all cells i old new past all = subst (λ cs. GainsCells cs old new) (take_all i cells past) all
+      more : (c : Cell) → IsInUnion rects c → IsInUnion (first ∷ rects) c
+      more c = union_within rects (first ∷ rects) c (Contains-tail first rects)
+
+      fewer : (c : Cell) → IsInUnion (first ∷ rects) c → IsInUnion rects c
+      fewer c = union_within (first ∷ rects) rects c (λ x listed. elim (Contains-cons_cases first rects x listed) [
+        | inl is ↦ subst (Contains rects) is among
+        | inr rest ↦ rest
+      ])
+
+-- what is not empty has a first item
+pub has_first : {X : Type 0} (xs : List X) → xs ≢ [] → 0 < length xs
+has_first [] some = absurd (some refl)
+has_first (x ∷ xs) some = omega arith
+
+-- of the hulls of spots one is that of each
+hull_among : (spots : List Spot) (boxes : List HalfBox) → AllZip (λ (spot : Spot). IsHullOf spot.rects) spots boxes → (spot : Spot) → Contains spots spot → HasHullOf boxes spot.rects
+hull_among [] boxes hulls spot among = absurd (Contains-none among)
+hull_among (first ∷ spots) [] hulls spot among = absurd hulls
+hull_among (first ∷ spots) (one ∷ boxes) hulls spot among = elim (Contains-cons_cases first spots spot among) [
+  | inl is ↦ record { one = one; among = Contains-head one boxes; hull = subst (λ (s : Spot). IsHullOf s.rects one) is hulls.0 }
+  | inr rest ↦
+      let b = hull_among spots boxes hulls.1 spot rest in
+      record { one = b.one; among = Contains-tail one boxes b.one b.among; hull = b.hull }
+]
 
 -- ---- boxes that may matter
 
@@ -191,20 +266,9 @@ module _ (core : Option HalfBox) (reach one : HalfBox) where
 pub all_near : (island : IslandLists) (boxes : List HalfBox) (zone : Rect) (side : ℕ) → HaveBoxesOf island boxes → HasNear island zone side boxes
 all_near island boxes zone side have = record {
   pieces = λ piece among. let b = have.pieces piece among in record { one = b.one; same = b.same; noted = inl b.among };
-  anchors = λ cell among. let b = have.anchors cell among in record { one = b.one; same = b.same; noted = inl b.among };
+  anchors = λ spot rect among listed. let b = have.anchors rect (spot, among, listed) in record { one = b.one; same = b.same; noted = inl b.among };
 }
 
--- and what has boxes of the anchors, has those of the anchors that defects cover
+-- and what has the hulls of the spots, has those of the spots that defects cover
 pub all_reached : (island : IslandLists) (boxes : List HalfBox) (zone : Rect) (side : ℕ) → HaveAnchorBoxes island boxes → HaveReached island zone side boxes
-all_reached island boxes zone side have anchor among lies = have anchor among
-
--- an anchor lies on a rectangle
-pub anchors_of_island : (island : IslandLists) (old new : List HalfBox) → IsAnchoredIsland island → GainsCells island.anchors old new → HaveAnchorBoxes island new
-anchors_of_island island old new facts gains cell among = let u = facts.on_pieces cell among in gains.gained cell u.rect among u.has
-
-pub boxes_of_island : (island : IslandLists) (old new : List HalfBox) → IsAnchoredIsland island → HavePieceBoxes island.pieces old → GainsCells island.anchors old new → HaveBoxesOf island new
-boxes_of_island island old new facts pieces gains = record {
-  pieces = λ piece among. let b = pieces.each piece among in record { one = b.one; among = gains.kept b.one b.among; same = b.same };
-  anchors = anchors_of_island island old new facts gains;
-  on_island = λ h b. elim (gains.only h b) [ inl before ↦ pieces.only h before | inr (c, lies, among) ↦ (c, lies, facts.on_pieces c among) ];
-}
+all_reached island boxes zone side hulls spot among lies = hull_among island.anchors boxes hulls spot among

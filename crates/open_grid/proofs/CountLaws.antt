@@ -1,16 +1,20 @@
 -- counts of searches: where a ring has many arcs, and how counts of parts of a zone go on from one another
-use Rattle.std.proofs.Common.{ℕ, ◌+◌, ◌<◌, ◌≤◌, ◌≡◌, sym, subst, ◌∙◌, arith, List, [], length, take, take_all, get_or, inl, inr, Contains, Bool, IsTrue, ℤ, pos, ◌+ℤ◌}
+use Rattle.std.proofs.Common.{ℕ, ◌+◌, ◌<◌, ◌≤◌, ◌≡◌, sym, subst, ◌∙◌, arith, List, [], length, take, take_all, get_or, inl, inr, Contains, Bool, IsTrue, ℤ, pos, ◌+ℤ◌, ◌-ℤ◌, ◌↔◌}
 use Rattle.lists.proofs.Words.{ints}
 use Rattle.lists.proofs.Containing.{Contains-none, Contains-take_cases}
 use Rattle.std.proofs.lemmas.Bool.{cases_lt}
 use Rattle.geo_core.specs.Plane.{Has, IsIn}
+use Rattle.geo_core.specs.Intervals.{IsInterval}
+use Rattle.geo_core.specs.declared.bounds.TheConstants.{FARTHEST_GROWN, GREATEST_SIDE}
 use Rattle.geo_core.specs.declared.plane.Cell.{Cell}
 use Rattle.geo_core.specs.declared.plane.Half.{Half}
 use Rattle.geo_core.specs.declared.plane.Rect.{Rect}
 use Rattle.fault_model.specs.FaultNames.{IslandLists, IsInFootprint}
+use Rattle.fault_model.specs.IslandLists.{IsAnchoredIsland}
+use Rattle.fault_model.proofs.UnionLaws.{corner_of}
 use Rattle.half_boxes.specs.HalfBoxes.{HasHalf}
 use Rattle.half_boxes.specs.declared.boxes.HalfBox.{HalfBox}
-use Rattle.fault_model.specs.IslandLists.{IsAnchoredIsland}
+use Rattle.half_boxes.specs.declared.span.TheConstants.{FARTHEST_HALF}
 use Rattle.severing.specs.Severing.{IsSevered}
 use Rattle.ring_test.specs.Rings.{Hole, HasSome, IsInHole, hole_at}
 use Rattle.ring_test.specs.IslandHoles.{LosesAnchor}
@@ -23,7 +27,6 @@ use Rattle.open_grid.specs.inside.ZoneCounts.{CountsMany, CoversNone, SomeCovers
 use Rattle.open_grid.specs.inside.ZoneSteps.{IsToldOf, LeftStandsFor}
 use Rattle.open_grid.specs.declared.looked.Looked.{Looked}
 use Rattle.open_grid.specs.declared.looked.Told.TheVariants.{Always}
-use Rattle.open_grid.proofs.ToldLaws.{corner_of}
 use Rattle.open_grid.proofs.ZoneLaws.{stand_in_part}
 
 -- the law that where two anchors are parted, and none is lost, the ring has many arcs
@@ -31,13 +34,41 @@ abbrev pub PartedAreMany : Type 0
 PartedAreMany = (island : IslandLists) (hole : Hole) → IsAnchoredIsland island → HasSome hole → (LosesAnchor island hole → ⊥) → IsSevered island (IsInHole hole)
     → IsRingAnswer island hole Many
 
+-- what a defect has along one axis, whose centre is a place of a rectangle
+span_of_defect : (low high i : ℤ) (side : ℕ) → IsInterval FARTHEST_GROWN low high → IsIn low high i → 1 ≤ side → side ≤ GREATEST_SIDE
+    → IsInterval FARTHEST_HALF (i +ℤ i +ℤ pos 1 -ℤ pos side) (i +ℤ i +ℤ pos 1 +ℤ pos side)
+span_of_defect low high i side ends place some few =
+    let a = ends.least in let b = ends.most in let p = place.from in let q = place.before in
+    record { some = omega (arith, ints); least = omega (arith, ints); most = omega (arith, ints) }
+
+-- so all of it is a box
+defect_box : (zone : Rect) (c : Cell) (side : ℕ) → Has zone c → 1 ≤ side → side ≤ GREATEST_SIDE → (box : HalfBox) × ((h : Half) → HasHalf box h ↔ IsInFootprint c side h)
+defect_box zone c side has some few = (
+  record {
+    columns = record {
+      low = c.i +ℤ c.i +ℤ pos 1 -ℤ pos side;
+      high = c.i +ℤ c.i +ℤ pos 1 +ℤ pos side;
+      within = span_of_defect zone.x0 zone.x1 c.i side zone.across has.across some few;
+    };
+    rows = record {
+      low = c.j +ℤ c.j +ℤ pos 1 -ℤ pos side;
+      high = c.j +ℤ c.j +ℤ pos 1 +ℤ pos side;
+      within = span_of_defect zone.y0 zone.y1 c.j side zone.up has.up some few;
+    };
+  },
+  λ h. (λ k. (k.across, k.up), λ hit. record { across = hit.0; up = hit.1 }),
+)
+
 -- where each defect of a zone parts two, and one covers none, the ring round that one does
-module _ (law : PartedAreMany) (zone : Rect) (side : ℕ) (some : 1 ≤ side) (looked : Looked) (island : IslandLists) (stands : StandsFor zone side looked island)
-    (told : IsToldOf zone side island Always) (covers : SomeCoversNone looked.anchors zone side) where
+module _ (law : PartedAreMany) (zone : Rect) (side : ℕ) (some : 1 ≤ side) (few : side ≤ GREATEST_SIDE) (looked : Looked) (island : IslandLists)
+    (stands : StandsFor zone side looked island) (told : IsToldOf zone side island Always) (covers : SomeCoversNone looked.anchors zone side) where
+  -- a defect that covers a spot covers its hull
   none_lost : LosesAnchor island (hole_at covers.cell side) → ⊥
   none_lost lost =
-      let b = stands.has_reached lost.anchor lost.among (λ h lies. record { centre = covers.cell; in_zone = covers.in_zone; hit = lost.covered h lies }) in
-      covers.covers b.one b.among (λ h has. lost.covered h ((b.same h).0 has))
+      let b = stands.has_reached lost.spot lost.among (λ h lies. record { centre = covers.cell; in_zone = covers.in_zone; hit = lost.covered h lies }) in
+      let defect = defect_box zone covers.cell side covers.in_zone some few in
+      let hull_in = (b.hull.lies defect.0).1 (λ h lies. (defect.1 h).1 (lost.covered h lies)) in
+      covers.covers b.one b.among (λ h has. (defect.1 h).0 (hull_in h has))
 
   has_some : HasSome (hole_at covers.cell side)
   has_some = record { across = omega (arith, ints); up = omega (arith, ints) }

@@ -1,5 +1,5 @@
 -- defects at one cell, and what they part of an island
-use Rattle.std.proofs.Common.{ℕ, pos, ◌+ℤ◌, ◌≤◌, List, ◌↔◌, All, Contains, arith}
+use Rattle.std.proofs.Common.{ℕ, pos, ◌+ℤ◌, ◌≤◌, List, ◌↔◌, All, arith}
 use Rattle.lists.proofs.Words.{ints, All-contains}
 use Rattle.lists.proofs.Containing.{Contains-slice_get}
 use Rattle.paths.proofs.PathLaws.{within}
@@ -7,8 +7,7 @@ use Rattle.geo_core.specs.Plane.{Has, IsInLayout, IsInUnion}
 use Rattle.geo_core.specs.declared.plane.Cell.{Cell}
 use Rattle.geo_core.specs.declared.plane.Half.{Half}
 use Rattle.geo_core.specs.declared.plane.Rect.{Rect}
-use Rattle.fault_model.specs.FaultNames.{IsInFootprint, IsOn, IslandLists, Tally, cells_of}
-use Rattle.fault_model.specs.Faults.{IsCellsOpen}
+use Rattle.fault_model.specs.FaultNames.{IsInFootprint, IsIslandOpen, IsOn, IslandLists, Tally, cells_of}
 use Rattle.fault_model.proofs.CellLaws.{Contains-cells_of}
 use Rattle.fault_model.proofs.TallyLaws.{Tally-same}
 use Rattle.fault_model.specs.IslandLists.{IsAnchoredIsland}
@@ -20,14 +19,14 @@ use Rattle.open_grid.specs.declared.looked.Told.TheVariants.{Never, Always}
 
 -- the law on defects and islands
 abbrev pub DefectsSeverIslands : Type 0
-DefectsSeverIslands = (island : IslandLists) (s : ℕ) (c : Cell) → IsAnchoredIsland island → IsCellsOpen (IsInUnion island.pieces) (Contains island.anchors) s c ↔ IsSevered island (IsInFootprint c s)
+DefectsSeverIslands = (island : IslandLists) (s : ℕ) (c : Cell) → IsAnchoredIsland island → IsIslandOpen island s c ↔ IsSevered island (IsInFootprint c s)
 
-module _ (pieces : List Rect) (in_layout : All IsInLayout pieces) (side : ℕ) (few : side ≤ GREATEST_SIDE) (cell : Cell) (out : (rect : Rect) → Has rect cell → ⊥) where
+module _ (island : IslandLists) (in_layout : All IsInLayout island.pieces) (side : ℕ) (few : side ≤ GREATEST_SIDE) (cell : Cell) (out : (rect : Rect) → Has rect cell → ⊥) where
   -- a defect whose cell no rectangle may have does not reach a layout
-  none_hit : (h : Half) → IsOn (IsInUnion pieces) h → IsInFootprint cell side h → ⊥
+  none_hit : (h : Half) → IsOn (IsInUnion island.pieces) h → IsInFootprint cell side h → ⊥
   none_hit h on hit =
       let u = on.2 in
-      let small = All-contains IsInLayout pieces u.rect in_layout (Contains-slice_get pieces u.number u.rect u.at) in
+      let small = All-contains IsInLayout island.pieces u.rect in_layout (Contains-slice_get island.pieces u.number u.rect u.at) in
       let a = hit.0.from in let b = hit.0.before in let d = hit.1.from in let e = hit.1.before in
       let f = on.1.0.from in let g = on.1.0.before in let k = on.1.1.from in let l = on.1.1.before in
       let m = u.has.across.from in let n = u.has.across.before in let o = u.has.up.from in let p = u.has.up.before in
@@ -45,16 +44,16 @@ module _ (pieces : List Rect) (in_layout : All IsInLayout pieces) (side : ℕ) (
       })
 
   -- so it parts nothing
-  pub not_open : (anchors : List Cell) → IsCellsOpen (IsInUnion pieces) (Contains anchors) side cell → ⊥
-  not_open anchors o = o.parted o.tied.0 o.tied.1 o.tied.2 o.tied.3 (within (λ h on. (on, none_hit h on)) o.tied.4)
+  pub not_open : IsIslandOpen island side cell → ⊥
+  not_open o = o.parted o.tied.0 o.tied.1 o.tied.2 o.tied.3 (within (λ h on. (on, none_hit h on)) o.tied.4)
 
 module _ (law : DefectsSeverIslands) where
   -- what an island says of the zone of one cell is the answer
   module _ (zone : Rect) (cell : Cell) (has : Has zone cell) (side : ℕ) (island : IslandLists) (sound : IsAnchoredIsland island) where
-    pub never_open : IsToldOf zone side island Never → IsCellsOpen (IsInUnion island.pieces) (Contains island.anchors) side cell → ⊥
+    pub never_open : IsToldOf zone side island Never → IsIslandOpen island side cell → ⊥
     never_open never o = never cell has ((law island side cell sound).0 o)
 
-    pub always_open : IsToldOf zone side island Always → IsCellsOpen (IsInUnion island.pieces) (Contains island.anchors) side cell
+    pub always_open : IsToldOf zone side island Always → IsIslandOpen island side cell
     always_open always = (law island side cell sound).1 (always cell has)
 
   -- the cells at which defects part anchors of islands, by both definitions

@@ -7,6 +7,7 @@ use Rattle.geo_core.specs.declared.plane.Half.{Half}
 use Rattle.geo_core.specs.declared.plane.Rect.{Rect}
 use Rattle.geo_core.proofs.RectLaws.{same_cell}
 use Rattle.fault_model.specs.FaultNames.{IslandLists, IsInFootprint}
+use Rattle.fault_model.proofs.UnionLaws.{corner_of}
 use Rattle.half_boxes.specs.Footprints.{IsReached, IsAlwaysHit}
 use Rattle.half_boxes.specs.HalfBoxes.{HasHalf, HasHalfIn, IsInBoxes, LiesWithin}
 use Rattle.half_boxes.specs.declared.boxes.HalfBox.{HalfBox}
@@ -18,12 +19,6 @@ use Rattle.open_grid.specs.inside.ZoneNeeds.{HaveReached, IsBetweenDefects, Stan
 use Rattle.open_grid.specs.inside.ZoneSteps.{AreOf, IsSingle, IsSplitWithout, IsToldOf, KeepsNear, KeepsWithin}
 use Rattle.open_grid.specs.declared.looked.Looked.{Looked}
 use Rattle.open_grid.specs.declared.looked.Told.TheVariants.{Never, Always, Open}
-
--- some cell of a zone
-pub corner_of : (zone : Rect) → (c : Cell) × Has zone c
-corner_of zone =
-    let a = zone.across.some in let b = zone.up.some in
-    (record { i = zone.x0; j = zone.y0 }, record { across = record { from = omega (arith, ints); before = a }; up = record { from = omega (arith, ints); before = b } })
 
 -- a single zone has one cell alone
 pub one_centre : (zone : Rect) → IsSingle zone → (c d : Cell) → Has zone c → Has zone d → c ≡ d
@@ -113,7 +108,7 @@ module _ (zone : Rect) (side : ℕ) (looked : Looked) (island : IslandLists) (st
       kept_near : HasNear island zone side kept
       kept_near = record {
         pieces = λ piece among. still_noted _ (stands.has_near.pieces piece among);
-        anchors = λ cell among. still_noted _ (stands.has_near.anchors cell among);
+        anchors = λ spot rect among listed. still_noted _ (stands.has_near.anchors spot rect among listed);
       }
 
       has_near : HasNear island zone side made.near
@@ -123,9 +118,9 @@ module _ (zone : Rect) (side : ℕ) (looked : Looked) (island : IslandLists) (st
       near_on_island h b = stands.near_on_island h (record { one = b.one; among = of_near b.one (subst (λ bs. Contains bs b.one) near_is b.among); has = b.has })
 
       kept_reached : HaveReached island zone side anchors
-      kept_reached anchor among reached =
-          let b = stands.has_reached anchor among reached in
-          record { one = b.one; among = keeps_anchors b.one b.among (λ h in_one. (reach_is h).1 (reached h ((b.same h).0 in_one))); same = b.same }
+      kept_reached spot among reached =
+          let b = stands.has_reached spot among reached in
+          record { one = b.one; among = keeps_anchors b.one b.among ((b.hull.lies outer).1 (λ h in_spot. (reach_is h).1 (reached h in_spot))); hull = b.hull }
 
       has_reached : HaveReached island zone side made.anchors
       has_reached = subst (HaveReached island zone side) (sym anchors_are) kept_reached

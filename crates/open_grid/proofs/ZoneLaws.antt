@@ -35,7 +35,7 @@ module _ (zone sub : Rect) (side : ℕ) (part : (c : Cell) → Has sub c → Has
   near_in_part : (island : IslandLists) (near : List HalfBox) → HasNear island zone side near → HasNear island sub side near
   near_in_part island near has = record {
     pieces = λ piece among. noted_in_part near _ (has.pieces piece among);
-    anchors = λ cell among. noted_in_part near _ (has.anchors cell among);
+    anchors = λ spot rect among listed. noted_in_part near _ (has.anchors spot rect among listed);
   }
 
   stands_in_part : (looked : Looked) (island : IslandLists) → StandsFor zone side looked island → StandsFor sub side looked island
@@ -44,7 +44,7 @@ module _ (zone sub : Rect) (side : ℕ) (part : (c : Cell) → Has sub c → Has
     same = λ removed b. s.same removed (between removed b);
     has_near = near_in_part island looked.near s.has_near;
     near_on_island = s.near_on_island;
-    has_reached = λ anchor among lies. s.has_reached anchor among (λ h in_anchor. reached h (lies h in_anchor));
+    has_reached = λ spot among lies. s.has_reached spot among (λ h in_spot. reached h (lies h in_spot));
   }
 
   -- and so for each of many

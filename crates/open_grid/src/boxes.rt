@@ -1,70 +1,72 @@
-ghost use Rattle.std.specs.Prelude.{◌≡◌, ◌↔◌, IfOk, IfSome, IfNone, OnOk};
-ghost use Rattle.fault_model.specs.Halves.{LiesIn};
+ghost use Rattle.std.specs.Prelude.{◌≡◌, ◌↔◌, Contains, IfOk, IfSome, IfNone, OnOk};
 ghost use Rattle.fault_model.specs.IslandLists.{IsAnchoredIsland};
 ghost use Rattle.geo_core.specs.Cells.{Has};
 ghost use Rattle.geo_core.specs.declared.plane.Cell.{Cell as AnyCell};
-ghost use Rattle.geo_core.specs.declared.plane.Half.{Half};
 ghost use Rattle.geo_core.specs.declared.plane.Rect.{Rect as AnyRect};
-ghost use Rattle.half_boxes.specs.HalfBoxes.{HasHalf};
-ghost use Rattle.open_grid.specs.inside.ZoneNeeds.{HaveAnchorBoxes};
-ghost use Rattle.open_grid.specs.inside.ZoneSteps.{GainsCells, HaveBoxesOf, HavePieceBoxes, IsSingle};
+ghost use Rattle.open_grid.specs.inside.ZoneNeeds.{HaveAnchorBoxes, IsHullOf};
+ghost use Rattle.open_grid.specs.inside.ZoneSteps.{GainsBoxes, HaveBoxesOf, IsOfSpots, IsSingle};
 
-use fault_model::Island;
+use fault_model::{Island, Spot};
 use geo_core::{Cell, FARTHEST_GROWN, Rect};
 use half_boxes::HalfBox;
 use lists::{Items, NoMemory};
 use std::alloc::Global;
 
-/// The boxes of the island's rectangles and of its anchors' cells.
+/// The boxes of the island's rectangles and of those of its spots.
 pub fn boxes_of(alloc: Global, island: &Island) -> Result<Items<HalfBox>, NoMemory>
     ensures boxes { IfOk result (HaveBoxesOf island.now) }
     ensures sound { IsAnchoredIsland island.now }
 {
-    let mut boxes = piece_boxes(alloc, island.pieces.as_slice())?;
-    add_cells(island.anchors.as_slice(), &mut boxes)?;
-    Ok(Items::from_vec(boxes))
-}
-
-/// The boxes of the cells of the island's anchors.
-pub fn anchor_boxes(alloc: Global, island: &Island) -> Result<Items<HalfBox>, NoMemory>
-    ensures { IfOk result (HaveAnchorBoxes island.now) }
-{
-    let anchors = island.anchors.as_slice();
-    let mut boxes = Vec::with_capacity(alloc, anchors.len())?;
-    add_cells(anchors, &mut boxes)?;
-    Ok(Items::from_vec(boxes))
-}
-
-/// The boxes of the rectangles.
-fn piece_boxes(alloc: Global, pieces: &[Rect]) -> Result<Vec<HalfBox>, NoMemory>
-    ensures { IfOk result (λ boxes. HavePieceBoxes pieces.now boxes.items) }
-{
+    let pieces = island.pieces.as_slice();
     let mut boxes = Vec::with_capacity(alloc, pieces.len())?;
-    for piece in pieces {
-        boxes.push(HalfBox::of_rect(*piece))?;
-    }
-    Ok(boxes)
+    add_rects(pieces, &mut boxes)?;
+    add_spots(island.anchors.as_slice(), &mut boxes)?;
+    Ok(Items::from_vec(boxes))
 }
 
-/// Adds the boxes of those cells that some rectangle may have.
-fn add_cells(cells: &[Cell], boxes: &mut Vec<HalfBox>) -> Result<(), NoMemory>
-    ensures { OnOk result (GainsCells cells.now boxes.old.items boxes.new.items) }
+/// Adds the boxes of the rectangles.
+fn add_rects(rects: &[Rect], boxes: &mut Vec<HalfBox>) -> Result<(), NoMemory>
+    ensures { OnOk result (GainsBoxes (Contains rects.now) boxes.old.items boxes.new.items) }
 {
-    for cell in cells {
-        if let Some(one) = cell_box(*cell) {
-            boxes.push(one)?;
-        }
+    for rect in rects {
+        boxes.push(HalfBox::of_rect(*rect))?;
     }
     Ok(())
 }
 
-/// The box of the cell. Beyond where rectangles may lie there is none.
-fn cell_box(cell: Cell) -> Option<HalfBox>
-    ensures some { IfSome result (λ one. (h : Half) → HasHalf one h ↔ LiesIn h cell) }
-    ensures none { IfNone result ((rect : AnyRect) → Has rect cell → ⊥) }
+/// Adds the boxes of all rectangles of the spots.
+fn add_spots(spots: &[Spot], boxes: &mut Vec<HalfBox>) -> Result<(), NoMemory>
+    ensures { OnOk result (GainsBoxes (IsOfSpots spots.now) boxes.old.items boxes.new.items) }
 {
-    let zone = zone_at(cell)?;
-    Some(HalfBox::of_rect(zone))
+    for spot in spots {
+        add_rects(spot.rects.as_slice(), boxes)?;
+    }
+    Ok(())
+}
+
+/// One box for each anchor of the island: the hull of its spot. A defect, which is a box too, covers all of the spot exactly
+/// where it covers the hull.
+pub fn anchor_boxes(alloc: Global, island: &Island) -> Result<Items<HalfBox>, NoMemory>
+    ensures { IfOk result (HaveAnchorBoxes island.now) }
+{
+    let spots = island.anchors.as_slice();
+    let mut hulls = Vec::with_capacity(alloc, spots.len())?;
+    for spot in spots {
+        hulls.push(hull_of(spot))?;
+    }
+    Ok(Items::from_vec(hulls))
+}
+
+/// The least box that has all of the spot.
+fn hull_of(spot: &Spot) -> HalfBox
+    ensures { IsHullOf spot.now.rects result }
+{
+    let rects = spot.rects.as_slice();
+    let mut hull = HalfBox::of_rect(rects[0]);
+    for rect in rects {
+        hull = hull.join(HalfBox::of_rect(*rect));
+    }
+    hull
 }
 
 /// The rectangle of the cell alone. Beyond where rectangles may lie there is none.

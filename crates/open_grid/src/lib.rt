@@ -4,15 +4,16 @@
 //! search at each cell would grow with the cells. `open_cells` finds the cells as rectangles, in zones of centres,
 //! first the whole window:
 //!
-//! 1. Each island is looked at (`look_at`). Where it has one arc of the ring round all that some defect has, and no anchor
-//!    there, no defect of the zone parts two, and it is done with (`ring_test`). Else its remnant is narrowed to the defects
-//!    of the zone, whose reach is what some of them has, and whose core is what each of them has (`remnants`).
+//! 1. Each island is looked at (`look_at`). Where it has one arc of the ring round all that some defect has, and no spot of
+//!    an anchor lies there, no defect of the zone parts two, and it is done with (`ring_test`). Else its remnant is narrowed
+//!    to the defects of the zone, whose reach is what some of them has, and whose core is what each of them has
+//!    (`remnants`).
 //! 2. Where the removal of all that is loose parts no two anchors, no defect of the zone parts two, and the island is
 //!    done with. Where the removal of the core alone parts two, each defect does, and the whole zone is one of the
 //!    rectangles. For a zone of one cell the first question alone decides.
-//! 3. Of the boxes of the island those are kept that an end of a defect may meet in the zone. Where the zone has
-//!    several lines along an axis and no end makes a change there, the first line is looked at, and its rectangles are
-//!    stretched along the zone.
+//! 3. Of the boxes of the island and of its spots those are kept that an end of a defect may meet in the zone. Where the
+//!    zone has several lines along an axis and no end makes a change there, the first line is looked at, and its rectangles
+//!    are stretched along the zone.
 //! 4. Else the zone is halved at the middle one of the changes along an axis: that along which more boxes have half
 //!    squares that some defects have and others do not, or else that with more changes.
 //!

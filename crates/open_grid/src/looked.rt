@@ -16,8 +16,9 @@ use remnants::Remnant;
 use severing::boxes_and_defects_sever;
 use std::alloc::Global;
 
-/// What a zone of centres needs of an island: what is left of it round the zone's defects, the boxes of the island whose
-/// ends an end of a defect may meet in the zone, and those of the anchors that a defect of the zone may cover.
+/// What a zone of centres needs of an island: what is left of it round the zone's defects, the boxes of the island and of its
+/// spots whose ends an end of a defect may meet in the zone, and one box for each anchor that a defect of the zone may
+/// cover: the hull of its spot, which a defect covers exactly where it covers the spot.
 #[derive(Debug, Drop)]
 pub struct Looked {
     pub remnant: Remnant,

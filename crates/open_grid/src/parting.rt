@@ -1,7 +1,6 @@
-ghost use Rattle.std.specs.Prelude.{All, Contains, IfOk, IsTrue, OnErr, OnOk, ◌+◌, ◌<◌, ◌≡◌, ◌≤◌, ◌↔◌, ◌⊎◌};
+ghost use Rattle.std.specs.Prelude.{All, IfOk, IsTrue, OnErr, OnOk, ◌+◌, ◌<◌, ◌≡◌, ◌≤◌, ◌↔◌, ◌⊎◌};
 ghost use Rattle.geo_core.specs.Cells.{IsInLayout};
-ghost use Rattle.geo_core.specs.Unions.{IsInUnion};
-ghost use Rattle.fault_model.specs.Faults.{IsCellsOpen};
+ghost use Rattle.fault_model.specs.IslandLists.{IsIslandOpen};
 ghost use Rattle.geo_core.specs.declared.bounds.TheConstants.{GREATEST_SIDE};
 ghost use Rattle.ring_test.specs.Rings.{hole_at};
 ghost use Rattle.ring_test.specs.RingAnswers.{IsRingAnswer};
@@ -16,16 +15,16 @@ use severing::defects_sever_islands;
 use std::alloc::Global;
 
 /// Whether the defect of this side at the cell parts two anchors of the island: on what it spares of the island's
-/// rectangles no walk leads from a half square of the one anchor's cell to one of the other's. The defect is the square of
-/// this side, 1 to 2,000,000 database units, round the cell's centre. An anchor that it covers is parted from each other one.
+/// rectangles no walk leads from a half square of the one anchor's spot to one of the other's. The defect is the square of
+/// this side, 1 to 2,000,000 database units, round the cell's centre. An anchor whose spot it covers is parted from each
+/// other one.
 ///
 /// The one error is that no memory is left.
 pub fn parted(alloc: Global, island: &Island, cell: Cell, side: u32) -> Result<bool, NoMemory>
     requires some { 1 ≤ side }
     requires few { side ≤ GREATEST_SIDE }
     requires within { All IsInLayout island.now.pieces }
-    ensures { IfOk result (λ answer. IsTrue answer
-        ↔ IsCellsOpen (IsInUnion island.now.pieces) (Contains island.now.anchors) side cell) }
+    ensures { IfOk result (λ answer. IsTrue answer ↔ IsIslandOpen island.now side cell) }
 {
     let mut searches = 0;
     parted_counted(alloc, island, cell, side, &mut searches)
@@ -45,8 +44,7 @@ pub fn parted_counted(
     requires few { side ≤ GREATEST_SIDE }
     requires within { All IsInLayout island.now.pieces }
     requires room { searches.old < u64.MAX }
-    ensures answer { IfOk result (λ answer. IsTrue answer
-        ↔ IsCellsOpen (IsInUnion island.now.pieces) (Contains island.now.anchors) side cell) }
+    ensures answer { IfOk result (λ answer. IsTrue answer ↔ IsIslandOpen island.now side cell) }
     ensures counted { OnOk result (IsRingAnswer island.now (hole_at cell side) RingAnswer.Many →
         searches.new ≡ searches.old + 1) }
     ensures spared { (IsRingAnswer island.now (hole_at cell side) RingAnswer.Many → ⊥) → searches.new ≡ searches.old }
@@ -68,8 +66,7 @@ fn parted_by_search(alloc: Global, island: &Island, cell: Cell, side: u32) -> Re
     requires some { 1 ≤ side }
     requires few { side ≤ GREATEST_SIDE }
     requires within { All IsInLayout island.now.pieces }
-    ensures { IfOk result (λ answer. IsTrue answer
-        ↔ IsCellsOpen (IsInUnion island.now.pieces) (Contains island.now.anchors) side cell) }
+    ensures { IfOk result (λ answer. IsTrue answer ↔ IsIslandOpen island.now side cell) }
 {
     // Beyond where rectangles may lie a defect has nothing of a layout.
     let Some(zone) = zone_at(cell) else {

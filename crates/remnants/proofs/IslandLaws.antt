@@ -4,11 +4,11 @@ use Rattle.lists.proofs.Containing.{Contains-slice_get, Contains-none}
 use Rattle.paths.proofs.PathLaws.{first, last, within, retold}
 use Rattle.geo_core.specs.Plane.{IsInUnion}
 use Rattle.geo_core.specs.declared.plane.Half.{Half}
-use Rattle.fault_model.specs.FaultNames.{IsOn, Neighbours, Walk, IslandLists}
+use Rattle.fault_model.specs.FaultNames.{IsOn, Neighbours, Walk, IslandLists, IsInAnchor}
 use Rattle.fault_model.specs.IslandLists.{IsAnchoredIsland}
 use Rattle.half_boxes.specs.HalfBoxes.{HasHalf}
 use Rattle.half_boxes.specs.declared.boxes.HalfBox.{HalfBox}
-use Rattle.severing.specs.Severing.{IsLeft, IsInAnchor, IsSevered}
+use Rattle.severing.specs.Severing.{IsLeft, IsSevered}
 use Rattle.remnants.specs.Remnants.{RemnantLists, HasFixed, Stays, IsStep, Way, IsAt, IsSplit, IsJoined}
 use Rattle.remnants.specs.declared.parts.Loose.{Loose}
 use Rattle.remnants.specs.inside.IslandBoxes.{IsOfIsland, AreIslandBoxes}
@@ -27,7 +27,7 @@ module _ (island : IslandLists) (anchored : IsAnchoredIsland island) (loose : Li
   -- each half square of the island lies on its pieces
   on_pieces : (terminal : Option ℕ) (h : Half) → IsOfIsland island terminal h → IsOn (IsInUnion island.pieces) h
   on_pieces None h on = on
-  on_pieces (Some number) h a = (a.cell, a.lies, anchored.on_pieces a.cell (Contains-slice_get island.anchors number a.cell a.at))
+  on_pieces (Some number) h a = (a.lies.0, a.lies.1, anchored.on_pieces a.spot a.lies.0 (Contains-slice_get island.anchors number a.spot a.at) a.lies.2)
 
   stays_left : (h : Half) → Stays whole removed h → IsLeftOf h
   stays_left h (inl (leader, has)) = absurd (nothing_fixed leader h has)

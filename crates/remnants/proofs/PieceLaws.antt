@@ -1,74 +1,59 @@
--- the boxes of an island, piece by piece and anchor by anchor
-use Rattle.std.proofs.Common.{ℕ, zero, suc, List, [], ◌∷◌, ◌++◌, ◌≡◌, ◌<◌, ◌+◌, refl, subst, sym, inl, inr, ◌⊎◌, ◌↔◌, ap, ◌∙◌, arith, length, Contains, Option, Some, None, slice_get, ℤ, pos, ◌+ℤ◌}
-use Rattle.lists.proofs.Containing.{Contains-slice_get, Contains-none, number_of, slice_get-front, slice_get-back}
-use Rattle.lists.proofs.Words.{same_Some, ints, leb_tells, Contains-append_left, Contains-push, Contains-push_cases}
-use Rattle.geo_core.specs.Plane.{IsIn, Has, IsInUnion}
-use Rattle.geo_core.specs.declared.plane.Cell.{Cell}
+-- the boxes of an island, rectangle by rectangle and spot by spot
+use Rattle.std.proofs.Common.{ℕ, zero, suc, List, [], ◌∷◌, ◌++◌, ◌≡◌, ◌<◌, ◌+◌, refl, subst, sym, inl, inr, ◌⊎◌, ◌↔◌, ap, ◌∙◌, arith, length, Contains, Option, Some, None, slice_get}
+use Rattle.lists.proofs.Containing.{Contains-slice_get, Contains-none, slice_get-front, slice_get-back}
+use Rattle.lists.proofs.Words.{same_Some, leb_tells, Contains-append_left, Contains-push, Contains-push_cases}
+use Rattle.geo_core.specs.Plane.{Has, IsInUnion}
 use Rattle.geo_core.specs.declared.plane.Half.{Half}
 use Rattle.geo_core.specs.declared.plane.Rect.{Rect}
-use Rattle.geo_core.proofs.RectLaws.{same_cell}
-use Rattle.fault_model.specs.FaultNames.{IsOn, LiesIn}
+use Rattle.fault_model.specs.FaultNames.{IsOn, IslandLists}
+use Rattle.fault_model.specs.declared.island.Spot.{Spot}
+use Rattle.fault_model.proofs.UnionLaws.{union_none, union_push}
 use Rattle.half_boxes.specs.HalfBoxes.{HasHalf}
 use Rattle.half_boxes.specs.declared.boxes.HalfBox.{HalfBox}
 use Rattle.remnants.specs.declared.parts.Loose.{Loose}
 use Rattle.remnants.specs.inside.Parting.{HasLooseOf}
-use Rattle.remnants.specs.inside.IslandBoxes.{IsOfIsland, AreIslandBoxes}
+use Rattle.remnants.specs.inside.IslandBoxes.{IsOfRects, IsOfSpots, GainsHalves, AreIslandBoxes}
 use Rattle.remnants.proofs.CutLaws.{in_left, in_either, of_part}
 
--- ---- unions of rectangles, one more at the end
+-- ---- one rectangle more
 
-union_more : (pieces : List Rect) (piece : Rect) (c : Cell) → IsInUnion pieces c → IsInUnion (pieces ++ piece ∷ []) c
-union_more pieces piece c u = record { number = u.number; rect = u.rect; at = slice_get-front pieces (piece ∷ []) u.number u.rect u.at; has = u.has }
+pub no_rects : (loose : List Loose) (owner : Option ℕ) → GainsHalves (IsOfRects [] owner) loose loose
+no_rects loose owner terminal h = (λ l. inl l, λ g. elim g [ inl old ↦ old | inr m ↦ absurd (union_none m.lies.0 m.lies.2) ])
 
-union_last : (pieces : List Rect) (piece : Rect) (c : Cell) → Has piece c → IsInUnion (pieces ++ piece ∷ []) c
-union_last pieces piece c has = let k = number_of (pieces ++ piece ∷ []) piece (Contains-push pieces piece) in record { number = k.0; rect = piece; at = k.1; has = has }
+module _ (rects : List Rect) (owner : Option ℕ) (old loose : List Loose) (rect : Rect) (box : HalfBox) (is : (h : Half) → HasHalf box h ↔ IsOn (Has rect) h)
+    (so_far : GainsHalves (IsOfRects rects owner) old loose) where
+  abbrev last : Loose
+  last = record { part = box; terminal = owner }
 
-union_cases : (pieces : List Rect) (piece : Rect) (c : Cell) → IsInUnion (pieces ++ piece ∷ []) c → IsInUnion pieces c ⊎ Has piece c
-union_cases pieces piece c u = elim (Contains-push_cases pieces piece u.rect (Contains-slice_get _ u.number u.rect u.at)) [
-  | inl before ↦ let k = number_of pieces u.rect before in inl (record { number = k.0; rect = u.rect; at = k.1; has = u.has })
-  | inr last ↦ inr (subst (λ (r : Rect). Has r c) (sym last) u.has)
-]
-
--- ---- boxes, one more at the end
-
-last_box : (loose : List Loose) (box : HalfBox) (terminal some : Option ℕ) (h : Half) → terminal ≡ some → HasHalf box h → HasLooseOf (loose ++ record { part = box; terminal = terminal } ∷ []) some h
-last_box loose box terminal some h e has = record {
-  one = record { part = box; terminal = terminal };
-  among = Contains-push loose
-      (record { part = box; terminal = terminal });
-  of_terminal = e;
-  has = has;
-}
-
-pub no_boxes : AreIslandBoxes (record { pieces = []; anchors = [] }) []
-no_boxes terminal h = (λ l. absurd (Contains-none l.among), λ is. absurd (nothing terminal h is)) where
-  nothing : (terminal : Option ℕ) (h : Half) → IsOfIsland (record { pieces = []; anchors = [] }) terminal h → ⊥
-  nothing None h (c, lies, u) = Contains-none (Contains-slice_get [] u.number u.rect u.at)
-  nothing (Some number) h a = Contains-none (Contains-slice_get [] number a.cell a.at)
-
-module _ (pieces : List Rect) (loose : List Loose) (piece : Rect) (box : HalfBox) (is : (h : Half) → HasHalf box h ↔ IsOn (Has piece) h)
-    (so_far : AreIslandBoxes (record { pieces = pieces; anchors = [] }) loose) where
-  piece_in : (terminal : Option ℕ) (h : Half) → HasLooseOf (loose ++ record { part = box; terminal = None } ∷ []) terminal h
-      → IsOfIsland (record { pieces = pieces ++ piece ∷ []; anchors = [] }) terminal h
-  piece_in None h l = elim (in_either loose (record { part = box; terminal = None } ∷ []) l) [
-    | inl old ↦ let on = (so_far None h).0 old in (on.0, on.1, union_more pieces piece on.0 on.2)
-    | inr new ↦ let on = (is h).0 (of_part (Some box) None new).1 in (on.0, on.1, union_last pieces piece on.0 on.2)
-  ]
-  piece_in (Some number) h l = elim (in_either loose (record { part = box; terminal = None } ∷ []) l) [
-    | inl old ↦ let a = (so_far (Some number) h).0 old in record { cell = a.cell; at = a.at; lies = a.lies }
-    | inr new ↦ let none = (of_part (Some box) None new).0 in cc none
+  rect_in : (terminal : Option ℕ) (h : Half) → HasLooseOf (loose ++ last ∷ []) terminal h → HasLooseOf old terminal h ⊎ IsOfRects (rects ++ rect ∷ []) owner terminal h
+  rect_in terminal h l = elim (in_either loose (last ∷ []) l) [
+    | inl before ↦ elim ((so_far terminal h).0 before) [
+      | inl o ↦ inl o
+      | inr m ↦ inr (record { of_terminal = m.of_terminal; lies = (m.lies.0, m.lies.1, (union_push m.lies.0 rects rect).1 (inl m.lies.2)) })
+    ]
+    | inr new ↦
+        let x = of_part (Some box) owner new in
+        let on = (is h).0 x.1 in
+        inr (record { of_terminal = x.0; lies = (on.0, on.1, (union_push on.0 rects rect).1 (inr on.2)) })
   ]
 
-  in_piece : (terminal : Option ℕ) (h : Half) → IsOfIsland (record { pieces = pieces ++ piece ∷ []; anchors = [] }) terminal h
-      → HasLooseOf (loose ++ record { part = box; terminal = None } ∷ []) terminal h
-  in_piece None h (c, lies, u) = elim (union_cases pieces piece c u) [
-    | inl old ↦ in_left loose (record { part = box; terminal = None } ∷ []) ((so_far None h).1 (c, lies, old))
-    | inr new ↦ last_box loose box None None h refl ((is h).1 (c, lies, new))
+  in_rect : (terminal : Option ℕ) (h : Half) → HasLooseOf old terminal h ⊎ IsOfRects (rects ++ rect ∷ []) owner terminal h → HasLooseOf (loose ++ last ∷ []) terminal h
+  in_rect terminal h (inl o) = in_left loose (last ∷ []) ((so_far terminal h).1 (inl o))
+  in_rect terminal h (inr m) = elim ((union_push m.lies.0 rects rect).0 m.lies.2) [
+    | inl u ↦ in_left loose (last ∷ []) ((so_far terminal h).1 (inr (record { of_terminal = m.of_terminal; lies = (m.lies.0, m.lies.1, u) })))
+    | inr has ↦ record { one = last; among = Contains-push loose last; of_terminal = m.of_terminal; has = (is h).1 (m.lies.0, m.lies.1, has) }
   ]
-  in_piece (Some number) h a = absurd (Contains-none (Contains-slice_get [] number a.cell a.at))
 
-  pub piece_more : AreIslandBoxes (record { pieces = pieces ++ piece ∷ []; anchors = [] }) (loose ++ record { part = box; terminal = None } ∷ [])
-  piece_more terminal h = (piece_in terminal h, in_piece terminal h)
+  pub rect_gained : GainsHalves (IsOfRects (rects ++ rect ∷ []) owner) old (loose ++ last ∷ [])
+  rect_gained terminal h = (rect_in terminal h, in_rect terminal h)
+
+-- ---- one spot more
+
+pub no_spots : (loose : List Loose) → GainsHalves (IsOfSpots []) loose loose
+no_spots loose terminal h = (λ l. inl l, λ g. elim g [ inl old ↦ old | inr m ↦ absurd (nothing terminal h m) ]) where
+  nothing : (terminal : Option ℕ) (h : Half) → IsOfSpots [] terminal h → ⊥
+  nothing None h none = none
+  nothing (Some number) h a = Contains-none (Contains-slice_get [] number a.spot a.at)
 
 -- an item of a list with one more at its end, by its number
 pushed_cases : {X : Type 0} (xs : List X) (x y : X) (k : ℕ) → slice_get (xs ++ x ∷ []) k ≡ Some y → (slice_get xs k ≡ Some y) ⊎ ((k ≡ length xs) × (x ≡ y))
@@ -77,47 +62,51 @@ pushed_cases [] x y (suc k) e = cc e
 pushed_cases (z ∷ xs) x y zero e = inl e
 pushed_cases (z ∷ xs) x y (suc k) e = elim (pushed_cases xs x y k e) [ inl a ↦ inl a | inr b ↦ inr (ap suc b.0, b.1) ]
 
-module _ (pieces : List Rect) (anchors : List Cell) (loose : List Loose) (cell : Cell) (number : ℕ) (count : number ≡ length anchors) (box : HalfBox)
-    (is : (h : Half) → HasHalf box h ↔ LiesIn h cell)
-    (so_far : AreIslandBoxes (record { pieces = pieces; anchors = anchors }) loose) where
-  anchor_in : (terminal : Option ℕ) (h : Half) → HasLooseOf (loose ++ record { part = box; terminal = Some number } ∷ []) terminal h
-      → IsOfIsland (record { pieces = pieces; anchors = anchors ++ cell ∷ [] }) terminal h
-  anchor_in None h l = elim (in_either loose (record { part = box; terminal = Some number } ∷ []) l) [
-    | inl old ↦ (so_far None h).0 old
-    | inr new ↦ let some = (of_part (Some box) (Some number) new).0 in cc some
-  ]
-  anchor_in (Some other) h l = elim (in_either loose (record { part = box; terminal = Some number } ∷ []) l) [
-    | inl old ↦ let a = (so_far (Some other) h).0 old in record { cell = a.cell; at = slice_get-front anchors (cell ∷ []) other a.cell a.at; lies = a.lies }
-    | inr new ↦
-        let x = of_part (Some box) (Some number) new in
-        let same : number ≡ other = same_Some number other x.0 in
-        let place : length anchors + 0 ≡ other = omega arith in
-        record { cell = cell; at = ap (slice_get (anchors ++ cell ∷ [])) (sym place) ∙ slice_get-back anchors (cell ∷ []) 0; lies = (is h).0 x.1 }
+module _ (spots : List Spot) (old loose new : List Loose) (spot : Spot) (number : ℕ) (count : number ≡ length spots) (so_far : GainsHalves (IsOfSpots spots) old loose)
+    (here : GainsHalves (IsOfRects spot.rects (Some number)) loose new) where
+  spot_in : (terminal : Option ℕ) (h : Half) → HasLooseOf new terminal h → HasLooseOf old terminal h ⊎ IsOfSpots (spots ++ spot ∷ []) terminal h
+  spot_in None h l = elim ((here None h).0 l) [ inl before ↦ (so_far None h).0 before | inr m ↦ let some = m.of_terminal in cc some ]
+  spot_in (Some other) h l = elim ((here (Some other) h).0 l) [
+    | inl before ↦ elim ((so_far (Some other) h).0 before) [
+      | inl o ↦ inl o
+      | inr a ↦ inr (record { spot = a.spot; at = slice_get-front spots (spot ∷ []) other a.spot a.at; lies = a.lies })
+    ]
+    | inr m ↦
+        let same : number ≡ other = same_Some number other m.of_terminal in
+        let place : length spots + 0 ≡ other = omega arith in
+        inr (record { spot = spot; at = ap (slice_get (spots ++ spot ∷ [])) (sym place) ∙ slice_get-back spots (spot ∷ []) 0; lies = m.lies })
   ]
 
-  in_anchor : (terminal : Option ℕ) (h : Half) → IsOfIsland (record { pieces = pieces; anchors = anchors ++ cell ∷ [] }) terminal h
-      → HasLooseOf (loose ++ record { part = box; terminal = Some number } ∷ []) terminal h
-  in_anchor None h on = in_left loose (record { part = box; terminal = Some number } ∷ []) ((so_far None h).1 on)
-  in_anchor (Some other) h a = elim (pushed_cases anchors cell a.cell other a.at) [
-    | inl old ↦ in_left loose (record { part = box; terminal = Some number } ∷ []) ((so_far (Some other) h).1 (record { cell = a.cell; at = old; lies = a.lies }))
-    | inr new ↦ last_box loose box (Some number) (Some other) h (ap Some (count ∙ sym new.0)) ((is h).1 (subst (LiesIn h) (sym new.1) a.lies))
+  in_spot : (terminal : Option ℕ) (h : Half) → IsOfSpots (spots ++ spot ∷ []) terminal h → HasLooseOf new terminal h
+  in_spot None h none = absurd none
+  in_spot (Some other) h a = elim (pushed_cases spots spot a.spot other a.at) [
+    | inl before ↦ (here (Some other) h).1 (inl ((so_far (Some other) h).1 (inr (record { spot = a.spot; at = before; lies = a.lies }))))
+    | inr last ↦ (here (Some other) h).1 (inr (record { of_terminal = ap Some (count ∙ sym last.0); lies = subst (λ (s : Spot). IsOn (IsInUnion s.rects) h) (sym last.1) a.lies }))
   ]
 
-  pub anchor_more : AreIslandBoxes (record { pieces = pieces; anchors = anchors ++ cell ∷ [] }) (loose ++ record { part = box; terminal = Some number } ∷ [])
-  anchor_more terminal h = (anchor_in terminal h, in_anchor terminal h)
+  pub spot_gained : GainsHalves (IsOfSpots (spots ++ spot ∷ [])) old new
+  spot_gained terminal h = (
+    spot_in terminal h,
+    λ g. elim g [ inl o ↦ (here terminal h).1 (inl ((so_far terminal h).1 (inl o))) | inr a ↦ in_spot terminal h a ],
+  )
 
--- the half squares of a rectangle of one cell
-one_unit : (low high i x : ℤ) → low ≡ i → high ≡ i +ℤ pos 1 → IsIn low high x → x ≡ i
-one_unit low high i x e f h = let from = h.from in let before = h.before in omega (arith, ints)
+-- ---- the rectangles of no terminal, and then the spots
 
-pub cell_alone : (rect : Rect) (cell : Cell) (box : HalfBox) → rect.x0 ≡ cell.i → rect.x1 ≡ cell.i +ℤ pos 1 → rect.y0 ≡ cell.j → rect.y1 ≡ cell.j +ℤ pos 1
-    → ((h : Half) → HasHalf box h ↔ IsOn (Has rect) h) → (h : Half) → HasHalf box h ↔ LiesIn h cell
-cell_alone rect cell box left right bottom top is h = (
-  λ has.
-      let on = (is h).0 has in
-      let same : on.0 ≡ cell = same_cell on.0 cell (one_unit rect.x0 rect.x1 cell.i on.0.i left right on.2.across) (one_unit rect.y0 rect.y1 cell.j on.0.j bottom top on.2.up) in
-      subst (LiesIn h) same on.1,
-  λ lies. (is h).1 (cell, lies, record { across = record { from = omega (arith, ints); before = omega (arith, ints) }; up = record { from = omega (arith, ints); before = omega (arith, ints) } }),
+pub island_boxes : (island : IslandLists) (pieces loose : List Loose) → GainsHalves (IsOfRects island.pieces None) [] pieces → GainsHalves (IsOfSpots island.anchors) pieces loose
+    → AreIslandBoxes island loose
+island_boxes island pieces loose first second None h = (
+  λ l. elim ((second None h).0 l) [
+    | inl p ↦ elim ((first None h).0 p) [ inl none ↦ absurd (Contains-none none.among) | inr m ↦ m.lies ]
+    | inr none ↦ absurd none
+  ],
+  λ on. (second None h).1 (inl ((first None h).1 (inr (record { of_terminal = refl; lies = on })))),
+)
+island_boxes island pieces loose first second (Some number) h = (
+  λ l. elim ((second (Some number) h).0 l) [
+    | inl p ↦ elim ((first (Some number) h).0 p) [ inl none ↦ absurd (Contains-none none.among) | inr m ↦ let none = m.of_terminal in cc none ]
+    | inr a ↦ a
+  ],
+  λ a. (second (Some number) h).1 (inr a),
 )
 
 -- ---- numbers below a count

@@ -1,53 +1,40 @@
-ghost use Rattle.std.specs.Prelude.{ℕ, List, [], ◌<◌, ◌↔◌, All, Contains, IfOk, length};
-ghost use Rattle.geo_core.specs.Plane.{Has, IsInUnion};
-ghost use Rattle.geo_core.specs.declared.plane.Half.{Half};
-ghost use Rattle.geo_core.specs.declared.plane.Rect.{Rect as AnyRect};
-ghost use Rattle.fault_model.specs.Halves.{LiesIn};
-ghost use Rattle.half_boxes.specs.HalfBoxes.{HasHalf};
-ghost use Rattle.remnants.specs.inside.IslandBoxes.{AreIslandBoxes};
+ghost use Rattle.std.specs.Prelude.{ℕ, ◌<◌, ◌↔◌, Contains, IfOk};
+ghost use Rattle.remnants.specs.inside.IslandBoxes.{GainsHalves, IsOfRects, IsOfSpots};
 
 use super::parts::Loose;
-use geo_core::{Cell, Rect};
+use fault_model::Spot;
+use geo_core::Rect;
 use half_boxes::HalfBox;
 use lists::NoMemory;
 use std::alloc::Global;
 
-/// The pieces as loose boxes of no terminal.
-pub fn boxes_of_pieces(alloc: Global, pieces: &[Rect]) -> Result<Vec<Loose>, NoMemory>
-    ensures { IfOk result (λ loose. AreIslandBoxes (record { pieces = pieces.now; anchors = [] }) loose.items) }
+/// With a loose box for each of the rectangles behind, all of the terminal with this number, or of none.
+pub fn with_rects(
+    boxes: Vec<Loose>,
+    rects: &[Rect],
+    terminal: Option<usize>,
+) -> Result<Vec<Loose>, NoMemory>
+    ensures { IfOk result (λ more. GainsHalves (IsOfRects rects.now terminal) boxes.items more.items) }
 {
-    let mut loose = Vec::new(alloc);
-    for piece in pieces {
-        loose.push(Loose {
-            part: HalfBox::of_rect(*piece),
-            terminal: None,
+    let mut more = boxes;
+    for rect in rects {
+        more.push(Loose {
+            part: HalfBox::of_rect(*rect),
+            terminal,
         })?;
     }
-    Ok(loose)
+    Ok(more)
 }
 
-/// With the cell of each anchor, which lies on a piece, as a loose box of the terminal with the anchor's number.
-pub fn with_anchors(boxes: Vec<Loose>, anchors: &[Cell]) -> Result<Vec<Loose>, NoMemory>
-    requires { All (λ cell. (rect : AnyRect) × Has rect cell) anchors.now }
-    ensures { IfOk result (λ loose. (pieces : List AnyRect) → AreIslandBoxes (record { pieces = pieces; anchors = [] }) boxes.items →
-        AreIslandBoxes (record { pieces = pieces; anchors = anchors.now }) loose.items) }
+/// With a loose box for each rectangle of each spot behind, of the terminal with the spot's number.
+pub fn with_spots(boxes: Vec<Loose>, spots: &[Spot]) -> Result<Vec<Loose>, NoMemory>
+    ensures { IfOk result (λ more. GainsHalves (IsOfSpots spots.now) boxes.items more.items) }
 {
-    let mut loose = boxes;
-    for (number, cell) in anchors.iter().enumerate() {
-        loose.push(Loose {
-            part: box_of_cell(*cell),
-            terminal: Some(number),
-        })?;
+    let mut more = boxes;
+    for (number, spot) in spots.iter().enumerate() {
+        more = with_rects(more, spot.rects.as_slice(), Some(number))?;
     }
-    Ok(loose)
-}
-
-/// The half squares of a cell that lies in some rectangle.
-fn box_of_cell(cell: Cell) -> HalfBox
-    requires { (rect : AnyRect) × Has rect cell }
-    ensures { (h : Half) → HasHalf result h ↔ LiesIn h cell }
-{
-    HalfBox::of_rect(Rect::new(cell.i, cell.j, cell.i + 1, cell.j + 1))
+    Ok(more)
 }
 
 /// All numbers below the count.

@@ -1,5 +1,8 @@
 //! What is left of an island round some defects, and whether its terminals are parted there.
 //!
+//! The terminals are the spots of the island's anchors, by their numbers. A spot has any number of rectangles, which need
+//! not touch, and two spots may have the same cells.
+//!
 //! The defects are those of a zone of centres. Their *reach* is the half squares that some of them has, their *core*
 //! those that each has. Here are both for a zone of 4 by 1 cells and the radius 2. Each sign is a square of one unit:
 //! `+` is the core, and with `~` it is the reach.

@@ -8,7 +8,8 @@ pub struct Fixed {
     pub leader: usize,
 }
 
-/// A box of an island that may be removed, in part or as a whole, and the number of the terminal that has it, if one does.
+/// A box of an island that may be removed, in part or as a whole, and the number of the terminal that has it, if one does. One
+/// terminal may have several boxes.
 #[derive(Clone, Copy, Debug, PartialEq, Eq)]
 pub struct Loose {
     pub part: HalfBox,

@@ -1,5 +1,5 @@
 use super::cutting::cut_into;
-use super::island_boxes::{boxes_of_pieces, numbers_below, with_anchors};
+use super::island_boxes::{numbers_below, with_rects, with_spots};
 use super::joining::{join, moved_to};
 use super::keeping::{kept_at, places_of};
 use super::marking::are_unmarked;
@@ -69,14 +69,16 @@ impl Remnant {
         }
     }
 
-    /// All of the island, loose, with its anchors as terminals. The only error is that no memory is left.
+    /// All of the island, loose, with the spots of its anchors as terminals, by their numbers. The only error is that no memory
+    /// is left.
     pub fn whole(alloc: Global, island: &Island) -> Result<Remnant, NoMemory>
         ensures { IfOk result (λ remnant. (removed : AnyBox) →
             IsSplit remnant removed ↔ IsSevered island.now (HasHalf removed)) }
     {
         let anchors = island.anchors.as_slice();
-        let pieces = boxes_of_pieces(alloc, island.pieces.as_slice())?;
-        let loose = with_anchors(pieces, anchors)?;
+        let none = Vec::new(alloc);
+        let pieces = with_rects(none, island.pieces.as_slice(), None)?;
+        let loose = with_spots(pieces, anchors)?;
         let terminals = numbers_below(alloc, anchors.len())?;
         let fixed = Vec::new(alloc);
         let marks = Vec::new(alloc);

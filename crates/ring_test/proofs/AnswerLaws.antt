@@ -4,20 +4,20 @@ use Rattle.lists.proofs.Words.{false≢true, ints}
 use Rattle.geo_core.specs.Unions.{IsInUnion}
 use Rattle.geo_core.specs.declared.plane.Cell.{Cell}
 use Rattle.geo_core.specs.declared.plane.Rect.{Rect}
-use Rattle.fault_model.specs.Faults.{IsCellsOpen}
 use Rattle.fault_model.specs.IslandLists.{IsAnchoredIsland}
 use Rattle.paths.proofs.PathLaws.{within}
 use Rattle.severing.specs.Severing.{IsSevered}
-use Rattle.fault_model.specs.FaultNames.{IsInFootprint, IsOn, IslandLists}
+use Rattle.fault_model.specs.FaultNames.{IsInFootprint, IsIslandOpen, IsOn, IslandLists}
+use Rattle.fault_model.specs.declared.island.Spot.{Spot}
 use Rattle.ring_test.specs.Rings.{HasSome, hole_at, Hole, HasOneArc}
 use Rattle.ring_test.specs.IslandHoles.{ReachesInto, LosesAnchor}
 use Rattle.ring_test.specs.RingAnswers.{IsRingAnswer}
 use Rattle.ring_test.specs.declared.answers.RingAnswer.{RingAnswer}
 use Rattle.ring_test.specs.declared.answers.RingAnswer.TheVariants.{Untouched, OneArc, Many}
 use Rattle.ring_test.proofs.AnchorLaws.{lost_parts, one_arc_parts}
-use Rattle.ring_test.proofs.HoleLaws.{HasCell}
+use Rattle.ring_test.proofs.HoleLaws.{HasAll}
 
-module _ (pieces : List Rect) (anchors : List Cell) (island : IslandLists) (view : record { pieces = pieces; anchors = anchors } ≡ island) (seen hole : Hole) (same : seen ≡ hole) where
+module _ (pieces : List Rect) (anchors : List Spot) (island : IslandLists) (view : record { pieces = pieces; anchors = anchors } ≡ island) (seen hole : Hole) (same : seen ≡ hole) where
   abbrev inside : IslandLists
   inside = record { pieces = pieces; anchors = anchors }
 
@@ -33,25 +33,25 @@ module _ (pieces : List Rect) (anchors : List Cell) (island : IslandLists) (view
       pub told_many : one ≡ false → IsRingAnswer island hole Many
       told_many e = moved Many (touches.0 is_touched, λ arc. false≢true (sym e ∙ tells.1 arc))
 
-      pub told_one_arc : (lost : Bool) → one ≡ true → IsTrue lost ↔ ((cell : Cell) × Contains anchors cell × HasCell seen cell) → IsRingAnswer island hole (OneArc lost)
+      pub told_one_arc : (lost : Bool) → one ≡ true → IsTrue lost ↔ ((spot : Spot) × Contains anchors spot × HasAll seen spot.rects) → IsRingAnswer island hole (OneArc lost)
       told_one_arc lost e loses = moved (OneArc lost) (
         touches.0 is_touched,
         tells.0 e,
         (
-          λ t. let x = loses.0 t in record { anchor = x.0; among = x.1; covered = x.2 },
-          λ (x : LosesAnchor inside seen). loses.1 (x.anchor, x.among, x.covered),
+          λ t. let x = loses.0 t in record { spot = x.0; among = x.1; covered = x.2 },
+          λ (x : LosesAnchor inside seen). loses.1 (x.spot, x.among, x.covered),
         ),
       )
 
 -- ---- what an answer settles
 
 -- where a defect has nothing of the metal, it makes no open
-pub untouched_not_open : (island : IslandLists) (c : Cell) (s : ℕ) → (ReachesInto island (hole_at c s) → ⊥) → IsCellsOpen (IsInUnion island.pieces) (Contains island.anchors) s c → ⊥
+pub untouched_not_open : (island : IslandLists) (c : Cell) (s : ℕ) → (ReachesInto island (hole_at c s) → ⊥) → IsIslandOpen island s c → ⊥
 untouched_not_open island c s untouched o = o.parted o.tied.0 o.tied.1 o.tied.2 o.tied.3 (within (λ h on. (on, λ hit. untouched (h, on, hit))) o.tied.4)
 
 -- with one arc it makes one exactly where an anchor is lost
 pub one_arc_settles : (island : IslandLists) (c : Cell) (s : ℕ) (lost : Bool) → IsAnchoredIsland island → 1 ≤ s → 2 ≤ length island.anchors → IsRingAnswer island (hole_at c s) (OneArc lost)
-    → IsCellsOpen (IsInUnion island.pieces) (Contains island.anchors) s c ↔ IsSevered island (IsInFootprint c s) → IsCellsOpen (IsInUnion island.pieces) (Contains island.anchors) s c ↔ IsTrue lost
+    → IsIslandOpen island s c ↔ IsSevered island (IsInFootprint c s) → IsIslandOpen island s c ↔ IsTrue lost
 one_arc_settles island c s lost anchored some two answer severs =
     let hole : HasSome (hole_at c s) = record { across = omega (arith, ints); up = omega (arith, ints) } in (
       λ o. answer.2.1 (one_arc_parts island anchored (hole_at c s) hole answer.1 (severs.0 o)),

@@ -1,16 +1,16 @@
--- holes, and what unions of rectangles and cells have of them
-use Rattle.std.proofs.Common.{ℕ, List, [], ◌∷◌, ◌<◌, ◌+◌, ◌≡◌, refl, sym, subst, ap, ◌∙◌, inl, inr, ◌⊎◌, arith, ℤ, pos, ◌+ℤ◌, ◌≤ℤ◌, ◌↔◌, All, Contains, length, get_or, take}
-use Rattle.lists.proofs.Words.{ints, All-contains, Contains-append_left, Contains-push, slice_get_read, take_more}
+-- holes, and what unions of rectangles and spots have of them
+use Rattle.std.proofs.Common.{ℕ, List, [], ◌∷◌, ◌<◌, ◌+◌, ◌≡◌, refl, sym, subst, ap, ◌∙◌, inl, inr, ◌⊎◌, ℤ, ◌+ℤ◌, ◌↔◌, All, Contains, length, get_or, take}
+use Rattle.lists.proofs.Words.{All-contains, Contains-append_left, Contains-push, slice_get_read, take_more}
 use Rattle.lists.proofs.Containing.{Contains-none, Contains-slice_get, Contains-take_cases}
-use Rattle.geo_core.specs.Intervals.{IntervalsOverlap, IsPartOf}
+use Rattle.geo_core.specs.Intervals.{IntervalsOverlap}
 use Rattle.geo_core.specs.Cells.{Has, IsInLayout}
 use Rattle.geo_core.specs.Unions.{IsInUnion}
-use Rattle.geo_core.specs.declared.plane.Cell.{Cell}
 use Rattle.geo_core.specs.declared.plane.Half.{Half}
 use Rattle.geo_core.specs.declared.plane.Rect.{Rect}
-use Rattle.geo_core.proofs.IntervalLaws.{IsIn-at, ends_in, in_ends}
-use Rattle.fault_model.specs.FaultNames.{IsOn, LiesIn}
-use Rattle.fault_model.proofs.HalfLaws.{halves_in, first_half}
+use Rattle.geo_core.proofs.IntervalLaws.{IsIn-at}
+use Rattle.fault_model.specs.FaultNames.{IsOn}
+use Rattle.fault_model.specs.declared.island.Spot.{Spot}
+use Rattle.fault_model.proofs.HalfLaws.{halves_in}
 use Rattle.fault_model.proofs.UnionLaws.{union_more, union_none}
 use Rattle.half_boxes.specs.HalfBoxes.{HasHalf, IsInBoxes, OverlapHalves}
 use Rattle.half_boxes.specs.declared.boxes.HalfBox.{HalfBox}
@@ -42,27 +42,7 @@ columns_common one other (h, a, b) = (h.u, a.across, b.across)
 pub rows_common : (one other : HalfBox) → OverlapHalves one other → IntervalsOverlap one.rows.low one.rows.high other.rows.low other.rows.high
 rows_common one other (h, a, b) = (h.v, a.up, b.up)
 
--- ---- cells
-
-abbrev pub HasCell : Hole → Cell → Type 0
-HasCell hole cell = (h : Half) → LiesIn h cell → IsInHole hole h
-
-module _ (hole : Hole) (cell : Cell) where
-  pub cell_in : (i j : ℤ) → i ≡ cell.i → j ≡ cell.j → IsPartOf (i +ℤ i) (i +ℤ i +ℤ pos 2) hole.left hole.right → IsPartOf (j +ℤ j) (j +ℤ j +ℤ pos 2) hole.bottom hole.top → HasCell hole cell
-  cell_in i j e f across up h lies = (
-    across h.u (record { from = let a = lies.0.from in omega (arith, ints); before = let a = lies.0.before in omega (arith, ints) }),
-    up h.v (record { from = let a = lies.1.from in omega (arith, ints); before = let a = lies.1.before in omega (arith, ints) }),
-  )
-
-  pub cell_columns : (i : ℤ) → i ≡ cell.i → HasCell hole cell → IsPartOf (i +ℤ i) (i +ℤ i +ℤ pos 2) hole.left hole.right
-  cell_columns i e all u is =
-      (all (record { u = u; v = cell.j +ℤ cell.j }) (record { from = let a = is.from in omega (arith, ints); before = let a = is.before in omega (arith, ints) }, first_half cell.j)).0
-
-  pub cell_rows : (j : ℤ) → j ≡ cell.j → HasCell hole cell → IsPartOf (j +ℤ j) (j +ℤ j +ℤ pos 2) hole.bottom hole.top
-  cell_rows j e all v is =
-      (all (record { u = cell.i +ℤ cell.i; v = v }) (first_half cell.i, record { from = let a = is.from in omega (arith, ints); before = let a = is.before in omega (arith, ints) })).1
-
--- ---- lists of rectangles and of cells, one more
+-- ---- lists of rectangles and of spots, one more
 
 pub on_none : (h : Half) → IsOn (IsInUnion []) h → ⊥
 on_none h (c, lies, u) = union_none c u
@@ -107,19 +87,21 @@ layout_misses pieces hole all none h (c, lies, u) is = none u.rect h (All-contai
 pub on_piece : (pieces : List Rect) (i : ℕ) (piece : Rect) (h : Half) → i < length pieces → piece ≡ get_or pieces i piece → IsOn (Has piece) h → IsOn (IsInUnion pieces) h
 on_piece pieces i piece h small is (c, lies, has) = (c, lies, record { number = i; rect = piece; at = slice_get_read pieces (length pieces) i piece refl small is; has = has })
 
--- none of the cells so far lies in the hole
-abbrev pub HasNoneOf : Hole → List Cell → Type 0
-HasNoneOf hole cells = (cell : Cell) → Contains cells cell → HasCell hole cell → ⊥
+-- all half squares of the rectangles lie in the hole
+abbrev pub HasAll : Hole → List Rect → Type 0
+HasAll hole rects = (h : Half) → IsOn (IsInUnion rects) h → IsInHole hole h
 
-pub none_more : (hole : Hole) (cells : List Cell) (i : ℕ) (d : Cell) → i < length cells → HasNoneOf hole (take i cells) → (HasCell hole (get_or cells i d) → ⊥) → HasNoneOf hole (take (i + 1) cells)
-none_more hole cells i d small none out e among all = elim (Contains-take_cases cells i d e small among) [
-  | inl old ↦ none e old all
-  | inr new ↦ out (subst (HasCell hole) (sym new) all)
+pub all_more : (hole : Hole) (rects : List Rect) (i : ℕ) (rect : Rect) → i < length rects → rect ≡ get_or rects i rect → HasAll hole (take i rects)
+    → ((h : Half) → IsOn (Has rect) h → IsInHole hole h) → HasAll hole (take (i + 1) rects)
+all_more hole rects i rect small is all last h on = elim ((on_more rects i rect h small is).0 on) [ inl old ↦ all h old | inr new ↦ last h new ]
+
+-- none of the spots so far lies in the hole
+abbrev pub LosesNone : Hole → List Spot → Type 0
+LosesNone hole spots = (spot : Spot) → Contains spots spot → HasAll hole spot.rects → ⊥
+
+pub none_more : (hole : Hole) (spots : List Spot) (i : ℕ) (spot : Spot) → i < length spots → spot ≡ get_or spots i spot → LosesNone hole (take i spots)
+    → (HasAll hole spot.rects → ⊥) → LosesNone hole (take (i + 1) spots)
+none_more hole spots i spot small is none out other among all = elim (Contains-take_cases spots i spot other small among) [
+  | inl old ↦ none other old all
+  | inr new ↦ out (subst (λ (s : Spot). HasAll hole s.rects) (sym (is ∙ new)) all)
 ]
-
--- a unit lies in an interval by its ends
-pub unit_within : (unit low high : ℤ) → ((low ≤ℤ (unit +ℤ unit)) × ((unit +ℤ unit +ℤ pos 2) ≤ℤ high)) ↔ IsPartOf (unit +ℤ unit) (unit +ℤ unit +ℤ pos 2) low high
-unit_within unit low high = (
-  λ h. in_ends (unit +ℤ unit) (unit +ℤ unit +ℤ pos 2) low high h.0 h.1,
-  ends_in (unit +ℤ unit) (unit +ℤ unit +ℤ pos 2) low high (omega (arith, ints)),
-)

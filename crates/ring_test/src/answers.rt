@@ -1,17 +1,17 @@
 ghost use Rattle.std.specs.Prelude.{All, IfOk, ◌≤◌, ◌↔◌, IsTrue, Contains, length};
 ghost use Rattle.geo_core.specs.Cells.{IsInLayout};
 ghost use Rattle.geo_core.specs.Unions.{IsInUnion};
-ghost use Rattle.geo_core.specs.declared.plane.Cell.{Cell as AnyCell};
 ghost use Rattle.geo_core.specs.declared.plane.Half.{Half};
-ghost use Rattle.fault_model.specs.Faults.{IsCellsOpen};
-ghost use Rattle.fault_model.specs.Halves.{IsOn, LiesIn};
+ghost use Rattle.fault_model.specs.Halves.{IsOn};
+ghost use Rattle.fault_model.specs.IslandLists.{IsIslandOpen};
+ghost use Rattle.fault_model.specs.declared.island.Spot.{Spot as AnySpot};
 ghost use Rattle.geo_core.specs.declared.bounds.TheConstants.{GREATEST_SIDE};
 ghost use Rattle.ring_test.specs.Rings.{IsInHole, hole_at, hole_of};
 ghost use Rattle.ring_test.specs.RingAnswers.{IsRingAnswer, Settles};
 
-use super::holes::{defect_hole, has_cell, overlap};
+use super::holes::{defect_hole, overlap};
 use super::rounds::has_one_arc;
-use fault_model::Island;
+use fault_model::{Island, Spot};
 use geo_core::{Cell, Rect};
 use half_boxes::HalfBox;
 use lists::NoMemory;
@@ -26,7 +26,7 @@ pub enum RingAnswer {
     /// The defect has a half square of the island, which has none of the half squares round the defect, all of them, or one run
     /// of consecutive ones.
     OneArc {
-        /// Whether the defect has all of an anchor.
+        /// Whether the defect has all of the spot of an anchor.
         lost: bool,
     },
     /// The defect has a half square of the island, which has two or more runs of those round the defect.
@@ -44,7 +44,7 @@ pub fn ring(alloc: Global, island: &Island, cell: Cell, side: u32) -> Result<Rin
     requires within { All IsInLayout island.now.pieces }
     ensures answer { IfOk result (IsRingAnswer island.now (hole_at cell side)) }
     ensures parted { IfOk result (λ answer. 2 ≤ length island.now.anchors → Settles answer
-        (IsCellsOpen (IsInUnion island.now.pieces) (Contains island.now.anchors) side cell)) }
+        (IsIslandOpen island.now side cell)) }
 {
     defects_sever_islands();
     let Some(hole) = defect_hole(cell, side) else {
@@ -58,7 +58,7 @@ pub fn ring(alloc: Global, island: &Island, cell: Cell, side: u32) -> Result<Rin
     if !one_arc {
         return Ok(RingAnswer::Many);
     }
-    let lost = has_any(hole, island.anchors.as_slice());
+    let lost = loses_any(hole, island.anchors.as_slice());
     Ok(RingAnswer::OneArc { lost })
 }
 
@@ -74,15 +74,29 @@ fn reaches_into(pieces: &[Rect], hole: HalfBox) -> bool
     false
 }
 
-/// Whether the hole has all of one of the cells.
-fn has_any(hole: HalfBox, cells: &[Cell]) -> bool
-    ensures { IsTrue result ↔ ((cell : AnyCell) × Contains cells.now cell
-        × ((h : Half) → LiesIn h cell → IsInHole (hole_of hole) h)) }
+/// Whether the hole has all of one of the spots.
+fn loses_any(hole: HalfBox, spots: &[Spot]) -> bool
+    ensures { IsTrue result ↔ ((spot : AnySpot) × Contains spots.now spot
+        × ((h : Half) → IsOn (IsInUnion spot.rects) h → IsInHole (hole_of hole) h)) }
 {
-    for cell in cells {
-        if has_cell(hole, *cell) {
+    for spot in spots {
+        let rects = spot.rects.as_slice();
+        if has_all(hole, rects) {
             return true;
         }
     }
     false
+}
+
+/// Whether the hole has all of each of the rectangles.
+fn has_all(hole: HalfBox, rects: &[Rect]) -> bool
+    ensures { IsTrue result ↔ ((h : Half) → IsOn (IsInUnion rects.now) h → IsInHole (hole_of hole) h) }
+{
+    for rect in rects {
+        let one = HalfBox::of_rect(*rect);
+        if !one.is_within(hole) {
+            return false;
+        }
+    }
+    true
 }

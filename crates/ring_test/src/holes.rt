@@ -1,9 +1,9 @@
-ghost use Rattle.std.specs.Prelude.{ℤ, pos, ◌≡◌, ◌≤◌, ◌+ℤ◌, ◌-ℤ◌, ◌<ℤ◌, ◌↔◌, IsTrue, IfSome, IfNone};
+ghost use Rattle.std.specs.Prelude.{ℤ, pos, ◌≡◌, ◌≤◌, ◌+ℤ◌, ◌-ℤ◌, ◌↔◌, IsTrue, IfSome, IfNone};
 ghost use Rattle.geo_core.specs.Cells.{Has, IsInLayout};
-ghost use Rattle.geo_core.specs.Intervals.{IntervalsOverlap, IsInterval, IsPartOf};
+ghost use Rattle.geo_core.specs.Intervals.{IntervalsOverlap, IsInterval};
 ghost use Rattle.geo_core.specs.declared.plane.Half.{Half};
 ghost use Rattle.geo_core.specs.declared.plane.Rect.{Rect as AnyRect};
-ghost use Rattle.fault_model.specs.Halves.{IsOn, LiesIn};
+ghost use Rattle.fault_model.specs.Halves.{IsOn};
 ghost use Rattle.half_boxes.specs.HalfBoxes.{OverlapHalves};
 ghost use Rattle.geo_core.specs.declared.bounds.TheConstants.{GREATEST_SIDE};
 ghost use Rattle.ring_test.specs.Rings.{IsInHole, hole_at, hole_of};
@@ -54,34 +54,4 @@ pub fn overlap(one: HalfBox, other: HalfBox) -> bool
     ensures { IsTrue result ↔ OverlapHalves one other }
 {
     one.columns.overlaps(other.columns) && one.rows.overlaps(other.rows)
-}
-
-/// Whether all of the cell lies in the hole.
-pub fn has_cell(hole: HalfBox, cell: Cell) -> bool
-    ensures { IsTrue result ↔ ((h : Half) → LiesIn h cell → IsInHole (hole_of hole) h) }
-{
-    has_unit(hole.columns, cell.i) && has_unit(hole.rows, cell.j)
-}
-
-/// Whether both half units of the unit lie in the span.
-fn has_unit(span: HalfSpan, unit: i32) -> bool
-    ensures { IsTrue result ↔ IsPartOf (unit +ℤ unit) (unit +ℤ unit +ℤ pos 2) span.low span.high }
-{
-    let low = doubled(unit);
-    if low < i64::from(span.low) {
-        return false;
-    }
-    if i64::from(span.high) < low + 2 {
-        return false;
-    }
-    true
-}
-
-/// The first half unit of the unit.
-fn doubled(unit: i32) -> i64
-    ensures is { result ≡ unit +ℤ unit }
-    ensures most { result <ℤ pos 4294967296 }
-{
-    let unit = i64::from(unit);
-    unit + unit
 }

@@ -41,8 +41,9 @@ pub fn defects_have_rings()
 {}
 
 /// Where an island has nothing in the hole, the removal of the hole parts no two anchors. Where what it has of the ring
-/// is one arc, the removal parts two of two or more anchors exactly where one lies wholly in the hole. So where it parts
-/// two, and none lies wholly in the hole, the island has something in the hole and more than one arc of the ring.
+/// is one arc, the removal parts two of two or more anchors exactly where the spot of one lies wholly in the hole. So where
+/// it parts two, and no spot lies wholly in the hole, the island has something in the hole and more than one arc of the
+/// ring.
 pub fn one_arc_parts_no_more()
     ensures untouched { (island : IslandLists) (hole : Hole) → IsAnchoredIsland island →
         (ReachesInto island hole → ⊥) → IsSevered island (IsInHole hole) → ⊥ }
@@ -53,8 +54,8 @@ pub fn one_arc_parts_no_more()
         (LosesAnchor island hole → ⊥) → IsSevered island (IsInHole hole) → IsRingAnswer island hole Many }
 {}
 
-/// Where boxes have of the ring round another box what an island has of it, which is one arc, and no anchor lies wholly in
-/// that box, then no defect whose half squares lie in it parts two anchors.
+/// Where boxes have of the ring round another box what an island has of it, which is one arc, and no anchor's spot lies
+/// wholly in that box, then no defect whose half squares lie in it parts two anchors.
 pub fn one_arc_spares()
     ensures { (island : IslandLists) (near : List HalfBox) (reach : HalfBox) (s : ℕ) (c : Cell) → IsAnchoredIsland island →
         ((h : Half) → IsRound (hole_of reach) h → IsInBoxes near h ↔ IsOnIsland island h) →

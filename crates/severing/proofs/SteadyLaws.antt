@@ -1,16 +1,16 @@
 -- defects in one line of a zone where nothing near changes part the same
-use Rattle.std.proofs.Common.{ℕ, zero, suc, ◌≤◌, ◌≡◌, refl, subst, arith, List, length, ℤ, pos, ◌+ℤ◌, ◌-ℤ◌, ◌<ℤ◌, ◌≤ℤ◌, ◌↔◌}
+use Rattle.std.proofs.Common.{ℕ, zero, suc, ◌≤◌, ◌≡◌, refl, subst, arith, List, Contains, length, ℤ, pos, ◌+ℤ◌, ◌-ℤ◌, ◌<ℤ◌, ◌≤ℤ◌, ◌↔◌}
 use Rattle.lists.proofs.Words.{ints, by_lt_z}
 use Rattle.lists.proofs.Containing.{Contains-slice_get}
 use Rattle.geo_core.specs.Plane.{IsIn, Has, IsInUnion, low_along, high_along}
 use Rattle.geo_core.specs.declared.axis.Axis.{Axis}
 use Rattle.geo_core.specs.declared.plane.Rect.{Rect}
-use Rattle.fault_model.specs.FaultNames.{IsOn, LiesIn, IsInFootprint, IslandLists, or_zero}
+use Rattle.fault_model.specs.FaultNames.{IsOn, IsInFootprint, IslandLists, IsInAnchor, or_zero}
 use Rattle.fault_model.specs.Halves.{IsUnder}
 use Rattle.fault_model.proofs.RangeLaws.{or_zero_is}
 use Rattle.half_boxes.specs.declared.boxes.HalfBox.{HalfBox}
-use Rattle.severing.specs.Severing.{IsInAnchor, IsSevered}
-use Rattle.severing.specs.Changes.{HasNear, IsSteady}
+use Rattle.severing.specs.Severing.{IsSevered}
+use Rattle.severing.specs.Changes.{HasNear, IsNoted, IsSteady}
 use Rattle.severing.proofs.AdvanceLaws.{Advances, onward, backward, IsMiddle, front_middle, back_middle}
 use Rattle.severing.proofs.MoveLaws.{AreAlike, parted_before}
 use Rattle.severing.proofs.TurnedLaws.{turned, cell_at, hit_turned, turned_parted, parted_from_turned, along_zone, zone_along}
@@ -45,16 +45,21 @@ module _ (axis : Axis) (island : IslandLists) (zone : Rect) (side : ℕ) (near :
     abbrev high : ℤ
     high = y +ℤ y +ℤ pos 1 +ℤ pos side
 
-    metal_alike : (middle : ℤ) → IsMiddle x side middle → AreAlike (λ h. IsOn (IsInUnion island.pieces) (turned axis h)) middle low high
-    metal_alike middle is w z v near_w near_z row (c, lies, u) =
-        let alike = noted_alike axis zone side x y here next middle is near steady (IsOn (Has u.rect)) (noted.pieces u.rect (Contains-slice_get island.pieces u.number u.rect u.at)) in
+    -- a union of rectangles is alike, of which each is noted
+    union_alike : (rects : List Rect) → ((rect : Rect) → Contains rects rect → IsNoted zone side near (IsOn (Has rect)))
+        → (middle : ℤ) → IsMiddle x side middle → AreAlike (λ h. IsOn (IsInUnion rects) (turned axis h)) middle low high
+    union_alike rects each middle is w z v near_w near_z row (c, lies, u) =
+        let alike = noted_alike axis zone side x y here next middle is near steady (IsOn (Has u.rect)) (each u.rect (Contains-slice_get rects u.number u.rect u.at)) in
         let on = alike w z v near_w near_z row (c, lies, u.has) in
         (on.0, on.1, record { number = u.number; rect = u.rect; at = u.at; has = on.2 })
 
+    metal_alike : (middle : ℤ) → IsMiddle x side middle → AreAlike (λ h. IsOn (IsInUnion island.pieces) (turned axis h)) middle low high
+    metal_alike = union_alike island.pieces noted.pieces
+
     anchor_alike : (middle : ℤ) → IsMiddle x side middle → (k : ℕ) → AreAlike (λ h. IsInAnchor island.anchors k (turned axis h)) middle low high
     anchor_alike middle is k w z v near_w near_z row a =
-        let alike = noted_alike axis zone side x y here next middle is near steady (λ h. LiesIn h a.cell) (noted.anchors a.cell (Contains-slice_get island.anchors k a.cell a.at)) in
-        record { cell = a.cell; at = a.at; lies = alike w z v near_w near_z row a.lies }
+        let alike = union_alike a.spot.rects (λ rect. noted.anchors a.spot rect (Contains-slice_get island.anchors k a.spot a.at)) middle is in
+        record { spot = a.spot; at = a.at; lies = alike w z v near_w near_z row a.lies }
 
     -- from where the defect is after a move to where it was before
     severed_before : (i k first middle beyond : ℤ) → Advances (IsUnder i side) (IsUnder k side) first middle beyond → IsMiddle x side middle

@@ -1,12 +1,12 @@
 -- where a defect that moves along an axis comes to an edge, or past it
 use Rattle.std.specs.Prelude.{ℤ, pos, ℕ, List, Contains, ◌+ℤ◌, ◌-ℤ◌, ◌<ℤ◌, ◌≤ℤ◌, ◌⊎◌, ◌↔◌}
 use Rattle.geo_core.specs.Intervals.{IsWithin}
-use Rattle.geo_core.specs.declared.plane.Cell.{Cell}
 use Rattle.geo_core.specs.declared.plane.Half.{Half}
 use Rattle.geo_core.specs.declared.plane.Rect.{Rect}
 use Rattle.geo_core.specs.declared.axis.Axis.{Axis}
 use Rattle.geo_core.specs.Plane.{Has, low_along, high_along}
-use Rattle.fault_model.specs.FaultNames.{IslandLists, IsOn, LiesIn}
+use Rattle.fault_model.specs.FaultNames.{IslandLists, IsOn}
+use Rattle.fault_model.specs.declared.island.Spot.{Spot}
 use Rattle.half_boxes.specs.HalfBoxes.{HasHalf, span_along}
 use Rattle.half_boxes.specs.Footprints.{IsReached, IsAlwaysHit}
 use Rattle.half_boxes.specs.declared.boxes.HalfBox.{HalfBox}
@@ -45,10 +45,11 @@ pub record IsNoted (zone : Rect) (side : ℕ) (near : List HalfBox) (set : Half 
   pub same : (h : Half) → HasHalf one h ↔ set h
   pub noted : Contains near one ⊎ (IsFar zone side one ⊎ IsInCore zone side one)
 
--- the list has the boxes of the island's rectangles and of its anchors' cells whose ends matter to defects of the zone
+-- the list has the boxes of the rectangles of the island and of its spots, where their ends matter to defects of the zone
 pub record HasNear (island : IslandLists) (zone : Rect) (side : ℕ) (near : List HalfBox) : Type 0 where
   pub pieces : (piece : Rect) → Contains island.pieces piece → IsNoted zone side near (IsOn (Has piece))
-  pub anchors : (cell : Cell) → Contains island.anchors cell → IsNoted zone side near (λ h. LiesIn h cell)
+  pub anchors : (spot : Spot) (rect : Rect) → Contains island.anchors spot → Contains spot.rects rect →
+      IsNoted zone side near (IsOn (Has rect))
 
 -- at none of the boxes do the defects of the zone change along the axis
 abbrev pub IsSteady : Axis → Rect → ℕ → List HalfBox → Type 0

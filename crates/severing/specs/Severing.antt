@@ -1,10 +1,9 @@
 -- which terminals are parted where some half squares are removed
-use Rattle.std.specs.Prelude.{ℕ, List, Contains, Some, slice_get, length, ◌<◌, ◌≡◌, ◌≢◌}
+use Rattle.std.specs.Prelude.{ℕ, List, Contains, length, ◌<◌, ◌≢◌}
 use Rattle.geo_core.specs.Plane.{IsInUnion}
 use Rattle.geo_core.specs.declared.plane.Cell.{Cell}
 use Rattle.geo_core.specs.declared.plane.Half.{Half}
-use Rattle.fault_model.specs.FaultNames.{IsOn, LiesIn, Walk, IslandLists}
-use Rattle.fault_model.specs.Faults.{IsCellsOpen}
+use Rattle.fault_model.specs.FaultNames.{IsOn, Walk, IslandLists, IsInAnchor, IsIslandOpen}
 
 -- the half square is of the metal, and not removed
 abbrev pub IsLeft : (Half → Type 0) → (Half → Type 0) → Half → Type 0
@@ -22,12 +21,6 @@ pub record IsParted (on : Half → Type 0) (count : ℕ) (terminal : ℕ → Hal
   pub different : one ≢ other
   pub apart : (p q : Half) → terminal one p → terminal other q → Walk (IsLeft on removed) p q → ⊥
 
--- the half square lies in the cell of the anchor with this number
-pub record IsInAnchor (anchors : List Cell) (number : ℕ) (h : Half) : Type 0 where
-  pub cell : Cell
-  pub at : slice_get anchors number ≡ Some cell
-  pub lies : LiesIn h cell
-
 -- two anchors of the island are parted where these half squares are removed
 abbrev pub IsSevered : IslandLists → (Half → Type 0) → Type 0
 IsSevered island removed = IsParted (IsOn (IsInUnion island.pieces)) (length island.anchors) (IsInAnchor island.anchors) removed
@@ -36,4 +29,4 @@ IsSevered island removed = IsParted (IsOn (IsInUnion island.pieces)) (length isl
 pub record IsSomeOpen (islands : List IslandLists) (side : ℕ) (c : Cell) : Type 0 where
   pub island : IslandLists
   pub among : Contains islands island
-  pub is_open : IsCellsOpen (IsInUnion island.pieces) (Contains island.anchors) side c
+  pub is_open : IsIslandOpen island side c

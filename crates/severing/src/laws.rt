@@ -1,15 +1,13 @@
 //! Laws of what is left of islands.
 
-ghost use Rattle.std.specs.Prelude.{ℕ, List, Contains, ◌≤◌, ◌≡◌, ◌↔◌};
+ghost use Rattle.std.specs.Prelude.{ℕ, List, ◌≤◌, ◌≡◌, ◌↔◌};
 ghost use Rattle.geo_core.specs.Cells.{Has};
-ghost use Rattle.geo_core.specs.Unions.{IsInUnion};
 ghost use Rattle.geo_core.specs.declared.axis.Axis.TheVariants.{X, Y};
 ghost use Rattle.geo_core.specs.declared.plane.Cell.{Cell};
 ghost use Rattle.geo_core.specs.declared.plane.Half.{Half};
 ghost use Rattle.geo_core.specs.declared.plane.Rect.{Rect};
-ghost use Rattle.fault_model.specs.Faults.{IsCellsOpen};
 ghost use Rattle.fault_model.specs.Halves.{IsInFootprint};
-ghost use Rattle.fault_model.specs.IslandLists.{IslandLists, IsAnchoredIsland};
+ghost use Rattle.fault_model.specs.IslandLists.{IslandLists, IsAnchoredIsland, IsIslandOpen};
 ghost use Rattle.half_boxes.specs.HalfBoxes.{HasHalf};
 ghost use Rattle.half_boxes.specs.declared.boxes.HalfBox.{HalfBox};
 ghost use Rattle.severing.specs.Changes.{HasNear, IsSteady};
@@ -20,7 +18,7 @@ use fault_model::HalfSet;
 /// A defect makes an open of an island's anchors exactly where the removal of its half squares parts two of them.
 pub fn defects_sever_islands()
     ensures { (island : IslandLists) (s : ℕ) (c : Cell) → IsAnchoredIsland island →
-        IsCellsOpen (IsInUnion island.pieces) (Contains island.anchors) s c ↔ IsSevered island (IsInFootprint c s) }
+        IsIslandOpen island s c ↔ IsSevered island (IsInFootprint c s) }
 {}
 
 /// The removal of more parts what the removal of less does.

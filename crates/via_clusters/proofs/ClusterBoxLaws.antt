@@ -7,13 +7,13 @@ use Rattle.geo_core.specs.Plane.{Has, IsInUnion, IsJoin}
 use Rattle.geo_core.specs.declared.plane.Cell.{Cell}
 use Rattle.geo_core.specs.declared.plane.Rect.{Rect}
 use Rattle.fault_model.specs.FaultNames.{IsBoundsOf}
-use Rattle.fault_model.proofs.UnionLaws.{in_union, among_union, union_append, union_one, union_push}
+use Rattle.fault_model.proofs.UnionLaws.{corner_of, in_union, among_union, union_append, union_one, union_push}
 use Rattle.net_extract.specs.ContactGroups.{AreGroupsOf, carries_both, ends_of_group, rects_between}
 use Rattle.net_extract.specs.NetLists.{NetLists, contacts_of}
 use Rattle.net_extract.specs.declared.pieces.ContactGroup.{ContactGroup}
 use Rattle.net_extract.specs.declared.pieces.ContactPiece.{ContactPiece}
 use Rattle.net_extract.proofs.laws.CarryLaws.{carries_tells, told_carries}
-use Rattle.net_extract.proofs.laws.UnitLaws.{unit, some_cell}
+use Rattle.net_extract.proofs.laws.UnitLaws.{unit}
 use Rattle.via_clusters.specs.Clusters.{AreClusterBoxes, IsClusterCell}
 
 -- ---- bounds of a list
@@ -90,7 +90,7 @@ module _ (nets : NetLists) (cut : ℕ) where
   some_group_cell : (group : ContactGroup) → group.rects ≡ rects_between contacts group.lower group.upper → (c : Cell) × IsClusterCell nets cut (ends_of_group group) c
   some_group_cell group rects =
       let any : Rect = get_or group.rects 0 unit in
-      let cell = some_cell any in
+      let cell = corner_of any in
       let among = Contains-get_or group.rects 0 unit group.some in
       (cell.0, (group_cells group.lower group.upper cell.0).0 (subst (λ rs. IsInUnion rs cell.0) rects (in_union group.rects any cell.0 among cell.1)))
 

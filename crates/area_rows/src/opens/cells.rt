@@ -1,6 +1,6 @@
 //! The cells at which defects part terminals, as rectangles that serve for any part of the window.
 
-use super::drawn::{AROUND, BESIDE, Drawn, Spot, WIRE, all_islands, islands_with};
+use super::drawn::{AROUND, BESIDE, Drawn, Place, WIRE, all_islands, islands_with};
 use fault_model::Island;
 use geo_core::{GREATEST_SIDE, Rect};
 use open_grid::open_cells;
@@ -161,7 +161,7 @@ fn cells_serve_for_parts_of_a_window(rt: HostRuntime) {
 }
 
 /// A terminal at each of the first 40 cells of the lower row of the bar, and one at its other end.
-fn many_terminals() -> [Spot; 41] {
+fn many_terminals() -> [Place; 41] {
     let mut terminals = [(59, 1); 41];
     for x in 0..40 {
         terminals[x] = (x as i32, 0);

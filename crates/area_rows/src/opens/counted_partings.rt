@@ -1,14 +1,14 @@
 //! Whether defects part terminals, and how many islands are searched on the way to that.
 
-use super::drawn::{CORNER, Drawn, FRAME, NECK, Spot, WIRE, islands_of};
-use fault_model::Island;
-use geo_core::{Cell, CellList};
+use super::drawn::{CORNER, Drawn, FRAME, NECK, Place, WIRE, only_island};
+use fault_model::{Island, Spots};
+use geo_core::Cell;
 use open_grid::parted_counted;
 use samples::sides::are_near;
 use std::alloc::Global;
 
 /// A side, a cell, the count before, whether the defect there parts two terminals, and the count behind it.
-type Step = (u32, Spot, u64, bool, u64);
+type Step = (u32, Place, u64, bool, u64);
 
 const WIRE_STEPS: &[Step] = &[
     // a terminal is covered, a cut, and nothing of the wire comes near
@@ -95,26 +95,15 @@ fn are_right(alloc: Global, island: &Island, steps: &[Step]) -> bool {
     true
 }
 
-/// The one island that is drawn.
-fn only_island(alloc: Global, drawn: &Drawn) -> Option<Island> {
-    let mut islands = islands_of(alloc, drawn)?;
-    let island = islands.pop()?;
-    if islands.is_empty() {
-        Some(island)
-    } else {
-        None
-    }
-}
-
 /// The island with the first of its terminals alone.
-fn with_one_terminal(alloc: Global, island: Island) -> Option<Island> {
+fn with_one_terminal(island: Island) -> Island {
     let Island { pieces, anchors } = island;
-    let mut first = Vec::new(alloc);
-    first.push(*anchors.as_slice().first()?).ok()?;
-    Some(Island {
+    let mut spots = anchors.into_vec();
+    spots.truncate(1);
+    Island {
         pieces,
-        anchors: CellList::from_vec(first),
-    })
+        anchors: Spots::from_vec(spots),
+    }
 }
 
 /// Whether each step is right of the one island that is drawn.
@@ -130,10 +119,8 @@ fn are_right_of_one_terminal(alloc: Global) -> bool {
     let Some(wire) = only_island(alloc, &WIRE) else {
         return false;
     };
-    match with_one_terminal(alloc, wire) {
-        Some(island) => are_right(alloc, &island, ONE_TERMINAL_STEPS),
-        None => false,
-    }
+    let island = with_one_terminal(wire);
+    island.anchors.as_slice().len() == 1 && are_right(alloc, &island, ONE_TERMINAL_STEPS)
 }
 
 #[test]

@@ -9,13 +9,13 @@ use samples::sides::Sides;
 use std::alloc::{AllocError, Global};
 
 /// The column and the row of a cell.
-pub type Spot = (i32, i32);
+pub type Place = (i32, i32);
 
 /// Rectangles of a metal, and its terminals.
 #[derive(Clone, Copy)]
 pub struct Drawn {
     pub rects: &'static [Sides],
-    pub terminals: &'static [Spot],
+    pub terminals: &'static [Place],
 }
 
 /// A map of one metal, up to its terminals.
@@ -72,7 +72,7 @@ fn write_terminal(text: &mut String, x: i32, y: i32) -> Result<(), AllocError> {
 }
 
 /// The text of a map with these terminals.
-fn text_of(alloc: Global, terminals: &[Spot]) -> Result<String, AllocError> {
+fn text_of(alloc: Global, terminals: &[Place]) -> Result<String, AllocError> {
     let mut text = String::from_str(alloc, ONE_METAL)?;
     for (x, y) in terminals {
         write_terminal(&mut text, *x, *y)?;
@@ -97,7 +97,7 @@ fn islands_by(alloc: Global, table: &[Sides], text: &str) -> Option<Vec<Island>>
 }
 
 /// The islands of a metal of these rectangles that have two of the terminals or more.
-pub fn islands_with(alloc: Global, table: &[Sides], terminals: &[Spot]) -> Option<Vec<Island>> {
+pub fn islands_with(alloc: Global, table: &[Sides], terminals: &[Place]) -> Option<Vec<Island>> {
     match text_of(alloc, terminals) {
         Ok(text) => islands_by(alloc, table, text.as_str()),
         Err(_) => None,
@@ -107,6 +107,17 @@ pub fn islands_with(alloc: Global, table: &[Sides], terminals: &[Spot]) -> Optio
 /// The islands of what is drawn that have two terminals or more.
 pub fn islands_of(alloc: Global, drawn: &Drawn) -> Option<Vec<Island>> {
     islands_with(alloc, drawn.rects, drawn.terminals)
+}
+
+/// The one island of what is drawn, with two terminals or more.
+pub fn only_island(alloc: Global, drawn: &Drawn) -> Option<Island> {
+    let mut islands = islands_of(alloc, drawn)?;
+    let island = islands.pop()?;
+    if islands.is_empty() {
+        Some(island)
+    } else {
+        None
+    }
 }
 
 /// Whether there is memory for the islands, with these appended to the others.

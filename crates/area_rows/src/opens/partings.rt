@@ -1,4 +1,4 @@
-use super::drawn::{CORNER, Drawn, FRAME, NECK, Spot, WIRE, islands_of};
+use super::drawn::{CORNER, Drawn, FRAME, NECK, Place, WIRE, islands_of};
 use fault_model::Island;
 use geo_core::Cell;
 use open_grid::parted;
@@ -6,7 +6,7 @@ use samples::sides::are_near;
 use std::alloc::Global;
 
 /// What is drawn, a side, a cell, and whether the defect there parts two terminals.
-type Row = (Drawn, u32, Spot, bool);
+type Row = (Drawn, u32, Place, bool);
 
 /// A wire that ends where shapes may end at most.
 const FAR: Drawn = Drawn {
@@ -69,11 +69,11 @@ const ROWS: &[Row] = &[
 ];
 
 /// Whether the one island is parted there, or not, as it should be.
-fn is_parted(alloc: Global, islands: &[Island], side: u32, spot: Spot, wanted: bool) -> bool {
+fn is_parted(alloc: Global, islands: &[Island], side: u32, place: Place, wanted: bool) -> bool {
     if side == 0 || side > 2_000_000 {
         return false;
     }
-    let (i, j) = spot;
+    let (i, j) = place;
     match islands {
         [island] => {
             are_near(island.pieces.as_slice())
@@ -85,9 +85,9 @@ fn is_parted(alloc: Global, islands: &[Island], side: u32, spot: Spot, wanted: b
 
 /// Whether the one island that is drawn is.
 fn is_right(alloc: Global, row: &Row) -> bool {
-    let (drawn, side, spot, wanted) = row;
+    let (drawn, side, place, wanted) = row;
     match islands_of(alloc, drawn) {
-        Some(islands) => is_parted(alloc, islands.as_slice(), *side, *spot, *wanted),
+        Some(islands) => is_parted(alloc, islands.as_slice(), *side, *place, *wanted),
         None => false,
     }
 }

@@ -2,6 +2,7 @@
 
 ghost use Rattle.std.specs.Prelude.{◌≡◌, length};
 
+use crate::anchors::are_cells;
 use crate::nets::nets_of;
 use fault_model::Island;
 use geo_core::Cell;
@@ -25,7 +26,7 @@ fn are_the_wire(islands: &[Island]) -> bool {
     match islands {
         [island] => {
             have_sides(island.pieces.as_slice(), &[(0, 0, 20, 2)])
-                && island.anchors.as_slice() == ANCHORS
+                && are_cells(island.anchors.as_slice(), ANCHORS)
         }
         _ => false,
     }

@@ -1,5 +1,5 @@
 -- what stands beside an item of one of two lists
-use Rattle.std.proofs.Common.{List, [], ◌∷◌, inl, inr, subst, Contains}
+use Rattle.std.proofs.Common.{ℕ, zero, suc, ◌≡◌, refl, List, [], ◌∷◌, inl, inr, subst, Contains, Some, slice_get}
 use Rattle.lists.proofs.Words.{AllZip}
 use Rattle.lists.proofs.Containing.{Contains-cons_cases, Contains-head, Contains-none, Contains-tail}
 
@@ -20,3 +20,16 @@ module _ {X Y : Type 0} (R : X → Y → Type 0) where
     | inl same ↦ (a, Contains-head a xs, subst (R a) same zipped.0)
     | inr rest ↦ let found = back_from xs ys y zipped.1 rest in (found.0, Contains-tail a xs found.0 found.1, found.2)
   ]
+
+  -- the same by numbers
+  pub across_at : (xs : List X) (ys : List Y) (k : ℕ) (x : X) → AllZip R xs ys → slice_get xs k ≡ Some x → (y : Y) × (slice_get ys k ≡ Some y) × R x y
+  across_at [] ys k x zipped e = cc e
+  across_at (a ∷ xs) [] k x zipped e = absurd zipped
+  across_at (a ∷ xs) (b ∷ ys) zero x zipped e = let same : a ≡ x = cc e in (b, refl, subst (λ z. R z b) same zipped.0)
+  across_at (a ∷ xs) (b ∷ ys) (suc k) x zipped e = across_at xs ys k x zipped.1 e
+
+  pub back_at : (xs : List X) (ys : List Y) (k : ℕ) (y : Y) → AllZip R xs ys → slice_get ys k ≡ Some y → (x : X) × (slice_get xs k ≡ Some x) × R x y
+  back_at xs [] k y zipped e = cc e
+  back_at [] (b ∷ ys) k y zipped e = absurd zipped
+  back_at (a ∷ xs) (b ∷ ys) zero y zipped e = let same : b ≡ y = cc e in (a, refl, subst (R a) same zipped.0)
+  back_at (a ∷ xs) (b ∷ ys) (suc k) y zipped e = back_at xs ys k y zipped.1 e

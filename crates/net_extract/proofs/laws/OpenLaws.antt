@@ -7,7 +7,7 @@ use Rattle.geo_core.specs.Plane.{IsInUnion, IsCoveredIn}
 use Rattle.geo_core.specs.declared.plane.Cell.{Cell}
 use Rattle.geo_core.specs.declared.plane.Half.{Half}
 use Rattle.geo_core.specs.declared.plane.Rect.{Rect}
-use Rattle.fault_model.specs.FaultNames.{IsOn, Walk, IslandLists}
+use Rattle.fault_model.specs.FaultNames.{IsOn, Walk, IslandLists, IsIslandOpen}
 use Rattle.fault_model.specs.Faults.{IsCellsOpen}
 use Rattle.map_model.specs.MapNames.{LayerMap}
 use Rattle.net_extract.specs.AnchoredIslands.{rects_of_island, anchors_of_island, IsIslandNumbered, AreAnchoredIslands}
@@ -15,7 +15,8 @@ use Rattle.net_extract.specs.Extraction.{AreNetsOf}
 use Rattle.net_extract.specs.NetLists.{NetLists, IsIslandCell, places_of}
 use Rattle.net_extract.specs.declared.pieces.Anchor.{Anchor}
 use Rattle.net_extract.proofs.laws.BesideLaws.{across_from, back_from}
-use Rattle.net_extract.proofs.AnchoredLaws.{island_cell, in_rects, anchor_at, on_pieces}
+use Rattle.net_extract.proofs.laws.SpotLaws.{cells_open, spots_open}
+use Rattle.net_extract.proofs.AnchoredLaws.{island_cell, in_rects, anchor_at, cells_differ, on_pieces}
 use Rattle.lists.proofs.Containing.{Contains-cons_cases, Contains-none}
 use Rattle.lists.proofs.Filtering.{Contains-filter}
 use Rattle.lists.proofs.Mapping.{Contains-map, Contains-map_from}
@@ -100,13 +101,13 @@ module _ (layer_map : LayerMap) (lists : List (List Rect)) (nets : NetLists) (ar
       }
 
   module _ (s : ℕ) (c : Cell) where
-    -- the defect parts two anchors of the island
-    abbrev IsIslandOpen : List Rect → List Cell → Type 0
-    IsIslandOpen rects cells = IsCellsOpen (IsInUnion rects) (Contains cells) s c
+    -- the defect parts two of the cells, on an island of these rectangles
+    abbrev IsOpenOf : List Rect → List Cell → Type 0
+    IsOpenOf rects cells = IsCellsOpen (IsInUnion rects) (Contains cells) s c
 
     -- ---- an island that is open, and the metal
 
-    metal_open : (i : ℕ) → IsIslandOpen (rects_of_island nets metal i) (anchors_of_island nets metal i) → IsCellsOpen covered named s c
+    metal_open : (i : ℕ) → IsOpenOf (rects_of_island nets metal i) (anchors_of_island nets metal i) → IsCellsOpen covered named s c
     metal_open i o =
         let t = o.tied in
         record {
@@ -124,7 +125,7 @@ module _ (layer_map : LayerMap) (lists : List (List Rect)) (nets : NetLists) (ar
 
     record IsOpenOn (i : ℕ) : Type 0 where
       many : 2 ≤ length (anchors_of_island nets metal i)
-      is_open : IsIslandOpen (rects_of_island nets metal i) (anchors_of_island nets metal i)
+      is_open : IsOpenOf (rects_of_island nets metal i) (anchors_of_island nets metal i)
 
     island_open : IsCellsOpen covered named s c → (i : ℕ) × IsOpenOn i
     island_open o =
@@ -154,13 +155,15 @@ module _ (layer_map : LayerMap) (lists : List (List Rect)) (nets : NetLists) (ar
 
     module _ (islands : List IslandLists) (anchored : AreAnchoredIslands nets metal islands) where
       as_numbered : (number : ℕ) (island : IslandLists) → IsIslandNumbered nets metal number island
-          → IsIslandOpen island.pieces island.anchors ↔ IsIslandOpen (rects_of_island nets metal number) (anchors_of_island nets metal number)
-      as_numbered number island is = (
-        λ o. subst (λ rs. IsIslandOpen rs (anchors_of_island nets metal number)) is.pieces (subst (IsIslandOpen island.pieces) is.anchors o),
-        λ o. subst (λ rs. IsIslandOpen rs island.anchors) (sym is.pieces) (subst (IsIslandOpen (rects_of_island nets metal number)) (sym is.anchors) o),
-      )
+          → IsIslandOpen island s c ↔ IsOpenOf (rects_of_island nets metal number) (anchors_of_island nets metal number)
+      as_numbered number island is =
+          let cells = anchors_of_island nets metal number in (
+            λ o. subst (λ rects. IsOpenOf rects cells) is.pieces
+                (cells_open cells island.anchors is.anchors (IsInUnion island.pieces) s c (cells_differ nets metal number are.facts) o),
+            λ o. spots_open cells island.anchors is.anchors (IsInUnion island.pieces) s c (subst (λ rects. IsOpenOf rects cells) (sym is.pieces) o),
+          )
 
-      pub opens_are_of_islands : ((island : IslandLists) × Contains islands island × IsCellsOpen (IsInUnion island.pieces) (Contains island.anchors) s c) ↔ IsCellsOpen covered named s c
+      pub opens_are_of_islands : ((island : IslandLists) × Contains islands island × IsIslandOpen island s c) ↔ IsCellsOpen covered named s c
       opens_are_of_islands = (
         λ (island, among, o).
             let from = back_from (IsIslandNumbered nets metal) anchored.numbers islands island anchored.each among in

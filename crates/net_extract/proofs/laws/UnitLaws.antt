@@ -1,8 +1,6 @@
--- a rectangle of one cell, and a cell of each
+-- a rectangle of one cell
 use Rattle.std.proofs.Common.{arith, pos}
 use Rattle.lists.proofs.Words.{ints}
-use Rattle.geo_core.specs.Plane.{Has}
-use Rattle.geo_core.specs.declared.plane.Cell.{Cell}
 use Rattle.geo_core.specs.declared.plane.Rect.{Rect}
 
 -- a rectangle of one cell, for a piece of any island
@@ -15,12 +13,3 @@ unit = record {
   across = record { some = omega (arith, ints); least = omega (arith, ints); most = omega (arith, ints) };
   up = record { some = omega (arith, ints); least = omega (arith, ints); most = omega (arith, ints) };
 }
-
--- a rectangle has a cell
-pub some_cell : (rect : Rect) → (c : Cell) × Has rect c
-some_cell rect =
-    let across = rect.across.some in
-    let up = rect.up.some in (
-      record { i = rect.x0; j = rect.y0 },
-      record { across = record { from = omega (arith, ints); before = across }; up = record { from = omega (arith, ints); before = up } },
-    )

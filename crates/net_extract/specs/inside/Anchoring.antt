@@ -19,15 +19,15 @@ pub record IsTerminalAt (terminals : List Terminal) (metal number : ℕ) (c : Ce
 
 -- the rectangles are the cells of the metal's terminals, labelled by the numbers of these; a cell that no rectangle can
 -- have is left out
-pub record AreSpots (terminals : List Terminal) (metal : ℕ) (spots : List Labelled) : Type 0 where
-  pub sound : (number : ℕ) (c : Cell) → HasLabelled spots number c → IsTerminalAt terminals metal number c
-  pub complete : (number : ℕ) (c : Cell) (rect : Rect) → IsTerminalAt terminals metal number c → Has rect c → HasLabelled spots number c
+pub record AreTerminalsOn (terminals : List Terminal) (metal : ℕ) (cells : List Labelled) : Type 0 where
+  pub sound : (number : ℕ) (c : Cell) → HasLabelled cells number c → IsTerminalAt terminals metal number c
+  pub complete : (number : ℕ) (c : Cell) (rect : Rect) → IsTerminalAt terminals metal number c → Has rect c → HasLabelled cells number c
 
 -- the same for one terminal with its number
-pub record IsSpotOf (terminal : Terminal) (number metal : ℕ) (spot : Option Labelled) : Type 0 where
-  pub sound : (label : ℕ) (c : Cell) → HasLabelled (option_to_list spot) label c →
+pub record IsTerminalOn (terminal : Terminal) (number metal : ℕ) (cell : Option Labelled) : Type 0 where
+  pub sound : (label : ℕ) (c : Cell) → HasLabelled (option_to_list cell) label c →
       (label ≡ number) × (terminal.metal ≡ metal) × (terminal.cell ≡ c)
-  pub complete : (rect : Rect) → terminal.metal ≡ metal → Has rect terminal.cell → HasLabelled (option_to_list spot) number terminal.cell
+  pub complete : (rect : Rect) → terminal.metal ≡ metal → Has rect terminal.cell → HasLabelled (option_to_list cell) number terminal.cell
 
 -- the number, by which terminals go on the lower side of meetings, meets the island
 pub record Meets (met : List ContactPiece) (number island : ℕ) : Type 0 where
@@ -64,3 +64,7 @@ pub record IsAnchorOf (islands : List (List Labelled)) (terminal : Terminal) (an
 -- a terminal with its number: its cell lies on an island of its metal
 abbrev pub IsOnIsland : List (List Labelled) → ℕ × (ℕ × Cell) → Type 0
 IsOnIsland islands numbered = (i : ℕ) × HasLabelled (islands_on islands numbered.1.0) i numbered.1.1
+
+-- some rectangle has the cell
+abbrev pub MayBeCovered : Cell → Type 0
+MayBeCovered cell = (rect : Rect) × Has rect cell

@@ -5,10 +5,11 @@ use Rattle.geo_core.specs.Plane.{Has, IsInUnion}
 use Rattle.geo_core.specs.declared.plane.Cell.{Cell}
 use Rattle.geo_core.specs.declared.plane.Half.{Half}
 use Rattle.geo_core.specs.declared.plane.Rect.{Rect}
-use Rattle.fault_model.specs.FaultNames.{IslandLists, IsInFootprint, LiesIn}
+use Rattle.fault_model.specs.FaultNames.{IslandLists, IsInFootprint, IsOn}
 use Rattle.fault_model.specs.IslandLists.{IsAnchoredIsland}
+use Rattle.fault_model.specs.declared.island.Spot.{Spot}
 use Rattle.half_boxes.specs.Footprints.{IsReached, IsAlwaysHit}
-use Rattle.half_boxes.specs.HalfBoxes.{HasHalf, IsInBoxes}
+use Rattle.half_boxes.specs.HalfBoxes.{HasHalf, IsInBoxes, LiesWithin}
 use Rattle.half_boxes.specs.declared.boxes.HalfBox.{HalfBox}
 use Rattle.remnants.specs.Remnants.{IsSplit}
 use Rattle.ring_test.specs.IslandHoles.{IsOnIsland}
@@ -27,17 +28,27 @@ pub record HasBoxOf (boxes : List HalfBox) (set : Half → Type 0) : Type 0 wher
   pub among : Contains boxes one
   pub same : (h : Half) → HasHalf one h ↔ set h
 
--- it has one for each anchor's cell
-abbrev pub HaveAnchorBoxes : IslandLists → List HalfBox → Type 0
-HaveAnchorBoxes island boxes = (anchor : Cell) → Contains island.anchors anchor → HasBoxOf boxes (λ h. LiesIn h anchor)
+-- the box is the hull of the rectangles: it lies within a box exactly where all their half squares do
+pub record IsHullOf (rects : List Rect) (one : HalfBox) : Type 0 where
+  pub lies : (box : HalfBox) → LiesWithin one box ↔ ((h : Half) → IsOn (IsInUnion rects) h → HasHalf box h)
 
--- it has one for each anchor's cell that the zone's defects cover together
+-- the boxes are the hulls of the anchors' spots
+abbrev pub HaveAnchorBoxes : IslandLists → List HalfBox → Type 0
+HaveAnchorBoxes island = AllZip (λ (spot : Spot). IsHullOf spot.rects) island.anchors
+
+-- the list has the hull of the rectangles
+pub record HasHullOf (boxes : List HalfBox) (rects : List Rect) : Type 0 where
+  pub one : HalfBox
+  pub among : Contains boxes one
+  pub hull : IsHullOf rects one
+
+-- it has that of each anchor's spot that the zone's defects cover together
 abbrev pub HaveReached : IslandLists → Rect → ℕ → List HalfBox → Type 0
-HaveReached island zone side boxes = (anchor : Cell) → Contains island.anchors anchor → ((h : Half) → LiesIn h anchor → IsReached zone side h)
-    → HasBoxOf boxes (λ h. LiesIn h anchor)
+HaveReached island zone side boxes = (spot : Spot) → Contains island.anchors spot → ((h : Half) → IsOn (IsInUnion spot.rects) h → IsReached zone side h)
+    → HasHullOf boxes spot.rects
 
 -- what was looked at stands for the island where such a box is removed, and it has the boxes whose ends matter in the zone, all on
--- the island, and those of the anchors that its defects cover together
+-- the island, and the hulls of the anchors' spots that its defects cover together
 pub record StandsFor (zone : Rect) (side : ℕ) (looked : Looked) (island : IslandLists) : Type 0 where
   pub anchored : IsAnchoredIsland island
   pub same : (removed : HalfBox) → IsBetweenDefects zone side removed →

@@ -8,7 +8,8 @@ use Rattle.geo_core.specs.Intervals.{IsIn, IsWithin}
 use Rattle.geo_core.specs.declared.plane.Cell.{Cell}
 use Rattle.geo_core.specs.declared.plane.Half.{Half}
 use Rattle.geo_core.specs.declared.plane.Rect.{Rect}
-use Rattle.fault_model.specs.FaultNames.{IslandLists, IsInFootprint, IsOn, LiesIn}
+use Rattle.fault_model.specs.FaultNames.{IslandLists, IsInFootprint, IsOn}
+use Rattle.fault_model.specs.declared.island.Spot.{Spot}
 use Rattle.half_boxes.specs.HalfBoxes.{HasHalf, HasHalfIn, IsInBoxes, LiesWithin}
 use Rattle.half_boxes.specs.declared.boxes.HalfBox.{HalfBox}
 use Rattle.remnants.specs.Remnants.{RemnantLists, IsSplit}
@@ -16,7 +17,7 @@ use Rattle.ring_test.specs.IslandHoles.{IsOnIsland}
 use Rattle.severing.specs.Changes.{ChangesAt, IsSteady}
 use Rattle.severing.specs.Severing.{IsSevered}
 use Rattle.union_area.specs.WindowParts.{AreInLine, IsBetween, place_along}
-use Rattle.open_grid.specs.inside.ZoneNeeds.{HasBoxOf, HaveAnchorBoxes, StandsFor, StandForAll, AllSever, SeverAlike}
+use Rattle.open_grid.specs.inside.ZoneNeeds.{HasBoxOf, StandsFor, StandForAll, AllSever, SeverAlike}
 use Rattle.open_grid.specs.RingCounts.{IsSomeRingMany}
 use Rattle.open_grid.specs.declared.looked.Looked.{Looked}
 use Rattle.open_grid.specs.declared.looked.Told.{Told}
@@ -39,21 +40,20 @@ pub record IsSingle (zone : Rect) : Type 0 where
   pub column : zone.x0 +ℤ pos 1 ≡ zone.x1
   pub row : zone.y0 +ℤ pos 1 ≡ zone.y1
 
--- the list has a box for each of the rectangles, and nothing else
-pub record HavePieceBoxes (pieces : List Rect) (boxes : List HalfBox) : Type 0 where
-  pub each : (piece : Rect) → Contains pieces piece → HasBoxOf boxes (IsOn (Has piece))
-  pub only : (h : Half) → IsInBoxes boxes h → IsOn (IsInUnion pieces) h
+-- the rectangle is one of some spot of the list
+abbrev pub IsOfSpots : List Spot → Rect → Type 0
+IsOfSpots spots rect = (spot : Spot) × Contains spots spot × Contains spot.rects rect
 
--- it gains one for each of the cells that some rectangle has
-pub record GainsCells (cells : List Cell) (old new : List HalfBox) : Type 0 where
+-- the list gains a box for each of the rectangles, and no half squares but theirs
+pub record GainsBoxes (gained : Rect → Type 0) (old new : List HalfBox) : Type 0 where
   pub kept : (one : HalfBox) → Contains old one → Contains new one
-  pub gained : (cell : Cell) (rect : Rect) → Contains cells cell → Has rect cell → HasBoxOf new (λ h. LiesIn h cell)
-  pub only : (h : Half) → IsInBoxes new h → IsInBoxes old h ⊎ IsOn (Contains cells) h
+  pub each : (rect : Rect) → gained rect → HasBoxOf new (IsOn (Has rect))
+  pub only : (h : Half) → IsInBoxes new h → IsInBoxes old h ⊎ ((rect : Rect) × gained rect × IsOn (Has rect) h)
 
--- it has one for each rectangle of the island, and one for each anchor's cell, all on the island
+-- it has one for each rectangle of the island, and one for each of its spots' rectangles, all on the island
 pub record HaveBoxesOf (island : IslandLists) (boxes : List HalfBox) : Type 0 where
   pub pieces : (piece : Rect) → Contains island.pieces piece → HasBoxOf boxes (IsOn (Has piece))
-  pub anchors : HaveAnchorBoxes island boxes
+  pub anchors : (rect : Rect) → IsOfSpots island.anchors rect → HasBoxOf boxes (IsOn (Has rect))
   pub on_island : (h : Half) → IsInBoxes boxes h → IsOnIsland island h
 
 -- what an island says of the zone: no defect of it parts two of the anchors; each does; or this is to be looked at

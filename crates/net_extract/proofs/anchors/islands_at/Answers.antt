@@ -16,12 +16,12 @@ loop-metal-preserved c =
     let metal = c.loop-metal.metal in
     let old = c.loop-metal.found.items in
     let new = c.mark.new.found in
-    let spots = c.in_ok-spots.spots.items in
+    let cells = c.in_ok-cells.cells.items in
     let met = c.in_ok-met.met.items in
     let on_metal = c.as_slice.ensures ∙ get_or_read islands metal c.index-islands-metal.result c.loop-metal-test.true c.index-islands-metal.is [] in
     let meet = subst (λ xs. AreMeetings xs (get_or islands metal []) met) c.deref.ensures.value (subst (λ xs. AreMeetings c.deref.result.now xs met) on_metal c.in_ok-met.ensures.exact) in
     let marked = subst (λ xs. IsMarked xs met new) c.deref_mut.ensures.value (subst (λ xs. IsMarked c.deref_mut.result.now xs new) c.deref-in-loop-metal.ensures.value c.mark.ensures) in
-    let next = one_metal_more terminals islands metal old new spots met c.loop-metal.invariant c.in_ok-spots.ensures meet marked in
+    let next = one_metal_more terminals islands metal old new cells met c.loop-metal.invariant c.in_ok-cells.ensures meet marked in
     let length_is : c.loop-metal.found.len ≡ length new = c.loop-metal.found.ok.0 ∙ sym marked.one_each in
     rw (put_back c.loop-metal.found.len new old length_is) next
 

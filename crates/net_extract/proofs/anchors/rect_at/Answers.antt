@@ -1,6 +1,6 @@
 use Rattle.std.proofs.Common.{arith}
 use Rattle.lists.proofs.Words.{ints}
-use Rattle.net_extract.proofs.SpotLaws.{is_cell}
+use Rattle.net_extract.proofs.TerminalLaws.{is_cell}
 use Rattle.net_extract.proofs.anchors.rect_at.Goals as goal
 
 pub returns-clause-some : goal.returns-clause-some

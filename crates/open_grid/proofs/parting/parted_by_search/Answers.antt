@@ -6,7 +6,7 @@ use Rattle.open_grid.proofs.parting.parted_by_search.Goals as goal
 pub returns-in_default : goal.returns-in_default
 returns-in_default c = (
   λ f. absurd (false≢true f),
-  λ o. absurd (not_open c.args.island.now.pieces c.requires.within c.args.side c.requires.few c.args.cell c.in_default.ensures.none c.args.island.now.anchors o),
+  λ o. absurd (not_open c.args.island.now c.requires.within c.args.side c.requires.few c.args.cell c.in_default.ensures.none o),
 )
 
 pub returns-in-Never : goal.returns-in-Never

@@ -16,7 +16,7 @@ returns-in-Always-clause-left c = λ islands stand.
     let told = rw c.in-Always.is at (c.in_ok-look_at_ring_first.ensures.told b.island b.stands) in
     let covers = rw c.as_slice.ensures at c.covers_none_at_a_corner-many.ensures in (
       all_severed zone side islands b.island b.among told,
-      λ many. many_ring c.one_arc_parts_no_more.ensures.many zone side c.requires.some c.one-item.result b.island b.stands told (covers many) islands b.among,
+      λ many. many_ring c.one_arc_parts_no_more.ensures.many zone side c.requires.some c.requires.few c.one-item.result b.island b.stands told (covers many) islands b.among,
     )
 
 pub loop-one-preserved : goal.loop-one-preserved

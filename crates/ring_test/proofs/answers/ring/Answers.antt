@@ -32,13 +32,13 @@ returns-then-not-one_arc-clause-answer c =
 pub returns-clause-answer : goal.returns-clause-answer
 returns-clause-answer c = told_one_arc c.island.inside.pieces c.island.inside.anchors c.args.island.now c.island.view_is (hole_of c.in-Some.hole) (hole_at c.args.cell c.args.side)
     c.in-Some.ensures.some c.reaches_into.result (rw c.as_slice-pieces.ensures at c.reaches_into.ensures) c.if-not-reaches_into.false c.in_ok-one_arc.one_arc
-    (rw c.as_slice-pieces.ensures at c.in_ok-one_arc.ensures) c.has_any-lost.result c.if-not-one_arc.false (rw c.as_slice.ensures at c.has_any-lost.ensures)
+    (rw c.as_slice-pieces.ensures at c.in_ok-one_arc.ensures) c.loses_any-lost.result c.if-not-one_arc.false (rw c.as_slice.ensures at c.loses_any-lost.ensures)
 
 pub returns-clause-parted : goal.returns-clause-parted
 returns-clause-parted c two =
     let anchored : IsAnchoredIsland c.args.island.now = subst IsAnchoredIsland c.island.view_is c.island.invariant in
-    one_arc_settles c.args.island.now c.args.cell c.args.side c.has_any-lost.result anchored c.requires.some two
+    one_arc_settles c.args.island.now c.args.cell c.args.side c.loses_any-lost.result anchored c.requires.some two
     (told_one_arc c.island.inside.pieces c.island.inside.anchors c.args.island.now c.island.view_is (hole_of c.in-Some.hole) (hole_at c.args.cell c.args.side)
     c.in-Some.ensures.some c.reaches_into.result (rw c.as_slice-pieces.ensures at c.reaches_into.ensures) c.if-not-reaches_into.false c.in_ok-one_arc.one_arc
-    (rw c.as_slice-pieces.ensures at c.in_ok-one_arc.ensures) c.has_any-lost.result c.if-not-one_arc.false (rw c.as_slice.ensures at c.has_any-lost.ensures))
+    (rw c.as_slice-pieces.ensures at c.in_ok-one_arc.ensures) c.loses_any-lost.result c.if-not-one_arc.false (rw c.as_slice.ensures at c.loses_any-lost.ensures))
     (c.defects_sever_islands.ensures c.args.island.now c.args.side c.args.cell anchored)

@@ -1,0 +1,8 @@
+use Rattle.std.proofs.Common.{arith}
+use Rattle.lists.proofs.Words.{ints}
+use Rattle.net_extract.proofs.TerminalLaws.{is_cell}
+use Rattle.net_extract.proofs.spots.unit_at.Goals as goal
+
+pub returns : goal.returns
+returns c = is_cell c.new.result c.args.cell (omega (arith, ints, c.new.ensures.left)) (omega (arith, ints, c.new.ensures.right)) (omega (arith, ints, c.new.ensures.bottom))
+    (omega (arith, ints, c.new.ensures.top))
