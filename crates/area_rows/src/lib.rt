@@ -15,6 +15,8 @@ mod flood;
 #[cfg(test)]
 mod flood_rows;
 #[cfg(test)]
+mod halves;
+#[cfg(test)]
 mod large_lists;
 #[cfg(test)]
 mod many;

@@ -9,4 +9,6 @@ pub mod drawn;
 mod links;
 mod many_rows;
 mod partings;
+mod spots;
+mod spotted;
 mod wire;
