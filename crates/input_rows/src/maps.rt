@@ -1,5 +1,6 @@
 //! Layer maps: what is read, and the first fault in those that are refused.
 
+mod contacts;
 mod hostile;
 mod limits;
 mod order;

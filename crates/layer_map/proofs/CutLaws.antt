@@ -1,5 +1,5 @@
 -- the cuts of a document, and the metals that they join
-use Rattle.std.proofs.Common.{◌≡◌, ℕ, ◌<◌, ◌≤◌, List, [], ◌∷◌, ◌++◌, length, map, Option, refl, sym, ap, ◌∙◌, subst, arith, ◌≢◌, get_or, Some, inl, inr, slice_get, option_map}
+use Rattle.std.proofs.Common.{◌≡◌, ℕ, ◌<◌, ◌≤◌, List, [], ◌∷◌, ◌++◌, length, map, Option, sym, ap, ◌∙◌, subst, arith, ◌≢◌, get_or, Some, inl, inr, slice_get, option_map}
 use Rattle.lists.specs.Differing.{AreDifferent}
 use Rattle.lists.proofs.Words.{AllZip, length-map, slice_get_within, cases_lt, slice_get-map, get_or_from_slice_get, map-map, same_Some}
 use Rattle.toml.specs.Data.{Data, Members, string}
@@ -58,7 +58,7 @@ takes_cut metals earlier item old new layer cut takes ends same_name same_pairs 
     let same : record { name = layer.name; pairs = layer.pairs } ≡ cut_layer cut = ap (λ (n : List ℕ). record { name = n; pairs = layer.pairs }) (sym same_name)
     ∙ ap (λ (ps : List (ℕ × ℕ)). record { name = cut.name; pairs = ps }) (sym same_pairs) in
     record {
-      gives_it = record { layer = subst (λ (l : MappedLayer). GivesLayer item l) same takes.gives_it; lower = ends.lower; upper = ends.upper; no_terminals = refl };
+      gives_it = record { layer = subst (λ (l : MappedLayer). GivesLayer item l) same takes.gives_it; lower = ends.lower; upper = ends.upper };
       names = takes.names ∙ ap (λ (n : List ℕ). old.names.items ++ n ∷ []) (sym same_name);
       pairs = takes.pairs ∙ ap (λ (ps : List (ℕ × ℕ)). old.pairs.items ++ ps) (sym same_pairs);
       are_seen = takes.are_seen;

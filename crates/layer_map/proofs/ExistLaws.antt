@@ -1,5 +1,5 @@
 -- where all checks of a document hold it gives a layer map
-use Rattle.std.proofs.Common.{◌≡◌, ℕ, suc, ◌<◌, List, [], ◌∷◌, ◌++◌, length, get_or, take, map, Option, Some, false, refl, sym, ap, ◌∙◌, subst, arith, zero-add, All, Contains, slice_get}
+use Rattle.std.proofs.Common.{◌≡◌, ℕ, suc, ◌<◌, List, [], ◌∷◌, ◌++◌, length, get_or, take, map, Option, Some, refl, sym, ap, ◌∙◌, subst, arith, zero-add, All, Contains, slice_get}
 use Rattle.lists.proofs.Words.{flat_map, AllZip, All-contains, Contains-get_or, range_with_len, get_or-map, get_or-range_with_len, get_or_from_slice_get, length-map, length-range_with_len}
 use Rattle.lists.proofs.Words.{get_or-take, length-take-le, slice_get_within}
 use Rattle.geo_core.specs.declared.plane.Cell.{Cell}
@@ -10,11 +10,11 @@ use Rattle.layer_map.specs.DocumentSizes.{measure_of}
 use Rattle.layer_map.specs.LayerChecks.{layer_checks}
 use Rattle.map_model.specs.MapNames.{LayerMap, MappedCut, MappedLayer, names_of, sizes_of}
 use Rattle.lists.specs.Differing.{AreDifferent}
-use Rattle.layer_map.specs.MapChecks.{Holds, MapCheck, checks_of, checks_of_cuts, checks_of_each, checks_of_metals, checks_of_terminals, first_checks, of_cut, of_metal, of_terminal, has_known_keys}
+use Rattle.layer_map.specs.MapChecks.{Holds, MapCheck, checks_of, checks_of_cuts, checks_of_each, checks_of_metals, checks_of_terminals, first_checks, last_checks, of_cut, of_metal, of_terminal, has_known_keys}
 use Rattle.layer_map.specs.MapChecks.{has_metals, metals_are_few, cuts_are_array, cuts_are_few, terminals_are_array, terminals_are_few}
 use Rattle.layer_map.specs.inside.ReadLayers.{written_name}
 use Rattle.layer_map.specs.TerminalChecks.{terminal_checks}
-use Rattle.layer_map.specs.Values.{cuts_in, metals_in, name_of_item, terminals_in}
+use Rattle.layer_map.specs.Values.{contacts_in, cuts_in, metals_in, name_of_item, terminals_in, truth_in}
 use Rattle.lists.proofs.Containing.{All-back, All-front, all_of_each, number_of, some_item}
 use Rattle.lists.proofs.Mapping.{Contains-flat_map, Contains-map_from}
 use Rattle.std.proofs.lemmas.List.{take-map}
@@ -53,11 +53,14 @@ names_one ds layers there all among =
     (number, record { metal = layer; numbered = numbered; named = sym (ap written_name is ∙ same) })
 
 module _ (document : Members) (all : All (Holds document) (checks_of document)) where
-  rest_holds : All (Holds document) (checks_of_metals document ++ (checks_of_cuts document ++ checks_of_terminals document))
-  rest_holds = All-back (Holds document) first_checks (checks_of_metals document ++ (checks_of_cuts document ++ checks_of_terminals document)) all
+  abbrev behind_cuts : List MapCheck
+  behind_cuts = checks_of_terminals document ++ last_checks
 
-  behind_metals_hold : All (Holds document) (checks_of_cuts document ++ checks_of_terminals document)
-  behind_metals_hold = All-back (Holds document) (checks_of_metals document) (checks_of_cuts document ++ checks_of_terminals document) rest_holds
+  rest_holds : All (Holds document) (checks_of_metals document ++ (checks_of_cuts document ++ behind_cuts))
+  rest_holds = All-back (Holds document) first_checks (checks_of_metals document ++ (checks_of_cuts document ++ behind_cuts)) all
+
+  behind_metals_hold : All (Holds document) (checks_of_cuts document ++ behind_cuts)
+  behind_metals_hold = All-back (Holds document) (checks_of_metals document) (checks_of_cuts document ++ behind_cuts) rest_holds
 
   -- behind two checks of all items, those of each
   item_holds : {C : Type 0} (first second : MapCheck) (of_item : ℕ → C → MapCheck) (checks : List C) (items : List Data) → All (Holds document) (first ∷ second ∷ checks_of_each of_item checks items)
@@ -67,7 +70,7 @@ module _ (document : Members) (all : All (Holds document) (checks_of document)) 
 
   metal_hold : (number : ℕ) (item : Data) → slice_get (metals_in document) number ≡ Some item → All (Holds document) (map (of_metal number) layer_checks)
   metal_hold = item_holds has_metals metals_are_few of_metal layer_checks (metals_in document)
-      (All-front (Holds document) (checks_of_metals document) (checks_of_cuts document ++ checks_of_terminals document) rest_holds)
+      (All-front (Holds document) (checks_of_metals document) (checks_of_cuts document ++ behind_cuts) rest_holds)
 
   a_metal : (number : ℕ) (item : Data) → slice_get (metals_in document) number ≡ Some item → (layer : MappedLayer) × GivesLayer item layer
   a_metal number item there =
@@ -85,19 +88,20 @@ module _ (document : Members) (all : All (Holds document) (checks_of document)) 
 
   a_cut : (number : ℕ) (item : Data) → slice_get (cuts_in document) number ≡ Some item → (cut : MappedCut) × GivesCut metals.0 item cut
   a_cut number item there =
-      let hold = All-front (Holds document) (checks_of_cuts document) (checks_of_terminals document) behind_metals_hold in
+      let hold = All-front (Holds document) (checks_of_cuts document) behind_cuts behind_metals_hold in
       let checks = item_holds cuts_are_array cuts_are_few of_cut cut_checks (cuts_in document) hold number item there in
       let name = rw there at (checks 2 has_known_keys (omega arith)) in
       let pairs = rw there at (checks 4 has_known_keys (omega arith)) in
       let (lower, lower_names) = names_one (metals_in document) metals.0 _ metals.1 (rw there at (checks 7 has_known_keys (omega arith))) in
       let (upper, upper_names) = names_one (metals_in document) metals.0 _ metals.1 (rw there at (checks 9 has_known_keys (omega arith))) in (
-        record { mapped = record { name = name.0; pairs = pairs.0 }; lower = lower; upper = upper; has_terminals = false },
-        record { layer = record { name = name.1; pairs = pairs.1 }; lower = lower_names; upper = upper_names; no_terminals = refl },
+        record { mapped = record { name = name.0; pairs = pairs.0 }; lower = lower; upper = upper },
+        record { layer = record { name = name.1; pairs = pairs.1 }; lower = lower_names; upper = upper_names },
       )
 
   a_terminal : (number : ℕ) (item : Data) → slice_get (terminals_in document) number ≡ Some item → (terminal : ℕ × Cell) × GivesTerminal metals.0 item terminal
   a_terminal number item there =
-      let hold = All-back (Holds document) (checks_of_cuts document) (checks_of_terminals document) behind_metals_hold in
+      let behind = All-back (Holds document) (checks_of_cuts document) behind_cuts behind_metals_hold in
+      let hold = All-front (Holds document) (checks_of_terminals document) last_checks behind in
       let checks = item_holds terminals_are_array terminals_are_few of_terminal terminal_checks (terminals_in document) hold number item there in
       let (metal, names) = names_one (metals_in document) metals.0 _ metals.1 (rw there at (checks 3 has_known_keys (omega arith))) in
       let x = rw there at (checks 4 has_known_keys (omega arith)) in
@@ -110,7 +114,7 @@ module _ (document : Members) (all : All (Holds document) (checks_of document)) 
       let weights = all 5 has_known_keys (omega arith) in
       let cuts = list_for (GivesCut metals.0) (cuts_in document) a_cut in
       let terminals = list_for (GivesTerminal metals.0) (terminals_in document) a_terminal in (
-        record { metals = metals.0; cuts = cuts.0; measure = measure_of document; sizes = sizes_of sizes.0 weights.0; terminals = terminals.0 },
+        record { metals = metals.0; cuts = cuts.0; measure = measure_of document; sizes = sizes_of sizes.0 weights.0; terminals = terminals.0; contacts = truth_in (contacts_in document) },
         record {
           numbers = sizes.0;
           weights = weights.0;
@@ -122,5 +126,6 @@ module _ (document : Members) (all : All (Holds document) (checks_of document)) 
           names_differ = names_differ;
           cuts = cuts.1;
           terminals = terminals.1;
+          contacts = refl;
         },
       )

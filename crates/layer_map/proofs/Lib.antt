@@ -12,6 +12,7 @@ pub mod EachLaws
 pub mod CutLaws
 pub mod CellLaws
 pub mod TerminalLaws
+pub mod ContactLaws
 pub mod MapLaws
 pub mod UniqueLaws
 pub mod ExistLaws

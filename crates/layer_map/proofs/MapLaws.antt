@@ -1,5 +1,5 @@
 -- the map that a document gives, and what bytes come to
-use Rattle.std.proofs.Common.{Global, BTreeMap, String, ◌≡◌, ℕ, List, [], ◌∷◌, length, map, Result, Ok, Err, refl, sym, ap, ◌∙◌}
+use Rattle.std.proofs.Common.{Global, BTreeMap, String, ◌≡◌, ℕ, Bool, List, [], ◌∷◌, length, map, Result, Ok, Err, refl, sym, ap, ◌∙◌}
 use Rattle.layer_map.specs.inside.ReadValues.{IsThere}
 use Rattle.lists.proofs.Words.{length-map}
 use Rattle.toml.specs.Data.{Members}
@@ -15,7 +15,7 @@ use Rattle.toml.specs.declared.value.Value.{Value}
 use Rattle.layer_map.specs.inside.ReadMetals.{TakesMetals}
 use Rattle.layer_map.specs.inside.ReadCuts.{TakesCuts}
 use Rattle.layer_map.specs.inside.ReadTerminals.{TakesTerminals}
-use Rattle.layer_map.specs.Values.{values_in, weights_in, whole_number, whole_numbers}
+use Rattle.layer_map.specs.Values.{contacts_in, truth_in, values_in, weights_in, whole_number, whole_numbers}
 use Rattle.layer_map.specs.DocumentSizes.{measure_of, sizes_in}
 use Rattle.layer_map.specs.declared.fault.MapFault.{MapFault}
 use Rattle.layer_map.specs.declared.fault.MapFault.TheVariants.{Memory, Syntax}
@@ -34,12 +34,19 @@ pub sizes_count : (document : Members) {sizes : List ℕ} → Judges Memory (Hol
 sizes_count document {sizes} told = sym (ap length (ap values_in (given told).written ∙ listed-items_of (map whole_number sizes)) ∙ length-map sizes whole_number)
 
 -- the map of what was read
-pub gives_map : (document : Members) {seen : Seen} {measure : Measure} {numbers weights : List ℕ} {metals : List Metal} {cuts : List Cut} {terminals : List Terminal}
+pub gives_map : (document : Members) {seen : Seen} {measure : Measure} {numbers weights : List ℕ} {metals : List Metal} {cuts : List Cut} {terminals : List Terminal} {contacts : Bool}
     → measure ≡ measure_of document
     → IsThere whole_numbers (AreSizes (measure_of document)) (sizes_in document) numbers → IsThere whole_numbers (AreWeights (length numbers)) (weights_in document) weights
-    → TakesMetals document seen metals → TakesCuts document metals cuts → TakesTerminals document metals terminals
-    → GivesMap document (record { metals = map metal_layer metals; cuts = map mapped_cut cuts; measure = measure; sizes = sizes_of numbers weights; terminals = map terminal_of terminals })
-gives_map document {seen} {measure} {numbers} {weights} {metals} measured sizes_there weights_there takes_metals takes_cuts takes_terminals = record {
+    → TakesMetals document seen metals → TakesCuts document metals cuts → TakesTerminals document metals terminals → contacts ≡ truth_in (contacts_in document)
+    → GivesMap document (record {
+      metals = map metal_layer metals;
+      cuts = map mapped_cut cuts;
+      measure = measure;
+      sizes = sizes_of numbers weights;
+      terminals = map terminal_of terminals;
+      contacts = contacts;
+    })
+gives_map document {seen} {measure} {numbers} {weights} {metals} measured sizes_there weights_there takes_metals takes_cuts takes_terminals told = record {
   numbers = numbers;
   weights = weights;
   has_sizes = sizes_there.written;
@@ -50,6 +57,7 @@ gives_map document {seen} {measure} {numbers} {weights} {metals} measured sizes_
   names_differ = layer_names_differ document seen metals takes_metals;
   cuts = takes_cuts.gives_them;
   terminals = takes_terminals.gives_them;
+  contacts = told;
 }
 
 -- a document that lies in memory

@@ -1,5 +1,5 @@
 -- the paths of the items of a kind, and what a path is of
-use Rattle.std.proofs.Common.{◌≡◌, ℕ, ◌+◌, ◌*◌, ◌<◌, ◌≤◌, arith, length, Option, Some, None, refl}
+use Rattle.std.proofs.Common.{◌≡◌, ℕ, ◌+◌, ◌*◌, ◌<◌, ◌≤◌, arith, length, Option, Some, None}
 use Rattle.std.specs.Prelude.{IsSomeAnd}
 use Rattle.lists.proofs.Words.{slice_get_within}
 use Rattle.layer_map.specs.MapChecks.{map_keys}
@@ -21,19 +21,19 @@ few_keys kind.Metal = omega arith
 few_keys kind.Cut = omega arith
 few_keys kind.Terminal = omega arith
 
-pub six_keys : (measure : Measure) → length (map_keys measure) ≡ 6
-six_keys Radius = refl
-six_keys Side = refl
+few_map_keys : (measure : Measure) → length (map_keys measure) ≤ 7
+few_map_keys Radius = omega arith
+few_map_keys Side = omega arith
 
 -- what a path is of that a place within the limits has
 data IsOf (path : ℕ) : Type 0 where
   of_document : path ≡ 1 → IsOf path
-  of_key : (k : ℕ) → k < 6 → path ≡ 2 + k → IsOf path
+  of_key : (k : ℕ) → k < 7 → path ≡ 2 + k → IsOf path
   of_item : (kind : ItemKind) (number further : ℕ) → number < most_items kind → further ≤ length (item_keys kind) → path ≡ item_path kind number + further → IsOf path
 
 is_of : (place : Place) (measure : Measure) (path : ℕ) → IsWithinLimits place → HasPath measure place path → IsOf path
 is_of place.Document measure path within is = of_document is
-is_of (place.Key key) measure path within (k, at, is) = of_key k (omega (arith, slice_get_within (map_keys measure) k key.now at, six_keys measure)) is
+is_of (place.Key key) measure path within (k, at, is) = of_key k (omega (arith, slice_get_within (map_keys measure) k key.now at, few_map_keys measure)) is
 is_of (place.Item kind number) measure path within is = of_item kind number 0 within (omega arith) (omega arith)
 is_of (place.ItemKey kind number key) measure path within (k, at, is) =
     let there : k < length (item_keys kind) = slice_get_within (item_keys kind) k key.now at in
@@ -78,3 +78,20 @@ item_within told sort path (number, further, few, least, is) each = within told 
     within : (told : Option Place) → IsSomeAnd told (λ place. item_of place ≡ Some (sort, number)) → IsSomeAnd told IsWithinLimits
     within None is = is
     within (Some place) same = rw same few
+
+-- what is told of a path that is one of a key
+key_paths_end : (sort : ItemKind) (number : ℕ) → 100 ≤ item_path sort number
+key_paths_end kind.Metal number = omega arith
+key_paths_end kind.Cut number = omega arith
+key_paths_end kind.Terminal number = omega arith
+
+pub key_within : (told : Option Place) (place : Place) (measure : Measure) (path : ℕ) → 2 ≤ path → path < 100 → HasPath measure place path
+    → ((k : ℕ) → k < length (map_keys measure) → path ≡ 2 + k → IsSomeAnd told (λ place. item_of place ≡ None)) → IsSomeAnd told IsWithinLimits
+key_within told place.Document measure path least most is each = absurd (omega arith)
+key_within told (place.Key key) measure path least most (k, at, is) each = within told (each k (slice_get_within (map_keys measure) k key.now at) is)
+  where
+    within : (told : Option Place) → IsSomeAnd told (λ place. item_of place ≡ None) → IsSomeAnd told IsWithinLimits
+    within None is = is
+    within (Some place) none = rw none tt
+key_within told (place.Item sort number) measure path least most is each = absurd (omega (arith, key_paths_end sort number))
+key_within told (place.ItemKey sort number key) measure path least most (k, at, is) each = absurd (omega (arith, key_paths_end sort number))

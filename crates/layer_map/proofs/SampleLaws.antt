@@ -15,7 +15,7 @@ use Rattle.layer_map.specs.Documents.{GivesMap, IsDocument, MapComesTo, NamesMet
 use Rattle.map_model.specs.MapNames.{AreSizes, AreWeights, IsSize, IsPair, ArePairs, IsLayerName, is_name_byte}
 use Rattle.map_model.specs.declared.measure.Measure.TheVariants.{Radius}
 use Rattle.lists.specs.Differing.{AreDifferent}
-use Rattle.layer_map.specs.MapChecks.{MapCheck, Holds, checks_of, checks_of_cuts, checks_of_metals, checks_of_terminals, first_checks, map_keys}
+use Rattle.layer_map.specs.MapChecks.{MapCheck, Holds, checks_of, checks_of_cuts, checks_of_metals, checks_of_terminals, first_checks, last_checks, map_keys}
 use Rattle.layer_map.specs.LayerChecks.{metal_keys}
 use Rattle.layer_map.specs.CutChecks.{cut_keys}
 use Rattle.layer_map.specs.TerminalChecks.{IsCellNumber, terminal_keys}
@@ -173,7 +173,9 @@ sample_holds =
     let metals = checks_of_metals sample_document in
     let cuts = checks_of_cuts sample_document in
     let terminals = checks_of_terminals sample_document in
-    All-append Sound first_checks (metals ++ (cuts ++ terminals)) head_holds (All-append Sound metals (cuts ++ terminals) metals_hold (All-append Sound cuts terminals cuts_hold terminals_hold))
+    let behind_cuts = All-append Sound terminals last_checks terminals_hold (All-from_recursion Sound last_checks (tt, tt)) in
+    All-append Sound first_checks (metals ++ (cuts ++ (terminals ++ last_checks))) head_holds
+    (All-append Sound metals (cuts ++ (terminals ++ last_checks)) metals_hold (All-append Sound cuts (terminals ++ last_checks) cuts_hold behind_cuts))
 
 sample_gives : GivesMap sample_document sample_map
 sample_gives = record {
@@ -185,8 +187,9 @@ sample_gives = record {
   sizes = refl;
   metals = (record { name = refl; pairs = refl }, (record { name = refl; pairs = refl }, tt));
   names_differ = are_different name_code (codes "m1" ∷ codes "m2" ∷ []) refl;
-  cuts = (record { layer = record { name = refl; pairs = refl }; lower = first; upper = second; no_terminals = refl }, tt);
+  cuts = (record { layer = record { name = refl; pairs = refl }; lower = first; upper = second }, tt);
   terminals = (record { metal = first; column = refl; row = refl }, tt);
+  contacts = refl;
 } where
   first : NamesMetal sample_map.metals (Some (string (codes "m1"))) 0
   first = record { metal = record { name = codes "m1"; pairs = (1, 0) ∷ (1, 20) ∷ [] }; numbered = refl; named = refl }

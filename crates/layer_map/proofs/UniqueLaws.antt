@@ -42,9 +42,8 @@ module _ (metals : List MappedLayer) (differ : AreDifferent (names_of metals)) w
       let mapped : one.mapped ≡ other.mapped = layers_tell item one.mapped other.mapped p.layer q.layer in
       let lower : one.lower ≡ other.lower = one_metal_named metals _ one.lower other.lower differ p.lower q.lower in
       let upper : one.upper ≡ other.upper = one_metal_named metals _ one.upper other.upper differ p.upper q.upper in
-      let terminals : one.has_terminals ≡ other.has_terminals = p.no_terminals ∙ sym q.no_terminals in
-      let made : MappedLayer → ℕ → ℕ → Bool → MappedCut = λ m l u t. record { mapped = m; lower = l; upper = u; has_terminals = t } in
-      let same : made one.mapped one.lower one.upper one.has_terminals ≡ made other.mapped other.lower other.upper other.has_terminals = cc (mapped, lower, upper, terminals) in same
+      let made : MappedLayer → ℕ → ℕ → MappedCut = λ m l u. record { mapped = m; lower = l; upper = u } in
+      let same : made one.mapped one.lower one.upper ≡ made other.mapped other.lower other.upper = cc (mapped, lower, upper) in same
 
   terminals_tell : (item : Data) (one other : ℕ × Cell) → GivesTerminal metals item one → GivesTerminal metals item other → one ≡ other
   terminals_tell item (m, c) (n, d) p q =
@@ -65,9 +64,11 @@ maps_tell document one other p q =
     let weights : p.weights ≡ q.weights = arrays_tell whole_number number_tells _ p.weights q.weights p.has_weights q.has_weights in
     let sizes : one.sizes ≡ other.sizes = p.sizes ∙ ap (λ (ns : List ℕ). sizes_of ns p.weights) numbers ∙ ap (λ (ws : List ℕ). sizes_of q.numbers ws) weights ∙ sym q.sizes in
     let measures : one.measure ≡ other.measure = p.measure ∙ sym q.measure in
-    let made : List MappedLayer → List MappedCut → Measure → List DefectSize → List (ℕ × Cell) → LayerMap =
-    λ ms cs measure ss ts. record { metals = ms; cuts = cs; measure = measure; sizes = ss; terminals = ts } in
-    let same : made one.metals one.cuts one.measure one.sizes one.terminals ≡ made other.metals other.cuts other.measure other.sizes other.terminals = cc (metals, cuts, measures, sizes, terminals) in same
+    let contacts : one.contacts ≡ other.contacts = p.contacts ∙ sym q.contacts in
+    let made : List MappedLayer → List MappedCut → Measure → List DefectSize → List (ℕ × Cell) → Bool → LayerMap =
+    λ ms cs measure ss ts contacts. record { metals = ms; cuts = cs; measure = measure; sizes = ss; terminals = ts; contacts = contacts } in
+    let same : made one.metals one.cuts one.measure one.sizes one.terminals one.contacts ≡ made other.metals other.cuts other.measure other.sizes other.terminals other.contacts =
+    cc (metals, cuts, measures, sizes, terminals, contacts) in same
 
 pub documents_agree : (bytes : List ℕ) → IsUnique (IsDocument bytes)
 documents_agree bytes one other p q = same_Some _ _ (sym p.parsed ∙ q.parsed)

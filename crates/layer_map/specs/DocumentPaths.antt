@@ -23,6 +23,9 @@ cuts_path = 6
 abbrev pub terminals_path : ℕ
 terminals_path = 7
 
+abbrev pub contacts_path : ℕ
+contacts_path = 8
+
 -- the items of `metal`, `cut` and `terminal`, each by its number, counted from 0
 abbrev pub metal_path : ℕ → ℕ
 metal_path number = 100 + 10 * number

@@ -1,5 +1,5 @@
 -- what bytes say as a layer map: the map of their document, or the first refusal
-use Rattle.std.specs.Prelude.{IsUtf8, ℕ, false, ◌≡◌, List, slice_get, Option, Some}
+use Rattle.std.specs.Prelude.{IsUtf8, ℕ, ◌≡◌, List, slice_get, Option, Some}
 use Rattle.lists.specs.Words.{AllZip}
 use Rattle.geo_core.specs.declared.plane.Cell.{Cell}
 use Rattle.first_refusal.specs.Outcomes.{Outcome, value, refused, Reads, Then}
@@ -8,8 +8,8 @@ use Rattle.toml.specs.Data.{Data, string, integer, Members}
 use Rattle.toml.specs.Parse.{parse_document}
 use Rattle.lists.specs.Differing.{AreDifferent}
 use Rattle.map_model.specs.MapNames.{LayerMap, MappedLayer, MappedCut, names_of, sizes_of}
-use Rattle.layer_map.specs.Values.{whole_numbers, pairs_value, weights_in, metals_in, cuts_in, terminals_in, name_of_item}
-use Rattle.layer_map.specs.Values.{pairs_of_item, lower_of_item, upper_of_item, metal_of_item, x_of_item, y_of_item}
+use Rattle.layer_map.specs.Values.{whole_numbers, pairs_value, truth_in, weights_in, contacts_in, metals_in, cuts_in, terminals_in}
+use Rattle.layer_map.specs.Values.{name_of_item, pairs_of_item, lower_of_item, upper_of_item, metal_of_item, x_of_item, y_of_item}
 use Rattle.layer_map.specs.DocumentSizes.{measure_of, sizes_in}
 use Rattle.layer_map.specs.MapChecks.{Holds, checks_of, fault_of}
 use Rattle.layer_map.specs.declared.fault.MapFault.{MapFault}
@@ -31,12 +31,11 @@ pub record NamesMetal (metals : List MappedLayer) (there : Option Data) (number 
   pub numbered : slice_get metals number ≡ Some metal
   pub named : there ≡ Some (string metal.name)
 
--- the item gives this cut between two of the metals; no cut's clusters are terminals
+-- the item gives this cut between two of the metals
 pub record GivesCut (metals : List MappedLayer) (item : Data) (cut : MappedCut) : Type 0 where
   pub layer : GivesLayer item cut.mapped
   pub lower : NamesMetal metals (lower_of_item item) cut.lower
   pub upper : NamesMetal metals (upper_of_item item) cut.upper
-  pub no_terminals : cut.has_terminals ≡ false
 
 -- the item gives this terminal: the number of its metal, and its cell
 pub record GivesTerminal (metals : List MappedLayer) (item : Data) (terminal : ℕ × Cell) : Type 0 where
@@ -44,8 +43,8 @@ pub record GivesTerminal (metals : List MappedLayer) (item : Data) (terminal : �
   pub column : x_of_item item ≡ Some (integer terminal.1.i)
   pub row : y_of_item item ≡ Some (integer terminal.1.j)
 
--- The document gives this layer map: its sizes with their weights, and what measures them, and item by item its metals, cuts
--- and terminals.
+-- The document gives this layer map: its sizes with their weights, and what measures them, item by item its metals, cuts and
+-- terminals, and whether via clusters are terminals, which they are not where it does not say so.
 -- The names of metals differ (where the checks hold they do), so a name tells one number.
 pub record GivesMap (document : Members) (layer_map : LayerMap) : Type 0 where
   pub numbers : List ℕ
@@ -58,6 +57,7 @@ pub record GivesMap (document : Members) (layer_map : LayerMap) : Type 0 where
   pub names_differ : AreDifferent (names_of layer_map.metals)
   pub cuts : AllZip (GivesCut layer_map.metals) (cuts_in document) layer_map.cuts
   pub terminals : AllZip (GivesTerminal layer_map.metals) (terminals_in document) layer_map.terminals
+  pub contacts : layer_map.contacts ≡ truth_in (contacts_in document)
 
 -- the document: the layer map that it gives where all checks hold, or the fault of the first that fails
 abbrev pub DocumentComesTo : Members → Outcome LayerMap MapFault → Type 0

@@ -2,14 +2,15 @@
 use Rattle.std.specs.Prelude.{ℕ, ◌≤◌, List, [], ◌∷◌, ◌++◌, codes, length, map, flat_map, take, slice_get, Option, IsSome}
 use Rattle.std.specs.Prelude.{IsSomeAnd, IfSome, All, Contains}
 use Rattle.lists.specs.Words.{range_with_len}
-use Rattle.toml.specs.Data.{Data, Members, as_array}
+use Rattle.toml.specs.Data.{Data, Members, as_array, as_bool}
 use Rattle.map_model.specs.MapNames.{AreSizes, AreWeights}
 use Rattle.map_model.specs.declared.measure.Measure.{Measure}
+use Rattle.map_model.specs.declared.measure.Measure.TheVariants.{Radius, Side}
 use Rattle.layer_map.specs.Values.{whole_number, whole_numbers, StandsAs, keys_in, values_in, version_in, weights_in, cut_in}
-use Rattle.layer_map.specs.Values.{terminal_in, metals_in, cuts_in, terminals_in}
+use Rattle.layer_map.specs.Values.{terminal_in, contacts_in, metals_in, cuts_in, terminals_in}
 use Rattle.layer_map.specs.DocumentSizes.{measure_of, sizes_in, sizes_key}
 use Rattle.layer_map.specs.DocumentPaths.{document_path, version_path, sizes_path, weights_path, metals_path, cuts_path, terminals_path}
-use Rattle.layer_map.specs.DocumentPaths.{metal_path, cut_path, terminal_path}
+use Rattle.layer_map.specs.DocumentPaths.{contacts_path, metal_path, cut_path, terminal_path}
 use Rattle.layer_map.specs.LayerChecks.{LayerCheck, layer_checks, LayerHolds, layer_fault, metal_keys}
 use Rattle.layer_map.specs.CutChecks.{CutCheck, cut_checks, CutHolds, cut_fault}
 use Rattle.layer_map.specs.TerminalChecks.{TerminalCheck, terminal_checks, TerminalHolds, terminal_fault}
@@ -33,11 +34,17 @@ pub data MapCheck : Type 0 where
   terminals_are_array : MapCheck
   terminals_are_few : MapCheck
   of_terminal : ℕ → TerminalCheck → MapCheck
+  contacts_are_truth : MapCheck
+
+-- the keys that a document has besides for its measure: beside sides it may say whether via clusters are terminals
+abbrev pub further_keys : Measure → List (List ℕ)
+further_keys Radius = []
+further_keys Side = codes "contacts" ∷ []
 
 -- the keys of a document whose sizes are measured so
 abbrev pub map_keys : Measure → List (List ℕ)
 map_keys measure =
-    codes "version" ∷ sizes_key measure ∷ codes "weights" ∷ codes "metal" ∷ codes "cut" ∷ codes "terminal" ∷ []
+    codes "version" ∷ sizes_key measure ∷ codes "weights" ∷ codes "metal" ∷ codes "cut" ∷ codes "terminal" ∷ further_keys measure
 
 -- the number is that of a version: 1 or 2
 abbrev pub IsVersion : ℕ → Type 0
@@ -50,6 +57,10 @@ IsArray there = IsSomeAnd there (λ value. IsSome (as_array value))
 -- an array stands there, or nothing
 abbrev pub IsArrayOrNone : Option Data → Type 0
 IsArrayOrNone there = IfSome there (λ value. IsSome (as_array value))
+
+-- a truth value stands there, or nothing
+abbrev pub IsTruthOrNone : Option Data → Type 0
+IsTruthOrNone there = IfSome there (λ value. IsSome (as_bool value))
 
 -- What each demands of the document. To a cut every metal is an earlier layer.
 abbrev pub Holds : Members → MapCheck → Type 0
@@ -73,6 +84,7 @@ Holds document terminals_are_few = length (terminals_in document) ≤ 10000
 Holds document (of_terminal number check) =
     IsSomeAnd (slice_get (terminals_in document) number) (λ item. TerminalHolds (metals_in document) (take number (terminals_in document))
     item check)
+Holds document contacts_are_truth = IsTruthOrNone (contacts_in document)
 
 -- these checks of each of the items, one item after the other
 abbrev pub checks_of_each : {C : Type 0} → (ℕ → C → MapCheck) → List C → List Data → List MapCheck
@@ -94,9 +106,14 @@ checks_of_cuts document = cuts_are_array ∷ cuts_are_few ∷ checks_of_each of_
 abbrev pub checks_of_terminals : Members → List MapCheck
 checks_of_terminals document = terminals_are_array ∷ terminals_are_few ∷ checks_of_each of_terminal terminal_checks (terminals_in document)
 
+-- the check of whether via clusters are terminals
+abbrev pub last_checks : List MapCheck
+last_checks = contacts_are_truth ∷ []
+
 -- all checks of a document in their order
 abbrev pub checks_of : Members → List MapCheck
-checks_of document = first_checks ++ (checks_of_metals document ++ (checks_of_cuts document ++ checks_of_terminals document))
+checks_of document =
+    first_checks ++ (checks_of_metals document ++ (checks_of_cuts document ++ (checks_of_terminals document ++ last_checks)))
 
 -- the fault that each gives where it fails
 abbrev pub fault_of : MapCheck → MapFault
@@ -115,3 +132,4 @@ fault_of (of_cut number check) = cut_fault (cut_path number) check
 fault_of terminals_are_array = BadValue terminals_path
 fault_of terminals_are_few = LimitPassed terminals_path
 fault_of (of_terminal number check) = terminal_fault (terminal_path number) check
+fault_of contacts_are_truth = BadValue contacts_path

@@ -12,8 +12,9 @@ sample_text =
 abbrev pub sample_map : LayerMap
 sample_map = record {
   metals = record { name = codes "m1"; pairs = (1, 0) ∷ (1, 20) ∷ [] } ∷ record { name = codes "m2"; pairs = (3, 0) ∷ [] } ∷ [];
-  cuts = record { mapped = record { name = codes "v1"; pairs = (2, 0) ∷ [] }; lower = 0; upper = 1; has_terminals = false } ∷ [];
+  cuts = record { mapped = record { name = codes "v1"; pairs = (2, 0) ∷ [] }; lower = 0; upper = 1 } ∷ [];
   measure = Radius;
   sizes = weighed_size (2, 10) ∷ weighed_size (5, 1) ∷ [];
   terminals = (0, record { i = pos 0; j = pos 0 }) ∷ [];
+  contacts = false;
 }

@@ -1,6 +1,6 @@
 -- values of a TOML document, as a map writes them
-use Rattle.std.specs.Prelude.{ℕ, pos, ◌≡◌, List, [], ◌∷◌, map, codes, Option, Some}
-use Rattle.toml.specs.Data.{Data, integer, array, table, Items, no_items, item, Members, no_members, member, get, get_member}
+use Rattle.std.specs.Prelude.{ℕ, pos, Bool, false, ◌≡◌, List, [], ◌∷◌, map, codes, Option, Some}
+use Rattle.toml.specs.Data.{Data, integer, boolean, array, table, Items, no_items, item, Members, no_members, member, get, get_member}
 use Rattle.toml.specs.View.{items_of}
 
 -- a whole number
@@ -33,6 +33,11 @@ abbrev pub values_in : Option Data → List Data
 values_in (Some (array items)) = listed items
 values_in _ = []
 
+-- the truth value that stands there; where none does, false
+abbrev pub truth_in : Option Data → Bool
+truth_in (Some (boolean truth)) = truth
+truth_in _ = false
+
 -- the keys of a table
 abbrev pub keys_in : Members → List (List ℕ)
 keys_in no_members = []
@@ -62,6 +67,9 @@ cut_in = get_member (codes "cut")
 
 abbrev pub terminal_in : Members → Option Data
 terminal_in = get_member (codes "terminal")
+
+abbrev pub contacts_in : Members → Option Data
+contacts_in = get_member (codes "contacts")
 
 -- the items of its arrays
 abbrev pub metals_in : Members → List Data

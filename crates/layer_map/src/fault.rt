@@ -12,6 +12,7 @@ use thiserror::Error;
 /// | 1 | the document |
 /// | 2, 3, 4 | `version`, `radii` or `sides`, `weights` |
 /// | 5, 6, 7 | `metal`, `cut`, `terminal` |
+/// | 8 | `contacts` |
 /// | 100, 110, 120, .. | the first, second, third, .. item of `metal`; its `name` is 1 further, its `pairs` 2 |
 /// | 300, 310, 320, .. | those of `cut`; `name`, `pairs`, `lower` and `upper` are 1, 2, 3 and 4 further |
 /// | 1000, 1010, 1020, .. | those of `terminal`; `metal`, `x` and `y` are 1, 2 and 3 further |

@@ -25,6 +25,9 @@ pub const CUTS: u32 = 6;
 /// What stands at `terminal`.
 pub const TERMINALS: u32 = 7;
 
+/// What stands at `contacts`.
+pub const CONTACTS: u32 = 8;
+
 /// What stands at `name` of a metal or a cut is this much past the item.
 pub const NAME: u32 = 1;
 

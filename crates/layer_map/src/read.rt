@@ -11,14 +11,14 @@ use super::fault::MapFault;
 use super::metals::read_metals;
 use super::seen::Seen;
 use super::sizes::{check_head, measure_of, read_sizes, read_weights};
-use super::terminals::read_terminals;
+use super::terminals::{read_contacts, read_terminals};
 use map_model::map::Map;
 use std::alloc::Global;
 use toml::Table;
 
 /// The layer map that the bytes say, or why they say none: `Syntax` for bytes that are no TOML document, and else the
 /// first fault in this order: the document's keys, version, sizes, weights, metals, cuts, terminals, and of these one
-/// item after the other.
+/// item after the other; and last whether via clusters are terminals.
 pub fn read_map(alloc: Global, bytes: &[u8]) -> Result<Map, MapFault>
     ensures answers { Answers MapFault.Memory (λ outcome. MapComesTo bytes.now (value_as layer_map_of outcome)) result }
 {
@@ -55,10 +55,12 @@ fn map_of(alloc: Global, document: &Table) -> Result<Map, MapFault>
     let metals = read_metals(alloc, document, &mut seen)?;
     let cuts = read_cuts(alloc, document, metals.as_slice(), &mut seen)?;
     let terminals = read_terminals(alloc, document, metals.as_slice())?;
+    let contacts = read_contacts(document)?;
     Ok(Map {
         metals,
         cuts,
         terminals,
+        contacts,
         measure: measure_of(document),
         sizes,
         weights,

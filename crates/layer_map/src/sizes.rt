@@ -37,7 +37,9 @@ use toml::{Table, Value};
 pub const RADII_KEYS: [&str; 6] = ["version", "radii", "weights", "metal", "cut", "terminal"];
 
 /// The keys of one whose sizes are sides.
-pub const SIDES_KEYS: [&str; 6] = ["version", "sides", "weights", "metal", "cut", "terminal"];
+pub const SIDES_KEYS: [&str; 7] = [
+    "version", "sides", "weights", "metal", "cut", "terminal", "contacts",
+];
 
 /// The keys of a document whose sizes are measured so, in the order of their paths.
 pub fn map_keys(measure: Measure) -> &'static [&'static str]

@@ -1,15 +1,16 @@
-//! The terminals.
+//! The terminals, and whether via clusters are terminals as well.
 
 ghost use Rattle.std.specs.Prelude.{◌≡◌, ◌≤◌, ◌^◌, ◌<◌, List, [], length, IfOk};
 ghost use Rattle.first_refusal.specs.Checks.{Checks};
 ghost use Rattle.toml.specs.Data.{Data, get_member, integer};
 ghost use Rattle.toml.specs.View.{table_view, view};
-ghost use Rattle.layer_map.specs.MapChecks.{Holds, checks_of_terminals, fault_of};
+ghost use Rattle.layer_map.specs.MapChecks.{Holds, checks_of_terminals, fault_of, last_checks};
 ghost use Rattle.first_refusal.specs.Answers.{Answers};
 ghost use Rattle.layer_map.specs.inside.ReadValues.{Finds, IsThere, IsWritten};
 ghost use Rattle.layer_map.specs.inside.ReadMetals.{HaveNamesOf, TakesMetals};
 ghost use Rattle.layer_map.specs.inside.ReadTerminals.{AddsPlace, TakesTerminal, TakesTerminals, place_of_terminal};
 ghost use Rattle.layer_map.specs.TerminalChecks.{TerminalHolds, place_checks, terminal_fault, IsCellNumber};
+ghost use Rattle.layer_map.specs.Values.{contacts_in, truth_in};
 ghost use Rattle.map_model.specs.declared.limits.TheConstants.{MOST_METALS};
 ghost use Rattle.layer_map.specs.declared.seen.Seen.{Seen};
 
@@ -139,5 +140,23 @@ fn cell_number_in(value: &Value) -> Option<i32>
             Err(_) => None,
         },
         None => None,
+    }
+}
+
+/// Whether the document says that via clusters are terminals as well. Where it says nothing they are not.
+#[tactic(auto, using(crate::proofs::ContactLaws::truth_stands, crate::proofs::ContactLaws::no_truth_stands, crate::proofs::ContactLaws::nothing_stands))]
+pub fn read_contacts(document: &Table) -> Result<bool, MapFault>
+    ensures { Answers MapFault.Memory (Checks
+        (Holds (table_view document.now)) last_checks fault_of
+        (λ contacts. contacts ≡ truth_in (contacts_in (table_view document.now)))) result }
+{
+    match value_at(document, "contacts") {
+        Some(value) => match value.as_bool() {
+            Some(contacts) => Ok(contacts),
+            None => Err(MapFault::BadValue {
+                path: paths::CONTACTS,
+            }),
+        },
+        None => Ok(false),
     }
 }

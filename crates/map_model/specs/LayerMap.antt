@@ -1,5 +1,5 @@
 -- layer maps: which layers of a layout are metals and cuts, and for which sizes of defects areas are wanted
-use Rattle.std.specs.Prelude.{ℕ, Bool, ◌≡◌, ◌/◌, List, [], ◌∷◌, ◌++◌, map, codes, fold, max, Contains, slice_get, Some}
+use Rattle.std.specs.Prelude.{ℕ, Bool, false, ◌≡◌, ◌/◌, List, [], ◌∷◌, ◌++◌, map, codes, fold, max, Contains, slice_get, Some}
 use Rattle.geo_core.specs.declared.plane.Cell.{Cell}
 use Rattle.map_model.specs.Measures.{side_by}
 use Rattle.map_model.specs.declared.measure.Measure.{Measure}
@@ -15,20 +15,21 @@ pub record MappedLayer : Type 0 where
   pub name : List ℕ
   pub pairs : List (ℕ × ℕ)
 
--- a cut, the numbers of the two metals that it joins, and whether its clusters are terminals
+-- a cut, and the numbers of the two metals that it joins
 pub record MappedCut : Type 0 where
   pub mapped : MappedLayer
   pub lower : ℕ
   pub upper : ℕ
-  pub has_terminals : Bool
 
--- One measure tells what all sizes are. The terminals are cells, each with the number of its metal.
+-- One measure tells what all sizes are. The terminals are cells, each with the number of its metal, and where `contacts` says so
+-- also the via clusters of the cuts.
 pub record LayerMap : Type 0 where
   pub metals : List MappedLayer
   pub cuts : List MappedCut
   pub measure : Measure
   pub sizes : List DefectSize
   pub terminals : List (ℕ × Cell)
+  pub contacts : Bool
 
 -- the metals and then the cuts: each has its place here, counted from 0, as its number
 abbrev pub layers_of : LayerMap → List MappedLayer
@@ -60,4 +61,5 @@ one_metal_map layer datatype radius = record {
   measure = Radius;
   sizes = weighed_size (radius, 1) ∷ [];
   terminals = [];
+  contacts = false;
 }

@@ -1,5 +1,5 @@
 -- metals and cuts as the layers that they map
-use Rattle.std.specs.Prelude.{ℕ, ◌<◌, false, List, ◌++◌, map, flat_map}
+use Rattle.std.specs.Prelude.{ℕ, ◌<◌, List, ◌++◌, map, flat_map}
 use Rattle.map_model.specs.LayerMap.{MappedLayer, MappedCut}
 use Rattle.map_model.specs.declared.layers.Metal.{Metal}
 use Rattle.map_model.specs.declared.layers.Cut.{Cut}
@@ -12,9 +12,9 @@ metal_layer metal = record { name = metal.name; pairs = metal.pairs }
 abbrev pub cut_layer : Cut → MappedLayer
 cut_layer cut = record { name = cut.name; pairs = cut.pairs }
 
--- a cut as layer maps have it: its clusters are no terminals
+-- a cut as layer maps have it
 abbrev pub mapped_cut : Cut → MappedCut
-mapped_cut cut = record { mapped = cut_layer cut; lower = cut.lower; upper = cut.upper; has_terminals = false }
+mapped_cut cut = record { mapped = cut_layer cut; lower = cut.lower; upper = cut.upper }
 
 -- the metals, and then the cuts
 abbrev pub mapped_layers : List Metal → List Cut → List MappedLayer

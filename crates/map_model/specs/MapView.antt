@@ -22,4 +22,5 @@ layer_map_of given = record {
   measure = given.measure;
   sizes = sizes_of given.sizes given.weights;
   terminals = map terminal_of given.terminals;
+  contacts = given.contacts;
 }

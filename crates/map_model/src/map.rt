@@ -17,6 +17,8 @@ pub struct Map {
     pub cuts: Cuts,
     /// At most 10,000.
     pub terminals: Terminals,
+    /// Whether the via clusters of cuts are terminals as well, each on both metals that its cut joins.
+    pub contacts: bool,
     /// Whether sizes are radii or sides.
     pub measure: Measure,
     /// 1 to 32, each greater than the one before: radii of 1 to 1,000,000, or sides of 1 to 2,000,000.

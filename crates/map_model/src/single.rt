@@ -31,6 +31,7 @@ pub fn one_metal(alloc: Global, layer: u16, datatype: u16, radius: u32) -> Resul
         metals: metal_of(alloc, layer, datatype)?,
         cuts: Cuts::from_vec(Vec::new(alloc)),
         terminals: Terminals::from_vec(Vec::new(alloc)),
+        contacts: false,
         measure: Measure::Radius,
         sizes: Sizes::from_vec(vec![in alloc; radius]?),
         weights: Weights::from_vec(vec![in alloc; 1]?),

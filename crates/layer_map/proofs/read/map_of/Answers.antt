@@ -44,8 +44,16 @@ returns-in_err-terminals c =
     let cuts = (rw c.as_slice-2.ensures at c.in_ok-cuts.ensures) (given c.in_ok-metals.ensures) in
     let terminals = (rw c.as_slice-3.ensures at c.in_err-terminals.ensures) c.read_metals.new.seen (given c.in_ok-metals.ensures) in
     handed_on _ _ c.from_residual-in_err-terminals.result c.in_err-terminals.field-0.0 c.from_residual-in_err-terminals.ensures.1
+    (holds_then c.in_ok-check_head.ensures (holds_then c.in_ok-sizes.ensures (holds_then weights (holds_then c.in_ok-metals.ensures (holds_then cuts (stops_there _ terminals))))))
+
+pub returns-in_err-contacts : goal.returns-in_err-contacts
+returns-in_err-contacts c =
+    let weights = (rw c.as_slice.ensures at c.in_ok-weights.ensures) (sizes_count _ c.in_ok-sizes.ensures) in
+    let cuts = (rw c.as_slice-2.ensures at c.in_ok-cuts.ensures) (given c.in_ok-metals.ensures) in
+    let terminals = (rw c.as_slice-3.ensures at c.in_ok-terminals.ensures) c.read_metals.new.seen (given c.in_ok-metals.ensures) in
+    handed_on _ _ c.from_residual-in_err-contacts.result c.in_err-contacts.field-0.0 c.from_residual-in_err-contacts.ensures.1
     (holds_then c.in_ok-check_head.ensures (holds_then c.in_ok-sizes.ensures (holds_then weights (holds_then c.in_ok-metals.ensures
-    (holds_then cuts (unread _ _ _ _ _ c.in_err-terminals.field-0.0 terminals))))))
+    (holds_then cuts (holds_then terminals (unread _ _ _ _ _ c.in_err-contacts.field-0.0 c.in_err-contacts.ensures)))))))
 
 pub invariant_of-result : goal.invariant_of-result
 invariant_of-result c =
@@ -73,5 +81,6 @@ returns c =
     let takes = given c.in_ok-metals.ensures in
     let cuts = (rw c.as_slice-2.ensures at c.in_ok-cuts.ensures) takes in
     let terminals = (rw c.as_slice-3.ensures at c.in_ok-terminals.ensures) c.read_metals.new.seen takes in
-    holds_then c.in_ok-check_head.ensures (holds_then c.in_ok-sizes.ensures (holds_then weights (holds_then c.in_ok-metals.ensures (holds_then cuts
-    (passes _ _ _ _ _ (passed terminals) (gives_map _ c.measure_of.ensures (given c.in_ok-sizes.ensures) (given weights) takes (given cuts) (given terminals)))))))
+    let contacts = c.in_ok-contacts.ensures in
+    holds_then c.in_ok-check_head.ensures (holds_then c.in_ok-sizes.ensures (holds_then weights (holds_then c.in_ok-metals.ensures (holds_then cuts (holds_then terminals
+    (passes _ _ _ _ _ (passed contacts) (gives_map _ c.measure_of.ensures (given c.in_ok-sizes.ensures) (given weights) takes (given cuts) (given terminals) (given contacts))))))))

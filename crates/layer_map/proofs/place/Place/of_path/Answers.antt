@@ -1,7 +1,7 @@
 use Rattle.std.proofs.Common.{ℕ, IfSome, arith, subst}
 use Rattle.layer_map.specs.MapPlaces.{HasPath}
 use Rattle.layer_map.specs.declared.place.ItemKind.TheVariants as kind
-use Rattle.layer_map.proofs.PlaceLaws.{item_within, past_item}
+use Rattle.layer_map.proofs.PlaceLaws.{item_within, key_within, past_item}
 use Rattle.layer_map.proofs.place.Place.of_path.Goals as goal
 
 pub returns-then-path-terminal-clause-path : goal.returns-then-path-terminal-clause-path
@@ -32,3 +32,7 @@ pub returns-then-path-metal-clause-each : goal.returns-then-path-metal-clause-ea
 returns-then-path-metal-clause-each c place within has =
     item_within _ kind.Metal c.args.path (past_item kind.Metal place c.args.measure c.args.path (omega arith, omega arith) within has)
     (λ number further least is. c.item_place-then-path-metal.ensures.each number further least (omega arith))
+
+pub returns-then-path-ge-VERSION-clause-each : goal.returns-then-path-ge-VERSION-clause-each
+returns-then-path-ge-VERSION-clause-each c place within has =
+    key_within _ place c.args.measure c.args.path (omega arith) (omega arith) has (λ k low is. c.key_place.ensures.each (omega arith))
