@@ -1,5 +1,5 @@
 -- what layers come to
-use Rattle.std.proofs.Common.{ℕ, ◌<◌, ◌≡◌, sym, ◌∙◌, subst, List, ◌∷◌, length, map, All, Contains, Err}
+use Rattle.std.proofs.Common.{ℕ, ◌<◌, ◌≡◌, refl, sym, ◌∙◌, subst, List, ◌∷◌, length, map, All, Contains, Err}
 use Rattle.lists.proofs.Words.{AllZip, enumerate_from, length-map, map-map, All-contains, All-weaker, Contains-append_right}
 use Rattle.first_refusal.specs.Checks.{one_fails, IsRefusalOfFirst}
 use Rattle.geo_core.specs.declared.plane.Cell.{Cell}
@@ -73,19 +73,20 @@ module _ (given : Map) (lists : List (List Rect)) (islands : List (List Labelled
   as_many : length given.metals ≡ length (map metal_layer given.metals)
   as_many = sym (length-map given.metals metal_layer)
 
-  pub nets_are : AreNetsOf (layer_map_of given) lists (made islands nets contacts ends anchors)
+  pub nets_are : AreNetsOf (layer_map_of given) lists (made islands nets contacts ends anchors given.contacts)
   nets_are =
       let metals = length (map metal_layer given.metals) in
       let are = subst (λ n. AreIslandsOf lists n count islands) as_many are in
       let joins = subst (λ n. All (JoinsMetals n) given.cuts) as_many given.cuts_join in
       record {
-        covered = covered islands nets contacts ends anchors lists metals count are given.cuts joins lists_are;
-        islands = islands_tell islands nets contacts ends anchors lists metals count are given.cuts joins lists_are;
-        nets = nets_tell islands nets contacts ends anchors lists metals count are given.cuts joins lists_are numbers;
+        covered = covered islands nets contacts ends anchors given.contacts lists metals count are given.cuts joins lists_are;
+        islands = islands_tell islands nets contacts ends anchors given.contacts lists metals count are given.cuts joins lists_are;
+        nets = nets_tell islands nets contacts ends anchors given.contacts lists metals count are given.cuts joins lists_are numbers;
         metals = length-map islands (map (piece_of nets)) ∙ are.one_each;
         cuts = lists_are.one_each ∙ sym (length-map given.cuts mapped_cut);
+        terminals = refl;
         ends = ends_are ∙ sym (map-map (λ (cut : MappedCut). (cut.lower, cut.upper)) mapped_cut given.cuts);
-        contacts = contacts_tell islands nets contacts ends anchors lists metals count are given.cuts joins lists_are;
+        contacts = contacts_tell islands nets contacts ends anchors given.contacts lists metals count are given.cuts joins lists_are;
         anchors = anchor_places islands given.terminals anchors zip;
-        facts = are_nets islands nets contacts ends anchors lists metals count are given.cuts joins lists_are given.terminals ends_are zip given.terminals_differ;
+        facts = are_nets islands nets contacts ends anchors given.contacts lists metals count are given.cuts joins lists_are given.terminals ends_are zip given.terminals_differ;
       }

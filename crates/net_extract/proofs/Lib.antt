@@ -11,6 +11,7 @@ pub mod WalkLaws
 pub mod MadeLaws
 pub mod ExtractLaws
 pub mod CarriedLaws
+pub mod StandingLaws
 pub mod AnchoredLaws
 pub mod GroupLaws
 pub mod ContactGroupLaws

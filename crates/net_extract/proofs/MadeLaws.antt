@@ -1,5 +1,5 @@
 -- the lists of nets tell what was found
-use Rattle.std.proofs.Common.{length, inl, inr, ◌+◌, ℕ, zero, suc, ◌<◌, ◌≡◌, refl, sym, ap, ◌∙◌, subst, List, [], ◌∷◌, get_or, map, arith, ◌↔◌, All, Contains, Some, slice_get}
+use Rattle.std.proofs.Common.{Bool, length, inl, inr, ◌+◌, ℕ, zero, suc, ◌<◌, ◌≡◌, refl, sym, ap, ◌∙◌, subst, List, [], ◌∷◌, get_or, map, arith, ◌↔◌, All, Contains, Some, slice_get}
 use Rattle.lists.proofs.Words.{AllZip, leb_tells, get_or_past, length-map, get_or_default, All-contains, Contains-get_or}
 use Rattle.paths.proofs.PathLaws.{within}
 use Rattle.geo_core.specs.Plane.{Has, IsInUnion, IsCoveredIn}
@@ -84,9 +84,9 @@ labels_small lists metals count islands are n e m d m_small j other j_small =
     let small = are.below m island.label cell.0 (record { labelled = island; among = among; carries = refl; has = cell.1 }) in
     omega arith
 
-module _ (islands : List (List Labelled)) (nets : List ℕ) (contacts : List (List ContactPiece)) (ends : List (ℕ × ℕ)) (anchors : List Anchor) where
+module _ (islands : List (List Labelled)) (nets : List ℕ) (contacts : List (List ContactPiece)) (ends : List (ℕ × ℕ)) (anchors : List Anchor) (flag : Bool) where
   abbrev pub made : NetLists
-  made = record { pieces = map (map (piece_of nets)) islands; contacts = contacts; ends = ends; anchors = anchors }
+  made = record { pieces = map (map (piece_of nets)) islands; contacts = contacts; ends = ends; anchors = anchors; clusters_are_terminals = flag }
 
   among_pieces : (m : ℕ) (l : Labelled) → Contains (islands_on islands m) l → Contains (get_or (map (map (piece_of nets)) islands) m []) (piece_of nets l)
   among_pieces m l among = subst (λ xs. Contains xs (piece_of nets l)) (sym (mapped_lists (piece_of nets) islands m)) (Contains-map (piece_of nets) (islands_on islands m) l among)

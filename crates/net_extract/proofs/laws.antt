@@ -3,5 +3,7 @@ pub mod BesideLaws
 pub mod CarryLaws
 pub mod UnitLaws
 pub mod ClusterLaws
-pub mod SpotLaws
+pub mod GroupSetLaws
+pub mod NamedLaws
+pub mod StandsLaws
 pub mod OpenLaws

@@ -26,6 +26,13 @@ ends_of_contact contact = (contact.lower, contact.upper)
 abbrev pub ends_of_group : ContactGroup → ℕ × ℕ
 ends_of_group group = (group.lower, group.upper)
 
+-- a contact piece that carries these two islands has the cell
+pub record IsGroupCell (contacts : List ContactPiece) (islands : ℕ × ℕ) (c : Cell) : Type 0 where
+  pub contact : ContactPiece
+  pub among : Contains contacts contact
+  pub carries : ends_of_contact contact ≡ islands
+  pub has : Has contact.rect c
+
 -- one group for each two islands that a contact piece carries, with the rectangles of all that carry these two
 pub record AreGroupsOf (contacts : List ContactPiece) (groups : List ContactGroup) : Type 0 where
   pub once : AreDifferent (map ends_of_group groups)

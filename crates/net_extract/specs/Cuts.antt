@@ -1,5 +1,5 @@
 -- the cuts of a layer map, as nets and clusters take them
-use Rattle.std.specs.Prelude.{ℕ, List, map, filter, length}
+use Rattle.std.specs.Prelude.{ℕ, if◌then◌else◌, List, [], map, length}
 use Rattle.lists.specs.Words.{enumerate_from}
 use Rattle.fault_model.specs.FaultNames.{Cut}
 use Rattle.map_model.specs.MapNames.{LayerMap, MappedCut}
@@ -16,9 +16,9 @@ cut_of numbered = record { number = numbered.0; lower = numbered.1.lower; upper 
 abbrev pub cuts_of : LayerMap → List Cut
 cuts_of layer_map = map cut_of (numbered_cuts layer_map)
 
--- the cuts whose clusters are terminals
+-- the cuts whose clusters are terminals: all of them or none, as the map says
 abbrev pub terminal_cuts_of : LayerMap → List Cut
-terminal_cuts_of layer_map = map cut_of (filter (λ numbered. numbered.1.has_terminals) (numbered_cuts layer_map))
+terminal_cuts_of layer_map = if layer_map.contacts then cuts_of layer_map else []
 
 -- the lower and the upper metal of each cut
 abbrev pub ends_of : LayerMap → List (ℕ × ℕ)

@@ -37,6 +37,8 @@ pub record AreNetsOf (layer_map : LayerMap) (lists : List (List Rect)) (made : N
       IsOn (IsContactCell made number) h ↔ IsContact (IsCoveredIn lists) cut h
   -- the lower and the upper metal of each cut are the map's
   pub ends : made.ends ≡ ends_of layer_map
+  -- clusters are terminals where the map says so
+  pub terminals : made.clusters_are_terminals ≡ layer_map.contacts
   -- the anchors are the terminals in order
   pub anchors : places_of made ≡ layer_map.terminals
   -- contact pieces carry the islands on which they lie, and so do anchors

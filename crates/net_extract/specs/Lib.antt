@@ -4,7 +4,8 @@ pub mod NetLists
 pub mod NetFacts
 pub mod NetFaults
 pub mod Extraction
-pub mod AnchoredIslands
 pub mod ContactGroups
+pub mod Standing
+pub mod AnchoredIslands
 -- what only this crate's proofs and private contracts cite
 pub mod inside

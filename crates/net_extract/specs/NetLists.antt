@@ -1,18 +1,19 @@
 -- nets as contracts see them
-use Rattle.std.specs.Prelude.{ℕ, List, [], Contains, map, slice_index_or, ◌≡◌}
+use Rattle.std.specs.Prelude.{ℕ, Bool, List, [], Contains, map, slice_index_or, ◌≡◌}
 use Rattle.geo_core.specs.Plane.{Has}
 use Rattle.geo_core.specs.declared.plane.Cell.{Cell}
 use Rattle.net_extract.specs.declared.pieces.Anchor.{Anchor}
 use Rattle.net_extract.specs.declared.pieces.ContactPiece.{ContactPiece}
 use Rattle.net_extract.specs.declared.pieces.Piece.{Piece}
 
--- the pieces of each metal, the contact pieces of each cut, the lower and the upper metal of each cut, and the anchors;
--- cuts are counted from 0 here
+-- the pieces of each metal, the contact pieces of each cut, the lower and the upper metal of each cut, the anchors, and whether
+-- via clusters are terminals; cuts are counted from 0 here
 pub record NetLists : Type 0 where
   pub pieces : List (List Piece)
   pub contacts : List (List ContactPiece)
   pub ends : List (ℕ × ℕ)
   pub anchors : List Anchor
+  pub clusters_are_terminals : Bool
 
 -- the pieces of the metal with this number
 abbrev pub pieces_on : NetLists → ℕ → List Piece

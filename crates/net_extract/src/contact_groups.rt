@@ -1,18 +1,27 @@
 ghost use Rattle.std.specs.Prelude.{ℕ, Some, ◌≡◌, ◌<◌, IfOk, length, map, slice_get};
+ghost use Rattle.std.specs.List.{AllZip};
 ghost use Rattle.std.specs.List.Sorted.{IsPermutation};
 ghost use Rattle.net_extract.specs.ContactGroups.{AreGroupsOf, carries_both, rects_between};
 ghost use Rattle.net_extract.specs.inside.GroupSteps.{AreByIslands, IsFrontOf};
 
-use super::pieces::{ContactGroup, ContactPiece};
+use super::pieces::{ContactGroup, ContactList, ContactPiece, GroupList};
 use geo_core::{Rect, RectList};
-use lists::NoMemory;
+use lists::{Items, NoMemory};
 use std::alloc::Global;
 
+/// The groups of the contact pieces of each cut.
+pub fn group_lists(alloc: Global, contacts: &[ContactList]) -> Result<Items<GroupList>, NoMemory>
+    ensures { IfOk result (λ groups. AllZip AreGroupsOf contacts.now groups) }
+{
+    let mut groups = Vec::with_capacity(alloc, contacts.len())?;
+    for list in contacts {
+        groups.push(GroupList::from_vec(group_contacts(alloc, list.as_slice())?))?;
+    }
+    Ok(Items::from_vec(groups))
+}
+
 /// The groups of the contact pieces, each once.
-pub fn group_contacts(
-    alloc: Global,
-    contacts: &[ContactPiece],
-) -> Result<Vec<ContactGroup>, NoMemory>
+fn group_contacts(alloc: Global, contacts: &[ContactPiece]) -> Result<Vec<ContactGroup>, NoMemory>
     ensures { IfOk result (λ groups. AreGroupsOf contacts.now groups.items) }
 {
     let sorted = by_islands(alloc, contacts)?;

@@ -13,9 +13,12 @@
 //! 3. **Nets** (`numbers`). `classes` walks over the pairs of islands that contact pieces carry. A piece has the net of
 //!    its island.
 //! 4. **Groups** (`contact_groups`). The contact pieces of a cut, sorted by the two islands that they carry. In nets
-//!    that `extract` makes these groups are the via clusters (`groups_are_clusters`).
+//!    that `extract` makes these groups are the via clusters (`groups_are_clusters`). They are made once, and serve the
+//!    boxes of clusters and the terminals of both metals.
 //! 5. **Anchors** (`anchors`). A terminal is a rectangle of one cell, and `meetings` tells its island; where there is
 //!    none the answer is 50. This comes before contacts are sought.
+//! 6. **Terminals** (`standing`). The anchors of a metal and, where clusters are terminals, the groups of its cuts, sorted
+//!    by their islands. `Nets::islands` gives an island a spot for each (`spots`).
 //!
 //! Two metals and a cut, in which a letter is a piece and a dot is nothing:
 //!
@@ -54,6 +57,7 @@ mod numbers;
 mod pieces;
 mod slimming;
 mod spots;
+pub mod standing;
 
 ghost use Rattle.std.specs.Prelude.{◌≡◌, ◌+◌, IfOk, length, map};
 ghost use Rattle.std.specs.List.{AllZip};
@@ -64,6 +68,7 @@ ghost use Rattle.net_extract.specs.inside.Anchoring.{IsAnchorOf};
 ghost use Rattle.net_extract.specs.inside.Numbering.{AreIslandsOf};
 
 use anchors::anchors_of;
+use contact_groups::group_lists;
 use contacts::contact_lists;
 pub use fault::NetFault;
 pub use fault_model::Island;
@@ -74,7 +79,7 @@ use map_model::{Cut, Map};
 use metals::{MetalIslands, metal_islands};
 pub use nets::Nets;
 use numbers::{net_numbers, piece_lists};
-pub use pieces::{Anchor, ContactGroup, ContactList, ContactPiece, Piece, PieceList};
+pub use pieces::{Anchor, ContactGroup, ContactList, ContactPiece, GroupList, Piece, PieceList};
 use std::alloc::Global;
 
 /// The nets of what the rectangles cover, of which there is one list for each metal of the map, and then one for each cut.
@@ -82,8 +87,8 @@ use std::alloc::Global;
 /// Half squares of a metal are of one island where a walk over edges joins them within the metal. A net goes on from one
 /// metal to another at each half square that a cut and both of its metals have. The contact pieces of a cut have exactly
 /// these half squares, and no two of them are the same; the pieces of a metal have exactly its cells; neither come in a
-/// promised order. The anchors are the map's terminals in order. The error is 50 with the number of the first terminal
-/// whose cell its metal does not cover, or that no memory is left.
+/// promised order. The anchors are the map's terminals in order, and clusters are terminals where the map says so. The
+/// error is 50 with the number of the first terminal whose cell its metal does not cover, or that no memory is left.
 #[tactic(auto, using(first_refusal::proofs::AnswerLaws::out_of_memory))]
 pub fn extract(alloc: Global, layers: &Layers, map: &Map) -> Result<Nets, NetFault>
     requires { length layers.now.lists.items ≡ length map.now.metals + length map.now.cuts }
@@ -115,8 +120,9 @@ fn nets_of(
     let contacts = contact_lists(alloc, cuts, lists, islands)?;
     let nets = net_numbers(alloc, metals.count, contacts.as_slice())?;
     let pieces = piece_lists(alloc, islands, &nets)?;
+    let groups = group_lists(alloc, contacts.as_slice())?;
     let ends = ends_of(alloc, cuts)?;
-    Ok(Nets::new(pieces, contacts, ends, anchors))
+    Ok(Nets::new(pieces, contacts, groups, ends, anchors, map.contacts))
 }
 
 /// The lower and the upper metal of each cut.

@@ -1,9 +1,10 @@
 ghost use Rattle.std.specs.Prelude.{◌≡◌, ◌<◌, All, IfOk, length};
 
-use super::carried::{islands_carried, rects_on, spots_on};
-use super::contact_groups::group_contacts;
-use super::grouped::{by_island, part_of};
-use super::pieces::{Anchor, ContactGroup, ContactList, ContactPiece, Piece, PieceList};
+use super::carried::{islands_carried, rects_on};
+use super::grouped::{by_island, part_of, terminals_at, terminals_by_island};
+use super::pieces::{Anchor, ContactGroup, ContactList, ContactPiece, GroupList, Piece, PieceList};
+use super::spots::spots_of;
+use super::standing::terminals_on;
 use fault_model::{Island, Spots};
 use geo_core::RectList;
 use lists::{Items, NoMemory};
@@ -12,21 +13,24 @@ use std::marker::Model;
 
 /// The nets of a layout, which `extract` makes.
 ///
-/// They are the pieces of each metal, the contact pieces of each cut and the anchors. The pieces that carry one island are
-/// connected; each contact piece lies on the two islands that it carries, of its cut's lower and upper metal, and no two of a
-/// cut are the same; each anchor lies on a piece of its island; and no two anchors of one metal are the same cell. The
-/// number of an island tells it from other islands of its metal, and the number of a net tells it from all other nets.
+/// They are the pieces of each metal, the contact pieces of each cut, the anchors, and whether via clusters are terminals. The
+/// pieces that carry one island are connected; each contact piece lies on the two islands that it carries, of its cut's lower
+/// and upper metal, and no two of a cut are the same; each anchor lies on a piece of its island; and no two anchors of one
+/// metal are the same cell. The number of an island tells it from other islands of its metal, and the number of a net tells
+/// it from all other nets. The groups of contact pieces are kept beside them.
 #[derive(Debug, Drop)]
 pub struct Nets {
     pieces: Items<PieceList>,
     contacts: Items<ContactList>,
+    groups: Items<GroupList>,
     ends: Items<(u32, u32)>,
     anchors: Items<Anchor>,
+    clusters_are_terminals: bool,
 }
 
 impl Model for Nets {
     ghost use Rattle.net_extract.specs.NetLists.{NetLists};
-    ghost use Rattle.net_extract.specs.NetFacts.{AreNets};
+    ghost use Rattle.net_extract.specs.inside.Numbering.{AreGroupedNets};
 
     ghost Value = { NetLists };
 
@@ -35,14 +39,16 @@ impl Model for Nets {
       contacts = nets.contacts;
       ends = nets.ends;
       anchors = nets.anchors;
+      clusters_are_terminals = nets.clusters_are_terminals;
     } };
 
-    ghost invariant = { λ nets. AreNets (record {
+    ghost invariant = { λ nets. AreGroupedNets (record {
       pieces = nets.pieces;
       contacts = nets.contacts;
       ends = nets.ends;
       anchors = nets.anchors;
-    }) };
+      clusters_are_terminals = nets.clusters_are_terminals;
+    }) nets.groups };
 }
 
 impl Nets {
@@ -51,22 +57,39 @@ impl Nets {
     ghost use Rattle.fault_model.specs.IslandLists.{IsAnchoredIsland};
     ghost use Rattle.net_extract.specs.NetFacts.{AreNets};
     ghost use Rattle.net_extract.specs.NetLists.{pieces_on, contacts_of};
+    ghost use Rattle.net_extract.specs.inside.Numbering.{AreGroupedNets};
 
-    /// The nets with these pieces, contact pieces, metals of cuts, and anchors.
+    /// The nets of these parts, of which the groups are those of the contact pieces.
     pub(crate) fn new(
         pieces: Items<PieceList>,
         contacts: Items<ContactList>,
+        groups: Items<GroupList>,
         ends: Items<(u32, u32)>,
         anchors: Items<Anchor>,
+        clusters_are_terminals: bool,
     ) -> Nets
-        requires { AreNets (record { pieces = pieces; contacts = contacts; ends = ends; anchors = anchors }) }
-        ensures { result ≡ record { pieces = pieces; contacts = contacts; ends = ends; anchors = anchors } }
+        requires { AreGroupedNets (record {
+          pieces = pieces;
+          contacts = contacts;
+          ends = ends;
+          anchors = anchors;
+          clusters_are_terminals = clusters_are_terminals;
+        }) groups }
+        ensures { result ≡ record {
+          pieces = pieces;
+          contacts = contacts;
+          ends = ends;
+          anchors = anchors;
+          clusters_are_terminals = clusters_are_terminals;
+        } }
     {
         Nets {
             pieces,
             contacts,
+            groups,
             ends,
             anchors,
+            clusters_are_terminals,
         }
     }
 
@@ -89,13 +112,12 @@ impl Nets {
     }
 
     /// The groups of the contact pieces of the cut with this number, counted from 0 among the cuts: one for each two
-    /// islands that a contact piece carries, with all that carry these two. They come in no promised order. The only
-    /// error is that no memory is left.
-    pub fn contact_groups(&self, alloc: Global, cut: u32) -> Result<Vec<ContactGroup>, NoMemory>
+    /// islands that a contact piece carries, with all that carry these two. They come in no promised order.
+    pub fn contact_groups(&self, cut: u32) -> &[ContactGroup]
         requires { cut < length self.now.contacts }
-        ensures { IfOk result (λ groups. AreGroupsOf (contacts_of self.now cut) groups.items) }
+        ensures { AreGroupsOf (contacts_of self.now cut) result.now }
     {
-        group_contacts(alloc, self.contacts(cut))
+        self.groups.as_slice()[cut as usize].as_slice()
     }
 
     /// The anchors: the terminals of the map in order.
@@ -106,21 +128,29 @@ impl Nets {
         self.anchors.as_slice()
     }
 
-    /// The islands of the metal with this number that have two anchors or more, each with its rectangles and with a spot
-    /// of one cell for each of its anchors, in the order of the map's terminals. The islands come in no promised order.
-    /// The only error is that no memory is left.
+    /// The islands of the metal with this number on which two terminals or more stand, each with its rectangles and with a
+    /// spot for each of its terminals: first the map's terminals in their order, each as a spot of one cell, and then, where
+    /// via clusters are terminals, the contacts of each cluster on it whose cut has this metal, in the order of the cuts. The
+    /// clusters of one cut and the islands come in no promised order. The only error is that no memory is left.
     pub fn islands(&self, alloc: Global, metal: u32) -> Result<Vec<Island>, NoMemory>
         requires { metal < length self.now.pieces }
         ensures islands { IfOk result (λ islands. AreAnchoredIslands self.now metal islands.items) }
         ensures connected { IfOk result (λ islands. All IsAnchoredIsland islands.items) }
     {
-        let numbers = islands_carried(alloc, self.anchors(), metal)?;
+        let anchors = self.anchors.as_slice();
+        let groups = self.groups.as_slice();
+        let ends = self.ends.as_slice();
+        let with_clusters = self.clusters_are_terminals;
+        let listed = terminals_on(alloc, anchors, ends, groups, with_clusters, metal)?;
+        let terminals = terminals_by_island(listed)?;
+        let numbers = islands_carried(alloc, &terminals)?;
         let sorted = by_island(alloc, self.pieces(metal))?;
         let mut islands = Vec::new(alloc);
         for number in &numbers {
-            let anchors = spots_on(alloc, self.anchors(), metal, *number)?;
-            if anchors.len() >= 2 {
+            let here = terminals_at(&terminals, *number);
+            if here.len() >= 2 {
                 let pieces = rects_on(alloc, part_of(&sorted, *number), *number)?;
+                let anchors = spots_of(alloc, here, groups)?;
                 islands.push(Island {
                     pieces: RectList::from_vec(pieces),
                     anchors: Spots::from_vec(anchors),

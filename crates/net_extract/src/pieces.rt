@@ -46,3 +46,6 @@ pub type PieceList = Items<Piece>;
 
 /// The contact pieces of a cut.
 pub type ContactList = Items<ContactPiece>;
+
+/// The groups of the contact pieces of a cut.
+pub type GroupList = Items<ContactGroup>;

@@ -12,7 +12,7 @@ use Rattle.net_extract.specs.ContactGroups.{AreGroupsOf, carries_both, ends_of_g
 use Rattle.net_extract.specs.NetLists.{NetLists, contacts_of}
 use Rattle.net_extract.specs.declared.pieces.ContactGroup.{ContactGroup}
 use Rattle.net_extract.specs.declared.pieces.ContactPiece.{ContactPiece}
-use Rattle.net_extract.proofs.laws.CarryLaws.{carries_tells, told_carries}
+use Rattle.net_extract.proofs.laws.CarryLaws.{group_cells}
 use Rattle.net_extract.proofs.laws.UnitLaws.{unit}
 use Rattle.via_clusters.specs.Clusters.{AreClusterBoxes, IsClusterCell}
 
@@ -54,27 +54,10 @@ module _ (nets : NetLists) (cut : ℕ) where
   abbrev contacts : List ContactPiece
   contacts = contacts_of nets cut
 
-  -- the rectangles of a group have the cells of its cluster
-  group_cells : (lower upper : ℕ) (c : Cell) → IsInUnion (rects_between contacts lower upper) c ↔ IsClusterCell nets cut (lower, upper) c
-  group_cells lower upper c =
-      let test = carries_both lower upper in
-      let rect = λ (contact : ContactPiece). contact.rect in (
-        λ h.
-            let from = Contains-map_from rect (filter test contacts) h.rect (among_union (rects_between contacts lower upper) c h) in
-            record {
-              contact = from.0;
-              among = Contains-from_filter test contacts from.0 from.1;
-              carries = carries_tells lower upper from.0 (Contains-filter_passes test contacts from.0 from.1);
-              has = subst (λ r. Has r c) (sym from.2) h.has;
-            },
-        λ k. in_union (rects_between contacts lower upper) k.contact.rect c
-            (Contains-map rect (filter test contacts) k.contact (Contains-filter test contacts k.contact k.among (told_carries lower upper k.contact k.carries))) k.has,
-      )
-
   box_of_group : (group : ContactGroup) (box : Rect) → group.rects ≡ rects_between contacts group.lower group.upper → IsGroupBox group box
       → IsBoundsOf (IsClusterCell nets cut (ends_of_group group)) box
   box_of_group group box rects is =
-      bounds_same (IsInUnion (rects_between contacts group.lower group.upper)) (IsClusterCell nets cut (ends_of_group group)) box (group_cells group.lower group.upper)
+      bounds_same (IsInUnion (rects_between contacts group.lower group.upper)) (IsClusterCell nets cut (ends_of_group group)) box (group_cells contacts group.lower group.upper)
       (subst (λ rs. IsBoundsOf (IsInUnion rs) box) rects is)
 
   boxes_of_groups : (groups : List ContactGroup) (boxes : List Rect) → All (λ group. group.rects ≡ rects_between contacts group.lower group.upper) groups → AllZip IsGroupBox groups boxes
@@ -92,7 +75,7 @@ module _ (nets : NetLists) (cut : ℕ) where
       let any : Rect = get_or group.rects 0 unit in
       let cell = corner_of any in
       let among = Contains-get_or group.rects 0 unit group.some in
-      (cell.0, (group_cells group.lower group.upper cell.0).0 (subst (λ rs. IsInUnion rs cell.0) rects (in_union group.rects any cell.0 among cell.1)))
+      (cell.0, (group_cells contacts group.lower group.upper cell.0).0 (subst (λ rs. IsInUnion rs cell.0) rects (in_union group.rects any cell.0 among cell.1)))
 
   pub are_boxes : (groups : List ContactGroup) (boxes : List Rect) → AreGroupsOf contacts groups → AllZip IsGroupBox groups boxes → AreClusterBoxes nets cut boxes
   are_boxes groups boxes are zip = record {

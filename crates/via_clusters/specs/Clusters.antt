@@ -6,16 +6,13 @@ use Rattle.geo_core.specs.Plane.{Has}
 use Rattle.geo_core.specs.declared.plane.Cell.{Cell}
 use Rattle.geo_core.specs.declared.plane.Rect.{Rect}
 use Rattle.fault_model.specs.FaultNames.{IsBoundsOf}
-use Rattle.net_extract.specs.ContactGroups.{ends_of_contact}
+use Rattle.net_extract.specs.ContactGroups.{IsGroupCell}
 use Rattle.net_extract.specs.NetLists.{NetLists, contacts_of}
 use Rattle.net_extract.specs.declared.pieces.ContactPiece.{ContactPiece}
 
 -- a contact piece of the cut with this number that carries these two islands has the cell
-pub record IsClusterCell (nets : NetLists) (cut : ℕ) (islands : ℕ × ℕ) (c : Cell) : Type 0 where
-  pub contact : ContactPiece
-  pub among : Contains (contacts_of nets cut) contact
-  pub carries : ends_of_contact contact ≡ islands
-  pub has : Has contact.rect c
+abbrev pub IsClusterCell : NetLists → ℕ → ℕ × ℕ → Cell → Type 0
+IsClusterCell nets cut = IsGroupCell (contacts_of nets cut)
 
 -- some contact piece of the cut carries these two islands
 abbrev pub IsCluster : NetLists → ℕ → ℕ × ℕ → Type 0

@@ -18,9 +18,9 @@ pub fn clusters(alloc: Global, nets: &Nets, cut: u32) -> Result<Vec<Rect>, NoMem
     requires { cut < length nets.now.contacts }
     ensures { IfOk result (λ boxes. AreClusterBoxes nets.now cut boxes.items) }
 {
-    let groups = nets.contact_groups(alloc, cut)?;
+    let groups = nets.contact_groups(cut);
     let mut boxes = Vec::with_capacity(alloc, groups.len())?;
-    for group in &groups {
+    for group in groups {
         boxes.push(bounds(group.rects.as_slice()))?;
     }
     Ok(boxes)

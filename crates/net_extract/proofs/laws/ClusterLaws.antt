@@ -15,11 +15,11 @@ use Rattle.std.proofs.Common.{ℕ, ◌≡◌, sym, ap, ◌∙◌, subst, List, C
 
 module _ (layer_map : LayerMap) (lists : List (List Rect)) (nets : NetLists) (number : ℕ) (cut : Cut) (are : AreNetsOf layer_map lists nets)
     (at : slice_get (cuts_of layer_map) number ≡ Some cut) where
-  abbrev pair : ℕ → ℕ → ℕ × ℕ
+  abbrev pub pair : ℕ → ℕ → ℕ × ℕ
   pair i k = (i, k)
 
   -- the lower and the upper metal of the cut
-  metals_at : slice_get nets.ends number ≡ Some (pair cut.lower cut.upper)
+  pub metals_at : slice_get nets.ends number ≡ Some (pair cut.lower cut.upper)
   metals_at =
       let numbered = got_unmapped cut_of (numbered_cuts layer_map) number cut at in
       let mapped = got_unnumbered (length layer_map.metals) layer_map.cuts number numbered.0 numbered.1 in

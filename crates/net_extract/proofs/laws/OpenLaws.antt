@@ -1,25 +1,27 @@
--- what parts two terminals of a metal parts two anchors of one of its islands
-use Rattle.std.proofs.Common.{ℕ, ◌<◌, ◌≤◌, ◌≡◌, ◌≢◌, refl, sym, ap, ◌∙◌, subst, List, [], ◌∷◌, Bool, true, ◌&&◌, length, arith, inl, inr, ◌↔◌, ◌==◌, Contains, filter}
-use Rattle.lists.proofs.Words.{Decides-eqb, leb_tells, get_or_past}
+-- opens of a metal are those of its islands
+use Rattle.std.proofs.Common.{ℕ, ◌<◌, ◌≤◌, ◌≡◌, ◌≢◌, refl, sym, ap, ◌∙◌, subst, inl, inr, arith, List, [], ◌∷◌, ◌↔◌, length, Contains, Some, slice_get}
+use Rattle.lists.proofs.Words.{cases_lt, get_or_from_slice_get, get_or_past, leb_tells, same_Some, slice_get_within}
+use Rattle.lists.proofs.Containing.{Contains-cons_cases, Contains-none, Contains-slice_get, number_of}
+use Rattle.lists.specs.Differing.{AreDifferent}
 use Rattle.paths.specs.Paths.{stay, step}
 use Rattle.paths.proofs.PathLaws.{first, within}
 use Rattle.geo_core.specs.Plane.{IsInUnion, IsCoveredIn}
 use Rattle.geo_core.specs.declared.plane.Cell.{Cell}
 use Rattle.geo_core.specs.declared.plane.Half.{Half}
 use Rattle.geo_core.specs.declared.plane.Rect.{Rect}
-use Rattle.fault_model.specs.FaultNames.{IsOn, Walk, IslandLists, IsIslandOpen}
-use Rattle.fault_model.specs.Faults.{IsCellsOpen}
+use Rattle.fault_model.specs.FaultNames.{IsOn, Walk, IslandLists, IsIslandOpen, IsViasOpen}
 use Rattle.map_model.specs.MapNames.{LayerMap}
-use Rattle.net_extract.specs.AnchoredIslands.{rects_of_island, anchors_of_island, IsIslandNumbered, AreAnchoredIslands}
+use Rattle.net_extract.specs.AnchoredIslands.{rects_of_island, IsIslandNumbered, AreAnchoredIslands}
+use Rattle.net_extract.specs.Cuts.{terminal_cuts_of}
 use Rattle.net_extract.specs.Extraction.{AreNetsOf}
-use Rattle.net_extract.specs.NetLists.{NetLists, IsIslandCell, places_of}
-use Rattle.net_extract.specs.declared.pieces.Anchor.{Anchor}
+use Rattle.net_extract.specs.NetLists.{NetLists, IsIslandCell}
+use Rattle.net_extract.specs.Standing.{terminals_on_island}
+use Rattle.net_extract.specs.declared.standing.MetalTerminal.{MetalTerminal}
+use Rattle.net_extract.proofs.AnchoredLaws.{island_cell, in_rects}
+use Rattle.net_extract.proofs.StandingLaws.{terminals_differ}
 use Rattle.net_extract.proofs.laws.BesideLaws.{across_from, back_from}
-use Rattle.net_extract.proofs.laws.SpotLaws.{cells_open, spots_open}
-use Rattle.net_extract.proofs.AnchoredLaws.{island_cell, in_rects, anchor_at, cells_differ, on_pieces}
-use Rattle.lists.proofs.Containing.{Contains-cons_cases, Contains-none}
-use Rattle.lists.proofs.Filtering.{Contains-filter}
-use Rattle.lists.proofs.Mapping.{Contains-map, Contains-map_from}
+use Rattle.net_extract.proofs.laws.NamedLaws.{IsName, in_anchor, in_terminal, numbered, from_terminal, to_terminal, names_differ, terminals_apart}
+use Rattle.net_extract.proofs.laws.StandsLaws.{lies_on_island, name_of, standing_of}
 
 -- ---- lists
 
@@ -31,6 +33,18 @@ two_different (a ∷ []) x y h g differ = elim (Contains-cons_cases a [] x h) [
   | inr none ↦ absurd (Contains-none none)
 ]
 two_different (a ∷ b ∷ xs) x y h g differ = omega arith
+
+module _ {X : Type 0} (xs : List X) (i k : ℕ) (x y : X) (at_i : slice_get xs i ≡ Some x) (at_k : slice_get xs k ≡ Some y) where
+  -- what stands under different numbers differs, where all items do
+  items_differ : AreDifferent xs → i ≢ k → x ≢ y
+  items_differ differ apart e = elim (cases_lt i k) [
+    | inl l ↦ differ i k x l (slice_get_within xs k y at_k) (get_or_from_slice_get xs i x x at_i ∙ e ∙ sym (get_or_from_slice_get xs k y x at_k))
+    | inr l ↦ differ k i x (omega arith) (slice_get_within xs i x at_i) (get_or_from_slice_get xs k y x at_k ∙ sym e ∙ sym (get_or_from_slice_get xs i x x at_i))
+  ]
+
+  -- and different items stand under different numbers
+  numbers_differ : x ≢ y → i ≢ k
+  numbers_differ apart e = apart (same_Some x y (sym at_i ∙ ap (slice_get xs) e ∙ at_k))
 
 module _ (layer_map : LayerMap) (lists : List (List Rect)) (nets : NetLists) (are : AreNetsOf layer_map lists nets) (metal : ℕ) where
   abbrev covered : Cell → Type 0
@@ -68,108 +82,100 @@ module _ (layer_map : LayerMap) (lists : List (List Rect)) (nets : NetLists) (ar
       let same = (are.islands metal i v.piece.island p b p_on b_on).1 (step on n (stay next)) in
       step (p_on, also) n (keeps_to Also i b q (subst (λ k. IsOn (IsIslandCell nets metal k) b) (sym same) b_on) w)
 
-  -- ---- anchors as terminals
+  module _ (s : ℕ) (c : Cell) (islands : List IslandLists) (anchored : AreAnchoredIslands nets metal islands) where
+    abbrev Opens : Type 0
+    Opens = IsViasOpen (IsCoveredIn lists) (terminal_cuts_of layer_map) named metal s c
 
-  is_named : (i : ℕ) (d : Cell) → Contains (anchors_of_island nets metal i) d → named d
-  is_named i d among =
-      let a = anchor_at nets metal i d among in
-      let pair : ℕ → Cell → ℕ × Cell = λ m c. (m, c) in
-      let listed = Contains-map (λ (anchor : Anchor). pair anchor.metal anchor.cell) nets.anchors a.anchor a.among in
-      let same : pair a.anchor.metal a.anchor.cell ≡ pair metal d = ap (λ m. pair m a.anchor.cell) a.on_metal ∙ ap (pair metal) a.at in
-      subst (λ ts. Contains ts (pair metal d)) are.anchors (subst (Contains (places_of nets)) same listed)
+    abbrev terminals : ℕ → List MetalTerminal
+    terminals = terminals_on_island nets anchored.groups metal
 
-  -- a terminal of the metal, as an anchor of an island
-  record IsAnchor (d : Cell) : Type 0 where
-    island : ℕ
-    among : Contains (anchors_of_island nets metal island) d
-    on : IsIslandCell nets metal island d
-
-  anchor_of : (d : Cell) → named d → IsAnchor d
-  anchor_of d h =
-      let pair : ℕ → Cell → ℕ × Cell = λ m c. (m, c) in
-      let found = Contains-map_from (λ (anchor : Anchor). pair anchor.metal anchor.cell) nets.anchors (pair metal d) (subst (λ ts. Contains ts (pair metal d)) (sym are.anchors) h) in
-      let anchor = found.0 in
-      let on_metal : anchor.metal ≡ metal = ap (λ (p : ℕ × Cell). p.0) found.2 in
-      let at : anchor.cell ≡ d = ap (λ (p : ℕ × Cell). p.1) found.2 in
-      let here : Anchor → Bool = λ a. (a.metal == metal) && (a.island == anchor.island) in
-      let passes : here anchor ≡ true = rw ((Decides-eqb anchor.metal metal).1 on_metal, (Decides-eqb anchor.island anchor.island).1 refl) refl in
-      let kept = Contains-map (λ (a : Anchor). a.cell) (filter here nets.anchors) anchor (Contains-filter here nets.anchors anchor found.1 passes) in
-      record {
-        island = anchor.island;
-        among = subst (Contains (anchors_of_island nets metal anchor.island)) at kept;
-        on = subst (λ m. IsIslandCell nets m anchor.island d) on_metal (subst (IsIslandCell nets anchor.metal anchor.island) at (are.facts.anchored anchor found.1));
-      }
-
-  module _ (s : ℕ) (c : Cell) where
-    -- the defect parts two of the cells, on an island of these rectangles
-    abbrev IsOpenOf : List Rect → List Cell → Type 0
-    IsOpenOf rects cells = IsCellsOpen (IsInUnion rects) (Contains cells) s c
+    abbrev Numbered : ℕ → IslandLists → Type 0
+    Numbered = IsIslandNumbered nets anchored.groups metal
 
     -- ---- an island that is open, and the metal
 
-    metal_open : (i : ℕ) → IsOpenOf (rects_of_island nets metal i) (anchors_of_island nets metal i) → IsCellsOpen covered named s c
-    metal_open i o =
+    metal_open : (i : ℕ) (island : IslandLists) → Numbered i island → IsIslandOpen island s c → Opens
+    metal_open i island is o =
+        let groups = anchored.groups in
+        let all = terminals i in
         let t = o.tied in
+        let a = numbered groups all island.anchors is.anchors o.one t.0 t.2 in
+        let b = numbered groups all island.anchors is.anchors o.other t.1 t.3 in
+        let a_among = Contains-slice_get all o.one a.terminal a.at in
+        let b_among = Contains-slice_get all o.other b.terminal b.at in
+        let one = name_of layer_map lists nets are groups anchored.grouped metal a.terminal i t.0 a_among a.inside in
+        let other = name_of layer_map lists nets are groups anchored.grouped metal b.terminal i t.1 b_among b.inside in
+        let apart = items_differ all o.one o.other a.terminal b.terminal a.at b.at (terminals_differ nets groups metal are.facts i) o.different in
         record {
-          one = o.one;
-          other = o.other;
-          different = o.different;
-          tied = (t.0, t.1, (is_named i o.one t.2.0, t.2.1), (is_named i o.other t.3.0, t.3.1), within (λ h on. (on.0, on.1, rects_in_metal i on.0 on.2)) t.4);
+          one = one.name;
+          other = other.name;
+          different = names_differ layer_map lists nets are groups anchored.grouped metal a.terminal b.terminal one.name other.name one.is other.is apart;
+          tied = (
+            t.0,
+            t.1,
+            from_terminal layer_map lists nets are groups anchored.grouped metal a.terminal one.name t.0 one.is a.inside,
+            from_terminal layer_map lists nets are groups anchored.grouped metal b.terminal other.name t.1 other.is b.inside,
+            within (λ h on. (on.0, on.1, rects_in_metal i on.0 (subst (λ rects. IsInUnion rects on.0) is.pieces on.2))) t.4,
+          );
           parted = λ p q p_in q_in w.
-              let on = island_cell nets metal i o.one (on_pieces nets metal i are.facts o.one t.2.0) in
-              o.parted p q (t.2.0, p_in.1) (t.3.0, q_in.1) (within (λ h (h_on, spared). ((h_on.0, h_on.1, in_rects nets metal i h_on.0 h_on.2), spared))
-              (keeps_to _ i p q (o.one, p_in.1, on) w));
+              let p_inside = to_terminal layer_map lists nets are groups anchored.grouped metal a.terminal one.name p one.is p_in in
+              let q_inside = to_terminal layer_map lists nets are groups anchored.grouped metal b.terminal other.name q other.is q_in in
+              let p_on = lies_on_island nets are.facts groups anchored.grouped metal a.terminal i p a_among p_inside in
+              o.parted p q (in_anchor groups all island.anchors is.anchors o.one a.terminal p a.at p_inside) (in_anchor groups all island.anchors is.anchors o.other b.terminal q b.at q_inside)
+              (within (λ h (h_on, spared). ((h_on.0, h_on.1, subst (λ rects. IsInUnion rects h_on.0) (sym is.pieces) (in_rects nets metal i h_on.0 h_on.2)), spared)) (keeps_to _ i p q p_on w));
         }
 
     -- ---- and back
 
-    record IsOpenOn (i : ℕ) : Type 0 where
-      many : 2 ≤ length (anchors_of_island nets metal i)
-      is_open : IsOpenOf (rects_of_island nets metal i) (anchors_of_island nets metal i)
-
-    island_open : IsCellsOpen covered named s c → (i : ℕ) × IsOpenOn i
+    island_open : (o : Opens) → (island : IslandLists) × Contains islands island × IsIslandOpen island s c
     island_open o =
+        let groups = anchored.groups in
         let t = o.tied in
-        let a = anchor_of o.one t.2.0 in
-        let b = anchor_of o.other t.3.0 in
+        let a = standing_of layer_map lists nets are groups anchored.grouped metal o.one t.0 t.2 in
+        let b = standing_of layer_map lists nets are groups anchored.grouped metal o.other t.1 t.3 in
         let i = a.island in
-        let p_on : IsOn (IsIslandCell nets metal i) t.0 = (o.one, t.2.1, a.on) in
-        let q_on : IsOn (IsIslandCell nets metal b.island) t.1 = (o.other, t.3.1, b.on) in
-        let same = (are.islands metal i b.island t.0 t.1 p_on q_on).1 t.4 in
-        let other_among = subst (λ k. Contains (anchors_of_island nets metal k) o.other) (sym same) b.among in
-        let joined = are.facts.connected metal i t.0 t.1 p_on (subst (λ k. IsOn (IsIslandCell nets metal k) t.1) (sym same) q_on) in (
-          i,
+        let all = terminals i in
+        let same = (are.islands metal i b.island t.0 t.1 a.on b.on).1 t.4 in
+        let b_among = subst (λ k. Contains (terminals k) b.terminal) (sym same) b.among in
+        let b_on = subst (λ k. IsOn (IsIslandCell nets metal k) t.1) (sym same) b.on in
+        let apart : a.terminal ≢ b.terminal = λ e.
+        let is = subst (λ x. IsName layer_map lists nets are groups anchored.grouped metal x o.other) (sym e) b.is in
+        terminals_apart layer_map lists nets are groups anchored.grouped metal a.terminal o.one o.other a.is is o.different in
+        let many = two_different all a.terminal b.terminal a.among b_among apart in
+        let found = across_from Numbered anchored.numbers islands i anchored.each ((anchored.exactly i).1 many) in
+        let island = found.0 in
+        let is = found.2 in
+        let m = number_of all a.terminal a.among in
+        let n = number_of all b.terminal b_among in
+        let p_inside = to_terminal layer_map lists nets are groups anchored.grouped metal a.terminal o.one t.0 a.is t.2 in
+        let q_inside = to_terminal layer_map lists nets are groups anchored.grouped metal b.terminal o.other t.1 b.is t.3 in
+        let joined = are.facts.connected metal i t.0 t.1 a.on b_on in (
+          island,
+          found.1,
           record {
-            many = two_different (anchors_of_island nets metal i) o.one o.other a.among other_among o.different;
-            is_open = record {
-              one = o.one;
-              other = o.other;
-              different = o.different;
-              tied = (t.0, t.1, (a.among, t.2.1), (other_among, t.3.1), within (λ h on. (on.0, on.1, in_rects nets metal i on.0 on.2)) joined);
-              parted = λ p q p_in q_in w. o.parted p q (t.2.0, p_in.1) (t.3.0, q_in.1) (within (λ h (h_on, spared). ((h_on.0, h_on.1, rects_in_metal i h_on.0 h_on.2), spared)) w);
-            };
+            one = m.0;
+            other = n.0;
+            different = numbers_differ all m.0 n.0 a.terminal b.terminal m.1 n.1 apart;
+            tied = (
+              t.0,
+              t.1,
+              in_anchor groups all island.anchors is.anchors m.0 a.terminal t.0 m.1 p_inside,
+              in_anchor groups all island.anchors is.anchors n.0 b.terminal t.1 n.1 q_inside,
+              within (λ h on. (on.0, on.1, subst (λ rects. IsInUnion rects on.0) (sym is.pieces) (in_rects nets metal i on.0 on.2))) joined,
+            );
+            parted = λ p q p_in q_in w.
+                let p_inside = in_terminal groups all island.anchors is.anchors m.0 a.terminal p m.1 p_in in
+                let q_inside = in_terminal groups all island.anchors is.anchors n.0 b.terminal q n.1 q_in in
+                o.parted p q (from_terminal layer_map lists nets are groups anchored.grouped metal a.terminal o.one p a.is p_inside)
+                (from_terminal layer_map lists nets are groups anchored.grouped metal b.terminal o.other q b.is q_inside)
+                (within (λ h (h_on, spared). ((h_on.0, h_on.1, rects_in_metal i h_on.0 (subst (λ rects. IsInUnion rects h_on.0) is.pieces h_on.2)), spared)) w);
           },
         )
 
-    -- ---- the islands of a list
-
-    module _ (islands : List IslandLists) (anchored : AreAnchoredIslands nets metal islands) where
-      as_numbered : (number : ℕ) (island : IslandLists) → IsIslandNumbered nets metal number island
-          → IsIslandOpen island s c ↔ IsOpenOf (rects_of_island nets metal number) (anchors_of_island nets metal number)
-      as_numbered number island is =
-          let cells = anchors_of_island nets metal number in (
-            λ o. subst (λ rects. IsOpenOf rects cells) is.pieces
-                (cells_open cells island.anchors is.anchors (IsInUnion island.pieces) s c (cells_differ nets metal number are.facts) o),
-            λ o. spots_open cells island.anchors is.anchors (IsInUnion island.pieces) s c (subst (λ rects. IsOpenOf rects cells) (sym is.pieces) o),
-          )
-
-      pub opens_are_of_islands : ((island : IslandLists) × Contains islands island × IsIslandOpen island s c) ↔ IsCellsOpen covered named s c
-      opens_are_of_islands = (
-        λ (island, among, o).
-            let from = back_from (IsIslandNumbered nets metal) anchored.numbers islands island anchored.each among in
-            metal_open from.0 ((as_numbered from.0 island from.2).0 o),
-        λ o.
-            let found = island_open o in
-            let found_by = across_from (IsIslandNumbered nets metal) anchored.numbers islands found.0 anchored.each ((anchored.exactly found.0).1 found.1.many) in
-            (found_by.0, found_by.1, (as_numbered found.0 found_by.0 found_by.2).1 found.1.is_open),
-      )
+    pub opens_are_of_islands : ((island : IslandLists) × Contains islands island × IsIslandOpen island s c) ↔ Opens
+    opens_are_of_islands = (
+      λ (island, among, o).
+          let from = back_from Numbered anchored.numbers islands island anchored.each among in
+          metal_open from.0 island from.2 o,
+      island_open,
+    )

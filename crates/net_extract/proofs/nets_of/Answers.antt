@@ -37,8 +37,11 @@ new-requires c =
     let lists_are : AreContactLists lists islands given.cuts contacts = rw (c.as_slice-islands.ensures, c.as_slice-cuts.ensures) at c.in_ok-contacts.ensures in
     let pieces_are : c.in_ok-pieces.pieces ≡ map (map (piece_of nets)) islands = rw (c.as_slice-islands.ensures, c.deref.ensures.value) at c.in_ok-pieces.ensures in
     let ends_are = rw c.as_slice-cuts.ensures at c.in_ok-ends.ensures in
-    rw pieces_are (are_nets islands nets contacts c.in_ok-ends.ends c.args.anchors lists (length given.metals) c.args.metals.now.count c.requires.islands given.cuts given.cuts_join lists_are
-    given.terminals ends_are c.requires.anchors given.terminals_differ)
+    rw pieces_are (record {
+      nets_are = are_nets islands nets contacts c.in_ok-ends.ends c.args.anchors given.contacts lists (length given.metals) c.args.metals.now.count c.requires.islands given.cuts given.cuts_join
+          lists_are given.terminals ends_are c.requires.anchors given.terminals_differ;
+      grouped = rw c.as_slice-2.ensures at c.in_ok-groups.ensures;
+    })
 
 pub returns : goal.returns
 returns c =

@@ -5,10 +5,16 @@ use Rattle.geo_core.specs.declared.plane.Cell.{Cell}
 use Rattle.geo_core.specs.declared.plane.Labelled.{Labelled}
 use Rattle.geo_core.specs.declared.plane.Rect.{Rect}
 use Rattle.map_model.specs.declared.layers.Terminal.{Terminal}
+use Rattle.lists.specs.Differing.{AreDifferent}
+use Rattle.net_extract.specs.Standing.{groups_of}
 use Rattle.net_extract.specs.inside.LabelledCells.{HasLabelled}
 use Rattle.net_extract.specs.inside.Numbering.{islands_on}
 use Rattle.net_extract.specs.declared.pieces.Anchor.{Anchor}
+use Rattle.net_extract.specs.declared.pieces.ContactGroup.{ContactGroup}
 use Rattle.net_extract.specs.declared.pieces.ContactPiece.{ContactPiece}
+use Rattle.net_extract.specs.declared.standing.MetalTerminal.{MetalTerminal}
+use Rattle.net_extract.specs.declared.standing.MetalTerminal.TheVariants.{Named, Group}
+use Rattle.net_extract.specs.declared.standing.Standing.{Standing}
 
 -- the terminal with this number is the cell, on the metal
 pub record IsTerminalAt (terminals : List Terminal) (metal number : ℕ) (c : Cell) : Type 0 where
@@ -68,3 +74,13 @@ IsOnIsland islands numbered = (i : ℕ) × HasLabelled (islands_on islands numbe
 -- some rectangle has the cell
 abbrev pub MayBeCovered : Cell → Type 0
 MayBeCovered cell = (rect : Rect) × Has rect cell
+
+-- the terminal has a spot: its cell may be covered, or its group is one of the groups
+abbrev pub IsThere : List (List ContactGroup) → MetalTerminal → Type 0
+IsThere groups (Named cell) = MayBeCovered cell
+IsThere groups (Group cut number) = (cut < length groups) × (number < length (groups_of groups cut))
+
+-- different numbers, among which are those of all islands on which the terminals stand
+pub record AreDifferentCarried (terminals : List Standing) (numbers : List ℕ) : Type 0 where
+  pub different : AreDifferent numbers
+  pub all : (standing : Standing) → Contains terminals standing → Contains numbers standing.island

@@ -1,6 +1,7 @@
 -- islands and nets by numbers that go through all metals
 use Rattle.std.specs.Prelude.{ℕ, List, [], Contains, Some, length, slice_get, slice_index, slice_index_or, ◌+◌, ◌<◌, ◌≤◌, ◌≡◌, ◌↔◌, ◌⊎◌}
 use Rattle.lists.specs.Differing.{AreDifferent}
+use Rattle.lists.specs.Words.{AllZip}
 use Rattle.paths.specs.Paths.{Path}
 use Rattle.geo_core.specs.declared.plane.Cell.{Cell}
 use Rattle.geo_core.specs.declared.plane.Half.{Half}
@@ -9,7 +10,11 @@ use Rattle.geo_core.specs.declared.plane.Rect.{Rect}
 use Rattle.geo_core.specs.Plane.{IsInUnion, IsCoveredIn}
 use Rattle.fault_model.specs.FaultNames.{IsOn, IsSameIsland}
 use Rattle.map_model.specs.declared.layers.Cut.{Cut}
+use Rattle.net_extract.specs.ContactGroups.{AreGroupsOf}
+use Rattle.net_extract.specs.NetFacts.{AreNets}
+use Rattle.net_extract.specs.NetLists.{NetLists}
 use Rattle.net_extract.specs.inside.LabelledCells.{HasLabelled, AreContactsOf}
+use Rattle.net_extract.specs.declared.pieces.ContactGroup.{ContactGroup}
 use Rattle.net_extract.specs.declared.pieces.ContactPiece.{ContactPiece}
 use Rattle.net_extract.specs.declared.pieces.Piece.{Piece}
 
@@ -65,3 +70,8 @@ pub record AreNetNumbers (count : ℕ) (contacts : List (List ContactPiece)) (ne
 -- the rectangle with its island and its net
 abbrev pub piece_of : List ℕ → Labelled → Piece
 piece_of nets island = record { rect = island.rect; island = island.label; net = slice_index nets island.label }
+
+-- nets with the groups of their contact pieces
+pub record AreGroupedNets (nets : NetLists) (groups : List (List ContactGroup)) : Type 0 where
+  pub nets_are : AreNets nets
+  pub grouped : AllZip AreGroupsOf nets.contacts groups

@@ -1,6 +1,5 @@
-use Rattle.std.proofs.Common.{take}
-use Rattle.net_extract.proofs.CarriedLaws.{HasCarried}
+use Rattle.std.proofs.Common.{◌≡◌, take, map}
 use Rattle.net_extract.proofs.carried.islands_carried.Given as goal
 
-abbrev pub invariant-loop-anchor : goal.invariant-loop-anchor
-invariant-loop-anchor l = HasCarried l.metal (take l.anchor-index l.anchors) l.numbers.items
+abbrev pub invariant-loop-standing : goal.invariant-loop-standing
+invariant-loop-standing l = l.numbers.items ≡ map (λ standing. standing.island) (take l.standing-index l.terminals)

@@ -4,4 +4,4 @@ use Rattle.via_clusters.proofs.ClusterBoxLaws.{IsGroupBox}
 use Rattle.via_clusters.proofs.boxes.clusters.Given as goal
 
 abbrev pub invariant-loop-group : goal.invariant-loop-group
-invariant-loop-group l = AllZip IsGroupBox (take l.group-index l.group-items) l.boxes.items
+invariant-loop-group l = AllZip IsGroupBox (take l.group-index l.groups) l.boxes.items
