@@ -19,7 +19,6 @@ use Rattle.critical_areas.specs.FaultKinds.{IsFault}
 use Rattle.critical_areas.specs.Rows.{AreAmounts, IsAmount}
 use Rattle.critical_areas.specs.declared.parts.Parts.{Parts}
 use Rattle.critical_areas.proofs.CutLaws.{block_is}
-use Rattle.critical_areas.proofs.FaultLaws.{opens_of_cells}
 use Rattle.critical_areas.proofs.PieceLaws.{reached_is}
 use Rattle.critical_areas.proofs.ZippedLaws.{item_has, zipped_at, zipped_by}
 
@@ -41,9 +40,7 @@ module _ (layer_map : LayerMap) (lists : List (List Rect)) (parts : Parts) (are 
     by_kind Open e =
         let of_metal : question.number < length parts.metals = askable.of_metal (λ via. cc (e, via)) in
         let small : question.number < length layer_map.metals = omega (arith, are.one_each) in
-        let parted = are.islands question.number small side c in
-        let fault = opens_of_cells layer_map are.cells_alone (IsCoveredIn lists) question.number side c in
-        (λ o. fault.0 (parted.0 o), λ f. parted.1 (fault.1 f))
+        are.islands question.number small side c
     by_kind Via e =
         let k = question.number - length parts.metals in
         let behind = askable.behind_metals e in

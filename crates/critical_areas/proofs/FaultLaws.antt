@@ -1,15 +1,13 @@
--- faults of a layer map: its terminals are cells, and what is covered alike has the same faults
-use Rattle.std.proofs.Common.{ℕ, ◌+◌, ◌≡◌, refl, sym, ap, subst, false, List, [], ◌∷◌, ◌↔◌, All, Contains, map, filter, length}
-use Rattle.lists.proofs.Words.{All-head, All-map, All-tail, enumerate_from}
+-- faults of a layer map: where its terminals are cells alone, and what is covered alike has the same faults
+use Rattle.std.proofs.Common.{ℕ, List, ◌≡◌, sym, ap, subst, Bool, false, if◌then◌else◌, [], ◌↔◌, Contains}
 use Rattle.geo_core.specs.declared.plane.Cell.{Cell}
 use Rattle.fault_model.specs.FaultNames.{IsViasOpen}
 use Rattle.fault_model.specs.Faults.{IsCellsOpen}
 use Rattle.fault_model.proofs.AlikeLaws.{block_alike, open_alike, short_alike}
 use Rattle.fault_model.proofs.TallyLaws.{Tally-same_all}
 use Rattle.fault_model.proofs.TerminalLaws.{no_vias}
-use Rattle.map_model.specs.MapNames.{LayerMap, MappedCut, layer_map_of, mapped_cut}
-use Rattle.map_model.specs.declared.map.Map.{Map}
-use Rattle.net_extract.specs.Cuts.{cut_of, cuts_of, terminal_cuts_of}
+use Rattle.map_model.specs.MapNames.{LayerMap}
+use Rattle.net_extract.specs.Cuts.{cuts_of, terminal_cuts_of}
 use Rattle.critical_areas.specs.FaultKinds.{IsFault}
 use Rattle.questions.specs.Questions.{side_of}
 use Rattle.questions.specs.declared.question.Question.{Question}
@@ -18,32 +16,20 @@ use Rattle.questions.specs.declared.kind.Kind.{Kind}
 use Rattle.questions.specs.declared.kind.Kind.TheVariants.{Short, Open, Via}
 use Rattle.questions.specs.declared.row.Row.{Row}
 
--- where no cut has clusters for terminals, the opens are those of cells
-pub opens_of_cells : (layer_map : LayerMap) → terminal_cuts_of layer_map ≡ [] → (covers : ℕ → Cell → Type 0) (m s : ℕ) (c : Cell)
+-- where clusters are no terminals, no cut has some
+no_terminal_cuts : (layer_map : LayerMap) → layer_map.contacts ≡ false → terminal_cuts_of layer_map ≡ []
+no_terminal_cuts layer_map none = ap (λ (told : Bool). if told then cuts_of layer_map else []) none
+
+-- and opens are those of cells
+pub opens_of_cells : (layer_map : LayerMap) → layer_map.contacts ≡ false → (covers : ℕ → Cell → Type 0) (m s : ℕ) (c : Cell)
     → IsCellsOpen (covers m) (λ d. Contains layer_map.terminals (m, d)) s c ↔ IsFault layer_map covers Open m s c
-opens_of_cells layer_map cells_alone covers m s c =
+opens_of_cells layer_map none covers m s c =
     let named : Cell → Type 0 = λ d. Contains layer_map.terminals (m, d) in
+    let cells_alone = no_terminal_cuts layer_map none in
     let same = no_vias covers named m s c in (
       λ o. subst (λ cuts. IsViasOpen covers cuts named m s c) (sym cells_alone) (same.1 o),
       λ f. same.0 (subst (λ cuts. IsViasOpen covers cuts named m s c) cells_alone f),
     )
-
--- the clusters of the cut are no terminals
-abbrev HasNone : MappedCut → Type 0
-HasNone cut = cut.has_terminals ≡ false
-
-none_numbered : (cuts : List MappedCut) (first : ℕ) → All HasNone cuts → filter (λ numbered. numbered.1.has_terminals) (enumerate_from first cuts) ≡ []
-none_numbered [] first none = refl
-none_numbered (cut ∷ cuts) first none =
-    let here : cut.has_terminals ≡ false = All-head HasNone cut cuts none in
-    rw here (none_numbered cuts (first + 1) (All-tail HasNone cut cuts none))
-
-pub no_cut_has_terminals : (layer_map : LayerMap) → All HasNone layer_map.cuts → terminal_cuts_of layer_map ≡ []
-no_cut_has_terminals layer_map none = ap (map cut_of) (none_numbered layer_map.cuts (length layer_map.metals) none)
-
--- no cut of a map says that its clusters are terminals
-pub no_terminal_cuts : (given : Map) → terminal_cuts_of (layer_map_of given) ≡ []
-no_terminal_cuts given = no_cut_has_terminals (layer_map_of given) (All-map HasNone mapped_cut given.cuts (λ k d within. refl))
 
 module _ (layer_map : LayerMap) where
   fault_follows : (one other : ℕ → Cell → Type 0) → ((m : ℕ) (c : Cell) → one m c ↔ other m c) → (kind : Kind) (m s : ℕ) (c : Cell) → IsFault layer_map one kind m s c

@@ -53,7 +53,8 @@ module _ (layer_map : LayerMap) (lists : List (List Rect)) (made : NetLists) (ar
   }
 
   -- the islands of a metal that have two anchors or more
-  islands_of_metal : (islands : List IslandLists) → AreAnchoredIslands made metal islands → AreIslandsOf (IsCoveredIn lists metal) (λ d. Contains layer_map.terminals (metal, d)) islands
+  islands_of_metal : (islands : List IslandLists) → AreAnchoredIslands made metal islands
+      → AreIslandsOf (IsCoveredIn lists) (terminal_cuts_of layer_map) (λ d. Contains layer_map.terminals (metal, d)) metal islands
   islands_of_metal islands anchored side c =
       let same = opens_are_of_islands layer_map lists made are metal side c islands anchored in (
         λ o. same.0 (o.island, o.among, o.is_open),
@@ -78,9 +79,9 @@ cut_is_among layer_map number cut there =
     omega (arith, within, as_many, numbered)
 
 pub parts_are : (layer_map : LayerMap) (lists : List (List Rect)) (made : NetLists) (parts : Parts) → AreNetsOf layer_map lists made → parts.questions ≡ questions layer_map
-    → parts.metals ≡ map (map by_net) made.pieces → AreAllIslands made (length made.pieces) parts.islands → AreAllBoxes made (length made.contacts) parts.cuts → terminal_cuts_of layer_map ≡ []
+    → parts.metals ≡ map (map by_net) made.pieces → AreAllIslands made (length made.pieces) parts.islands → AreAllBoxes made (length made.contacts) parts.cuts
     → ArePartsOf layer_map lists parts
-parts_are layer_map lists made parts are asked metals anchored boxed cells_alone =
+parts_are layer_map lists made parts are asked metals anchored boxed =
     let islands = subst (λ n. AreAllIslands made n parts.islands) are.metals anchored in
     let boxes = subst (λ n. AreAllBoxes made n parts.cuts) are.cuts boxed in
     record {
@@ -90,7 +91,6 @@ parts_are layer_map lists made parts are asked metals anchored boxed cells_alone
           let at = ap (λ ms. slice_index_or ms metal []) metals ∙ get_or-map (map by_net) made.pieces metal [] in
           subst (ArePiecesOf (IsCoveredIn lists) (cuts_of layer_map) metal) (sym at) (pieces_by_net layer_map lists made are metal small);
       islands = λ metal small. islands_of_metal layer_map lists made are metal _ (islands.each metal small);
-      cells_alone = cells_alone;
       boxes = λ number cut there. boxes_of_cut layer_map lists made are number cut there _ (boxes.each number (cut_is_among layer_map number cut there));
       each_once = record { nets = made; are_nets = are; islands = islands; boxes = boxes };
     }

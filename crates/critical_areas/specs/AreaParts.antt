@@ -9,8 +9,7 @@ use Rattle.geo_core.specs.declared.plane.Cell.{Cell}
 use Rattle.geo_core.specs.declared.plane.Half.{Half}
 use Rattle.geo_core.specs.declared.plane.Labelled.{Labelled}
 use Rattle.geo_core.specs.declared.plane.Rect.{Rect}
-use Rattle.fault_model.specs.FaultNames.{IsOn, Cut, IsSameNetOn, IsViaBlock, IslandLists}
-use Rattle.fault_model.specs.Faults.{IsCellsOpen}
+use Rattle.fault_model.specs.FaultNames.{IsOn, Cut, IsSameNetOn, IsViaBlock, IsViasOpen, IslandLists}
 use Rattle.map_model.specs.MapNames.{LayerMap}
 use Rattle.net_extract.specs.Cuts.{cuts_of, terminal_cuts_of}
 use Rattle.net_extract.specs.Extraction.{AreNetsOf, IsOnItsMetal, off_metal}
@@ -35,9 +34,10 @@ pub record ArePiecesOf (covers : ℕ → Cell → Type 0) (cuts : List Cut) (m :
   pub nets : (one other : Labelled) (p q : Half) → Contains pieces one → Contains pieces other →
       IsOn (Has one.rect) p → IsOn (Has other.rect) q → (one.label ≡ other.label) ↔ IsSameNetOn covers cuts m p q
 
--- a defect of any side parts two anchors of one of the islands exactly where it parts two of the cells that are named
-abbrev pub AreIslandsOf : (Cell → Type 0) → (Cell → Type 0) → List IslandLists → Type 0
-AreIslandsOf covered named islands = (side : ℕ) (c : Cell) → IsSomeOpen islands side c ↔ IsCellsOpen covered named side c
+-- a defect of any side parts two anchors of one of the islands exactly where it parts two terminals of the metal: cells that are
+-- named, or via clusters of these cuts
+abbrev pub AreIslandsOf : (ℕ → Cell → Type 0) → List Cut → (Cell → Type 0) → ℕ → List IslandLists → Type 0
+AreIslandsOf covers cuts named metal islands = (side : ℕ) (c : Cell) → IsSomeOpen islands side c ↔ IsViasOpen covers cuts named metal side c
 
 -- a defect of any radius covers one of the boxes exactly where it blocks a via of the cut
 abbrev pub AreBoxesOf : (ℕ → Cell → Type 0) → Cut → List Rect → Type 0
@@ -59,9 +59,8 @@ pub record ArePartsOf (layer_map : LayerMap) (lists : List (List Rect)) (parts :
   pub pieces : (metal : ℕ) → metal < length layer_map.metals →
       ArePiecesOf (IsCoveredIn lists) (cuts_of layer_map) metal (slice_index_or parts.metals metal [])
   pub islands : (metal : ℕ) → metal < length layer_map.metals →
-      AreIslandsOf (IsCoveredIn lists metal) (λ d. Contains layer_map.terminals (metal, d)) (slice_index_or parts.islands metal [])
-  -- the terminals are cells: no cut has via clusters for terminals
-  pub cells_alone : terminal_cuts_of layer_map ≡ []
+      AreIslandsOf (IsCoveredIn lists) (terminal_cuts_of layer_map) (λ d. Contains layer_map.terminals (metal, d)) metal
+      (slice_index_or parts.islands metal [])
   pub boxes : (number : ℕ) (cut : Cut) → slice_get (cuts_of layer_map) number ≡ Some cut →
       AreBoxesOf (IsCoveredIn lists) cut (slice_index_or parts.cuts number [])
   pub each_once : AreEachOnce layer_map lists parts

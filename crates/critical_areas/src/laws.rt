@@ -1,6 +1,6 @@
 //! Facts about the definitions, each the contract of a function that does nothing else.
 
-ghost use Rattle.std.specs.Prelude.{ℕ, List, All, Contains, false, ◌/◌, ◌≤◌, ◌≡◌, ◌↔◌};
+ghost use Rattle.std.specs.Prelude.{ℕ, List, Contains, false, ◌/◌, ◌≤◌, ◌≡◌, ◌↔◌};
 ghost use Rattle.critical_areas.specs.AreaParts.{ArePartsOf, ArePiecesOf};
 ghost use Rattle.critical_areas.specs.AskedCounts.{AreCounted};
 ghost use Rattle.critical_areas.specs.declared.parts.Parts.{Parts};
@@ -34,10 +34,10 @@ pub fn near_pieces_decide_shorts<L: Layout>()
         s / 2 ≤ reach → HitsTwoLabels near s c ↔ IsShort L.covers cuts metal s c }
 {}
 
-/// Where no cut of a layer map has its clusters as terminals, what rows count as opens are opens between cells: a defect makes
+/// Where a layer map does not say that via clusters are terminals, what rows count as opens are opens between cells: a defect makes
 /// one of a metal exactly where it parts two of the cells that the map names as the metal's terminals.
 pub fn opens_are_of_cells<L: Layout>()
-    ensures { (layer_map : LayerMap) (metal s : ℕ) (c : Cell) → All (λ cut. cut.has_terminals ≡ false) layer_map.cuts →
+    ensures { (layer_map : LayerMap) (metal s : ℕ) (c : Cell) → layer_map.contacts ≡ false →
         IsFault layer_map L.covers Open metal s c ↔
         IsCellsOpen (L.covers metal) (λ d. Contains layer_map.terminals (metal, d)) s c }
 {}

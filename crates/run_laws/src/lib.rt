@@ -3,7 +3,7 @@
 //! They are laws of the definitions of `critarea_core`, each the contract of a function that does nothing else.
 #![tactic(auto)]
 
-ghost use Rattle.std.specs.Prelude.{ℕ, ◌≡◌, false, All, List, Option, Vec};
+ghost use Rattle.std.specs.Prelude.{ℕ, ◌≡◌, false, List, Option, Vec};
 ghost use Rattle.first_refusal.specs.Laws.{IsUnique, CannotLack};
 ghost use Rattle.first_refusal.specs.Outcomes.{Outcome, refused, value};
 ghost use Rattle.critarea_core.specs.Analysis.{AnalysisComesTo};
@@ -19,6 +19,7 @@ ghost use Rattle.critarea_core.specs.Verdict.{AreRowsOn, IsVerdict, LayoutComesT
 ghost use Rattle.critarea_core.specs.declared.layout_fault.LayoutFault.{LayoutFault};
 ghost use Rattle.critarea_core.specs.declared.refusal.Refusal.{Refusal};
 ghost use Rattle.map_model.specs.LayerMap.{LayerMap};
+ghost use Rattle.map_model.specs.declared.measure.Measure.TheVariants.{Radius};
 ghost use Rattle.questions.specs.declared.row.Row.{Row};
 ghost use Rattle.fault_model.specs.Areas.{Tally};
 ghost use Rattle.geo_core.specs.declared.plane.Cell.{Cell};
@@ -107,12 +108,13 @@ pub fn reports_agree()
         AreRowsOn subject rows → AreRowsOn subject others → whole_report rows gauges ≡ whole_report others gauges }
 {}
 
-/// In the map of a task no cut has its clusters as terminals. So what its rows count as opens are those of
-/// `critical_areas::laws::opens_are_of_cells`: a defect parts two cells that the map names as terminals.
-#[tactic(auto, using(crate::proofs::MapLaws::maps_name_terminals))]
-pub fn maps_name_terminals()
+/// Where the sizes of a task's map are radii, as they are in maps of version 1, in that of one metal and in that of a generated
+/// layout, via clusters are no terminals. So what its rows count as opens are those of `critical_areas::laws::opens_are_of_cells`:
+/// a defect parts two cells that the map names as terminals.
+#[tactic(auto, using(crate::proofs::MapLaws::maps_by_radii_name_terminals))]
+pub fn maps_by_radii_name_terminals()
     ensures { (task : Task) (bytes : List ℕ → List ℕ) (layer_map : LayerMap) →
-        MapComesTo task bytes (value layer_map) → All (λ cut. cut.has_terminals ≡ false) layer_map.cuts }
+        MapComesTo task bytes (value layer_map) → layer_map.measure ≡ Radius → layer_map.contacts ≡ false }
 {}
 
 /// A property has a tally over each list of cells: it cannot be that it has none.

@@ -5,7 +5,6 @@ use Rattle.questions.specs.Questions.{IsAskable}
 use Rattle.questions.specs.declared.question.Question.{Question}
 use Rattle.critical_areas.specs.AreaParts.{by_net}
 use Rattle.critical_areas.specs.LayerParts.{AreAllBoxes, AreAllIslands}
-use Rattle.critical_areas.proofs.FaultLaws.{no_terminal_cuts}
 use Rattle.critical_areas.proofs.PartLaws.{parts_are}
 use Rattle.critical_areas.proofs.preparing.parts_of.Goals as goal
 
@@ -27,4 +26,3 @@ returns-clause-parts c lists are =
     parts_are (layer_map_of c.args.map.now) lists c.args.nets.now _ are (c.from_vec.ensures ∙ c.in_ok-questions.ensures.questions) c.in_ok-metals.ensures
     (subst (λ n. AreAllIslands c.args.nets.now n c.in_ok-islands.islands) (ap length c.as_slice-2.ensures ∙ sym c.requires.metals) c.in_ok-islands.ensures)
     (subst (λ n. AreAllBoxes c.args.nets.now n c.in_ok-cuts.cuts) (ap length c.as_slice-3.ensures ∙ sym c.requires.cuts) c.in_ok-cuts.ensures)
-    (no_terminal_cuts c.args.map.now)
