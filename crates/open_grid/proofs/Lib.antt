@@ -1,3 +1,4 @@
+pub mod laws
 pub mod ZoneLaws
 pub mod ToldLaws
 pub mod LeftLaws
@@ -7,4 +8,5 @@ pub mod CellLaws
 pub mod ChangeLaws
 pub mod BoxLaws
 pub mod PartingLaws
+pub mod EachLaws
 pub mod CountingLaws

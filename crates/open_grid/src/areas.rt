@@ -1,8 +1,9 @@
-ghost use Rattle.std.specs.Prelude.{IfOk, ◌^◌, ◌<◌, ◌≤◌, ◌↔◌};
+ghost use Rattle.std.specs.Prelude.{[], ◌∷◌, IfOk, ◌^◌, ◌<◌, ◌≤◌, ◌↔◌};
 ghost use Rattle.geo_core.specs.Cells.{Has};
 ghost use Rattle.geo_core.specs.Unions.{IsInUnion};
 ghost use Rattle.geo_core.specs.declared.plane.Cell.{Cell};
 ghost use Rattle.fault_model.specs.Areas.{Tally, cells_of};
+ghost use Rattle.fault_model.specs.IslandLists.{IsIslandOpen};
 ghost use Rattle.geo_core.specs.declared.bounds.TheConstants.{GREATEST_SIDE};
 ghost use Rattle.open_grid.specs.RingCounts.{IsSomeRingMany};
 ghost use Rattle.severing.specs.Severing.{IsSomeOpen};
@@ -52,12 +53,50 @@ fn counted_cells(
     ensures never_falls { searches.old ≤ searches.new }
     ensures rises_by_many { searches.old < searches.new → IsSomeRingMany islands.now window side }
 {
-    let mut looked = Vec::with_capacity(alloc, islands.len())?;
+    let mut cells = Vec::new(alloc);
     for island in islands {
-        looked.push(look(alloc, island)?)?;
+        let found = cells_of_island(alloc, island, window, side, searches)?;
+        cells.extend_from_slice(&found)?;
     }
+    Ok(cells)
+}
+
+/// The cells of the window that are the centre of a defect of this side that parts two anchors of this island, as rectangles in no
+/// order. The one error is that no memory is left.
+pub fn open_cells_of(
+    alloc: Global,
+    island: &Island,
+    window: Rect,
+    side: u32,
+) -> Result<Vec<Rect>, NoMemory>
+    requires some { 1 ≤ side }
+    requires few { side ≤ GREATEST_SIDE }
+    ensures { IfOk result (λ rects. (c : Cell) →
+        IsInUnion rects.items c ↔ (Has window c × IsIslandOpen island.now side c)) }
+{
+    let mut searches = 0;
+    cells_of_island(alloc, island, window, side, &mut searches)
+}
+
+/// The cells at which a defect parts two anchors of this island, with the same count. Islands are looked at one by one, since what
+/// one needs to know of a zone is the same beside any others, and most zones meet few.
+fn cells_of_island(
+    alloc: Global,
+    island: &Island,
+    window: Rect,
+    side: u32,
+    searches: &mut u64,
+) -> Result<Vec<Rect>, NoMemory>
+    requires some { 1 ≤ side }
+    requires few { side ≤ GREATEST_SIDE }
+    ensures cells { IfOk result (λ rects. (c : Cell) →
+        IsInUnion rects.items c ↔ (Has window c × IsIslandOpen island.now side c)) }
+    ensures never_falls { searches.old ≤ searches.new }
+    ensures rises_by_many { searches.old < searches.new → IsSomeRingMany (island.now ∷ []) window side }
+{
+    let looked = vec![in alloc; look(alloc, island)?]?;
     defects_sever_islands();
-    open_parts(alloc, looked.as_slice(), window, side, searches)
+    open_parts(alloc, &looked, window, side, searches)
 }
 
 /// How many cells of the window are the centre of such a defect. A cell counts once, however many islands it parts. The one

@@ -1,10 +1,10 @@
 //! At which cells of a window a defect parts two anchors of an island, and at how many.
 //!
 //! Whether a defect parts two anchors depends on the ways between them, so no rectangles are known beforehand, and a
-//! search at each cell would grow with the cells. `open_cells` finds the cells as rectangles, in zones of centres,
-//! first the whole window:
+//! search at each cell would grow with the cells. `open_cells` finds the cells as rectangles, island by island, in zones of
+//! centres, first the whole window:
 //!
-//! 1. Each island is looked at (`look_at`). Where it has one arc of the ring round all that some defect has, and no spot of
+//! 1. The island is looked at (`look_at`). Where it has one arc of the ring round all that some defect has, and no spot of
 //!    an anchor lies there, no defect of the zone parts two, and it is done with (`ring_test`). Else its remnant is narrowed
 //!    to the defects of the zone, whose reach is what some of them has, and whose core is what each of them has
 //!    (`remnants`).
@@ -21,7 +21,8 @@
 //! law of `severing`: the removal of more parts more. Which zones are looked at changes the time alone.
 //!
 //! `open_area` is the area of the rectangles' union in the window. Whoever needs the areas of parts of a window asks
-//! once for the cells of the whole, and takes the union's area in each part.
+//! once for the cells of the whole, and takes the union's area in each part, or asks in each part for the cells of the islands that
+//! come near it (`open_cells_of`).
 //!
 //! `parted` asks for one defect, by the ring round it first (`ring_test`). Where that is `Many`, and there alone, the
 //! island is looked at for the zone of its one cell. `parted_counted` counts these searches.
@@ -38,5 +39,5 @@ mod steps;
 mod stretching;
 mod zones;
 
-pub use areas::{open_area, open_area_counted, open_cells};
+pub use areas::{open_area, open_area_counted, open_cells, open_cells_of};
 pub use parting::{parted, parted_counted};
