@@ -134,20 +134,17 @@ fn counts(pieces: usize, groups: &[ContactGroup]) -> Counts {
 }
 
 /// The counts of these nets.
-fn counts_of(alloc: Global, nets: &Nets) -> Option<Counts>
+fn counts_of(nets: &Nets) -> Counts
     requires metals { length nets.now.pieces ≡ 2 }
     requires cuts { length nets.now.contacts ≡ 1 }
 {
-    match nets.contact_groups(alloc, 0) {
-        Ok(groups) => Some(counts(nets.pieces(0).len(), &groups)),
-        Err(_) => None,
-    }
+    counts(nets.pieces(0).len(), nets.contact_groups(0))
 }
 
 /// Those of the nets of these shapes.
 fn counts_in(alloc: Global, shapes: Shapes) -> Option<Counts> {
     match nets_with(alloc, "", &shapes) {
-        Ok(nets) => counts_of(alloc, &nets),
+        Ok(nets) => Some(counts_of(&nets)),
         Err(_) => None,
     }
 }

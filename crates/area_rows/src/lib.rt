@@ -11,11 +11,15 @@ mod clusters;
 #[cfg(test)]
 mod depth;
 #[cfg(test)]
+mod fields;
+#[cfg(test)]
 mod flood;
 #[cfg(test)]
 mod flood_rows;
 #[cfg(test)]
 mod halves;
+#[cfg(test)]
+mod island_rows;
 #[cfg(test)]
 mod large_lists;
 #[cfg(test)]

@@ -1,8 +1,9 @@
 ghost use Rattle.std.specs.Prelude.{◌≡◌, length};
 
 use super::anchors::are_cells;
+use super::fields::{Place, has, have_cells, is_wanted, place};
 use super::nets::{ACROSS, CUTS, STRIPES, Shapes, nets_with};
-use geo_core::{Cell, Rect};
+use geo_core::Cell;
 use lists::NoMemory;
 use net_extract::{Anchor, ContactPiece, Island, NetFault, Nets, Piece};
 use samples::sides::Sides;
@@ -15,14 +16,6 @@ const TERMINALS: &str = "[[terminal]]\nmetal = \"m1\"\nx = 0\ny = 0\n\
 
 /// A terminal of the first metal.
 const ONE_TERMINAL: &str = "[[terminal]]\nmetal = \"m1\"\nx = 5\ny = 5\n";
-
-/// A cell: its column and its row.
-type Place = (i32, i32);
-
-/// Whether the rectangle has the cell.
-fn has(rect: Rect, (i, j): Place) -> bool {
-    rect.x0 <= i && i < rect.x1 && rect.y0 <= j && j < rect.y1
-}
 
 /// The island and the net of the cell, where a piece has it.
 fn numbers_at(pieces: &[Piece], cell: Place) -> Option<(usize, usize)> {
@@ -64,18 +57,8 @@ fn have_names(metals: &[&[Piece]; 2], cells: &[Named]) -> bool {
     true
 }
 
-/// The cell with this number on a field of 24 by 24.
-fn place(number: i32) -> Place {
-    (number % 24, number / 24)
-}
-
-/// Whether one of the rectangles with these sides has the cell.
-fn is_wanted(table: &[Sides], (i, j): Place) -> bool {
-    table.iter().any(|sides| sides.0 <= i && i < sides.2 && sides.1 <= j && j < sides.3)
-}
-
 /// Whether the contact pieces have exactly the cells of these rectangles.
-fn have_cells(contacts: &[ContactPiece], table: &[Sides]) -> bool {
+fn are_contacts(contacts: &[ContactPiece], table: &[Sides]) -> bool {
     for number in 0..576 {
         let cell = place(number);
         if contacts.iter().any(|contact| has(contact.rect, cell)) != is_wanted(table, cell) {
@@ -114,7 +97,7 @@ fn come_to(alloc: Global, row: &Row) -> bool {
         Ok(nets) => {
             let metals = [nets.pieces(0), nets.pieces(1)];
             have_names(&metals, row.1)
-                && have_cells(nets.contacts(0), row.2)
+                && are_contacts(nets.contacts(0), row.2)
                 && lie_on_their_islands(nets.contacts(0), &metals)
         }
         Err(_) => false,
@@ -317,22 +300,11 @@ fn are_anchors(nets: &Nets) -> bool
     nets.anchors().len() == TERMINAL_PLACES.len()
 }
 
-/// Whether the rectangles have exactly the cells of the wire.
-fn have_the_wire(rects: &[Rect]) -> bool {
-    for number in 0..576 {
-        let cell = place(number);
-        if rects.iter().any(|rect| has(*rect, cell)) != is_wanted(WIRE, cell) {
-            return false;
-        }
-    }
-    true
-}
-
 /// Whether the one island is the wire with its ends.
 fn are_the_wire(islands: &[Island]) -> bool {
     match islands {
         [island] => {
-            have_the_wire(island.pieces.as_slice()) && are_cells(island.anchors.as_slice(), ENDS)
+            have_cells(island.pieces.as_slice(), WIRE) && are_cells(island.anchors.as_slice(), ENDS)
         }
         _ => false,
     }

@@ -21,6 +21,7 @@ macro_rules! areas {
     };
 }
 
+mod contacts;
 mod cuts;
 pub mod generated;
 mod opens;

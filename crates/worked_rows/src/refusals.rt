@@ -87,6 +87,11 @@ const RADII_33: &str =
     "[1, 2, 3, 4, 5, 6, 7, 8, 9, 10, 11, 12, 13, 14, 15, 16, 17, 18, 19, 20, 21, 22, 23, 24, 25, 26, 27, 28, \
     29, 30, 31, 32, 33]";
 
+/// The sizes of the sample, and in their place sides with a number where a truth value belongs.
+const RADII_OF_SAMPLE: &str = "version = 1\nradii = [2, 5]";
+
+const WITH_A_NUMBER: &str = "version = 2\nsides = [2, 5]\ncontacts = 1";
+
 /// The sample's terminal, and the same at the row and the column of 5, given twice, beside one at the end of a wire, and beside
 /// two of which the first is there on the second metal.
 const TERMINAL: &str = "[[terminal]]\nmetal = \"m1\"\nx = 0\ny = 0\n";
@@ -144,6 +149,7 @@ const MAPS: &[Refusal] = refusals! {
     "map_with_unknown_key": NO_LAYOUT, Raw(b"q = 1"), BARS => 3, error 41 at 1;
     "radii_in_version_2": NO_LAYOUT, Raw(b"version = 2\nradii = [2]\nweights = [1]\n"), BARS => 3, error 41 at 1;
     "sides_in_version_1": NO_LAYOUT, Raw(b"version = 1\nsides = [2]\nweights = [1]\n"), BARS => 3, error 41 at 1;
+    "contacts_in_version_1": NO_LAYOUT, Changed("version = 1", "version = 1\ncontacts = true"), BARS => 3, error 41 at 1;
     "map_with_layers": NO_LAYOUT, Changed("version = 1", "version = 1\nlayers = 2"), BARS => 3, error 41 at 1;
     "metal_with_pair": NO_LAYOUT, Changed("pairs = [[3, 0]]", "pair = [[3, 0]]"), BARS => 3, error 41 at 110;
     "cut_with_between": NO_LAYOUT, Changed("lower", "between"), BARS => 3, error 41 at 300;
@@ -163,6 +169,7 @@ const MAPS: &[Refusal] = refusals! {
     "cut_no_array": NO_LAYOUT, Changed("[[cut]]", "[cut]"), BARS => 3, error 42 at 6;
     "map_cut_joins_one_metal": NO_LAYOUT, Changed("upper = \"m2\"", "upper = \"m1\""), BARS => 3, error 42 at 304;
     "terminal_no_array": NO_LAYOUT, Changed("[[terminal]]", "[terminal]"), BARS => 3, error 42 at 7;
+    "contacts_by_a_number": NO_LAYOUT, Changed(RADII_OF_SAMPLE, WITH_A_NUMBER), BARS => 3, error 42 at 8;
     "terminal_between_cells": NO_LAYOUT, Changed("x = 0", "x = 0.5"), BARS => 3, error 42 at 1002;
 };
 

@@ -1,21 +1,13 @@
 ghost use Rattle.std.specs.Prelude.{◌≡◌, length};
 
+use crate::fields::{Place, has, have_cells};
 use crate::nets::{ACROSS, STRIPES, Shapes, nets_with};
-use geo_core::Rect;
 use net_extract::{ContactGroup, Nets, Piece};
 use samples::sides::Sides;
 use std::alloc::Global;
 
-/// A cell: its column and its row.
-type Place = (i32, i32);
-
 /// A cell of the lower island and one of the upper island of a group, and rectangles that have exactly its cells.
 type Group = (Place, Place, &'static [Sides]);
-
-/// Whether the rectangle has the cell.
-fn has(rect: Rect, (i, j): Place) -> bool {
-    rect.x0 <= i && i < rect.x1 && rect.y0 <= j && j < rect.y1
-}
 
 /// Whether some piece has the cell, and each that has it carries this island.
 fn is_island_at(pieces: &[Piece], cell: Place, island: usize) -> bool {
@@ -23,22 +15,6 @@ fn is_island_at(pieces: &[Piece], cell: Place, island: usize) -> bool {
         && pieces
             .iter()
             .all(|piece| !has(piece.rect, cell) || piece.island == island)
-}
-
-/// Whether one of the rectangles with these sides has the cell.
-fn is_wanted(table: &[Sides], (i, j): Place) -> bool {
-    table.iter().any(|sides| sides.0 <= i && i < sides.2 && sides.1 <= j && j < sides.3)
-}
-
-/// Whether the rectangles have exactly the cells of those with these sides, on a field of 12 by 12 cells.
-fn have_cells(rects: &[Rect], table: &[Sides]) -> bool {
-    for number in 0..144 {
-        let cell = (number % 12, number / 12);
-        if rects.iter().any(|rect| has(*rect, cell)) != is_wanted(table, cell) {
-            return false;
-        }
-    }
-    true
 }
 
 /// Whether the group carries the islands of these cells, and has exactly these contacts.
@@ -61,21 +37,18 @@ fn are(groups: &[ContactGroup], metals: &[&[Piece]; 2], first: &Group, second: &
 
 /// Whether the one cut has these two groups. Which numbers their islands have, in which order they come and into how many
 /// rectangles their contacts fall is not promised.
-fn have_groups(alloc: Global, nets: &Nets, first: &Group, second: &Group) -> bool
+fn have_groups(nets: &Nets, first: &Group, second: &Group) -> bool
     requires metals { length nets.now.pieces ≡ 2 }
     requires cuts { length nets.now.contacts ≡ 1 }
 {
     let metals = [nets.pieces(0), nets.pieces(1)];
-    match nets.contact_groups(alloc, 0) {
-        Ok(groups) => are(groups.as_slice(), &metals, first, second),
-        Err(_) => false,
-    }
+    are(nets.contact_groups(0), &metals, first, second)
 }
 
 /// Whether the shapes have two groups, these.
 fn come_to(alloc: Global, shapes: &Shapes, first: &Group, second: &Group) -> bool {
     match nets_with(alloc, "", shapes) {
-        Ok(nets) => have_groups(alloc, &nets, first, second),
+        Ok(nets) => have_groups(&nets, first, second),
         Err(_) => false,
     }
 }
