@@ -51,6 +51,21 @@ const READ_AGAIN: &[(&str, &str)] = &[
          read again, it ends otherwise: what stands there has changed\n  \
          map 'm': there is no such file\n",
     ),
+    // sizes are radii or sides, and what has its place beside sides alone is told as that
+    (
+        "3|error 42 at 3\n|a|--map|m",
+        "the map, `radii` or `sides`: a value is missing here, or is not of the kind or in the range that belongs here; \
+         compare it with *Keys of a map* in docs/REFUSALS.md\n  \
+         read again, it ends otherwise: what stands there has changed\n  \
+         map 'm': there is no such file\n",
+    ),
+    (
+        "3|error 42 at 8\n|a|--map|m",
+        "the map, `contacts`: a value is missing here, or is not of the kind or in the range that belongs here; \
+         compare it with *Keys of a map* in docs/REFUSALS.md\n  \
+         read again, it ends otherwise: what stands there has changed\n  \
+         map 'm': there is no such file\n",
+    ),
     // the report could not be written
     (
         "5||a|--layer|1|--datatype|0|--radius|3",

@@ -21,7 +21,8 @@ const STANDS: Stands<'static> = Stands {
 /// What is told of the generated layout of one column and one row: its cell has two bars of 12 by 4 cells and two terminals on
 /// the lower metal, one bar of 4 by 12 on the upper, and a contact of 2 by 2 between them.
 const GENERATED: &str = "the generated layout: nothing is wrong, and the run gives its report\n  \
-     metal 'm2': no terminals, so its opens are 0, which says nothing of its wires\n  \
+     metal 'm2': no terminals, so its opens are 0, which says nothing of its wires; \
+     `contacts = true`, in a map of version 2, makes each via cluster a terminal, and needs no list\n  \
      library 'GEN', a database unit that is no length below a metre, 2 structures, top 'TOP'\n  \
      metal 'm1': 2 shapes with 10 points, from (0, 0) to (12, 12)\n  \
      metal 'm2': 1 shapes with 5 points, from (0, 0) to (4, 12)\n  \

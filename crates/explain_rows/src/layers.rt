@@ -102,6 +102,7 @@ const ROWS: &[(&str, u8, &str)] = &[
          # half of the side of each defect, in database units, and its weight: replace these\n\
          radii = [100]\n\
          weights = [1]\n\
+         # for opens between vias, without a list: `version = 2`, `sides` in place of `radii`, and `contacts = true`\n\
          \n\
          # layer 1, datatype 0: boundaries 1, boxes 0, paths 0, texts 3, points from (0, 0) to (105, 15); the top places shapes of it\n\
          [[metal]]\n\

@@ -245,3 +245,84 @@ fn terminals_are_told(rt: HostRuntime) {
         );
     }
 }
+
+/// Maps of the two bars that may say that via clusters are terminals, and what is told of each. The cut has no shapes.
+const CONTACTS: &[(&[u8], &str)] = &[
+    // the cut joins the metal
+    (
+        b"version=2\nsides=[2]\nweights=[1]\ncontacts=true\nmetal=[{name=\"m1\",pairs=[[1,0]]},{name=\"m2\",pairs=[[2,0]]}]\n\
+          cut=[{name=\"v1\",pairs=[[3,0]],lower=\"m1\",upper=\"m2\"}]\n",
+        "layout 'a': nothing is wrong, and the run gives its report\n  \
+         metal 'm2': no shapes, so its areas are 0; are its layers and datatypes those of the layout?\n  \
+         cut 'v1': no shapes, so its areas are 0; are its layers and datatypes those of the layout?\n  \
+         the layout has shapes of these pairs: [1, 0]\n  \
+         metal 'm1': each via cluster is a terminal of both its metals; islands with two terminals or more have opens\n  \
+         library 'L', a database unit that is no length below a metre, 1 structures, top 'T'\n  \
+         metal 'm1': 2 shapes with 10 points, from (0, 0) to (24, 10)\n  \
+         metal 'm1': 2 islands: 2 with no terminal, 0 with one, 0 with more, \
+         by the terminals that the map names; via clusters, which are terminals too, are not counted\n",
+    ),
+    // it does, and the first bar has two terminals that the map names
+    (
+        b"version=2\nsides=[2]\nweights=[1]\ncontacts=true\nmetal=[{name=\"m1\",pairs=[[1,0]]},{name=\"m2\",pairs=[[2,0]]}]\n\
+          cut=[{name=\"v1\",pairs=[[3,0]],lower=\"m2\",upper=\"m1\"}]\n\
+          terminal=[{metal=\"m1\",x=9,y=9},{metal=\"m1\",x=0,y=0}]\n",
+        "layout 'a': nothing is wrong, and the run gives its report\n  \
+         metal 'm2': no shapes, so its areas are 0; are its layers and datatypes those of the layout?\n  \
+         cut 'v1': no shapes, so its areas are 0; are its layers and datatypes those of the layout?\n  \
+         the layout has shapes of these pairs: [1, 0]\n  \
+         library 'L', a database unit that is no length below a metre, 1 structures, top 'T'\n  \
+         metal 'm1': 2 shapes with 10 points, from (0, 0) to (24, 10)\n  \
+         metal 'm1': 2 islands: 1 with no terminal, 0 with one, 1 with more, \
+         by the terminals that the map names; via clusters, which are terminals too, are not counted\n  \
+         terminals by islands, each told by a cell of it; terminals are counted from 1\n    \
+         metal 'm1', island of the cell (0, 0): 1 2\n",
+    ),
+    // it would, but via clusters are no terminals
+    (
+        b"version=2\nsides=[2]\nweights=[1]\ncontacts=false\nmetal=[{name=\"m1\",pairs=[[1,0]]},{name=\"m2\",pairs=[[2,0]]}]\n\
+          cut=[{name=\"v1\",pairs=[[3,0]],lower=\"m1\",upper=\"m2\"}]\n",
+        "layout 'a': nothing is wrong, and the run gives its report\n  \
+         metal 'm2': no shapes, so its areas are 0; are its layers and datatypes those of the layout?\n  \
+         cut 'v1': no shapes, so its areas are 0; are its layers and datatypes those of the layout?\n  \
+         the layout has shapes of these pairs: [1, 0]\n  \
+         metal 'm1': no terminals, so its opens are 0, which says nothing of its wires; \
+         `contacts = true`, in a map of version 2, makes each via cluster a terminal, and needs no list\n  \
+         library 'L', a database unit that is no length below a metre, 1 structures, top 'T'\n  \
+         metal 'm1': 2 shapes with 10 points, from (0, 0) to (24, 10)\n  \
+         metal 'm1': 2 islands: 2 with no terminal, 0 with one, 0 with more\n",
+    ),
+    // no cut joins the metal, without a terminal and with one
+    (
+        b"version=2\nsides=[2]\nweights=[1]\ncontacts=true\nmetal=[{name=\"m1\",pairs=[[1,0]]}]\n",
+        "layout 'a': nothing is wrong, and the run gives its report\n  \
+         metal 'm1': no terminals, nor a cut whose via clusters are terminals, so its opens are 0, which says nothing of its wires\n  \
+         library 'L', a database unit that is no length below a metre, 1 structures, top 'T'\n  \
+         metal 'm1': 2 shapes with 10 points, from (0, 0) to (24, 10)\n  \
+         metal 'm1': 2 islands: 2 with no terminal, 0 with one, 0 with more\n",
+    ),
+    (
+        b"version=2\nsides=[2]\nweights=[1]\ncontacts=true\nmetal=[{name=\"m1\",pairs=[[1,0]]}]\n\
+          terminal=[{metal=\"m1\",x=14,y=0}]\n",
+        "layout 'a': nothing is wrong, and the run gives its report\n  \
+         metal 'm1': no island with two terminals, nor a cut whose via clusters are terminals, \
+         so its opens are 0, which says nothing of its wires\n  \
+         library 'L', a database unit that is no length below a metre, 1 structures, top 'T'\n  \
+         metal 'm1': 2 shapes with 10 points, from (0, 0) to (24, 10)\n  \
+         metal 'm1': 2 islands: 1 with no terminal, 1 with one, 0 with more\n  \
+         terminals by islands, each told by a cell of it; terminals are counted from 1\n    \
+         metal 'm1', island of the cell (14, 0): 1\n",
+    ),
+];
+
+#[test]
+fn via_clusters_are_told(rt: HostRuntime) {
+    for (map, told) in CONTACTS {
+        let stands = Stands {
+            map,
+            layout: TWO_BARS,
+            others: &[],
+        };
+        expect(&rt, rt.alloc(), "a|--map|m", &stands, 0, ["", *told, ""]);
+    }
+}

@@ -1,4 +1,6 @@
 use crate::rows::{Stands, expect};
+use std::alloc::Global;
+use std::process::Abort;
 
 /// A map's bytes, and what is told of it. The layout is not there, and is not looked at.
 const ROWS: &[(&[u8], &str)] = &[
@@ -61,7 +63,7 @@ const ROWS: &[(&[u8], &str)] = &[
         "error 41 at 1\n\
          map 'm', line 2, the document: it has a key that is not known\n  \
          not known: 'radii'\n  \
-         known: version sides weights metal cut terminal\n  \
+         known: version sides weights metal cut terminal contacts\n  \
          version 2 has `sides` in place of `radii`\n",
     ),
     (
@@ -231,14 +233,61 @@ const ROWS: &[(&[u8], &str)] = &[
     ),
 ];
 
-#[test]
-fn maps_are_told(rt: HostRuntime) {
-    for (bytes, told) in ROWS {
+/// The same of the key `contacts`.
+const CONTACTS: &[(&[u8], &str)] = &[
+    // in version 1, alone and behind `sides`
+    (
+        b"version = 1\nradii = [2]\nweights = [1]\ncontacts = true\n",
+        "error 41 at 1\n\
+         map 'm', line 4, the document: it has a key that is not known\n  \
+         not known: 'contacts'\n  \
+         known: version radii weights metal cut terminal\n  \
+         `contacts` stands in version 2, with `sides`\n",
+    ),
+    (
+        b"version = 1\nsides = [1]\ncontacts = true\n",
+        "error 41 at 1\n\
+         map 'm', line 2, the document: it has a key that is not known\n  \
+         not known: 'contacts' 'sides'\n  \
+         known: version radii weights metal cut terminal\n  \
+         version 1 has `radii` in place of `sides`, which stand in version 2\n  \
+         `contacts` stands in version 2, with `sides`\n",
+    ),
+    // in version 2
+    (
+        b"version = 2\nsides = [2]\nweights = [1]\ncontacts = 1\n[[metal]]\nname = \"a\"\npairs = [[1, 0]]\n",
+        "error 42 at 8\n\
+         map 'm', line 4, `contacts`: this may not stand there\n  \
+         there stands, of the kind integer: 1\n  \
+         there may stand: true or false: whether each via cluster is a terminal of both its metals; or no such key\n",
+    ),
+    (
+        b"version = 2\nsides = [2]\nweights = [1]\nmetal = [{name = \"a\", pairs = [[1, 0]]}]\ncontact = true\n",
+        "error 41 at 1\n\
+         map 'm', line 5, the document: it has a key that is not known\n  \
+         not known: 'contact'\n  \
+         known: version sides weights metal cut terminal contacts\n",
+    ),
+];
+
+/// Checks what is told of maps.
+fn expect_maps<R: Abort>(rt: &R, alloc: Global, rows: &[(&[u8], &str)]) {
+    for (bytes, told) in rows {
         let stands = Stands {
             map: bytes,
             layout: &[],
             others: &[],
         };
-        expect(&rt, rt.alloc(), "none|--map|m", &stands, 3, ["", *told, ""]);
+        expect(rt, alloc, "none|--map|m", &stands, 3, ["", *told, ""]);
     }
+}
+
+#[test]
+fn maps_are_told(rt: HostRuntime) {
+    expect_maps(&rt, rt.alloc(), ROWS);
+}
+
+#[test]
+fn contacts_are_told(rt: HostRuntime) {
+    expect_maps(&rt, rt.alloc(), CONTACTS);
 }

@@ -10,7 +10,7 @@ use crate::telling::Telling;
 use crate::text::Text;
 use command_line::Word;
 use edge_io::Files;
-use layer_map::Measure;
+use layer_map::{Measure, Place};
 use lists::NoMemory;
 use std::alloc::Global;
 
@@ -78,11 +78,12 @@ impl<'a> Ended<'a> {
 fn tell_map_place(text: &mut Text, place: u64) {
     let of_radii = place_of(place, Measure::Radius);
     let of_sides = place_of(place, Measure::Side);
-    tell_place(text, None, of_radii);
-    if of_sides != of_radii {
+    // What stands beside sides alone has no place of its own beside radii.
+    if of_radii != of_sides && of_radii != Place::Document {
+        tell_place(text, None, of_radii);
         text.say(" or ");
-        tell_place(text, None, of_sides);
     }
+    tell_place(text, None, of_sides);
 }
 
 /// Tells what a row is about, where its place is this and the meaning does not name it.

@@ -8,7 +8,10 @@ use crate::bounds::{bounds_of, tell_bounds};
 use crate::graph::name_of;
 use crate::layer_names::tell_layer;
 use crate::layouts::Layout;
-use crate::metal_islands::{MetalIslands, metal_islands, tell_all_carried, tell_island_counts};
+use crate::metal_islands::{
+    MetalIslands, has_cluster_terminals, is_joined, metal_islands, tell_all_carried,
+    tell_island_counts,
+};
 use crate::pairs::tell_pairs_of;
 use crate::shapes::{Held, Shapes, tell_held};
 use crate::text::Text;
@@ -43,23 +46,55 @@ fn tell_empty_layers(
     Ok(())
 }
 
-/// Tells that a metal has no opens, and why: no island of it has two terminals.
-fn tell_no_opens(text: &mut Text, map: &Map, metal: usize) {
-    tell_layer(text, "  ", map, metal);
+/// Tells which terminals a metal lacks that has no opens.
+fn tell_lack(text: &mut Text, map: &Map, metal: usize) {
     let mut terminals = map.terminals.as_slice().iter();
     if terminals.any(|terminal| terminal.metal as usize == metal) {
         text.say(": no island with two terminals");
     } else {
         text.say(": no terminals");
     }
-    text.say(", so its opens are 0, which says nothing of its wires\n");
+    if map.contacts {
+        text.say(", nor a cut whose via clusters are terminals");
+    }
 }
 
-/// Tells the metals with shapes that have no opens.
+/// Tells how a metal that a cut joins comes to opens without a list of terminals.
+fn tell_way(text: &mut Text, map: &Map, metal: usize) {
+    if is_joined(map, metal) {
+        text.say(
+            "; `contacts = true`, in a map of version 2, makes each via cluster a terminal, and needs no list",
+        );
+    }
+}
+
+/// Tells that a metal has no opens, and why: no island of it has two terminals.
+fn tell_no_opens(text: &mut Text, map: &Map, metal: usize) {
+    tell_layer(text, "  ", map, metal);
+    tell_lack(text, map, metal);
+    text.say(", so its opens are 0, which says nothing of its wires");
+    tell_way(text, map, metal);
+    text.say("\n");
+}
+
+/// Tells of a metal on whose islands the map names few terminals whether via clusters are terminals, and else that it has no
+/// opens.
+fn tell_few_terminals(text: &mut Text, map: &Map, metal: usize) {
+    if has_cluster_terminals(map, metal) {
+        tell_layer(text, "  ", map, metal);
+        text.say(
+            ": each via cluster is a terminal of both its metals; islands with two terminals or more have opens\n",
+        );
+    } else {
+        tell_no_opens(text, map, metal);
+    }
+}
+
+/// Tells the metals with shapes on which no island has two terminals that the map names, and whether they have opens.
 fn tell_opens(text: &mut Text, map: &Map, layers: &[Held], islands: &[MetalIslands]) {
     for (metal, (held, islands)) in layers.iter().zip(islands.iter()).enumerate() {
         if held.shapes > 0 && islands.more == 0 {
-            tell_no_opens(text, map, metal);
+            tell_few_terminals(text, map, metal);
         }
     }
 }

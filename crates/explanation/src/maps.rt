@@ -121,20 +121,26 @@ fn tell_bad_key(text: &mut Text, document: &Table, place: Place) {
     }
     text.say("\n");
     if place == Place::Document {
-        tell_other_sizes(text, document, measure);
+        tell_other_version(text, document, measure);
     }
 }
 
-/// Tells which sizes the versions have, where the document has those of the other one.
-fn tell_other_sizes(text: &mut Text, document: &Table, measure: Measure) {
+/// Tells of the keys that one version alone has, where the document has those of the other one.
+fn tell_other_version(text: &mut Text, document: &Table, measure: Measure) {
     match measure {
-        Measure::Side if document.get("radii").is_some() => {
-            text.say("  version 2 has `sides` in place of `radii`\n");
+        Measure::Side => {
+            if document.get("radii").is_some() {
+                text.say("  version 2 has `sides` in place of `radii`\n");
+            }
         }
-        Measure::Radius if document.get("sides").is_some() => {
-            text.say("  version 1 has `radii` in place of `sides`, which stand in version 2\n");
+        Measure::Radius => {
+            if document.get("sides").is_some() {
+                text.say("  version 1 has `radii` in place of `sides`, which stand in version 2\n");
+            }
+            if document.get("contacts").is_some() {
+                text.say("  `contacts` stands in version 2, with `sides`\n");
+            }
         }
-        _ => {}
     }
 }
 

@@ -104,7 +104,18 @@ pub fn metal_islands(
     Ok(all)
 }
 
-/// Tells how many islands a metal has, and how many of them have terminals.
+/// Whether a cut of the map joins the metal to another one.
+pub fn is_joined(map: &Map, metal: usize) -> bool {
+    let mut cuts = map.cuts.as_slice().iter();
+    cuts.any(|cut| cut.lower as usize == metal || cut.upper as usize == metal)
+}
+
+/// Whether via clusters are terminals of the metal besides those that the map names: they are those of the cuts that join it.
+pub fn has_cluster_terminals(map: &Map, metal: usize) -> bool {
+    map.contacts && is_joined(map, metal)
+}
+
+/// Tells how many islands a metal has, and how many of them have terminals that the map names.
 pub fn tell_island_counts(text: &mut Text, map: &Map, metal: usize, islands: &MetalIslands) {
     let all = islands
         .none
@@ -114,7 +125,13 @@ pub fn tell_island_counts(text: &mut Text, map: &Map, metal: usize, islands: &Me
     text.number(": ", all, " islands: ");
     text.number("", islands.none, " with no terminal, ");
     text.number("", islands.one, " with one, ");
-    text.number("", islands.more, " with more\n");
+    text.number("", islands.more, " with more");
+    if has_cluster_terminals(map, metal) {
+        text.say(
+            ", by the terminals that the map names; via clusters, which are terminals too, are not counted",
+        );
+    }
+    text.say("\n");
 }
 
 /// Tells an island by its metal and by a cell that it has.

@@ -34,6 +34,9 @@ fn tell_keys(text: &mut Text, layout: &Layout<'_>) {
         "# half of the side of each defect, in database units, and its weight: replace these\n",
     );
     text.say("radii = [100]\nweights = [1]\n");
+    text.say(
+        "# for opens between vias, without a list: `version = 2`, `sides` in place of `radii`, and `contacts = true`\n",
+    );
 }
 
 /// Tells a metal, in lines that begin with these words.

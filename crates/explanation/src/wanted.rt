@@ -25,6 +25,8 @@ fn wanted_in_document(key: &str, measure: Measure) -> &'static str {
         "cut" =>
             "at most 16 tables [[cut]] with `name`, `pairs`, `lower` and `upper`, or no such key",
         "terminal" => "tables [[terminal]] with `metal`, `x` and `y`, or no such key",
+        "contacts" =>
+            "true or false: whether each via cluster is a terminal of both its metals; or no such key",
         _ => "nothing",
     }
 }
