@@ -4,7 +4,7 @@
     python3 areas_by_booleans.py LAYOUT MAP
     klayout -b -r areas_by_booleans.py -rd path=LAYOUT -rd map=MAP
 
-MAP is a layer map, of radii or of sides; terminals in it are passed over. The first call needs KLayout's module for
+MAP is a layer map, of radii or of sides; its terminals and `contacts` are passed over. The first call needs KLayout's module for
 Python, the second the editor. It prints the beginning of each row of shorts and of via blocks, as `short m1 r=3 area=32`.
 
 A net is what overlaps or shares a part of an edge, on one metal or through a cut that lies in both of its metals. Each
