@@ -61,12 +61,22 @@ fn is(island: &Island, wanted: &Wanted) -> bool {
 
 /// Whether one of the islands is this one.
 fn is_given(islands: &[Island], wanted: &Wanted) -> bool {
-    islands.iter().any(|island| is(island, wanted))
+    for island in islands {
+        if is(island, wanted) {
+            return true;
+        }
+    }
+    false
 }
 
 /// Whether the islands are these, in any order: as many, and each of these is among them.
 fn are(islands: &[Island], wanted: &[Wanted]) -> bool {
-    islands.len() == wanted.len() && wanted.iter().all(|one| is_given(islands, one))
+    for one in wanted {
+        if !is_given(islands, one) {
+            return false;
+        }
+    }
+    islands.len() == wanted.len()
 }
 
 /// Whether the metal with this number has these islands.
