@@ -7,6 +7,7 @@ pub mod RowLaws
 pub mod CutLaws
 pub mod NearLaws
 pub mod ZippedLaws
+pub mod IslandLaws
 pub mod IndexLaws
 pub mod CountedLaws
 pub mod CountingLaws

@@ -2,3 +2,4 @@
 pub mod UniqueLaws
 pub mod AlikeLaws
 pub mod ListLaws
+pub mod NearIslandLaws

@@ -144,7 +144,7 @@ fn further_looks_at<T: Rectangular>(list: &[T], reach: u32, edge: u32) -> u64
 }
 
 /// About how many tiles with this edge come within the reach of the rectangle, beside the first of them.
-fn further_tiles(rect: Rect, reach: u32, edge: u32) -> u64
+pub fn further_tiles(rect: Rect, reach: u32, edge: u32) -> u64
     requires { 1 ≤ edge }
 {
     let columns = tiles_behind(rect.x1.abs_diff(rect.x0), reach, edge);

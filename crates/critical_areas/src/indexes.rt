@@ -4,12 +4,13 @@ ghost use Rattle.std.specs.List.Sorted.{IsPermutation};
 ghost use Rattle.questions.specs.Questions.{IsAskable};
 ghost use Rattle.questions.specs.declared.kind.Kind.TheVariants.{Open};
 ghost use Rattle.critical_areas.specs.inside.Indexes.{AreOpensIn, AreReordered, HasItsOpens};
+ghost use Rattle.critical_areas.specs.inside.Islands.{AreApart};
 
+use super::apart::{Apart, cells_of_islands};
 use super::edges::greatest_reach;
 use super::parts::{Asked, Parts};
 use geo_core::{Labelled, Rect};
 use lists::{Items, NoMemory};
-use open_grid::open_cells;
 use questions::{Kind, Question};
 use std::alloc::Global;
 use tile_plan::{NearIndex, Rectangular};
@@ -39,37 +40,45 @@ pub fn metals_of(alloc: Global, asked: Asked<'_>) -> Result<Vec<NearIndex<Labell
     indexes_of(alloc, asked.parts.metals.as_slice())
 }
 
-/// For each question an index of the cells of the window at which there is an open, where it asks for opens, and else of none.
+/// For each question an index of the cells of the window at which there is an open of a large island, where it asks for opens, and
+/// else of none.
 pub fn opens_of(
     alloc: Global,
     asked: Asked<'_>,
+    apart: &[Apart],
     window: Rect,
 ) -> Result<Vec<NearIndex<Rect>>, NoMemory>
+    requires apart { AllZip AreApart asked.parts.now.islands apart.now }
     ensures { IfOk result (λ opens.
-        AllZip (HasItsOpens asked.entry.parts.now window) asked.entry.questions.now opens.items) }
+        AllZip (HasItsOpens asked.entry.parts.now apart.now window) asked.entry.questions.now opens.items) }
 {
     let mut opens = Vec::with_capacity(alloc, asked.questions.len())?;
     for question in asked.questions {
-        opens.push(opens_for(alloc, asked.parts, question, window)?)?;
+        opens.push(opens_for(alloc, asked.parts, apart, question, window)?)?;
     }
     Ok(opens)
 }
 
-/// An index of the cells of the window at which there is an open, where the question asks for opens, and else of none.
+/// An index of the cells of the window at which there is an open of a large island, where the question asks for opens, and else of
+/// none.
 fn opens_for(
     alloc: Global,
     parts: &Parts,
+    apart: &[Apart],
     question: &Question,
     window: Rect,
 ) -> Result<NearIndex<Rect>, NoMemory>
-    requires { IsAskable (length parts.now.metals) (length parts.now.cuts) question.now }
-    ensures { question.now.kind ≡ Open → IfOk result (AreOpensIn parts.now window question.now) }
+    requires apart { AllZip AreApart parts.now.islands apart.now }
+    requires askable { IsAskable (length parts.now.metals) (length parts.now.cuts) question.now }
+    ensures { question.now.kind ≡ Open → IfOk result (AreOpensIn parts.now apart.now window question.now) }
 {
     match question.kind {
         Kind::Open => {
-            let islands = parts.islands.as_slice()[question.number as usize].as_slice();
+            let metal = question.number as usize;
+            let islands = parts.islands.as_slice()[metal].as_slice();
+            let large = apart[metal].large.as_slice();
             let side = question.side();
-            let cells = open_cells(alloc, islands, window, side)?;
+            let cells = cells_of_islands(alloc, islands, large, window, side)?;
             NearIndex::new(alloc, &cells)
         }
         Kind::Short | Kind::Via => NearIndex::new(alloc, &[]),

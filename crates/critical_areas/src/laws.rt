@@ -5,8 +5,10 @@ ghost use Rattle.critical_areas.specs.AreaParts.{ArePartsOf, ArePiecesOf};
 ghost use Rattle.critical_areas.specs.AskedCounts.{AreCounted};
 ghost use Rattle.critical_areas.specs.declared.parts.Parts.{Parts};
 ghost use Rattle.critical_areas.specs.FaultKinds.{IsFault};
+ghost use Rattle.critical_areas.specs.Hulls.{IsRound};
 ghost use Rattle.critical_areas.specs.Rows.{AreAmounts, AreRows};
 ghost use Rattle.fault_model.specs.Faults.{IsCellsOpen, IsShort};
+ghost use Rattle.fault_model.specs.IslandLists.{IslandLists, IsIslandOpen};
 ghost use Rattle.fault_model.specs.Nets.{Cut};
 ghost use Rattle.first_refusal.specs.Laws.{IsUnique};
 ghost use Rattle.geo_core.specs.Cells.{Has};
@@ -16,7 +18,7 @@ ghost use Rattle.geo_core.specs.declared.plane.Labelled.{Labelled};
 ghost use Rattle.geo_core.specs.declared.plane.Rect.{Rect};
 ghost use Rattle.map_model.specs.LayerMap.{LayerMap};
 ghost use Rattle.questions.specs.declared.kind.Kind.TheVariants.{Open};
-ghost use Rattle.tile_plan.specs.Near.{HasExactlyNear, HitsTwoLabels};
+ghost use Rattle.tile_plan.specs.Near.{HasExactlyNear, HitsTwoLabels, IsNearTile};
 
 use fault_model::Layout;
 
@@ -32,6 +34,13 @@ pub fn near_pieces_decide_shorts<L: Layout>()
     ensures { (cuts : List Cut) (metal : ℕ) (pieces near : List Labelled) (tile : Rect) (reach s : ℕ) (c : Cell) →
         ArePiecesOf L.covers cuts metal pieces → HasExactlyNear (λ piece. piece.rect) tile reach pieces near → Has tile c →
         s / 2 ≤ reach → HitsTwoLabels near s c ↔ IsShort L.covers cuts metal s c }
+{}
+
+/// So it is for opens: at a cell of a tile no defect parts two anchors of an island where a rectangle round the island's pieces is not
+/// near the tile. The way round the defect may lie far off, but one that has nothing of the island leaves it whole.
+pub fn near_islands_decide_opens()
+    ensures { (tile hull : Rect) (island : IslandLists) (reach s : ℕ) (c : Cell) → IsRound hull island.pieces → Has tile c →
+        s / 2 ≤ reach → (IsNearTile tile reach hull → ⊥) → IsIslandOpen island s c → ⊥ }
 {}
 
 /// Where a layer map does not say that via clusters are terminals, what rows count as opens are opens between cells: a defect makes

@@ -13,12 +13,14 @@
 //!   workers, and `close_sums` gives each slot the sum over all tickets, which is the tally of the window. It does not
 //!   wrap, since no window has 2^63 cells.
 //! - Where there are several tiles, pieces and boxes stand in an index each (`indexes`), so that a tile costs what is
-//!   near it; opens are found over the whole window first, and each tile has the area of their union. One tile that is
-//!   all of the window is the same job with one ticket: no index is made, all pieces and boxes count as near, and opens
-//!   are looked for when their question comes.
+//!   near it. A small island is looked at for opens in each tile that it comes near, and a large one over the whole
+//!   window first (`apart`); each tile has the area of the union of both. One tile that is all of the window is the same
+//!   job with one ticket: no index is made, all pieces and boxes count as near, and opens are looked for when their
+//!   question comes.
 #![tactic(auto)]
 
 mod answering;
+mod apart;
 mod counting;
 mod edges;
 mod indexes;

@@ -11,7 +11,10 @@ ghost use Rattle.questions.specs.Questions.{IsAskable};
 ghost use Rattle.severing.specs.Severing.{IsSomeOpen};
 ghost use Rattle.short_area.specs.Labels.{TouchesTwoLabels};
 ghost use Rattle.via_clusters.specs.Blocks.{CoversSomeBox};
+ghost use Rattle.critical_areas.specs.inside.Islands.{AreApart, IsOneOpen};
 
+use super::apart::{Apart, all_apart, cells_of_islands, numbers_of};
+use super::edges::greatest_reach;
 use super::indexes::{indexes_of, metals_of, opens_of};
 use super::parts::Asked;
 use super::sizes::{covering_radius, reach_of_side};
@@ -32,13 +35,16 @@ use via_clusters::via_area;
 /// and the plan.
 ///
 /// Where there are several tiles, what they are counted from is put into indexes, once, so that a tile costs what is near it and
-/// not the layout. Where one tile is all of the window there is no index: all pieces and boxes count as near, as they stand in the
-/// parts, and opens are looked for when their question comes.
+/// not the layout; large islands are looked at once a size, and small ones in each tile that they come near. Where one tile is all
+/// of the window there is no index: all pieces and boxes count as near, as they stand in the parts, and opens are looked for when
+/// their question comes.
 #[derive(Drop)]
 pub struct Tiles<'a> {
     asked: Asked<'a>,
     plan: TilePlan,
-    /// For each question the cells of the window at which there is an open, where it asks for opens.
+    /// The islands of each metal, small ones apart from large ones.
+    islands: Vec<Apart>,
+    /// For each question the cells of the window at which there is an open of a large island, where it asks for opens.
     opens: Vec<NearIndex<Rect>>,
     /// The pieces of each metal, where a question asks what is near them.
     metals: Vec<NearIndex<Labelled>>,
@@ -59,7 +65,7 @@ impl<'a> Model for Tiles<'a> {
     } };
 
     ghost invariant = { λ tiles. AreIndexesOf tiles.asked.parts.now tiles.asked.questions.now tiles.plan.window
-        tiles.opens.items tiles.metals.items tiles.cuts.items };
+        tiles.islands.items tiles.opens.items tiles.metals.items tiles.cuts.items };
 }
 
 impl<'a> Tiles<'a> {
@@ -74,17 +80,21 @@ impl<'a> Tiles<'a> {
             return Ok(Tiles {
                 asked,
                 plan,
+                islands: Vec::new(alloc),
                 opens: Vec::new(alloc),
                 metals: Vec::new(alloc),
                 cuts: Vec::new(alloc),
             });
         }
-        let opens = opens_of(alloc, asked, plan.window)?;
+        let reach = greatest_reach(asked);
+        let islands = all_apart(alloc, asked.parts.islands.as_slice(), reach, plan.edge)?;
+        let opens = opens_of(alloc, asked, &islands, plan.window)?;
         let metals = metals_of(alloc, asked)?;
         let cuts = indexes_of(alloc, asked.parts.cuts.as_slice())?;
         Ok(Tiles {
             asked,
             plan,
+            islands,
             opens,
             metals,
             cuts,
@@ -115,7 +125,8 @@ impl<'a> Tiles<'a> {
             }
             Kind::Open => {
                 let islands = parts.islands.as_slice()[number].as_slice();
-                opens_of_tile(alloc, islands, self.opens.get(slot), tile, side)
+                let apart = self.islands.get(number);
+                opens_of_tile(alloc, islands, apart, self.opens.get(slot), tile, side)
             }
             Kind::Via => {
                 let radius = covering_radius(side);
@@ -172,25 +183,34 @@ fn shorts_of_tile(
     short_area(alloc, &near, tile, reach)
 }
 
-/// At how many cells of the tile a defect of this side parts two anchors of an island. Where the cells of all opens are known
-/// they are counted.
+/// At how many cells of the tile a defect of this side parts two anchors of an island. Where the islands are apart, the cells for
+/// the large ones are known, and the small ones that come near are looked at.
 fn opens_of_tile(
     alloc: Global,
     islands: &[Island],
+    apart: Option<&Apart>,
     opens: Option<&NearIndex<Rect>>,
     tile: Rect,
     side: u32,
 ) -> Result<u64, NoMemory>
     requires is_side { IsSide side }
-    requires opens { ForSome opens (λ cells. (c : Cell) → Has tile c →
-        IsInUnion cells.now c ↔ IsSomeOpen islands.now side c) }
+    requires apart { ForSome apart (λ both. AreApart islands.now both.now) }
+    requires opens { ForSome apart (λ both. ForSome opens (λ cells. (c : Cell) → Has tile c →
+        IsInUnion cells.now c ↔ IsOneOpen islands.now both.now.large side c)) }
     ensures { IfOk result (Tally (IsSomeOpen islands.now side) (cells_of tile)) }
 {
+    let Some(apart) = apart else {
+        return open_area(alloc, islands, tile, side);
+    };
     let Some(opens) = opens else {
         return open_area(alloc, islands, tile, side);
     };
-    let near = opens.near(alloc, tile, 0)?;
-    union_area(alloc, &near, tile)
+    let mut cells = opens.near(alloc, tile, 0)?;
+    let near = apart.small.near(alloc, tile, reach_of_side(side))?;
+    let numbers = numbers_of(alloc, &near)?;
+    let found = cells_of_islands(alloc, islands, &numbers, tile, side)?;
+    cells.extend_from_slice(&found)?;
+    union_area(alloc, &cells, tile)
 }
 
 /// At how many cells of the tile a defect of this radius covers a box. Where there is an index of the boxes it tells which

@@ -6,7 +6,7 @@ use Rattle.critical_areas.proofs.indexes.opens_of.Goals as goal
 
 pub loop-question-preserved : goal.loop-question-preserved
 loop-question-preserved c =
-    let Opens = HasItsOpens c.args.asked.parts.now c.args.window in
+    let Opens = HasItsOpens c.args.asked.parts.now c.args.apart.now c.args.window in
     let questions = c.args.asked.questions.now in
     let i = c.loop-question.question-index in
     subst (AllZip Opens (take (i + 1) questions)) (sym c.in_ok-push.ensures.items)

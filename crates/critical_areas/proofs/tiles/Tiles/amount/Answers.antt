@@ -4,9 +4,10 @@ use Rattle.geo_core.specs.Plane.{Has, IsInUnion}
 use Rattle.fault_model.specs.FaultNames.{IslandLists}
 use Rattle.geo_core.specs.Bounds.{IsSide}
 use Rattle.questions.specs.Questions.{side_of}
-use Rattle.severing.specs.Severing.{IsSomeOpen}
+use Rattle.critical_areas.specs.declared.apart.Apart.{Apart}
+use Rattle.critical_areas.specs.inside.Islands.{IsOneOpen, none_apart}
 use Rattle.critical_areas.specs.inside.Work.{Work}
-use Rattle.critical_areas.proofs.IndexLaws.{list_read, opens_at, reordered_at}
+use Rattle.critical_areas.proofs.IndexLaws.{apart_found, found_at, list_read, opens_at, reordered_at}
 use Rattle.critical_areas.proofs.tiles.Tiles.amount.Goals as goal
 
 -- ---- shorts
@@ -38,18 +39,27 @@ islands_are c =
 
 pub opens_of_tile-requires : goal.opens_of_tile-requires
 opens_of_tile-requires c =
-    let asked = c.self.inside.asked in
+    let parts = c.self.inside.asked.parts.now in
+    let questions = c.self.inside.asked.questions.now in
     let question = c.args.question.now in
+    let number = question.number in
+    let islands = c.as_slice-islands.result.now in
+    let apart = c.self.inside.islands.items in
     let at = subst (λ (w : Work). slice_get w.questions c.args.slot ≡ Some question) (sym c.self.view_is) c.requires.asked in
-    let item = subst (λ xs. IsItemAt xs c.args.slot c.get-in-Open.result) c.deref-in-Open.ensures.value c.get-in-Open.ensures.lookup in
+    let item = subst (λ xs. IsItemAt xs c.args.slot c.get-in-Open.result) c.deref-in-Open-2.ensures.value c.get-in-Open.ensures.lookup in
+    let apart_item = subst (λ xs. IsItemAt xs number c.get-apart.result) c.deref-in-Open.ensures.value c.get-apart.ensures.lookup in
     record {
       is_side = subst IsSide (sym c.side-side.ensures) c.requires.askable.is_side;
-      opens = λ cells is d has.
+      apart = apart_found parts.islands apart c.deref-in-Open.result.now number islands c.get-apart.result c.self.invariant.of_islands (islands_are c) c.deref-in-Open.ensures.value
+          c.get-apart.ensures.lookup;
+      opens = λ both both_is cells is d has.
           let within = subst (λ (w : Work). Has w.plan.window d) (sym c.self.view_is) (c.requires.within d has) in
-          let known = opens_at asked.parts.now asked.questions.now c.self.inside.plan.window _ _ _ c.self.invariant c.args.slot question at c.in-Open.is c.get-in-Open.result item cells is d in
-          let Same : List IslandLists → ℕ → Type 0 = λ islands s. IsInUnion cells.now d ↔ IsSomeOpen islands s d in
-          let same : Same (get_or asked.parts.now.islands question.number []) (side_of question) = (λ v. (known.0 v).1, λ o. known.1 (within, o)) in
-          subst (Same c.as_slice-islands.result.now) (sym c.side-side.ensures) (subst (λ islands. Same islands (side_of question)) (sym (islands_are c)) same);
+          let known = opens_at parts questions c.self.inside.plan.window _ _ _ _ c.self.invariant c.args.slot question at c.in-Open.is c.get-in-Open.result item cells is d in
+          let here = found_at apart number c.get-apart.result apart_item both both_is none_apart in
+          let Same : List IslandLists → Apart → ℕ → Type 0 = λ list parted s. IsInUnion cells.now d ↔ IsOneOpen list parted.large s d in
+          let same : Same (get_or parts.islands number []) (get_or apart number none_apart) (side_of question) = (λ v. (known.0 v).1, λ o. known.1 (within, o)) in
+          subst (Same islands both.now) (sym c.side-side.ensures)
+          (subst (λ list. Same list both.now (side_of question)) (sym (islands_are c)) (subst (λ parted. Same (get_or parts.islands number []) parted (side_of question)) here.1 same));
     }
 
 -- ---- blocks
