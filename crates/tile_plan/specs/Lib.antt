@@ -4,5 +4,3 @@ pub mod Tiles
 pub mod TileTallies
 pub mod Kept
 pub mod Near
--- what only this crate's proofs and private contracts cite
-pub mod inside

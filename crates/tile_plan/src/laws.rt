@@ -13,8 +13,8 @@ ghost use Rattle.tile_plan.specs.Tiles.{IsInTile, IsTile, tile_count};
 ghost use Rattle.tile_plan.specs.TileTallies.{AreTalliesOfTiles, IsTallyOfFirst};
 ghost use Rattle.tile_plan.specs.declared.tiles.TilePlan.{TilePlan as Plan};
 
-use super::rectangular::Rectangular;
 use fault_model::Property;
+use near_index::Rectangular;
 
 /// Each cell of the window lies in exactly one tile, and no other cell lies in one. Each tile is a rectangle, and there is one
 /// rectangle alone that is it.

@@ -19,24 +19,17 @@
 //!
 //! At the cells of a tile a defect touches only pieces that come within its reach of the tile, and covers only boxes
 //! that do. What is not near changes nothing there, so that a tile is worked from what is near it alone. A `NearIndex`
-//! finds that: leaves of up to 16 pieces with a rectangle round them, and bands of leaves with another. A band or a
-//! leaf whose rectangle is not near is passed over. The proof needs only that the index has the pieces in some order,
-//! and that what is round something near is near. Which pieces share a leaf saves looks and is no matter of the proof.
+//! finds that.
 #![tactic(auto)]
 
-mod index;
 pub mod laws;
-mod nearby;
 mod planning;
-mod rectangular;
 mod tiles;
 
-pub use index::NearIndex;
 pub use laws::{
     near_pieces_decide_labels, near_rectangles_decide_cells, near_things_are_listed,
     tallies_of_tiles_add, tiles_part_the_window, what_is_hit_is_near,
 };
-pub use nearby::near;
+pub use near_index::{NearIndex, Rectangular, near};
 pub use planning::plan;
-pub use rectangular::Rectangular;
 pub use tiles::{GREATEST_EDGE, MOST_TILES, TilePlan};

@@ -1,12 +1,12 @@
 -- the tallies over the tiles of a window add up to the tally over the window
-use Rattle.std.proofs.Common.{ℕ, zero, suc, ◌+◌, ◌<◌, ◌≤◌, ◌≡◌, sym, ap, ◌∙◌, subst, List, [], ◌∷◌, take, take_all, arith, inl, inr, ◌⊎◌, sum}
+use Rattle.std.proofs.Common.{ℕ, zero, suc, ◌+◌, ◌<◌, ◌≤◌, ◌≡◌, sym, ap, ◌∙◌, subst, List, take, take_all, arith, inl, inr, ◌⊎◌, sum}
 use Rattle.lists.proofs.Words.{cases_lt, get_or_from_slice_get}
 use Rattle.std.proofs.lemmas.List.Sums.{sum_by_more}
 use Rattle.lists.proofs.Containing.{some_item}
 use Rattle.geo_core.specs.Plane.{Has}
 use Rattle.geo_core.specs.declared.plane.Cell.{Cell}
 use Rattle.geo_core.specs.declared.plane.Rect.{Rect}
-use Rattle.fault_model.specs.FaultNames.{Tally, none, hit, miss, cells_of}
+use Rattle.fault_model.specs.FaultNames.{Tally, cells_of}
 use Rattle.fault_model.proofs.CellLaws.{Contains-cells_of}
 use Rattle.fault_model.proofs.PartTallies.{Tally-either, tally_of_part}
 use Rattle.fault_model.proofs.TallyLaws.{Tally-none, Tally-same}

@@ -1,0 +1,7 @@
+use Rattle.near_index.proofs.DistanceLaws.{beyond_hull}
+use Rattle.near_index.proofs.index.search.LeafLabelledPart.with_pieces.Goals as goal
+
+pub returns-then-is_settled : goal.returns-then-is_settled
+returns-then-is_settled c = rw (← c.self.view_is)
+    (c.is_settled.ensures c.if-is_settled.true c.self.inside.pieces.items c.args.cell
+    (beyond_hull c.self.inside.pieces.items c.args.cell c.self.inside.hull c.distance.result c.self.invariant.round c.distance.ensures) c.self.invariant.labelled)

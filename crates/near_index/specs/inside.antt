@@ -1,0 +1,4 @@
+pub mod Gaining
+pub mod Gaps
+pub mod Hulls
+pub mod TwoLeast

@@ -1,6 +1,0 @@
-use Rattle.std.proofs.Common.{take}
-use Rattle.tile_plan.specs.inside.Hulls.{IsHullOf}
-use Rattle.tile_plan.proofs.index.hull_of.Given as goal
-
-abbrev pub invariant-loop-piece : goal.invariant-loop-piece
-invariant-loop-piece g l = IsHullOf g.T.Rectangular.rect_of l.hull (take l.piece-index l.pieces)
