@@ -4,7 +4,8 @@ use Rattle.lists.proofs.Words.{All-contains, All-nil, All-push, All-weaker, Cont
 use Rattle.geo_core.specs.Plane.{Overlap}
 use Rattle.geo_core.specs.declared.plane.Labelled.{Labelled}
 use Rattle.lists.proofs.Reading.{All-read, All-read_all}
-use Rattle.short_area.specs.inside.Zones.{HaveSameTwo, IsInLabel, MeetsOther}
+use Rattle.short_area.specs.Zones.{IsInLabel}
+use Rattle.short_area.specs.inside.Zones.{HaveSameTwo, MeetsOther}
 
 -- the zone has the label of the other, or no cell in common with it
 abbrev pub IsApartFrom : Labelled → Labelled → Type 0

@@ -12,10 +12,10 @@ use Rattle.lists.proofs.Comparing.{equal_or_not}
 use Rattle.skyline_runs.specs.Runs.{IsInTwo}
 use Rattle.short_area.specs.inside.LabelRuns.{AreRunsOf, IsInZone}
 use Rattle.short_area.specs.inside.Leaders.{AreOthers, ArePartsIn, GainsPart, IsBesideRun}
-use Rattle.short_area.specs.inside.Zones.{IsCountOf, IsInLabel, IsInTwoLabels}
+use Rattle.short_area.specs.Zones.{IsCountOf, IsInLabel, IsInTwoLabels}
 use Rattle.short_area.proofs.Counting.{count_by, tally_of_both}
 use Rattle.short_area.proofs.RunLaws.{two_append}
-use Rattle.short_area.proofs.ZoneLaws.{label_more, label_none, label_push}
+use Rattle.short_area.proofs.laws.LabelLaws.{label_more, label_none, label_push}
 
 -- ---- zones of the other labels
 

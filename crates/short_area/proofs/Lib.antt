@@ -1,3 +1,4 @@
+pub mod laws
 pub mod ZoneLaws
 pub mod Touching
 pub mod Counting

@@ -13,8 +13,9 @@ use Rattle.skyline_runs.specs.Runs.{AreApart, HaveSameCells, IsInTwo}
 use Rattle.skyline_runs.proofs.laws.DepthLaws.{two_none}
 use Rattle.fault_model.proofs.UnionLaws.{in_union, among_union, union_append, union_none}
 use Rattle.short_area.specs.inside.LabelRuns.{AreRunsOf, AreRunsTo, GainsRuns, IsInZone}
-use Rattle.short_area.specs.inside.Zones.{IsInLabel, IsInTwoLabels}
-use Rattle.short_area.proofs.ZoneLaws.{label_append, label_none, two_alike}
+use Rattle.short_area.specs.Zones.{IsInLabel, IsInTwoLabels}
+use Rattle.short_area.proofs.laws.LabelLaws.{label_append, label_none}
+use Rattle.short_area.proofs.ZoneLaws.{two_alike}
 
 -- ---- two lists of rectangles
 

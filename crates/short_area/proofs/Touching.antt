@@ -13,8 +13,9 @@ use Rattle.fault_model.proofs.SizeLaws.{footprint_near}
 use Rattle.lists.proofs.Containing.{Contains-none}
 use Rattle.lists.proofs.Reading.{taken_more}
 use Rattle.short_area.specs.Labels.{TouchesLabel, TouchesTwoLabels}
-use Rattle.short_area.specs.inside.Zones.{AreZonesOf, GainsZone, IsInside, IsInTwoLabels, IsNearCell}
-use Rattle.short_area.proofs.ZoneLaws.{label_none}
+use Rattle.short_area.specs.Zones.{AreZonesOf, IsInTwoLabels}
+use Rattle.short_area.specs.inside.Zones.{GainsZone, IsInside, IsNearCell}
+use Rattle.short_area.proofs.laws.LabelLaws.{label_none}
 
 -- a defect touches a rectangle exactly where the rectangle is near its cell
 touched : (rect : Rect) (radius : ℕ) (c : Cell) → 1 ≤ radius → IsNearCell rect radius c ↔ (h : Half) × IsOn (Has rect) h × IsInFootprint c (radius + radius) h

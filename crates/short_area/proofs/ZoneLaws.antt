@@ -1,52 +1,18 @@
--- labels at a cell, as lists of zones grow
+-- labels at a cell: two of them, those but one, and as lists of zones are made
 use Rattle.std.proofs.Common.{ℕ, ◌+◌, ◌<◌, ◌≤◌, ◌≡◌, ◌≢◌, ◌∙◌, sym, subst, List, [], ◌∷◌, ◌++◌, length, take, take_all, get_or, inl, inr, ◌⊎◌, ◌↔◌, refl, Option, Some, None, IfSome, IfNone, All}
-use Rattle.lists.proofs.Words.{All-contains, Contains-append_left, Contains-append_right, Contains-append_cases, Contains-push, Contains-push_cases}
+use Rattle.lists.proofs.Words.{All-contains}
 use Rattle.geo_core.specs.Plane.{Has}
 use Rattle.geo_core.specs.declared.plane.Cell.{Cell}
 use Rattle.geo_core.specs.declared.plane.Labelled.{Labelled}
 use Rattle.geo_core.specs.declared.plane.Rect.{Rect}
 use Rattle.lists.proofs.Comparing.{equal_or_not}
-use Rattle.lists.proofs.Containing.{Contains-none}
-use Rattle.lists.proofs.Reading.{taken_more}
 use Rattle.fault_model.proofs.UnionLaws.{union_none, union_push}
 use Rattle.union_area.specs.WindowParts.{HasAllOf}
-use Rattle.short_area.specs.inside.Zones.{AreAlikeIn, AreSplit, GainsZone, HaveNoThird, IsInLabel, IsInOthers, IsInside, IsInTwoLabels, IsWholeIn}
+use Rattle.short_area.specs.Zones.{AreAlikeIn, IsInLabel, IsInTwoLabels}
+use Rattle.short_area.proofs.laws.LabelLaws.{label_more, label_none, label_push}
+use Rattle.short_area.specs.inside.Zones.{AreSplit, GainsZone, HaveNoThird, IsInOthers, IsInside, IsWholeIn}
 
 module _ (c : Cell) where
-  pub label_none : (label : ℕ) → IsInLabel [] label c → ⊥
-  label_none label h = Contains-none h.among
-
-  -- one more zone at the end
-  pub label_push : (zones : List Labelled) (zone : Labelled) (label : ℕ) → IsInLabel (zones ++ zone ∷ []) label c ↔ (IsInLabel zones label c ⊎ ((zone.label ≡ label) × Has zone.rect c))
-  label_push zones zone label = (
-    λ h. elim (Contains-push_cases zones zone h.zone h.among) [
-      | inl k ↦ inl (record { zone = h.zone; among = k; labelled = h.labelled; has = h.has })
-      | inr e ↦ inr (subst (λ (z : Labelled). z.label ≡ label) (sym e) h.labelled, subst (λ (z : Labelled). Has z.rect c) (sym e) h.has)
-    ],
-    λ h. elim h [
-      | inl k ↦ record { zone = k.zone; among = Contains-append_left zones (zone ∷ []) k.zone k.among; labelled = k.labelled; has = k.has }
-      | inr k ↦ record { zone = zone; among = Contains-push zones zone; labelled = k.0; has = k.1 }
-    ],
-  )
-
-  pub label_more : (zones : List Labelled) (i : ℕ) (zone : Labelled) (label : ℕ) → i < length zones → zone ≡ get_or zones i zone
-      → IsInLabel (take (i + 1) zones) label c ↔ (IsInLabel (take i zones) label c ⊎ ((zone.label ≡ label) × Has zone.rect c))
-  label_more zones i zone label small is =
-      subst (λ (ys : List Labelled). IsInLabel ys label c ↔ (IsInLabel (take i zones) label c ⊎ ((zone.label ≡ label) × Has zone.rect c))) (sym (taken_more zones i zone small is))
-      (label_push (take i zones) zone label)
-
-  pub label_append : (xs ys : List Labelled) (label : ℕ) → IsInLabel (xs ++ ys) label c ↔ (IsInLabel xs label c ⊎ IsInLabel ys label c)
-  label_append xs ys label = (
-    λ h. elim (Contains-append_cases xs ys h.zone h.among) [
-      | inl k ↦ inl (record { zone = h.zone; among = k; labelled = h.labelled; has = h.has })
-      | inr k ↦ inr (record { zone = h.zone; among = k; labelled = h.labelled; has = h.has })
-    ],
-    λ h. elim h [
-      | inl k ↦ record { zone = k.zone; among = Contains-append_left xs ys k.zone k.among; labelled = k.labelled; has = k.has }
-      | inr k ↦ record { zone = k.zone; among = Contains-append_right xs ys k.zone k.among; labelled = k.labelled; has = k.has }
-    ],
-  )
-
   -- where the labels at the cell are the same, so are two of them
   pub two_alike : (xs ys : List Labelled) → ((label : ℕ) → IsInLabel xs label c ↔ IsInLabel ys label c) → IsInTwoLabels xs c ↔ IsInTwoLabels ys c
   two_alike xs ys same = (
@@ -59,13 +25,13 @@ module _ (c : Cell) where
   pub others_more : (zones : List Labelled) (i : ℕ) (zone : Labelled) (label : ℕ) → i < length zones → zone ≡ get_or zones i zone
       → IsInOthers (take (i + 1) zones) label c ↔ (IsInOthers (take i zones) label c ⊎ ((label ≢ zone.label) × Has zone.rect c))
   others_more zones i zone label small is = (
-    λ h. elim ((label_more zones i zone h.other small is).0 h.in_other) [
+    λ h. elim ((label_more c zones i zone h.other small is).0 h.in_other) [
       | inl k ↦ inl (record { other = h.other; in_other = k; different = h.different })
       | inr k ↦ inr (λ e. h.different (e ∙ k.0), k.1)
     ],
     λ h. elim h [
-      | inl k ↦ record { other = k.other; in_other = (label_more zones i zone k.other small is).1 (inl k.in_other); different = k.different }
-      | inr k ↦ record { other = zone.label; in_other = (label_more zones i zone zone.label small is).1 (inr (refl, k.1)); different = k.0 }
+      | inl k ↦ record { other = k.other; in_other = (label_more c zones i zone k.other small is).1 (inl k.in_other); different = k.different }
+      | inr k ↦ record { other = zone.label; in_other = (label_more c zones i zone zone.label small is).1 (inr (refl, k.1)); different = k.0 }
     ],
   )
 

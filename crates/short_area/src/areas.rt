@@ -2,7 +2,7 @@ ghost use Rattle.std.specs.Prelude.{◌<◌, ◌^◌, IfOk};
 ghost use Rattle.geo_core.specs.Bounds.{IsRadius};
 ghost use Rattle.fault_model.specs.Areas.{Tally, cells_of};
 ghost use Rattle.short_area.specs.Labels.{TouchesTwoLabels};
-ghost use Rattle.short_area.specs.inside.Zones.{IsCountOf};
+ghost use Rattle.short_area.specs.Zones.{IsCountOf};
 
 use super::halves::halves;
 use super::steps::Step;
@@ -26,6 +26,15 @@ pub fn short_area(alloc: Global, pieces: &[Labelled], window: Rect, r: u32) -> R
     ensures small { IfOk result (λ n. n < 2 ^ 63) }
 {
     let zones = zones_of(alloc, pieces, window, r)?;
+    two_label_area(alloc, zones, window)
+}
+
+/// How many cells of the window lie in zones of two labels. A cell counts once, whether it lies in zones of two labels or of more.
+///
+/// The one error is that no memory is left.
+pub fn two_label_area(alloc: Global, zones: Vec<Labelled>, window: Rect) -> Result<u64, NoMemory>
+    ensures { IfOk result (λ n. IsCountOf zones.items window n) }
+{
     counted(alloc, zones, window, NONE_TRIED)
 }
 

@@ -1,5 +1,5 @@
 ghost use Rattle.std.specs.Prelude.{IfOk};
-ghost use Rattle.short_area.specs.inside.Zones.{AreAlikeIn};
+ghost use Rattle.short_area.specs.Zones.{AreAlikeIn};
 
 use super::zones::zones_in;
 use geo_core::{Labelled, Rect};

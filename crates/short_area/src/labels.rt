@@ -2,7 +2,8 @@ ghost use Rattle.std.specs.Prelude.{ℕ, ◌≡◌, ◌≢◌, ◌↔◌, All, C
 ghost use Rattle.geo_core.specs.declared.plane.Cell.{Cell};
 ghost use Rattle.geo_core.specs.declared.plane.Labelled.{Labelled};
 ghost use Rattle.union_area.specs.WindowParts.{HasAllOf};
-ghost use Rattle.short_area.specs.inside.Zones.{AreSplit, HaveNoThird, IsInTwoLabels, IsWholeIn};
+ghost use Rattle.short_area.specs.Zones.{IsInTwoLabels};
+ghost use Rattle.short_area.specs.inside.Zones.{AreSplit, HaveNoThird, IsWholeIn};
 
 use geo_core::{Labelled, Rect};
 use lists::NoMemory;

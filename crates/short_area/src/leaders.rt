@@ -2,7 +2,7 @@ ghost use Rattle.std.specs.Prelude.{◌<◌, ◌^◌, IfOk, IfSome, OnOk, length
 ghost use Rattle.fault_model.specs.Areas.{IsBoundsOf, Tally, cells_of};
 ghost use Rattle.short_area.specs.inside.LabelRuns.{IsInZone};
 ghost use Rattle.short_area.specs.inside.Leaders.{AreOthers, ArePartsIn, GainsPart, IsBesideRun};
-ghost use Rattle.short_area.specs.inside.Zones.{IsCountOf};
+ghost use Rattle.short_area.specs.Zones.{IsCountOf};
 
 use super::runs::label_runs_within;
 use super::sweeps::{LOOKS_EACH, area_of_two};

@@ -33,4 +33,6 @@ mod sweeps;
 mod ways;
 mod zones;
 
-pub use areas::short_area;
+pub use areas::{short_area, two_label_area};
+pub use runs::by_label;
+pub use zones::{zones_in, zones_of};

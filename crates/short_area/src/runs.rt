@@ -91,8 +91,8 @@ fn add_runs_within(
     Ok(true)
 }
 
-/// The zones in the order of their labels.
-fn by_label(alloc: Global, zones: &[Labelled]) -> Result<Vec<Labelled>, AllocError>
+/// The zones in the order of their labels. The one error is that no memory is left.
+pub fn by_label(alloc: Global, zones: &[Labelled]) -> Result<Vec<Labelled>, AllocError>
     ensures same { IfOk result (λ sorted. IsPermutation zones.now sorted.items) }
     ensures ordered { IfOk result (λ sorted. AllPairs (λ a b. a.label ≤ b.label) sorted.items) }
 {

@@ -1,7 +1,8 @@
 ghost use Rattle.std.specs.Prelude.{ℕ, ◌≡◌, ◌<◌, ◌^◌, IfOk, IfSome, IsTrue};
 ghost use Rattle.fault_model.specs.Areas.{Tally, cells_of};
 ghost use Rattle.skyline_runs.specs.Runs.{IsInTwo};
-ghost use Rattle.short_area.specs.inside.Zones.{HaveNoThird, HaveSameTwo, IsCountOf, IsWholeIn, MeetsOther};
+ghost use Rattle.short_area.specs.Zones.{IsCountOf};
+ghost use Rattle.short_area.specs.inside.Zones.{HaveNoThird, HaveSameTwo, IsWholeIn, MeetsOther};
 
 use super::labels::{is_other_whole, split, two_labels, whole_label};
 use super::runs::{label_runs, label_runs_within};

@@ -3,7 +3,8 @@ ghost use Rattle.geo_core.specs.Bounds.{IsRadius};
 ghost use Rattle.geo_core.specs.Cells.{Has};
 ghost use Rattle.geo_core.specs.Intervals.{IsIn};
 ghost use Rattle.geo_core.specs.declared.plane.Cell.{Cell};
-ghost use Rattle.short_area.specs.inside.Zones.{AreAlikeIn, AreZonesOf, GainsZone, IsInside, IsNearCell, IsNearPlaces};
+ghost use Rattle.short_area.specs.Zones.{AreAlikeIn, AreZonesOf};
+ghost use Rattle.short_area.specs.inside.Zones.{GainsZone, IsInside, IsNearCell, IsNearPlaces};
 
 use geo_core::{Interval, Labelled, Rect, clip};
 use lists::NoMemory;
@@ -46,7 +47,8 @@ fn add_zone(zones: &mut Vec<Labelled>, rect: Option<Rect>, label: usize) -> Resu
     Ok(())
 }
 
-/// The zones of those pieces that are near the window.
+/// The zones of those pieces that are near the window, with the labels of their pieces. The radius is in database units. The one
+/// error is that no memory is left.
 pub fn zones_of(
     alloc: Global,
     pieces: &[Labelled],
@@ -63,7 +65,7 @@ pub fn zones_of(
     Ok(zones)
 }
 
-/// What the zones have in a part of the window.
+/// What the zones have in a part of the window. The one error is that no memory is left.
 pub fn zones_in(alloc: Global, zones: &[Labelled], part: Rect) -> Result<Vec<Labelled>, NoMemory>
     ensures { IfOk result (λ inside. AreAlikeIn part zones.now inside.items) }
 {

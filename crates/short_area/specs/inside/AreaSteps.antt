@@ -5,7 +5,7 @@ use Rattle.geo_core.specs.declared.axis.Axis.{Axis}
 use Rattle.geo_core.specs.declared.plane.Labelled.{Labelled}
 use Rattle.geo_core.specs.declared.plane.Rect.{Rect}
 use Rattle.union_area.specs.WindowParts.{IsAsCentral, IsBetween, IsHalfWay}
-use Rattle.short_area.specs.inside.Zones.{IsCountOf}
+use Rattle.short_area.specs.Zones.{IsCountOf}
 use Rattle.short_area.specs.declared.steps.Step.{Step}
 use Rattle.short_area.specs.declared.steps.Step.TheVariants.{Count, Halve}
 

@@ -5,7 +5,7 @@ use Rattle.geo_core.specs.declared.plane.Cell.{Cell}
 use Rattle.geo_core.specs.declared.plane.Labelled.{Labelled}
 use Rattle.geo_core.specs.declared.plane.Rect.{Rect}
 use Rattle.skyline_runs.specs.Runs.{AreApart, HaveSameCells, IsInTwo}
-use Rattle.short_area.specs.inside.Zones.{IsInLabel, IsInTwoLabels}
+use Rattle.short_area.specs.Zones.{IsInLabel, IsInTwoLabels}
 
 -- a zone has the cell
 pub record IsInZone (zones : List Labelled) (c : Cell) : Type 0 where

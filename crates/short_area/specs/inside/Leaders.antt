@@ -5,7 +5,7 @@ use Rattle.geo_core.specs.declared.plane.Cell.{Cell}
 use Rattle.geo_core.specs.declared.plane.Labelled.{Labelled}
 use Rattle.geo_core.specs.declared.plane.Rect.{Rect}
 use Rattle.skyline_runs.specs.Runs.{IsInTwo}
-use Rattle.short_area.specs.inside.Zones.{IsInLabel}
+use Rattle.short_area.specs.Zones.{IsInLabel}
 
 -- the zones of the other labels
 abbrev pub AreOthers : List Labelled → ℕ → List Labelled → Type 0

@@ -1,11 +1,10 @@
--- zones: the cells of a window that are near a piece. They are a rectangle, which keeps the label of its piece.
+-- zones near cells, and the labels that they have there
 use Rattle.std.specs.Prelude.{ℤ, pos, ℕ, List, Option, Some, None, Contains, All, ◌+ℤ◌, ◌-ℤ◌, ◌≢◌, ◌≡◌, ◌⊎◌, ◌↔◌, ◌<◌, ◌^◌}
 use Rattle.geo_core.specs.Plane.{Has, IsIn, IsInUnion, Overlap}
 use Rattle.geo_core.specs.declared.plane.Cell.{Cell}
 use Rattle.geo_core.specs.declared.plane.Labelled.{Labelled}
 use Rattle.geo_core.specs.declared.plane.Rect.{Rect}
-use Rattle.fault_model.specs.FaultNames.{Tally, cells_of}
-use Rattle.short_area.specs.Labels.{TouchesLabel}
+use Rattle.short_area.specs.Zones.{IsInLabel, IsInTwoLabels}
 
 -- the number is at most the radius from one of those from `low` to before `high`
 abbrev pub IsNearPlaces : ℤ → ℤ → ℕ → ℤ → Type 0
@@ -21,21 +20,6 @@ abbrev pub IsInside : Option Rect → Cell → Type 0
 IsInside None c = ⊥
 IsInside (Some rect) c = Has rect c
 
--- a zone with this label has the cell
-pub record IsInLabel (zones : List Labelled) (label : ℕ) (c : Cell) : Type 0 where
-  pub zone : Labelled
-  pub among : Contains zones zone
-  pub labelled : zone.label ≡ label
-  pub has : Has zone.rect c
-
--- zones of two labels have the cell
-pub record IsInTwoLabels (zones : List Labelled) (c : Cell) : Type 0 where
-  pub one : ℕ
-  pub other : ℕ
-  pub in_one : IsInLabel zones one c
-  pub in_other : IsInLabel zones other c
-  pub different : one ≢ other
-
 -- a zone of another label has the cell
 pub record IsInOthers (zones : List Labelled) (label : ℕ) (c : Cell) : Type 0 where
   pub other : ℕ
@@ -46,15 +30,6 @@ pub record IsInOthers (zones : List Labelled) (label : ℕ) (c : Cell) : Type 0 
 abbrev pub GainsZone : List Labelled → List Labelled → Option Rect → ℕ → Type 0
 GainsZone old new rect label =
     (c : Cell) (which : ℕ) → IsInLabel new which c ↔ (IsInLabel old which c ⊎ ((label ≡ which) × IsInside rect c))
-
--- at the cells of the window the zones of a label are where a defect touches a piece of that label
-abbrev pub AreZonesOf : List Labelled → ℕ → Rect → List Labelled → Type 0
-AreZonesOf pieces radius window zones =
-    (c : Cell) → Has window c → (label : ℕ) → IsInLabel zones label c ↔ TouchesLabel pieces radius c label
-
--- the two lists of zones have the same labels at each cell of the part
-abbrev pub AreAlikeIn : Rect → List Labelled → List Labelled → Type 0
-AreAlikeIn part zones others = (c : Cell) → Has part c → (label : ℕ) → IsInLabel others label c ↔ IsInLabel zones label c
 
 -- each cell of the window lies in a zone of this label
 abbrev pub IsWholeIn : Rect → List Labelled → ℕ → Type 0
@@ -68,11 +43,6 @@ pub record AreSplit (zones : List Labelled) (label : ℕ) (own others : List Rec
 -- the zones have no labels but these
 abbrev pub HaveNoThird : List Labelled → ℕ → ℕ → Type 0
 HaveNoThird zones one other = All (λ (zone : Labelled). one ≢ zone.label → zone.label ≡ other) zones
-
--- so many cells of the window lie in zones of two labels
-pub record IsCountOf (zones : List Labelled) (window : Rect) (n : ℕ) : Type 0 where
-  pub tally : Tally (IsInTwoLabels zones) (cells_of window) n
-  pub small : n < 2 ^ 63
 
 -- a zone of another label has a cell in common with this one
 pub record MeetsOther (zones : List Labelled) (zone : Labelled) : Type 0 where

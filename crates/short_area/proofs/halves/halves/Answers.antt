@@ -1,6 +1,6 @@
 use Rattle.std.proofs.Common.{List, subst}
 use Rattle.geo_core.specs.declared.plane.Labelled.{Labelled}
-use Rattle.short_area.specs.inside.Zones.{AreAlikeIn}
+use Rattle.short_area.specs.Zones.{AreAlikeIn}
 use Rattle.short_area.proofs.halves.halves.Goals as goal
 
 pub returns-clause-first : goal.returns-clause-first

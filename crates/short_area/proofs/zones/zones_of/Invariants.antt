@@ -1,5 +1,5 @@
 use Rattle.std.proofs.Common.{take}
-use Rattle.short_area.specs.inside.Zones.{AreZonesOf}
+use Rattle.short_area.specs.Zones.{AreZonesOf}
 use Rattle.short_area.proofs.zones.zones_of.Given as goal
 
 abbrev pub invariant-loop-piece : goal.invariant-loop-piece

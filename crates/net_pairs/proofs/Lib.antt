@@ -1,0 +1,4 @@
+pub mod SumLaws
+pub mod GainLaws
+pub mod RunLaws
+pub mod AreaLaws

@@ -1,0 +1,4 @@
+-- what contracts of other crates cite
+pub mod Pairs
+-- what only this crate's proofs and private contracts cite
+pub mod inside

@@ -1,0 +1,4 @@
+pub mod Sums
+pub mod Gains
+pub mod LabelRuns
+pub mod PairSteps

@@ -1,0 +1,83 @@
+ghost use Rattle.std.specs.Prelude.{IfOk, OnOk, length};
+ghost use Rattle.geo_core.specs.Bounds.{IsRadius};
+ghost use Rattle.fault_model.specs.Areas.{cells_of};
+ghost use Rattle.short_area.specs.Zones.{AreAlikeIn};
+ghost use Rattle.net_pairs.specs.Pairs.{ArePairAreas};
+ghost use Rattle.net_pairs.specs.inside.Gains.{GainsCells, IsInBoth};
+ghost use Rattle.net_pairs.specs.inside.Sums.{HasRoom};
+
+use super::meetings::add_meetings;
+use super::steps::Step;
+use super::sums::PairSums;
+use super::ways::{NONE_TRIED, next_step};
+use geo_core::{Labelled, Rect};
+use lists::NoMemory;
+use short_area::{two_label_area, zones_in, zones_of};
+use std::alloc::Global;
+use union_area::parts_at;
+
+/// For each two labels of which pieces are near one another, how many cells of the window are the centre of a defect that touches
+/// pieces of both. The defect is the square of side `2r` round the cell's centre, in database units.
+///
+/// Each item has the lesser label, the greater one and the number of cells. A pair stands in the list exactly where there is
+/// such a cell, once, and the pairs rise by the first label and then by the second: so no other list is an answer (`laws`).
+/// A cell near three labels counts for each two of them. Pieces of one label may overlap, and labels are any numbers.
+///
+/// The one error is that no memory is left.
+pub fn pair_areas(
+    alloc: Global,
+    pieces: &[Labelled],
+    window: Rect,
+    r: u32,
+) -> Result<Vec<(usize, usize, u64)>, NoMemory>
+    requires { IsRadius r }
+    ensures { IfOk result (λ areas. ArePairAreas pieces.now r window areas.items) }
+{
+    let zones = zones_of(alloc, pieces, window, r)?;
+    let mut sums = PairSums::new(alloc);
+    add_areas(alloc, zones, window, NONE_TRIED, &mut sums)?;
+    sums.finish(alloc)
+}
+
+/// Adds for each two labels the cells of the window in zones of both. Of more than an eighth of `hopeless` zones no runs are
+/// tried, since so many had too many of them.
+fn add_areas(
+    alloc: Global,
+    zones: Vec<Labelled>,
+    window: Rect,
+    hopeless: usize,
+    sums: &mut PairSums,
+) -> Result<(), NoMemory>
+    requires { HasRoom sums.old.items.items (length (cells_of window)) }
+    ensures { OnOk result (GainsCells (IsInBoth zones.items) window sums.old.items.items sums.new.items.items) }
+{
+    match next_step(alloc, zones.as_slice(), window, hopeless)? {
+        Step::Nothing => Ok(()),
+        Step::Two(one, other) => {
+            let cells = two_label_area(alloc, zones, window)?;
+            sums.add(one, other, cells)
+        }
+        Step::Meet(runs) => add_meetings(alloc, runs.as_slice(), window, sums),
+        Step::Halve(axis, place, hopeless) => {
+            let (first, second) = parts_at(window, axis, place);
+            let (before, behind) = halves(alloc, zones, first, second)?;
+            add_areas(alloc, before, first, hopeless, sums)?;
+            add_areas(alloc, behind, second, hopeless, sums)
+        }
+    }
+}
+
+/// What the zones have in the one part and in the other. The zones themselves are kept no longer.
+fn halves(
+    alloc: Global,
+    zones: Vec<Labelled>,
+    first: Rect,
+    second: Rect,
+) -> Result<(Vec<Labelled>, Vec<Labelled>), NoMemory>
+    ensures first { IfOk result (λ both. AreAlikeIn first zones.items both.0.items) }
+    ensures second { IfOk result (λ both. AreAlikeIn second zones.items both.1.items) }
+{
+    let before = zones_in(alloc, zones.as_slice(), first)?;
+    let behind = zones_in(alloc, zones.as_slice(), second)?;
+    Ok((before, behind))
+}

@@ -1,0 +1,31 @@
+//! For each two labels, at how many cells of a window a square defect touches pieces of both.
+//!
+//! The cells of the window that are near a piece are a rectangle, the *zone* of the piece, and what is asked for is, for each two
+//! labels, how many cells lie in zones of both. Each part of the window goes one of these ways (`ways`):
+//!
+//! - Where one label or none is left nothing is added.
+//! - Of few zones, or where a part cannot be halved, rectangles without common cells, *runs*, take the place of each label's
+//!   zones (`runs`). Each two runs that meet have different labels then, and what they have in common is added for the two
+//!   (`meetings`).
+//! - Of many zones with two labels and no third, all cells are counted that lie in zones of two labels (`short_area`).
+//! - Where few zones lie over the middle the part is halved.
+//! - Else runs are tried with four looks for each zone, and where these do not suffice the part is halved. Then runs are not
+//!   tried again before an eighth of the zones is left.
+//!
+//! The cells of a pair in the window are those in the one part and those in the other, so whatever is halved and wherever runs
+//! are taken changes the time alone. What is added for one pair of labels is kept as items of a list, which are sorted and
+//! added up whenever the list has doubled (`sums`): so between parts the memory follows the pairs. Within one part it follows
+//! the runs that meet.
+#![tactic(auto)]
+
+mod areas;
+mod laws;
+mod meetings;
+mod places;
+mod runs;
+mod steps;
+mod sums;
+mod ways;
+
+pub use areas::pair_areas;
+pub use laws::area_lists_agree;
