@@ -1,0 +1,4 @@
+pub mod ListLaws
+pub mod OrderLaws
+pub mod CornerLaws
+pub mod NumberLaws
