@@ -1,4 +1,5 @@
-pub mod laws
 pub mod GainedTexts
-pub mod PeakLaws
+pub mod GreatestLaws
+pub mod KeptLaws
+pub mod WorstLaws
 pub mod ToldGauges

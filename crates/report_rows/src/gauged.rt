@@ -2,5 +2,6 @@
 
 mod drops;
 mod kinds;
+mod pairs;
 mod refusals;
 mod texts;
