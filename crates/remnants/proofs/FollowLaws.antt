@@ -10,12 +10,12 @@ use Rattle.remnants.specs.declared.parts.Fixed.{Fixed}
 use Rattle.remnants.specs.declared.parts.Mark.{Mark}
 use Rattle.remnants.specs.inside.Parting.{IsBetween, PartAlike}
 
--- half squares, steps and terminals of the one are found in the other, as ways where they are not the same
+-- half squares, steps and listed terminals of the one are found in the other, as ways where they are not the same
 pub record Follows (removed : HalfBox) (one other : RemnantLists) : Type 0 where
   pub listed : (terminal : ℕ) → Contains other.terminals terminal → Contains one.terminals terminal
   pub stays : (h : Half) → Stays one removed h → Stays other removed h
   pub steps : (p q : Half) → Stays one removed p → Stays one removed q → IsStep one p q → Way other removed p q
-  pub at : (terminal : ℕ) (h : Half) → IsAt one removed terminal h → (g : Half) × IsAt other removed terminal g × Way other removed g h
+  pub at : (terminal : ℕ) → Contains other.terminals terminal → (h : Half) → IsAt one removed terminal h → (g : Half) × IsAt other removed terminal g × Way other removed g h
 
 IsStep-sym : (remnant : RemnantLists) (p q : Half) → IsStep remnant p q → IsStep remnant q p
 IsStep-sym remnant p q (inl n) = inl (Neighbours-sym p q n)
@@ -37,8 +37,8 @@ split_follows removed one other f s = record {
   other_is = f.listed s.other s.other_is;
   different = s.different;
   apart = λ p q a b way.
-      let from = f.at s.one p a in
-      let to = f.at s.other q b in
+      let from = f.at s.one s.one_is p a in
+      let to = f.at s.other s.other_is q b in
       s.apart from.0 to.0 from.1 to.1 (append from.2 (append (told f way) (Way-reverse to.2)));
 }
 
@@ -60,7 +60,7 @@ at_stays remnant removed terminal h (inr loose) = inr (record { loose = loose.lo
 -- A remnant with more fixed boxes and marks, where what was loose of the one is left in the other.
 module _ (removed : HalfBox) (one other : RemnantLists) (listed : (terminal : ℕ) → Contains other.terminals terminal → Contains one.terminals terminal)
     (fixed : (f : Fixed) → Contains one.fixed f → Contains other.fixed f) (marks : (m : Mark) → Contains one.marks m → Contains other.marks m)
-    (loose_stays : (h : Half) → HasLoose one removed h → Stays other removed h) (loose_at : (terminal : ℕ) (h : Half) → IsLooseOf one removed terminal h → IsAt other removed terminal h) where
+    (loose_stays : (h : Half) → HasLoose one removed h → Stays other removed h) (loose_at : (terminal : ℕ) → Contains other.terminals terminal → (h : Half) → IsLooseOf one removed terminal h → IsAt other removed terminal h) where
   more_fixed : (leader : ℕ) (h : Half) → HasFixed one leader h → HasFixed other leader h
   more_fixed leader h has = record { fixed = has.fixed; among = fixed has.fixed has.among; led = has.led; has = has.has }
 
@@ -72,14 +72,14 @@ module _ (removed : HalfBox) (one other : RemnantLists) (listed : (terminal : �
   more_steps p q a b (inl n) = step (more_stays p a) (inl n) (stay (more_stays q b))
   more_steps p q a b (inr (leader, from, to)) = step (more_stays p a) (inr (leader, more_fixed leader p from, more_fixed leader q to)) (stay (more_stays q b))
 
-  more_at : (terminal : ℕ) (h : Half) → IsAt one removed terminal h → IsAt other removed terminal h
-  more_at terminal h (inl m) = inl (record { mark = m.mark; among = marks m.mark m.among; of_terminal = m.of_terminal; has = more_fixed m.mark.leader h m.has })
-  more_at terminal h (inr loose) = loose_at terminal h loose
+  more_at : (terminal : ℕ) → Contains other.terminals terminal → (h : Half) → IsAt one removed terminal h → IsAt other removed terminal h
+  more_at terminal is h (inl m) = inl (record { mark = m.mark; among = marks m.mark m.among; of_terminal = m.of_terminal; has = more_fixed m.mark.leader h m.has })
+  more_at terminal is h (inr loose) = loose_at terminal is h loose
 
   pub more_follows : Follows removed one other
   more_follows = record {
     listed = listed;
     stays = more_stays;
     steps = more_steps;
-    at = λ terminal h is. let is' = more_at terminal h is in (h, is', stay (at_stays other removed terminal h is'));
+    at = λ terminal among h is. let is' = more_at terminal among h is in (h, is', stay (at_stays other removed terminal h is'));
   }

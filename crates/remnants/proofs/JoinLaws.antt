@@ -148,7 +148,7 @@ module _ (remnant : RemnantLists) (leads : HasLeaders remnant) (leaders : List �
       listed = λ t h. h;
       stays = there_stays;
       steps = there_steps;
-      at = λ t h is. let is' = there_at t h is in (h, is', stay (at_stays joined removed t h is'));
+      at = λ t among h is. let is' = there_at t h is in (h, is', stay (at_stays joined removed t h is'));
     }
 
     -- an old box with the half square, at a number that has the new leader
@@ -194,7 +194,7 @@ module _ (remnant : RemnantLists) (leads : HasLeaders remnant) (leaders : List �
     )
 
     back : Follows removed joined remnant
-    back = record { listed = λ t h. h; stays = back_stays; steps = back_steps; at = back_at }
+    back = record { listed = λ t h. h; stays = back_stays; steps = back_steps; at = λ t among h is. back_at t h is }
 
     pub join_alike : IsSplit joined removed ↔ IsSplit remnant removed
     join_alike = (split_follows removed remnant joined there, split_follows removed joined remnant back)

@@ -152,7 +152,7 @@ module _ (old : RemnantLists) (joined : IsJoined old) (outer : HalfBox) (within 
       listed = λ t h. h;
       stays = back_stays;
       steps = back_steps;
-      at = λ t h is. let is' = back_at t h is in (h, is', stay (at_stays old removed t h is'));
+      at = λ t among h is. let is' = back_at t h is in (h, is', stay (at_stays old removed t h is'));
     }
 
     -- ---- what the old remnant joins, the new one does

@@ -1,9 +1,10 @@
 -- the classes of pairs as leaders of boxes
-use Rattle.std.proofs.Common.{ℕ, List, [], ◌∷◌, ◌++◌, ◌≡◌, ◌<◌, ◌≤◌, ◌+◌, map, length, refl, subst, sym, inl, inr, ◌⊎◌, ap, ◌∙◌, arith, ◌↔◌, Bool, true, ◌&&◌, nat_eq, Contains, All}
+use Rattle.std.proofs.Common.{ℕ, List, [], ◌∷◌, ◌++◌, ◌≡◌, ◌≢◌, ◌<◌, ◌≤◌, ◌+◌, map, length, refl, subst, sym, inl, inr, ◌⊎◌, ap, ◌∙◌, arith, ◌↔◌, Bool, true, ◌&&◌, nat_eq, Contains, All}
 use Rattle.std.proofs.Common.{Some, option_map, slice_get}
 use Rattle.lists.proofs.Containing.{Contains-slice_get, Contains-none, some_item, slice_get-front, slice_get-back, all_of_each}
 use Rattle.lists.proofs.Words.{slice_get_within, slice_get-map, same_Some, length-map, length_push, leb_tells, Contains-append_left, Contains-push, Contains-push_cases, All-contains}
 use Rattle.lists.proofs.Words.{nat_tests, nat_eq_equiv, and_equiv, on_equiv, IsEquivalence, IsPermutation, dedup, Contains-dedup, Contains-from_dedup, Contains-permutation, IsPermutation-sym}
+use Rattle.lists.proofs.Comparing.{equal_or_not}
 use Rattle.paths.specs.Paths.{stay, step}
 use Rattle.paths.proofs.PathLaws.{first, retold, reverse}
 use Rattle.classes.specs.Classes.{AreBelow, AreJoined, IsClasses}
@@ -19,7 +20,7 @@ use Rattle.remnants.specs.inside.Joining.{AreTied, touch, lead, AreChained, AreL
 -- the pairs of so many boxes and their leaders
 pub record HasLeadsTo (links : List (ℕ × ℕ)) (fixed : List Fixed) (count : ℕ) (pairs : List (ℕ × ℕ)) : Type 0 where
   pub kept : (a b : ℕ) → Contains links (a, b) → Contains pairs (a, b)
-  pub led : (k : ℕ) (one : Fixed) → k < count → slice_get fixed k ≡ Some one → Contains pairs (k, one.leader)
+  pub led : (k : ℕ) (one : Fixed) → k < count → slice_get fixed k ≡ Some one → one.leader ≢ k → Contains pairs (k, one.leader)
   pub only : (a b : ℕ) → Contains pairs (a, b) → Contains links (a, b) ⊎ ((one : Fixed) × (slice_get fixed a ≡ Some one) × (one.leader ≡ b))
 
 pub no_leads : (links : List (ℕ × ℕ)) (fixed : List Fixed) → HasLeadsTo links fixed 0 links
@@ -32,8 +33,8 @@ pub leads_more : (links : List (ℕ × ℕ)) (fixed : List Fixed) (count : ℕ) 
     → HasLeadsTo links fixed (count + 1) (pairs ++ (count, one.leader) ∷ [])
 leads_more links fixed count pairs one at so_far = record {
   kept = λ a b h. Contains-append_left pairs ((count, one.leader) ∷ []) (a, b) (so_far.kept a b h);
-  led = λ k other small e. elim (below_or_last k count small) [
-    | inl before ↦ Contains-append_left pairs ((count, one.leader) ∷ []) (k, other.leader) (so_far.led k other before e)
+  led = λ k other small e differs. elim (below_or_last k count small) [
+    | inl before ↦ Contains-append_left pairs ((count, one.leader) ∷ []) (k, other.leader) (so_far.led k other before e differs)
     | inr here ↦
         let same : one ≡ other = same_Some one other (sym at ∙ ap (slice_get fixed) (sym here) ∙ e) in
         subst (λ n. Contains (pairs ++ (count, one.leader) ∷ []) (n, other.leader)) (sym here)
@@ -47,10 +48,24 @@ leads_more links fixed count pairs one at so_far = record {
   ];
 }
 
+-- a box that leads itself needs no pair
+pub leads_itself : (links : List (ℕ × ℕ)) (fixed : List Fixed) (count : ℕ) (pairs : List (ℕ × ℕ)) (one : Fixed) → slice_get fixed count ≡ Some one → one.leader ≡ count
+    → HasLeadsTo links fixed count pairs → HasLeadsTo links fixed (count + 1) pairs
+leads_itself links fixed count pairs one at itself so_far = record {
+  kept = so_far.kept;
+  led = λ k other small e differs. elim (below_or_last k count small) [
+    | inl before ↦ so_far.led k other before e differs
+    | inr here ↦
+        let same : one ≡ other = same_Some one other (sym at ∙ ap (slice_get fixed) (sym here) ∙ e) in
+        absurd (differs (ap (λ (x : Fixed). x.leader) (sym same) ∙ itself ∙ sym here))
+  ];
+  only = so_far.only;
+}
+
 pub all_leads : (links : List (ℕ × ℕ)) (fixed : List Fixed) (count : ℕ) (pairs : List (ℕ × ℕ)) → length fixed ≤ count → HasLeadsTo links fixed count pairs → HasLeads links fixed pairs
 all_leads links fixed count pairs past so_far = record {
   kept = so_far.kept;
-  led = λ k one e. let small = slice_get_within fixed k one e in so_far.led k one (omega arith) e;
+  led = λ k one e differs. let small = slice_get_within fixed k one e in so_far.led k one (omega arith) e differs;
   only = so_far.only;
 }
 
@@ -169,7 +184,10 @@ module _ (fixed : List Fixed) (links pairs : List (ℕ × ℕ)) (touching : (a b
       (subst (λ n. AreJoined n links a b) (length-map fixed (λ (x : Fixed). x.part)) path)
   tied_joined a b (lead one e is) =
       let below = tied_below a b (lead one e is) in
-      step below.0 (inl (subst (λ k. Contains pairs (a, k)) is (leads.led a one e))) (stay below.1)
+      elim (equal_or_not one.leader a) [
+        | inl same ↦ subst (λ k. AreJoined (length fixed) pairs a k) (sym same ∙ is) (stay below.0)
+        | inr differs ↦ step below.0 (inl (subst (λ k. Contains pairs (a, k)) is (leads.led a one e differs))) (stay below.1)
+      ]
 
   joined_chained : {a b : ℕ} → AreJoined (length fixed) pairs a b → AreChained fixed a b
   joined_chained path = retold (λ x y s t p. inr (elim p [ inl h ↦ inl (pair_tied x y h) | inr h ↦ inr (pair_tied y x h) ])) path

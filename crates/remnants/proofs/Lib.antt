@@ -11,3 +11,5 @@ pub mod KeepLaws
 pub mod PlaceLaws
 pub mod ThinLaws
 pub mod SpreadLaws
+pub mod OrderLaws
+pub mod ReleaseLaws

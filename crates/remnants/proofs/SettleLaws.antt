@@ -29,7 +29,7 @@ loose_follows removed remnant one other spared = more_follows removed (with_othe
     (λ h l.
     let x = spared l.loose.terminal h l.spared (record { one = l.loose; among = l.among; of_terminal = refl; has = l.has }) in
     inr (record { loose = x.one; among = x.among; has = x.has; spared = l.spared }))
-    (λ terminal h l.
+    (λ terminal listed h l.
     let x = spared (Some terminal) h l.spared (record { one = l.loose; among = l.among; of_terminal = l.of_terminal; has = l.has }) in
     inr (record { loose = x.one; among = x.among; of_terminal = x.of_terminal; has = x.has; spared = l.spared }))
 
@@ -116,7 +116,7 @@ module _ (remnant : RemnantLists) (leaders : HasLeaders remnant) (part : HalfBox
 
     there : Follows removed before after
     there = more_follows removed before after (λ t h. h) (λ f h. Contains-append_left remnant.fixed (new_box ∷ []) f h)
-        (λ m h. Contains-append_left remnant.marks (marks_of terminal (length remnant.fixed)) m h) loose_after loose_at_after
+        (λ m h. Contains-append_left remnant.marks (marks_of terminal (length remnant.fixed)) m h) loose_after (λ some among h l. loose_at_after some h l)
 
     stays_before : (h : Half) → Stays after removed h → Stays before removed h
     stays_before h (inl (leader, has)) = elim (fixed_cases leader h has) [ inl old ↦ inl (leader, old.1) | inr new ↦ inr (loose_has h new.1) ]
@@ -162,7 +162,7 @@ module _ (remnant : RemnantLists) (leaders : HasLeaders remnant) (part : HalfBox
       listed = λ t h. h;
       stays = stays_before;
       steps = steps_before;
-      at = λ some h is. let is' = at_before some h is in (h, is', stay (at_stays before removed some h is'));
+      at = λ some among h is. let is' = at_before some h is in (h, is', stay (at_stays before removed some h is'));
     }
 
   -- whichever box is removed that has no half square of the part, the same terminals are parted

@@ -7,7 +7,8 @@ use Rattle.geo_core.specs.declared.plane.Half.{Half}
 use Rattle.half_boxes.specs.declared.boxes.HalfBox.{HalfBox}
 use Rattle.remnants.specs.Remnants.{RemnantLists, HasFixed, Stays, IsStep, Way, IsAt, IsSplit, IsLeader, IsJoined}
 use Rattle.remnants.specs.declared.parts.Mark.{Mark}
-use Rattle.remnants.specs.inside.Thinning.{IsAlone, IsStoodFor}
+use Rattle.remnants.specs.inside.Marking.{IsMarked}
+use Rattle.remnants.specs.inside.Thinning.{HasLooseBox, IsStoodFor}
 use Rattle.remnants.proofs.FollowLaws.{at_stays}
 use Rattle.remnants.proofs.JoinLaws.{some_half_of}
 
@@ -89,67 +90,65 @@ module _ (old : RemnantLists) (gone : List ℕ) (marks : List Mark) (terminals :
 
     -- ---- one for each that went
 
-    abbrev Alone : ℕ → ℕ → Type 0
-    Alone leader terminal = IsAlone old.terminals old.loose old.marks leader terminal
+    -- a half square at which the terminal is
+    abbrev Place : ℕ → Type 0
+    Place terminal = (h : Half) × IsAt old removed terminal h
 
-    -- a terminal of the new remnant that is at no half square but those of this one
+    -- a terminal of the new remnant that is at no half square but those of this one, and at one, where it is another one
     record IsFor (terminal : ℕ) : Type 0 where
       pub other : ℕ
       pub listed : Contains terminals other
-      pub at : (h : Half) → IsAt new removed other h → IsAt old removed terminal h
-      pub same : (other ≡ terminal) ⊎ ((leader : ℕ) × Alone leader terminal × Alone leader other)
+      pub at : (h : Half) → IsAt old removed other h → IsAt old removed terminal h
+      pub same : (other ≡ terminal) ⊎ Place other
 
-    one_place : (leader terminal other : ℕ) → Alone leader terminal → Alone leader other → (h : Half) → IsAt old removed other h → IsAt old removed terminal h
-    one_place leader terminal other alone other_alone h (inr l) = absurd (other_alone.gathered.fixed l.loose l.among l.of_terminal)
-    one_place leader terminal other alone other_alone h (inl m) =
-        let is = other_alone.gathered.one_leader m.mark.leader leader (record { mark = m.mark; among = m.among; of_terminal = m.of_terminal; at_leader = refl }) other_alone.marked in
-        let mark = alone.marked in
-        inl (record { mark = mark.mark; among = mark.among; of_terminal = mark.of_terminal; has = subst (λ l. HasFixed old l h) (is ∙ sym mark.at_leader) m.has })
+    marked_at : (terminal : ℕ) (mark : Mark) (h : Half) → IsMarked old.marks terminal mark.leader → HasFixed old mark.leader h → IsAt old removed terminal h
+    marked_at terminal mark h m has =
+        inl (record { mark = m.mark; among = m.among; of_terminal = m.of_terminal; has = subst (λ l. HasFixed old l h) (sym m.at_leader) has })
 
-    -- and it is at one
-    somewhere : IsJoined old → (leader other : ℕ) → Alone leader other → (h : Half) × IsAt old removed other h
-    somewhere joined leader other alone =
-        let m = alone.marked in
-        let is = joined.leaders.marked m.mark m.among in
-        let h = some_half_of is.fixed.part in (
-          h.0,
-          inl (record {
-            mark = m.mark;
-            among = m.among;
-            of_terminal = m.of_terminal;
-            has = record { fixed = is.fixed; among = Contains-slice_get old.fixed m.mark.leader is.fixed is.at; led = is.itself; has = h.1 };
-          }),
-        )
+    module _ (joined : IsJoined old) (stood : (terminal : ℕ) → Contains gone terminal → IsStoodFor old.terminals (HasLooseBox old.loose) old.marks gone terminal) where
+      -- a leader has a half square
+      somewhere : (terminal leader : ℕ) → IsMarked old.marks terminal leader → Place terminal
+      somewhere terminal leader m =
+          let is = joined.leaders.marked m.mark m.among in
+          let h = some_half_of is.fixed.part in (
+            h.0,
+            inl (record {
+              mark = m.mark;
+              among = m.among;
+              of_terminal = m.of_terminal;
+              has = record { fixed = is.fixed; among = Contains-slice_get old.fixed m.mark.leader is.fixed is.at; led = is.itself; has = h.1 };
+            }),
+          )
 
-    -- ---- the same is parted
+      stands : (terminal : ℕ) → IsStoodFor old.terminals (HasLooseBox old.loose) old.marks gone terminal → IsFor terminal
+      stands terminal (other, s) = record {
+        other = other;
+        listed = (terminals_are other).1 (s.listed, s.stays);
+        at = λ h is. elim is [
+          | inl m ↦ marked_at terminal m.mark h (s.covered m.mark.leader (record { mark = m.mark; among = m.among; of_terminal = m.of_terminal; at_leader = refl })) m.has
+          | inr l ↦ absurd (s.settled (record { one = l.loose; among = l.among; of_terminal = l.of_terminal }))
+        ];
+        same = inr (somewhere other s.somewhere.0 s.somewhere.1);
+      }
 
-    module _ (joined : IsJoined old) (stood : (terminal : ℕ) → Contains gone terminal → IsStoodFor old.terminals old.loose old.marks gone terminal) where
       for_one : (terminal : ℕ) → Contains old.terminals terminal → IsFor terminal
       for_one terminal listed = elim (listed_or_not gone terminal) [
-        | inr here ↦ record { other = terminal; listed = (terminals_are terminal).1 (listed, here); at = at_old terminal; same = inl refl }
-        | inl went ↦
-            let s = stood terminal went in
-            record {
-              other = s.other;
-              listed = (terminals_are s.other).1 (s.other_alone.listed, s.stays);
-              at = λ h is. one_place s.leader terminal s.other s.alone s.other_alone h (at_old s.other h is);
-              same = inr (s.leader, s.alone, s.other_alone);
-            }
+        | inr here ↦ record { other = terminal; listed = (terminals_are terminal).1 (listed, here); at = λ h is. is; same = inl refl }
+        | inl went ↦ stands terminal (stood terminal went)
       ]
 
       -- terminals for which the same one stays are not parted
-      meet : (one other : ℕ) → one ≢ other → (r : ℕ) → (r ≡ one) ⊎ ((leader : ℕ) × Alone leader one × Alone leader r) → (r ≡ other) ⊎ ((leader : ℕ) × Alone leader other × Alone leader r)
-          → (h : Half) × IsAt old removed one h × IsAt old removed other h
-      meet one other different r (inl e) (inl f) = absurd (different (sym e ∙ f))
-      meet one other different r (inr (leader, alone, alone_r)) (inl f) =
-          let h = somewhere joined leader r alone_r in
-          (h.0, one_place leader one r alone alone_r h.0 h.1, subst (λ t. IsAt old removed t h.0) f h.1)
-      meet one other different r (inl e) (inr (leader, alone, alone_r)) =
-          let h = somewhere joined leader r alone_r in
-          (h.0, subst (λ t. IsAt old removed t h.0) e h.1, one_place leader other r alone alone_r h.0 h.1)
-      meet one other different r (inr (leader, alone, alone_r)) (inr (leader', alone', alone_r')) =
-          let h = somewhere joined leader r alone_r in
-          (h.0, one_place leader one r alone alone_r h.0 h.1, one_place leader' other r alone' alone_r' h.0 h.1)
+      meet : (one other : ℕ) → one ≢ other → (x : IsFor one) (y : IsFor other) → x.other ≡ y.other → (h : Half) × IsAt old removed one h × IsAt old removed other h
+      meet one other different x y same =
+          let at_both : Place x.other → (h : Half) × IsAt old removed one h × IsAt old removed other h =
+          λ p. (p.0, x.at p.0 p.1, y.at p.0 (subst (λ t. IsAt old removed t p.0) same p.1)) in
+          elim x.same [
+            | inr place ↦ at_both place
+            | inl e ↦ elim y.same [
+              | inr place ↦ at_both (subst Place (sym same) place)
+              | inl f ↦ absurd (different (sym e ∙ same ∙ f))
+            ]
+          ]
 
       there : IsSplit old removed → IsSplit new removed
       there s =
@@ -161,9 +160,9 @@ module _ (old : RemnantLists) (gone : List ℕ) (marks : List Mark) (terminals :
             one_is = x.listed;
             other_is = y.listed;
             different = λ e.
-                let m = meet s.one s.other s.different x.other x.same (subst (λ r. (r ≡ s.other) ⊎ ((leader : ℕ) × Alone leader s.other × Alone leader r)) (sym e) y.same) in
+                let m = meet s.one s.other s.different x y e in
                 s.apart m.0 m.0 m.1 m.2 (stay (at_stays old removed s.one m.0 m.1));
-            apart = λ p q a b way. s.apart p q (x.at p a) (y.at q b) (way_old way);
+            apart = λ p q a b way. s.apart p q (x.at p (at_old x.other p a)) (y.at q (at_old y.other q b)) (way_old way);
           }
 
       back : IsSplit new removed → IsSplit old removed

@@ -4,3 +4,4 @@ pub mod Marking
 pub mod IslandBoxes
 pub mod Keeping
 pub mod Thinning
+pub mod Releasing

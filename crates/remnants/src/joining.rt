@@ -1,9 +1,9 @@
-ghost use Rattle.std.specs.Prelude.{ℕ, Contains, ◌≡◌, ◌<◌, All, IfOk, length, map, ◌↔◌};
+ghost use Rattle.std.specs.Prelude.{◌≡◌, ◌<◌, All, IfOk, length, map, ◌↔◌};
 ghost use Rattle.half_boxes.specs.declared.boxes.HalfBox.{HalfBox as AnyBox};
 ghost use Rattle.remnants.specs.Remnants.{IsJoined, IsSplit};
-ghost use Rattle.remnants.specs.declared.parts.Mark.{Mark as AnyMark};
 ghost use Rattle.remnants.specs.inside.Joining.{AreLeaders, AreLedBy, AreMovedTo, HasLeads};
 
+use super::marks::Marks;
 use super::parts::{Fixed, Mark};
 use super::remnant::Remnant;
 use super::unjoined::Unjoined;
@@ -34,13 +34,15 @@ fn boxes_of(alloc: Global, fixed: &[Fixed]) -> Result<Vec<HalfBox>, NoMemory>
     Ok(boxes)
 }
 
-/// The pairs, with those of each box and its leader.
+/// The pairs, with those of each box and its leader, where this is another one.
 fn with_leads(links: Vec<(usize, usize)>, fixed: &[Fixed]) -> Result<Vec<(usize, usize)>, NoMemory>
     ensures { IfOk result (λ pairs. HasLeads links.items fixed.now pairs.items) }
 {
     let mut pairs = links;
     for (number, one) in fixed.iter().enumerate() {
-        pairs.push((number, one.leader))?;
+        if one.leader != number {
+            pairs.push((number, one.leader))?;
+        }
     }
     Ok(pairs)
 }
@@ -61,9 +63,9 @@ fn led_by(alloc: Global, fixed: &[Fixed], leaders: &[usize]) -> Result<Vec<Fixed
 }
 
 /// The marks at new leaders, each once.
-pub fn moved_to(alloc: Global, marks: &[Mark], leaders: &[usize]) -> Result<Vec<Mark>, NoMemory>
+pub fn moved_to(alloc: Global, marks: &[Mark], leaders: &[usize]) -> Result<Marks, NoMemory>
     requires { All (λ mark. mark.leader < length leaders.now) marks.now }
-    ensures { IfOk result (λ moved. AreMovedTo leaders.now marks.now moved.items) }
+    ensures { IfOk result (λ moved. AreMovedTo leaders.now marks.now moved) }
 {
     let mut moved = Vec::with_capacity(alloc, marks.len())?;
     for mark in marks {
@@ -72,17 +74,7 @@ pub fn moved_to(alloc: Global, marks: &[Mark], leaders: &[usize]) -> Result<Vec<
             leader: leaders[mark.leader],
         })?;
     }
-    Ok(each_once(moved))
-}
-
-/// The marks in order, each once.
-fn each_once(marks: Vec<Mark>) -> Vec<Mark>
-    ensures { (mark : AnyMark) → Contains result.items mark ↔ Contains marks.items mark }
-{
-    let mut once = marks;
-    once.sort_unstable_by_key(|mark| (mark.terminal, mark.leader));
-    once.dedup();
-    once
+    Ok(Marks::of(moved))
 }
 
 /// With one leader for fixed boxes that touch.

@@ -17,7 +17,7 @@ pub struct Places {
 pub fn places_of(alloc: Global, fixed: &[Fixed], outer: HalfBox) -> Result<Places, NoMemory>
     ensures { IfOk result (λ found. ArePlaces outer fixed.now found.places.items found.numbers.items) }
 {
-    let mut places = Vec::new(alloc);
+    let mut places = Vec::with_capacity(alloc, fixed.len())?;
     let mut numbers = Vec::with_capacity(alloc, fixed.len())?;
     for (number, one) in fixed.iter().enumerate() {
         numbers.push(places.len())?;

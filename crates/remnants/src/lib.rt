@@ -19,12 +19,13 @@
 //! `Remnant::narrow` cuts the boxes of an island at the reach. What lies outside of it stays, whichever defect comes,
 //! and only how it is joined matters: boxes of it that touch get one leader, and those that neither touch the reach nor
 //! lead are let go. What lies inside is loose, but for what the core has as a whole: each defect takes that, so it is
-//! let go. Of the terminals that have nothing loose, and are marked at one leader alone, one stays for each leader and
-//! stands for the others. So a zone that grows smaller looks at less and less of the island.
+//! let go. A terminal goes where another one that stays has nothing loose, and is marked only at leaders at which the
+//! terminal is marked, too. So a zone that grows smaller looks at less and less of the island.
 //!
 //! The clause says that this changes no answer: for each box between core and reach whose removal is asked for, two
-//! terminals of the new remnant are parted exactly where two of the old one are. `Remnant::is_split` then asks for the
-//! removal of all that is loose.
+//! terminals of the new remnant are parted exactly where two of the old one are. Where all that is loose is removed and yet
+//! no two are parted, there is no new remnant: no smaller removal parts any. `Remnant::is_split_by` asks for one removal
+//! alone.
 #![tactic(auto)]
 
 mod cutting;
@@ -32,8 +33,11 @@ mod island_boxes;
 mod joining;
 mod keeping;
 mod marking;
+mod marks;
 mod numbers;
 pub mod parts;
+mod proposing;
+mod releasing;
 pub mod remnant;
 mod thinning;
 mod unjoined;

@@ -41,24 +41,29 @@ impl Unjoined {
     ghost use Rattle.remnants.specs.Remnants.{HasLeaders};
     ghost use Rattle.remnants.specs.inside.Parting.{IsSettled, loose_of};
 
-    /// A copy of these fixed boxes, marks and terminals, with no loose boxes.
+    /// A copy of these fixed boxes, marks and terminals, with no loose boxes. There is room for some parts of this many boxes.
     pub fn without_loose(
         alloc: Global,
         fixed: &[Fixed],
         marks: &[Mark],
         terminals: &[usize],
+        boxes: usize,
     ) -> Result<Unjoined, NoMemory>
         requires { HasLeaders (record { fixed = fixed.now; loose = []; marks = marks.now; terminals = terminals.now }) }
         ensures { IfOk result (λ unjoined. unjoined
             ≡ record { fixed = fixed.now; loose = []; marks = marks.now; terminals = terminals.now }) }
     {
-        let fixed = Vec::from_slice(alloc, fixed)?;
-        let marks = Vec::from_slice(alloc, marks)?;
+        let room = fixed.len().saturating_add(boxes).saturating_add(boxes);
+        let mut more_fixed = Vec::with_capacity(alloc, room)?;
+        more_fixed.extend_from_slice(fixed)?;
+        let mut more_marks = Vec::with_capacity(alloc, marks.len().saturating_add(boxes))?;
+        more_marks.extend_from_slice(marks)?;
+        let loose = Vec::with_capacity(alloc, boxes)?;
         let terminals = Vec::from_slice(alloc, terminals)?;
         Ok(Unjoined {
-            fixed,
-            loose: Vec::new(alloc),
-            marks,
+            fixed: more_fixed,
+            loose,
+            marks: more_marks,
             terminals,
         })
     }

@@ -1,5 +1,5 @@
 -- which fixed boxes get one leader
-use Rattle.std.specs.Prelude.{ℕ, List, Some, length, slice_get, Contains, ◌≡◌, ◌<◌, ◌⊎◌}
+use Rattle.std.specs.Prelude.{ℕ, List, Some, length, slice_get, Contains, ◌≡◌, ◌≢◌, ◌<◌, ◌⊎◌}
 use Rattle.paths.specs.Paths.{Path}
 use Rattle.half_boxes.specs.HalfBoxes.{TouchHalves}
 use Rattle.remnants.specs.declared.parts.Fixed.{Fixed}
@@ -38,9 +38,9 @@ pub record AreMovedTo (leaders : List ℕ) (old new : List Mark) : Type 0 where
   pub each : (mark : Mark) → Contains old mark → (moved : Mark) × Contains new moved × IsMovedTo leaders mark moved
   pub only : (moved : Mark) → Contains new moved → (mark : Mark) × Contains old mark × IsMovedTo leaders mark moved
 
--- the pairs, and one of each box and its leader
+-- the pairs, and one of each box and its leader, where this is another one
 pub record HasLeads (links : List (ℕ × ℕ)) (fixed : List Fixed) (pairs : List (ℕ × ℕ)) : Type 0 where
   pub kept : (a b : ℕ) → Contains links (a, b) → Contains pairs (a, b)
-  pub led : (k : ℕ) (one : Fixed) → slice_get fixed k ≡ Some one → Contains pairs (k, one.leader)
+  pub led : (k : ℕ) (one : Fixed) → slice_get fixed k ≡ Some one → one.leader ≢ k → Contains pairs (k, one.leader)
   pub only : (a b : ℕ) → Contains pairs (a, b) → Contains links (a, b) ⊎
       ((one : Fixed) × (slice_get fixed a ≡ Some one) × (one.leader ≡ b))

@@ -22,15 +22,15 @@ new-requires c =
     let inside = c.unjoined.inside in
     is_joined (record { fixed = inside.fixed.items; loose = inside.loose.items; marks = inside.marks.items; terminals = inside.terminals.items }) c.unjoined.invariant c.in_ok-leaders.leaders.items
     (rw c.deref.ensures.value at c.in_ok-leaders.ensures) c.in_ok-led.led.items (rw (c.deref-2.ensures.value, c.deref-3.ensures.value) at c.in_ok-led.ensures)
-    c.in_ok-moved.moved.items (rw (c.deref-4.ensures.value, c.deref-5.ensures.value) at c.in_ok-moved.ensures)
+    c.in_ok-moved.moved (rw (c.deref-4.ensures.value, c.deref-5.ensures.value) at c.in_ok-moved.ensures)
 
 pub returns-clause-same : goal.returns-clause-same
 returns-clause-same c =
     let inside = c.unjoined.inside in
     let old : RemnantLists = record { fixed = inside.fixed.items; loose = inside.loose.items; marks = inside.marks.items; terminals = inside.terminals.items } in
-    let new : RemnantLists = record { fixed = c.in_ok-led.led.items; loose = inside.loose.items; marks = c.in_ok-moved.moved.items; terminals = inside.terminals.items } in
+    let new : RemnantLists = record { fixed = c.in_ok-led.led.items; loose = inside.loose.items; marks = c.in_ok-moved.moved; terminals = inside.terminals.items } in
     let alike : (removed : HalfBox) → IsSplit new removed ↔ IsSplit old removed = join_alike old c.unjoined.invariant c.in_ok-leaders.leaders.items
     (rw c.deref.ensures.value at c.in_ok-leaders.ensures) c.in_ok-led.led.items (rw (c.deref-2.ensures.value, c.deref-3.ensures.value) at c.in_ok-led.ensures)
-    c.in_ok-moved.moved.items (rw (c.deref-4.ensures.value, c.deref-5.ensures.value) at c.in_ok-moved.ensures) in
+    c.in_ok-moved.moved (rw (c.deref-4.ensures.value, c.deref-5.ensures.value) at c.in_ok-moved.ensures) in
     subst (λ (r : RemnantLists). (removed : HalfBox) → IsSplit r removed ↔ IsSplit c.args.unjoined removed) (sym c.new.ensures)
     (subst (λ (r : RemnantLists). (removed : HalfBox) → IsSplit new removed ↔ IsSplit r removed) c.unjoined.view_is alike)

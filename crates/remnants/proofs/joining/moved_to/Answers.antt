@@ -22,4 +22,4 @@ loop-mark-preserved c =
 pub returns : goal.returns
 returns c =
     moved_once c.args.leaders.now c.args.marks.now c.loop-mark.moved.items _
-    (rw (take_all c.loop-mark.mark-index c.args.marks.now c.loop-mark-test.false) at c.loop-mark.invariant) c.each_once.ensures
+    (rw (take_all c.loop-mark.mark-index c.args.marks.now c.loop-mark-test.false) at c.loop-mark.invariant) c.of.ensures

@@ -5,7 +5,7 @@ use Rattle.remnants.proofs.keeping.places_of.Goals as goal
 use Rattle.remnants.proofs.keeping.places_of.Goals.{then-matters+in_ok-push-2, else-matters}
 
 pub loop-number-init : goal.loop-number-init
-loop-number-init c = rw (c.new-places.ensures.items, c.in_ok-numbers.ensures.items) (no_places c.args.outer c.args.fixed.now)
+loop-number-init c = rw (c.in_ok-places.ensures.items, c.in_ok-numbers.ensures.items) (no_places c.args.outer c.args.fixed.now)
 
 pub loop-number-preserved : goal.loop-number-preserved
 loop-number-preserved c =

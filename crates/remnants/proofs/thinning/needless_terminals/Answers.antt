@@ -1,21 +1,23 @@
-use Rattle.std.proofs.Common.{◌≡◌, ◌∙◌, ℕ, List, Contains, ap, length, subst}
-use Rattle.remnants.proofs.SpreadLaws.{stood_for, small_gathered}
+use Rattle.std.proofs.Common.{ℕ, List, Contains, Vec, subst}
+use Rattle.lists.proofs.Words.{Global, IfOk-weaker}
+use Rattle.remnants.specs.inside.Thinning.{HasLooseBox, IsStoodFor}
+use Rattle.remnants.proofs.SpreadLaws.{stands_still}
 use Rattle.remnants.proofs.thinning.needless_terminals.Goals as goal
-
-pub heads_of-requires : goal.heads_of-requires
-heads_of-requires c =
-    rw c.deref.ensures.value (small_gathered c.args.marks.now c.of-listed.result c.in_ok-spread.spread c.in_ok-gathered.gathered.items c.args.leaders c.in_ok-gathered.ensures c.requires)
-
-pub outdone_terminals-requires : goal.outdone_terminals-requires
-outdone_terminals-requires c =
-    let long : length c.deref-3.result.now ≡ c.args.leaders = ap length c.deref-3.ensures.value ∙ c.in_ok-heads.ensures.one_each in
-    rw (c.deref-2.ensures.value, long)
-    (small_gathered c.args.marks.now c.of-listed.result c.in_ok-spread.spread c.in_ok-gathered.gathered.items c.args.leaders c.in_ok-gathered.ensures c.requires)
 
 pub returns : goal.returns
 returns c =
-    stood_for c.args.terminals.now c.args.loose.now c.args.marks.now c.in_ok-gathered.gathered.items c.of-listed.result c.in_ok-spread.spread _
-    c.in_ok-heads.heads.items c.in_ok-outdone.outdone.items c.args.leaders c.in_ok-spread.ensures
-    (λ terminal h. subst (λ (ts : List ℕ). Contains ts terminal) c.in_ok-from_slice.ensures.items ((c.of-listed.ensures terminal).0 h)) c.in_ok-gathered.ensures
-    (rw c.deref.ensures.value at c.in_ok-heads.ensures)
-    (rw (c.deref-2.ensures.value, c.deref-3.ensures.value) at c.in_ok-outdone.ensures) (λ terminal. (c.of.ensures terminal).0)
+    let terminals = c.args.terminals.now in
+    let loose = c.args.loose.now in
+    let marks = c.args.marks.now in
+    let listed = c.of-listed.result in
+    let is_loose = Contains c.of-loose.result in
+    IfOk-weaker c.going_by.result (λ (gone : Vec ℕ Global). (terminal : ℕ) → Contains gone.items terminal → IsStoodFor listed is_loose marks gone.items terminal)
+    (λ (gone : Vec ℕ Global). (terminal : ℕ) → Contains gone.items terminal → IsStoodFor terminals (HasLooseBox loose) marks gone.items terminal)
+    (λ (gone : Vec ℕ Global) are terminal h.
+    stands_still terminals listed (HasLooseBox loose) is_loose marks gone.items gone.items terminal
+    (λ t among. subst (λ (ts : List ℕ). Contains ts t) c.in_ok-from_slice.ensures.items ((c.of-listed.ensures t).0 among))
+    (λ t l. (c.of-loose.ensures t).1 (c.in_ok-loose.ensures l.one t l.among l.of_terminal)) (λ t g. g) (are terminal h)) c.going_by.ensures
+
+pub going_by-requires : goal.going_by-requires
+going_by-requires c pair among =
+    (c.of-going.ensures pair.goes).1 (rw c.deref.ensures.value at c.in_ok-all_going.ensures pair (rw c.deref-2.ensures.value at among))

@@ -1,57 +1,42 @@
-use Rattle.std.proofs.Common.{◌≡◌, ◌∙◌, ◌+◌, ◌↔◌, [], ◌∷◌, List, All, ap, drop, subst, sym}
-use Rattle.lists.proofs.Words.{IfOk-weaker, drop_all, drop_more}
-use Rattle.geo_core.specs.declared.plane.Half.{Half}
-use Rattle.half_boxes.specs.HalfBoxes.{HasHalf, HasHalfIn, LiesWithin}
-use Rattle.half_boxes.specs.declared.boxes.HalfBox.{HalfBox}
-use Rattle.remnants.specs.Remnants.{RemnantLists, IsLooseWithin, IsSplit}
+use Rattle.std.proofs.Common.{◌∙◌, All, refl, subst, sym}
+use Rattle.lists.proofs.Words.{false≢true}
+use Rattle.half_boxes.specs.HalfBoxes.{LiesWithin}
 use Rattle.remnants.specs.declared.parts.Loose.{Loose}
-use Rattle.remnants.proofs.CutLaws.{IsCutTo, leaders_with, none_cut, cut_more, all_cut}
 use Rattle.remnants.proofs.remnant.Remnant.narrow.Goals as goal
 
-pub without_loose-requires : goal.without_loose-requires
-without_loose-requires c =
-    let inside = c.self.inside in
-    rw (c.deref.ensures.value, c.deref-2.ensures.value, c.deref-3.ensures.value)
-    (leaders_with inside.fixed.items inside.marks.items inside.loose.items [] inside.terminals.items c.self.invariant.leaders)
+pub returns-then-is_seen_whole-clause-split : goal.returns-then-is_seen_whole-clause-split
+returns-then-is_seen_whole-clause-split c = λ has_inner.
+    let cut = c.in_ok-cut.ensures.same c.args.outer has_inner (λ h has. has) in (
+      λ some. absurd (false≢true some),
+      λ split. absurd (c.is_seen_whole.ensures c.if-is_seen_whole.true c.args.outer c.in_ok-cut.ensures.within (cut.1 split)),
+    )
 
-pub loop-loose-init : goal.loop-loose-init
-loop-loose-init c =
-    let inside = c.self.inside in
-    let old : RemnantLists = record { fixed = inside.fixed.items; loose = inside.loose.items; marks = inside.marks.items; terminals = inside.terminals.items } in
-    let cut_is = rw (c.deref.ensures.value, c.deref-2.ensures.value, c.deref-3.ensures.value) at c.in_ok-cut.ensures in
-    subst (λ (r : RemnantLists). IsCutTo c.args.inner c.args.outer r c.deref-loose-items.result.now c.in_ok-cut.cut) c.self.view_is
-    (subst (λ (xs : List Loose). IsCutTo c.args.inner c.args.outer old xs c.in_ok-cut.cut) (sym c.deref-loose-items.ensures.value)
-    (subst (λ (r : RemnantLists). IsCutTo c.args.inner c.args.outer old inside.loose.items r) (sym cut_is) (none_cut c.args.inner c.args.outer old)))
+pub returns-then-not-is_split-clause-split : goal.returns-then-not-is_split-clause-split
+returns-then-not-is_split-clause-split c = λ has_inner.
+    let cut = c.in_ok-cut.ensures.same c.args.outer has_inner (λ h has. has) in
+    let thinned = c.in_ok-thinned.ensures.same c.args.outer in
+    let within = c.in_ok-thinned.ensures.within c.args.outer c.in_ok-cut.ensures.within in (
+      λ some. absurd (false≢true some),
+      λ split. absurd (false≢true (sym c.if-not-is_split.true ∙ (c.is_split.ensures c.args.outer within).1 (thinned.1 (cut.1 split)))),
+    )
 
-pub loop-loose-preserved : goal.loop-loose-preserved
-loop-loose-preserved c =
-    let items = c.deref-loose-items.result.now in
-    let k = c.loop-loose.loose-index in
-    cut_more c.args.inner c.args.outer c.args.self.now c.loop-loose.cut c.in_ok-cut-2.cut c.loose-item.result (drop k items) (drop (k + 1) items)
-    (drop_more items k c.loose-item.result c.loop-loose-test.true ∙ ap (λ (x : Loose). x ∷ drop (k + 1) items) (sym c.loose-item.is))
-    c.loop-loose.invariant c.in_ok-cut-2.ensures.cut c.in_ok-cut-2.ensures.within
-
--- all that is loose of what was joined and thinned
 pub keep-requires : goal.keep-requires
-keep-requires c = subst (All (λ (one : Loose). LiesWithin one.part c.args.outer)) (sym (c.in_ok-thinned.ensures.loose ∙ c.in_ok-joined.ensures.loose)) c.loop-loose.invariant.within
+keep-requires c = c.in_ok-thinned.ensures.within c.args.outer c.in_ok-cut.ensures.within
+
+pub returns-clause-split : goal.returns-clause-split
+returns-clause-split c = λ has_inner.
+    let cut = c.in_ok-cut.ensures.same c.args.outer has_inner (λ h has. has) in
+    let thinned = c.in_ok-thinned.ensures.same c.args.outer in
+    let within = c.in_ok-thinned.ensures.within c.args.outer c.in_ok-cut.ensures.within in
+    (λ some. cut.0 (thinned.0 ((c.is_split.ensures c.args.outer within).0 c.if-not-is_split.false)), λ split. refl)
 
 pub returns-clause-same : goal.returns-clause-same
-returns-clause-same c =
-    let items = c.deref-loose-items.result.now in
-    let k = c.loop-loose.loose-index in
-    IfOk-weaker c.keep.result (λ (narrowed : RemnantLists). (removed : HalfBox) → IsSplit narrowed removed ↔ IsSplit c.in_ok-thinned.thinned removed)
-    (λ (narrowed : RemnantLists). (removed : HalfBox) → ((h : Half) → HasHalfIn c.args.inner h → HasHalf removed h) → LiesWithin removed c.args.outer
-    → IsSplit narrowed removed ↔ IsSplit c.args.self.now removed)
-    (λ (narrowed : RemnantLists) same removed has_inner within.
-    let cut = all_cut c.args.inner c.args.outer c.args.self.now (drop k items) c.loop-loose.cut (drop_all k items c.loop-loose-test.false) c.loop-loose.invariant removed
-    (record { has_inner = has_inner; within = within }) in
-    let joined = c.in_ok-joined.ensures.same removed in
+returns-clause-same c = λ removed has_inner within.
+    let cut = c.in_ok-cut.ensures.same removed has_inner within in
     let thinned = c.in_ok-thinned.ensures.same removed in
-    let kept = same removed in
-    (λ s. cut.1 (joined.0 (thinned.0 (kept.0 s))), λ s. kept.1 (thinned.1 (joined.1 (cut.0 s))))) c.keep.ensures.same
+    let kept = c.in_ok-kept.ensures.same removed in
+    (λ s. cut.0 (thinned.0 (kept.0 s)), λ s. kept.1 (thinned.1 (cut.1 s)))
 
 pub returns-clause-within : goal.returns-clause-within
 returns-clause-within c =
-    IfOk-weaker c.keep.result (λ (narrowed : RemnantLists). narrowed.loose ≡ c.in_ok-thinned.thinned.loose) (λ (narrowed : RemnantLists). IsLooseWithin narrowed c.args.outer)
-    (λ (narrowed : RemnantLists) same. subst (All (λ (one : Loose). LiesWithin one.part c.args.outer))
-    (sym (same ∙ c.in_ok-thinned.ensures.loose ∙ c.in_ok-joined.ensures.loose)) c.loop-loose.invariant.within) c.keep.ensures.loose
+    subst (All (λ (one : Loose). LiesWithin one.part c.args.outer)) (sym c.in_ok-kept.ensures.loose) (c.in_ok-thinned.ensures.within c.args.outer c.in_ok-cut.ensures.within)

@@ -9,7 +9,7 @@ use Rattle.remnants.proofs.PieceLaws.{island_boxes}
 use Rattle.remnants.proofs.remnant.Remnant.whole.Goals as goal
 
 pub new-requires : goal.new-requires
-new-requires c = rw (c.new-fixed.ensures.items, c.new-marks.ensures.items) (none_joined c.in_ok-loose.loose.items c.in_ok-terminals.terminals.items)
+new-requires c = rw (c.new-fixed.ensures.items, c.none-marks.ensures) (none_joined c.in_ok-loose.loose.items c.in_ok-terminals.terminals.items)
 
 pub returns : goal.returns
 returns c =
@@ -19,7 +19,7 @@ returns c =
     let second = rw c.as_slice-anchors.ensures at c.in_ok-loose.ensures in
     let boxes = island_boxes island c.in_ok-pieces.pieces.items c.in_ok-loose.loose.items first second in
     let all = rw c.as_slice-anchors.ensures at c.in_ok-terminals.ensures in
-    let made = rw (c.new-fixed.ensures.items, c.new-marks.ensures.items) at c.new.ensures in
+    let made = rw (c.new-fixed.ensures.items, c.none-marks.ensures) at c.new.ensures in
     subst (λ (r : RemnantLists). (removed : HalfBox) → IsSplit r removed ↔ IsSevered c.args.island.now (HasHalf removed)) (sym made)
     (subst (λ (i : IslandLists). (removed : HalfBox) → IsSplit
     (record { fixed = []; loose = c.in_ok-loose.loose.items; marks = []; terminals = c.in_ok-terminals.terminals.items }) removed ↔ IsSevered i (HasHalf removed))
