@@ -36,7 +36,7 @@ is_cell rect cell left right bottom top c = (
 -- ---- list by list
 
 -- what is among the items so far of a list, and one more
-among_more : {X : Type 0} (xs : List X) (i : ℕ) (x : X) → i < length xs → x ≡ get_or xs i x → (y : X) → Contains (take (i + 1) xs) y ↔ (Contains (take i xs) y ⊎ (x ≡ y))
+pub among_more : {X : Type 0} (xs : List X) (i : ℕ) (x : X) → i < length xs → x ≡ get_or xs i x → (y : X) → Contains (take (i + 1) xs) y ↔ (Contains (take i xs) y ⊎ (x ≡ y))
 among_more xs i x small is y = (
   λ among. elim (Contains-take_cases xs i x y small among) [ inl before ↦ inl before | inr last ↦ inr (is ∙ last) ],
   λ h. subst (λ ys. Contains ys y) (sym (taken_more xs i x small is)) (elim h [
@@ -177,7 +177,7 @@ has_first [] some = absurd (some refl)
 has_first (x ∷ xs) some = omega arith
 
 -- of the hulls of spots one is that of each
-hull_among : (spots : List Spot) (boxes : List HalfBox) → AllZip (λ (spot : Spot). IsHullOf spot.rects) spots boxes → (spot : Spot) → Contains spots spot → HasHullOf boxes spot.rects
+pub hull_among : (spots : List Spot) (boxes : List HalfBox) → AllZip (λ (spot : Spot). IsHullOf spot.rects) spots boxes → (spot : Spot) → Contains spots spot → HasHullOf boxes spot.rects
 hull_among [] boxes hulls spot among = absurd (Contains-none among)
 hull_among (first ∷ spots) [] hulls spot among = absurd hulls
 hull_among (first ∷ spots) (one ∷ boxes) hulls spot among = elim (Contains-cons_cases first spots spot among) [

@@ -1,6 +1,6 @@
 -- the places at which defects change, by halves that are rounded down
-use Rattle.std.proofs.Common.{refl, ℕ, ◌≤◌, ◌≡◌, sym, ap, ◌∙◌, subst, length, take, take_all, get_or, ◌+◌, ◌<◌, List, [], ◌∷◌, ◌++◌, arith, inl, inr, ◌⊎◌, ℤ, pos, ◌+ℤ◌, ◌-ℤ◌, ◌≤ℤ◌, ◌<ℤ◌, Contains, ◌/◌, Some, slice_get, to_z, of_z, w32}
-use Rattle.lists.proofs.Words.{ints, All-push, All-nil, IsPermutation, Contains-permutation, Contains-append_left, Contains-push, IsSorted, int_cmp, slice_get_read}
+use Rattle.std.proofs.Common.{refl, ℕ, ◌≤◌, ◌≡◌, sym, ap, ◌∙◌, subst, length, take, take_all, get_or, ◌+◌, ◌<◌, List, [], ◌∷◌, ◌++◌, arith, inl, inr, ◌⊎◌, ℤ, pos, ◌-ℤ◌, ◌≤ℤ◌, ◌<ℤ◌, ◌↔◌, Contains, ◌/◌, Some, slice_get, to_z, of_z, w32}
+use Rattle.lists.proofs.Words.{by_lt_z, ints, All-push, All-nil, IsPermutation, Contains-permutation, Contains-append_left, Contains-push, IsSorted, int_cmp, slice_get_read}
 use Rattle.std.proofs.lemmas.List.Sorted.{All-permutation}
 use Rattle.lists.proofs.Containing.{Contains-head, Contains-none, Contains-one, Contains-take_cases}
 use Rattle.geo_core.specs.Plane.{low_along, high_along}
@@ -12,16 +12,27 @@ use Rattle.geo_core.specs.declared.plane.Rect.{Rect}
 use Rattle.half_boxes.specs.declared.boxes.HalfBox.{HalfBox}
 use Rattle.severing.specs.Changes.{ChangesAt, IsChange, Passes, Reaches}
 use Rattle.half_boxes.specs.HalfBoxes.{span_along}
+use Rattle.open_grid.specs.inside.Wires.{high_end, low_end}
 use Rattle.open_grid.specs.inside.ZoneSteps.{AreChanges, GainsChanges, GainsPlace, IsInsideAlong, IsMiddleChange}
 use Rattle.open_grid.specs.declared.looked.Looked.{Looked}
 
 -- ---- one edge
 
-pub reaching_at : (edge half x : ℤ) (side : ℕ) → (half +ℤ half) ≤ℤ (edge -ℤ pos side) → (edge -ℤ pos side) ≤ℤ (half +ℤ half +ℤ pos 1) → Reaches edge side x → x ≡ half
-reaching_at edge half x side low high r = let a = r.now in let b = r.not_before in omega (arith, ints)
+pub reaching_at : (edge place : ℤ) (side : ℕ) → ((x : ℤ) → (place ≤ℤ x) ↔ (edge ≤ℤ high_end x side)) → (x : ℤ) → Reaches edge side x → x ≡ place
+reaching_at edge place side from x r =
+    let a = r.now in let b = r.not_before in
+    let here : place ≤ℤ x = (from x).1 a in
+    by_lt_z place x
+    (λ l. let before : edge ≤ℤ high_end (x -ℤ pos 1) side = (from (x -ℤ pos 1)).0 (omega (arith, ints)) in absurd (omega (arith, ints)))
+    (λ l. omega (arith, ints))
 
-pub passing_at : (edge half x : ℤ) (side : ℕ) → (half +ℤ half) ≤ℤ (edge +ℤ pos side -ℤ pos 1) → (edge +ℤ pos side -ℤ pos 1) ≤ℤ (half +ℤ half +ℤ pos 1) → Passes edge side x → x ≡ half +ℤ pos 1
-passing_at edge half x side low high r = let a = r.now in let b = r.not_before in omega (arith, ints)
+pub passing_at : (edge place : ℤ) (side : ℕ) → ((x : ℤ) → (place ≤ℤ x) ↔ (edge <ℤ low_end x side)) → (x : ℤ) → Passes edge side x → x ≡ place
+passing_at edge place side from x r =
+    let a = r.now in let b = r.not_before in
+    let here : place ≤ℤ x = (from x).1 a in
+    by_lt_z place x
+    (λ l. let before : edge <ℤ low_end (x -ℤ pos 1) side = (from (x -ℤ pos 1)).0 (omega (arith, ints)) in absurd (omega (arith, ints)))
+    (λ l. omega (arith, ints))
 
 -- what is said of numbers as they were read and given back, is said of the numbers
 pub as_read : (P : ℤ → ℤ → Type 0) (edge low result same other : ℤ) → low ≡ edge → same ≡ low → other ≡ result → ((x : ℤ) → P same x → x ≡ result) → (x : ℤ) → P edge x → x ≡ other

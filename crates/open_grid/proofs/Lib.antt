@@ -10,3 +10,8 @@ pub mod BoxLaws
 pub mod PartingLaws
 pub mod EachLaws
 pub mod CountingLaws
+pub mod WireLaws
+pub mod HullLaws
+pub mod SpotLaws
+pub mod ExtentLaws
+pub mod WireCellLaws

@@ -13,6 +13,7 @@ use Rattle.fault_model.proofs.TallyLaws.{Tally-same}
 use Rattle.fault_model.specs.IslandLists.{IsAnchoredIsland}
 use Rattle.geo_core.specs.declared.bounds.TheConstants.{GREATEST_SIDE}
 use Rattle.severing.specs.Severing.{IsSevered, IsSomeOpen}
+use Rattle.open_grid.specs.inside.Wires.{HaveSeveringCells}
 use Rattle.open_grid.specs.inside.ZoneNeeds.{HaveOpenCells}
 use Rattle.open_grid.specs.inside.ZoneSteps.{IsToldOf}
 use Rattle.open_grid.specs.declared.looked.Told.TheVariants.{Never, Always}
@@ -64,6 +65,14 @@ module _ (law : DefectsSeverIslands) where
         (h.0, record { island = s.island; among = s.among; is_open = (law s.island side c (All-contains IsAnchoredIsland islands s.island sound s.among)).1 s.severed }),
     λ h. let o = h.1 in
         (are c).1 (h.0, record { island = o.island; among = o.among; severed = (law o.island side c (All-contains IsAnchoredIsland islands o.island sound o.among)).0 o.is_open }),
+  )
+
+  -- and those of one island
+  pub open_cells_of_one : (island : IslandLists) (window : Rect) (side : ℕ) (rects : List Rect) → IsAnchoredIsland island → HaveSeveringCells island side window rects
+      → (c : Cell) → IsInUnion rects c ↔ (Has window c × IsIslandOpen island side c)
+  open_cells_of_one island window side rects sound are c = (
+    λ u. let h = (are c).0 u in (h.0, (law island side c sound).1 h.1),
+    λ h. (are c).1 (h.0, (law island side c sound).0 h.1),
   )
 
 -- rectangles with those cells of a window count them

@@ -1,3 +1,4 @@
 pub mod ZoneNeeds
 pub mod ZoneCounts
 pub mod ZoneSteps
+pub mod Wires

@@ -8,7 +8,9 @@ ghost use Rattle.geo_core.specs.declared.bounds.TheConstants.{GREATEST_SIDE};
 ghost use Rattle.open_grid.specs.RingCounts.{IsSomeRingMany};
 ghost use Rattle.severing.specs.Severing.{IsSomeOpen};
 
+use super::boxes::anchor_boxes;
 use super::looked::look;
+use super::wires::{cells_of_wire, wire_of};
 use super::zones::open_parts;
 use fault_model::Island;
 use geo_core::Rect;
@@ -34,8 +36,12 @@ pub fn open_cells(
     ensures { IfOk result (λ rects. (c : Cell) →
         IsInUnion rects.items c ↔ (Has window c × IsSomeOpen islands.now side c)) }
 {
-    let mut searches = 0;
-    counted_cells(alloc, islands, window, side, &mut searches)
+    let mut cells = Vec::new(alloc);
+    for island in islands {
+        let found = open_cells_of(alloc, island, window, side)?;
+        cells.extend_from_slice(&found)?;
+    }
+    Ok(cells)
 }
 
 /// The same cells, with a count of the zones that were found to have a ring with more than one arc of an island.
@@ -62,7 +68,7 @@ fn counted_cells(
 }
 
 /// The cells of the window that are the centre of a defect of this side that parts two anchors of this island, as rectangles in no
-/// order. The one error is that no memory is left.
+/// order. Of an island of one rectangle they are known without zones. The one error is that no memory is left.
 pub fn open_cells_of(
     alloc: Global,
     island: &Island,
@@ -74,12 +80,17 @@ pub fn open_cells_of(
     ensures { IfOk result (λ rects. (c : Cell) →
         IsInUnion rects.items c ↔ (Has window c × IsIslandOpen island.now side c)) }
 {
+    defects_sever_islands();
+    if let Some(wire) = wire_of(island) {
+        let hulls = anchor_boxes(alloc, island)?;
+        return cells_of_wire(alloc, wire, hulls.as_slice(), window, side);
+    }
     let mut searches = 0;
     cells_of_island(alloc, island, window, side, &mut searches)
 }
 
-/// The cells at which a defect parts two anchors of this island, with the same count. Islands are looked at one by one, since what
-/// one needs to know of a zone is the same beside any others, and most zones meet few.
+/// The same cells by zones, with the same count. Islands are looked at one by one, since what one needs to know of a zone is the
+/// same beside any others, and most zones meet few.
 fn cells_of_island(
     alloc: Global,
     island: &Island,
@@ -114,11 +125,11 @@ pub fn open_area(
     // No edge of a window is further than 1,001,000,000 from 0.
     ensures small { IfOk result (λ n. n < 2 ^ 63) }
 {
-    let mut searches = 0;
-    open_area_counted(alloc, islands, window, side, &mut searches)
+    let rects = open_cells(alloc, islands, window, side)?;
+    union_area(alloc, &rects, window)
 }
 
-/// The same area, with a count of searches that goes on from what `searches` is and never falls. Where it rises, the ring round
+/// The same area by zones of each island, with a count of searches that goes on from what `searches` is and never falls. Where it rises, the ring round
 /// a defect at some cell of the window has two or more arcs of an island (`ring` would answer `Many`); by how much it rises, and
 /// which cells it counts, no clause says. It stays at `u64::MAX` once it is there.
 ///

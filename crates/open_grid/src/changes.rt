@@ -1,10 +1,10 @@
 //! The places at which a defect that moves along an axis comes to an edge, or past it.
 
-ghost use Rattle.std.specs.Prelude.{ℤ, pos, negsuc, [], ◌∷◌, ◌≡◌, ◌+ℤ◌, ◌≤ℤ◌, ◌≤◌, IfOk, IsSorted, OnOk};
+ghost use Rattle.std.specs.Prelude.{ℤ, pos, negsuc, [], ◌∷◌, ◌≡◌, ◌+ℤ◌, ◌≤ℤ◌, ◌<ℤ◌, ◌≤◌, ◌↔◌, IfOk, IsSorted, OnOk};
 ghost use Rattle.std.specs.Ordering.{int_cmp};
 ghost use Rattle.geo_core.specs.declared.bounds.TheConstants.{GREATEST_SIDE};
 ghost use Rattle.half_boxes.specs.HalfBoxes.{span_along as span_of};
-ghost use Rattle.severing.specs.Changes.{Passes, Reaches};
+ghost use Rattle.open_grid.specs.inside.Wires.{high_end, low_end};
 ghost use Rattle.open_grid.specs.inside.ZoneSteps.{AreChanges, GainsChanges, GainsPlace};
 
 use super::looked::Looked;
@@ -26,22 +26,22 @@ fn half_below(number: i32) -> i32
 }
 
 /// The place from which on the high end of the defect is at the edge or past it.
-fn first_reaching(edge: i32, side: u32) -> i32
+pub fn first_reaching(edge: i32, side: u32) -> i32
     requires low { negsuc 2004000000 ≤ℤ edge }
     requires high { edge ≤ℤ pos 2004000001 }
     requires few { side ≤ GREATEST_SIDE }
-    ensures { (x : ℤ) → Reaches edge side x → x ≡ result }
+    ensures { (x : ℤ) → (result ≤ℤ x) ↔ (edge ≤ℤ high_end x side) }
 {
     half_below(edge - side as i32)
 }
 
 /// The place from which on the low end of the defect is past the edge.
-fn first_passing(edge: i32, side: u32) -> i32
+pub fn first_passing(edge: i32, side: u32) -> i32
     requires low { negsuc 2004000000 ≤ℤ edge }
     requires high { edge ≤ℤ pos 2004000001 }
     requires some { 1 ≤ side }
     requires few { side ≤ GREATEST_SIDE }
-    ensures { (x : ℤ) → Passes edge side x → x ≡ result }
+    ensures { (x : ℤ) → (result ≤ℤ x) ↔ (edge <ℤ low_end x side) }
 {
     half_below(edge + (side as i32 - 1)) + 1
 }

@@ -17,6 +17,10 @@
 //! 4. Else the zone is halved at the middle one of the changes along an axis: that along which more boxes have half
 //!    squares that some defects have and others do not, or else that with more changes.
 //!
+//! An island of one rectangle, as most are, needs no zones: what a defect leaves of a rectangle is joined, unless the defect leads
+//! across it. So two anchors are parted exactly where the defect has all of a spot, or leads across with nothing of one spot
+//! behind it and nothing of one before it, and each of these is a rectangle of cells.
+//!
 //! A zone for which no island is left has no rectangle. That reach and core answer for the defects between them is a
 //! law of `severing`: the removal of more parts more. Which zones are looked at changes the time alone.
 //!
@@ -33,10 +37,12 @@ pub mod areas;
 mod boxes;
 mod changes;
 mod covering;
+mod extents;
 mod looked;
 mod parting;
 mod steps;
 mod stretching;
+mod wires;
 mod zones;
 
 pub use areas::{open_area, open_area_counted, open_cells, open_cells_of};

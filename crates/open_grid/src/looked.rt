@@ -60,16 +60,20 @@ pub fn look_at(alloc: Global, looked: &Looked, zone: Rect, side: u32) -> Result<
     ensures told { (island : IslandLists) → StandsFor zone side looked.now island → IfOk result (IsToldOf zone side island) }
     ensures at_once { IfOk result (IsToldAtOnce zone) }
 {
-    let outer = reach_of(zone, side);
-    let inner = core_of(zone, side);
-    let remnant = looked.remnant.narrow(alloc, inner, outer)?;
     boxes_and_defects_sever();
-    if !remnant.is_split(alloc)? {
+    let outer = reach_of(zone, side);
+    if is_single(zone) {
+        let split = looked.remnant.is_split_by(alloc, outer)?;
+        if split {
+            return Ok(Told::Always);
+        }
         return Ok(Told::Never);
     }
-    if is_single(zone) {
-        return Ok(Told::Always);
-    }
+    let inner = core_of(zone, side);
+    let narrowed = looked.remnant.narrow(alloc, inner, outer)?;
+    let Some(remnant) = narrowed else {
+        return Ok(Told::Never);
+    };
     if is_split_without(alloc, &remnant, inner)? {
         return Ok(Told::Always);
     }
@@ -93,7 +97,7 @@ fn is_split_without(
     let Some(core) = core else {
         return Ok(false);
     };
-    remnant.narrow(alloc, Some(core), core)?.is_split(alloc)
+    remnant.is_split_by(alloc, core)
 }
 
 /// The boxes of the list that may matter to a zone whose defects reach so far and have all of this core.
