@@ -16,9 +16,9 @@ use Rattle.open_grid.proofs.laws.GatheredLaws.{gathered}
 use Rattle.tile_plan.specs.Kept.{AreKept, all_seen, kept, dropped}
 use Rattle.tile_plan.specs.Near.{AreNear}
 use Rattle.tile_plan.proofs.laws.SeamLaws.{exactly_near}
-use Rattle.critical_areas.specs.Hulls.{IsRound}
+use Rattle.critical_areas.specs.RoundPieces.{IsRound}
 use Rattle.critical_areas.proofs.laws.NearIslandLaws.{far_parts_none}
-use Rattle.critical_areas.specs.inside.Islands.{AreFirstApart, IsOneOpen, IsRoundIsland}
+use Rattle.critical_areas.specs.inside.IslandsApart.{AreFirstApart, IsOneOpen, IsRoundIsland}
 
 -- the rectangle round an island, its number, and the numbers of several
 abbrev round_rect : Labelled → Rect

@@ -4,7 +4,7 @@ pub mod FaultKinds
 pub mod LayerParts
 pub mod AreaParts
 pub mod AskedCounts
-pub mod Hulls
+pub mod RoundPieces
 pub mod Rows
 -- what only this crate's proofs and private contracts cite
 pub mod inside

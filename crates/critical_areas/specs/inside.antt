@@ -1,6 +1,6 @@
 pub mod LayoutBounds
 pub mod Work
-pub mod Islands
+pub mod IslandsApart
 pub mod Indexes
 pub mod Lengthening
 pub mod CountedRows

@@ -2,7 +2,7 @@ ghost use Rattle.std.specs.Prelude.{◌≤◌, ◌<◌, ◌^◌, IfOk, All, leng
 ghost use Rattle.fault_model.specs.Areas.{cells_of, cells_of_window};
 ghost use Rattle.critical_areas.specs.AskedCounts.{AreCounted};
 
-use super::edges::sensible_plan;
+use super::edges::{sensible_plan, shared_edge};
 use super::parts::Asked;
 use super::sharing::Sharing;
 use super::tiles::Tiles;
@@ -50,8 +50,9 @@ fn amounts_over<G: Gate + Sync>(
     ensures { IfOk result (λ amounts.
         AreCounted asked.entry.parts.now (cells_of window) asked.entry.questions.now amounts.items) }
 {
-    let plan = sensible_plan(asked, window, sharing.edge);
-    let tiles = Tiles::new(alloc, asked, plan)?;
+    let edge = shared_edge(asked.parts, window, sharing.edge, sharing.workers);
+    let plan = sensible_plan(asked, window, edge);
+    let tiles = Tiles::new(alloc, asked, plan, sharing.workers)?;
     let slots = asked.questions.len() as u32;
     let draws = u64::from(sharing.workers) * (plan.count() + 1);
     let (board, mut hand) = Board::new(alloc, plan.count(), slots, plan.cap(), draws)?;

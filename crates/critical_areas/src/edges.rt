@@ -2,8 +2,10 @@ ghost use Rattle.std.specs.Prelude.{◌≡◌, ◌≤◌, length};
 ghost use Rattle.questions.specs.Questions.{IsAskable};
 ghost use Rattle.critical_areas.specs.inside.Lengthening.{IsDoubled};
 
+use super::apart::boxes_of;
 use super::parts::{Asked, Parts};
 use super::sizes::reach_of_side;
+use fault_model::Island;
 use geo_core::Rect;
 use questions::{Kind, Question};
 use tile_plan::{Rectangular, TilePlan, plan};
@@ -17,6 +19,46 @@ const SPARED_LOOKS: u64 = 100_000;
 /// So many times tiles may ask questions, beside twice for each piece of each question. Where nothing is near, to ask takes about
 /// as long as a look at a piece.
 const SPARED_ASKS: u64 = 1_000_000;
+
+/// Islands have many rectangles, with those of their spots, where all together have so many.
+const MANY_BOXES: usize = 4_000;
+
+/// A window has at least so many tiles along its longer side where workers share islands of many rectangles.
+const SHARED_TILES: u32 = 4;
+
+/// The edge to begin with: the one that is asked for, or a shorter one, so that several workers have some tiles each, where islands
+/// have many rectangles. To look for their opens takes far longer than all else, and a tile is the work of one.
+pub fn shared_edge(parts: &Parts, window: Rect, edge: u32, workers: u32) -> u32
+    requires some { 1 ≤ edge }
+    requires short { edge ≤ 1000000000 }
+    ensures some { 1 ≤ result }
+    ensures short { result ≤ 1000000000 }
+{
+    if workers < 2 || boxes_of_islands(parts) < MANY_BOXES {
+        return edge;
+    }
+    let columns = window.x1.abs_diff(window.x0);
+    let rows = window.y1.abs_diff(window.y0);
+    edge.min(columns.max(rows) / SHARED_TILES + 1)
+}
+
+/// How many rectangles the islands of all metals have, with those of their spots.
+fn boxes_of_islands(parts: &Parts) -> usize {
+    let mut boxes = 0_usize;
+    for islands in parts.islands.as_slice() {
+        boxes = boxes.saturating_add(boxes_of_metal(islands.as_slice()));
+    }
+    boxes
+}
+
+/// How many the islands of one metal have.
+fn boxes_of_metal(islands: &[Island]) -> usize {
+    let mut boxes = 0_usize;
+    for island in islands {
+        boxes = boxes.saturating_add(boxes_of(island));
+    }
+    boxes
+}
 
 /// The tiles of the window to count over. Their edge is the one that is asked for, doubled where tiles would be too many, would
 /// take too many looks at pieces or would ask too often.

@@ -4,7 +4,7 @@ ghost use Rattle.std.specs.List.Sorted.{IsPermutation};
 ghost use Rattle.questions.specs.Questions.{IsAskable};
 ghost use Rattle.questions.specs.declared.kind.Kind.TheVariants.{Open};
 ghost use Rattle.critical_areas.specs.inside.Indexes.{AreOpensIn, AreReordered, HasItsOpens};
-ghost use Rattle.critical_areas.specs.inside.Islands.{AreApart};
+ghost use Rattle.critical_areas.specs.inside.IslandsApart.{AreApart};
 
 use super::apart::{Apart, cells_of_islands};
 use super::edges::greatest_reach;

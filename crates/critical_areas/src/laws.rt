@@ -5,7 +5,7 @@ ghost use Rattle.critical_areas.specs.AreaParts.{ArePartsOf, ArePiecesOf};
 ghost use Rattle.critical_areas.specs.AskedCounts.{AreCounted};
 ghost use Rattle.critical_areas.specs.declared.parts.Parts.{Parts};
 ghost use Rattle.critical_areas.specs.FaultKinds.{IsFault};
-ghost use Rattle.critical_areas.specs.Hulls.{IsRound};
+ghost use Rattle.critical_areas.specs.RoundPieces.{IsRound};
 ghost use Rattle.critical_areas.specs.Rows.{AreAmounts, AreRows};
 ghost use Rattle.fault_model.specs.Faults.{IsCellsOpen, IsShort};
 ghost use Rattle.fault_model.specs.IslandLists.{IslandLists, IsIslandOpen};

@@ -6,8 +6,9 @@
 //! - What all areas need are the pieces of each metal, labelled by their nets, the islands with two terminals or more,
 //!   and the boxes of via clusters (`Parts`). `ArePartsOf` says that these are those of the map, and
 //!   `counts_are_amounts`, a law, that what is counted over them is the tally of the faults of the definitions.
-//! - `sensible_plan` cuts the window into tiles. Their edge is the one that is asked for, or longer: it is doubled
-//!   where tiles would be too many, would look at long pieces too often, or would ask too many questions (`edges`).
+//! - `sensible_plan` cuts the window into tiles. Their edge is the one that is asked for, or shorter where several workers
+//!   would have too few tiles for opens of many rectangles, and it is doubled where tiles would be too many, would look at
+//!   long pieces too often, or would ask too many questions (`edges`).
 //! - The tiles are work to share (`Tiles`): each is a ticket and each question a slot, and the amount of the two is at
 //!   how many cells of the tile a defect does what the question asks for. `tile_work::run_tiles` has this done by
 //!   workers, and `close_sums` gives each slot the sum over all tickets, which is the tally of the window. It does not

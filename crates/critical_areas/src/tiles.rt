@@ -11,7 +11,7 @@ ghost use Rattle.questions.specs.Questions.{IsAskable};
 ghost use Rattle.severing.specs.Severing.{IsSomeOpen};
 ghost use Rattle.short_area.specs.Labels.{TouchesTwoLabels};
 ghost use Rattle.via_clusters.specs.Blocks.{CoversSomeBox};
-ghost use Rattle.critical_areas.specs.inside.Islands.{AreApart, IsOneOpen};
+ghost use Rattle.critical_areas.specs.inside.IslandsApart.{AreApart, IsOneOpen};
 
 use super::apart::{Apart, all_apart, cells_of_islands, numbers_of};
 use super::edges::greatest_reach;
@@ -71,8 +71,13 @@ impl<'a> Model for Tiles<'a> {
 impl<'a> Tiles<'a> {
     ghost use Rattle.critical_areas.specs.AskedCounts.{IsCounted};
 
-    /// The tiles of the plan, with what they are counted from. The only error is that no memory is left.
-    pub fn new(alloc: Global, asked: Asked<'a>, plan: TilePlan) -> Result<Tiles<'a>, NoMemory>
+    /// The tiles of the plan, with what they are counted from, for so many workers. The only error is that no memory is left.
+    pub fn new(
+        alloc: Global,
+        asked: Asked<'a>,
+        plan: TilePlan,
+        workers: u32,
+    ) -> Result<Tiles<'a>, NoMemory>
         ensures { IfOk result (λ tiles. tiles ≡
             record { parts = asked.entry.parts.now; questions = asked.entry.questions.now; plan = plan }) }
     {
@@ -87,7 +92,13 @@ impl<'a> Tiles<'a> {
             });
         }
         let reach = greatest_reach(asked);
-        let islands = all_apart(alloc, asked.parts.islands.as_slice(), reach, plan.edge)?;
+        let islands = all_apart(
+            alloc,
+            asked.parts.islands.as_slice(),
+            reach,
+            plan.edge,
+            workers,
+        )?;
         let opens = opens_of(alloc, asked, &islands, plan.window)?;
         let metals = metals_of(alloc, asked)?;
         let cuts = indexes_of(alloc, asked.parts.cuts.as_slice())?;

@@ -9,7 +9,7 @@ use Rattle.fault_model.specs.FaultNames.{IsInFootprint, IsIslandOpen, IslandList
 use Rattle.fault_model.proofs.UnionLaws.{among_union}
 use Rattle.tile_plan.specs.Near.{IsNearTile}
 use Rattle.tile_plan.proofs.laws.SeamLaws.{hit_is_near}
-use Rattle.critical_areas.specs.Hulls.{IsRound}
+use Rattle.critical_areas.specs.RoundPieces.{IsRound}
 
 module _ (tile hull : Rect) (island : IslandLists) (reach s : ℕ) (c : Cell) (round : IsRound hull island.pieces) (has : Has tile c) (far : s / 2 ≤ reach) (beyond : IsNearTile tile reach hull → ⊥) where
   -- a defect at a cell of the tile has no half square of the island where what is round its pieces is not near

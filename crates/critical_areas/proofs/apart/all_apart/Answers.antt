@@ -1,7 +1,7 @@
 use Rattle.std.proofs.Common.{◌+◌, take, sym, subst}
 use Rattle.lists.proofs.Words.{AllZip}
 use Rattle.lists.proofs.Pairing.{AllZip-more}
-use Rattle.critical_areas.specs.inside.Islands.{AreApart}
+use Rattle.critical_areas.specs.inside.IslandsApart.{AreApart}
 use Rattle.critical_areas.proofs.apart.all_apart.Goals as goal
 
 pub loop-islands-preserved : goal.loop-islands-preserved

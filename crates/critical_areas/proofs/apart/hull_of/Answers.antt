@@ -1,6 +1,6 @@
 use Rattle.std.proofs.Common.{◌≡◌, List, subst, take_all}
 use Rattle.geo_core.specs.declared.plane.Rect.{Rect}
-use Rattle.critical_areas.specs.Hulls.{IsRound}
+use Rattle.critical_areas.specs.RoundPieces.{IsRound}
 use Rattle.critical_areas.proofs.IslandLaws.{round_more}
 use Rattle.critical_areas.proofs.apart.hull_of.Goals as goal
 

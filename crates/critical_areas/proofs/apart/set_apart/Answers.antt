@@ -1,7 +1,7 @@
 use Rattle.std.proofs.Common.{ℕ, ◌+◌, List, length, refl, subst, sym}
 use Rattle.lists.proofs.Words.{IsPermutation, slice_get_read}
 use Rattle.geo_core.specs.declared.plane.Labelled.{Labelled}
-use Rattle.critical_areas.specs.inside.Islands.{AreFirstApart}
+use Rattle.critical_areas.specs.inside.IslandsApart.{AreFirstApart}
 use Rattle.critical_areas.proofs.IslandLaws.{apart_done, apart_permuted, large_more, none_apart_yet, small_more}
 use Rattle.critical_areas.proofs.apart.set_apart.Goals as goal
 use Rattle.critical_areas.proofs.apart.set_apart.Goals.{in-Some+in_ok-push-in-Some, in-None+in_ok-push-in-None}

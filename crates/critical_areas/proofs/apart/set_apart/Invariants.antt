@@ -1,4 +1,4 @@
-use Rattle.critical_areas.specs.inside.Islands.{AreFirstApart}
+use Rattle.critical_areas.specs.inside.IslandsApart.{AreFirstApart}
 use Rattle.critical_areas.proofs.apart.set_apart.Given as goal
 
 abbrev pub invariant-loop-number : goal.invariant-loop-number

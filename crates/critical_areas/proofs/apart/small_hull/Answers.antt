@@ -1,7 +1,7 @@
 use Rattle.std.proofs.Common.{◌∙◌, ◌≡◌, List, ap, subst}
 use Rattle.geo_core.specs.declared.plane.Rect.{Rect}
 use Rattle.fault_model.specs.FaultNames.{IslandLists}
-use Rattle.critical_areas.specs.Hulls.{IsRound}
+use Rattle.critical_areas.specs.RoundPieces.{IsRound}
 use Rattle.critical_areas.proofs.apart.small_hull.Goals as goal
 
 pub returns : goal.returns

@@ -7,7 +7,7 @@ use Rattle.fault_model.specs.FaultNames.{IslandLists}
 use Rattle.questions.specs.Questions.{side_of}
 use Rattle.critical_areas.specs.declared.apart.Apart.{Apart}
 use Rattle.critical_areas.specs.inside.Indexes.{AreOpensIn}
-use Rattle.critical_areas.specs.inside.Islands.{AreApart, IsOneOpen, none_apart}
+use Rattle.critical_areas.specs.inside.IslandsApart.{AreApart, IsOneOpen, none_apart}
 use Rattle.critical_areas.proofs.IndexLaws.{large_read, large_within, list_read, opens_permuted}
 use Rattle.critical_areas.proofs.indexes.opens_for.Goals as goal
 

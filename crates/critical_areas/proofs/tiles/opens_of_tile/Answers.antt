@@ -7,7 +7,7 @@ use Rattle.fault_model.proofs.CellLaws.{Contains-cells_of}
 use Rattle.fault_model.proofs.TallyLaws.{Tally-same}
 use Rattle.severing.specs.Severing.{IsSomeOpen}
 use Rattle.tile_plan.proofs.laws.SeamLaws.{exactly_near, same_cells}
-use Rattle.critical_areas.specs.inside.Islands.{IsOneOpen}
+use Rattle.critical_areas.specs.inside.IslandsApart.{IsOneOpen}
 use Rattle.critical_areas.proofs.IslandLaws.{labels, near_within, tile_opens}
 use Rattle.critical_areas.proofs.tiles.opens_of_tile.Goals as goal
 

@@ -5,7 +5,7 @@ use Rattle.fault_model.specs.FaultNames.{IslandLists}
 use Rattle.geo_core.specs.Bounds.{IsSide}
 use Rattle.questions.specs.Questions.{side_of}
 use Rattle.critical_areas.specs.declared.apart.Apart.{Apart}
-use Rattle.critical_areas.specs.inside.Islands.{IsOneOpen, none_apart}
+use Rattle.critical_areas.specs.inside.IslandsApart.{IsOneOpen, none_apart}
 use Rattle.critical_areas.specs.inside.Work.{Work}
 use Rattle.critical_areas.proofs.IndexLaws.{apart_found, found_at, list_read, opens_at, reordered_at}
 use Rattle.critical_areas.proofs.tiles.Tiles.amount.Goals as goal

@@ -4,7 +4,7 @@ use Rattle.geo_core.specs.declared.plane.Rect.{Rect}
 use Rattle.fault_model.specs.FaultNames.{IslandLists}
 use Rattle.critical_areas.specs.declared.apart.Apart.{Apart}
 use Rattle.critical_areas.specs.inside.Indexes.{HasItsOpens}
-use Rattle.critical_areas.specs.inside.Islands.{AreApart}
+use Rattle.critical_areas.specs.inside.IslandsApart.{AreApart}
 use Rattle.critical_areas.proofs.IndexLaws.{are_indexes, no_indexes}
 use Rattle.critical_areas.proofs.tiles.Tiles.new.Goals as goal
 

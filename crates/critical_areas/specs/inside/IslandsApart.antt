@@ -3,7 +3,7 @@ use Rattle.std.specs.Prelude.{ℕ, List, [], Contains, Some, All, length, map, s
 use Rattle.geo_core.specs.declared.plane.Cell.{Cell}
 use Rattle.geo_core.specs.declared.plane.Labelled.{Labelled}
 use Rattle.fault_model.specs.FaultNames.{IslandLists, IsIslandOpen}
-use Rattle.critical_areas.specs.Hulls.{IsRound}
+use Rattle.critical_areas.specs.RoundPieces.{IsRound}
 use Rattle.critical_areas.specs.declared.apart.Apart.{Apart}
 
 -- a defect of this side at the cell parts two anchors of one of the islands with these numbers
