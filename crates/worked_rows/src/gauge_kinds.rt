@@ -1,5 +1,5 @@
+use gauge_samples::{GaugeKind, Mute, Silent, Tight};
 use gauges::{Gauge, Nonzero, Peak};
-use samples::{GaugeKind, Mute, Silent, Tight};
 use std::alloc::{AllocError, Global};
 
 /// A gauge of this kind, which has seen nothing.

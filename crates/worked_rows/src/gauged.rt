@@ -2,9 +2,10 @@
 
 use super::gauge_kinds::push_kinds;
 use super::runs::{Answer, Failing, Given, RADIUS_3, calm, expect, run_told};
+use gauge_samples::{Counted, GaugeKind};
 use gauges::{Gauge, append_texts};
 use lists::NoMemory;
-use samples::{Counted, GaugeKind, TWO_BARS};
+use samples::TWO_BARS;
 use std::alloc::Global;
 use std::sync::Arc;
 use std::sync::atomic::{AtomicU64, Ordering};

@@ -1,8 +1,8 @@
 use crate::rows::{TWO_METALS, rows_of};
+use gauge_samples::Counted;
 use gauges::{Gauge, append_texts, tell};
 use lists::NoMemory;
 use report::Row;
-use samples::Counted;
 use std::alloc::Global;
 use std::sync::Arc;
 use std::sync::atomic::{AtomicU64, Ordering};

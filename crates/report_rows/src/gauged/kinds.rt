@@ -1,6 +1,6 @@
 use crate::rows::{Said, rows_of};
+use gauge_samples::{GaugeKind, Mute, Silent, Tight};
 use gauges::{Gauge, Nonzero, Peak, append_texts, tell};
-use samples::{GaugeKind, Mute, Silent, Tight};
 use std::alloc::{AllocError, Global};
 
 /// A gauge of this kind, which has seen nothing.

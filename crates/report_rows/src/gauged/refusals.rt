@@ -1,7 +1,7 @@
 use super::kinds::{are_printed, are_told, push_kinds};
 use crate::rows::TWO_METALS;
+use gauge_samples::GaugeKind;
 use gauges::Gauge;
-use samples::GaugeKind;
 use std::alloc::Global;
 
 /// Gauges, whether the rows of two metals are told without a refusal, what the gauges print then, and whether they print it

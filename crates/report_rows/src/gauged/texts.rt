@@ -1,9 +1,9 @@
 use super::kinds::{are_printed, are_told, push_kinds};
 use crate::rows::{GREATEST_AREA, Said, TWO_METALS, rows_of};
+use gauge_samples::GaugeKind;
 use gauges::{Gauge, Nonzero};
 use lists::NoMemory;
 use report::Kind;
-use samples::GaugeKind;
 use std::alloc::Global;
 
 /// Rows that are told in two reports.

@@ -1,5 +1,5 @@
 ghost use Rattle.std.specs.Prelude.{◌≡◌, [], IfOk, codes, string_bytes};
-ghost use Rattle.samples.specs.HostileTexts.{room_line, room_text};
+ghost use Rattle.gauge_samples.specs.HostileTexts.{room_line, room_text};
 
 use gauges::Gauge;
 use lists::NoMemory;

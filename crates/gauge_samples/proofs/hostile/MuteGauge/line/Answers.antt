@@ -1,4 +1,4 @@
-use Rattle.samples.proofs.hostile.MuteGauge.line.Goals as goal
+use Rattle.gauge_samples.proofs.hostile.MuteGauge.line.Goals as goal
 
 -- two letters went out
 pub returns-clause-prefix : goal.returns-clause-prefix
