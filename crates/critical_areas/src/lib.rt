@@ -1,7 +1,7 @@
 //! The critical areas of a layer map over what its layers cover, tile by tile.
 //!
-//! Three parts also stand alone: `prepare` makes once what all areas need, `amounts` counts over any window what
-//! questions ask for, and `rows` puts amounts into the rows of a report.
+//! Four parts also stand alone: `window_of` gives the window, `prepare` makes once what all areas need, `amounts` counts
+//! over any window what questions ask for, and `rows` puts amounts into the rows of a report.
 //!
 //! - What all areas need are the pieces of each metal, labelled by their nets, the islands with two terminals or more,
 //!   and the boxes of via clusters (`Parts`). `ArePartsOf` says that these are those of the map, and
@@ -52,7 +52,7 @@ pub use sharing::Sharing;
 use std::alloc::Global;
 use std::thread::Threads;
 pub use tile_work::{Gate, NoGate};
-use window::{reach, window_of};
+pub use window::{reach, window_of};
 
 /// The rows of the report on what the rectangles cover, of which there is one list for each layer of the map: shorts of
 /// each metal, then opens of each, and then via blocks of each cut, for each size in order.
