@@ -1,1 +1,2 @@
 pub mod HostileTexts
+pub mod PairTexts

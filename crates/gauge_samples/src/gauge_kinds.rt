@@ -12,3 +12,16 @@ pub enum GaugeKind {
     /// It refuses to print.
     Mute,
 }
+
+/// A kind of gauge of pairs: that of the program, and those that no caller should trust.
+#[derive(Clone, Copy)]
+pub enum PairGaugeKind {
+    /// It tells the greatest area.
+    Worst,
+    /// It has room for so many rows.
+    Tight(usize),
+    /// It prints each area.
+    Areas,
+    /// It refuses to print.
+    Mute,
+}

@@ -37,14 +37,14 @@ impl Gauge for Tight {
     }
 
     fn line(&self, into: &mut Vec<u8>) -> Result<(), NoMemory> {
-        let text = text_of(*into.allocator(), self.rows.len(), self.room)?;
+        let text = room_text(*into.allocator(), self.rows.len(), self.room)?;
         into.extend_from_slice(text.as_bytes())?;
         Ok(())
     }
 }
 
 /// The text of a gauge with so much room that has seen so many rows.
-fn text_of(alloc: Global, seen: usize, room: usize) -> Result<String, NoMemory>
+pub fn room_text(alloc: Global, seen: usize, room: usize) -> Result<String, NoMemory>
     ensures { IfOk result (λ text. string_bytes text ≡ room_line seen room) }
 {
     let mut text = String::new(alloc);

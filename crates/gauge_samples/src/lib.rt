@@ -5,7 +5,9 @@
 mod counted;
 mod gauge_kinds;
 mod hostile;
+mod pair_hostile;
 
 pub use counted::Counted;
-pub use gauge_kinds::GaugeKind;
+pub use gauge_kinds::{GaugeKind, PairGaugeKind};
 pub use hostile::{Mute, Silent, Tight};
+pub use pair_hostile::{CountedPairs, MutePairs, PairAreas, TightPairs};

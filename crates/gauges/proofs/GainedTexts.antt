@@ -20,7 +20,7 @@ prefix_behind old mid new front text rest all gained some whole =
     )
 
 -- the texts of all gauges: of those before one, its own, and of those behind it
-pub texts_parted : {Gauge : Type 0} (view : Gauge → GaugeView) (gauges : List Gauge) (i : ℕ) (x : Gauge) → i < length gauges → x ≡ get_or gauges i x
+pub texts_parted : {Gauge Row : Type 0} (view : Gauge → GaugeView Row) (gauges : List Gauge) (i : ℕ) (x : Gauge) → i < length gauges → x ≡ get_or gauges i x
     → texts_of (map view (take i gauges)) ++ (text_of (view x) ++ texts_of (map view (drop (i + 1) gauges))) ≡ texts_of (map view gauges)
 texts_parted view gauges i x more is =
     let behind : drop i gauges ≡ x ∷ drop (i + 1) gauges = drop_more gauges i x more ∙ ap (λ y. y ∷ drop (i + 1) gauges) (sym is) in
@@ -30,7 +30,7 @@ texts_parted view gauges i x more is =
     ∙ ap (λ l. texts_of (map view l)) (take-append-drop i gauges)
 
 -- bytes that gained the texts of the gauges before one, and then its own
-pub texts_next : {Gauge : Type 0} (view : Gauge → GaugeView) (gauges : List Gauge) (i : ℕ) (x : Gauge) (old mid new : List ℕ) → i < length gauges → x ≡ get_or gauges i x
+pub texts_next : {Gauge Row : Type 0} (view : Gauge → GaugeView Row) (gauges : List Gauge) (i : ℕ) (x : Gauge) (old mid new : List ℕ) → i < length gauges → x ≡ get_or gauges i x
     → Gains old mid (texts_of (map view (take i gauges))) → Gains mid new (text_of (view x)) → Gains old new (texts_of (map view (take (i + 1) gauges)))
 texts_next view gauges i x old mid new more is before own =
     let front : List ℕ = texts_of (map view (take i gauges)) in
@@ -39,6 +39,6 @@ texts_next view gauges i x old mid new more is before own =
     ∙ ap (flat_map text_of) (sym (map-append view (take i gauges) (x ∷ []))) ∙ ap (λ l. texts_of (map view l)) (sym (taken_more gauges i x more is)))
 
 -- and those of all, where none is left
-pub texts_whole : {Gauge : Type 0} (view : Gauge → GaugeView) (gauges : List Gauge) (i : ℕ) (old new : List ℕ) → length gauges ≤ i
+pub texts_whole : {Gauge Row : Type 0} (view : Gauge → GaugeView Row) (gauges : List Gauge) (i : ℕ) (old new : List ℕ) → length gauges ≤ i
     → Gains old new (texts_of (map view (take i gauges))) → Gains old new (texts_of (map view gauges))
 texts_whole view gauges i old new all gained = gained ∙ ap (λ l. old ++ texts_of (map view l)) (take_all i gauges all)

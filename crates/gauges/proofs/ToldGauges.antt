@@ -2,16 +2,15 @@
 use Rattle.std.proofs.Common.{ℕ, zero, suc, ◌≡◌, ◌<◌, ◌≤◌, ◌+◌, List, [], ◌∷◌, ◌++◌, length, get_or, take, drop, map, set, refl, sym, ap, ◌∙◌, subst, arith, add-one}
 use Rattle.std.proofs.lemmas.List.{take_more_set, drop-set-lt, take_all, drop_all, drop_more, take-append-drop, append-nil, map-append, drop-set, take-set}
 use Rattle.lists.proofs.Pairing.{AllZip-append, AllZip-push}
-use Rattle.questions.specs.declared.row.Row.{Row}
 use Rattle.gauges.specs.GaugeViews.{GaugeView, IsTold, IsToldPrefix, AreTold, AreToldPrefixes}
 use Rattle.gauges.proofs.laws.Told.{told_prefixes, untold_prefixes}
 
 -- a gauge has been told so many of the rows, from the first one on
-abbrev pub IsToldSome : {Gauge : Type 0} → (Gauge → GaugeView) → List Row → ℕ → Gauge → Gauge → Type 0
+abbrev pub IsToldSome : {Gauge Row : Type 0} → (Gauge → GaugeView Row) → List Row → ℕ → Gauge → Gauge → Type 0
 IsToldSome view rows count old new = IsTold (take count rows) (view old) (view new)
 
 -- the gauges below a number have been told the rows, and the others are as they were
-pub record AreToldBelow {Gauge : Type 0} (view : Gauge → GaugeView) (rows : List Row) (old new : List Gauge) (count : ℕ) : Type 0 where
+pub record AreToldBelow {Gauge Row : Type 0} (view : Gauge → GaugeView Row) (rows : List Row) (old new : List Gauge) (count : ℕ) : Type 0 where
   pub told : AreTold rows (map view (take count old)) (map view (take count new))
   pub others : drop count new ≡ drop count old
 
@@ -29,7 +28,7 @@ module _ {A : Type 0} where
   drop_next [] rest (suc i) x e = cc e
   drop_next (y ∷ items) rest (suc i) x e = drop_next items rest i x e
 
-module _ {Gauge : Type 0} (view : Gauge → GaugeView) (rows : List Row) where
+module _ {Gauge Row : Type 0} (view : Gauge → GaugeView Row) (rows : List Row) where
   pub told_none : (gauges : List Gauge) → AreToldBelow view rows gauges gauges 0
   told_none gauges = record { told = tt; others = refl }
 

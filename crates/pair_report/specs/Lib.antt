@@ -1,0 +1,3 @@
+pub mod PairRows
+pub mod PairReport
+pub mod inside
