@@ -2,3 +2,5 @@ pub mod Sums
 pub mod Gains
 pub mod LabelRuns
 pub mod PairSteps
+pub mod Meetings
+pub mod Beside

@@ -6,6 +6,7 @@ ghost use Rattle.net_pairs.specs.Pairs.{ArePairAreas};
 ghost use Rattle.net_pairs.specs.inside.Gains.{GainsCells, IsInBoth};
 ghost use Rattle.net_pairs.specs.inside.Sums.{HasRoom};
 
+use super::beside::add_few;
 use super::meetings::add_meetings;
 use super::steps::Step;
 use super::sums::PairSums;
@@ -53,6 +54,7 @@ fn add_areas(
 {
     match next_step(alloc, zones.as_slice(), window, hopeless)? {
         Step::Nothing => Ok(()),
+        Step::Few => add_few(alloc, zones.as_slice(), window, sums),
         Step::Two(one, other) => {
             let cells = two_label_area(alloc, zones, window)?;
             sums.add(one, other, cells)

@@ -4,9 +4,10 @@
 //! labels, how many cells lie in zones of both. Each part of the window goes one of these ways (`ways`):
 //!
 //! - Where one label or none is left nothing is added.
-//! - Of few zones, or where a part cannot be halved, rectangles without common cells, *runs*, take the place of each label's
+//! - Of few zones those that meet another label are kept (`beside`).
+//! - Of these, or where a part cannot be halved, rectangles without common cells, *runs*, take the place of each label's
 //!   zones (`runs`). Each two runs that meet have different labels then, and what they have in common is added for the two
-//!   (`meetings`).
+//!   (`meetings`), as soon as they are found (`search`, `sweeps`): no list is made of those that meet.
 //! - Of many zones with two labels and no third, all cells are counted that lie in zones of two labels (`short_area`).
 //! - Where few zones lie over the middle the part is halved.
 //! - Else runs are tried with four looks for each zone, and where these do not suffice the part is halved. Then runs are not
@@ -19,12 +20,15 @@
 #![tactic(auto)]
 
 mod areas;
+mod beside;
 mod laws;
 mod meetings;
 mod places;
 mod runs;
+mod search;
 mod steps;
 mod sums;
+mod sweeps;
 mod ways;
 
 pub use areas::pair_areas;

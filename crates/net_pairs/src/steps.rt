@@ -5,6 +5,8 @@ use geo_core::{Axis, Labelled};
 pub enum Step {
     /// It has zones of one label at most.
     Nothing,
+    /// It has so few zones that each may be looked at with each.
+    Few,
     /// Its zones have these two labels, the lesser one first, and no third.
     Two(usize, usize),
     /// These are the runs of its zones, and what each two of them have in common is to be added.

@@ -67,7 +67,7 @@ fn only_two(zones: &[Labelled]) -> Option<(usize, usize)>
     Some((one, other))
 }
 
-/// What comes next of a window with these zones: nothing, two labels alone, runs that meet, or a place at which to halve it.
+/// What comes next of a window with these zones: nothing, few zones, two labels alone, runs that meet, or a place at which to halve it.
 pub fn next_step(
     alloc: Global,
     zones: &[Labelled],
@@ -81,7 +81,7 @@ pub fn next_step(
     }
     let spread = spread_of(zones, window);
     if spread.is_few() {
-        return Ok(Step::Meet(label_runs(alloc, zones)?));
+        return Ok(Step::Few);
     }
     if let Some((one, other)) = only_two(zones) {
         return Ok(Step::Two(one, other));

@@ -1,6 +1,8 @@
 //! Areas that are counted cell by cell.
 
-use super::pieces::{Area, Piece, have_areas, pieces_of};
+ghost use Rattle.std.specs.Prelude.{◌≤◌};
+
+use super::pieces::{Area, Piece, add, have_areas, pieces_of};
 use geo_core::{Labelled, Rect};
 use std::alloc::Global;
 
@@ -166,4 +168,66 @@ fn agrees_with_a_count_cell_by_cell(rt: HostRuntime) {
     for (number, (labels, table)) in COUNTED.iter().enumerate() {
         assert!(rt; agree(rt.alloc(), labels, table), "case {number}");
     }
+}
+
+/// The next number of a sequence without a pattern.
+fn next(number: u32) -> u32 {
+    number.wrapping_mul(1_103_515_245).wrapping_add(12_345)
+}
+
+/// A number from 0 to before this one.
+fn below(number: u32, end: u32) -> u32
+    ensures { result ≤ end }
+{
+    if end == 0 {
+        return 0;
+    }
+    number / 65_536 % end
+}
+
+/// Pieces of up to 3 cells a side at any place, with so many labels.
+fn scattered(alloc: Global, count: usize, labels: u32, seed: u32) -> Option<Vec<Labelled>> {
+    let mut pieces = Vec::new(alloc);
+    let mut number = seed;
+    for _ in 0..count {
+        number = next(number);
+        let x = below(number, 20) as i32 - 9;
+        number = next(number);
+        let y = below(number, 20) as i32 - 10;
+        number = next(number);
+        let across = below(number, 3) as i32 + 1;
+        number = next(number);
+        let up = below(number, 3) as i32 + 1;
+        number = next(number);
+        let label = below(number, labels) as usize;
+        add(&mut pieces, label, (x, y, x + across, y + up))?;
+    }
+    Some(pieces)
+}
+
+/// Whether the areas of so many scattered pieces with these labels are those that are counted cell by cell.
+fn agree_scattered(alloc: Global, count: usize, labels: &[usize], seed: u32) -> bool {
+    match scattered(alloc, count, labels.len().min(64) as u32, seed) {
+        Some(pieces) => agrees(alloc, labels, pieces.as_slice()),
+        None => false,
+    }
+}
+
+/// Of 50 to 60 pieces many begin in each column, and some zones reach over those of others: so columns are halved, and runs that
+/// begin in one column are told apart by their labels.
+#[test]
+fn scattered_pieces_agree_with_a_count(rt: HostRuntime) {
+    for seed in 1..5 {
+        assert!(rt;
+            agree_scattered(rt.alloc(), 50, &[0, 1, 2, 3, 4], seed),
+            "seed {seed}"
+        );
+    }
+    assert!(rt; agree_scattered(rt.alloc(), 60, &[0, 1, 2, 3, 4, 5, 6, 7, 8, 9, 10, 11], 9));
+}
+
+/// The same of more pieces, which are halved first.
+#[test]
+fn many_scattered_pieces_agree_with_a_count(rt: HostRuntime) {
+    assert!(rt; agree_scattered(rt.alloc(), 120, &[0, 1, 2, 3, 4, 5], 3));
 }

@@ -74,6 +74,12 @@ fn add_two_nets(pieces: &mut Vec<Labelled>, bars: usize) -> Option<()> {
     Some(())
 }
 
+/// The same with one cell more, in a hole between the bars, with a third label.
+fn add_three_nets(pieces: &mut Vec<Labelled>, bars: usize) -> Option<()> {
+    add_two_nets(pieces, bars)?;
+    add(pieces, 9, square(bars / 2, bars / 2))
+}
+
 /// How many pairs there are, and how many cells they have together.
 fn summed(alloc: Global, pieces: &[Labelled], radius: u32) -> Option<(usize, u64)> {
     let areas = areas_of(alloc, pieces, window(), radius)?;
@@ -105,6 +111,13 @@ fn of_two_nets(alloc: Global, bars: usize, radius: u32) -> Option<(usize, u64)> 
     summed(alloc, pieces.as_slice(), radius)
 }
 
+/// The same of two nets that cross, with a third one in a hole.
+fn of_three_nets(alloc: Global, bars: usize, radius: u32) -> Option<(usize, u64)> {
+    let mut pieces = Vec::new(alloc);
+    add_three_nets(&mut pieces, bars)?;
+    summed(alloc, pieces.as_slice(), radius)
+}
+
 /// The same of a mesh with a square in each of its holes.
 fn of_mesh(alloc: Global, bars: usize, radius: u32) -> Option<(usize, u64)> {
     let mut pieces = Vec::new(alloc);
@@ -130,6 +143,19 @@ fn bars_cross(rt: HostRuntime) {
 #[test]
 fn two_nets_cross(rt: HostRuntime) {
     assert!(rt; of_two_nets(rt.alloc(), 100, 1) == Some((1, 90_000)));
+}
+
+/// The same crossings again: the third net is a column and a row away from the nearest zones.
+#[test]
+fn two_nets_cross_beside_a_third(rt: HostRuntime) {
+    assert!(rt; of_three_nets(rt.alloc(), 100, 1) == Some((1, 90_000)));
+}
+
+/// Within a radius of 3 its zone of 7 cells a side has two columns and two rows on each side in common with bars: 7 times 4 cells with
+/// those of each direction. Each crossing has 7 times 7 cells.
+#[test]
+fn a_third_net_meets_both(rt: HostRuntime) {
+    assert!(rt; of_three_nets(rt.alloc(), 100, 3) == Some((3, 490_000 + 28 + 28)));
 }
 
 /// Each square of 7 cells a side has two columns and two rows on each side in common with the mesh: all but 3 times 3 cells.

@@ -7,7 +7,7 @@ use Rattle.geo_core.specs.declared.plane.Rect.{Rect}
 use Rattle.union_area.specs.WindowParts.{IsBetween, IsHalfWay}
 use Rattle.net_pairs.specs.inside.LabelRuns.{AreRunsOf}
 use Rattle.net_pairs.specs.declared.steps.Step.{Step}
-use Rattle.net_pairs.specs.declared.steps.Step.TheVariants.{Nothing, Two, Meet, Halve}
+use Rattle.net_pairs.specs.declared.steps.Step.TheVariants.{Nothing, Few, Two, Meet, Halve}
 
 -- all zones have one label
 abbrev pub HaveOneLabel : List Labelled → Type 0
@@ -24,9 +24,10 @@ pub record IsMiddleCut (window : Rect) (axis : Axis) (place : ℤ) : Type 0 wher
   pub within : IsBetween (low_along axis window) (high_along axis window) place
   pub half_way : IsHalfWay (low_along axis window) (high_along axis window) place
 
--- there is one label, or there are these two, or these are the runs, or the place is one half way
+-- there is one label, or there are few zones, or there are these two labels, or these are the runs, or the place is one half way
 abbrev pub IsStepOf : List Labelled → Rect → Step → Type 0
 IsStepOf zones window Nothing = HaveOneLabel zones
+IsStepOf zones window Few = Unit {0}
 IsStepOf zones window (Two one other) = HaveTwoLabels zones one other
 IsStepOf zones window (Meet runs) = AreRunsOf zones runs.items
 IsStepOf zones window (Halve axis place hopeless) = IsMiddleCut window axis place

@@ -24,6 +24,9 @@ add_areas-requires-in-Halve t c = (
 pub returns-in-Nothing : goal.returns-in-Nothing
 returns-in-Nothing t c = gains_of_one c.args.zones.items c.args.window _ _ (subst HaveOneLabel c.as_slice.ensures.value (rw c.in-Nothing.is at c.in_ok-next_step.ensures)) refl
 
+pub returns-in-Few : goal.returns-in-Few
+returns-in-Few t c = rw c.as_slice-in-Few.ensures.value at c.add_few.ensures
+
 pub returns-in_ok-cells-in-Two : goal.returns-in_ok-cells-in-Two
 returns-in_ok-cells-in-Two t c =
     let two = subst (λ (zones : List Labelled). HaveTwoLabels zones c.in-Two.one c.in-Two.other) c.as_slice.ensures.value (rw c.in-Two.is at c.in_ok-next_step.ensures) in
