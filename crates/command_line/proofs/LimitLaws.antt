@@ -3,7 +3,7 @@ use Rattle.std.proofs.Common.{ℕ, ◌≡◌, List, ap, subst}
 use Rattle.lists.proofs.Words.{props}
 use Rattle.command_line.specs.OptionNames.{Text}
 use Rattle.command_line.specs.RequestLimits.{IsWithin, IsWithinLimits, IsWithinLimits-prop}
-use Rattle.command_line.specs.Requests.{IsNumberOnce, IsNumberOrDefault, as_given, left_out, IsTask, of_one_metal, of_map, of_generator}
+use Rattle.command_line.specs.Requests.{IsNumberOnce, IsNumberOrDefault, as_given, left_out, IsTask, of_one_metal, of_map, of_pairs, of_generator}
 use Rattle.command_line.specs.declared.option_name.OptionName.{OptionName}
 use Rattle.command_line.specs.declared.request.Request.{Request}
 use Rattle.command_line.specs.declared.task.Task.{Task}
@@ -19,6 +19,7 @@ pub task_within : (values : OptionName → List Text) (positions : List Text) (t
 task_within values positions task (of_one_metal p layer datatype radius top) =
     (number_within _ _ _ _ layer, number_within _ _ _ _ datatype, number_within _ _ _ _ radius)
 task_within values positions task (of_map p map top) = tt
+task_within values positions task (of_pairs p map size top) = number_within _ _ _ _ size
 task_within values positions task (of_generator p columns) = number_within _ _ _ _ columns
 
 abbrev RequestFacts : Task × ℕ × ℕ → Type 0

@@ -1,23 +1,23 @@
 -- words that ask for nothing have a cause, and those that are not spelled have one
-use Rattle.std.proofs.Common.{ℕ, ◌≤◌, ◌<◌, List, [], ◌∷◌, ◌++◌, ◌≡◌, ◌≢◌, ap, refl, arith, All, Contains, Some, None, Option, codes, length, lit≤, subst}
+use Rattle.std.proofs.Common.{ℕ, ◌≤◌, ◌<◌, List, [], ◌∷◌, ◌++◌, ◌≡◌, ◌≢◌, ◌∙◌, sym, ap, refl, arith, All, Contains, Some, None, Option, codes, length, lit≤, subst}
 use Rattle.lists.proofs.Containing.{all_of_each}
 use Rattle.first_refusal.specs.Laws.{CannotLack}
 use Rattle.command_line.specs.declared.cause.WordsCause.{WordsCause}
-use Rattle.command_line.specs.declared.cause.WordsCause.TheVariants.{NoWords, NoOption, NoValue, DashedValue, EmptyValue, EmptyLayout, Twice, TwoLayouts, BadNumber, NoLayout, LayoutBesideGenerate, BesideGenerate, BesideMap, Missing, NoMetals}
+use Rattle.command_line.specs.declared.cause.WordsCause.TheVariants.{NoWords, NoOption, NoValue, DashedValue, EmptyValue, EmptyLayout, Twice, TwoLayouts, BadNumber, NoLayout, LayoutBesideGenerate, BesideGenerate, BesideMap, NoMap, BesideTask, Missing, NoMetals}
 use Rattle.command_line.specs.declared.option_name.OptionName.{OptionName}
-use Rattle.command_line.specs.declared.option_name.OptionName.TheVariants.{Map, Top, Tile, Workers, Layer, Datatype, Radius, Generate}
+use Rattle.command_line.specs.declared.option_name.OptionName.TheVariants.{Map, Top, Tile, Workers, Layer, Datatype, Radius, Generate, Pairs}
 use Rattle.command_line.specs.declared.request.Request.{Request}
 use Rattle.command_line.specs.declared.task.Task.{Task}
-use Rattle.command_line.specs.declared.task.Task.TheVariants.{OneMetal, Mapped, Generated}
+use Rattle.command_line.specs.declared.task.Task.TheVariants.{OneMetal, Mapped, Pairs as PairsOf, Generated}
 use Rattle.command_line.specs.inside.Arguments.{HasRead}
 use Rattle.command_line.specs.OptionNames.{Text, range_of}
-use Rattle.command_line.specs.Requests.{Ask, GiveNoOther, HasNoEmptyText, IsNotEmpty, IsNumberOnce, IsNumberOrDefault, as_given as number_given, left_out, IsTask, IsTextIfGiven, of_one_metal, of_map, of_generator, options_for, IsRequestOf, values_of}
+use Rattle.command_line.specs.Requests.{Ask, GiveNoOther, HasNoEmptyText, IsNotEmpty, IsNumberOnce, IsNumberOrDefault, as_given as number_given, left_out, IsTask, IsTextIfGiven, of_one_metal, of_map, of_pairs, of_generator, options_for, IsRequestOf, permitted, values_of}
 use Rattle.command_line.specs.Spelling.{Argument, in_one_word, in_two_words, positional, Given, AreSpelled, IsPlain, name_word, options_in, positions_in, whole_word}
-use Rattle.command_line.specs.WordsCauses.{no_option, no_value, dashed_value, StopFor, IsCauseOf, bad_number, no_layout, layout_beside_generate, beside_generate, beside_map, missing, no_metals, IsCauseIn, empty_value, empty_layout, twice, two_layouts, of_values, IsCause, no_words, not_spelled, as_given, file_options, metal_options}
+use Rattle.command_line.specs.WordsCauses.{no_option, no_value, dashed_value, StopFor, IsCauseOf, bad_number, no_layout, layout_beside_generate, beside_generate, beside_map, no_map, beside_task, missing, no_metals, IsCauseIn, empty_value, empty_layout, twice, two_layouts, of_values, IsCause, no_words, not_spelled, as_given, file_options, metal_options, task_options}
 use Rattle.command_line.proofs.AskLaws.{ask}
 use Rattle.command_line.proofs.LimitLaws.{count_within, task_within}
 use Rattle.command_line.proofs.ReadingLaws.{all_read, argument_read, last_read, nothing_read, stop_for}
-use Rattle.command_line.proofs.TaskLaws.{generated_no_other, mapped_no_other, metal_no_other, one_is_some}
+use Rattle.command_line.proofs.TaskLaws.{generated_no_other, mapped_no_other, metal_no_other, one_is_some, pairs_given, pairs_no_other}
 
 -- what does not hold and cannot fail to hold is contradictory
 either : (P : Type 0) → (P → ⊥) → ((P → ⊥) → ⊥) → ⊥
@@ -138,21 +138,41 @@ module _ (values : OptionName → List Text) (positions : List Text) (few : (nam
     no_columns = empty_unless (values Generate) (λ columns. never (LayoutBesideGenerate layout) (layout_beside_generate at columns))
 
     mapped_there : (map : Text) → values Map ≡ map ∷ [] → ⊥
-    mapped_there map is = let top = text_there Top in with_task (Mapped layout map top.0) (of_map at is top.1) (mapped_no_other values no_columns metals) where
+    mapped_there map is = go (values Pairs) refl where
+      top : (text : Option Text) × IsTextIfGiven (values Top) text
+      top = text_there Top
+
       metals : All (λ name. values name ≡ []) metal_options
       metals = all_of_each (λ name. values name ≡ []) metal_options
           (λ name listed. empty_unless (values name) (λ some. never (BesideMap name) (beside_map (one_is_some (values Map) map is) listed some)))
 
+      no_work : values Pairs ≢ [] → All (λ name. values name ≡ []) permitted
+      no_work asked = all_of_each (λ name. values name ≡ []) permitted (λ name listed. empty_unless (values name)
+          (λ some. never (BesideTask Pairs name) (beside_task (0, omega arith, refl) asked listed some)))
+
+      go : (texts : List Text) → values Pairs ≡ texts → ⊥
+      go [] none = with_task (Mapped layout map top.0) (of_map at is top.1)
+          (mapped_no_other values no_columns metals (all_of_each (λ name. values name ≡ []) task_options
+          (λ name listed. empty_unless (values name) (λ some. pairs_given values name listed some none))))
+      go (text ∷ more) one =
+          let asked : values Pairs ≢ [] = λ none. let s = sym none ∙ one in cc s in
+          once_there Pairs 1 32 refl asked (λ size is_size. with_task (PairsOf layout map top.0 size) (of_pairs at is is_size top.1)
+          (pairs_no_other values no_columns metals (no_work asked)))
+
     metal_there : values Map ≡ [] → ⊥
-    metal_there no_map =
+    metal_there unmapped =
         let top = text_there Top in
         once_there Layer 0 65535 refl (each Layer (0, omega arith, refl)) (λ layer is_layer.
         once_there Datatype 0 65535 refl (each Datatype (1, omega arith, refl)) (λ datatype is_datatype.
         once_there Radius 1 1000000 refl (each Radius (2, omega arith, refl)) (λ radius is_radius.
-        with_task (OneMetal layout layer datatype radius top.0) (of_one_metal at is_layer is_datatype is_radius top.1) (metal_no_other values no_map no_columns)))) where
+        with_task (OneMetal layout layer datatype radius top.0) (of_one_metal at is_layer is_datatype is_radius top.1) (metal_no_other values unmapped no_columns no_task)))) where
+          no_task : All (λ name. values name ≡ []) task_options
+          no_task = all_of_each (λ name. values name ≡ []) task_options
+              (λ name listed. empty_unless (values name) (λ some. never (NoMap name) (no_map unmapped listed some)))
+
           each : (name : OptionName) → Contains metal_options name → values name ≢ []
-          each name listed none = never NoMetals (no_metals no_map no_columns (all_of_each (λ other. values other ≡ []) metal_options (λ other also. empty_unless (values other)
-              (λ some. never (Missing name) (missing no_map no_columns listed none (record { name = other; listed = also; given = some }))))))
+          each name listed none = never NoMetals (no_metals unmapped no_columns (all_of_each (λ other. values other ≡ []) metal_options (λ other also. empty_unless (values other)
+              (λ some. never (Missing name) (missing unmapped no_columns listed none (record { name = other; listed = also; given = some }))))))
 
     named_there : ⊥
     named_there = go (values Map) refl where

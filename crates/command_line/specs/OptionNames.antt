@@ -1,7 +1,7 @@
 -- the options of the command, their names, and the numbers that they take
 use Rattle.std.specs.Prelude.{ℕ, List, Option, Some, None, codes}
 use Rattle.command_line.specs.declared.option_name.OptionName.{OptionName}
-use Rattle.command_line.specs.declared.option_name.OptionName.TheVariants.{Map, Top, Tile, Workers, Layer, Datatype, Radius, Generate}
+use Rattle.command_line.specs.declared.option_name.OptionName.TheVariants.{Map, Top, Tile, Workers, Layer, Datatype, Radius, Generate, Pairs}
 use Rattle.command_line.specs.declared.range.NumberRange.{NumberRange}
 
 -- a text, as its bytes
@@ -18,6 +18,7 @@ name_of Layer = codes "layer"
 name_of Datatype = codes "datatype"
 name_of Radius = codes "radius"
 name_of Generate = codes "generate"
+name_of Pairs = codes "pairs"
 
 -- the numbers that the option takes, where its value is a number
 abbrev pub range_of : OptionName → Option NumberRange
@@ -29,3 +30,4 @@ range_of Layer = Some (record { least = 0; most = 65535 })
 range_of Datatype = Some (record { least = 0; most = 65535 })
 range_of Radius = Some (record { least = 1; most = 1000000 })
 range_of Generate = Some (record { least = 1; most = 500 })
+range_of Pairs = Some (record { least = 1; most = 32 })

@@ -2,10 +2,10 @@
 use Rattle.std.specs.Prelude.{ℕ, Bool, false, List, [], ◌∷◌, ◌≡◌, ◌<◌, All, Option, length, map, filter, option_to_list}
 use Rattle.lists.specs.Words.{list_any, bytes_eq}
 use Rattle.command_line.specs.declared.option_name.OptionName.{OptionName}
-use Rattle.command_line.specs.declared.option_name.OptionName.TheVariants.{Map, Top, Tile, Workers, Layer, Datatype, Radius, Generate}
+use Rattle.command_line.specs.declared.option_name.OptionName.TheVariants.{Map, Top, Tile, Workers, Layer, Datatype, Radius, Generate, Pairs}
 use Rattle.command_line.specs.declared.request.Request.{Request}
 use Rattle.command_line.specs.declared.task.Task.{Task}
-use Rattle.command_line.specs.declared.task.Task.TheVariants.{OneMetal, Mapped, Generated}
+use Rattle.command_line.specs.declared.task.Task.TheVariants.{OneMetal, Mapped, Pairs as PairsOf, Generated}
 use Rattle.command_line.specs.Numbers.{IsNumber}
 use Rattle.command_line.specs.OptionNames.{Text, name_of}
 use Rattle.command_line.specs.Spelling.{Given, AreSpelled}
@@ -32,8 +32,8 @@ pub data IsNumberOrDefault (low high default : ℕ) (values : List Text) : ℕ �
 abbrev pub IsTextIfGiven : List Text → Option Text → Type 0
 IsTextIfGiven values text = values ≡ option_to_list text
 
--- the task of options with these values and of these positional words: the areas of one metal, those of a layer map, or those
--- of a generated layout
+-- the task of options with these values and of these positional words: the areas of one metal, those of a layer map, those of
+-- pairs of nets at one size of a map, or those of a generated layout
 pub data IsTask (values : OptionName → List Text) (positions : List Text) : Task → Type 0 where
   of_one_metal : {layout : Text} {layer datatype radius : ℕ} {top : Option Text}
       → positions ≡ layout ∷ []
@@ -47,22 +47,30 @@ pub data IsTask (values : OptionName → List Text) (positions : List Text) : Ta
       → values Map ≡ map ∷ []
       → IsTextIfGiven (values Top) top
       → IsTask values positions (Mapped layout map top)
+  of_pairs : {layout map : Text} {top : Option Text} {size : ℕ}
+      → positions ≡ layout ∷ []
+      → values Map ≡ map ∷ []
+      → IsNumberOnce 1 32 (values Pairs) size
+      → IsTextIfGiven (values Top) top
+      → IsTask values positions (PairsOf layout map top size)
   of_generator : {columns : ℕ}
       → positions ≡ []
       → IsNumberOnce 1 500 (values Generate) columns
       → IsTask values positions (Generated columns)
 
--- the options that may be given with each task, and those that may with a task on a file
+-- the options that may be given with each task that gives a report, and those that may with such a task on a file
 abbrev pub permitted : List OptionName
 permitted = Tile ∷ Workers ∷ []
 
 abbrev pub permitted_on_files : List OptionName
 permitted_on_files = Top ∷ permitted
 
--- all options that may be given for the task: those that it requires, and those
+-- all options that may be given for the task: those that it requires, and those. A task that gives no report
+-- is not shared out by tiles and workers.
 abbrev pub options_for : Task → List OptionName
 options_for (OneMetal layout layer datatype radius top) = Layer ∷ Datatype ∷ Radius ∷ permitted_on_files
 options_for (Mapped layout map top) = Map ∷ permitted_on_files
+options_for (PairsOf layout map top size) = Map ∷ Pairs ∷ Top ∷ []
 options_for (Generated columns) = Generate ∷ permitted
 
 -- whether the option is one of these

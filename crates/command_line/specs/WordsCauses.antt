@@ -1,13 +1,13 @@
 -- why the words of a command ask for nothing
 use Rattle.std.specs.Prelude.{ℕ, List, [], ◌∷◌, ◌++◌, ◌≡◌, ◌≢◌, ◌<◌, ◌≤◌, All, Contains, Some, codes, flat_map, length}
 use Rattle.command_line.specs.declared.cause.WordsCause.{WordsCause}
-use Rattle.command_line.specs.declared.cause.WordsCause.TheVariants.{NoWords, NoOption, NoValue, DashedValue, EmptyValue, EmptyLayout, Twice, TwoLayouts, BadNumber, NoLayout, LayoutBesideGenerate, BesideGenerate, BesideMap, Missing, NoMetals}
+use Rattle.command_line.specs.declared.cause.WordsCause.TheVariants.{NoWords, NoOption, NoValue, DashedValue, EmptyValue, EmptyLayout, Twice, TwoLayouts, BadNumber, NoLayout, LayoutBesideGenerate, BesideGenerate, BesideMap, NoMap, BesideTask, Missing, NoMetals}
 use Rattle.command_line.specs.declared.option_name.OptionName.{OptionName}
-use Rattle.command_line.specs.declared.option_name.OptionName.TheVariants.{Map, Top, Layer, Datatype, Radius, Generate}
+use Rattle.command_line.specs.declared.option_name.OptionName.TheVariants.{Map, Top, Layer, Datatype, Radius, Generate, Pairs}
 use Rattle.command_line.specs.declared.range.NumberRange.{NumberRange}
 use Rattle.command_line.specs.Numbers.{IsNumber}
 use Rattle.command_line.specs.OptionNames.{Text, range_of}
-use Rattle.command_line.specs.Requests.{values_of}
+use Rattle.command_line.specs.Requests.{permitted, values_of}
 use Rattle.command_line.specs.Spelling.{Argument, Given, AreSpelled, IsClearlySpelled, IsPlain, name_word, whole_word, words_of}
 
 -- ---- words that are not spelled
@@ -36,12 +36,15 @@ pub record StopFor (words : List Text) (cause : WordsCause) : Type 0 where
 
 -- ---- words that are spelled
 
--- the options of one metal, and all that are about files
+-- the options of one metal, those that ask for something other than a report, and all that are about files
 abbrev pub metal_options : List OptionName
 metal_options = Layer ∷ Datatype ∷ Radius ∷ []
 
+abbrev pub task_options : List OptionName
+task_options = Pairs ∷ []
+
 abbrev pub file_options : List OptionName
-file_options = Map ∷ Top ∷ metal_options
+file_options = Map ∷ Top ∷ metal_options ++ task_options
 
 -- one of these options is given
 pub record IsOneGiven (values : OptionName → List Text) (names : List OptionName) : Type 0 where
@@ -57,6 +60,9 @@ pub data IsCauseOf (values : OptionName → List Text) (positions : List Text) :
   layout_beside_generate : {layout : Text} → positions ≡ layout ∷ [] → values Generate ≢ [] → IsCauseOf values positions (LayoutBesideGenerate layout)
   beside_generate : {name : OptionName} → values Generate ≢ [] → Contains file_options name → values name ≢ [] → IsCauseOf values positions (BesideGenerate name)
   beside_map : {name : OptionName} → values Map ≢ [] → Contains metal_options name → values name ≢ [] → IsCauseOf values positions (BesideMap name)
+  no_map : {name : OptionName} → values Map ≡ [] → Contains task_options name → values name ≢ [] → IsCauseOf values positions (NoMap name)
+  beside_task : {asked name : OptionName} → Contains task_options asked → values asked ≢ [] → Contains permitted name → values name ≢ []
+      → IsCauseOf values positions (BesideTask asked name)
   missing : {name : OptionName} → values Map ≡ [] → values Generate ≡ [] → Contains metal_options name → values name ≡ [] → IsOneGiven values metal_options
       → IsCauseOf values positions (Missing name)
   no_metals : values Map ≡ [] → values Generate ≡ [] → All (λ name. values name ≡ []) metal_options → IsCauseOf values positions NoMetals
@@ -94,9 +100,11 @@ order_of NoLayout = 5
 order_of (LayoutBesideGenerate layout) = 6
 order_of (BesideGenerate name) = 7
 order_of (BesideMap name) = 8
-order_of NoMetals = 9
-order_of (Missing name) = 10
-order_of (BadNumber name value) = 11
+order_of (NoMap name) = 9
+order_of (BesideTask asked name) = 10
+order_of NoMetals = 11
+order_of (Missing name) = 12
+order_of (BadNumber name value) = 13
 
 -- none of these causes is of a kind that is told before this one's
 abbrev pub IsOfFirstKind : (WordsCause → Type 0) → WordsCause → Type 0

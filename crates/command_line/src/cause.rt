@@ -33,6 +33,11 @@ pub enum WordsCause {
     BesideGenerate(OptionName),
     /// The option, which is about one metal, is given where a map is named.
     BesideMap(OptionName),
+    /// No map is named, and the option asks for something of a layout and a map.
+    NoMap(OptionName),
+    /// The first option asks for something other than a report, and the second, which is about how the work of a report is shared
+    /// out, is given beside it.
+    BesideTask(OptionName, OptionName),
     /// No map is named, and none of the options of one metal is given.
     NoMetals,
     /// No map is named, and of the options of one metal this is left out while another is given.

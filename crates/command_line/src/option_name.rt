@@ -1,4 +1,4 @@
-use crate::range::{COLUMNS, EDGES, LAYERS, NumberRange, RADII, WORKERS};
+use crate::range::{COLUMNS, EDGES, LAYERS, NumberRange, RADII, SIZES, WORKERS};
 
 /// An option of the command, which takes one text as its value.
 #[derive(Clone, Copy)]
@@ -19,10 +19,12 @@ pub enum OptionName {
     Radius,
     /// `generate`: how many columns a generated layout has.
     Generate,
+    /// `pairs`: the number of the size at which areas are told by pairs of nets.
+    Pairs,
 }
 
 /// All options.
-pub const OPTIONS: [OptionName; 8] = [
+pub const OPTIONS: [OptionName; 9] = [
     OptionName::Map,
     OptionName::Top,
     OptionName::Tile,
@@ -31,6 +33,7 @@ pub const OPTIONS: [OptionName; 8] = [
     OptionName::Datatype,
     OptionName::Radius,
     OptionName::Generate,
+    OptionName::Pairs,
 ];
 
 /// The options of one metal.
@@ -40,13 +43,20 @@ pub const METAL_OPTIONS: [OptionName; 3] = [
     OptionName::Radius,
 ];
 
+/// The options that ask for something other than a report, of a layout and a map. One of them may be given.
+pub const TASK_OPTIONS: [OptionName; 1] = [OptionName::Pairs];
+
+/// The options that are about how the work of a report is shared out, and stand beside no option that asks for something else.
+pub const WORK_OPTIONS: [OptionName; 2] = [OptionName::Tile, OptionName::Workers];
+
 /// The options that are about files, and stand beside no generated layout.
-pub const FILE_OPTIONS: [OptionName; 5] = [
+pub const FILE_OPTIONS: [OptionName; 6] = [
     OptionName::Map,
     OptionName::Top,
     OptionName::Layer,
     OptionName::Datatype,
     OptionName::Radius,
+    OptionName::Pairs,
 ];
 
 impl OptionName {
@@ -67,6 +77,7 @@ impl OptionName {
             OptionName::Datatype => "datatype",
             OptionName::Radius => "radius",
             OptionName::Generate => "generate",
+            OptionName::Pairs => "pairs",
         }
     }
 
@@ -81,6 +92,7 @@ impl OptionName {
             OptionName::Layer | OptionName::Datatype => Some(LAYERS),
             OptionName::Radius => Some(RADII),
             OptionName::Generate => Some(COLUMNS),
+            OptionName::Pairs => Some(SIZES),
         }
     }
 
@@ -98,6 +110,7 @@ impl OptionName {
             "datatype" => Some(OptionName::Datatype),
             "radius" => Some(OptionName::Radius),
             "generate" => Some(OptionName::Generate),
+            "pairs" => Some(OptionName::Pairs),
             _ => None,
         }
     }

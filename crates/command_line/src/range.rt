@@ -33,3 +33,6 @@ pub const COLUMNS: NumberRange = NumberRange {
     least: 1,
     most: 500,
 };
+
+/// Numbers of a map's sizes, counted from 1.
+pub const SIZES: NumberRange = NumberRange { least: 1, most: 32 };

@@ -25,6 +25,17 @@ pub enum Task {
         /// The name of the structure that is analysed, where one is wanted.
         top: Option<Name>,
     },
+    /// The areas of all pairs of nets on each metal of a layer map, for one of its sizes of defects.
+    Pairs {
+        /// The name of the layout's file.
+        layout: Name,
+        /// The name of the layer map's file.
+        map: Name,
+        /// The name of the structure that is analysed, where one is wanted.
+        top: Option<Name>,
+        /// The number of the size among those of the map, counted from 1: from 1 to 32.
+        size: u32,
+    },
     /// The areas of a generated layout, which needs no file, for the sizes of its own layer map.
     Generated {
         /// How many columns the layout has, and how many rows: from 1 to 500.

@@ -5,7 +5,7 @@ ghost use Rattle.command_line.specs.inside.Readings.{AreNumbers, texts_of};
 ghost use Rattle.command_line.specs.inside.WordsRefusals.{HasCause, IsFirstCause, IsOfForm};
 ghost use Rattle.command_line.specs.OptionNames.{range_of};
 ghost use Rattle.command_line.specs.Requests.{Ask, GiveNoOther, IsNumberOnce, IsNumberOrDefault, IsRequestOf, IsTask, IsTextIfGiven, options_for, values_of};
-ghost use Rattle.command_line.specs.WordsCauses.{IsCause, IsCauseOf, IsOfFirstKind, metal_options};
+ghost use Rattle.command_line.specs.WordsCauses.{IsCause, IsCauseOf, IsOfFirstKind, metal_options, task_options};
 ghost use Rattle.command_line.specs.declared.request.Request.{Request};
 
 use crate::arguments::Arguments;
@@ -13,9 +13,9 @@ use crate::cause::{Refusal, WordsCause};
 use crate::fault::WordsFault;
 use crate::name::name_from;
 use crate::number::number;
-use crate::option_name::{FILE_OPTIONS, METAL_OPTIONS, OptionName};
+use crate::option_name::{FILE_OPTIONS, METAL_OPTIONS, OptionName, TASK_OPTIONS, WORK_OPTIONS};
 use crate::parse::{LAYOUT, parse};
-use crate::range::{COLUMNS, EDGES, LAYERS, NumberRange, RADII, WORKERS};
+use crate::range::{COLUMNS, EDGES, LAYERS, NumberRange, RADII, SIZES, WORKERS};
 use crate::request::Request;
 use crate::task::Task;
 use crate::word::Word;
@@ -111,6 +111,7 @@ fn metal_numbers(alloc: Global, matches: &ArgMatches<'_>) -> Result<(u16, u16, u
     requires layout { positions_found matches.now ≢ [] }
     requires no_map { values_found matches.now OptionName.Map ≡ [] }
     requires no_columns { values_found matches.now OptionName.Generate ≡ [] }
+    requires no_task { All (λ name. values_found matches.now name ≡ []) task_options }
     ensures numbers { IfOk result (AreNumbers (values_found matches.now)) }
     ensures cause { IfErr result (HasCause (IsFirstCause (IsCauseOf (values_found matches.now) (positions_found matches.now)))) }
 {
@@ -178,6 +179,40 @@ fn generated_task(alloc: Global, matches: &ArgMatches<'_>) -> Result<Task, Refus
     Ok(Task::Generated { n })
 }
 
+/// The task of these matches on a layout and a map of these names, for the structure of this name where one is wanted.
+fn task_on_map(
+    alloc: Global,
+    matches: &ArgMatches<'_>,
+    layout: Name,
+    map: Name,
+    top: Option<Name>,
+) -> Result<Task, Refusal>
+    requires layout { positions_found matches.now ≡ layout ∷ [] }
+    requires map { values_found matches.now OptionName.Map ≡ map ∷ [] }
+    requires top { IsTextIfGiven (values_found matches.now OptionName.Top) top }
+    requires no_columns { values_found matches.now OptionName.Generate ≡ [] }
+    ensures task { IfOk result (IsTask (values_found matches.now) (positions_found matches.now)) }
+    ensures no_other { IfOk result (λ task. GiveNoOther (values_found matches.now) (options_for task)) }
+    ensures cause { IfErr result (HasCause (IsFirstCause (IsCauseOf (values_found matches.now) (positions_found matches.now)))) }
+{
+    if let Some(name) = first_given(matches, &METAL_OPTIONS) {
+        return Err(Refusal::Words(WordsCause::BesideMap(name)));
+    }
+    let Some(asked) = first_given(matches, &TASK_OPTIONS) else {
+        return Ok(Task::Mapped { layout, map, top });
+    };
+    if let Some(name) = first_given(matches, &WORK_OPTIONS) {
+        return Err(Refusal::Words(WordsCause::BesideTask(asked, name)));
+    }
+    let size = number_of_given(alloc, matches, OptionName::Pairs, SIZES)?;
+    Ok(Task::Pairs {
+        layout,
+        map,
+        top,
+        size,
+    })
+}
+
 /// The task of these matches, in which the layout of this name is named.
 fn task_on(alloc: Global, matches: &ArgMatches<'_>, layout: &str) -> Result<Task, Refusal>
     requires { positions_found matches.now ≡ layout.now ∷ [] }
@@ -192,6 +227,9 @@ fn task_on(alloc: Global, matches: &ArgMatches<'_>, layout: &str) -> Result<Task
     let wanted = text_of(matches, OptionName::Top);
     let top = name_if_given(alloc, wanted)?;
     let Some(map) = text_of(matches, OptionName::Map) else {
+        if let Some(name) = first_given(matches, &TASK_OPTIONS) {
+            return Err(Refusal::Words(WordsCause::NoMap(name)));
+        }
         let numbers = metal_numbers(alloc, matches)?;
         let (layer, datatype, radius) = numbers;
         return Ok(Task::OneMetal {
@@ -202,11 +240,8 @@ fn task_on(alloc: Global, matches: &ArgMatches<'_>, layout: &str) -> Result<Task
             top,
         });
     };
-    if let Some(name) = first_given(matches, &METAL_OPTIONS) {
-        return Err(Refusal::Words(WordsCause::BesideMap(name)));
-    }
     let map = name_from(alloc, map)?;
-    Ok(Task::Mapped { layout, map, top })
+    task_on_map(alloc, matches, layout, map, top)
 }
 
 /// The task of these matches.
@@ -283,11 +318,12 @@ fn read_request(alloc: Global, words: &[Word]) -> Result<Request, Refusal>
 /// |---|---|---|
 /// | one metal | `layer`, `datatype`, `radius` | `top`, `tile`, `workers` |
 /// | layer map | `map` | `top`, `tile`, `workers` |
+/// | pairs of nets | `map`, `pairs` | `top` |
 /// | generated | `generate`, and no layout | `tile`, `workers` |
 ///
 /// No value is empty. `top` is the name of a structure. `layer` and `datatype` are at most 65,535, and `radius` is from 1 to
 /// 1,000,000. `tile` is from 1 to 1,000,000,000, or 65,536 where it is left out, and `workers` from 1 to 64, or 4. `generate` is
-/// from 1 to 500.
+/// from 1 to 500. `pairs` is the number of one of the map's sizes, from 1 to 32; its request has the edge 65,536 and 4 workers.
 pub fn read_words(alloc: Global, words: &[Word]) -> Result<Request, WordsFault>
     ensures request { IfOk result (Ask words.now) }
     ensures usage { result ≡ Err WordsFault.Usage → (request : Request) → Ask words.now request → ⊥ }

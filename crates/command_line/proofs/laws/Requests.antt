@@ -3,11 +3,11 @@ use Rattle.std.proofs.Common.{ℕ, List, ◌≡◌, ◌∙◌, sym, ap, refl, su
 use Rattle.std.specs.Str.Parse.{digits_value}
 use Rattle.first_refusal.specs.Laws.{IsUnique}
 use Rattle.command_line.specs.declared.option_name.OptionName.{OptionName}
-use Rattle.command_line.specs.declared.option_name.OptionName.TheVariants.{Map, Top, Tile, Workers}
+use Rattle.command_line.specs.declared.option_name.OptionName.TheVariants.{Map, Top, Tile, Workers, Pairs}
 use Rattle.command_line.specs.declared.task.Task.{Task}
 use Rattle.command_line.specs.OptionNames.{Text}
 use Rattle.command_line.specs.Spelling.{Given}
-use Rattle.command_line.specs.Requests.{Ask, GiveNoOther, IsNumberOnce, IsNumberOrDefault, IsTextIfGiven, as_given, left_out, IsTask, of_one_metal, of_map, of_generator, options_for, IsRequestOf}
+use Rattle.command_line.specs.Requests.{Ask, GiveNoOther, IsNumberOnce, IsNumberOrDefault, IsTextIfGiven, as_given, left_out, IsTask, of_one_metal, of_map, of_pairs, of_generator, options_for, IsRequestOf}
 use Rattle.command_line.specs.Requests.{values_of}
 use Rattle.command_line.proofs.LimitLaws.{same_request}
 use Rattle.command_line.proofs.SpellingLaws.{spellings_agree}
@@ -54,6 +54,18 @@ module _ (values : OptionName → List Text) (positions : List Text) where
       let mapped : a ≡ b = let s = sym map ∙ also_map in cc s in
       let ta : x ≡ y = text_if_given_is (values Top) x y top also_top in
       cc (named, mapped, ta)
+  task_is one other (of_pairs {layout = l} {map = a} {top = x} {size = n} p map size top) (of_pairs {layout = m} {map = b} {top = y} {size = k} q also_map also_size also_top) g h =
+      let named : l ≡ m = let s = sym p ∙ q in cc s in
+      let mapped : a ≡ b = let s = sym map ∙ also_map in cc s in
+      let ta : x ≡ y = text_if_given_is (values Top) x y top also_top in
+      let sa : n ≡ k = number_is size also_size in
+      cc (named, mapped, ta, sa)
+  task_is one other (of_pairs p map size top) (of_map q also_map also_top) g h = let s = sym (h Pairs refl) ∙ size.once in cc s
+  task_is one other (of_map q also_map also_top) (of_pairs p map size top) g h = let s = sym (g Pairs refl) ∙ size.once in cc s
+  task_is one other (of_pairs p map size top) (of_one_metal q layer datatype radius also_top) g h = let s = sym (h Map refl) ∙ map in cc s
+  task_is one other (of_one_metal q layer datatype radius also_top) (of_pairs p map size top) g h = let s = sym (g Map refl) ∙ map in cc s
+  task_is one other (of_pairs p map size top) (of_generator q columns) g h = let s = sym p ∙ q in cc s
+  task_is one other (of_generator q columns) (of_pairs p map size top) g h = let s = sym p ∙ q in cc s
 
   -- options and positional words ask for one request at most
   request_is : IsUnique (IsRequestOf values positions)

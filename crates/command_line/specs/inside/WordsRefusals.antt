@@ -19,4 +19,4 @@ pub record IsFirstCause (Is : WordsCause → Type 0) (cause : WordsCause) : Type
 
 -- options with these values and these positional words are those of a form: a value that is no number is all that may be wrong
 abbrev pub IsOfForm : (OptionName → List Text) → List Text → Type 0
-IsOfForm values positions = (cause : WordsCause) → IsCauseOf values positions cause → 11 ≤ order_of cause
+IsOfForm values positions = (cause : WordsCause) → IsCauseOf values positions cause → 13 ≤ order_of cause

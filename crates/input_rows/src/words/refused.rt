@@ -36,6 +36,49 @@ const NO_FORM: &[&str] = &[
     "--|--map=m|a",
 ];
 
+/// Words with the option of pairs of nets that fit no form.
+const NO_PAIRS: &[&str] = &[
+    // no map, no layout, or neither
+    "a|--pairs|1",
+    "--pairs|1",
+    "--map|m|--pairs|1",
+    "a|--pairs|1|--top|S",
+    // a tile and workers, also those that are taken where none are given
+    "a|--map|m|--pairs|1|--tile|7",
+    "a|--map|m|--pairs|1|--tile|65536",
+    "a|--map|m|--pairs|1|--workers|2",
+    "a|--map|m|--workers=4|--pairs=1",
+    "a|--map|m|--pairs|1|--tile|7|--workers|2",
+    // the options of one metal, with a map and without one
+    "a|--map|m|--pairs|1|--radius|3",
+    "a|--map|m|--pairs|1|--layer|1",
+    "a|--map|m|--pairs|1|--datatype|0",
+    "a|--map|m|--pairs|1|--layer|1|--datatype|0|--radius|3",
+    "a|--pairs|1|--layer|1|--datatype|0|--radius|3",
+    // a generated layout
+    "--generate|3|--pairs|1",
+    "--generate|3|--map|m|--pairs|1",
+    "a|--generate|3|--map|m|--pairs|1",
+    // given twice, without a value, and shortened
+    "a|--map|m|--pairs|1|--pairs|1",
+    "a|--map|m|--pairs=1|--pairs|2",
+    "a|--map|m|--pairs",
+    "a|--map|m|--pairs|--top|S",
+    "a|--map|m|--pairs=",
+    "a|--map|m|--pair|1",
+    "a|--map|m|--pairs1",
+    // the least number and the greatest are 1 and 32, and a number has at most 10 digits
+    "a|--map|m|--pairs|0",
+    "a|--map|m|--pairs|33",
+    "a|--map|m|--pairs|0000000000",
+    "a|--map|m|--pairs|00000000032",
+    "a|--map|m|--pairs|4294967297",
+    "a|--map|m|--pairs=-1",
+    "a|--map|m|--pairs=+1",
+    "a|--map|m|--pairs|1,2",
+    "a|--map|m|--pairs|all",
+];
+
 /// Words that are no options and no values.
 const NO_OPTION: &[&str] = &[
     "--help",
@@ -148,6 +191,11 @@ const NUMBERS: &[&str] = &[
 #[test]
 fn other_forms_are_refused(rt: HostRuntime) {
     expect_refused(&rt, rt.alloc(), NO_FORM);
+}
+
+#[test]
+fn other_words_with_pairs_are_refused(rt: HostRuntime) {
+    expect_refused(&rt, rt.alloc(), NO_PAIRS);
 }
 
 #[test]

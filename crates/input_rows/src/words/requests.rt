@@ -118,7 +118,32 @@ const MAP_ROWS: &[Row] = &[
     ),
 ];
 
-/// Words of both forms that want a structure.
+/// Words of the form of pairs of nets, which have no tile and no workers of their own.
+const PAIR_ROWS: &[Row] = &[
+    ("a|--map|m|--pairs|1", Asked::Pairs("a", "m", 1), 65_536, 4),
+    ("--pairs=1|--map=m|a", Asked::Pairs("a", "m", 1), 65_536, 4),
+    (
+        "--pairs|32|--map|m|--|a",
+        Asked::Pairs("a", "m", 32),
+        65_536,
+        4,
+    ),
+    // ten digits, most of them zeros in front
+    (
+        "a|--map|m|--pairs|0000000032",
+        Asked::Pairs("a", "m", 32),
+        65_536,
+        4,
+    ),
+    (
+        "pairs|--map|pairs|--pairs=0000000001",
+        Asked::Pairs("pairs", "pairs", 1),
+        65_536,
+        4,
+    ),
+];
+
+/// Words of all forms with files that want a structure.
 const TOP_ROWS: &[TopRow] = &[
     (
         "a|--layer|1|--datatype|0|--radius|3|--top|S",
@@ -148,6 +173,20 @@ const TOP_ROWS: &[TopRow] = &[
         "S",
         7,
         2,
+    ),
+    (
+        "a|--map|m|--pairs|7|--top|S",
+        Asked::Pairs("a", "m", 7),
+        "S",
+        65_536,
+        4,
+    ),
+    (
+        "--top=--pairs=2|--pairs=3|--map=m|a",
+        Asked::Pairs("a", "m", 3),
+        "--pairs=2",
+        65_536,
+        4,
     ),
     ("a|--map|m|--top|S", Asked::Map("a", "m"), "S", 65_536, 4),
     (
@@ -233,6 +272,11 @@ fn a_generated_layout_is_asked_for(rt: HostRuntime) {
 #[test]
 fn a_map_is_asked_for(rt: HostRuntime) {
     expect_asked(&rt, rt.alloc(), MAP_ROWS);
+}
+
+#[test]
+fn pairs_of_nets_are_asked_for(rt: HostRuntime) {
+    expect_asked(&rt, rt.alloc(), PAIR_ROWS);
 }
 
 #[test]

@@ -8,6 +8,8 @@ pub enum Asked<'a> {
     Metal(&'a str, (u16, u16, u32)),
     /// A map: the layout and the map.
     Map(&'a str, &'a str),
+    /// Pairs of nets: the layout, the map and the number of the size.
+    Pairs(&'a str, &'a str, u32),
     /// A generated layout of so many columns.
     Generated(u32),
 }
@@ -51,24 +53,41 @@ fn is_metal(task: &Task, name: &str, numbers: (u16, u16, u32)) -> bool {
             radius,
             ..
         } => layout.as_slice() == name.as_bytes() && (*layer, *datatype, *radius) == numbers,
-        Task::Mapped { .. } | Task::Generated { .. } => false,
+        Task::Mapped { .. } | Task::Pairs { .. } | Task::Generated { .. } => false,
     }
 }
 
 /// Whether the task is that of this layout and this map.
 fn is_mapped(task: &Task, name: &str, map_name: &str) -> bool {
     match task {
-        Task::OneMetal { .. } | Task::Generated { .. } => false,
+        Task::OneMetal { .. } | Task::Pairs { .. } | Task::Generated { .. } => false,
         Task::Mapped { layout, map, .. } => {
             layout.as_slice() == name.as_bytes() && map.as_slice() == map_name.as_bytes()
         }
     }
 }
 
+/// Whether the task is that of pairs of nets of this layout and this map, at the size of this number.
+fn is_of_pairs(task: &Task, name: &str, map_name: &str, number: u32) -> bool {
+    match task {
+        Task::Pairs {
+            layout,
+            map,
+            size,
+            ..
+        } => {
+            layout.as_slice() == name.as_bytes()
+                && map.as_slice() == map_name.as_bytes()
+                && *size == number
+        }
+        Task::OneMetal { .. } | Task::Mapped { .. } | Task::Generated { .. } => false,
+    }
+}
+
 /// Whether the task is a generated layout of so many columns.
 fn is_generated(task: &Task, count: u32) -> bool {
     match task {
-        Task::OneMetal { .. } | Task::Mapped { .. } => false,
+        Task::OneMetal { .. } | Task::Mapped { .. } | Task::Pairs { .. } => false,
         Task::Generated { n } => *n == count,
     }
 }
@@ -78,6 +97,7 @@ fn is_task(task: &Task, asked: &Asked<'_>) -> bool {
     match asked {
         Asked::Metal(layout, numbers) => is_metal(task, layout, *numbers),
         Asked::Map(layout, map) => is_mapped(task, layout, map),
+        Asked::Pairs(layout, map, number) => is_of_pairs(task, layout, map, *number),
         Asked::Generated(columns) => is_generated(task, *columns),
     }
 }
@@ -85,9 +105,9 @@ fn is_task(task: &Task, asked: &Asked<'_>) -> bool {
 /// The name of the structure that the task wants, where it wants one.
 fn top_of(task: &Task) -> Option<&[u8]> {
     match task {
-        Task::OneMetal { top: Some(top), .. } | Task::Mapped { top: Some(top), .. } => {
-            Some(top.as_slice())
-        }
+        Task::OneMetal { top: Some(top), .. }
+        | Task::Mapped { top: Some(top), .. }
+        | Task::Pairs { top: Some(top), .. } => Some(top.as_slice()),
         _ => None,
     }
 }

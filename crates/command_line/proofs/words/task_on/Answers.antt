@@ -1,7 +1,7 @@
 use Rattle.std.proofs.Common.{[], ◌∷◌, ◌∙◌, ap, sym}
 use Rattle.command_line.specs.inside.Command.{positions_found, values_found}
-use Rattle.command_line.proofs.OrderLaws.{beside_map_told, layout_beside_told}
-use Rattle.command_line.proofs.TaskLaws.{map_task, metal_task, one_is_some, one_text}
+use Rattle.command_line.proofs.OrderLaws.{layout_beside_told, no_map_told}
+use Rattle.command_line.proofs.TaskLaws.{metal_task, no_text, one_is_some}
 use Rattle.command_line.proofs.words.task_on.Goals as goal
 
 pub returns-then-is_given-clause-cause : goal.returns-then-is_given-clause-cause
@@ -16,10 +16,5 @@ returns-in_default-clause-task c =
 
 pub returns-in-Some-first_given-clause-cause : goal.returns-in-Some-first_given-clause-cause
 returns-in-Some-first_given-clause-cause c =
-    beside_map_told (values_found c.args.matches.now) (positions_found c.args.matches.now) (one_is_some _ c.args.layout.now c.requires) (rw c.if-is_given.false at c.is_given.ensures)
-    c.in-Some-first_given.name (one_is_some _ c.in-Some.map.now (one_text c.text_of.result _ c.text_of.ensures c.in-Some.map c.in-Some.is)) c.in-Some-first_given.ensures.listed c.in-Some-first_given.ensures.some
-
-pub returns-clause-task : goal.returns-clause-task
-returns-clause-task c =
-    map_task (values_found c.args.matches.now) (positions_found c.args.matches.now) c.args.layout.now c.requires c.in_ok-layout.layout c.in-Some.map.now c.in_ok-map.map c.in_ok-top.top
-    c.in_ok-layout.ensures (one_text c.text_of.result _ c.text_of.ensures c.in-Some.map c.in-Some.is) c.in_ok-map.ensures (sym c.text_of-wanted.ensures ∙ c.in_ok-top.ensures)
+    no_map_told (values_found c.args.matches.now) (positions_found c.args.matches.now) (one_is_some _ c.args.layout.now c.requires) (rw c.if-is_given.false at c.is_given.ensures)
+    (no_text c.text_of.result _ c.text_of.ensures c.in_default.is) c.in-Some-first_given.name c.in-Some-first_given.ensures.listed c.in-Some-first_given.ensures.some
