@@ -1,7 +1,7 @@
 //! The program `critarea`.
 //!
 //! Its words, the files of the system, its standard output and error are handed to a run with the gauges `Peak` and
-//! `Nonzero`.
+//! `Nonzero`, and `Worst` for pairs of nets.
 #![tactic(auto)]
 
 use program::{run_gauged, run_program};

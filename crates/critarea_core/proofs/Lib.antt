@@ -4,4 +4,6 @@ pub mod ReadingLaws
 pub mod TerminalLaws
 pub mod AnalysisLaws
 pub mod StatusLaws
+pub mod AskedLaws
+pub mod PrintLaws
 pub mod RunLaws

@@ -10,19 +10,19 @@ use Rattle.edge_io.specs.ReadAnswers.{ReadsWhole, is_whole, is_too_long, has_no_
 use Rattle.edge_io.specs.declared.whole.ReadError.{ReadError}
 use Rattle.edge_io.specs.declared.whole.ReadError.TheVariants as unread
 use Rattle.command_line.specs.declared.task.Task.{Task}
-use Rattle.command_line.specs.declared.task.Task.TheVariants.{OneMetal, Mapped, Generated}
+use Rattle.command_line.specs.declared.task.Task.TheVariants.{OneMetal, Mapped, Generated, Pairs}
 use Rattle.layer_map.specs.Documents as document
 use Rattle.layer_map.specs.declared.fault.MapFault.{MapFault}
 use Rattle.layer_map.specs.declared.fault.MapFault.TheVariants as map_fault
 use Rattle.layout_gen.specs.Generated.{generated_map}
 use Rattle.map_model.specs.MapNames.{LayerMap, layer_map_of, one_metal_map}
 use Rattle.map_model.specs.declared.map.Map.{Map}
-use Rattle.critarea_core.specs.Contents.{MayContain, MayHave, Source, bytes_from, file}
+use Rattle.critarea_core.specs.Contents.{MayContain, MayHave, Source, bytes_from, file, map_names}
 use Rattle.critarea_core.specs.inside.Finding.{Analyses, Finds, Gives, gives_thing, gives_refusal, FindsInFiles, files_serve, files_fail, IsToldAs, as_memory, as_known}
 use Rattle.critarea_core.specs.inside.Finding.{AreItems, BytesMayCome, IsMapOf, MapMayCome}
 use Rattle.critarea_core.specs.Refusals.{map_limit, map_too_long, of_map_fault}
 use Rattle.critarea_core.specs.Run.{Change, IsCalm, IsUnsureOf, change}
-use Rattle.critarea_core.specs.Verdict.{IsShortEnough, ShortMapComesTo}
+use Rattle.critarea_core.specs.Verdict.{IsShortEnough, MapComesTo, MapTextComesTo, ShortMapComesTo}
 use Rattle.critarea_core.specs.declared.layout_fault.LayoutFault.{LayoutFault}
 use Rattle.critarea_core.specs.declared.layout_fault.LayoutFault.TheVariants.{Memory as LayoutMemory}
 use Rattle.critarea_core.specs.declared.refusal.Refusal.{Refusal}
@@ -198,15 +198,30 @@ generated_is_short : length generated_map ≤ map_limit
 unfolding generated_map
 generated_is_short = lit≤ tt
 
+-- the task's map is the file of this name
+pub record HasMapIn (task : Task) (name : List ℕ) : Type 0 where
+  pub names : map_names task ≡ name ∷ []
+  pub comes : (bytes : List ℕ → List ℕ) (outcome : Outcome LayerMap Refusal) → MapTextComesTo (bytes name) outcome → MapComesTo task bytes outcome
+
+pub mapped_in : (layout name : List ℕ) (top : Option (List ℕ)) → HasMapIn (Mapped layout name top) name
+mapped_in layout name top = record { names = refl; comes = λ bytes outcome comes. comes }
+
+pub pairs_in : (layout name : List ℕ) (top : Option (List ℕ)) (size : ℕ) → HasMapIn (Pairs layout name top size) name
+pairs_in layout name top size = record { names = refl; comes = λ bytes outcome comes. comes }
+
 module _ (told : List ℕ → Option (List ℕ)) where
-  module _ (layout name : List ℕ) (top : Option (List ℕ)) where
+  module _ (task : Task) (name : List ℕ) (in_file : HasMapIn task name) where
     -- the map of a file that has more bytes than it may, and the one that its text says
-    pub refused_text : (refusal : Refusal) → BytesMayCome told (file name) map_limit map_too_long (refused refusal) → MapMayCome told (Mapped layout name top) (refused refusal)
-    refused_text refusal read = record { bytes = read.bytes; may_be = read.may_be; comes = stops read.comes }
+    pub refused_text : (refusal : Refusal) → BytesMayCome told (file name) map_limit map_too_long (refused refusal) → MapMayCome told task (refused refusal)
+    refused_text refusal read = record { bytes = read.bytes; may_be = read.may_be; comes = in_file.comes read.bytes (refused refusal) (stops read.comes) }
 
     pub map_of_file : (text : List ℕ) → BytesMayCome told (file name) map_limit map_too_long (value text) → (outcome : Outcome LayerMap Refusal) → ShortMapComesTo text outcome
-        → MapMayCome told (Mapped layout name top) outcome
-    map_of_file text read outcome comes = record { bytes = read.bytes; may_be = read.may_be; comes = goes_on {v = text} read.comes comes }
+        → MapMayCome told task outcome
+    map_of_file text read outcome comes = record {
+      bytes = read.bytes;
+      may_be = read.may_be;
+      comes = in_file.comes read.bytes outcome (goes_on {v = text} read.comes comes);
+    }
 
   -- the map that goes with a generated layout
   pub map_of_generated : (columns : ℕ) (outcome : Outcome LayerMap Refusal) → ShortMapComesTo generated_map outcome → MapMayCome told (Generated columns) outcome

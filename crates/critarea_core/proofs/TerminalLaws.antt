@@ -1,23 +1,27 @@
--- rows on a subject, where its terminals are on their metals, and the first terminal that is not
+-- rows and pairs on a subject, where its terminals are on their metals, and the first terminal that is not
 use Rattle.std.proofs.Common.{ℕ, ◌≢◌, ◌≤◌, List, length, get_or, refl, sym, ap, subst, Ok, Err, Vec, All}
 use Rattle.lists.proofs.Words.{Global, enumerate_from}
 use Rattle.first_refusal.specs.Answers.{Answers, gives, refuses, no_memory}
-use Rattle.first_refusal.specs.Checks.{all_hold, one_fails}
-use Rattle.first_refusal.specs.Outcomes.{refused}
+use Rattle.first_refusal.specs.Checks.{Checks, all_hold, one_fails}
+use Rattle.first_refusal.specs.Outcomes.{Outcome, refused}
 use Rattle.geo_core.specs.Plane.{IsCoveredIn}
 use Rattle.geo_core.specs.declared.plane.Cell.{Cell}
 use Rattle.geo_core.specs.declared.plane.Rect.{Rect}
 use Rattle.map_model.specs.MapNames.{LayerMap}
 use Rattle.map_model.specs.declared.layer_lists.Layers.{Layers}
-use Rattle.net_extract.specs.Extraction.{IsOnItsMetal}
+use Rattle.net_extract.specs.Extraction.{IsOnItsMetal, off_metal}
 use Rattle.net_extract.specs.declared.fault.NetFault.{NetFault}
 use Rattle.net_extract.specs.declared.fault.NetFault.TheVariants.{Memory}
 use Rattle.questions.specs.declared.row.Row.{Row}
 use Rattle.questions.specs.declared.row.TheConstants.{MOST_ROWS}
 use Rattle.critical_areas.specs.Rows.{ComeToRows}
 use Rattle.critical_areas.proofs.laws.AlikeLaws.{rows_follow}
+use Rattle.map_pairs.specs.PairAreas.{ComeToPairs}
+use Rattle.map_pairs.proofs.laws.AlikeLaws.{pairs_follow}
+use Rattle.pair_report.specs.PairRows.{pair_rows}
+use Rattle.pair_report.specs.declared.tables.PairTables.{PairTables}
 use Rattle.critarea_core.specs.Coverage.{IsCoveredOn}
-use Rattle.critarea_core.specs.inside.Finding.{Analyses, HasRows, gives_thing}
+use Rattle.critarea_core.specs.inside.Finding.{Analyses, HasPairs, HasRows, gives_thing}
 use Rattle.critarea_core.specs.Layout.{Subject, IsTerminalOn, TerminalsComeTo}
 use Rattle.critarea_core.specs.inside.LayoutReaders.{AreLayersFor}
 use Rattle.critarea_core.specs.declared.layout_fault.LayoutFault.TheVariants.{Net}
@@ -39,8 +43,13 @@ module _ (layer_map : LayerMap) (layers : Layers) (subject : Subject) (laid : Ar
     few = few;
   }))
 
-  by_fault : (fault : NetFault) → Answers Memory (ComeToRows subject.layer_map lists) (Err fault) → fault ≢ Memory → TerminalsComeTo subject (refused (Net fault))
-  by_fault fault (refuses (one_fails q)) known = one_fails (record {
+  -- what the lists come to with this map, where terminals are on their metals, and else the fault of the first that is not
+  abbrev pub ComeTo : {T : Type 0} → (LayerMap → T → Type 0) → LayerMap → Outcome T NetFault → Type 0
+  ComeTo Good m = Checks (IsOnItsMetal lists) (enumerate_from 0 m.terminals) off_metal (Good m)
+
+  by_fault : {T : Type 0} (Good : LayerMap → T → Type 0) (fault : NetFault) → Answers Memory (ComeTo Good subject.layer_map) (Err fault) → fault ≢ Memory
+      → TerminalsComeTo subject (refused (Net fault))
+  by_fault Good fault (refuses (one_fails q)) known = one_fails (record {
     check = q.check;
     is_first = record {
       before = q.is_first.before;
@@ -51,12 +60,21 @@ module _ (layer_map : LayerMap) (layers : Layers) (subject : Subject) (laid : Ar
     };
     is_its_refusal = ap (λ f. Net f) q.is_its_refusal;
   })
-  by_fault fault no_memory known = absurd (known refl)
+  by_fault Good fault no_memory known = absurd (known refl)
 
   -- the rows over the lists are those on the subject whose layers these are
   pub rows_found : (rows : Vec Row Global) → Answers Memory (ComeToRows layer_map lists) (Ok rows) → length rows.items ≤ MOST_ROWS → Analyses (TerminalsComeTo subject) HasRows (Ok rows)
   rows_found rows answer few = by_rows rows (subst (λ m. Answers Memory (ComeToRows m lists) (Ok rows)) (sym laid.of_map) answer) few
 
+  by_pairs : (size : ℕ) (tables : PairTables) → Answers Memory (ComeToPairs subject.layer_map lists size) (Ok tables) → Analyses (TerminalsComeTo subject) (HasPairs size) (Ok tables)
+  by_pairs size tables (gives (all_hold all are)) = gives (gives_thing {v = subject} (all_hold (terminals_on numbered_terminals all) refl)
+      (pairs_follow subject.layer_map (IsCoveredIn lists) (IsCoveredOn subject.layer_map subject.routes) laid.layers.covers size (pair_rows tables) are))
+
+  -- and so are the pairs
+  pub pairs_found : (size : ℕ) (tables : PairTables) → Answers Memory (ComeToPairs layer_map lists size) (Ok tables) → Analyses (TerminalsComeTo subject) (HasPairs size) (Ok tables)
+  pairs_found size tables answer = by_pairs size tables (subst (λ m. Answers Memory (ComeToPairs m lists size) (Ok tables)) (sym laid.of_map) answer)
+
   -- and the first terminal that is not on its metal is the same
-  pub terminal_off : (fault : NetFault) → Answers Memory (ComeToRows layer_map lists) (Err fault) → fault ≢ Memory → TerminalsComeTo subject (refused (Net fault))
-  terminal_off fault answer known = by_fault fault (subst (λ m. Answers Memory (ComeToRows m lists) (Err fault)) (sym laid.of_map) answer) known
+  pub terminal_off : {T : Type 0} (Good : LayerMap → T → Type 0) (fault : NetFault) → Answers Memory (ComeTo Good layer_map) (Err fault) → fault ≢ Memory
+      → TerminalsComeTo subject (refused (Net fault))
+  terminal_off Good fault answer known = by_fault Good fault (subst (λ m. Answers Memory (ComeTo Good m) (Err fault)) (sym laid.of_map) answer) known

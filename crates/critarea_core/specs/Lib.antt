@@ -5,7 +5,9 @@ pub mod Coverage
 pub mod Layout
 -- what words and contents come to, and a run
 pub mod Refusals
+pub mod Inquiries
 pub mod Verdict
+pub mod Dues
 -- what the laws of sides alone cite
 pub mod WholeCells
 -- the rows on the bytes of a layout

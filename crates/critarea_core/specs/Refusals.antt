@@ -44,6 +44,10 @@ map_too_long = of_map 39 map_limit
 abbrev pub of_map_fault : MapFault → Refusal
 of_map_fault fault = of_map (map_faults.number_of fault) (map_faults.place_of fault)
 
+-- the map lists no more sizes than this, and the task names one behind them
+abbrev pub no_such_size : ℕ → Refusal
+no_such_size sizes = of_map 48 sizes
+
 -- the most bytes that a layout may have
 abbrev pub layout_limit : ℕ
 layout_limit = most_bytes

@@ -1,4 +1,4 @@
-ghost use Rattle.std.specs.Prelude.{◌≡◌, ◌≤◌, ◌<◌, ◌+◌, ◌^◌, IfOk, All, length, option_copied};
+ghost use Rattle.std.specs.Prelude.{◌≡◌, ◌≤◌, ◌<◌, ◌+◌, ◌^◌, IfOk, All, length, option_copied, slice_index_or};
 ghost use Rattle.lists.specs.Differing.{AreDifferent};
 ghost use Rattle.first_refusal.specs.Answers.{Answers};
 ghost use Rattle.first_refusal.specs.Outcomes.{Then};
@@ -7,17 +7,21 @@ ghost use Rattle.library_model.specs.Points.{AreWellPointed};
 ghost use Rattle.map_model.specs.MapView.{layer_map_of};
 ghost use Rattle.questions.specs.declared.row.TheConstants.{MOST_ROWS};
 ghost use Rattle.critarea_core.specs.Analysis.{AnalysisComesTo};
-ghost use Rattle.critarea_core.specs.inside.Finding.{Analyses, HasRows};
+ghost use Rattle.critarea_core.specs.inside.Finding.{Analyses, HasFound, HasPairs, HasRows, IsWantedOf, asked_by};
 ghost use Rattle.critarea_core.specs.inside.LayoutReaders.{AreLayersFor};
 ghost use Rattle.critarea_core.specs.Layout.{LibraryComesTo, ShortLayoutComesTo, TerminalsComeTo};
 ghost use Rattle.critarea_core.specs.Refusals.{layout_limit};
 
+use super::found::{Found, ReportRows};
 use super::layers::layers_of;
 use super::layout_fault::LayoutFault;
+use super::wanted::Wanted;
 use critical_areas::{Gate, Sharing, critical_areas};
 use flatten::place;
 use gds_syntax::{Library, read_library};
 use map_model::{Layers, Map};
+use map_pairs::pair_tables;
+use pair_report::PairTables;
 use questions::Row;
 use rect_cover::cover_all;
 use std::alloc::Global;
@@ -72,22 +76,55 @@ fn rows_of_library<G: Gate + Sync>(
     Ok(critical_areas(rt, alloc, map, &layers, sharing)?)
 }
 
-/// The rows of the map on the layout with these bytes, of which this top is wanted, or any. The bytes are let go once the
-/// library is read.
-pub fn rows_of_layout<G: Gate + Sync>(
+/// The pairs of nets of the map on a library, of which this top is wanted, or any, for the map's size at this place.
+fn pairs_of_library(
     rt: &(impl Threads + Sync),
     alloc: Global,
     map: &Map,
     top: Option<&[u8]>,
+    library: Library,
+    place: u32,
+) -> Result<PairTables, LayoutFault>
+    requires differ { AreDifferent (names_of library.structures) }
+    requires few_structures { length library.structures < 2 ^ 32 }
+    requires few_elements { All (λ structure. length structure.elements < 2 ^ 32) library.structures }
+    requires pointed { AreWellPointed library.structures }
+    requires there { place < length map.now.sizes }
+    ensures { Analyses (Then (LibraryComesTo (layer_map_of map.now) (option_copied top.entry) library) TerminalsComeTo)
+        (HasPairs (slice_index_or map.now.sizes place 0)) result }
+{
+    let layers = layers_of_library(rt, alloc, map, top, library)?;
+    Ok(pair_tables(alloc, map, &layers, place)?)
+}
+
+/// What is wanted of the map on the layout with these bytes, of which this top is wanted, or any. The bytes are let go once
+/// the library is read.
+pub fn find_in_layout<G: Gate + Sync>(
+    rt: &(impl Threads + Sync),
+    alloc: Global,
+    map: &Map,
+    wanted: Wanted,
+    top: Option<&[u8]>,
     bytes: Vec<u8>,
     sharing: Sharing<'_, G>,
-) -> Result<Vec<Row>, LayoutFault>
+) -> Result<Found, LayoutFault>
     requires within { length bytes.items ≤ layout_limit }
-    ensures { Analyses (ShortLayoutComesTo (layer_map_of map.now) (option_copied top.entry) bytes.items) HasRows result }
+    requires there { IsWantedOf map.now.sizes wanted }
+    ensures { Analyses (ShortLayoutComesTo (layer_map_of map.now) (option_copied top.entry) bytes.items)
+        (HasFound (asked_by map.now.sizes wanted)) result }
 {
     let library = read_library(alloc, bytes.as_slice())?;
     drop(bytes);
-    rows_of_library(rt, alloc, map, top, library, sharing)
+    match wanted {
+        Wanted::Report => {
+            let rows = rows_of_library(rt, alloc, map, top, library, sharing)?;
+            Ok(Found::Report(ReportRows { rows }))
+        }
+        Wanted::Pairs { place } => {
+            let tables = pairs_of_library(rt, alloc, map, top, library, place)?;
+            Ok(Found::Pairs(tables))
+        }
+    }
 }
 
 /// The rows of a report of the map on a layout: shorts of each metal, then opens of each, and then via blocks of each cut,

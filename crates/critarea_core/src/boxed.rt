@@ -6,13 +6,13 @@ use super::printing::NO_MEMORY;
 use command_line::Word;
 use critical_areas::NoGate;
 use edge_io::{Files, Sink};
-use gauges::Gauge;
+use gauges::{Gauge, PairGauge};
 use std::alloc::Global;
 use std::thread::Threads;
 
 /// Runs these words as [`run`] does, with these gauges and a gate that holds nothing, and answers the status. The gauges are
-/// dropped at the end. Where the list of them finds no memory the status is 6, and no file is started and nothing is printed.
-pub fn run_boxed<F: Files, O: Sink, E: Sink, const N: usize>(
+/// dropped at the end. Where a list of them finds no memory the status is 6, and no file is started and nothing is printed.
+pub fn run_boxed<F: Files, O: Sink, E: Sink, const N: usize, const M: usize>(
     rt: &(impl Threads + Sync),
     alloc: Global,
     words: &[Word],
@@ -20,8 +20,9 @@ pub fn run_boxed<F: Files, O: Sink, E: Sink, const N: usize>(
     out: &mut O,
     err: &mut E,
     gauges: [Box<dyn Gauge>; N],
+    pair_gauges: [Box<dyn PairGauge>; M],
 ) -> u8
-    ensures { RunsWith words.now (views_of seen text gauges.entry)
+    ensures { RunsWith words.now (views_of seen text gauges.entry) (views_of pairs_seen pairs_text pair_gauges.entry)
         (record {
           holds = change (F.holds files.old) (F.holds files.new);
           sure = F.sure files.old;
@@ -40,8 +41,20 @@ pub fn run_boxed<F: Files, O: Sink, E: Sink, const N: usize>(
         })
         result }
 {
-    let Ok(mut gauges) = Vec::from_array(alloc, gauges) else {
+    let gauges = Vec::from_array(alloc, gauges);
+    let pair_gauges = Vec::from_array(alloc, pair_gauges);
+    let (Ok(mut gauges), Ok(mut pair_gauges)) = (gauges, pair_gauges) else {
         return NO_MEMORY;
     };
-    run(rt, alloc, words, files, out, err, &mut gauges, &NoGate)
+    run(
+        rt,
+        alloc,
+        words,
+        files,
+        out,
+        err,
+        &mut gauges,
+        &mut pair_gauges,
+        &NoGate,
+    )
 }

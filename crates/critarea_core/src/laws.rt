@@ -1,10 +1,12 @@
-//! Laws of the sides of defects: which side makes the faults of which other one.
+//! Laws of the sides of defects, which side makes the faults of which other one; and a law of pairs of nets, that they are shorts.
 //!
 //! Each defect has its centre in the middle of a cell. One of an even side has the cells at its rim in halves, and one of
 //! an odd side has each cell wholly or not at all.
 
-ghost use Rattle.std.specs.Prelude.{ℕ, pos, List, ◌+◌, ◌-◌, ◌/◌, ◌≤◌, ◌↔◌};
+ghost use Rattle.std.specs.Prelude.{ℕ, pos, List, [], All, Any, length, ◌+◌, ◌-◌, ◌/◌, ◌<◌, ◌≤◌, ◌≡◌, ◌↔◌};
 ghost use Rattle.critarea_core.specs.Coverage.{IsCoveredOn};
+ghost use Rattle.critarea_core.specs.Dues.{ArePairRowsOn, AreRowsOn};
+ghost use Rattle.critarea_core.specs.Layout.{Subject};
 ghost use Rattle.critarea_core.specs.WholeCells.{IsOfWholeCells};
 ghost use Rattle.critical_areas.specs.FaultKinds.{IsFault};
 ghost use Rattle.fault_model.specs.Areas.{Tally};
@@ -13,10 +15,15 @@ ghost use Rattle.fault_model.specs.Halves.{IsSwallowed, IsTouched};
 ghost use Rattle.fault_model.specs.Nets.{Cut};
 ghost use Rattle.fault_model.specs.Vias.{IsViasOpen};
 ghost use Rattle.flatten.specs.Routes.{Route};
+ghost use Rattle.gauges.specs.declared.pair_row.PairRow.{PairRow};
 ghost use Rattle.geo_core.specs.Cells.{IsNear};
 ghost use Rattle.geo_core.specs.declared.plane.Cell.{Cell};
 ghost use Rattle.map_model.specs.LayerMap.{LayerMap};
+ghost use Rattle.map_model.specs.Measures.{side_by};
+ghost use Rattle.map_pairs.specs.PairAreas.{TouchesSomeNets};
+ghost use Rattle.net_extract.specs.Cuts.{cuts_of};
 ghost use Rattle.questions.specs.declared.kind.Kind.TheVariants.{Open, Short, Via};
+ghost use Rattle.questions.specs.declared.row.Row.{Row};
 
 use fault_model::{HalfSet, Layout, Property};
 
@@ -67,4 +74,21 @@ pub fn odd_sides_have_even_areas<L: Layout>()
     ensures blocks { (layer_map : LayerMap) (cells : List Cell) (number k n : ℕ) →
         Tally (IsFault layer_map L.covers Via number (k + k + 1)) cells n
         ↔ Tally (IsFault layer_map L.covers Via number (k + k + 2)) cells n }
+{}
+
+/// A defect of a size that the map lists makes a short of a metal exactly where it touches two nets with different numbers. This
+/// holds wherever there are rows of pairs, as there are of each subject that a run comes to. So a run tells no pair of nets
+/// exactly where each metal's area of shorts at that size is 0.
+pub fn pairs_are_shorts()
+    ensures shorts { (subject : Subject) (size metal : ℕ) (pairs : List PairRow) (c : Cell) →
+        Any (λ listed. listed.size ≡ size) subject.layer_map.sizes → ArePairRowsOn subject size pairs →
+        metal < length subject.layer_map.metals →
+        IsShort (IsCoveredOn subject.layer_map subject.routes) (cuts_of subject.layer_map) metal
+        (side_by subject.layer_map.measure size) c
+        ↔ TouchesSomeNets (IsCoveredOn subject.layer_map subject.routes) (cuts_of subject.layer_map) metal
+        (side_by subject.layer_map.measure size) c }
+    ensures none { (subject : Subject) (size : ℕ) (pairs : List PairRow) (rows : List Row) →
+        Any (λ listed. listed.size ≡ size) subject.layer_map.sizes → ArePairRowsOn subject size pairs →
+        AreRowsOn subject rows →
+        (pairs ≡ []) ↔ All (λ row. row.kind ≡ Short → row.size ≡ size → row.area ≡ 0) rows }
 {}

@@ -1,8 +1,9 @@
-//! What words, a layer map and a layout come to: the report, or the first refusal.
+//! What words, a layer map and a layout come to: the report, the pairs of nets, or the first refusal.
 //!
 //! `run` reads the words, then the map, and then the layout, and looks at nothing behind what is refused (`command`,
-//! `sources`). `analysis` goes from the bytes of a layout to rows, over lists of rectangles for each layer (`layers`).
-//! A report is made whole before its first byte is written (`printing`), so a run that is refused has written nothing
+//! `sources`). Where the words ask for what the map does not have, the layout is not looked at (`wanted`). `analysis` goes from the
+//! bytes of a layout to what is asked, over lists of rectangles for each layer (`layers`).
+//! What is due is made whole before its first byte is written (`printing`), so a run that is refused has written nothing
 //! but its line. Here the side of texts and the side of faults meet: the cells that the definitions of faults ask about
 //! are those that shapes along routes cover (`specs/Coverage.antt`).
 #![tactic(auto)]
@@ -10,6 +11,7 @@
 mod analysis;
 mod boxed;
 mod command;
+mod found;
 pub mod laws;
 mod layers;
 mod layout_fault;
@@ -18,6 +20,7 @@ mod refusal;
 mod sources;
 mod told;
 mod unreported;
+mod wanted;
 
 pub use analysis::analyse;
 pub use boxed::run_boxed;

@@ -1,20 +1,24 @@
-ghost use Rattle.std.specs.Prelude.{◌≤◌, ◌≡◌, IfOk, OnErr, OnOk, length};
-ghost use Rattle.critarea_core.specs.inside.Finding.{AreFew, IsPrinted, LineEnds, ReportEnds};
-ghost use Rattle.critarea_core.specs.Run.{change};
-ghost use Rattle.critarea_core.specs.Verdict.{whole_report};
+ghost use Rattle.std.specs.Prelude.{[], ◌≤◌, ◌≡◌, IfOk, OnErr, OnOk, length};
+ghost use Rattle.critarea_core.specs.Dues.{whole_report};
+ghost use Rattle.critarea_core.specs.inside.Finding.{DueEnds, IsPrinted, LineEnds, due_to};
+ghost use Rattle.critarea_core.specs.Run.{AreToldAll, AreToldSome, change, known_gauges};
 ghost use Rattle.gauges.specs.GaugeViews.{AreTold, AreToldPrefixes, views_of};
+ghost use Rattle.pair_report.specs.PairReport.{whole_pair_text};
+ghost use Rattle.pair_report.specs.PairRows.{pair_rows};
 ghost use Rattle.questions.specs.declared.row.TheConstants.{MOST_ROWS};
 
+use super::found::Found;
 use super::refusal::Refusal;
 use super::unreported::Unreported;
 use edge_io::{Failed, Sink, write_all};
-use gauges::{Gauge, append_texts, tell};
+use gauges::{Gauge, PairGauge, append_texts, tell};
 use lists::NoMemory;
+use pair_report::{PairTables, write_pairs};
 use questions::Row;
 use report::write_report;
 use std::alloc::Global;
 
-/// The status where the report went out.
+/// The status where what is due went out.
 const REPORTED: u8 = 0;
 
 /// The status where a file or an output failed.
@@ -43,7 +47,7 @@ fn print_refusal<E: Sink>(alloc: Global, refusal: Refusal, err: &mut E) -> u8
 
 /// The text of the report that has these rows, with what the gauges print at its end. They are told the rows first. Where
 /// memory runs out, each may have been told the first few of the rows alone, or none.
-fn text_with_gauges(
+fn text_of_report(
     alloc: Global,
     rows: &[Row],
     gauges: &mut Vec<Box<dyn Gauge>>,
@@ -63,22 +67,73 @@ fn text_with_gauges(
     Ok(printed)
 }
 
-/// Prints the report that has these rows, with what the gauges print at its end, and gives the status.
-fn print_report<O: Sink>(
+/// The text of these pairs of nets, with what the gauges of pairs print at its end, in bytes of which there are none yet. They are
+/// told the rows first, as above.
+fn text_of_pairs(
+    mut printed: Vec<u8>,
+    tables: &PairTables,
+    gauges: &mut Vec<Box<dyn PairGauge>>,
+) -> Result<Vec<u8>, NoMemory>
+    requires { printed.items ≡ [] }
+    ensures printed { IfOk result (λ printed.
+        printed.items ≡ whole_pair_text (pair_rows tables.now) (views_of pairs_seen pairs_text gauges.old.items)) }
+    ensures told { OnOk result (AreTold (pair_rows tables.now)
+        (views_of pairs_seen pairs_text gauges.old.items) (views_of pairs_seen pairs_text gauges.new.items)) }
+    ensures prefixes { OnErr result (AreToldPrefixes (pair_rows tables.now)
+        (views_of pairs_seen pairs_text gauges.old.items) (views_of pairs_seen pairs_text gauges.new.items)) }
+{
+    write_pairs(tables, gauges, &mut printed)?;
+    Ok(printed)
+}
+
+/// The text that is due where this was found. The gauges are told its rows first. Where memory runs out, each may have been told the
+/// first few of the rows alone, or none.
+fn text_for(
     alloc: Global,
-    rows: &[Row],
+    found: &Found,
     gauges: &mut Vec<Box<dyn Gauge>>,
+    pair_gauges: &mut Vec<Box<dyn PairGauge>>,
+) -> Result<Vec<u8>, NoMemory>
+    ensures printed { IfOk result (λ printed. printed.items ≡ (due_to
+        (known_gauges seen text pairs_seen pairs_text
+        (change gauges.old.items gauges.new.items) (change pair_gauges.old.items pair_gauges.new.items)) found.now).text) }
+    ensures told { OnOk result (AreToldAll (due_to
+        (known_gauges seen text pairs_seen pairs_text
+        (change gauges.old.items gauges.new.items) (change pair_gauges.old.items pair_gauges.new.items)) found.now)
+        (known_gauges seen text pairs_seen pairs_text
+        (change gauges.old.items gauges.new.items) (change pair_gauges.old.items pair_gauges.new.items))) }
+    ensures some { OnErr result (AreToldSome (due_to
+        (known_gauges seen text pairs_seen pairs_text
+        (change gauges.old.items gauges.new.items) (change pair_gauges.old.items pair_gauges.new.items)) found.now)
+        (known_gauges seen text pairs_seen pairs_text
+        (change gauges.old.items gauges.new.items) (change pair_gauges.old.items pair_gauges.new.items))) }
+{
+    match found {
+        Found::Report(report) => text_of_report(alloc, report.rows.as_slice(), gauges),
+        Found::Pairs(tables) => text_of_pairs(Vec::new(alloc), tables, pair_gauges),
+    }
+}
+
+/// Prints what is due where this was found, and gives the status.
+fn print_found<O: Sink>(
+    alloc: Global,
+    found: &Found,
+    gauges: &mut Vec<Box<dyn Gauge>>,
+    pair_gauges: &mut Vec<Box<dyn PairGauge>>,
     out: &mut O,
 ) -> u8
-    requires { length rows.now ≤ MOST_ROWS }
-    ensures { ReportEnds rows.now (change (views_of seen text gauges.old.items) (views_of seen text gauges.new.items))
+    ensures { DueEnds (due_to
+        (known_gauges seen text pairs_seen pairs_text
+        (change gauges.old.items gauges.new.items) (change pair_gauges.old.items pair_gauges.new.items)) found.now)
+        (known_gauges seen text pairs_seen pairs_text
+        (change gauges.old.items gauges.new.items) (change pair_gauges.old.items pair_gauges.new.items))
         (record {
           taken = change (O.written out.old) (O.written out.new);
           sure = O.sure out.old;
           failures = change (O.faults out.old) (O.faults out.new);
         }) result }
 {
-    let Ok(printed) = text_with_gauges(alloc, rows, gauges) else {
+    let Ok(printed) = text_for(alloc, found, gauges, pair_gauges) else {
         return NO_MEMORY;
     };
     match write_all(out, printed.as_slice()) {
@@ -87,17 +142,19 @@ fn print_report<O: Sink>(
     }
 }
 
-/// Prints the report that has the rows that were found, or the line of the refusal where there are none, and gives the
-/// status. The gauges are told the rows, if there are any, before the first byte of the report goes out.
+/// Prints what is due where something was found, or the line of the refusal, and gives the status. The gauges are told the rows,
+/// if there are any, before the first byte goes out.
 pub fn print<O: Sink, E: Sink>(
     alloc: Global,
-    found: Result<Vec<Row>, Unreported>,
+    found: Result<Found, Unreported>,
     gauges: &mut Vec<Box<dyn Gauge>>,
+    pair_gauges: &mut Vec<Box<dyn PairGauge>>,
     out: &mut O,
     err: &mut E,
 ) -> u8
-    requires { AreFew found }
-    ensures { IsPrinted found (change (views_of seen text gauges.old.items) (views_of seen text gauges.new.items))
+    ensures { IsPrinted found
+        (known_gauges seen text pairs_seen pairs_text
+        (change gauges.old.items gauges.new.items) (change pair_gauges.old.items pair_gauges.new.items))
         (record {
           taken = change (O.written out.old) (O.written out.new);
           sure = O.sure out.old;
@@ -110,7 +167,7 @@ pub fn print<O: Sink, E: Sink>(
         }) result }
 {
     match found {
-        Ok(rows) => print_report(alloc, rows.as_slice(), gauges, out),
+        Ok(found) => print_found(alloc, &found, gauges, pair_gauges, out),
         Err(Unreported::Refused(refusal)) => print_refusal(alloc, refusal, err),
         Err(Unreported::FilesFailed) => FAILED,
         Err(Unreported::Memory) => NO_MEMORY,

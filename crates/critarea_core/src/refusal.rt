@@ -14,7 +14,8 @@ pub struct Refusal {
     pub status: u8,
     /// Which rule the input breaks.
     pub number: u8,
-    /// Where the input shows it: a path of the map, an offset in bytes, a limit on a length, the number of a terminal, or 0.
+    /// Where the input shows it: a path of the map, how many sizes it has, an offset in bytes, a limit on a length, the number of a
+    /// terminal, or 0.
     pub place: u64,
 }
 
@@ -41,7 +42,18 @@ pub const LAYOUT_TOO_LONG: Refusal = Refusal {
 
 impl Refusal {
     ghost use Rattle.std.specs.Prelude.{◌≡◌, IfOk, string_bytes};
-    ghost use Rattle.critarea_core.specs.Refusals.{refusal_text};
+    ghost use Rattle.critarea_core.specs.Refusals.{no_such_size as no_size_behind, refusal_text};
+
+    /// The refusal of a map that lists no more sizes than this, where a task names one behind them.
+    pub fn no_such_size(sizes: usize) -> Refusal
+        ensures { result ≡ no_size_behind sizes }
+    {
+        Refusal {
+            status: 3,
+            number: 48,
+            place: sizes as u64,
+        }
+    }
 
     /// The line that is printed for it.
     pub fn line(&self, alloc: Global) -> Result<String, NoMemory>

@@ -14,7 +14,7 @@ use command_line::WordsFault;
 use layer_map::MapFault;
 use lists::NoMemory;
 
-/// Why no report was made.
+/// Why nothing was found.
 #[derive(Clone, Copy)]
 pub enum Unreported {
     /// The input is refused.
@@ -30,6 +30,14 @@ impl From<NoMemory> for Unreported {
 
     fn from(_error: NoMemory) -> Unreported {
         Unreported::Memory
+    }
+}
+
+impl From<Refusal> for Unreported {
+    ghost from_gives = { λ refusal why. why ≡ Refused refusal };
+
+    fn from(refusal: Refusal) -> Unreported {
+        Unreported::Refused(refusal)
     }
 }
 

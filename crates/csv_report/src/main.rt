@@ -1,7 +1,7 @@
 //! An example of a gauge in code: the program with one that prints the rows as CSV.
 //!
 //! It takes the words of critarea and prints its report, and behind it, in place of critarea's last two lines, the rows
-//! as CSV. `csv` has the gauge that does this.
+//! as CSV. `csv` has the gauge that does this. For pairs of nets it has no gauge.
 #![tactic(auto)]
 
 ghost use Rattle.std.specs.Prelude.{◌∷◌, []};
@@ -28,7 +28,7 @@ fn run_gauged<F: Files, O: Sink, E: Sink>(
     out: &mut O,
     err: &mut E,
 ) -> u8
-    ensures { RunsWith words.now (fresh csv_text ∷ [])
+    ensures { RunsWith words.now (fresh csv_text ∷ []) []
         (record {
           holds = change (F.holds files.old) (F.holds files.new);
           sure = F.sure files.old;
@@ -50,7 +50,7 @@ fn run_gauged<F: Files, O: Sink, E: Sink>(
     let Ok(csv) = Box::new(alloc, Csv::new(alloc)) else {
         return NO_MEMORY;
     };
-    run_boxed(rt, alloc, words, files, out, err, [csv])
+    run_boxed(rt, alloc, words, files, out, err, [csv], [])
 }
 
 fn main(rt: HostRuntime) -> ExitCode {

@@ -1,5 +1,5 @@
 -- no stage of the verdict can lack an outcome
-use Rattle.std.proofs.Common.{ℕ, ◌≡◌, List, refl, sym, subst, Option}
+use Rattle.std.proofs.Common.{ℕ, ◌≡◌, List, length, refl, sym, subst, Option}
 use Rattle.first_refusal.specs.Outcomes.{value, Reads, reads, Retold}
 use Rattle.first_refusal.specs.Laws.{CannotLack}
 use Rattle.first_refusal.proofs.CheckLaws.{checks_cannot_lack}
@@ -12,7 +12,7 @@ use Rattle.flatten.proofs.laws.Placings.{placings_cannot_lack}
 use Rattle.command_line.specs.Requests.{Ask}
 use Rattle.command_line.specs.declared.request.Request.{Request}
 use Rattle.command_line.specs.declared.task.Task.{Task}
-use Rattle.command_line.specs.declared.task.Task.TheVariants.{OneMetal, Mapped, Generated}
+use Rattle.command_line.specs.declared.task.Task.TheVariants.{OneMetal, Mapped, Generated, Pairs}
 use Rattle.layer_map.specs.Documents as document
 use Rattle.layer_map.proofs.laws.Maps.{maps_cannot_lack}
 use Rattle.map_model.specs.MapNames.{LayerMap, one_metal_map}
@@ -21,9 +21,10 @@ use Rattle.layout_gen.proofs.laws.Generated.{generated_reads}
 use Rattle.lists.specs.ByteLists.{AreBytes}
 use Rattle.lists.proofs.Words.{enumerate_from}
 use Rattle.critarea_core.specs.Contents.{Contents, bytes_from, file, layout_source, wanted_top}
+use Rattle.critarea_core.specs.Inquiries.{Asked, AreAsked, AskedComesTo, for_report}
 use Rattle.critarea_core.specs.Layout.{Subject, RouteHolds, route_checks, route_fault, RoutesComeTo, LibraryComesTo, IsTerminalOn, terminal_fault, ShapesComeTo, ShortLayoutComesTo, TerminalsComeTo}
-use Rattle.critarea_core.specs.Refusals.{usage, map_limit, map_too_long, of_map_fault, layout_limit, layout_too_long, of_layout_fault}
-use Rattle.critarea_core.specs.Verdict.{IsShortEnough, MapTextComesTo, MapComesTo, WordsComeTo, LayoutComesTo, IsVerdict}
+use Rattle.critarea_core.specs.Refusals.{usage, map_limit, map_too_long, of_map_fault, layout_limit, layout_too_long, no_such_size, of_layout_fault}
+use Rattle.critarea_core.specs.Verdict.{IsShortEnough, MapTextComesTo, MapComesTo, WordsComeTo, LayoutComesTo, InquiryComesTo, IsVerdict}
 use Rattle.critarea_core.specs.declared.layout_fault.LayoutFault.TheVariants.{Place, Syntax}
 use Rattle.critarea_core.proofs.laws.VerdictLaws.{subject_of}
 
@@ -37,6 +38,15 @@ map_cannot_lack : (task : Task) (bytes : List ℕ → List ℕ) → CannotLack (
 map_cannot_lack (OneMetal layout layer datatype radius top) bytes none = none (value (one_metal_map layer datatype radius)) refl
 map_cannot_lack (Mapped layout map top) bytes none = map_text_cannot_lack (bytes map) none
 map_cannot_lack (Generated columns) bytes none = map_text_cannot_lack generated_map none
+map_cannot_lack (Pairs layout map top size) bytes none = map_text_cannot_lack (bytes map) none
+
+-- ---- what a task asks of a map
+
+asked_cannot_lack : (task : Task) (layer_map : LayerMap) → CannotLack (AskedComesTo task layer_map)
+asked_cannot_lack (OneMetal layout layer datatype radius top) layer_map none = none (value for_report) refl
+asked_cannot_lack (Mapped layout map top) layer_map none = none (value for_report) refl
+asked_cannot_lack (Generated columns) layer_map none = none (value for_report) refl
+asked_cannot_lack (Pairs layout map top number) layer_map none = reading_cannot_lack (AreAsked layer_map number) (no_such_size (length layer_map.sizes)) none
 
 -- ---- layouts
 
@@ -61,11 +71,17 @@ layout_cannot_lack layer_map wanted layout some = stages_cannot_lack _ _ (readin
     (λ library comes. library_cannot_lack layer_map wanted library))
     (λ subject shapes. terminals_cannot_lack subject)))
 
+inquiry_cannot_lack : (asked : Asked) (layer_map : LayerMap) (wanted : Option (List ℕ)) (layout : List ℕ) → CannotLack (BytesComeTo layout)
+    → CannotLack (InquiryComesTo asked layer_map wanted layout)
+inquiry_cannot_lack asked layer_map wanted layout some = stages_cannot_lack (LayoutComesTo layer_map wanted layout) _ (layout_cannot_lack layer_map wanted layout some)
+    (λ subject comes none. none (value (record { subject = subject; asked = asked })) refl)
+
 -- a layout that is a string of bytes, as that of a file is to be, and one that is generated
 layout_there : (task : Task) (contents : Contents) → ((name : List ℕ) → layout_source task ≡ file name → AreBytes (contents.layout name))
     → CannotLack (BytesComeTo (bytes_from contents.layout (layout_source task)))
 layout_there (OneMetal layout layer datatype radius top) contents are = bytes_come_to_something (contents.layout layout) (are layout refl)
 layout_there (Mapped layout map top) contents are = bytes_come_to_something (contents.layout layout) (are layout refl)
+layout_there (Pairs layout map top size) contents are = bytes_come_to_something (contents.layout layout) (are layout refl)
 layout_there (Generated columns) contents are = let read = generated_reads columns in λ none. none (value read.0) read.2
 
 -- ---- words
@@ -74,9 +90,10 @@ asked_for : (words : List (List ℕ)) (request : Request) → WordsComeTo words 
 asked_for words request (reads asked) = asked
 
 pub verdict_cannot_lack : (words : List (List ℕ)) (contents : Contents)
-    → ((request : Request) (layer_map : LayerMap) (name : List ℕ) → Ask words request → MapComesTo request.task contents.map (value layer_map)
-    → layout_source request.task ≡ file name → AreBytes (contents.layout name)) → CannotLack (IsVerdict words contents)
+    → ((request : Request) (layer_map : LayerMap) (asked : Asked) (name : List ℕ) → Ask words request → MapComesTo request.task contents.map (value layer_map)
+    → AskedComesTo request.task layer_map (value asked) → layout_source request.task ≡ file name → AreBytes (contents.layout name)) → CannotLack (IsVerdict words contents)
 verdict_cannot_lack words contents are = stages_cannot_lack (WordsComeTo words) _ (reading_cannot_lack (Ask words) usage)
     (λ request asks. stages_cannot_lack (MapComesTo request.task contents.map) _ (map_cannot_lack request.task contents.map)
-    (λ layer_map good. layout_cannot_lack layer_map (wanted_top request.task) (bytes_from contents.layout (layout_source request.task))
-    (layout_there request.task contents (λ name is. are request layer_map name (asked_for words request asks) good is))))
+    (λ layer_map good. stages_cannot_lack (AskedComesTo request.task layer_map) _ (asked_cannot_lack request.task layer_map)
+    (λ asked fits. inquiry_cannot_lack asked layer_map (wanted_top request.task) (bytes_from contents.layout (layout_source request.task))
+    (layout_there request.task contents (λ name is. are request layer_map asked name (asked_for words request asks) good fits is)))))

@@ -3,4 +3,6 @@ pub mod ExistLaws
 pub mod NameLaws
 pub mod SameLaws
 pub mod StageLaws
+pub mod SizeLaws
 pub mod TallyLaws
+pub mod TellingLaws

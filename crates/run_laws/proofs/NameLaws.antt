@@ -5,31 +5,44 @@ use Rattle.first_refusal.specs.Outcomes.{Outcome, reads, lacks, Then, stops, goe
 use Rattle.command_line.specs.Requests.{Ask}
 use Rattle.command_line.specs.declared.request.Request.{Request}
 use Rattle.command_line.specs.declared.task.Task.{Task}
-use Rattle.command_line.specs.declared.task.Task.TheVariants.{OneMetal, Mapped, Generated}
+use Rattle.command_line.specs.declared.task.Task.TheVariants.{OneMetal, Mapped, Generated, Pairs}
 use Rattle.command_line.proofs.laws.Requests.{requests_agree}
 use Rattle.critarea_core.specs.Contents.{Contents, bytes_from, layout_source, wanted_top}
-use Rattle.critarea_core.specs.Layout.{Subject}
-use Rattle.critarea_core.specs.Verdict.{MapComesTo, MapTextComesTo, LayoutComesTo, IsVerdict}
+use Rattle.map_model.specs.MapNames.{LayerMap}
+use Rattle.critarea_core.specs.Inquiries.{AskedComesTo, Inquiry}
+use Rattle.critarea_core.specs.Verdict.{InquiryComesTo, IsVerdict, MapComesTo, MapTextComesTo}
 use Rattle.critarea_core.specs.declared.refusal.Refusal.{Refusal}
 use Rattle.run_laws.specs.NamedFiles.{HoldTheSame}
 
--- the verdict on the task, where the words ask for it
-abbrev pub TaskComesTo : Contents → Task → Outcome Subject Refusal → Type 0
-TaskComesTo contents task =
-    Then (MapComesTo task contents.map) (λ layer_map. LayoutComesTo layer_map (wanted_top task) (bytes_from contents.layout (layout_source task)))
+-- what a layout with these bytes comes to, where the task asks of it what it asks of this map
+abbrev pub OnMapComesTo : Task → List ℕ → LayerMap → Outcome Inquiry Refusal → Type 0
+OnMapComesTo task layout layer_map = Then (AskedComesTo task layer_map) (λ asked. InquiryComesTo asked layer_map (wanted_top task) layout)
 
-module _ (contents other : Contents) (outcome : Outcome Subject Refusal) where
+-- the verdict on the task, where the words ask for it
+abbrev pub TaskComesTo : Contents → Task → Outcome Inquiry Refusal → Type 0
+TaskComesTo contents task = Then (MapComesTo task contents.map) (OnMapComesTo task (bytes_from contents.layout (layout_source task)))
+
+module _ (contents other : Contents) (outcome : Outcome Inquiry Refusal) where
+  -- the layout's file holds the same as a layout
+  same_layout : (task : Task) (name : List ℕ) → contents.layout name ≡ other.layout name
+      → Then (MapComesTo task other.map) (OnMapComesTo task (contents.layout name)) outcome → Then (MapComesTo task other.map) (OnMapComesTo task (other.layout name)) outcome
+  same_layout task name same comes = subst (λ bytes. Then (MapComesTo task other.map) (OnMapComesTo task bytes) outcome) same comes
+
   same_files_same_outcome : (task : Task) → HoldTheSame task contents other → TaskComesTo contents task outcome → TaskComesTo other task outcome
   same_files_same_outcome (OneMetal layout layer datatype radius top) same comes =
-      let one : Task = OneMetal layout layer datatype radius top in
-      subst (λ bytes. Then (MapComesTo one other.map) (λ layer_map. LayoutComesTo layer_map top bytes) outcome) (same.layout layout (Contains-head layout [])) comes
+      same_layout (OneMetal layout layer datatype radius top) layout (same.layout layout (Contains-head layout [])) comes
   same_files_same_outcome (Mapped layout map top) same comes =
-      let from_map = subst (λ bytes. Then (MapTextComesTo bytes) (λ layer_map. LayoutComesTo layer_map top (contents.layout layout)) outcome) (same.map map (Contains-head map [])) comes in
-      subst (λ bytes. Then (MapTextComesTo (other.map map)) (λ layer_map. LayoutComesTo layer_map top bytes) outcome) (same.layout layout (Contains-head layout [])) from_map
+      let task : Task = Mapped layout map top in
+      same_layout task layout (same.layout layout (Contains-head layout []))
+      (subst (λ bytes. Then (MapTextComesTo bytes) (OnMapComesTo task (contents.layout layout)) outcome) (same.map map (Contains-head map [])) comes)
   same_files_same_outcome (Generated columns) same comes = comes
+  same_files_same_outcome (Pairs layout map top size) same comes =
+      let task : Task = Pairs layout map top size in
+      same_layout task layout (same.layout layout (Contains-head layout []))
+      (subst (λ bytes. Then (MapTextComesTo bytes) (OnMapComesTo task (contents.layout layout)) outcome) (same.map map (Contains-head map [])) comes)
 
 pub same_files_same_verdict : (words : List (List ℕ)) (request : Request) → Ask words request → (contents other : Contents) → HoldTheSame request.task contents other
-    → (outcome : Outcome Subject Refusal) → IsVerdict words contents outcome → IsVerdict words other outcome
+    → (outcome : Outcome Inquiry Refusal) → IsVerdict words contents outcome → IsVerdict words other outcome
 same_files_same_verdict words request asks contents other same outcome (stops (lacks none)) = absurd (none request asks)
 same_files_same_verdict words request asks contents other same outcome (goes_on {v = this} (reads asked) comes) =
     let is : this ≡ request = requests_agree words this request asked asks in

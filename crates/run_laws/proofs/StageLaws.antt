@@ -1,9 +1,12 @@
 -- of which stage each refusal of a verdict is
-use Rattle.std.proofs.Common.{ℕ, ◌≤◌, List, Option, refl, sym, subst, lit≤}
+use Rattle.std.proofs.Common.{ℕ, ◌≡◌, ◌≢◌, ◌≤◌, arith, List, Option, refl, sym, subst, lit≤}
 use Rattle.first_refusal.specs.Checks.{one_fails}
-use Rattle.first_refusal.specs.Outcomes.{refused, lacks, retold, stops, goes_on}
+use Rattle.first_refusal.specs.Outcomes.{refused, reads, lacks, retold, stops, goes_on}
+use Rattle.command_line.specs.Requests.{Ask}
+use Rattle.command_line.specs.declared.request.Request.{Request}
 use Rattle.command_line.specs.declared.task.Task.{Task}
-use Rattle.command_line.specs.declared.task.Task.TheVariants.{OneMetal, Mapped, Generated}
+use Rattle.command_line.specs.declared.task.Task.TheVariants.{OneMetal, Mapped, Generated, Pairs}
+use Rattle.command_line.proofs.laws.Requests.{requests_agree}
 use Rattle.gds_records.specs.RecordSpelling.{Entry}
 use Rattle.gds_records.specs.Split.{End}
 use Rattle.gds_records.specs.declared.fault.RecordFault.{RecordFault}
@@ -31,12 +34,14 @@ use Rattle.library_model.specs.declared.library.Library.{Library}
 use Rattle.rect_cover.specs.CoverFaults as cover_faults
 use Rattle.rect_cover.specs.ShapeChecks.{ShapeCheck, is_not_round, shape_fault}
 use Rattle.critarea_core.specs.Contents.{Contents}
+use Rattle.critarea_core.specs.Inquiries.{Asked, AskedComesTo}
 use Rattle.critarea_core.specs.Layout.{LibraryComesTo, ShapesComeTo, ShortLayoutComesTo}
 use Rattle.critarea_core.specs.Refusals.{of_layout_fault}
-use Rattle.critarea_core.specs.Verdict.{IsVerdict, LayoutComesTo, MapComesTo, MapTextComesTo, WordsComeTo}
+use Rattle.critarea_core.specs.Verdict.{InquiryComesTo, IsVerdict, LayoutComesTo, MapComesTo, MapTextComesTo, WordsComeTo}
 use Rattle.critarea_core.specs.declared.layout_fault.LayoutFault.{LayoutFault}
 use Rattle.critarea_core.specs.declared.refusal.Refusal.{Refusal}
-use Rattle.run_laws.specs.RefusalStages.{IsOfStage, of_words, of_map, of_layout, of_terminal}
+use Rattle.run_laws.specs.RefusalStages.{IsOfStage, of_words, of_map, of_size, of_layout, of_terminal}
+use Rattle.run_laws.specs.TaskRows.{GivesPairs}
 
 -- ---- the numbers of faults of maps
 
@@ -127,40 +132,112 @@ shape_number at check = (lit≤ tt, lit≤ tt)
 
 -- ---- the stages of refusals
 
+-- a refusal of the layout, by its number
+data IsOfLayout (refusal : Refusal) : Type 0 where
+  in_bytes : refusal.status ≡ 4 → IsLayoutNumber refusal.number → IsOfLayout refusal
+  off_metal : refusal.status ≡ 4 → refusal.number ≡ 50 → IsOfLayout refusal
+
+layout_stage_of : (refusal : Refusal) → IsOfLayout refusal → IsOfStage refusal
+layout_stage_of refusal (in_bytes status number) = of_layout status number.0 number.1
+layout_stage_of refusal (off_metal status number) = of_terminal status number
+
+-- a refusal of the map, by its number
+record IsOfMap (refusal : Refusal) : Type 0 where
+  pub status : refusal.status ≡ 3
+  pub number : IsMapNumber refusal.number
+
+map_stage_of : (refusal : Refusal) → IsOfMap refusal → IsOfStage refusal
+map_stage_of refusal is = of_map is.status is.number.0 is.number.1
+
 abbrev IsLayoutFault : LayoutFault → Type 0
-IsLayoutFault fault = IsOfStage (of_layout_fault fault)
+IsLayoutFault fault = IsOfLayout (of_layout_fault fault)
 
 library_stage : (layer_map : LayerMap) (wanted : Option (List ℕ)) (library : Library) (fault : LayoutFault) → LibraryComesTo layer_map wanted library (refused fault) → IsLayoutFault fault
 library_stage layer_map wanted library fault (stops (retold {fault = placing} comes)) =
-    let number = place_number library.structures layer_map wanted placing comes in of_layout refl number.0 number.1
+    in_bytes refl (place_number library.structures layer_map wanted placing comes)
 library_stage layer_map wanted library fault (goes_on placed (one_fails first)) =
-    let number = shape_number first.check.0.shape.at first.check.1 in subst IsLayoutFault (sym first.is_its_refusal) (of_layout refl number.0 number.1)
+    let number = shape_number first.check.0.shape.at first.check.1 in subst IsLayoutFault (sym first.is_its_refusal) (in_bytes refl number)
 
 shapes_stage : (layer_map : LayerMap) (wanted : Option (List ℕ)) (bytes : List ℕ) (fault : LayoutFault) → ShapesComeTo layer_map wanted bytes (refused fault) → IsLayoutFault fault
-shapes_stage layer_map wanted bytes fault (stops (retold {fault = syntax} comes)) = let number = syntax_number bytes syntax comes in of_layout refl number.0 number.1
+shapes_stage layer_map wanted bytes fault (stops (retold {fault = syntax} comes)) = in_bytes refl (syntax_number bytes syntax comes)
 shapes_stage layer_map wanted bytes fault (goes_on {v = library} read comes) = library_stage layer_map wanted library fault comes
 
 short_stage : (layer_map : LayerMap) (wanted : Option (List ℕ)) (bytes : List ℕ) (fault : LayoutFault) → ShortLayoutComesTo layer_map wanted bytes (refused fault) → IsLayoutFault fault
 short_stage layer_map wanted bytes fault (stops comes) = shapes_stage layer_map wanted bytes fault comes
-short_stage layer_map wanted bytes fault (goes_on shapes (one_fails first)) = subst IsLayoutFault (sym first.is_its_refusal) (of_terminal refl refl)
+short_stage layer_map wanted bytes fault (goes_on shapes (one_fails first)) = subst IsLayoutFault (sym first.is_its_refusal) (off_metal refl refl)
 
-layout_stage : (layer_map : LayerMap) (wanted : Option (List ℕ)) (layout : List ℕ) (refusal : Refusal) → LayoutComesTo layer_map wanted layout (refused refusal) → IsOfStage refusal
-layout_stage layer_map wanted layout refusal (stops (lacks long)) = of_layout refl (lit≤ tt) (lit≤ tt)
+layout_stage : (layer_map : LayerMap) (wanted : Option (List ℕ)) (layout : List ℕ) (refusal : Refusal) → LayoutComesTo layer_map wanted layout (refused refusal) → IsOfLayout refusal
+layout_stage layer_map wanted layout refusal (stops (lacks long)) = in_bytes refl (lit≤ tt, lit≤ tt)
 layout_stage layer_map wanted layout refusal (goes_on {v = text} short (retold {fault = fault} comes)) = short_stage layer_map wanted text fault comes
 
-map_text_stage : (bytes : List ℕ) (refusal : Refusal) → MapTextComesTo bytes (refused refusal) → IsOfStage refusal
-map_text_stage bytes refusal (stops (lacks long)) = of_map refl (lit≤ tt) (lit≤ tt)
-map_text_stage bytes refusal (goes_on {v = text} short (retold {fault = fault} comes)) = let number = map_number text fault comes in of_map refl number.0 number.1
+map_text_stage : (bytes : List ℕ) (refusal : Refusal) → MapTextComesTo bytes (refused refusal) → IsOfMap refusal
+map_text_stage bytes refusal (stops (lacks long)) = record { status = refl; number = (lit≤ tt, lit≤ tt) }
+map_text_stage bytes refusal (goes_on {v = text} short (retold {fault = fault} comes)) = record { status = refl; number = map_number text fault comes }
 
-map_stage : (task : Task) (bytes : List ℕ → List ℕ) (refusal : Refusal) → MapComesTo task bytes (refused refusal) → IsOfStage refusal
+map_stage : (task : Task) (bytes : List ℕ → List ℕ) (refusal : Refusal) → MapComesTo task bytes (refused refusal) → IsOfMap refusal
 map_stage (OneMetal layout layer datatype radius top) bytes refusal comes = cc comes
 map_stage (Mapped layout map top) bytes refusal comes = map_text_stage (bytes map) refusal comes
 map_stage (Generated columns) bytes refusal comes = map_text_stage generated_map refusal comes
+map_stage (Pairs layout map top size) bytes refusal comes = map_text_stage (bytes map) refusal comes
+
+asked_stage : (task : Task) (layer_map : LayerMap) (refusal : Refusal) → AskedComesTo task layer_map (refused refusal) → IsOfStage refusal
+asked_stage (OneMetal layout layer datatype radius top) layer_map refusal comes = cc comes
+asked_stage (Mapped layout map top) layer_map refusal comes = cc comes
+asked_stage (Generated columns) layer_map refusal comes = cc comes
+asked_stage (Pairs layout map top size) layer_map refusal (lacks none) = of_size refl refl
+
+inquiry_stage : (asked : Asked) (layer_map : LayerMap) (wanted : Option (List ℕ)) (layout : List ℕ) (refusal : Refusal) → InquiryComesTo asked layer_map wanted layout (refused refusal)
+    → IsOfLayout refusal
+inquiry_stage asked layer_map wanted layout refusal (stops comes) = layout_stage layer_map wanted layout refusal comes
+inquiry_stage asked layer_map wanted layout refusal (goes_on comes is) = cc is
 
 words_stage : (words : List (List ℕ)) (refusal : Refusal) → WordsComeTo words (refused refusal) → IsOfStage refusal
 words_stage words refusal (lacks none) = of_words refl refl
 
 pub refusals_tell_stages : (words : List (List ℕ)) (contents : Contents) (refusal : Refusal) → IsVerdict words contents (refused refusal) → IsOfStage refusal
 refusals_tell_stages words contents refusal (stops comes) = words_stage words refusal comes
-refusals_tell_stages words contents refusal (goes_on {v = request} asked (stops comes)) = map_stage request.task contents.map refusal comes
-refusals_tell_stages words contents refusal (goes_on asked (goes_on map comes)) = layout_stage _ _ _ refusal comes
+refusals_tell_stages words contents refusal (goes_on {v = request} words_ask (stops comes)) =
+    map_stage_of refusal (map_stage request.task contents.map refusal comes)
+refusals_tell_stages words contents refusal (goes_on {v = request} words_ask (goes_on {v = layer_map} map (stops comes))) =
+    asked_stage request.task layer_map refusal comes
+refusals_tell_stages words contents refusal (goes_on words_ask (goes_on map (goes_on fits comes))) =
+    layout_stage_of refusal (inquiry_stage _ _ _ _ refusal comes)
+
+-- ---- which stages have other numbers than 48
+
+less_is_other : (n : ℕ) → n ≤ 47 → n ≢ 48
+less_is_other n small e = omega (arith, small, e)
+
+terminal_is_other : (n : ℕ) → n ≡ 50 → n ≢ 48
+terminal_is_other n is e = omega (arith, is, e)
+
+not_of_map : (refusal : Refusal) → IsOfMap refusal → refusal.number ≢ 48
+not_of_map refusal is = less_is_other refusal.number is.number.1
+
+not_of_layout : (refusal : Refusal) → IsOfLayout refusal → refusal.number ≢ 48
+not_of_layout refusal (in_bytes status number) = let most = number.1 in less_is_other refusal.number (omega (arith, most))
+not_of_layout refusal (off_metal status number) = terminal_is_other refusal.number number
+
+pub no_map_refuses_so : (bytes : List ℕ) (refusal : Refusal) → MapTextComesTo bytes (refused refusal) → refusal.number ≢ 48
+no_map_refuses_so bytes refusal comes = not_of_map refusal (map_text_stage bytes refusal comes)
+
+pub no_layout_refuses_so : (asked : Asked) (layer_map : LayerMap) (wanted : Option (List ℕ)) (layout : List ℕ) (refusal : Refusal)
+    → InquiryComesTo asked layer_map wanted layout (refused refusal) → refusal.number ≢ 48
+no_layout_refuses_so asked layer_map wanted layout refusal comes = not_of_layout refusal (inquiry_stage asked layer_map wanted layout refusal comes)
+
+no_report_lacks : (task : Task) (layer_map : LayerMap) (refusal : Refusal) → (GivesPairs task → ⊥) → AskedComesTo task layer_map (refused refusal) → ⊥
+no_report_lacks (OneMetal layout layer datatype radius top) layer_map refusal none comes = cc comes
+no_report_lacks (Mapped layout map top) layer_map refusal none comes = cc comes
+no_report_lacks (Generated columns) layer_map refusal none comes = cc comes
+no_report_lacks (Pairs layout map top size) layer_map refusal none comes = none tt
+
+-- a task that gives no pairs has none
+pub no_size_lacks : (words : List (List ℕ)) (contents : Contents) (request : Request) (refusal : Refusal) → Ask words request → (GivesPairs request.task → ⊥)
+    → IsVerdict words contents (refused refusal) → refusal.number ≢ 48
+no_size_lacks words contents request refusal asks none (stops (lacks no_request)) e = absurd (no_request request asks)
+no_size_lacks words contents request refusal asks none (goes_on {v = this} (reads asked) (stops comes)) e =
+    not_of_map refusal (map_stage this.task contents.map refusal comes) e
+no_size_lacks words contents request refusal asks none (goes_on {v = this} (reads asked) (goes_on {v = layer_map} map (stops comes))) e =
+    let same : this ≡ request = requests_agree words this request asked asks in
+    no_report_lacks request.task layer_map refusal none (subst (λ (r : Request). AskedComesTo r.task layer_map (refused refusal)) same comes)
+no_size_lacks words contents request refusal asks none (goes_on words_ask (goes_on map (goes_on fits comes))) e = no_layout_refuses_so _ _ _ _ refusal comes e

@@ -1,14 +1,15 @@
 //! Runs on devices that fail, at each call and each byte in turn, and on devices that give and take one byte a call.
 
-use super::gauge_kinds::push_kinds;
+use super::gauge_kinds::Gauges;
 use super::maps::{AT_1, CUT, METALS};
 use super::reports::{Report, text_of};
-use super::runs::{Failing, Given, Want, answers, calm, expect, files_of, mapped, push_words};
+use super::runs::{
+    Failing, Given, ONE_METAL, PAIRS, Want, answers, calm, expect, files_of, mapped, push_words,
+};
 use critarea_core::{NoGate, run};
 use edge_io::{Failed, Files, MemFiles, MemSink, Sink};
-use gauge_samples::GaugeKind;
-use gauges::Gauge;
 use lists::NoMemory;
+use samples::TWO_BARS;
 use samples::layouts::{Plate, plates};
 use std::alloc::{AllocError, Global};
 use std::thread::Threads;
@@ -101,6 +102,9 @@ const REPORT: Report = Report {
 /// The line of a map that is no document.
 const LINE: &[u8] = b"error 40 at 0\n";
 
+/// The text of the pairs of the two bars.
+const PAIR_LINES: &[u8] = b"pair m 0 1 r=3 area=32\npairs 1\nworst m 0 1 r=3 area=32\n";
+
 /// A run of a map that is no document.
 const REFUSED: Ending<'static> = Ending {
     status: 3,
@@ -188,9 +192,9 @@ fn status_on<F: Files, O: Sink, E: Sink>(
     let mut words = Vec::new(alloc);
     push_words(alloc, &mut words, line)?;
     let words = words.as_slice();
-    let mut gauges: Vec<Box<dyn Gauge>> = Vec::new(alloc);
-    push_kinds(alloc, &mut gauges, &[GaugeKind::Peak, GaugeKind::Nonzero])?;
-    Ok(run(rt, alloc, words, files, out, err, &mut gauges, &NoGate))
+    let mut gauges = Gauges::of_the_program(alloc)?;
+    let (rows, pairs) = (&mut gauges.rows, &mut gauges.pairs);
+    Ok(run(rt, alloc, words, files, out, err, rows, pairs, &NoGate))
 }
 
 /// Whether a run ends so whose outputs take so many bytes, one a call.
@@ -225,6 +229,22 @@ fn report_is_cut_short(rt: &(impl Threads + Sync), alloc: Global) -> Result<bool
     drips(rt, alloc, &given, text.len(), &strap.reported())
 }
 
+/// Whether runs write a prefix of the text of pairs and fail where the output takes no more, each prefix in turn, and write all
+/// of it where it takes all.
+fn pairs_are_cut_short(rt: &(impl Threads + Sync), alloc: Global) -> Result<bool, NoMemory> {
+    for most in 0..PAIR_LINES.len() {
+        let cut = Ending {
+            out: &PAIR_LINES[..most],
+            ..FAILED
+        };
+        if !drips(rt, alloc, &PAIRS_RUN.given, most, &cut)? {
+            return Ok(false);
+        }
+    }
+    let whole = &PAIRS_RUN.whole;
+    drips(rt, alloc, &PAIRS_RUN.given, PAIR_LINES.len(), whole)
+}
+
 /// Whether runs of a refused map write a prefix of the line and fail where the error output takes no more, each prefix in
 /// turn, and are refused where it takes all.
 fn line_is_cut_short(rt: &(impl Threads + Sync), alloc: Global) -> Result<bool, NoMemory> {
@@ -244,6 +264,7 @@ fn line_is_cut_short(rt: &(impl Threads + Sync), alloc: Global) -> Result<bool, 
 #[test]
 fn outputs_fail_behind_each_byte_in_turn(rt: HostRuntime) {
     assert!(rt; report_is_cut_short(&rt, rt.alloc()) == Ok(true));
+    assert!(rt; pairs_are_cut_short(&rt, rt.alloc()) == Ok(true));
     assert!(rt; line_is_cut_short(&rt, rt.alloc()) == Ok(true));
 }
 
@@ -400,15 +421,45 @@ const REFUSED_RUN: Trial<'static> = Trial {
     whole: REFUSED,
 };
 
+/// A run that tells the pairs of the two bars.
+const PAIRS_RUN: Trial<'static> = Trial {
+    given: Given {
+        words: PAIRS,
+        layout: TWO_BARS,
+        map: ONE_METAL,
+        failing: Failing::Nothing,
+    },
+    whole: Ending {
+        status: 0,
+        out: PAIR_LINES,
+        err: b"",
+    },
+};
+
+/// One that names a size which the map does not have.
+const NO_SIZE_RUN: Trial<'static> = Trial {
+    given: Given {
+        words: "a --map m --pairs 2",
+        layout: TWO_BARS,
+        map: ONE_METAL,
+        failing: Failing::Nothing,
+    },
+    whole: Ending {
+        err: b"error 48 at 1\n",
+        ..REFUSED
+    },
+};
+
 /// The devices, and how many calls of each a run has that reports, and one of a refused map. A file is started, read, and read
-/// again to see its end, and a report or a line is written at once.
+/// again to see its end, and a report or a line is written at once. A text of pairs takes as many as a report, and a size that
+/// the map does not have as many as a refused map.
 const CALLS: &[(Device, u64, u64)] = &[
     (Device::Files, 6, 3),
     (Device::Out, 1, 0),
     (Device::ErrorOut, 0, 1),
 ];
 
-/// Whether each call of both runs fails in turn. Failures are counted on from this number.
+/// Whether each call of the runs fails in turn. Failures are counted on from this number.
 fn each_call_fails(
     rt: &(impl Threads + Sync),
     alloc: Global,
@@ -418,7 +469,9 @@ fn each_call_fails(
     let run = strap.trial();
     for (device, reported, refused) in CALLS {
         if run.calls_of(rt, alloc, *device, faults)? != Some(*reported)
+            || PAIRS_RUN.calls_of(rt, alloc, *device, faults)? != Some(*reported)
             || REFUSED_RUN.calls_of(rt, alloc, *device, faults)? != Some(*refused)
+            || NO_SIZE_RUN.calls_of(rt, alloc, *device, faults)? != Some(*refused)
         {
             return Ok(false);
         }
@@ -437,10 +490,15 @@ fn devices_fail_at_each_call_in_turn(rt: HostRuntime) {
     }
 }
 
-/// Whether both runs need all of their room.
+/// Whether the runs need all of their room.
 fn rooms_are_needed(rt: &(impl Threads + Sync), alloc: Global) -> Result<bool, NoMemory> {
     let strap = Strap::new(alloc)?;
-    Ok(strap.trial().needs_its_room(rt, alloc)? && REFUSED_RUN.needs_its_room(rt, alloc)?)
+    Ok(
+        strap.trial().needs_its_room(rt, alloc)?
+            && PAIRS_RUN.needs_its_room(rt, alloc)?
+            && REFUSED_RUN.needs_its_room(rt, alloc)?
+            && NO_SIZE_RUN.needs_its_room(rt, alloc)?,
+    )
 }
 
 #[test]
@@ -448,17 +506,13 @@ fn outputs_in_memory_need_their_room(rt: HostRuntime) {
     assert!(rt; rooms_are_needed(&rt, rt.alloc()) == Ok(true));
 }
 
-/// A map that is also named as the layout.
-const MAP: &[u8] =
-    b"version = 1\nradii = [3]\nweights = [1]\nmetal = [{ name = \"m\", pairs = [[1, 0]] }]\n";
-
 /// One name for map and layout: it is read twice, first as a map, which is good, and then as a layout, whose first record
 /// would have the length `ve`, an odd number.
 #[test]
 fn one_file_is_read_as_map_and_as_layout(rt: HostRuntime) {
     let given = Given {
         words: "a --map a",
-        ..calm("", MAP)
+        ..calm("", ONE_METAL)
     };
     let want = Want::BadLayout(11, 0);
     expect(&rt, answers(&rt, rt.alloc(), &given, &want), 0);

@@ -1,6 +1,70 @@
-use gauge_samples::{GaugeKind, Mute, Silent, Tight};
-use gauges::{Gauge, Nonzero, Peak};
+use gauge_samples::{
+    GaugeKind, Mute, MutePairs, PairAreas, PairGaugeKind, Silent, Tight, TightPairs,
+};
+use gauges::{Gauge, Nonzero, PairGauge, Peak, Worst, append_pair_texts, append_texts};
 use std::alloc::{AllocError, Global};
+
+/// The gauges of a run.
+#[derive(Drop)]
+pub struct Gauges {
+    /// Those that are told the rows of a report.
+    pub rows: Vec<Box<dyn Gauge>>,
+    /// Those that are told the rows of pairs of nets.
+    pub pairs: Vec<Box<dyn PairGauge>>,
+}
+
+impl Gauges {
+    /// No gauges.
+    pub fn new(alloc: Global) -> Gauges {
+        Gauges {
+            rows: Vec::new(alloc),
+            pairs: Vec::new(alloc),
+        }
+    }
+
+    /// Those that the program has.
+    pub fn of_the_program(alloc: Global) -> Result<Gauges, AllocError> {
+        let mut gauges = Gauges::new(alloc);
+        gauges.push_kinds(alloc, &[GaugeKind::Peak, GaugeKind::Nonzero])?;
+        gauges.push_pair_kinds(alloc, &[PairGaugeKind::Worst])?;
+        Ok(gauges)
+    }
+
+    /// Appends a gauge of each of these kinds, which has seen nothing.
+    pub fn push_kinds(&mut self, alloc: Global, kinds: &[GaugeKind]) -> Result<(), AllocError> {
+        for kind in kinds {
+            self.rows.push(boxed(alloc, *kind)?)?;
+        }
+        Ok(())
+    }
+
+    /// Appends a pair gauge of each of these kinds, which has seen nothing.
+    pub fn push_pair_kinds(
+        &mut self,
+        alloc: Global,
+        kinds: &[PairGaugeKind],
+    ) -> Result<(), AllocError> {
+        for kind in kinds {
+            self.pairs.push(boxed_pairs(alloc, *kind)?)?;
+        }
+        Ok(())
+    }
+
+    /// Whether this is what those that are told rows of a report print, as far as they print.
+    pub fn print(&self, alloc: Global, text: &str) -> bool {
+        let mut into = Vec::new(alloc);
+        // a gauge that refuses to print leaves what the others have printed
+        let _printed = append_texts(self.rows.as_slice(), &mut into);
+        into.as_slice() == text.as_bytes()
+    }
+
+    /// Whether this is what those that are told rows of pairs print, as far as they print.
+    pub fn print_pairs(&self, alloc: Global, text: &str) -> bool {
+        let mut into = Vec::new(alloc);
+        let _printed = append_pair_texts(self.pairs.as_slice(), &mut into);
+        into.as_slice() == text.as_bytes()
+    }
+}
 
 /// A gauge of this kind, which has seen nothing.
 fn boxed(alloc: Global, kind: GaugeKind) -> Result<Box<dyn Gauge>, AllocError> {
@@ -14,14 +78,13 @@ fn boxed(alloc: Global, kind: GaugeKind) -> Result<Box<dyn Gauge>, AllocError> {
     Ok(gauge)
 }
 
-/// Appends a gauge of each of these kinds.
-pub fn push_kinds(
-    alloc: Global,
-    gauges: &mut Vec<Box<dyn Gauge>>,
-    kinds: &[GaugeKind],
-) -> Result<(), AllocError> {
-    for kind in kinds {
-        gauges.push(boxed(alloc, *kind)?)?;
-    }
-    Ok(())
+/// A pair gauge of this kind, which has seen nothing.
+fn boxed_pairs(alloc: Global, kind: PairGaugeKind) -> Result<Box<dyn PairGauge>, AllocError> {
+    let gauge: Box<dyn PairGauge> = match kind {
+        PairGaugeKind::Worst => Box::new(alloc, Worst::new(alloc))?,
+        PairGaugeKind::Tight(room) => Box::new(alloc, TightPairs::new(alloc, room))?,
+        PairGaugeKind::Areas => Box::new(alloc, PairAreas::new(alloc))?,
+        PairGaugeKind::Mute => Box::new(alloc, MutePairs::new(alloc))?,
+    };
+    Ok(gauge)
 }

@@ -1,9 +1,8 @@
-//! Runs with other gauges than those of the program, of which some refuse.
+//! Runs with other gauges than those of the program, of which some refuse. Beside them stand pair gauges, which are told nothing.
 
-use super::gauge_kinds::push_kinds;
-use super::runs::{Answer, Failing, Given, RADIUS_3, calm, expect, run_told};
-use gauge_samples::{Counted, GaugeKind};
-use gauges::{Gauge, append_texts};
+use super::gauge_kinds::Gauges;
+use super::runs::{Answer, Failing, Given, ONE_METAL, PAIRS, RADIUS_3, calm, expect, run_told};
+use gauge_samples::{Counted, CountedPairs, GaugeKind, PairGaugeKind};
 use lists::NoMemory;
 use samples::TWO_BARS;
 use std::alloc::Global;
@@ -143,13 +142,15 @@ const ROWS: &[Row] = &[
     },
 ];
 
-/// Whether this is what the gauges print, as far as they print.
-fn are_printed(alloc: Global, gauges: &[Box<dyn Gauge>], text: &str) -> bool {
-    let mut into = Vec::new(alloc);
-    // a gauge that refuses to print leaves what the others have printed
-    let _printed = append_texts(gauges, &mut into);
-    into.as_slice() == text.as_bytes()
-}
+/// Pair gauges that refuse each row, and to print.
+const PAIR_KINDS: &[PairGaugeKind] = &[
+    PairGaugeKind::Worst,
+    PairGaugeKind::Tight(0),
+    PairGaugeKind::Mute,
+];
+
+/// What they print where nobody has told them anything, as far as they print.
+const NO_PAIRS: &str = "worst none\nseen 0 of 0\nmu";
 
 /// Whether the output took the report with these lines behind it, or nothing where there are none.
 fn has_lines(answer: &Answer, lines: Option<&str>) -> bool {
@@ -174,7 +175,7 @@ fn is_answered(answer: &Answer, row: &Row) -> bool {
 fn run_is_answered(
     rt: &(impl Threads + Sync),
     alloc: Global,
-    gauges: &mut Vec<Box<dyn Gauge>>,
+    gauges: &mut Gauges,
     row: &Row,
 ) -> bool {
     let given = Given {
@@ -187,33 +188,25 @@ fn run_is_answered(
     }
 }
 
-/// Whether a run has this answer, and leaves its gauges so. The list begins empty.
-fn is_right(
-    rt: &(impl Threads + Sync),
-    alloc: Global,
-    gauges: &mut Vec<Box<dyn Gauge>>,
-    row: &Row,
-) -> bool {
-    push_kinds(alloc, gauges, row.kinds).is_ok()
+/// Whether a run has this answer, and leaves its gauges so, and its pair gauges as they were. Both lists begin empty.
+fn is_right(rt: &(impl Threads + Sync), alloc: Global, gauges: &mut Gauges, row: &Row) -> bool {
+    gauges.push_kinds(alloc, row.kinds).is_ok()
+        && gauges.push_pair_kinds(alloc, PAIR_KINDS).is_ok()
         && run_is_answered(rt, alloc, gauges, row)
-        && are_printed(alloc, gauges.as_slice(), row.after)
+        && gauges.print(alloc, row.after)
+        && gauges.print_pairs(alloc, NO_PAIRS)
 }
 
 #[test]
 fn gauges_of_a_run_are_told_and_print(rt: HostRuntime) {
     for (number, row) in ROWS.iter().enumerate() {
-        let holds = is_right(&rt, rt.alloc(), &mut Vec::new(rt.alloc()), row);
+        let holds = is_right(&rt, rt.alloc(), &mut Gauges::new(rt.alloc()), row);
         expect(&rt, holds, number);
     }
 }
 
 /// Whether a run with these gauges has these lines behind its report.
-fn is_told(
-    rt: &(impl Threads + Sync),
-    alloc: Global,
-    gauges: &mut Vec<Box<dyn Gauge>>,
-    lines: &str,
-) -> bool {
+fn is_told(rt: &(impl Threads + Sync), alloc: Global, gauges: &mut Gauges, lines: &str) -> bool {
     match run_told(rt, alloc, &calm(RADIUS_3, TWO_BARS), gauges) {
         Ok(answer) => has_lines(&answer, Some(lines)),
         Err(_) => false,
@@ -221,10 +214,12 @@ fn is_told(
 }
 
 /// Whether gauges go on from run to run, and a run without gauges prints its report alone. The list begins empty.
-fn go_on(rt: &(impl Threads + Sync), alloc: Global, gauges: &mut Vec<Box<dyn Gauge>>) -> bool {
+fn go_on(rt: &(impl Threads + Sync), alloc: Global, gauges: &mut Gauges) -> bool {
     is_told(rt, alloc, gauges, "")
         && is_told(rt, alloc, gauges, "")
-        && push_kinds(alloc, gauges, &[GaugeKind::Peak, GaugeKind::Nonzero]).is_ok()
+        && gauges
+            .push_kinds(alloc, &[GaugeKind::Peak, GaugeKind::Nonzero])
+            .is_ok()
         && is_told(
             rt,
             alloc,
@@ -241,43 +236,79 @@ fn go_on(rt: &(impl Threads + Sync), alloc: Global, gauges: &mut Vec<Box<dyn Gau
 
 #[test]
 fn gauges_go_on_from_run_to_run(rt: HostRuntime) {
-    let mut gauges: Vec<Box<dyn Gauge>> = Vec::new(rt.alloc());
+    let mut gauges = Gauges::new(rt.alloc());
     assert!(rt; go_on(&rt, rt.alloc(), &mut gauges));
 }
 
 /// Appends a gauge that counts there when it is dropped.
-pub fn push_counted(
+fn push_counted(
     alloc: Global,
-    gauges: &mut Vec<Box<dyn Gauge>>,
+    gauges: &mut Gauges,
     drops: &Arc<AtomicU64>,
 ) -> Result<(), NoMemory> {
     let counted = Counted::new(alloc, Arc::try_clone(drops)?);
-    gauges.push(Box::new(alloc, counted)?)?;
+    gauges.rows.push(Box::new(alloc, counted)?)?;
     Ok(())
 }
 
-/// The status of a run on a generated cell, and how many of its two gauges were dropped after it. Their list is dropped behind
-/// that.
+/// Appends a pair gauge that counts there when it is dropped.
+fn push_counted_pairs(
+    alloc: Global,
+    gauges: &mut Gauges,
+    drops: &Arc<AtomicU64>,
+) -> Result<(), NoMemory> {
+    let counted = CountedPairs::new(alloc, Arc::try_clone(drops)?);
+    gauges.pairs.push(Box::new(alloc, counted)?)?;
+    Ok(())
+}
+
+/// The status of a run, and how many of its four gauges were dropped after it, of which two are pair gauges. Their lists are
+/// dropped behind that.
 fn dropped_by_run(
     rt: &(impl Threads + Sync),
     alloc: Global,
+    given: &Given<'_>,
     drops: &Arc<AtomicU64>,
 ) -> Result<(u8, u64), NoMemory> {
-    let mut gauges: Vec<Box<dyn Gauge>> = Vec::new(alloc);
+    let mut gauges = Gauges::new(alloc);
     push_counted(alloc, &mut gauges, drops)?;
     push_counted(alloc, &mut gauges, drops)?;
-    let answer = run_told(rt, alloc, &calm(GENERATED, &[]), &mut gauges)?;
+    push_counted_pairs(alloc, &mut gauges, drops)?;
+    push_counted_pairs(alloc, &mut gauges, drops)?;
+    let answer = run_told(rt, alloc, given, &mut gauges)?;
     Ok((answer.status, drops.load(Ordering::SeqCst)))
 }
 
-/// The status of a run, how many of its two gauges were dropped after it, and how many after their list was dropped.
-fn drops(rt: &(impl Threads + Sync), alloc: Global) -> Result<(u8, u64, u64), NoMemory> {
+/// The status of a run, how many of its four gauges were dropped after it, and how many after their lists were dropped.
+fn drops(
+    rt: &(impl Threads + Sync),
+    alloc: Global,
+    given: &Given<'_>,
+) -> Result<(u8, u64, u64), NoMemory> {
     let drops = Arc::new(alloc, AtomicU64::new(0))?;
-    let (status, before) = dropped_by_run(rt, alloc, &drops)?;
+    let (status, before) = dropped_by_run(rt, alloc, given, &drops)?;
     Ok((status, before, drops.load(Ordering::SeqCst)))
 }
 
+/// A run that reports a generated cell, and one that tells the pairs of the two bars.
+const COUNTED_RUNS: &[Given<'static>] = &[
+    Given {
+        words: GENERATED,
+        layout: b"",
+        map: b"",
+        failing: Failing::Nothing,
+    },
+    Given {
+        words: PAIRS,
+        layout: TWO_BARS,
+        map: ONE_METAL,
+        failing: Failing::Nothing,
+    },
+];
+
 #[test]
 fn a_run_drops_no_gauge(rt: HostRuntime) {
-    assert!(rt; drops(&rt, rt.alloc()) == Ok((0, 0, 2)));
+    for (number, given) in COUNTED_RUNS.iter().enumerate() {
+        expect(&rt, drops(&rt, rt.alloc(), given) == Ok((0, 0, 4)), number);
+    }
 }

@@ -15,7 +15,7 @@ fn row_of_squares(alloc: Global, count: u32) -> Result<Vec<Plate>, AllocError> {
 }
 
 /// The file of so many squares in a row.
-fn row_layout(alloc: Global, count: u32) -> Result<Vec<u8>, AllocError> {
+pub fn row_layout(alloc: Global, count: u32) -> Result<Vec<u8>, AllocError> {
     let squares = row_of_squares(alloc, count)?;
     plates(alloc, squares.as_slice())
 }

@@ -29,6 +29,8 @@ mod most_rows;
 #[cfg(test)]
 mod outline_runs;
 #[cfg(test)]
+mod pairs;
+#[cfg(test)]
 mod placements;
 #[cfg(test)]
 mod records;

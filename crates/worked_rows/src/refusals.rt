@@ -92,11 +92,13 @@ const RADII_OF_SAMPLE: &str = "version = 1\nradii = [2, 5]";
 
 const WITH_A_NUMBER: &str = "version = 2\nsides = [2, 5]\ncontacts = 1";
 
-/// The sample's terminal, and the same at the row and the column of 5, given twice, beside one at the end of a wire, and beside
-/// two of which the first is there on the second metal.
+/// The sample's terminal, and the same at the row and the column of 5, between the two bars, given twice, beside one at the end of
+/// a wire, and beside two of which the first is there on the second metal.
 const TERMINAL: &str = "[[terminal]]\nmetal = \"m1\"\nx = 0\ny = 0\n";
 
 const AT_5: &str = "[[terminal]]\nmetal = \"m1\"\nx = 5\ny = 5\n";
+
+const AT_12: &str = "[[terminal]]\nmetal = \"m1\"\nx = 12\ny = 5\n";
 
 const TWICE: &str =
     "[[terminal]]\nmetal = \"m1\"\nx = 0\ny = 0\n[[terminal]]\nmetal = \"m1\"\nx = 0\ny = 0\n";
@@ -133,6 +135,51 @@ const WORDS: &[Refusal] = refusals! {
     "generate_501": "--generate 501", NO_MAP, BARS => 2, error 2 at 0;
     "generate_and_layout": "a --generate 1", NO_MAP, BARS => 2, error 2 at 0;
     "generate_and_map": "--generate 1 --map m", NO_MAP, BARS => 2, error 2 at 0;
+};
+
+/// The sizes of the sample, and in their place one, and two sides.
+const SIZES_OF_SAMPLE: &str = "[2, 5]\nweights = [10, 1]";
+
+const ONE_SIZE: &str = "[2]\nweights = [10]";
+
+const TWO_SIDES: &str = "version = 2\nsides = [2, 5]";
+
+/// Words of areas by pairs that are of no form, that name a size which the map does not have, or whose map or layout is refused.
+/// The sample has two sizes. Where the layout is no file it is not asked for.
+const PAIRS: &[Refusal] = refusals! {
+    // 2: no size, one that no map has, or what may not stand beside it, also where it changes nothing.
+    "pairs_of_size_0": "a --map m --pairs 0", Sample, BARS => 2, error 2 at 0;
+    "pairs_of_size_33": "a --map m --pairs 33", Sample, BARS => 2, error 2 at 0;
+    "pairs_of_size_minus_1": "a --map m --pairs=-1", Sample, BARS => 2, error 2 at 0;
+    "pairs_of_no_number": "a --map m --pairs", Sample, BARS => 2, error 2 at 0;
+    "pairs_of_a_number_of_11_digits": "a --map m --pairs 00000000001", Sample, BARS => 2, error 2 at 0;
+    "pairs_given_twice": "a --map m --pairs 1 --pairs 1", Sample, BARS => 2, error 2 at 0;
+    "pairs_without_map": "a --pairs 1", Sample, BARS => 2, error 2 at 0;
+    "pairs_without_layout": "--map m --pairs 1", Sample, BARS => 2, error 2 at 0;
+    "pairs_with_tile": "a --map m --pairs 1 --tile 65536", Sample, BARS => 2, error 2 at 0;
+    "pairs_with_workers": "a --map m --pairs 1 --workers 4", Sample, BARS => 2, error 2 at 0;
+    "pairs_of_one_metal": "a --layer 1 --datatype 0 --radius 3 --pairs 1", Sample, BARS => 2, error 2 at 0;
+    "pairs_with_radius": "a --map m --pairs 1 --radius 3", Sample, BARS => 2, error 2 at 0;
+    "pairs_of_a_generated_layout": "--generate 1 --pairs 1", Sample, BARS => 2, error 2 at 0;
+
+    // 40 to 42: the map's own faults come before the size, the last one too.
+    "pairs_and_map_of_no_toml": "b --map m --pairs 32", Raw(b"x"), BARS => 3, error 40 at 0;
+    "pairs_and_map_with_unknown_key": "b --map m --pairs 32", Changed("version = 1", "version = 1\nlayers = 2"), BARS => 3, error 41 at 1;
+    "pairs_and_contacts_by_a_number": "b --map m --pairs 3", Changed(RADII_OF_SAMPLE, WITH_A_NUMBER), BARS => 3, error 42 at 8;
+
+    // 48: the place is how many sizes the map has. It comes before what a layout may be refused for.
+    "pairs_of_size_3_of_2": "b --map m --pairs 3", Sample, BARS => 3, error 48 at 2;
+    "pairs_of_size_32_of_2": "b --map m --pairs 32", Sample, BARS => 3, error 48 at 2;
+    "pairs_of_size_2_of_1": "b --map m --pairs 2", Changed(SIZES_OF_SAMPLE, ONE_SIZE), BARS => 3, error 48 at 1;
+    "pairs_of_side_3_of_2": "b --map m --pairs 3", Changed(RADII_OF_SAMPLE, TWO_SIDES), BARS => 3, error 48 at 2;
+    "pairs_of_no_size_and_no_top": "b --map m --pairs 3 --top X", Sample, BARS => 3, error 48 at 2;
+    "pairs_of_no_size_and_no_layout": "a --map m --pairs 3", Sample, Bytes(b"") => 3, error 48 at 2;
+    "pairs_of_no_size_and_no_terminal": "a --map m --pairs 3", Changed(TERMINAL, AT_12), BARS => 3, error 48 at 2;
+
+    // 10, 27 and 50: the layout, its top, and a terminal between the two bars, whose pairs have an area at the second size.
+    "pairs_of_no_layout": "a --map m --pairs 2", Sample, Bytes(b"") => 4, error 10 at 0;
+    "pairs_of_no_such_top": "a --map m --pairs 2 --top X", Sample, BARS => 4, error 27 at 0;
+    "pairs_and_terminal_off_its_metal": "a --map m --pairs 2", Changed(TERMINAL, AT_12), BARS => 4, error 50 at 0;
 };
 
 /// Maps that are no documents, or have a key or a value that may not stand there. The layout is not asked for.
@@ -438,6 +485,11 @@ fn expect_refusals(
 #[test]
 fn words_are_refused(rt: HostRuntime) {
     expect_refusals(&rt, rt.alloc(), WORDS, &[2]);
+}
+
+#[test]
+fn pairs_are_refused(rt: HostRuntime) {
+    expect_refusals(&rt, rt.alloc(), PAIRS, &[2, 40, 41, 42, 48, 10, 27, 50]);
 }
 
 #[test]

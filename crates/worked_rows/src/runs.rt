@@ -1,9 +1,7 @@
-use super::gauge_kinds::push_kinds;
+use super::gauge_kinds::Gauges;
 use super::reports::{Report, text_of};
 use critarea_core::{Gate, NoGate, Word, run};
 use edge_io::{Files, MemFiles, MemSink};
-use gauge_samples::GaugeKind;
-use gauges::Gauge;
 use lists::{Name, NoMemory};
 use std::alloc::{AllocError, Global};
 use std::process::Abort;
@@ -18,7 +16,17 @@ pub const RADIUS_3: &str = "a --layer 1 --datatype 0 --radius 3";
 /// The same at the radius 4.
 pub const RADIUS_4: &str = "a --layer 1 --datatype 0 --radius 4";
 
-/// What they are answered for the two bars.
+/// The words that ask for the areas by pairs of nets at the first size of the map `m`.
+pub const PAIRS: &str = "a --map m --pairs 1";
+
+/// A map of one metal of all shapes of layer 1 and datatype 0, for one radius, 3.
+pub const ONE_METAL: &[u8] =
+    b"version = 1\nradii = [3]\nweights = [1]\nmetal = [{ name = \"m\", pairs = [[1, 0]] }]\n";
+
+/// The text of pairs for the two bars with this map.
+pub const PAIR_32: &str = "pair m 0 1 r=3 area=32\npairs 1\nworst m 0 1 r=3 area=32\n";
+
+/// What the words of the radius 3 are answered for the two bars.
 pub const SHORT_32: Want = Want::Short(3, 32);
 
 /// What they are answered where no two nets are near one another.
@@ -145,12 +153,14 @@ fn line_of(alloc: Global, number: u8, place: usize) -> Result<String, AllocError
 pub enum Want {
     /// This report.
     Rows(Report),
-    /// The report with this text.
+    /// The report with this text, or this text of pairs of nets.
     Text(&'static str),
     /// The report of shorts: the radius of defects, and the area.
     Short(u32, u64),
     /// The words are refused.
     BadWords,
+    /// The map is refused, or the size that the words name: the number of what is wrong, and its place.
+    BadMap(u8, usize),
     /// The layout is refused: the number of what is wrong, and the offset at which it shows.
     BadLayout(u8, usize),
     /// A file or an output failed, and nothing was written.
@@ -165,6 +175,7 @@ impl Want {
             Want::Text(report) => answer.has(0, report, ""),
             Want::Short(radius, area) => answer.reports(report_of(alloc, *radius, *area)),
             Want::BadWords => answer.refuses(alloc, 2, 2, 0),
+            Want::BadMap(number, place) => answer.refuses(alloc, 3, *number, *place),
             Want::BadLayout(number, place) => answer.refuses(alloc, 4, *number, *place),
             Want::Fault => answer.has(5, "", ""),
         }
@@ -256,7 +267,7 @@ fn run_with_gauges<F: Files, G: Gate + Sync>(
     line: &str,
     files: &mut F,
     failing: Failing,
-    gauges: &mut Vec<Box<dyn Gauge>>,
+    gauges: &mut Gauges,
     gate: &G,
 ) -> Result<Answer, NoMemory> {
     let mut words = Vec::new(alloc);
@@ -264,7 +275,8 @@ fn run_with_gauges<F: Files, G: Gate + Sync>(
     let words = words.as_slice();
     let mut answer = no_answer(alloc, failing)?;
     let (out, err) = (&mut answer.out, &mut answer.err);
-    answer.status = run(rt, alloc, words, files, out, err, gauges, gate);
+    let (rows, pairs) = (&mut gauges.rows, &mut gauges.pairs);
+    answer.status = run(rt, alloc, words, files, out, err, rows, pairs, gate);
     Ok(answer)
 }
 
@@ -273,7 +285,7 @@ pub fn run_told(
     rt: &(impl Threads + Sync),
     alloc: Global,
     given: &Given<'_>,
-    gauges: &mut Vec<Box<dyn Gauge>>,
+    gauges: &mut Gauges,
 ) -> Result<Answer, NoMemory> {
     let mut files = files_of(alloc, given)?;
     let failing = given.failing;
@@ -289,8 +301,7 @@ pub fn run_with<F: Files, G: Gate + Sync>(
     failing: Failing,
     gate: &G,
 ) -> Result<Answer, NoMemory> {
-    let mut gauges: Vec<Box<dyn Gauge>> = Vec::new(alloc);
-    push_kinds(alloc, &mut gauges, &[GaugeKind::Peak, GaugeKind::Nonzero])?;
+    let mut gauges = Gauges::of_the_program(alloc)?;
     run_with_gauges(rt, alloc, words, files, failing, &mut gauges, gate)
 }
 

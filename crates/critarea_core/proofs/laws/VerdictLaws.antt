@@ -1,5 +1,5 @@
 -- each stage of the verdict has one outcome at most
-use Rattle.std.proofs.Common.{ℕ, ◌≡◌, List, sym, ◌∙◌, Option}
+use Rattle.std.proofs.Common.{ℕ, ◌≡◌, List, length, map, slice_get, sym, ap, arith, ◌∙◌, Option}
 use Rattle.first_refusal.specs.Outcomes.{Retold}
 use Rattle.first_refusal.specs.Laws.{IsUnique}
 use Rattle.first_refusal.proofs.CheckLaws.{checks_agree}
@@ -7,7 +7,7 @@ use Rattle.first_refusal.proofs.StageLaws.{readings_agree, retold_agree, stages_
 use Rattle.lists.proofs.Words.{enumerate_from}
 use Rattle.command_line.specs.Requests.{Ask}
 use Rattle.command_line.specs.declared.task.Task.{Task}
-use Rattle.command_line.specs.declared.task.Task.TheVariants.{OneMetal, Mapped, Generated}
+use Rattle.command_line.specs.declared.task.Task.TheVariants.{OneMetal, Mapped, Generated, Pairs}
 use Rattle.command_line.proofs.laws.Requests.{requests_agree}
 use Rattle.library_model.specs.declared.library.Library.{Library}
 use Rattle.library_grammar.specs.FirstFault.{BytesComeTo}
@@ -21,8 +21,9 @@ use Rattle.layout_gen.specs.Generated.{generated_map}
 use Rattle.map_model.specs.MapNames.{LayerMap}
 use Rattle.critarea_core.specs.Contents.{Contents, bytes_from, layout_source, wanted_top}
 use Rattle.critarea_core.specs.Layout.{Subject, RouteHolds, route_checks, route_fault, RoutesComeTo, LibraryComesTo, IsTerminalOn, terminal_fault, ShapesComeTo, ShortLayoutComesTo, TerminalsComeTo}
-use Rattle.critarea_core.specs.Refusals.{usage, map_limit, map_too_long, of_map_fault, layout_limit, layout_too_long, of_layout_fault}
-use Rattle.critarea_core.specs.Verdict.{IsShortEnough, ShortMapComesTo, MapTextComesTo, MapComesTo, WordsComeTo, LayoutComesTo, IsVerdict}
+use Rattle.critarea_core.specs.Inquiries.{Asked, AreAsked, AskedComesTo, for_pairs}
+use Rattle.critarea_core.specs.Refusals.{usage, map_limit, map_too_long, of_map_fault, layout_limit, layout_too_long, no_such_size, of_layout_fault}
+use Rattle.critarea_core.specs.Verdict.{IsShortEnough, ShortMapComesTo, MapTextComesTo, MapComesTo, WordsComeTo, LayoutComesTo, InquiryComesTo, IsVerdict}
 use Rattle.critarea_core.specs.declared.layout_fault.LayoutFault.TheVariants.{Place, Syntax}
 
 words_agree : (words : List (List ℕ)) → IsUnique (WordsComeTo words)
@@ -41,6 +42,25 @@ map_outcomes_agree : (task : Task) (bytes : List ℕ → List ℕ) → IsUnique 
 map_outcomes_agree (OneMetal layout layer datatype radius top) bytes one other a b = a ∙ sym b
 map_outcomes_agree (Mapped layout map top) bytes one other a b = map_texts_agree (bytes map) one other a b
 map_outcomes_agree (Generated columns) bytes one other a b = map_texts_agree generated_map one other a b
+map_outcomes_agree (Pairs layout map top size) bytes one other a b = map_texts_agree (bytes map) one other a b
+
+-- a map has one size under a number
+sizes_agree : (layer_map : LayerMap) (number : ℕ) → IsUnique (AreAsked layer_map number)
+sizes_agree layer_map number one other a b =
+    let p = a.numbered in
+    let q = b.numbered in
+    let place : p.place ≡ q.place = omega (arith, p.counted, q.counted) in
+    let sizes : List ℕ = map (λ listed. listed.size) layer_map.sizes in
+    let same : a.size ≡ b.size = cc (sym p.listed ∙ ap (λ k. slice_get sizes k) place ∙ q.listed) in
+    a.is_asked ∙ ap for_pairs same ∙ sym b.is_asked
+
+-- and a task asks one thing of it
+asked_agree : (task : Task) (layer_map : LayerMap) → IsUnique (AskedComesTo task layer_map)
+asked_agree (OneMetal layout layer datatype radius top) layer_map one other a b = a ∙ sym b
+asked_agree (Mapped layout map top) layer_map one other a b = a ∙ sym b
+asked_agree (Generated columns) layer_map one other a b = a ∙ sym b
+asked_agree (Pairs layout map top number) layer_map one other a b =
+    readings_agree (AreAsked layer_map number) (no_such_size (length layer_map.sizes)) (sizes_agree layer_map number) one other a b
 
 -- what a report is on, where the routes are these
 abbrev pub subject_of : LayerMap → List Route → Subject
@@ -65,7 +85,12 @@ pub layout_outcomes_agree : (layer_map : LayerMap) (wanted : Option (List ℕ)) 
 layout_outcomes_agree layer_map wanted layout = stages_agree _ _ (readings_agree (IsShortEnough layout_limit layout) layout_too_long (lengths_agree layout_limit layout))
     (λ same. retold_agree of_layout_fault (ShortLayoutComesTo layer_map wanted same) (short_layouts_agree layer_map wanted same))
 
+inquiries_agree : (asked : Asked) (layer_map : LayerMap) (wanted : Option (List ℕ)) (layout : List ℕ) → IsUnique (InquiryComesTo asked layer_map wanted layout)
+inquiries_agree asked layer_map wanted layout =
+    stages_agree (LayoutComesTo layer_map wanted layout) _ (layout_outcomes_agree layer_map wanted layout) (λ subject one other a b. a ∙ sym b)
+
 pub verdicts_agree : (words : List (List ℕ)) (contents : Contents) → IsUnique (IsVerdict words contents)
 verdicts_agree words contents = stages_agree (WordsComeTo words) _ (words_agree words)
     (λ request. stages_agree (MapComesTo request.task contents.map) _ (map_outcomes_agree request.task contents.map)
-    (λ layer_map. layout_outcomes_agree layer_map (wanted_top request.task) (bytes_from contents.layout (layout_source request.task))))
+    (λ layer_map. stages_agree (AskedComesTo request.task layer_map) _ (asked_agree request.task layer_map)
+    (λ asked. inquiries_agree asked layer_map (wanted_top request.task) (bytes_from contents.layout (layout_source request.task)))))

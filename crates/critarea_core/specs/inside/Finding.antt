@@ -1,20 +1,29 @@
 -- inside this crate: what is found before anything is printed, and how the printing ends. No definition above rests on it.
-use Rattle.std.specs.Prelude.{IfOk, ℕ, List, ◌≡◌, ◌≢◌, ◌≤◌, Option, length, Result, Ok, Err, Vec}
+use Rattle.std.specs.Prelude.{ℕ, List, [], ◌≡◌, ◌≢◌, ◌≤◌, ◌<◌, Option, length, slice_index_or, Result, Ok, Err, Vec}
 use Rattle.lists.specs.Words.{Global}
 use Rattle.first_refusal.specs.Answers.{Answers}
 use Rattle.first_refusal.specs.Outcomes.{Outcome, Reads, value, refused}
 use Rattle.command_line.specs.declared.task.Task.{Task}
 use Rattle.map_model.specs.MapNames.{LayerMap, layer_map_of}
 use Rattle.map_model.specs.declared.map.Map.{Map}
-use Rattle.gauges.specs.GaugeViews.{GaugeView}
+use Rattle.gauges.specs.declared.pair_row.PairRow.{PairRow}
+use Rattle.pair_report.specs.PairReport.{whole_pair_text}
+use Rattle.pair_report.specs.PairRows.{pair_rows}
+use Rattle.pair_report.specs.declared.tables.PairTables.{PairTables}
 use Rattle.questions.specs.declared.row.Row.{Row}
 use Rattle.questions.specs.declared.row.TheConstants.{MOST_ROWS}
 use Rattle.critarea_core.specs.Contents.{MayContain, Source, bytes_from}
+use Rattle.critarea_core.specs.Dues.{AreRowsOn, ArePairRowsOn, Due, whole_report}
+use Rattle.critarea_core.specs.Inquiries.{Asked, Inquiry, for_report, for_pairs}
 use Rattle.critarea_core.specs.Refusals.{layout_limit, layout_too_long, refusal_text}
-use Rattle.critarea_core.specs.Run.{AreToldAll, AreToldSome, AreUnsure, AreUntold, Change, FailsWithin, HasRisen}
+use Rattle.critarea_core.specs.Run.{AreToldAll, AreToldSome, AreUnsure, AreUntold, Change, FailsWithin, Gauges, HasRisen}
 use Rattle.critarea_core.specs.Run.{IsCalm, IsIdle, MayComeTo, Output, Takes}
 use Rattle.critarea_core.specs.Layout.{Subject}
-use Rattle.critarea_core.specs.Verdict.{IsShortEnough, MapComesTo, AreRowsOn, whole_report}
+use Rattle.critarea_core.specs.Verdict.{IsShortEnough, MapComesTo}
+use Rattle.critarea_core.specs.declared.found.Found.{Found}
+use Rattle.critarea_core.specs.declared.found.Found.TheVariants.{Report as Rows, Pairs as Tables}
+use Rattle.critarea_core.specs.declared.wanted.Wanted.{Wanted}
+use Rattle.critarea_core.specs.declared.wanted.Wanted.TheVariants.{Report, Pairs}
 use Rattle.critarea_core.specs.declared.layout_fault.LayoutFault.{LayoutFault}
 use Rattle.critarea_core.specs.declared.layout_fault.LayoutFault.TheVariants.{Memory as LayoutMemory}
 use Rattle.critarea_core.specs.declared.refusal.Refusal.{Refusal}
@@ -84,21 +93,51 @@ pub record HasRows (subject : Subject) (rows : Vec Row Global) : Type 0 where
   pub are_rows : AreRowsOn subject rows.items
   pub few : length rows.items ≤ MOST_ROWS
 
--- what is found of the words and the files
-abbrev pub IsFound : List (List ℕ) → (List ℕ → Option (List ℕ)) → (List ℕ → Type 0) → Change ℕ → Result (Vec Row Global) Unreported → Type 0
-IsFound words told sure failures = FindsInFiles failures (AreUnsure words told sure) (MayComeTo words told) HasRows
+-- these are the pairs of nets of the subject for defects of this size
+abbrev pub HasPairs : ℕ → Subject → PairTables → Type 0
+HasPairs size subject tables = ArePairRowsOn subject size (pair_rows tables)
 
--- rows that were found are as many as a report may have
-abbrev pub AreFew : Result (Vec Row Global) Unreported → Type 0
-AreFew found = IfOk found (λ rows. length rows.items ≤ MOST_ROWS)
+-- what a task asks, by the place of the size in the map
+abbrev pub asked_by : List ℕ → Wanted → Asked
+asked_by sizes Report = for_report
+asked_by sizes (Pairs place) = for_pairs (slice_index_or sizes place 0)
+
+-- the map has a size at this place
+abbrev pub IsWantedOf : List ℕ → Wanted → Type 0
+IsWantedOf sizes Report = Unit {0}
+IsWantedOf sizes (Pairs place) = place < length sizes
+
+-- this was found on the subject, as it is asked
+abbrev pub HasFound : Asked → Subject → Found → Type 0
+HasFound for_report subject (Rows report) = AreRowsOn subject report.rows.items
+HasFound for_report subject (Tables tables) = ⊥
+HasFound (for_pairs size) subject (Rows rows) = ⊥
+HasFound (for_pairs size) subject (Tables tables) = HasPairs size subject tables
+
+-- this was found for the inquiry
+abbrev pub IsFoundFor : Inquiry → Found → Type 0
+IsFoundFor inquiry = HasFound inquiry.asked inquiry.subject
+
+-- what is found of the words and the files
+abbrev pub IsFound : List (List ℕ) → (List ℕ → Option (List ℕ)) → (List ℕ → Type 0) → Change ℕ → Result Found Unreported → Type 0
+IsFound words told sure failures = FindsInFiles failures (AreUnsure words told sure) (MayComeTo words told) IsFoundFor
 
 -- ---- the printing
 
--- how the printing of a report ends, with this status
-pub data ReportEnds (rows : List Row) (gauges : Change (List GaugeView)) (out : Output) : ℕ → Type 0 where
-  report_out : Takes out (whole_report rows gauges.before) → AreToldAll gauges rows → ReportEnds rows gauges out 0
-  report_cut : FailsWithin out (whole_report rows gauges.before) → AreToldAll gauges rows → ReportEnds rows gauges out 5
-  no_report : IsIdle out → AreToldSome gauges rows → ReportEnds rows gauges out 6
+-- a text is due with these rows, and as much room as it has bytes
+abbrev pub due_of : List ℕ → List Row → List PairRow → Due
+due_of text rows pairs = record { text = text; rows = rows; pair_rows = pairs; room = length text }
+
+-- what is due to these gauges where this was found
+abbrev pub due_to : Gauges → Found → Due
+due_to gauges (Rows report) = due_of (whole_report report.rows.items gauges.of_rows.before) report.rows.items []
+due_to gauges (Tables tables) = due_of (whole_pair_text (pair_rows tables) gauges.of_pairs.before) [] (pair_rows tables)
+
+-- how the printing of what is due ends, with this status
+pub data DueEnds (due : Due) (gauges : Gauges) (out : Output) : ℕ → Type 0 where
+  due_out : Takes out due.text → AreToldAll due gauges → DueEnds due gauges out 0
+  due_cut : FailsWithin out due.text → AreToldAll due gauges → DueEnds due gauges out 5
+  nothing_out : IsIdle out → AreToldSome due gauges → DueEnds due gauges out 6
 
 -- how the printing of a refusal's line ends, with this status
 pub data LineEnds (refusal : Refusal) (err : Output) : ℕ → Type 0 where
@@ -107,8 +146,8 @@ pub data LineEnds (refusal : Refusal) (err : Output) : ℕ → Type 0 where
   no_line : IsIdle err → LineEnds refusal err 6
 
 -- what was found is printed, with this status
-abbrev pub IsPrinted : Result (Vec Row Global) Unreported → Change (List GaugeView) → Output → Output → ℕ → Type 0
-IsPrinted (Ok rows) gauges out err status = ReportEnds rows.items gauges out status × IsIdle err
+abbrev pub IsPrinted : Result Found Unreported → Gauges → Output → Output → ℕ → Type 0
+IsPrinted (Ok found) gauges out err status = DueEnds (due_to gauges found) gauges out status × IsIdle err
 IsPrinted (Err (Refused refusal)) gauges out err status = LineEnds refusal err status × IsIdle out × AreUntold gauges
 IsPrinted (Err FilesFailed) gauges out err status = (status ≡ 5) × IsIdle out × IsIdle err × AreUntold gauges
 IsPrinted (Err Memory) gauges out err status = (status ≡ 6) × IsIdle out × IsIdle err × AreUntold gauges

@@ -2,6 +2,8 @@ use Rattle.std.proofs.Common.{◌∙◌, ap, length, option_copied}
 use Rattle.std.proofs.lemmas.Result.{err_from_is_err_and}
 use Rattle.first_refusal.specs.Outcomes.{Then, goes_on}
 use Rattle.map_model.specs.MapNames.{LayerMap, layers_of, layer_map_of}
+use Rattle.critical_areas.specs.Rows.{AreRows}
+use Rattle.geo_core.specs.Plane.{IsCoveredIn}
 use Rattle.net_extract.specs.declared.fault.NetFault.TheVariants.{Memory}
 use Rattle.critarea_core.specs.declared.layout_fault.LayoutFault.TheVariants.{Net}
 use Rattle.critarea_core.specs.inside.Finding.{HasRows}
@@ -36,7 +38,8 @@ returns-in_err-critical_areas g c =
     let fault = c.in_err-critical_areas.field-0.0 in
     not_read _ (λ same. same) (Then (LibraryComesTo layer_map (option_copied c.args.top) c.args.library) TerminalsComeTo) HasRows Memory (λ known. Net known) fault
     c.from_residual-in_err-critical_areas.result c.from_residual-in_err-critical_areas.ensures.1
-    (λ known. goes_on {v = found.0} found.1 (terminal_off layer_map c.in_ok-layers.layers found.0 found.2 fault c.in_err-critical_areas.ensures.rows known))
+    (λ known. goes_on {v = found.0} found.1 (terminal_off layer_map c.in_ok-layers.layers found.0 found.2 (λ m rows. AreRows m (IsCoveredIn c.in_ok-layers.layers.lists.items) rows.items) fault
+    c.in_err-critical_areas.ensures.rows known))
 
 pub returns : goal.returns
 returns g c =

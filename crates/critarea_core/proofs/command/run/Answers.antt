@@ -1,8 +1,5 @@
-use Rattle.critarea_core.proofs.RunLaws.{ends, rows_are_few, runs_to}
+use Rattle.critarea_core.proofs.RunLaws.{ends, runs_to}
 use Rattle.critarea_core.proofs.command.run.Goals as goal
-
-pub print-requires : goal.print-requires
-print-requires g c = rows_are_few c.args.words.now _ _ _ c.find-found.result c.find-found.ensures.found
 
 pub returns : goal.returns
 returns g c =

@@ -1,6 +1,6 @@
 use Rattle.gauges.proofs.laws.Told.{on_err, told_prefixes, untold_prefixes}
-use Rattle.critarea_core.proofs.RunLaws.{whole_text}
-use Rattle.critarea_core.proofs.printing.text_with_gauges.Goals as goal
+use Rattle.critarea_core.proofs.PrintLaws.{whole_text}
+use Rattle.critarea_core.proofs.printing.text_of_report.Goals as goal
 
 pub returns-in_err-write_report-clause-prefixes : goal.returns-in_err-write_report-clause-prefixes
 returns-in_err-write_report-clause-prefixes g c = on_err c.from_residual.result (untold_prefixes c.args.rows.now _)

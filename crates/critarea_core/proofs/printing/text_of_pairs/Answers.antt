@@ -1,0 +1,1 @@
+use Rattle.critarea_core.proofs.printing.text_of_pairs.Goals as goal

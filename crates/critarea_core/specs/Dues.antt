@@ -1,0 +1,55 @@
+-- what is due where words, map and layout are good
+use Rattle.std.specs.Prelude.{ℕ, List, [], ◌++◌, ◌≡◌, length}
+use Rattle.critical_areas.specs.Rows.{AreRows}
+use Rattle.report.specs.Report.{report_text}
+use Rattle.gauges.specs.GaugeViews.{GaugeView, texts_after}
+use Rattle.gauges.specs.declared.pair_row.PairRow.{PairRow}
+use Rattle.pair_report.specs.PairReport.{whole_pair_text}
+use Rattle.map_pairs.specs.PairAreas.{ArePairRows}
+use Rattle.questions.specs.declared.row.Row.{Row}
+use Rattle.critarea_core.specs.Coverage.{IsCoveredOn}
+use Rattle.critarea_core.specs.Inquiries.{Asked, Inquiry, for_report, for_pairs}
+use Rattle.critarea_core.specs.Layout.{Subject}
+
+-- the rows answer the questions of the subject's layer map on what its routes cover
+abbrev pub AreRowsOn : Subject → List Row → Type 0
+AreRowsOn subject = AreRows subject.layer_map (IsCoveredOn subject.layer_map subject.routes)
+
+-- the rows are those of the pairs of nets of what the subject's routes cover, for defects of this size
+abbrev pub ArePairRowsOn : Subject → ℕ → List PairRow → Type 0
+ArePairRowsOn subject = ArePairRows subject.layer_map (IsCoveredOn subject.layer_map subject.routes)
+
+-- the text of a report with these rows: their lines and totals, and then what each gauge prints for the rows that it had seen
+-- before, followed by these
+abbrev pub whole_report : List Row → List (GaugeView Row) → List ℕ
+whole_report rows gauges = report_text rows ++ texts_after rows gauges
+
+-- what is due: the text that goes out, the rows that gauges are told, the rows of pairs that gauges of pairs are told, and of how
+-- many bytes the output has to be sure so that the text cannot fail to go out
+pub record Due : Type 0 where
+  pub text : List ℕ
+  pub rows : List Row
+  pub pair_rows : List PairRow
+  pub room : ℕ
+
+-- of a report: its text and its rows, and nothing of pairs
+pub record IsReportDue (subject : Subject) (gauges : List (GaugeView Row)) (due : Due) : Type 0 where
+  pub are_rows : AreRowsOn subject due.rows
+  pub no_pairs : due.pair_rows ≡ []
+  pub text : due.text ≡ whole_report due.rows gauges
+  pub room : due.room ≡ length due.text
+
+-- of pairs of nets: their text and their rows, and no row of a report
+pub record ArePairsDue (subject : Subject) (size : ℕ) (pair_gauges : List (GaugeView PairRow)) (due : Due) : Type 0 where
+  pub are_pairs : ArePairRowsOn subject size due.pair_rows
+  pub no_rows : due.rows ≡ []
+  pub text : due.text ≡ whole_pair_text due.pair_rows pair_gauges
+  pub room : due.room ≡ length due.text
+
+-- the same by what is asked, where the gauges are these
+abbrev pub IsDueAs : Asked → Subject → List (GaugeView Row) → List (GaugeView PairRow) → Due → Type 0
+IsDueAs for_report subject gauges pair_gauges = IsReportDue subject gauges
+IsDueAs (for_pairs size) subject gauges pair_gauges = ArePairsDue subject size pair_gauges
+
+abbrev pub IsDue : Inquiry → List (GaugeView Row) → List (GaugeView PairRow) → Due → Type 0
+IsDue inquiry = IsDueAs inquiry.asked inquiry.subject
