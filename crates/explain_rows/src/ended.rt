@@ -25,13 +25,13 @@ const READ_AGAIN: &[(&str, &str)] = &[
     (
         "2|error 2 at 0\n|a|--map",
         "arguments: --map is the last word, and has no value; --map takes the name of a file\n  \
-         critarea LAYOUT --map MAP\n  critarea LAYOUT --layer L --datatype D --radius R\n  critarea --generate N\n",
+         critarea LAYOUT --map MAP\n  critarea LAYOUT --map MAP --pairs K\n  critarea LAYOUT --layer L --datatype D --radius R\n  critarea --generate N\n",
     ),
     // the program lists no layers
     (
         "2|error 2 at 0\n|a",
         "arguments: it is not said which layers are metals; --explain in front of the layout alone lists those that it has\n  \
-         critarea LAYOUT --map MAP\n  critarea LAYOUT --layer L --datatype D --radius R\n  critarea --generate N\n",
+         critarea LAYOUT --map MAP\n  critarea LAYOUT --map MAP --pairs K\n  critarea LAYOUT --layer L --datatype D --radius R\n  critarea --generate N\n",
     ),
     (
         "5||none|--layer|1|--datatype|0|--radius|3",
@@ -63,6 +63,21 @@ const READ_AGAIN: &[(&str, &str)] = &[
         "3|error 42 at 8\n|a|--map|m",
         "the map, `contacts`: a value is missing here, or is not of the kind or in the range that belongs here; \
          compare it with *Keys of a map* in docs/REFUSALS.md\n  \
+         read again, it ends otherwise: what stands there has changed\n  \
+         map 'm': there is no such file\n",
+    ),
+    // the place of 48 is no path of the map, and that of 49 is none either
+    (
+        "3|error 48 at 3\n|a|--map|m|--pairs|4",
+        "the map, which lists 3 sizes: the option names a size number above the number of the map's sizes; \
+         name one of the map's radii or sides by its number, counted from 1, or add the size to the map\n  \
+         read again, it ends otherwise: what stands there has changed\n  \
+         map 'm': there is no such file\n",
+    ),
+    (
+        "3|error 48 at 1\n|a|--map|m|--pairs|2",
+        "the map, which lists 1 size: the option names a size number above the number of the map's sizes; \
+         name one of the map's radii or sides by its number, counted from 1, or add the size to the map\n  \
          read again, it ends otherwise: what stands there has changed\n  \
          map 'm': there is no such file\n",
     ),
@@ -105,7 +120,7 @@ const OTHERWISE: &[(&str, &str)] = &[
     (
         "3|error 47 at 5\n|a|--map|m",
         "the map, `metal`: there are too many: 32 radii or sides, 16 metals, 16 cuts and 10,000 terminals are the most; \
-         shorten the list; of terminals make two maps with those of each island in one, and add up their opens, as docs/GUIDE.md says\n  \
+         shorten the list; of terminals make two maps without `contacts` with those of each island in one, and add up their opens, as docs/GUIDE.md says\n  \
          read again, it ends otherwise: what stands there has changed\n  \
          error 40 at 0\n  \
          map 'm': it is a GDSII layout; were the layout and the map exchanged?\n",
@@ -174,8 +189,8 @@ fn ends_without_a_status_are_words(rt: HostRuntime) {
         2,
         [
             "error 2 at 0\narguments: there is no option '--ended'; ",
-            "options are --map, --top, --layer, --datatype, --radius, --tile, --workers and --generate\n  ",
-            "critarea LAYOUT --map MAP\n  critarea LAYOUT --layer L --datatype D --radius R\n  critarea --generate N\n",
+            "options are --map, --top, --layer, --datatype, --radius, --tile, --workers, --generate and --pairs\n  ",
+            "critarea LAYOUT --map MAP\n  critarea LAYOUT --map MAP --pairs K\n  critarea LAYOUT --layer L --datatype D --radius R\n  critarea --generate N\n",
         ],
     );
 }

@@ -18,4 +18,6 @@ mod placing;
 #[cfg(test)]
 mod rows;
 #[cfg(test)]
+mod sizes;
+#[cfg(test)]
 mod usage;

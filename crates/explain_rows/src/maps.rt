@@ -147,7 +147,7 @@ const ROWS: &[(&[u8], &str)] = &[
         b"version = 1\nradii = [1,2,3,4,5,6,7,8,9,10,11,12,13,14,15,16,17,18,19,20,21,22,23,24,25,26,27,28,29,30,31,32,33]\n",
         "error 47 at 3\n\
          map 'm', line 2, `radii`: it has 33 items, and at most 32 are taken; shorten the list; \
-         of terminals make two maps with those of each island in one, and add up their opens, as docs/GUIDE.md says\n",
+         of terminals make two maps without `contacts` with those of each island in one, and add up their opens, as docs/GUIDE.md says\n",
     ),
     (
         b"version = 1\nradii = [1]\nweights = [1]\n[[metal]]\nname = \"m 1\"\n",

@@ -21,7 +21,7 @@ const ROWS: &[(&str, &str)] = &[
     ),
     (
         "a|--maps|m",
-        "arguments: there is no option '--maps'; options are --map, --top, --layer, --datatype, --radius, --tile, --workers and --generate",
+        "arguments: there is no option '--maps'; options are --map, --top, --layer, --datatype, --radius, --tile, --workers, --generate and --pairs",
     ),
     (
         "a|--map|m|--help",
@@ -85,10 +85,46 @@ const ROWS: &[(&str, &str)] = &[
         "--generate|3|--top|T",
         "arguments: --top stands beside --generate, which makes its layout and its map itself",
     ),
+    (
+        "a|--map|m|--pairs|0",
+        "arguments: '0' behind --pairs does not fit; --pairs takes a whole number from 1 to 32",
+    ),
+    (
+        "a|--map|m|--pairs|33",
+        "arguments: '33' behind --pairs does not fit; --pairs takes a whole number from 1 to 32",
+    ),
+    (
+        "a|--map|m|--pairs|1|--pairs=1",
+        "arguments: --pairs stands twice; --pairs takes a whole number from 1 to 32",
+    ),
+    (
+        "a|--map|m|--pairs",
+        "arguments: --pairs is the last word, and has no value; --pairs takes a whole number from 1 to 32",
+    ),
+    (
+        "a|--pairs|1",
+        "arguments: --pairs is for a layout with a map; name the map behind --map",
+    ),
+    (
+        "a|--map|m|--pairs|1|--tile|7",
+        "arguments: --tile stands beside --pairs, which takes neither --tile nor --workers",
+    ),
+    (
+        "a|--map|m|--pairs|1|--workers|2",
+        "arguments: --workers stands beside --pairs, which takes neither --tile nor --workers",
+    ),
+    (
+        "a|--map|m|--pairs|1|--layer|1",
+        "arguments: --layer stands beside --map, which says itself which layers there are, and which radii",
+    ),
+    (
+        "--generate|3|--pairs|1",
+        "arguments: --pairs stands beside --generate, which makes its layout and its map itself",
+    ),
     // a name that would move a cursor, and one that is no ASCII
     (
         "a|--\x1B[2J",
-        "arguments: there is no option '--\\x1b[2J'; options are --map, --top, --layer, --datatype, --radius, --tile, --workers and --generate",
+        "arguments: there is no option '--\\x1b[2J'; options are --map, --top, --layer, --datatype, --radius, --tile, --workers, --generate and --pairs",
     ),
 ];
 
@@ -133,6 +169,18 @@ const SEVERAL_CAUSES: &[(&str, &str)] = &[
         "arguments: --radius stands beside --map, which says itself which layers there are, and which radii",
     ),
     (
+        "a|--map=m|--pairs=1|--radius=3|--tile=7",
+        "arguments: --radius stands beside --map, which says itself which layers there are, and which radii",
+    ),
+    (
+        "a|--pairs=0|--radius=3|--tile=7",
+        "arguments: --pairs is for a layout with a map; name the map behind --map",
+    ),
+    (
+        "a|--map=m|--pairs=33|--workers=0|--tile=0",
+        "arguments: --tile stands beside --pairs, which takes neither --tile nor --workers",
+    ),
+    (
         "a|--tile=0",
         "arguments: it is not said which layers are metals; --explain in front of the layout alone lists those that it has",
     ),
@@ -144,7 +192,7 @@ const SEVERAL_CAUSES: &[(&str, &str)] = &[
 
 /// The forms of the command.
 const FORMS: &str =
-    "\n  critarea LAYOUT --map MAP\n  critarea LAYOUT --layer L --datatype D --radius R\n  critarea --generate N\n";
+    "\n  critarea LAYOUT --map MAP\n  critarea LAYOUT --map MAP --pairs K\n  critarea LAYOUT --layer L --datatype D --radius R\n  critarea --generate N\n";
 
 /// Checks that each of these rows is told.
 fn expect_rows(rt: &impl Abort, alloc: Global, rows: &[(&str, &str)]) {

@@ -6,6 +6,7 @@ use crate::inputs::{FAILED, READ_ONCE};
 use crate::maps::{place_of, tell_place};
 use crate::path_kinds::Paths;
 use crate::remedies::{Remedy, remedy_of};
+use crate::sizes::tell_size_count;
 use crate::telling::Telling;
 use crate::text::Text;
 use command_line::Word;
@@ -89,7 +90,12 @@ fn tell_map_place(text: &mut Text, place: u64) {
 /// Tells what a row is about, where its place is this and the meaning does not name it.
 fn tell_subject(text: &mut Text, row: &Remedy, place: u64) {
     match (row.status, row.number) {
-        (3, 39) | (3, 40) | (4, 9) | (4, 27) => {}
+        (3, 39) | (3, 40) | (3, 49) | (4, 9) | (4, 27) => {}
+        (3, 48) => {
+            text.say("the map, which lists ");
+            tell_size_count(text, place);
+            text.say(": ");
+        }
         (3, _) => {
             text.say("the map, ");
             tell_map_place(text, place);

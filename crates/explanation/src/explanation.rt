@@ -10,6 +10,7 @@ use crate::listing::tell_listing;
 use crate::maps::tell_map_fault;
 use crate::parting::{parted_of, tell_parted};
 use crate::path_kinds::Paths;
+use crate::sizes::{missing_size, place_of_pairs};
 use crate::telling::Telling;
 use crate::words::tell_misfit;
 use command_line::{Request, Task, Word, WordsFault, cause_of, read_words};
@@ -34,7 +35,7 @@ pub fn tell_words(alloc: Global, told: &mut Telling, words: &[Word]) -> Result<(
     told.refuse(2, 2, 0);
     tell_misfit(&mut told.text, cause_of(alloc, words)?.as_ref());
     told.text.say(
-        "\n  critarea LAYOUT --map MAP\n  critarea LAYOUT --layer L --datatype D --radius R\n  critarea --generate N\n",
+        "\n  critarea LAYOUT --map MAP\n  critarea LAYOUT --map MAP --pairs K\n  critarea LAYOUT --layer L --datatype D --radius R\n  critarea --generate N\n",
     );
     Ok(())
 }
@@ -112,7 +113,13 @@ fn map_for<'a, F: Files, P: Paths>(
             let map = one_metal(alloc, *layer, *datatype, *radius)?;
             Ok(Some(of_no_file(alloc, map)))
         }
-        Task::Mapped { map, layout, top } => {
+        Task::Mapped { map, layout, top }
+        | Task::Pairs {
+            map,
+            layout,
+            top,
+            ..
+        } => {
             let (name, layout) = (map.as_slice(), layout.as_slice());
             let top = top.as_ref().map(Name::as_slice);
             map_in_file(alloc, told, name, layout, top, files, paths)
@@ -150,9 +157,13 @@ fn tell_mapped<F: Files, P: Paths>(
     paths: &P,
 ) -> Result<(), NoMemory> {
     match &request.task {
-        Task::OneMetal { layout, top, .. } | Task::Mapped { layout, top, .. } => {
+        Task::OneMetal { layout, top, .. }
+        | Task::Mapped { layout, top, .. }
+        | Task::Pairs { layout, top, .. } => {
+            let name = layout.as_slice();
             let top = top.as_ref().map(Name::as_slice);
-            tell_file(alloc, told, good, layout.as_slice(), top, files, paths)
+            let pairs_at = place_of_pairs(&request.task);
+            tell_file(alloc, told, good, name, top, pairs_at, files, paths)
         }
         Task::Generated { n } => tell_generated(alloc, told, good, *n),
     }
@@ -166,10 +177,14 @@ fn tell_request<F: Files, P: Paths>(
     files: &mut F,
     paths: &P,
 ) -> Result<(), NoMemory> {
-    match map_for(alloc, told, request, files, paths)? {
-        Some(good) => tell_mapped(alloc, told, &good, request, files, paths),
-        None => Ok(()),
+    let Some(good) = map_for(alloc, told, request, files, paths)? else {
+        return Ok(());
+    };
+    if let Some(size) = missing_size(&request.task, &good.map) {
+        size.tell_missing(alloc, told, &good);
+        return Ok(());
     }
+    tell_mapped(alloc, told, &good, request, files, paths)
 }
 
 /// Tells of the generated layout of `n` columns.
@@ -187,17 +202,20 @@ fn tell_generated(
         origin: Origin::Generated,
         bytes: made.0.as_slice(),
         top: None,
+        pairs_at: None,
     };
     tell_layout(alloc, told, good, &layout)
 }
 
-/// Tells of the layout in the file of this name, of which this top is wanted, or any.
+/// Tells of the layout in the file of this name, of which this top is wanted, or any, and of its pairs of nets for the map's size at
+/// this place, where they are asked for.
 fn tell_file<F: Files, P: Paths>(
     alloc: Global,
     told: &mut Telling,
     good: &GoodMap<'_>,
     name: &[u8],
     top: Option<&[u8]>,
+    pairs_at: Option<u32>,
     files: &mut F,
     paths: &P,
 ) -> Result<(), NoMemory> {
@@ -207,6 +225,7 @@ fn tell_file<F: Files, P: Paths>(
                 origin: Origin::File(name),
                 bytes: bytes.as_slice(),
                 top,
+                pairs_at,
             };
             tell_layout(alloc, told, good, &layout)
         }
@@ -229,6 +248,7 @@ fn tell_asked<F: Files, P: Paths>(
                 origin: Origin::File(name),
                 bytes: bytes.as_slice(),
                 top: asked.top.map(str::as_bytes),
+                pairs_at: None,
             };
             tell_listing(alloc, told, &layout, asked.as_map)
         }

@@ -16,6 +16,7 @@ use crate::pairs::tell_pairs_of;
 use crate::shapes::{Held, Shapes, tell_held};
 use crate::text::Text;
 use crate::unit::tell_unit;
+use crate::worst_pairs::tell_worst_pairs;
 use flatten::tops_of;
 use library_model::Library;
 use lists::NoMemory;
@@ -167,7 +168,10 @@ pub fn tell_good(
     let islands = metal_islands(alloc, map, shapes)?;
     let islands = islands.as_slice();
     layout.tell(text);
-    text.say(": nothing is wrong, and the run gives its report\n");
+    text.say(match layout.pairs_at {
+        Some(_) => ": nothing is wrong, and the run gives its pairs of nets\n",
+        None => ": nothing is wrong, and the run gives its report\n",
+    });
     tell_empty_layers(alloc, text, map, library, layers)?;
     tell_opens(text, map, layers, islands);
     tell_library(text, library);
@@ -180,5 +184,8 @@ pub fn tell_good(
     if !map.terminals.as_slice().is_empty() {
         tell_all_carried(text, map, layers, islands);
     }
-    Ok(())
+    match layout.pairs_at {
+        Some(place) => tell_worst_pairs(alloc, text, map, layers, place),
+        None => Ok(()),
+    }
 }

@@ -45,6 +45,8 @@ pub struct Layout<'a> {
     pub bytes: &'a [u8],
     /// The name of the structure that is wanted as the top, where one is.
     pub top: Option<&'a [u8]>,
+    /// The place among the map's sizes, counted from 0, of the one for which pairs of nets are asked for, where they are.
+    pub pairs_at: Option<u32>,
 }
 
 impl Layout<'_> {

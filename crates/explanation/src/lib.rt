@@ -30,6 +30,7 @@ mod position;
 mod refused;
 mod remedies;
 mod shapes;
+mod sizes;
 mod skeleton;
 mod spot;
 mod standing;
@@ -41,6 +42,7 @@ mod texts;
 mod unit;
 mod wanted;
 mod words;
+mod worst_pairs;
 
 pub use command_line::Word;
 pub use ended::{answer, answer_untold};

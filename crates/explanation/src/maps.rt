@@ -344,6 +344,24 @@ fn tell_fault(
     Ok(())
 }
 
+/// Tells which map is meant, and what is sought in it, with the line in which that stands where it is known.
+pub fn tell_where(
+    alloc: Global,
+    text: &mut Text,
+    name: &[u8],
+    bytes: &[u8],
+    document: Option<&Table>,
+    sought: Sought,
+) {
+    text.name("map ", name, ", ");
+    if let Ok(written) = str::from_utf8(bytes) {
+        if let Some(line) = line_of(alloc, written, sought) {
+            line.tell(text, "", ", ");
+        }
+    }
+    tell_place(text, document, sought.place);
+}
+
 /// Tells why this document, which is the text of the map of this name, is no layer map.
 fn tell_document(
     alloc: Global,
@@ -360,13 +378,7 @@ fn tell_document(
         is_unknown_key: matches!(fault, MapFault::BadKey { .. }),
         measure,
     };
-    text.name("map ", name, ", ");
-    if let Ok(written) = str::from_utf8(bytes) {
-        if let Some(line) = line_of(alloc, written, sought) {
-            line.tell(text, "", ", ");
-        }
-    }
-    tell_place(text, Some(document), place);
+    tell_where(alloc, text, name, bytes, Some(document), sought);
     text.say(": ");
     tell_fault(alloc, text, document, fault, place)
 }

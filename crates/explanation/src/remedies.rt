@@ -89,7 +89,14 @@ const OF_WORDS_AND_MAPS: &[Remedy] = &[
         number: 47,
         meaning: "there are too many: 32 radii or sides, 16 metals, 16 cuts and 10,000 terminals are the most",
         place: "the list",
-        remedy: "shorten the list; of terminals make two maps with those of each island in one, and add up their opens, as docs/GUIDE.md says",
+        remedy: "shorten the list; of terminals make two maps without `contacts` with those of each island in one, and add up their opens, as docs/GUIDE.md says",
+    },
+    Remedy {
+        status: 3,
+        number: 48,
+        meaning: "the option names a size number above the number of the map's sizes",
+        place: "the number of the map's sizes",
+        remedy: "name one of the map's radii or sides by its number, counted from 1, or add the size to the map",
     },
 ];
 

@@ -27,6 +27,12 @@ const BESIDE_GENERATED: &str =
 const BESIDE_MAP: &str =
     " stands beside --map, which says itself which layers there are, and which radii";
 
+/// What is said of an option that asks for something of a layout and a map, where no map is named.
+const NO_MAP: &str = " is for a layout with a map; name the map behind --map";
+
+/// What is said of an option that is about the work of a report, behind the one that asks for something else.
+const BESIDE_TASK: &str = ", which takes neither --tile nor --workers";
+
 /// What is said of an option of one metal that is not there, while another is.
 const LACKS: &str = " is missing; --layer, --datatype and --radius go together";
 
@@ -44,7 +50,7 @@ fn no_option_ending(word: &[u8]) -> &'static str {
     } else if word == MAP_SKELETON.as_bytes() {
         " of a run; it is for --explain, and stands there beside a layout and --top alone"
     } else {
-        "; options are --map, --top, --layer, --datatype, --radius, --tile, --workers and --generate"
+        "; options are --map, --top, --layer, --datatype, --radius, --tile, --workers, --generate and --pairs"
     }
 }
 
@@ -111,6 +117,11 @@ fn tell_cause(text: &mut Text, cause: &WordsCause) {
         }
         WordsCause::BesideGenerate(option) => option_words(text, *option, BESIDE_GENERATED),
         WordsCause::BesideMap(option) => option_words(text, *option, BESIDE_MAP),
+        WordsCause::NoMap(option) => option_words(text, *option, NO_MAP),
+        WordsCause::BesideTask(asked, option) => {
+            option_words(text, *option, " stands beside ");
+            option_words(text, *asked, BESIDE_TASK);
+        }
         WordsCause::Missing(option) => option_words(text, *option, LACKS),
         WordsCause::NoMetals => text.say(NO_METALS),
     }
