@@ -1,0 +1,2 @@
+pub mod NetDistances
+pub mod MetalLaws
