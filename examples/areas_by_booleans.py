@@ -1,17 +1,20 @@
 #!/usr/bin/env python3
 """Computes critical areas by the booleans of KLayout, to compare them with what critarea reports.
 
-    python3 areas_by_booleans.py LAYOUT MAP
-    klayout -b -r areas_by_booleans.py -rd path=LAYOUT -rd map=MAP
+    python3 areas_by_booleans.py LAYOUT MAP [--pairs K]
+    klayout -b -r areas_by_booleans.py -rd path=LAYOUT -rd map=MAP [-rd pairs=K]
 
 MAP is a layer map, of radii or of sides; its terminals and `contacts` are passed over. The first call needs KLayout's module for
-Python, the second the editor. It prints the beginning of each row of shorts and of via blocks, as `short m1 r=3 area=32`.
+Python, the second the editor. It prints the beginning of each row of shorts and of via blocks, as `short m1 r=3 area=32`, or the
+pairs of nets at the size with the number K, counted from 1, as critarea does, but for the line of the worst.
 
 A net is what overlaps or shares a part of an edge, on one metal or through a cut that lies in both of its metals. Each
-net is grown by as many cells as a defect reaches, and what two nets or more have then is the area of shorts. A cluster is
-all that a cut joins of one piece below and one above; the centres from which a defect covers its bounds are a rectangle,
-and the union of these is the area of blocks.
+net is grown by as many cells as a defect reaches, and what two nets or more have then is the area of shorts. That of a pair is
+what its two nets have, and nets are numbered by their first cells, row by row. A cluster is all that a cut joins of one piece
+below and one above; the centres from which a defect covers its bounds are a rectangle, and the union of these is the area of
+blocks.
 """
+import collections
 import itertools
 import sys
 
@@ -44,6 +47,12 @@ def region_of(layout, pairs):
     region.min_coherence = True
     region.merge(True, 1)
     return region
+
+
+def first_cell(polygon):
+    """The row and the column of the polygon's first cell, row by row from below."""
+    row = polygon.bbox().bottom
+    return row, min(point.x for point in polygon.each_point_hull() if point.y == row)
 
 
 class Pieces:
@@ -100,16 +109,44 @@ class Design:
             self.joined[passed] = piece
         return piece
 
-    def shorts(self, metal, defect):
-        """The number of cells at which the defect touches two nets of the metal."""
+    def grown(self, metal, defect):
+        """The nets of the metal, by their first cells there, each grown by as many cells as the defect reaches."""
         nets = {}
         for number, polygon in enumerate(self.metals[metal].polygons):
-            nets.setdefault(self.net(metal, number), db.Region()).insert(polygon)
+            nets.setdefault(self.net(metal, number), []).append(polygon)
+        ordered = sorted(nets.values(), key=lambda polygons: min(first_cell(polygon) for polygon in polygons))
+        return [db.Region(polygons).sized(defect.touched).merged() for polygons in ordered]
+
+    def shorts(self, metal, defect):
+        """The number of cells at which the defect touches two nets of the metal."""
         near = db.Region()
-        for net in nets.values():
-            near += net.sized(defect.touched).merged()
+        for net in self.grown(metal, defect):
+            near += net
         near.merge(False, 2)
         return near.area()
+
+    def pairs(self, metal, defect):
+        """Two numbers of nets of the metal, and the number of cells at which the defect touches both, where it is not 0."""
+        boxes, owners = db.Shapes(), collections.defaultdict(list)
+        for number, net in enumerate(self.grown(metal, defect)):
+            # The boxes of one net have no cell in common.
+            for part in itertools.chain.from_iterable(polygon.decompose_trapezoids() for polygon in net.each()):
+                box = part.bbox()
+                owners[box.left, box.bottom, box.right, box.top].append(number)
+        for sides in owners:
+            boxes.insert(db.Box(*sides))
+        areas = collections.Counter()
+        for sides, numbers in owners.items():
+            box = db.Box(*sides)
+            for shape in boxes.each_overlapping(box):
+                other = shape.box
+                common = box & other
+                cells = common.width() * common.height()
+                others = owners[other.left, other.bottom, other.right, other.top]
+                for first, second in itertools.product(numbers, others):
+                    if first < second:
+                        areas[first, second] += cells
+        return sorted(areas.items())
 
     def blocks(self, cut, defect):
         """The number of cells at which the defect covers a whole cluster."""
@@ -137,8 +174,18 @@ class Defect:
             self.touched, self.covered = side // 2, side // 2 - 1
 
 
-def areas(path, map_path):
-    """The beginning of each row."""
+def pair_lines(design, metals, defect):
+    """The line of each pair, and that of their number."""
+    count = 0
+    for metal in metals:
+        for (first, second), area in design.pairs(metal, defect):
+            count += 1
+            yield f"pair {metal} {first} {second} {defect.name} area={area}"
+    yield f"pairs {count}"
+
+
+def areas(path, map_path, number=None):
+    """The beginning of each row, or the lines of pairs at the size with this number, counted from 1."""
     layout = db.Layout()
     layout.read(path)
     with open(map_path, "rb") as file:
@@ -146,8 +193,14 @@ def areas(path, map_path):
     design = Design(layout, layer_map)
     measure = "sides" if layer_map["version"] == 2 else "radii"
     defects = [Defect(measure, size) for size in layer_map[measure]]
-    for metal, defect in itertools.product(layer_map["metal"], defects):
-        yield f"short {metal['name']} {defect.name} area={design.shorts(metal['name'], defect)}"
+    metals = [metal["name"] for metal in layer_map["metal"]]
+    if number is not None:
+        if not 0 < number <= len(defects):
+            fail(f"areas_by_booleans.py: the map has {len(defects)} sizes")
+        yield from pair_lines(design, metals, defects[number - 1])
+        return
+    for metal, defect in itertools.product(metals, defects):
+        yield f"short {metal} {defect.name} area={design.shorts(metal, defect)}"
     for cut, defect in itertools.product(layer_map.get("cut", []), defects):
         yield f"via {cut['name']} {defect.name} area={design.blocks(cut['name'], defect)}"
 
@@ -155,9 +208,13 @@ def areas(path, map_path):
 if __name__ == "__main__":
     # The editor hands the words over as names of this module.
     words = [globals().get(name) for name in ("path", "map")]
+    number = globals().get("pairs")
     if None in words:
         words = sys.argv[1:]
-    if len(words) != 2:
+        if len(words) == 4 and words[2] == "--pairs":
+            number = words.pop()
+            words.pop()
+    if len(words) != 2 or number is not None and not number.isdecimal():
         fail(__doc__)
-    for line in areas(*words):
+    for line in areas(*words, None if number is None else int(number)):
         print(line)
