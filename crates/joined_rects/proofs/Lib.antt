@@ -1,0 +1,2 @@
+mod HalfLaws
+mod JoinLaws
