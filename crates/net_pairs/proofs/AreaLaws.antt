@@ -1,20 +1,23 @@
 -- cells of both labels: in zones and runs, in parts of a window, and where defects touch pieces
-use Rattle.std.proofs.Common.{ℕ, ◌+◌, ◌<◌, ◌≡◌, ap, subst, List, [], length, ◌↔◌, arith, Contains, ◌∷◌, ◌++◌, inl, inr, ◌⊎◌, sym, ◌∙◌}
+use Rattle.std.proofs.Common.{ℕ, ◌+◌, ◌%◌, ◌^◌, ◌<◌, ◌≡◌, ap, refl, subst, List, [], ◌↔◌, arith, Contains, ◌∷◌, ◌++◌, inl, inr, ◌⊎◌, sym, ◌∙◌}
 use Rattle.lists.proofs.Words.{All-contains}
 use Rattle.geo_core.specs.declared.plane.Cell.{Cell}
 use Rattle.geo_core.specs.declared.plane.Labelled.{Labelled}
 use Rattle.geo_core.specs.declared.plane.Rect.{Rect}
 use Rattle.fault_model.specs.FaultNames.{Tally, cells_of}
 use Rattle.fault_model.proofs.CellLaws.{Contains-cells_of}
-use Rattle.fault_model.proofs.TallyLaws.{Tally-le-length, Tally-same, Tally-same_all, Tally-some, Tally-unique}
+use Rattle.fault_model.proofs.TallyLaws.{Tally-same, Tally-same_all, Tally-some, Tally-unique}
 use Rattle.union_area.specs.WindowParts.{AreParts}
-use Rattle.union_area.proofs.laws.PartLaws.{cells_of_parts, few_cells, parts_tally}
+use Rattle.union_area.proofs.laws.PartLaws.{few_tallied, parts_tally}
+use Rattle.std.proofs.Math.Nat.{mod-eq_of_lt}
 use Rattle.short_area.specs.Zones.{AreAlikeIn, AreZonesOf, IsCountOf, IsInLabel, IsInTwoLabels}
 use Rattle.net_pairs.specs.Pairs.{IsPairArea, TouchesBoth}
 use Rattle.net_pairs.specs.inside.Gains.{GainsCells, IsInBoth}
 use Rattle.net_pairs.specs.inside.LabelRuns.{AreRunsOf}
 use Rattle.net_pairs.specs.inside.PairSteps.{HaveOneLabel, HaveTwoLabels}
-use Rattle.net_pairs.specs.inside.Sums.{HasRoom, cells_for}
+use Rattle.net_pairs.specs.inside.Sums.{cells_for}
+use Rattle.net_pairs.specs.inside.Rests.{HaveOneRest}
+use Rattle.net_pairs.proofs.RestLaws.{rest_chained, rest_equal, rest_trans}
 use Rattle.net_pairs.proofs.GainLaws.{gains_none, gains_pair, gains_same}
 use Rattle.net_pairs.proofs.SumLaws.{Item}
 
@@ -71,32 +74,15 @@ module _ (zones : List Labelled) (one other : ℕ) (two : HaveTwoLabels zones on
 
 -- ---- parts of a window
 
-module _ (window first second : Rect) (parts : AreParts window first second) (old : List Item) (room : HasRoom old (length (cells_of window))) where
-  pub room_of_first : HasRoom old (length (cells_of first))
-  room_of_first one other = let r = room one other in let e = cells_of_parts window first second parts in omega (arith, r, e)
-
-  pub room_of_second : (P : ℕ → ℕ → Cell → Type 0) (mid : List Item) → GainsCells P first old mid → HasRoom mid (length (cells_of second))
-  room_of_second P mid gains one other =
-      let r = room one other in
-      let e = cells_of_parts window first second parts in
-      let g = gains one other in
-      let s = g.sum in
-      let few = Tally-le-length (cells_of first) g.cells g.tally in
-      omega (arith, r, e, s, few)
-
 pub gains_of_parts : (zones before behind : List Labelled) (window first second : Rect) (old mid new : List Item) → AreParts window first second → AreAlikeIn first zones before → AreAlikeIn second zones behind
     → GainsCells (IsInBoth before) first old mid → GainsCells (IsInBoth behind) second mid new
     → GainsCells (IsInBoth zones) window old new
 gains_of_parts zones before behind window first second old mid new parts here there some rest one other =
     let g = gains_same (IsInBoth before) (IsInBoth zones) first old mid (λ one other c at. both_alike before zones one other c (here c at)) some one other in
     let h = gains_same (IsInBoth behind) (IsInBoth zones) second mid new (λ one other c at. both_alike behind zones one other c (there c at)) rest one other in
-    let s = g.sum in let t = h.sum in
-    record { cells = g.cells + h.cells; tally = parts_tally window first second parts g.cells h.cells g.tally h.tally; sum = omega (arith, s, t) }
+    record { cells = g.cells + h.cells; tally = parts_tally window first second parts g.cells h.cells g.tally h.tally; sum = rest_chained (cells_for one other old) g.cells h.cells refl g.sum h.sum }
 
 -- ---- all of the window
-
-pub room_of_none : (window : Rect) (items : List Item) → items ≡ [] → HasRoom items (length (cells_of window))
-room_of_none window items e one other = let f : cells_for one other items ≡ 0 = ap (cells_for one other) e in let few = few_cells window in omega (arith, f, few)
 
 module _ (pieces zones : List Labelled) (radius : ℕ) (window : Rect) (are : AreZonesOf pieces radius window zones) where
   touched : (one other : ℕ) → one < other → (c : Cell) → Contains (cells_of window) c → IsInBoth zones one other c ↔ TouchesBoth pieces radius one other c
@@ -110,17 +96,24 @@ module _ (pieces zones : List Labelled) (radius : ℕ) (window : Rect) (are : Ar
 
   -- what is listed of a pair is its area
   pub listed_area : (old items : List Item) → old ≡ [] → GainsCells (IsInBoth zones) window old items → (one other cells : ℕ)
-      → ((0 < cells) × (cells_for one other items ≡ cells)) ↔ IsPairArea pieces radius window one other cells
+      → ((0 < cells) × (cells_for one other items % 2 ^ 64 ≡ cells)) ↔ IsPairArea pieces radius window one other cells
   listed_area old items e gains one other cells =
       let g = gains one other in
-      let f : cells_for one other old ≡ 0 = ap (cells_for one other) e in
-      let s = g.sum in (
+      let s : cells_for one other items % 2 ^ 64 ≡ g.cells = begun one other old items e g.cells g.tally g.sum in (
         λ h.
-            let is : g.cells ≡ cells = let k = h.1 in omega (arith, f, s, k) in
+            let is : g.cells ≡ cells = sym s ∙ h.1 in
             let tally = subst (Tally (IsInBoth zones one other) (cells_of window)) is g.tally in
             let some = Tally-some (cells_of window) cells (let k = h.0 in omega arith) tally in
             record { lesser = some.2.lesser; some = h.0; tally = Tally-same (cells_of window) cells (touched one other some.2.lesser) tally },
         λ h.
             let is = Tally-unique (cells_of window) g.cells cells g.tally (Tally-same (cells_of window) cells (back one other h.lesser) h.tally) in
-            (h.some, omega (arith, f, s, is)),
+            (h.some, s ∙ is),
       )
+    where
+      begun : (one other : ℕ) (old items : List Item) → old ≡ [] → (n : ℕ) → Tally (IsInBoth zones one other) (cells_of window) n → HaveOneRest (cells_for one other items) (cells_for one other old + n)
+          → cells_for one other items % 2 ^ 64 ≡ n
+      begun one other old items e n tally alike =
+          let few = few_tallied window n tally in
+          let f : cells_for one other old ≡ 0 = ap (cells_for one other) e in
+          let is : cells_for one other old + n ≡ n = omega (arith, f) in
+          (rest_trans alike (rest_equal is)).rest ∙ mod-eq_of_lt (let l : n < 2 ^ 64 = omega (arith, few) in l)

@@ -6,9 +6,10 @@ use Rattle.geo_core.specs.declared.plane.Cell.{Cell}
 use Rattle.geo_core.specs.declared.plane.Rect.{Rect}
 use Rattle.fault_model.specs.FaultNames.{Tally, cells_of}
 use Rattle.fault_model.proofs.CellLaws.{Contains-cells_of}
-use Rattle.fault_model.proofs.TallyLaws.{Tally-le-length, Tally-none, Tally-same}
+use Rattle.fault_model.proofs.TallyLaws.{Tally-none, Tally-same}
 use Rattle.net_pairs.specs.inside.Gains.{GainsCells}
-use Rattle.net_pairs.specs.inside.Sums.{HasRoom, cells_for, cells_if}
+use Rattle.net_pairs.specs.inside.Sums.{cells_for, cells_if}
+use Rattle.net_pairs.proofs.RestLaws.{rest_equal}
 use Rattle.net_pairs.proofs.SumLaws.{Item, of_pair_or_not}
 
 -- ---- any property
@@ -25,13 +26,8 @@ module _ (P : ℕ → ℕ → Cell → Type 0) (window : Rect) (old : List Item)
   gains_none never new e one other = record {
     cells = 0;
     tally = Tally-none (cells_of window) (λ c h. never one other c ((Contains-cells_of window c).0 h));
-    sum = let f = ap (cells_for one other) e in omega (arith, f);
+    sum = rest_equal (let f = ap (cells_for one other) e in omega (arith, f));
   }
-
-  -- what was gained fits where all cells of the window do
-  pub gains_fit : (new : List Item) → HasRoom old (length (cells_of window)) → GainsCells P window old new → HasRoom new 0
-  gains_fit new room gains one other =
-      let g = gains one other in let r = room one other in let few = Tally-le-length (cells_of window) g.cells g.tally in let s = g.sum in omega (arith, r, few, s)
 
   -- one that holds of cells of one pair of labels alone
   pub gains_pair : (new : List Item) (a b cells : ℕ) → Tally (P a b) (cells_of window) cells → ((one other : ℕ) (c : Cell) → P one other c → (a ≡ one) × (b ≡ other))
@@ -44,7 +40,7 @@ module _ (P : ℕ → ℕ → Cell → Type 0) (window : Rect) (old : List Item)
         | inl h ↦ let here = h.2 in record {
           cells = cells;
           tally = subst (λ (y : ℕ). Tally (P one y) (cells_of window) cells) h.1 (subst (λ (x : ℕ). Tally (P x b) (cells_of window) cells) h.0 tally);
-          sum = omega (arith, push, f, here);
+          sum = rest_equal (omega (arith, push, f, here));
         }
-        | inr h ↦ let here = h.1 in record { cells = 0; tally = Tally-none (cells_of window) (λ c listed k. h.0 (only one other c k)); sum = omega (arith, push, f, here) }
+        | inr h ↦ let here = h.1 in record { cells = 0; tally = Tally-none (cells_of window) (λ c listed k. h.0 (only one other c k)); sum = rest_equal (omega (arith, push, f, here)) }
       ]

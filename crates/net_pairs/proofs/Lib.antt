@@ -1,3 +1,4 @@
+pub mod RestLaws
 pub mod SumLaws
 pub mod GainLaws
 pub mod RunLaws
@@ -6,3 +7,10 @@ pub mod DoubleSums
 pub mod MeetingLaws
 pub mod MeetingTallies
 pub mod BesideLaws
+pub mod WholeLaws
+pub mod RowSums
+pub mod CommonWeights
+pub mod ChangeMoves
+pub mod DenseLaws
+pub mod CornerLaws
+pub mod StretchLaws

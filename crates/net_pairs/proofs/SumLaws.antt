@@ -1,14 +1,16 @@
 -- items of pairs of labels: their cells, sorted, added up, and told apart
-use Rattle.std.proofs.Common.{ℕ, suc, ◌+◌, ◌^◌, ◌<◌, ◌≤◌, ◌≡◌, ◌∙◌, refl, sym, ap, subst, List, [], ◌∷◌, length, take, take_all, get_or, inl, inr, ◌⊎◌, ◌↔◌, arith, All, AllPairs, Contains, false}
+use Rattle.std.proofs.Common.{ℕ, suc, ◌+◌, ◌%◌, ◌^◌, ◌<◌, ◌≤◌, ◌≡◌, ◌∙◌, refl, sym, ap, subst, List, [], ◌∷◌, length, take, take_all, get_or, inl, inr, ◌⊎◌, ◌↔◌, arith, All, AllPairs, Contains, false}
 use Rattle.lists.proofs.Words.{all_pairs_push, eqb_tells, get_or_default, is_lt, sorted_far, ranks_by, sum_by-IsPermutation, sum_by-cons, sum_by_more, sum_by_push, All-contains, All-nil, All-push, All-weaker, IsPermutation, IsSorted, MatchOrdering, Ordering, Less, Equal, Greater}
 use Rattle.lists.proofs.Containing.{Contains-cons_cases, Contains-head, Contains-none, Contains-tail}
 use Rattle.lists.proofs.Differing.{AllPairs-tail}
 use Rattle.std.proofs.lemmas.Cmp.{nat_cmp_total, on_total, ranked, then_total}
-use Rattle.std.proofs.lemmas.List.Sums.{sum_by_more_le}
+use Rattle.std.proofs.Math.Nat.{mod-lt}
 use Rattle.std.specs.Cmp.{IsTotalOrder}
 use Rattle.std.specs.Ordering.{nat_cmp, ordering_then}
 use Rattle.net_pairs.specs.Pairs.{IsBefore}
-use Rattle.net_pairs.specs.inside.Sums.{AreAlike, AreOfOnePair, AreSumsOf, GainsSome, HasRoom, IsNoLater, cells_for, cells_if}
+use Rattle.net_pairs.specs.inside.Sums.{AreAlike, AreOfOnePair, AreSumsOf, GainsSome, IsNoLater, cells_for, cells_if}
+use Rattle.net_pairs.specs.inside.Rests.{HaveOneRest}
+use Rattle.net_pairs.proofs.RestLaws.{rest_added, rest_equal, rest_refl, rest_small, rest_sym, rest_trans, rest_wrapped}
 
 abbrev pub Item : Type 0
 Item = ℕ × ℕ × ℕ
@@ -72,6 +74,13 @@ module _ (one other : ℕ) where
   cells_of_others : (item : Item) → ((item.0 ≡ one) × (item.1 ≡ other) → ⊥) → cells_if one other item ≡ 0
   cells_of_others item n = elim (of_pair_or_not item) [ inl h ↦ absurd (n (h.0, h.1)) | inr h ↦ h.1 ]
 
+  -- items of one pair whose cells are one in 64 bits
+  pub cells_alike : (a b m n : ℕ) → HaveOneRest m n → HaveOneRest (cells_if one other (a, b, m)) (cells_if one other (a, b, n))
+  cells_alike a b m n alike = elim (of_pair_or_not (a, b, m)) [
+    | inl h ↦ rest_trans (rest_equal h.2) (rest_trans alike (rest_equal (sym (cells_of_pair (a, b, n) h.0 h.1))))
+    | inr h ↦ rest_equal (h.1 ∙ sym (cells_of_others (a, b, n) h.0))
+  ]
+
   -- two items of one pair, added up
   cells_of_both : (p q : Item) → AreOfOnePair p q → cells_if one other (p.0, p.1, p.2 + q.2) ≡ cells_if one other p + cells_if one other q
   cells_of_both p q same = elim (of_pair_or_not p) [
@@ -84,6 +93,9 @@ module _ (one other : ℕ) where
         let b = cells_of_others q (λ e. h.0 (same.0 ∙ e.0, same.1 ∙ e.1)) in
         let e = h.1 in omega (arith, a, b, e)
   ]
+
+  cells_wrapped : (p q : Item) → AreOfOnePair p q → HaveOneRest (cells_if one other (p.0, p.1, (p.2 + q.2) % 2 ^ 64)) (cells_if one other p + cells_if one other q)
+  cells_wrapped p q same = rest_trans (cells_alike p.0 p.1 ((p.2 + q.2) % 2 ^ 64) (p.2 + q.2) (rest_wrapped (p.2 + q.2))) (rest_equal (cells_of_both p q same))
 
   -- where each item comes behind one of the pair none is of the pair
   none_behind : (p : Item) (items : List Item) → p.0 ≡ one → p.1 ≡ other → All (IsBefore p) items → cells_for one other items ≡ 0
@@ -116,6 +128,21 @@ module _ (one other : ℕ) where
             omega (arith, s, here, there)
       ]
 
+  -- where no item has more cells than 64 bits hold no pair has more
+  cells_small : (items : List Item) → AllPairs IsBefore items → All (λ (item : Item). item.2 < 2 ^ 64) items → cells_for one other items < 2 ^ 64
+  cells_small [] rising small = omega arith
+  cells_small (p ∷ items) rising small =
+      let s = sum_by-cons (cells_if one other) p items in
+      elim (of_pair_or_not p) [
+        | inl h ↦
+            let none = none_behind p items h.0 h.1 (behind_first p items rising) in
+            let here = h.2 in let few = small 0 p (omega arith) in omega (arith, s, here, none, few)
+        | inr h ↦
+            let here = h.1 in
+            let rest = cells_small items (AllPairs-tail IsBefore p items rising) (λ k d within. small (suc k) d (omega arith)) in
+            omega (arith, s, here, rest)
+      ]
+
   -- and where a pair has cells there is an item with all of them
   pub listed_of_cells : (items : List Item) → AllPairs IsBefore items → (cells : ℕ) → 0 < cells → cells_for one other items ≡ cells → Contains items (one, other, cells)
   listed_of_cells [] rising cells some e = let z : 0 ≡ cells = e in absurd (omega arith)
@@ -138,7 +165,7 @@ module _ (one other : ℕ) where
       same_item (x, y, z) a b n = cc
 
 -- what a list that was added up tells of the first one
-pub listed_sums : (items sums : List Item) → AreSumsOf items sums → (one other cells : ℕ) → Contains sums (one, other, cells) ↔ ((0 < cells) × (cells_for one other items ≡ cells))
+pub listed_sums : (items sums : List Item) → AreSumsOf items sums → (one other cells : ℕ) → Contains sums (one, other, cells) ↔ ((0 < cells) × (cells_for one other items % 2 ^ 64 ≡ cells))
 listed_sums items sums are one other cells = (
   λ h. (All-contains (λ (item : Item). 0 < item.2) sums (one, other, cells) are.some h, sym (are.same one other) ∙ cells_of_listed one other sums are.rising cells h),
   λ h. listed_of_cells one other sums are.rising cells h.0 (are.same one other ∙ h.1),
@@ -167,30 +194,32 @@ sorted_pairs items up i j d before within =
     not_less (get_or items i d) (get_or items j d) (sorted_far (λ x y. is_lt (item_cmp x y)) (ranks_by item_cmp_total (λ (x : Item). x)) items up i j d (omega arith) within)
 
 pub alike_moved : (items sorted : List Item) → IsPermutation items sorted → AreAlike items sorted
-alike_moved items sorted moved one other = sum_by-IsPermutation (cells_if one other) items sorted moved
-
-pub room_alike : (items others : List Item) (more : ℕ) → AreAlike items others → HasRoom items more → HasRoom others more
-room_alike items others more same room one other = let a = same one other in let b = room one other in omega (arith, a, b)
+alike_moved items sorted moved one other = rest_equal (sum_by-IsPermutation (cells_if one other) items sorted moved)
 
 pub sums_alike : (items sorted sums : List Item) → AreAlike items sorted → AreSumsOf sorted sums → AreSumsOf items sums
-sums_alike items sorted sums same are = record { same = λ one other. are.same one other ∙ same one other; rising = are.rising; some = are.some }
+sums_alike items sorted sums same are = record { same = λ one other. are.same one other ∙ (same one other).rest; rising = are.rising; some = are.some }
+
+pub alike_sums : (items sums : List Item) → AreSumsOf items sums → AreAlike items sums
+alike_sums items sums are one other = rest_trans (rest_equal (are.same one other)) (rest_wrapped (cells_for one other items))
 
 -- ---- added up, item by item
 
--- of the first so many items those of the last pair have their sum, and those of each pair before it have an item of the list
+-- of the first so many items those of the last pair have their sum, in 64 bits, and those of each pair before it have an item of the list
 pub record AreSumsTo (sorted : List Item) (i : ℕ) (sums : List Item) (last : Item) : Type 0 where
-  pub total : (one other : ℕ) → cells_for one other sums + cells_if one other last ≡ cells_for one other (take i sorted)
+  pub total : (one other : ℕ) → HaveOneRest (cells_for one other sums + cells_if one other last) (cells_for one other (take i sorted))
   pub rising : AllPairs IsBefore sums
   pub before : All (λ (item : Item). IsBefore item last) sums
   pub some : All (λ (item : Item). 0 < item.2) sums
+  pub small : All (λ (item : Item). item.2 < 2 ^ 64) sums
   pub rest : (k : ℕ) (d : Item) → i ≤ k → k < length sorted → IsNoLater last (get_or sorted k d)
 
 pub sums_begun : (sorted : List Item) → AreSumsTo sorted 0 [] (0, 0, 0)
 sums_begun sorted = record {
-  total = λ one other. none one other;
+  total = λ one other. rest_equal (none one other);
   rising = λ i j d before within. absurd (omega arith);
   before = All-nil (λ (item : Item). IsBefore item (0, 0, 0));
   some = All-nil (λ (item : Item). 0 < item.2);
+  small = All-nil (λ (item : Item). item.2 < 2 ^ 64);
   rest = λ k d past within. least (get_or sorted k d);
 } where
   none : (one other : ℕ) → cells_for one other [] + cells_if one other (0, 0, 0) ≡ cells_for one other []
@@ -210,45 +239,57 @@ next_pair p q (inl a) other = inl a
 next_pair p q (inr a) other = elim (eqb_tells p.1 q.1) [ inl h ↦ absurd (other (a.0, h.1)) | inr h ↦ let e = a.1 in let n = h.1 in inr (a.0, omega arith) ]
 
 module _ (sorted : List Item) (i : ℕ) (sums : List Item) (last : Item) (h : AreSumsTo sorted i sums last) where
-  -- the list with the sum of the last pair
-  pub sums_so_far : (new : List Item) → GainsSome sums new last → AreSumsOf (take i sorted) new
-  sums_so_far new (inl (some, e)) = subst (AreSumsOf (take i sorted)) (sym e) (record {
-    same = λ one other. sum_by_push (cells_if one other) sums last ∙ h.total one other;
+  -- the list with the sum of the last pair, which has what the first so many items have
+  record SumsSoFar (new : List Item) : Type 0 where
+    pub alike : (one other : ℕ) → HaveOneRest (cells_for one other new) (cells_for one other (take i sorted))
+    pub rising : AllPairs IsBefore new
+    pub some : All (λ (item : Item). 0 < item.2) new
+    pub small : All (λ (item : Item). item.2 < 2 ^ 64) new
+
+  sums_so_far : (new : List Item) → GainsSome sums new last → SumsSoFar new
+  sums_so_far new (inl (some, small, e)) = subst SumsSoFar (sym e) (record {
+    alike = λ one other. rest_trans (rest_equal (sum_by_push (cells_if one other) sums last)) (h.total one other);
     rising = all_pairs_push IsBefore sums last h.rising h.before;
     some = All-push (λ (item : Item). 0 < item.2) sums last h.some some;
+    small = All-push (λ (item : Item). item.2 < 2 ^ 64) sums last h.small small;
   })
-  sums_so_far new (inr (none, e)) = subst (AreSumsOf (take i sorted)) (sym e) (record {
-    same = λ one other. let t = h.total one other in let z = without one other in omega (arith, t, z);
+  sums_so_far new (inr (none, e)) = subst SumsSoFar (sym e) (record {
+    alike = λ one other. rest_trans (rest_equal (let z = without one other in omega (arith, z))) (h.total one other);
     rising = h.rising;
     some = h.some;
+    small = h.small;
   }) where
     without : (one other : ℕ) → cells_if one other last ≡ 0
     without one other = elim (of_pair_or_not one other last) [ inl g ↦ g.2 ∙ none | inr g ↦ g.1 ]
+
+  pub sums_done : (new : List Item) → GainsSome sums new last → AreSumsOf (take i sorted) new
+  sums_done new gains = let so_far = sums_so_far new gains in record {
+    same = λ one other. rest_small (cells_small one other new so_far.rising so_far.small) (mod-lt (cells_for one other (take i sorted)) (omega arith))
+        (rest_trans (so_far.alike one other) (rest_sym (rest_wrapped (cells_for one other (take i sorted)))));
+    rising = so_far.rising;
+    some = so_far.some;
+  }
 
   module _ (item : Item) (small : i < length sorted) (is : item ≡ get_or sorted i item) where
     more : (one other : ℕ) → cells_for one other (take (i + 1) sorted) ≡ cells_for one other (take i sorted) + cells_if one other item
     more one other = sum_by_more (cells_if one other) sorted i item small ∙ ap (λ (x : Item). cells_for one other (take i sorted) + cells_if one other x) (sym is)
 
     -- an item of the last pair
-    pub sums_same : AreOfOnePair last item → AreSumsTo sorted (i + 1) sums (last.0, last.1, last.2 + item.2)
+    pub sums_same : AreOfOnePair last item → AreSumsTo sorted (i + 1) sums (last.0, last.1, (last.2 + item.2) % 2 ^ 64)
     sums_same same = record {
-      total = λ one other. let t = h.total one other in let m = more one other in let b = cells_of_both one other last item same in omega (arith, t, m, b);
+      total = λ one other.
+          let m = more one other in
+          rest_trans (rest_added (rest_refl (cells_for one other sums)) (cells_wrapped one other last item same))
+          (rest_trans (rest_equal (assoc (cells_for one other sums) (cells_if one other last) (cells_if one other item)))
+          (rest_trans (rest_added (h.total one other) (rest_refl (cells_if one other item))) (rest_equal (sym m))));
       rising = h.rising;
       before = h.before;
       some = h.some;
+      small = h.small;
       rest = λ k d past within. h.rest k d (omega arith) within;
-    }
-
-    -- its cells fit
-    pub last_fits : HasRoom sorted 0 → AreOfOnePair last item → last.2 + item.2 < 2 ^ 64
-    last_fits room same =
-        let r = room last.0 last.1 in
-        let t = h.total last.0 last.1 in
-        let mine = cells_of_pair last.0 last.1 last refl refl in
-        let its = cells_of_pair last.0 last.1 item (sym same.0) (sym same.1) in
-        let whole = sum_by_more_le (cells_if last.0 last.1) sorted i item small in
-        let e = ap (cells_if last.0 last.1) is in
-        omega (arith, r, t, mine, its, whole, e)
+    } where
+      assoc : (a b c : ℕ) → a + (b + c) ≡ a + b + c
+      assoc a b c = omega arith
 
     -- the first item of the next pair
     pub sums_next : (new : List Item) → GainsSome sums new last → (AreOfOnePair last item → ⊥) → AllPairs IsNoLater sorted → AreSumsTo sorted (i + 1) new item
@@ -256,13 +297,14 @@ module _ (sorted : List Item) (i : ℕ) (sums : List Item) (last : Item) (h : Ar
         let so_far = sums_so_far new gains in
         let next : IsBefore last item = next_pair last item (subst (IsNoLater last) (sym is) (h.rest i item (omega arith) small)) other in
         let all = All-weaker (λ (x : Item). IsBefore x last) (λ (x : Item). IsBefore x item) (λ x b. before_both x last item b next) sums h.before in record {
-          total = λ one other. let s = so_far.same one other in let m = more one other in omega (arith, s, m);
+          total = λ one other. rest_trans (rest_added (so_far.alike one other) (rest_refl (cells_if one other item))) (rest_equal (sym (more one other)));
           rising = so_far.rising;
           before = elim gains [
-            | inl g ↦ subst (All (λ (x : Item). IsBefore x item)) (sym g.1) (All-push (λ (x : Item). IsBefore x item) sums last all next)
+            | inl g ↦ subst (All (λ (x : Item). IsBefore x item)) (sym g.2) (All-push (λ (x : Item). IsBefore x item) sums last all next)
             | inr g ↦ subst (All (λ (x : Item). IsBefore x item)) (sym g.1) all
           ];
           some = so_far.some;
+          small = so_far.small;
           rest = λ k d past within.
               let far = ordered i k item (omega arith) within in
               subst (λ (x : Item). IsNoLater x (get_or sorted k d)) (sym is) (subst (IsNoLater (get_or sorted i item)) (default k d within) far);
@@ -272,4 +314,4 @@ module _ (sorted : List Item) (i : ℕ) (sums : List Item) (last : Item) (h : Ar
         default k d within = get_or_default sorted k item d within
 
 pub sums_all : (sorted : List Item) (i : ℕ) (sums new : List Item) (last : Item) → length sorted ≤ i → AreSumsTo sorted i sums last → GainsSome sums new last → AreSumsOf sorted new
-sums_all sorted i sums new last past h gains = subst (λ (xs : List Item). AreSumsOf xs new) (take_all i sorted past) (sums_so_far sorted i sums last h new gains)
+sums_all sorted i sums new last past h gains = subst (λ (xs : List Item). AreSumsOf xs new) (take_all i sorted past) (sums_done sorted i sums last h new gains)

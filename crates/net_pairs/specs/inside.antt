@@ -1,6 +1,11 @@
+pub mod Rests
 pub mod Sums
 pub mod Gains
 pub mod LabelRuns
 pub mod PairSteps
 pub mod Meetings
 pub mod Beside
+pub mod Changes
+pub mod Whole
+pub mod Dense
+pub mod Corners

@@ -1,19 +1,18 @@
-ghost use Rattle.std.specs.Prelude.{IfOk, OnOk, length};
+ghost use Rattle.std.specs.Prelude.{IfOk, OnOk};
 ghost use Rattle.geo_core.specs.Bounds.{IsRadius};
-ghost use Rattle.fault_model.specs.Areas.{cells_of};
 ghost use Rattle.short_area.specs.Zones.{AreAlikeIn};
 ghost use Rattle.net_pairs.specs.Pairs.{ArePairAreas};
 ghost use Rattle.net_pairs.specs.inside.Gains.{GainsCells, IsInBoth};
-ghost use Rattle.net_pairs.specs.inside.Sums.{HasRoom};
 
 use super::beside::add_few;
-use super::meetings::add_meetings;
+use super::crossings::add_runs;
 use super::steps::Step;
 use super::sums::PairSums;
 use super::ways::{NONE_TRIED, next_step};
+use super::whole::zones_of_part;
 use geo_core::{Labelled, Rect};
 use lists::NoMemory;
-use short_area::{two_label_area, zones_in, zones_of};
+use short_area::{two_label_area, zones_of};
 use std::alloc::Global;
 use union_area::parts_at;
 
@@ -49,7 +48,6 @@ fn add_areas(
     hopeless: usize,
     sums: &mut PairSums,
 ) -> Result<(), NoMemory>
-    requires { HasRoom sums.old.items.items (length (cells_of window)) }
     ensures { OnOk result (GainsCells (IsInBoth zones.items) window sums.old.items.items sums.new.items.items) }
 {
     match next_step(alloc, zones.as_slice(), window, hopeless)? {
@@ -59,7 +57,7 @@ fn add_areas(
             let cells = two_label_area(alloc, zones, window)?;
             sums.add(one, other, cells)
         }
-        Step::Meet(runs) => add_meetings(alloc, runs.as_slice(), window, sums),
+        Step::Meet(runs) => add_runs(alloc, runs.as_slice(), window, sums),
         Step::Halve(axis, place, hopeless) => {
             let (first, second) = parts_at(window, axis, place);
             let (before, behind) = halves(alloc, zones, first, second)?;
@@ -69,7 +67,8 @@ fn add_areas(
     }
 }
 
-/// What the zones have in the one part and in the other. The zones themselves are kept no longer.
+/// What the zones have in the one part and in the other, where a label that has all of the part has one zone. The zones themselves are
+/// kept no longer.
 fn halves(
     alloc: Global,
     zones: Vec<Labelled>,
@@ -79,7 +78,7 @@ fn halves(
     ensures first { IfOk result (λ both. AreAlikeIn first zones.items both.0.items) }
     ensures second { IfOk result (λ both. AreAlikeIn second zones.items both.1.items) }
 {
-    let before = zones_in(alloc, zones.as_slice(), first)?;
-    let behind = zones_in(alloc, zones.as_slice(), second)?;
+    let before = zones_of_part(alloc, zones.as_slice(), first)?;
+    let behind = zones_of_part(alloc, zones.as_slice(), second)?;
     Ok((before, behind))
 }

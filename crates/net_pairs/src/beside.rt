@@ -1,9 +1,7 @@
-ghost use Rattle.std.specs.Prelude.{◌≡◌, IfOk, IsTrue, OnOk, false, length};
+ghost use Rattle.std.specs.Prelude.{◌≡◌, IfOk, IsTrue, OnOk, false};
 ghost use Rattle.geo_core.specs.Cells.{Overlap};
-ghost use Rattle.fault_model.specs.Areas.{cells_of};
 ghost use Rattle.net_pairs.specs.inside.Beside.{HaveSameBoth, IsAlone, KeepsBeside};
 ghost use Rattle.net_pairs.specs.inside.Gains.{GainsCells, IsInBoth};
-ghost use Rattle.net_pairs.specs.inside.Sums.{HasRoom};
 
 use super::meetings::add_meetings;
 use super::runs::label_runs;
@@ -64,7 +62,6 @@ pub fn add_few(
     window: Rect,
     sums: &mut PairSums,
 ) -> Result<(), NoMemory>
-    requires { HasRoom sums.old.items.items (length (cells_of window)) }
     ensures { OnOk result (GainsCells (IsInBoth zones.now) window sums.old.items.items sums.new.items.items) }
 {
     let kept = beside_others(alloc, zones)?;

@@ -1,5 +1,5 @@
 ghost use Rattle.std.specs.Prelude.{[], ◌∷◌, ◌++◌, ◌≡◌, ◌↔◌, AllPairs, IfOk, IsTrue, OnOk};
-ghost use Rattle.net_pairs.specs.inside.Sums.{AreAlike, AreOfOnePair, AreSumsOf, GainsSome, HasRoom, IsNoLater};
+ghost use Rattle.net_pairs.specs.inside.Sums.{AreAlike, AreOfOnePair, AreSumsOf, GainsSome, IsNoLater};
 
 use lists::NoMemory;
 use std::alloc::Global;
@@ -7,7 +7,8 @@ use std::alloc::Global;
 /// So many items are kept before any are added up.
 const LEAST: usize = 1024;
 
-/// Cells by pairs of labels, as they are found: the one label, the other one, and so many cells.
+/// Cells by pairs of labels, as they are found: the one label, the other one, and so many cells. They are added up in 64 bits, so
+/// that what is to be taken away is added as what it lacks to 2 to the 64th.
 #[derive(Drop)]
 pub struct PairSums {
     pub items: Vec<(usize, usize, u64)>,
@@ -36,7 +37,6 @@ impl PairSums {
 
     /// Adds up the items of each pair, where there are twice as many items as the last time.
     pub fn shrink(&mut self, alloc: Global) -> Result<(), NoMemory>
-        requires { HasRoom self.old.items.items 0 }
         ensures { OnOk result (AreAlike self.old.items.items self.new.items.items) }
     {
         if self.items.len() < self.most {
@@ -49,9 +49,8 @@ impl PairSums {
         Ok(())
     }
 
-    /// The cells of each pair that has some, in the order of the pairs.
+    /// The cells of each pair that has some, in 64 bits, in the order of the pairs.
     pub fn finish(mut self, alloc: Global) -> Result<Vec<(usize, usize, u64)>, NoMemory>
-        requires { HasRoom self.items.items 0 }
         ensures { IfOk result (λ sums. AreSumsOf self.items.items sums.items) }
     {
         sort_by_pair(&mut self.items);
@@ -84,20 +83,19 @@ fn push_some(sums: &mut Vec<(usize, usize, u64)>, item: (usize, usize, u64)) -> 
     Ok(())
 }
 
-/// One item for each pair that has cells, with all its cells.
+/// One item for each pair that has cells, with all its cells in 64 bits.
 fn added_up(
     alloc: Global,
     sorted: &[(usize, usize, u64)],
 ) -> Result<Vec<(usize, usize, u64)>, NoMemory>
-    requires ordered { AllPairs IsNoLater sorted.now }
-    requires room { HasRoom sorted.now 0 }
+    requires { AllPairs IsNoLater sorted.now }
     ensures { IfOk result (λ sums. AreSumsOf sorted.now sums.items) }
 {
     let mut sums = Vec::new(alloc);
     let mut last = (0, 0, 0);
     for item in sorted {
         if are_of_one_pair(last, *item) {
-            last = (last.0, last.1, last.2 + item.2);
+            last = (last.0, last.1, last.2.wrapping_add(item.2));
         } else {
             push_some(&mut sums, last)?;
             last = *item;

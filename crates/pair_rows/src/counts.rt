@@ -142,7 +142,7 @@ const COUNTED: &[(&[usize], &[Piece])] = &[
 ];
 
 /// Whether the areas are those that are counted cell by cell, for each radius from 1 to 5.
-fn agrees(alloc: Global, labels: &[usize], pieces: &[Labelled]) -> bool {
+pub fn agrees(alloc: Global, labels: &[usize], pieces: &[Labelled]) -> bool {
     let window = Rect::new(-10, -11, 14, 12);
     for radius in 1..6 {
         let Some(areas) = counts_of(alloc, pieces, window, radius, labels) else {

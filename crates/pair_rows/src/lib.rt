@@ -10,3 +10,5 @@ mod many;
 mod pieces;
 #[cfg(test)]
 mod rows;
+#[cfg(test)]
+mod strips;

@@ -2,24 +2,16 @@ use Rattle.std.proofs.Common.{List, arith, refl, subst, sym}
 use Rattle.lists.proofs.Words.{on_ok_weaker}
 use Rattle.geo_core.specs.declared.plane.Labelled.{Labelled}
 use Rattle.union_area.proofs.laws.PartLaws.{fewer_cells}
-use Rattle.net_pairs.specs.inside.Gains.{IsInBoth}
 use Rattle.net_pairs.specs.inside.LabelRuns.{AreRunsOf}
 use Rattle.net_pairs.specs.inside.PairSteps.{HaveOneLabel, HaveTwoLabels}
-use Rattle.net_pairs.proofs.AreaLaws.{gains_by_runs, gains_of_one, gains_of_parts, gains_of_two, room_of_first, room_of_second}
+use Rattle.net_pairs.proofs.AreaLaws.{gains_by_runs, gains_of_one, gains_of_parts, gains_of_two}
 use Rattle.net_pairs.proofs.areas.+add_areas.Goals as goal
 
 pub add_areas-requires : goal.add_areas-requires
-add_areas-requires t c = (
-  let fewer = fewer_cells c.args.window _ _ c.parts_at.ensures.parts in omega (arith, fewer.0),
-  room_of_first c.args.window _ _ c.parts_at.ensures.parts c.args.sums.now.items.items c.requires,
-)
+add_areas-requires t c = let fewer = fewer_cells c.args.window _ _ c.parts_at.ensures.parts in omega (arith, fewer.0)
 
 pub add_areas-requires-in-Halve : goal.add_areas-requires-in-Halve
-add_areas-requires-in-Halve t c = (
-  let fewer = fewer_cells c.args.window _ _ c.parts_at.ensures.parts in omega (arith, fewer.1),
-  room_of_second c.args.window _ _ c.parts_at.ensures.parts c.args.sums.now.items.items c.requires (IsInBoth c.in_ok-before-in-Halve.before.items) c.add_areas.new.sums.items.items
-      c.in_ok-add_areas-in-Halve.ensures,
-)
+add_areas-requires-in-Halve t c = let fewer = fewer_cells c.args.window _ _ c.parts_at.ensures.parts in omega (arith, fewer.1)
 
 pub returns-in-Nothing : goal.returns-in-Nothing
 returns-in-Nothing t c = gains_of_one c.args.zones.items c.args.window _ _ (subst HaveOneLabel c.as_slice.ensures.value (rw c.in-Nothing.is at c.in_ok-next_step.ensures)) refl
@@ -36,7 +28,7 @@ pub returns-in-Meet : goal.returns-in-Meet
 returns-in-Meet t c =
     let of_zones = subst (λ (zones : List Labelled). AreRunsOf zones c.in-Meet.runs.items) c.as_slice.ensures.value (rw c.in-Meet.is at c.in_ok-next_step.ensures) in
     let are = subst (AreRunsOf c.args.zones.items) (sym c.as_slice-in-Meet.ensures.value) of_zones in
-    on_ok_weaker c.add_meetings.result (gains_by_runs c.args.zones.items c.as_slice-in-Meet.result.now c.args.window _ _ are) c.add_meetings.ensures
+    on_ok_weaker c.add_runs.result (gains_by_runs c.args.zones.items c.as_slice-in-Meet.result.now c.args.window _ _ are) c.add_runs.ensures
 
 pub returns-in_ok-add_areas-in-Halve : goal.returns-in_ok-add_areas-in-Halve
 returns-in_ok-add_areas-in-Halve t c = on_ok_weaker c.add_areas-in-Halve.result

@@ -1,16 +1,8 @@
 use Rattle.std.proofs.Common.{Global, Vec}
 use Rattle.lists.proofs.Words.{IfOk-weaker}
-use Rattle.net_pairs.specs.inside.Gains.{IsInBoth}
-use Rattle.net_pairs.proofs.AreaLaws.{listed_area, room_of_none}
-use Rattle.net_pairs.proofs.GainLaws.{gains_fit}
+use Rattle.net_pairs.proofs.AreaLaws.{listed_area}
 use Rattle.net_pairs.proofs.SumLaws.{Item, listed_sums}
 use Rattle.net_pairs.proofs.areas.pair_areas.Goals as goal
-
-pub add_areas-requires : goal.add_areas-requires
-add_areas-requires c = room_of_none c.args.window _ c.new-sums.ensures
-
-pub finish-requires : goal.finish-requires
-finish-requires c = gains_fit (IsInBoth c.in_ok-zones.zones.items) c.args.window _ _ (room_of_none c.args.window _ c.new-sums.ensures) c.in_ok-add_areas.ensures
 
 pub returns : goal.returns
 returns c = IfOk-weaker c.finish.result _ _ (λ (areas : Vec Item Global) are. record {

@@ -9,7 +9,7 @@ use Rattle.net_pairs.proofs.beside.add_few.Goals as goal
 
 pub add_meetings-requires : goal.add_meetings-requires
 add_meetings-requires c =
-    let are = subst (AreRunsOf c.as_slice.result.now) (sym c.as_slice-2.ensures.value) c.in_ok-runs.ensures in record { apart = are.apart; room = c.requires }
+    let are = subst (AreRunsOf c.as_slice.result.now) (sym c.as_slice-2.ensures.value) c.in_ok-runs.ensures in are.apart
 
 pub returns : goal.returns
 returns c =

@@ -1,6 +1,5 @@
-use Rattle.std.proofs.Common.{List, subst, sym, ◌∙◌}
-use Rattle.geo_core.specs.declared.plane.Labelled.{Labelled}
-use Rattle.net_pairs.specs.inside.Meetings.{GainsSum, HasRoomFor, crosses, meetings_of}
+use Rattle.std.proofs.Common.{◌∙◌}
+use Rattle.net_pairs.specs.inside.Meetings.{crosses}
 use Rattle.net_pairs.proofs.MeetingLaws.{by_row_filter}
 use Rattle.net_pairs.proofs.search.add_across.Goals as goal
 
@@ -9,7 +8,6 @@ sweep-requires c =
     let is = c.as_slice.ensures.value ∙ c.in_ok-across.ensures.across in record {
       points = c.requires.points;
       spans = by_row_filter (crosses c.args.begins.first c.args.begins.last) c.args.spans.now _ is c.requires.spans;
-      room = subst (λ (spans : List Labelled). HasRoomFor (meetings_of c.args.window c.args.points.now spans) c.args.sums.now.items.items) (sym is) c.requires.room;
     }
 
 pub returns-clause-across : goal.returns-clause-across

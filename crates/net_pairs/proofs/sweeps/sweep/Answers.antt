@@ -1,30 +1,15 @@
-use Rattle.std.proofs.Common.{List, subst, sym}
-use Rattle.net_pairs.specs.inside.Meetings.{meetings_of, meetings_with, meetings_with_span}
-use Rattle.net_pairs.specs.inside.Sums.{HasRoom}
-use Rattle.net_pairs.proofs.MeetingLaws.{no_points_left, no_spans_left, none_of, none_swept, point_done, point_parts, span_done, span_parts, swept_fits}
+use Rattle.net_pairs.proofs.MeetingLaws.{no_points_left, no_spans_left, none_of, none_swept, point_done, span_done}
 use Rattle.net_pairs.proofs.sweeps.sweep.Goals as goal
 use Rattle.net_pairs.proofs.sweeps.sweep.Goals.{then-point-span+in_ok-add_spans, else-point-span+in_ok-add_points}
 
 pub loop-point-init : goal.loop-point-init
-loop-point-init c = none_swept c.args.window c.args.points.now c.args.spans.now c.args.sums.now.items.items c.requires.points c.requires.spans
+loop-point-init c = none_swept c.args.window c.args.lesser c.args.points.now c.args.spans.now c.args.sums.now.items.items c.requires.points c.requires.spans
 
 pub add_spans-requires : goal.add_spans-requires
 add_spans-requires c = c.loop-point.invariant.spans_by_row
 
 pub add_points-requires : goal.add_points-requires
 add_points-requires c = c.loop-point.invariant.points_by_row
-
-pub shrink-requires : goal.shrink-requires
-shrink-requires c =
-    let s = c.loop-point.invariant in
-    let x = c.in-Some.point.now in let later = c.in-Some.later_points.now in
-    let y = c.in-Some-split_first.span.now in let others = c.in-Some-split_first.later_spans.now in
-    elim c.if-point-span.branch [
-      | then-point-span+in_ok-add_spans w ↦ rw w.sums-is (swept_fits s c.requires.room (meetings_with c.args.window x c.loop-point.spans.now) (meetings_of c.args.window later c.loop-point.spans.now)
-          (point_parts s x later c.in-Some.ensures.cases.0) w.in_ok-add_spans.ensures)
-      | else-point-span+in_ok-add_points w ↦ rw w.sums-is (swept_fits s c.requires.room (meetings_with_span c.args.window y c.loop-point.points.now) (meetings_of c.args.window c.loop-point.points.now others)
-          (span_parts s y others c.in-Some-split_first.ensures.cases.0) w.in_ok-add_points.ensures)
-    ]
 
 pub loop-point-preserved : goal.loop-point-preserved
 loop-point-preserved c =

@@ -1,13 +1,13 @@
 use Rattle.std.proofs.Common.{◌≡◌, ap, true, false, ℤ, not, ◌&&◌}
 use Rattle.lists.proofs.Words.{le_z, lt_z}
-use Rattle.geo_core.specs.declared.plane.Labelled.{Labelled}
+use Rattle.net_pairs.specs.declared.weighted.Weighted.{Weighted}
 use Rattle.net_pairs.specs.inside.Meetings.{crosses, meets_partly}
 use Rattle.net_pairs.proofs.search.Begins.met.Goals as goal
 use Rattle.net_pairs.proofs.search.Begins.met.Goals.{then-is_crossed_by+in_ok-push, else-is_crossed_by+then-is_partly_met_by+in_ok-push-2, else-is_crossed_by+else-is_partly_met_by}
 use Rattle.lists.proofs.Filtering.{filter_ends, filter_leaves, filter_takes}
 
 -- a span that crosses all columns does not count as meeting them in part
-not_partly : (first last : ℤ) (x : Labelled) → true ≡ crosses first last x → false ≡ meets_partly first last x
+not_partly : (first last : ℤ) (x : Weighted) → true ≡ crosses first last x → false ≡ meets_partly first last x
 not_partly first last x e = ap (λ b. not b && (le_z x.rect.x0 last && lt_z first x.rect.x1)) e
 
 pub loop-span-preserved : goal.loop-span-preserved
