@@ -1,27 +1,30 @@
 -- words that have a cause why they ask for nothing ask for nothing, and which of several causes is told
-use Rattle.std.proofs.Common.{ℕ, ◌≤◌, ◌<◌, List, [], ◌∷◌, ◌++◌, ◌≡◌, ◌≢◌, ◌∙◌, sym, ap, refl, arith, All, Contains, Some, None, Option, codes, drop, length, lit<, subst, append_assoc, false}
-use Rattle.lists.proofs.Words.{flat_map, All-cons, All-contains, All-head, All-nil, All-tail}
+use Rattle.std.proofs.Common.{ℕ, ◌≤◌, ◌<◌, List, [], ◌∷◌, ◌++◌, ◌≡◌, ◌≢◌, ◌∙◌, sym, ap, refl, arith, All, Contains, Some, None, Option, codes, drop, length, lit<, subst, append_assoc, Bool, true, false, ◌||◌}
+use Rattle.lists.proofs.Words.{flat_map, list_any, All-cons, All-contains, All-head, All-nil, All-tail}
 use Rattle.first_refusal.specs.Laws.{IsUnique}
+use Rattle.geo_core.specs.declared.plane.Cell.{Cell}
 use Rattle.command_line.specs.declared.cause.Refusal.{Refusal}
 use Rattle.command_line.specs.declared.cause.Refusal.TheVariants.{Words, Memory}
 use Rattle.command_line.specs.declared.cause.WordsCause.{WordsCause}
 use Rattle.command_line.specs.declared.cause.WordsCause.TheVariants.{NoWords, NoOption, NoValue, NoLayout}
 use Rattle.command_line.specs.declared.option_name.OptionName.{OptionName}
-use Rattle.command_line.specs.declared.option_name.OptionName.TheVariants.{Map, Top, Tile, Workers, Layer, Datatype, Radius, Generate, Pairs}
+use Rattle.command_line.specs.declared.option_name.OptionName.TheVariants.{Map, Top, Tile, Workers, Layer, Datatype, Radius, Generate, Pairs, Probe}
 use Rattle.command_line.specs.declared.range.NumberRange.{NumberRange}
 use Rattle.command_line.specs.declared.request.Request.{Request}
 use Rattle.command_line.specs.declared.task.Task.{Task}
 use Rattle.command_line.specs.inside.Arguments.{AreSingle, HasRead}
 use Rattle.command_line.specs.inside.WordsRefusals.{HasCause, IsFirstCause, IsOfForm}
+use Rattle.command_line.specs.Cells.{IsCellText}
 use Rattle.command_line.specs.Numbers.{IsNumber}
 use Rattle.command_line.specs.OptionNames.{Text, range_of}
-use Rattle.command_line.specs.Requests.{Ask, GiveNoOther, HasNoEmptyText, IsNotEmpty, IsNumberOnce, IsNumberOrDefault, as_given as number_given, left_out, IsTask, of_one_metal, of_map, of_pairs, of_generator, options_for, IsRequestOf, is_one_of, permitted, permitted_on_files, values_of}
+use Rattle.command_line.specs.Requests.{Ask, GiveNoOther, HasNoEmptyText, IsNotEmpty, IsNumberOnce, IsNumberOrDefault, as_given as number_given, left_out, IsTask, of_one_metal, of_map, of_pairs, of_probe, of_generator, options_for, IsRequestOf, is_one_of, permitted, permitted_on_files, values_of}
 use Rattle.command_line.specs.Spelling.{Argument, in_one_word, in_two_words, positional, Given, AreSpelled, IsClearlySpelled, IsPlain, last_words, name_word, whole_word, words_of}
-use Rattle.command_line.specs.WordsCauses.{BeginWithNone, no_option, no_value, dashed_value, StopFor, IsCauseOf, bad_number, no_layout, layout_beside_generate, beside_generate, beside_map, no_map, beside_task, missing, no_metals, IsCauseIn, empty_value, empty_layout, twice, two_layouts, of_values, IsCause, no_words, not_spelled, as_given, file_options, metal_options, order_of, task_options}
+use Rattle.command_line.specs.WordsCauses.{BeginWithNone, no_option, no_value, dashed_value, StopFor, IsCauseOf, bad_number, no_cell, bad_column, bad_row, no_layout, layout_beside_generate, beside_generate, beside_map, no_map, two_tasks, beside_task, missing, no_metals, IsCauseIn, empty_value, empty_layout, twice, two_layouts, of_values, IsCause, no_words, not_spelled, as_given, file_options, metal_options, order_of, task_options}
 use Rattle.command_line.proofs.AskLaws.{asks_by_texts, asks_for, asks_once}
 use Rattle.command_line.proofs.ReadingLaws.{all_read, nothing_read}
 use Rattle.command_line.proofs.TaskLaws.{one_is_some}
-use Rattle.command_line.proofs.OrderLaws.{checked}
+use Rattle.command_line.proofs.CellLaws.{has_parts, parts_of_cell}
+use Rattle.command_line.proofs.OrderLaws.{checked, first_given, second_given}
 use Rattle.command_line.proofs.SpellingLaws.{plain_has_no_dashes, whole_is_no_name, no_nameless, first_is_one, name_word_is, Follows, follow, spellings_agree}
 
 -- ---- words that are not spelled
@@ -111,34 +114,17 @@ module _ (range : NumberRange) (texts : List Text) (value : Text) (one : texts �
   not_or_default low high default n within (number_given once) = not_once low high n within once
   not_or_default low high default n within (left_out e) = one_is_some texts value one e
 
--- an option of one metal is none that may be given with a map, nor with the option of pairs
-metal_is_no_map : (name : OptionName) → Contains metal_options name → is_one_of (Map ∷ permitted_on_files) name ≡ false
-metal_is_no_map name listed =
-    let IsOther : OptionName → Type 0 = λ other. is_one_of (Map ∷ permitted_on_files) other ≡ false in
-    All-contains IsOther metal_options name (All-cons IsOther Layer (Datatype ∷ Radius ∷ []) refl (All-cons IsOther Datatype (Radius ∷ []) refl (All-cons IsOther Radius [] refl (All-nil IsOther)))) listed
+-- of two lists of options without a common name, those of the one are none of the other
+none_of : (names others : List OptionName) → list_any (is_one_of names) others ≡ false → All (λ name. is_one_of names name ≡ false) others
+none_of names [] none = All-nil (λ name. is_one_of names name ≡ false)
+none_of names (other ∷ more) none = go (is_one_of names other) refl none (none_of names more) where
+  go : (b : Bool) → is_one_of names other ≡ b → (b || list_any (is_one_of names) more) ≡ false → (list_any (is_one_of names) more ≡ false → All (λ name. is_one_of names name ≡ false) more)
+      → All (λ name. is_one_of names name ≡ false) (other ∷ more)
+  go true _ none _ = cc none
+  go false is none rest = All-cons (λ name. is_one_of names name ≡ false) other more is (rest none)
 
-metal_is_no_pairs : (name : OptionName) → Contains metal_options name → is_one_of (Map ∷ Pairs ∷ Top ∷ []) name ≡ false
-metal_is_no_pairs name listed =
-    let IsOther : OptionName → Type 0 = λ other. is_one_of (Map ∷ Pairs ∷ Top ∷ []) other ≡ false in
-    All-contains IsOther metal_options name (All-cons IsOther Layer (Datatype ∷ Radius ∷ []) refl (All-cons IsOther Datatype (Radius ∷ []) refl (All-cons IsOther Radius [] refl (All-nil IsOther)))) listed
-
-work_is_no_pairs : (name : OptionName) → Contains permitted name → is_one_of (Map ∷ Pairs ∷ Top ∷ []) name ≡ false
-work_is_no_pairs name listed =
-    let IsOther : OptionName → Type 0 = λ other. is_one_of (Map ∷ Pairs ∷ Top ∷ []) other ≡ false in
-    All-contains IsOther permitted name (All-cons IsOther Tile (Workers ∷ []) refl (All-cons IsOther Workers [] refl (All-nil IsOther))) listed
-
--- the options that ask for something other than a report are none of these
-task_is_none_of : (names : List OptionName) → is_one_of names Pairs ≡ false → (name : OptionName) → Contains task_options name → is_one_of names name ≡ false
-task_is_none_of names other name listed =
-    let IsOther : OptionName → Type 0 = λ option. is_one_of names option ≡ false in
-    All-contains IsOther task_options name (All-cons IsOther Pairs [] other (All-nil IsOther)) listed
-
-file_is_no_columns : (name : OptionName) → Contains file_options name → is_one_of (Generate ∷ permitted) name ≡ false
-file_is_no_columns name listed =
-    let IsOther : OptionName → Type 0 = λ other. is_one_of (Generate ∷ permitted) other ≡ false in
-    All-contains IsOther file_options name
-    (All-cons IsOther Map (Top ∷ Layer ∷ Datatype ∷ Radius ∷ Pairs ∷ []) refl (All-cons IsOther Top (Layer ∷ Datatype ∷ Radius ∷ Pairs ∷ []) refl (All-cons IsOther Layer (Datatype ∷ Radius ∷ Pairs ∷ []) refl
-    (All-cons IsOther Datatype (Radius ∷ Pairs ∷ []) refl (All-cons IsOther Radius (Pairs ∷ []) refl (All-cons IsOther Pairs [] refl (All-nil IsOther))))))) listed
+is_none_of : (names others : List OptionName) → list_any (is_one_of names) others ≡ false → (name : OptionName) → Contains others name → is_one_of names name ≡ false
+is_none_of names others none name = All-contains (λ other. is_one_of names other ≡ false) others name (none_of names others none)
 
 module _ (values : OptionName → List Text) (positions : List Text) where
   -- the task of one metal gives each of its options
@@ -154,6 +140,7 @@ module _ (values : OptionName → List Text) (positions : List Text) where
       → (range : NumberRange) (value : Text) → range_of name ≡ Some range → values name ≡ value ∷ [] → ((n : ℕ) → IsNumber range.least range.most value n → ⊥) → ⊥
   fits request asked task is others Map range value within one none = cc within
   fits request asked task is others Top range value within one none = cc within
+  fits request asked task is others Probe range value within one none = cc within
   fits request asked task (of_pairs {size = n} _ _ size _) others Pairs range value within one none = not_once range (values Pairs) value one none 1 32 n within size
   fits request asked task is others Tile range value within one none = not_or_default range (values Tile) value one none 1 1000000000 65536 request.edge within asked.edge
   fits request asked task is others Workers range value within one none = not_or_default range (values Workers) value one none 1 64 4 request.workers within asked.workers
@@ -163,51 +150,79 @@ module _ (values : OptionName → List Text) (positions : List Text) where
   fits request asked task (of_generator {columns = n} _ columns) others Generate range value within one none = not_once range (values Generate) value one none 1 500 n within columns
   fits request asked task is others name range value within one none = one_is_some (values name) value one (others name refl)
 
-  -- such a task has no cause but a value that is no number
-  no_form : (cause : WordsCause) → IsCauseOf values positions cause → order_of cause < 13 → (task : Task) → IsTask values positions task → GiveNoOther values (options_for task) → ⊥
+  -- such a task has no cause but a value that is not of its option's form
+  no_form : (cause : WordsCause) → IsCauseOf values positions cause → order_of cause < 14 → (task : Task) → IsTask values positions task → GiveNoOther values (options_for task) → ⊥
   no_form cause (bad_number _ _ _) early task is others = absurd (omega arith)
+  no_form cause (no_cell _ _) early task is others = absurd (omega arith)
+  no_form cause (bad_column _ _ _) early task is others = absurd (omega arith)
+  no_form cause (bad_row _ _ _ _) early task is others = absurd (omega arith)
   no_form cause (no_layout none no_columns) early task (of_one_metal at _ _ _ _) others = let s = sym none ∙ at in cc s
   no_form cause (no_layout none no_columns) early task (of_map at _ _) others = let s = sym none ∙ at in cc s
   no_form cause (no_layout none no_columns) early task (of_pairs at _ _ _) others = let s = sym none ∙ at in cc s
+  no_form cause (no_layout none no_columns) early task (of_probe at _ _ _) others = let s = sym none ∙ at in cc s
   no_form cause (no_layout none no_columns) early task (of_generator _ columns) others = one_is_some (values Generate) columns.text columns.once no_columns
   no_form cause (layout_beside_generate one columns) early task (of_generator none _) others = let s = sym one ∙ none in cc s
   no_form cause (layout_beside_generate one columns) early task (of_one_metal _ _ _ _ _) others = columns (others Generate refl)
   no_form cause (layout_beside_generate one columns) early task (of_map _ _ _) others = columns (others Generate refl)
   no_form cause (layout_beside_generate one columns) early task (of_pairs _ _ _ _) others = columns (others Generate refl)
-  no_form cause (beside_generate {name = name} columns listed some) early task (of_generator _ _) others = some (others name (file_is_no_columns name listed))
+  no_form cause (layout_beside_generate one columns) early task (of_probe _ _ _ _) others = columns (others Generate refl)
+  no_form cause (beside_generate {name = name} columns listed some) early task (of_generator _ _) others = some (others name (is_none_of (Generate ∷ permitted) file_options refl name listed))
   no_form cause (beside_generate columns listed some) early task (of_one_metal _ _ _ _ _) others = columns (others Generate refl)
   no_form cause (beside_generate columns listed some) early task (of_map _ _ _) others = columns (others Generate refl)
   no_form cause (beside_generate columns listed some) early task (of_pairs _ _ _ _) others = columns (others Generate refl)
-  no_form cause (beside_map {name = name} map listed some) early task (of_map _ _ _) others = some (others name (metal_is_no_map name listed))
-  no_form cause (beside_map {name = name} map listed some) early task (of_pairs _ _ _ _) others = some (others name (metal_is_no_pairs name listed))
+  no_form cause (beside_generate columns listed some) early task (of_probe _ _ _ _) others = columns (others Generate refl)
+  no_form cause (beside_map {name = name} map listed some) early task (of_map _ _ _) others = some (others name (is_none_of (Map ∷ permitted_on_files) metal_options refl name listed))
+  no_form cause (beside_map {name = name} map listed some) early task (of_pairs _ _ _ _) others = some (others name (is_none_of (Map ∷ Pairs ∷ Top ∷ []) metal_options refl name listed))
+  no_form cause (beside_map {name = name} map listed some) early task (of_probe _ _ _ _) others = some (others name (is_none_of (Map ∷ Probe ∷ Top ∷ []) metal_options refl name listed))
   no_form cause (beside_map map listed some) early task (of_one_metal _ _ _ _ _) others = map (others Map refl)
   no_form cause (beside_map map listed some) early task (of_generator _ _) others = map (others Map refl)
-  no_form cause (no_map {name = name} none listed some) early task (of_one_metal _ _ _ _ _) others = some (others name (task_is_none_of (Layer ∷ Datatype ∷ Radius ∷ permitted_on_files) refl name listed))
+  no_form cause (no_map {name = name} none listed some) early task (of_one_metal _ _ _ _ _) others = some (others name (is_none_of (Layer ∷ Datatype ∷ Radius ∷ permitted_on_files) task_options refl name listed))
   no_form cause (no_map none listed some) early task (of_map {map = map} _ is _) others = one_is_some (values Map) map is none
   no_form cause (no_map none listed some) early task (of_pairs {map = map} _ is _ _) others = one_is_some (values Map) map is none
-  no_form cause (no_map {name = name} none listed some) early task (of_generator _ _) others = some (others name (task_is_none_of (Generate ∷ permitted) refl name listed))
+  no_form cause (no_map none listed some) early task (of_probe {map = map} _ is _ _) others = one_is_some (values Map) map is none
+  no_form cause (no_map {name = name} none listed some) early task (of_generator _ _) others = some (others name (is_none_of (Generate ∷ permitted) task_options refl name listed))
+  no_form cause (two_tasks {asked = a} {also = b} c d are listed one other) early task (of_one_metal _ _ _ _ _) others = first_given values positions a b c d are listed one (others Pairs refl)
+  no_form cause (two_tasks {asked = a} {also = b} c d are listed one other) early task (of_map _ _ _) others = first_given values positions a b c d are listed one (others Pairs refl)
+  no_form cause (two_tasks {asked = a} {also = b} c d are listed one other) early task (of_pairs _ _ _ _) others = second_given values positions a b c d are listed other (others Probe refl)
+  no_form cause (two_tasks {asked = a} {also = b} c d are listed one other) early task (of_probe _ _ _ _) others = first_given values positions a b c d are listed one (others Pairs refl)
+  no_form cause (two_tasks {asked = a} {also = b} c d are listed one other) early task (of_generator _ _) others = first_given values positions a b c d are listed one (others Pairs refl)
   no_form cause (beside_task {asked = name} listed some _ _) early task (of_one_metal _ _ _ _ _) others =
-      some (others name (task_is_none_of (Layer ∷ Datatype ∷ Radius ∷ permitted_on_files) refl name listed))
-  no_form cause (beside_task {asked = name} listed some _ _) early task (of_map _ _ _) others = some (others name (task_is_none_of (Map ∷ permitted_on_files) refl name listed))
-  no_form cause (beside_task {name = name} _ _ beside also) early task (of_pairs _ _ _ _) others = also (others name (work_is_no_pairs name beside))
-  no_form cause (beside_task {asked = name} listed some _ _) early task (of_generator _ _) others = some (others name (task_is_none_of (Generate ∷ permitted) refl name listed))
+      some (others name (is_none_of (Layer ∷ Datatype ∷ Radius ∷ permitted_on_files) task_options refl name listed))
+  no_form cause (beside_task {asked = name} listed some _ _) early task (of_map _ _ _) others = some (others name (is_none_of (Map ∷ permitted_on_files) task_options refl name listed))
+  no_form cause (beside_task {name = name} _ _ beside also) early task (of_pairs _ _ _ _) others = also (others name (is_none_of (Map ∷ Pairs ∷ Top ∷ []) permitted refl name beside))
+  no_form cause (beside_task {name = name} _ _ beside also) early task (of_probe _ _ _ _) others = also (others name (is_none_of (Map ∷ Probe ∷ Top ∷ []) permitted refl name beside))
+  no_form cause (beside_task {asked = name} listed some _ _) early task (of_generator _ _) others = some (others name (is_none_of (Generate ∷ permitted) task_options refl name listed))
   no_form cause (missing {name = name} unmapped no_columns listed none _) early task (of_one_metal {layer = a} {datatype = b} {radius = c} _ layer datatype radius _) others =
       metal_given a b c layer datatype radius name listed none
   no_form cause (missing unmapped no_columns listed none _) early task (of_map {map = map} _ is _) others = one_is_some (values Map) map is unmapped
   no_form cause (missing unmapped no_columns listed none _) early task (of_pairs {map = map} _ is _ _) others = one_is_some (values Map) map is unmapped
+  no_form cause (missing unmapped no_columns listed none _) early task (of_probe {map = map} _ is _ _) others = one_is_some (values Map) map is unmapped
   no_form cause (missing unmapped no_columns listed none _) early task (of_generator _ columns) others = one_is_some (values Generate) columns.text columns.once no_columns
   no_form cause (no_metals unmapped no_columns none) early task (of_one_metal _ layer _ _ _) others = one_is_some (values Layer) layer.text layer.once (none 0 Layer (omega arith))
   no_form cause (no_metals unmapped no_columns none) early task (of_map {map = map} _ is _) others = one_is_some (values Map) map is unmapped
   no_form cause (no_metals unmapped no_columns none) early task (of_pairs {map = map} _ is _ _) others = one_is_some (values Map) map is unmapped
+  no_form cause (no_metals unmapped no_columns none) early task (of_probe {map = map} _ is _ _) others = one_is_some (values Map) map is unmapped
   no_form cause (no_metals unmapped no_columns none) early task (of_generator _ columns) others = one_is_some (values Generate) columns.text columns.once no_columns
 
   pub task_form : (task : Task) → IsTask values positions task → GiveNoOther values (options_for task) → IsOfForm values positions
-  task_form task is others cause has = let late : order_of cause < 13 → ⊥ = λ early. no_form cause has early task is others in omega (arith, late)
+  task_form task is others cause has = let late : order_of cause < 14 → ⊥ = λ early. no_form cause has early task is others in omega (arith, late)
+
+  -- where the option of a probe has a value, that is a cell
+  cell_of : (task : Task) → IsTask values positions task → GiveNoOther values (options_for task) → (value : Text) → values Probe ≡ value ∷ [] → (cell : Cell) × IsCellText value cell
+  cell_of task (of_probe {cell = cell} _ _ once _) others value one =
+      (cell, subst (λ t. IsCellText t cell) (let same : once.text ≡ value = let s = sym once.once ∙ one in cc s in same) once.is_cell)
+  cell_of task is others value one = absurd (one_is_some (values Probe) value one (others Probe refl))
 
   -- and none at all where it is that of a request
   no_task : (cause : WordsCause) → IsCauseOf values positions cause → (request : Request) → IsRequestOf values positions request → (task : Task) → IsTask values positions task
       → GiveNoOther values (options_for task) → ⊥
   no_task cause (bad_number {name = name} {value = value} {range = range} within one none) request asked task is others = fits request asked task is others name range value within one none
+  no_task cause (no_cell {value = value} one none) request asked task is others =
+      let found = cell_of task is others value one in none found.1.column found.1.row (has_parts value found.0 found.1)
+  no_task cause (bad_column {value = value} {column = column} {row = row} one parts none) request asked task is others =
+      let found = cell_of task is others value one in none found.0.i (parts_of_cell value column row found.0 parts found.1).0
+  no_task cause (bad_row {value = value} {column = column} {row = row} one parts _ none) request asked task is others =
+      let found = cell_of task is others value one in none found.0.j (parts_of_cell value column row found.0 parts found.1).1
   no_task cause has request asked task is others = no_form cause has (lit< tt) task is others
 
 -- ---- what words ask for

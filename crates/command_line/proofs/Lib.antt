@@ -7,4 +7,5 @@ pub mod AskLaws
 pub mod OrderLaws
 pub mod CauseLaws
 pub mod ThereLaws
+pub mod CellLaws
 pub mod LimitLaws

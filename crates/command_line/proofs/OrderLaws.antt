@@ -1,16 +1,32 @@
 -- which of several causes is told
-use Rattle.std.proofs.Common.{◌≤◌, ◌<◌, List, [], ◌∷◌, ◌≡◌, ◌≢◌, ◌∙◌, sym, ap, arith, All, Contains, length, lit≤}
+use Rattle.std.proofs.Common.{◌≤◌, ◌<◌, List, [], ◌∷◌, ◌++◌, ◌≡◌, ◌≢◌, ◌∙◌, sym, ap, refl, arith, All, Contains, length, lit≤, subst}
 use Rattle.lists.proofs.Words.{All-cons, All-contains, All-nil}
 use Rattle.command_line.specs.declared.cause.WordsCause.{WordsCause}
-use Rattle.command_line.specs.declared.cause.WordsCause.TheVariants.{EmptyValue, EmptyLayout, Twice, TwoLayouts, BadNumber, NoLayout, LayoutBesideGenerate, BesideGenerate, BesideMap, NoMap, BesideTask, Missing, NoMetals}
+use Rattle.command_line.specs.declared.cause.WordsCause.TheVariants.{EmptyValue, EmptyLayout, Twice, TwoLayouts, NoLayout, LayoutBesideGenerate, BesideGenerate, BesideMap, NoMap, TwoTasks, BesideTask, Missing, NoMetals}
 use Rattle.command_line.specs.declared.option_name.OptionName.{OptionName}
-use Rattle.command_line.specs.declared.option_name.OptionName.TheVariants.{Map, Generate, Pairs}
+use Rattle.command_line.specs.declared.option_name.OptionName.TheVariants.{Map, Generate, Pairs, Probe}
 use Rattle.command_line.specs.inside.Arguments.{AreSingle}
 use Rattle.command_line.specs.inside.WordsRefusals.{IsFirstCause, IsOfForm}
 use Rattle.command_line.specs.OptionNames.{Text}
 use Rattle.command_line.specs.Requests.{HasNoEmptyText, IsNotEmpty, permitted, values_of}
 use Rattle.command_line.specs.Spelling.{Given}
-use Rattle.command_line.specs.WordsCauses.{IsOneGiven, IsCauseOf, bad_number, no_layout, layout_beside_generate, beside_generate, beside_map, no_map, beside_task, missing, no_metals, IsCauseIn, empty_value, empty_layout, twice, two_layouts, of_values, file_options, metal_options, order_of, task_options}
+use Rattle.command_line.specs.WordsCauses.{IsOneGiven, IsCauseOf, no_layout, layout_beside_generate, beside_generate, beside_map, no_map, two_tasks, beside_task, missing, no_metals, IsCauseIn, empty_value, empty_layout, twice, two_layouts, of_values, file_options, metal_options, order_of, task_options}
+use Rattle.command_line.proofs.TaskLaws.{no_task}
+
+-- ---- two options that ask for something other than a report
+
+-- where one stands behind another, they are that of pairs and that of a probe
+two_are : (asked also : OptionName) (before behind : List OptionName) → task_options ≡ before ++ asked ∷ behind → Contains behind also → (asked ≡ Pairs) × (also ≡ Probe)
+two_are asked also [] behind e listed =
+    let first : asked ≡ Pairs = cc e in
+    let rest : Probe ∷ [] ≡ behind = cc e in
+    let IsProbe : OptionName → Type 0 = λ name. name ≡ Probe in
+    (first, All-contains IsProbe behind also (subst (All IsProbe) rest (All-cons IsProbe Probe [] refl (All-nil IsProbe))) listed)
+two_are asked also (x ∷ []) behind e listed =
+    let none : [] ≡ behind = cc e in
+    absurd (All-contains (λ name. ⊥) behind also (subst (All (λ name. ⊥)) none (All-nil (λ name. ⊥))) listed)
+two_are asked also (x ∷ y ∷ []) behind e listed = cc e
+two_are asked also (x ∷ y ∷ z ∷ more) behind e listed = cc e
 
 -- ---- what options with these values and these positional words lack
 
@@ -20,17 +36,24 @@ module _ (values : OptionName → List Text) (positions : List Text) where
 
   -- no cause of a form is told before that there is no layout
   pub form_after : (cause : WordsCause) → Is cause → 5 ≤ order_of cause
-  form_after cause (bad_number _ _ _) = lit≤ tt
+  form_after cause (no_layout _ _) = lit≤ tt
   form_after cause is = lit≤ tt
 
-  -- a value that is no number is told where all else is well
-  pub number_told : IsOfForm values positions → (name : OptionName) (value : Text) → Is (BadNumber name value) → IsFirstCause Is (BadNumber name value)
-  number_told form name value is = record { is = is; first = form }
+  -- a value that is not of its option's form is told where all else is well
+  pub value_told : IsOfForm values positions → (cause : WordsCause) → 14 ≡ order_of cause → Is cause → IsFirstCause Is cause
+  value_told form cause last is = record { is = is; first = λ other has. subst (λ n. n ≤ order_of other) last (form other has) }
 
-  -- where that of pairs is left out, no option that asks for something other than a report is given
-  no_task_listed : values Pairs ≡ [] → (name : OptionName) → Contains task_options name → values name ≢ [] → ⊥
-  no_task_listed none name listed some = some (All-contains (λ other. values other ≡ []) task_options name
-      (All-cons (λ other. values other ≡ []) Pairs [] none (All-nil (λ other. values other ≡ []))) listed)
+  -- where that of pairs and that of a probe are left out, no option that asks for something other than a report is given
+  no_task_listed : values Pairs ≡ [] → values Probe ≡ [] → (name : OptionName) → Contains task_options name → values name ≢ [] → ⊥
+  no_task_listed no_pairs no_probe name listed some = some (All-contains (λ other. values other ≡ []) task_options name (no_task values no_pairs no_probe) listed)
+
+  -- where one of the two is left out, no two are given
+  module _ (asked also : OptionName) (before behind : List OptionName) (are : task_options ≡ before ++ asked ∷ behind) (listed : Contains behind also) where
+    pub first_given : values asked ≢ [] → values Pairs ≢ []
+    first_given one none = one (ap values (two_are asked also before behind are listed).0 ∙ none)
+
+    pub second_given : values also ≢ [] → values Probe ≢ []
+    second_given other none = other (ap values (two_are asked also before behind are listed).1 ∙ none)
 
   -- where no layout is named
   module _ (none : positions ≡ []) where
@@ -46,15 +69,16 @@ module _ (values : OptionName → List Text) (positions : List Text) where
         first other is = lit≤ tt
 
       pub generated_form : All (λ name. values name ≡ []) file_options → IsOfForm values positions
-      generated_form all cause (bad_number _ _ _) = lit≤ tt
       generated_form all cause (no_layout _ no_columns) = absurd (columns no_columns)
       generated_form all cause (layout_beside_generate one _) = let s = sym none ∙ one in cc s
       generated_form all cause (beside_generate {name = name} _ listed some) = absurd (some (All-contains (λ other. values other ≡ []) file_options name all listed))
       generated_form all cause (beside_map map _ _) = absurd (map (all 0 Map (omega arith)))
-      generated_form all cause (no_map {name = name} _ listed some) = absurd (no_task_listed (all 5 Map (omega arith)) name listed some)
-      generated_form all cause (beside_task {asked = asked} listed some _ _) = absurd (no_task_listed (all 5 Map (omega arith)) asked listed some)
+      generated_form all cause (no_map {name = name} _ listed some) = absurd (no_task_listed (all 5 Map (omega arith)) (all 6 Map (omega arith)) name listed some)
+      generated_form all cause (two_tasks {asked = asked} {also = also} b l are listed one _) = absurd (first_given asked also b l are listed one (all 5 Map (omega arith)))
+      generated_form all cause (beside_task {asked = asked} listed some _ _) = absurd (no_task_listed (all 5 Map (omega arith)) (all 6 Map (omega arith)) asked listed some)
       generated_form all cause (missing _ no_columns _ _ _) = absurd (columns no_columns)
       generated_form all cause (no_metals _ no_columns _) = absurd (columns no_columns)
+      generated_form all cause is = lit≤ tt
 
   -- where one is named
   module _ (some : positions ≢ []) where
@@ -75,27 +99,46 @@ module _ (values : OptionName → List Text) (positions : List Text) where
 
       -- where a map is named, and no option of one metal is given
       module _ (map : values Map ≢ []) (no_metal : All (λ name. values name ≡ []) metal_options) where
-        pub beside_task_told : (asked name : OptionName) → Contains task_options asked → values asked ≢ [] → Contains permitted name → values name ≢ []
-            → IsFirstCause Is (BesideTask asked name)
-        beside_task_told asked name listed given beside also = record { is = beside_task listed given beside also; first = first } where
-          first : (other : WordsCause) → Is other → 10 ≤ order_of other
-          first other (no_layout none _) = absurd (some none)
-          first other (layout_beside_generate _ columns) = absurd (columns no_columns)
-          first other (beside_generate columns _ _) = absurd (columns no_columns)
-          first other (beside_map {name = metal} _ listed given) = absurd (given (All-contains (λ other. values other ≡ []) metal_options metal no_metal listed))
-          first other (no_map none _ _) = absurd (map none)
-          first other is = lit≤ tt
+        task_after : (other : WordsCause) → Is other → 10 ≤ order_of other
+        task_after other (no_layout none _) = absurd (some none)
+        task_after other (layout_beside_generate _ columns) = absurd (columns no_columns)
+        task_after other (beside_generate columns _ _) = absurd (columns no_columns)
+        task_after other (beside_map {name = metal} _ listed given) = absurd (given (All-contains (λ other. values other ≡ []) metal_options metal no_metal listed))
+        task_after other (no_map none _ _) = absurd (map none)
+        task_after other is = lit≤ tt
 
-        pub pairs_form : All (λ name. values name ≡ []) permitted → IsOfForm values positions
-        pairs_form no_work cause (bad_number _ _ _) = lit≤ tt
-        pairs_form no_work cause (no_layout none _) = absurd (some none)
-        pairs_form no_work cause (layout_beside_generate _ columns) = absurd (columns no_columns)
-        pairs_form no_work cause (beside_generate columns _ _) = absurd (columns no_columns)
-        pairs_form no_work cause (beside_map {name = metal} _ listed given) = absurd (given (All-contains (λ other. values other ≡ []) metal_options metal no_metal listed))
-        pairs_form no_work cause (no_map none _ _) = absurd (map none)
-        pairs_form no_work cause (beside_task {name = name} _ _ beside also) = absurd (also (All-contains (λ other. values other ≡ []) permitted name no_work beside))
-        pairs_form no_work cause (missing none _ _ _ _) = absurd (map none)
-        pairs_form no_work cause (no_metals none _ _) = absurd (map none)
+        pub two_tasks_told : values Pairs ≢ [] → values Probe ≢ [] → IsFirstCause Is (TwoTasks Pairs Probe)
+        two_tasks_told pairs probe = record { is = two_tasks [] (Probe ∷ []) refl (0, omega arith, refl) pairs probe; first = task_after }
+
+        module _ (not_two : values Pairs ≢ [] → values Probe ≡ []) where
+          no_two : (asked also : OptionName) (before behind : List OptionName) → task_options ≡ before ++ asked ∷ behind → Contains behind also
+              → values asked ≢ [] → values also ≢ [] → ⊥
+          no_two asked also before behind are listed one other =
+              second_given asked also before behind are listed other (not_two (first_given asked also before behind are listed one))
+
+          pub beside_task_told : (asked name : OptionName) → Contains task_options asked → values asked ≢ [] → Contains permitted name → values name ≢ []
+              → IsFirstCause Is (BesideTask asked name)
+          beside_task_told asked name listed given beside also = record { is = beside_task listed given beside also; first = first } where
+            first : (other : WordsCause) → Is other → 11 ≤ order_of other
+            first other (no_layout none _) = absurd (some none)
+            first other (layout_beside_generate _ columns) = absurd (columns no_columns)
+            first other (beside_generate columns _ _) = absurd (columns no_columns)
+            first other (beside_map {name = metal} _ listed given) = absurd (given (All-contains (λ other. values other ≡ []) metal_options metal no_metal listed))
+            first other (no_map none _ _) = absurd (map none)
+            first other (two_tasks {asked = a} {also = b} c d are listed one two) = absurd (no_two a b c d are listed one two)
+            first other is = lit≤ tt
+
+          pub asked_form : All (λ name. values name ≡ []) permitted → IsOfForm values positions
+          asked_form no_work cause (no_layout none _) = absurd (some none)
+          asked_form no_work cause (layout_beside_generate _ columns) = absurd (columns no_columns)
+          asked_form no_work cause (beside_generate columns _ _) = absurd (columns no_columns)
+          asked_form no_work cause (beside_map {name = metal} _ listed given) = absurd (given (All-contains (λ other. values other ≡ []) metal_options metal no_metal listed))
+          asked_form no_work cause (no_map none _ _) = absurd (map none)
+          asked_form no_work cause (two_tasks {asked = a} {also = b} c d are listed one two) = absurd (no_two a b c d are listed one two)
+          asked_form no_work cause (beside_task {name = name} _ _ beside also) = absurd (also (All-contains (λ other. values other ≡ []) permitted name no_work beside))
+          asked_form no_work cause (missing none _ _ _ _) = absurd (map none)
+          asked_form no_work cause (no_metals none _ _) = absurd (map none)
+          asked_form no_work cause is = lit≤ tt
 
       module _ (none_mapped : values Map ≡ []) where
         pub no_map_told : (name : OptionName) → Contains task_options name → values name ≢ [] → IsFirstCause Is (NoMap name)
@@ -107,43 +150,49 @@ module _ (values : OptionName → List Text) (positions : List Text) where
           first other (beside_map map _ _) = absurd (map none_mapped)
           first other is = lit≤ tt
 
-        module _ (no_task : All (λ name. values name ≡ []) task_options) where
+        module _ (no_other : All (λ name. values name ≡ []) task_options) where
           not_asked : (name : OptionName) → Contains task_options name → values name ≢ [] → ⊥
-          not_asked name listed given = given (All-contains (λ other. values other ≡ []) task_options name no_task listed)
+          not_asked name listed given = given (All-contains (λ other. values other ≡ []) task_options name no_other listed)
+
+          not_two : (asked also : OptionName) (before behind : List OptionName) → task_options ≡ before ++ asked ∷ behind → Contains behind also → values asked ≢ [] → ⊥
+          not_two asked also before behind are listed one = first_given asked also before behind are listed one (no_other 0 Map (omega arith))
 
           pub no_metals_told : All (λ name. values name ≡ []) metal_options → IsFirstCause Is NoMetals
           no_metals_told all = record { is = no_metals none_mapped no_columns all; first = first } where
-            first : (other : WordsCause) → Is other → 11 ≤ order_of other
-            first other (no_layout none _) = absurd (some none)
-            first other (layout_beside_generate _ columns) = absurd (columns no_columns)
-            first other (beside_generate columns _ _) = absurd (columns no_columns)
-            first other (beside_map map _ _) = absurd (map none_mapped)
-            first other (no_map {name = name} _ listed given) = absurd (not_asked name listed given)
-            first other (beside_task {asked = asked} listed given _ _) = absurd (not_asked asked listed given)
-            first other is = lit≤ tt
-
-          pub missing_told : (name : OptionName) → Contains metal_options name → values name ≡ [] → IsOneGiven values metal_options → IsFirstCause Is (Missing name)
-          missing_told name listed left_out one = record { is = missing none_mapped no_columns listed left_out one; first = first } where
             first : (other : WordsCause) → Is other → 12 ≤ order_of other
             first other (no_layout none _) = absurd (some none)
             first other (layout_beside_generate _ columns) = absurd (columns no_columns)
             first other (beside_generate columns _ _) = absurd (columns no_columns)
             first other (beside_map map _ _) = absurd (map none_mapped)
             first other (no_map {name = name} _ listed given) = absurd (not_asked name listed given)
+            first other (two_tasks {asked = a} {also = b} c d are listed one _) = absurd (not_two a b c d are listed one)
+            first other (beside_task {asked = asked} listed given _ _) = absurd (not_asked asked listed given)
+            first other is = lit≤ tt
+
+          pub missing_told : (name : OptionName) → Contains metal_options name → values name ≡ [] → IsOneGiven values metal_options → IsFirstCause Is (Missing name)
+          missing_told name listed left_out one = record { is = missing none_mapped no_columns listed left_out one; first = first } where
+            first : (other : WordsCause) → Is other → 13 ≤ order_of other
+            first other (no_layout none _) = absurd (some none)
+            first other (layout_beside_generate _ columns) = absurd (columns no_columns)
+            first other (beside_generate columns _ _) = absurd (columns no_columns)
+            first other (beside_map map _ _) = absurd (map none_mapped)
+            first other (no_map {name = name} _ listed given) = absurd (not_asked name listed given)
+            first other (two_tasks {asked = a} {also = b} c d are listed one _) = absurd (not_two a b c d are listed one)
             first other (beside_task {asked = asked} listed given _ _) = absurd (not_asked asked listed given)
             first other (no_metals _ _ all) = absurd (one.given (All-contains (λ metal. values metal ≡ []) metal_options one.name all one.listed))
             first other is = lit≤ tt
 
           pub metal_form : All (λ name. values name ≢ []) metal_options → IsOfForm values positions
-          metal_form all cause (bad_number _ _ _) = lit≤ tt
           metal_form all cause (no_layout none _) = absurd (some none)
           metal_form all cause (layout_beside_generate _ columns) = absurd (columns no_columns)
           metal_form all cause (beside_generate columns _ _) = absurd (columns no_columns)
           metal_form all cause (beside_map map _ _) = absurd (map none_mapped)
           metal_form all cause (no_map {name = name} _ listed given) = absurd (not_asked name listed given)
+          metal_form all cause (two_tasks {asked = a} {also = b} c d are listed one _) = absurd (not_two a b c d are listed one)
           metal_form all cause (beside_task {asked = asked} listed given _ _) = absurd (not_asked asked listed given)
           metal_form all cause (missing {name = name} _ _ listed left_out _) = absurd (All-contains (λ metal. values metal ≢ []) metal_options name all listed left_out)
           metal_form all cause (no_metals _ _ none) = absurd (all 0 Map (omega arith) (none 0 Map (omega arith)))
+          metal_form all cause is = lit≤ tt
 
 -- ---- what is empty or given more than once
 

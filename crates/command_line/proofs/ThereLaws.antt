@@ -2,22 +2,24 @@
 use Rattle.std.proofs.Common.{ℕ, ◌≤◌, ◌<◌, List, [], ◌∷◌, ◌++◌, ◌≡◌, ◌≢◌, ◌∙◌, sym, ap, refl, arith, All, Contains, Some, None, Option, codes, length, lit≤, subst}
 use Rattle.lists.proofs.Containing.{all_of_each}
 use Rattle.first_refusal.specs.Laws.{CannotLack}
+use Rattle.geo_core.specs.declared.axis.Axis.TheVariants.{X, Y}
 use Rattle.command_line.specs.declared.cause.WordsCause.{WordsCause}
-use Rattle.command_line.specs.declared.cause.WordsCause.TheVariants.{NoWords, NoOption, NoValue, DashedValue, EmptyValue, EmptyLayout, Twice, TwoLayouts, BadNumber, NoLayout, LayoutBesideGenerate, BesideGenerate, BesideMap, NoMap, BesideTask, Missing, NoMetals}
+use Rattle.command_line.specs.declared.cause.WordsCause.TheVariants.{NoWords, NoOption, NoValue, DashedValue, EmptyValue, EmptyLayout, Twice, TwoLayouts, BadNumber, NoCell, BadCoordinate, NoLayout, LayoutBesideGenerate, BesideGenerate, BesideMap, NoMap, TwoTasks, BesideTask, Missing, NoMetals}
 use Rattle.command_line.specs.declared.option_name.OptionName.{OptionName}
-use Rattle.command_line.specs.declared.option_name.OptionName.TheVariants.{Map, Top, Tile, Workers, Layer, Datatype, Radius, Generate, Pairs}
+use Rattle.command_line.specs.declared.option_name.OptionName.TheVariants.{Map, Top, Tile, Workers, Layer, Datatype, Radius, Generate, Pairs, Probe}
 use Rattle.command_line.specs.declared.request.Request.{Request}
 use Rattle.command_line.specs.declared.task.Task.{Task}
-use Rattle.command_line.specs.declared.task.Task.TheVariants.{OneMetal, Mapped, Pairs as PairsOf, Generated}
+use Rattle.command_line.specs.declared.task.Task.TheVariants.{OneMetal, Mapped, Pairs as PairsOf, Probe as ProbeOf, Generated}
 use Rattle.command_line.specs.inside.Arguments.{HasRead}
+use Rattle.command_line.specs.inside.Readings.{AskOne}
 use Rattle.command_line.specs.OptionNames.{Text, range_of}
-use Rattle.command_line.specs.Requests.{Ask, GiveNoOther, HasNoEmptyText, IsNotEmpty, IsNumberOnce, IsNumberOrDefault, as_given as number_given, left_out, IsTask, IsTextIfGiven, of_one_metal, of_map, of_pairs, of_generator, options_for, IsRequestOf, permitted, values_of}
+use Rattle.command_line.specs.Requests.{Ask, GiveNoOther, HasNoEmptyText, IsNotEmpty, IsCellOnce, IsNumberOnce, IsNumberOrDefault, as_given as number_given, left_out, IsTask, IsTextIfGiven, of_one_metal, of_map, of_pairs, of_probe, of_generator, options_for, IsRequestOf, permitted, values_of}
 use Rattle.command_line.specs.Spelling.{Argument, in_one_word, in_two_words, positional, Given, AreSpelled, IsPlain, name_word, options_in, positions_in, whole_word}
-use Rattle.command_line.specs.WordsCauses.{no_option, no_value, dashed_value, StopFor, IsCauseOf, bad_number, no_layout, layout_beside_generate, beside_generate, beside_map, no_map, beside_task, missing, no_metals, IsCauseIn, empty_value, empty_layout, twice, two_layouts, of_values, IsCause, no_words, not_spelled, as_given, file_options, metal_options, task_options}
+use Rattle.command_line.specs.WordsCauses.{no_option, no_value, dashed_value, StopFor, IsCauseOf, bad_number, no_cell, bad_column, bad_row, no_layout, layout_beside_generate, beside_generate, beside_map, no_map, two_tasks, beside_task, missing, no_metals, IsCauseIn, empty_value, empty_layout, twice, two_layouts, of_values, IsCause, no_words, not_spelled, as_given, file_options, metal_options, task_options}
 use Rattle.command_line.proofs.AskLaws.{ask}
 use Rattle.command_line.proofs.LimitLaws.{count_within, task_within}
 use Rattle.command_line.proofs.ReadingLaws.{all_read, argument_read, last_read, nothing_read, stop_for}
-use Rattle.command_line.proofs.TaskLaws.{generated_no_other, mapped_no_other, metal_no_other, one_is_some, pairs_given, pairs_no_other}
+use Rattle.command_line.proofs.TaskLaws.{generated_no_other, mapped_no_other, metal_no_other, no_task as no_other_task, one_is_some, pairs_no_other, probe_no_other}
 
 -- what does not hold and cannot fail to hold is contradictory
 either : (P : Type 0) → (P → ⊥) → ((P → ⊥) → ⊥) → ⊥
@@ -109,6 +111,15 @@ module _ (values : OptionName → List Text) (positions : List Text) (few : (nam
       go (text ∷ []) is = (Some text, is)
       go (text ∷ other ∷ more) is = let least = few name in absurd (omega (arith, least, ap length is))
 
+  cell_there : values Probe ≢ [] → CannotLack (IsCellOnce (values Probe))
+  cell_there some none = go (values Probe) refl where
+    go : (texts : List Text) → values Probe ≡ texts → ⊥
+    go [] is = some is
+    go (text ∷ []) is = never (NoCell text) (no_cell is (λ column row parts. never (BadCoordinate X column) (bad_column is parts (λ i is_i.
+        never (BadCoordinate Y row) (bad_row is parts is_i (λ j is_j. none (record { i = i; j = j })
+        (record { text = text; once = is; is_cell = record { column = column; row = row; whole = parts.whole; is_column = is_i; is_row = is_j } })))))))
+    go (text ∷ other ∷ more) is = let least = few Probe in absurd (omega (arith, least, ap length is))
+
   -- a task leads to a request
   with_task : (task : Task) → IsTask values positions task → GiveNoOther values (options_for task) → ⊥
   with_task task is others =
@@ -138,7 +149,7 @@ module _ (values : OptionName → List Text) (positions : List Text) (few : (nam
     no_columns = empty_unless (values Generate) (λ columns. never (LayoutBesideGenerate layout) (layout_beside_generate at columns))
 
     mapped_there : (map : Text) → values Map ≡ map ∷ [] → ⊥
-    mapped_there map is = go (values Pairs) refl where
+    mapped_there map is = go (values Pairs) (values Probe) refl refl where
       top : (text : Option Text) × IsTextIfGiven (values Top) text
       top = text_there Top
 
@@ -146,18 +157,27 @@ module _ (values : OptionName → List Text) (positions : List Text) (few : (nam
       metals = all_of_each (λ name. values name ≡ []) metal_options
           (λ name listed. empty_unless (values name) (λ some. never (BesideMap name) (beside_map (one_is_some (values Map) map is) listed some)))
 
-      no_work : values Pairs ≢ [] → All (λ name. values name ≡ []) permitted
-      no_work asked = all_of_each (λ name. values name ≡ []) permitted (λ name listed. empty_unless (values name)
-          (λ some. never (BesideTask Pairs name) (beside_task (0, omega arith, refl) asked listed some)))
+      ask_one : (asked : OptionName) → Contains task_options asked → values asked ≢ [] → (values Pairs ≡ [] → values Probe ≢ []) → AskOne values
+      ask_one asked listed given one = record {
+        no_columns = no_columns;
+        no_metal = metals;
+        no_work = all_of_each (λ name. values name ≡ []) permitted (λ name also. empty_unless (values name)
+            (λ some. never (BesideTask asked name) (beside_task listed given also some)));
+        not_two = λ pairs. empty_unless (values Probe)
+            (λ probe. never (TwoTasks Pairs Probe) (two_tasks [] (Probe ∷ []) refl (0, omega arith, refl) pairs probe));
+        one = one;
+      }
 
-      go : (texts : List Text) → values Pairs ≡ texts → ⊥
-      go [] none = with_task (Mapped layout map top.0) (of_map at is top.1)
-          (mapped_no_other values no_columns metals (all_of_each (λ name. values name ≡ []) task_options
-          (λ name listed. empty_unless (values name) (λ some. pairs_given values name listed some none))))
-      go (text ∷ more) one =
+      go : (sizes cells : List Text) → values Pairs ≡ sizes → values Probe ≡ cells → ⊥
+      go [] [] none no_probe = with_task (Mapped layout map top.0) (of_map at is top.1) (mapped_no_other values no_columns metals (no_other_task values none no_probe))
+      go [] (text ∷ more) none one =
+          let asked : values Probe ≢ [] = λ no_probe. let s = sym no_probe ∙ one in cc s in
+          cell_there asked (λ cell is_cell. with_task (ProbeOf layout map top.0 cell) (of_probe at is is_cell top.1)
+          (probe_no_other values (ask_one Probe (1, omega arith, refl) asked (λ _. asked)) none))
+      go (text ∷ more) cells one _ =
           let asked : values Pairs ≢ [] = λ none. let s = sym none ∙ one in cc s in
           once_there Pairs 1 32 refl asked (λ size is_size. with_task (PairsOf layout map top.0 size) (of_pairs at is is_size top.1)
-          (pairs_no_other values no_columns metals (no_work asked)))
+          (pairs_no_other values (ask_one Pairs (0, omega arith, refl) asked (λ none. absurd (asked none))) asked))
 
     metal_there : values Map ≡ [] → ⊥
     metal_there unmapped =

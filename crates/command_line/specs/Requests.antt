@@ -1,11 +1,13 @@
 -- what the words of a command ask for
 use Rattle.std.specs.Prelude.{ℕ, Bool, false, List, [], ◌∷◌, ◌≡◌, ◌<◌, All, Option, length, map, filter, option_to_list}
 use Rattle.lists.specs.Words.{list_any, bytes_eq}
+use Rattle.geo_core.specs.declared.plane.Cell.{Cell}
 use Rattle.command_line.specs.declared.option_name.OptionName.{OptionName}
-use Rattle.command_line.specs.declared.option_name.OptionName.TheVariants.{Map, Top, Tile, Workers, Layer, Datatype, Radius, Generate, Pairs}
+use Rattle.command_line.specs.declared.option_name.OptionName.TheVariants.{Map, Top, Tile, Workers, Layer, Datatype, Radius, Generate, Pairs, Probe}
 use Rattle.command_line.specs.declared.request.Request.{Request}
 use Rattle.command_line.specs.declared.task.Task.{Task}
-use Rattle.command_line.specs.declared.task.Task.TheVariants.{OneMetal, Mapped, Pairs as PairsOf, Generated}
+use Rattle.command_line.specs.declared.task.Task.TheVariants.{OneMetal, Mapped, Pairs as PairsOf, Probe as ProbeOf, Generated}
+use Rattle.command_line.specs.Cells.{IsCellText}
 use Rattle.command_line.specs.Numbers.{IsNumber}
 use Rattle.command_line.specs.OptionNames.{Text, name_of}
 use Rattle.command_line.specs.Spelling.{Given, AreSpelled}
@@ -28,12 +30,18 @@ pub data IsNumberOrDefault (low high default : ℕ) (values : List Text) : ℕ �
   as_given : {n : ℕ} → IsNumberOnce low high values n → IsNumberOrDefault low high default values n
   left_out : values ≡ [] → IsNumberOrDefault low high default values default
 
+-- the option is given once, and its value is the text of this cell
+pub record IsCellOnce (values : List Text) (cell : Cell) : Type 0 where
+  pub text : Text
+  pub once : values ≡ text ∷ []
+  pub is_cell : IsCellText text cell
+
 -- the option is given once and this is its value, or it is left out and there is none
 abbrev pub IsTextIfGiven : List Text → Option Text → Type 0
 IsTextIfGiven values text = values ≡ option_to_list text
 
 -- the task of options with these values and of these positional words: the areas of one metal, those of a layer map, those of
--- pairs of nets at one size of a map, or those of a generated layout
+-- pairs of nets at one size of a map, the nets of a map nearest to one cell, or the areas of a generated layout
 pub data IsTask (values : OptionName → List Text) (positions : List Text) : Task → Type 0 where
   of_one_metal : {layout : Text} {layer datatype radius : ℕ} {top : Option Text}
       → positions ≡ layout ∷ []
@@ -53,6 +61,12 @@ pub data IsTask (values : OptionName → List Text) (positions : List Text) : Ta
       → IsNumberOnce 1 32 (values Pairs) size
       → IsTextIfGiven (values Top) top
       → IsTask values positions (PairsOf layout map top size)
+  of_probe : {layout map : Text} {top : Option Text} {cell : Cell}
+      → positions ≡ layout ∷ []
+      → values Map ≡ map ∷ []
+      → IsCellOnce (values Probe) cell
+      → IsTextIfGiven (values Top) top
+      → IsTask values positions (ProbeOf layout map top cell)
   of_generator : {columns : ℕ}
       → positions ≡ []
       → IsNumberOnce 1 500 (values Generate) columns
@@ -71,6 +85,7 @@ abbrev pub options_for : Task → List OptionName
 options_for (OneMetal layout layer datatype radius top) = Layer ∷ Datatype ∷ Radius ∷ permitted_on_files
 options_for (Mapped layout map top) = Map ∷ permitted_on_files
 options_for (PairsOf layout map top size) = Map ∷ Pairs ∷ Top ∷ []
+options_for (ProbeOf layout map top cell) = Map ∷ Probe ∷ Top ∷ []
 options_for (Generated columns) = Generate ∷ permitted
 
 -- whether the option is one of these

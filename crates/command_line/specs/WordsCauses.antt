@@ -1,10 +1,12 @@
 -- why the words of a command ask for nothing
-use Rattle.std.specs.Prelude.{ℕ, List, [], ◌∷◌, ◌++◌, ◌≡◌, ◌≢◌, ◌<◌, ◌≤◌, All, Contains, Some, codes, flat_map, length}
+use Rattle.std.specs.Prelude.{ℕ, ℤ, List, [], ◌∷◌, ◌++◌, ◌≡◌, ◌≢◌, ◌<◌, ◌≤◌, All, Contains, Some, codes, flat_map, length}
+use Rattle.geo_core.specs.declared.axis.Axis.TheVariants.{X, Y}
 use Rattle.command_line.specs.declared.cause.WordsCause.{WordsCause}
-use Rattle.command_line.specs.declared.cause.WordsCause.TheVariants.{NoWords, NoOption, NoValue, DashedValue, EmptyValue, EmptyLayout, Twice, TwoLayouts, BadNumber, NoLayout, LayoutBesideGenerate, BesideGenerate, BesideMap, NoMap, BesideTask, Missing, NoMetals}
+use Rattle.command_line.specs.declared.cause.WordsCause.TheVariants.{NoWords, NoOption, NoValue, DashedValue, EmptyValue, EmptyLayout, Twice, TwoLayouts, BadNumber, NoCell, BadCoordinate, NoLayout, LayoutBesideGenerate, BesideGenerate, BesideMap, NoMap, TwoTasks, BesideTask, Missing, NoMetals}
 use Rattle.command_line.specs.declared.option_name.OptionName.{OptionName}
-use Rattle.command_line.specs.declared.option_name.OptionName.TheVariants.{Map, Top, Layer, Datatype, Radius, Generate, Pairs}
+use Rattle.command_line.specs.declared.option_name.OptionName.TheVariants.{Map, Top, Layer, Datatype, Radius, Generate, Pairs, Probe}
 use Rattle.command_line.specs.declared.range.NumberRange.{NumberRange}
+use Rattle.command_line.specs.Cells.{HasParts, IsCoordinate}
 use Rattle.command_line.specs.Numbers.{IsNumber}
 use Rattle.command_line.specs.OptionNames.{Text, range_of}
 use Rattle.command_line.specs.Requests.{permitted, values_of}
@@ -41,7 +43,7 @@ abbrev pub metal_options : List OptionName
 metal_options = Layer ∷ Datatype ∷ Radius ∷ []
 
 abbrev pub task_options : List OptionName
-task_options = Pairs ∷ []
+task_options = Pairs ∷ Probe ∷ []
 
 abbrev pub file_options : List OptionName
 file_options = Map ∷ Top ∷ metal_options ++ task_options
@@ -56,11 +58,18 @@ pub record IsOneGiven (values : OptionName → List Text) (names : List OptionNa
 pub data IsCauseOf (values : OptionName → List Text) (positions : List Text) : WordsCause → Type 0 where
   bad_number : {name : OptionName} {value : Text} {range : NumberRange} → range_of name ≡ Some range → values name ≡ value ∷ []
       → ((n : ℕ) → IsNumber range.least range.most value n → ⊥) → IsCauseOf values positions (BadNumber name value)
+  no_cell : {value : Text} → values Probe ≡ value ∷ [] → ((column row : Text) → HasParts value column row → ⊥) → IsCauseOf values positions (NoCell value)
+  bad_column : {value column row : Text} → values Probe ≡ value ∷ [] → HasParts value column row → ((i : ℤ) → IsCoordinate column i → ⊥)
+      → IsCauseOf values positions (BadCoordinate X column)
+  bad_row : {value column row : Text} {i : ℤ} → values Probe ≡ value ∷ [] → HasParts value column row → IsCoordinate column i
+      → ((j : ℤ) → IsCoordinate row j → ⊥) → IsCauseOf values positions (BadCoordinate Y row)
   no_layout : positions ≡ [] → values Generate ≡ [] → IsCauseOf values positions NoLayout
   layout_beside_generate : {layout : Text} → positions ≡ layout ∷ [] → values Generate ≢ [] → IsCauseOf values positions (LayoutBesideGenerate layout)
   beside_generate : {name : OptionName} → values Generate ≢ [] → Contains file_options name → values name ≢ [] → IsCauseOf values positions (BesideGenerate name)
   beside_map : {name : OptionName} → values Map ≢ [] → Contains metal_options name → values name ≢ [] → IsCauseOf values positions (BesideMap name)
   no_map : {name : OptionName} → values Map ≡ [] → Contains task_options name → values name ≢ [] → IsCauseOf values positions (NoMap name)
+  two_tasks : {asked also : OptionName} (before behind : List OptionName) → task_options ≡ before ++ asked ∷ behind → Contains behind also
+      → values asked ≢ [] → values also ≢ [] → IsCauseOf values positions (TwoTasks asked also)
   beside_task : {asked name : OptionName} → Contains task_options asked → values asked ≢ [] → Contains permitted name → values name ≢ []
       → IsCauseOf values positions (BesideTask asked name)
   missing : {name : OptionName} → values Map ≡ [] → values Generate ≡ [] → Contains metal_options name → values name ≡ [] → IsOneGiven values metal_options
@@ -86,7 +95,7 @@ pub data IsCause (words : List Text) : WordsCause → Type 0 where
 -- ---- which of several causes is told
 
 -- the order in which kinds of causes are told: first that words are not spelled, then what is empty or given more than once, then
--- what a form lacks or does not have, and last a value that is no number. Of those of order 0 words have one at most.
+-- what a form lacks or does not have, and last a value that is not of its option's form. Of those of order 0 words have one at most.
 abbrev pub order_of : WordsCause → ℕ
 order_of NoWords = 0
 order_of (NoOption word) = 0
@@ -101,10 +110,13 @@ order_of (LayoutBesideGenerate layout) = 6
 order_of (BesideGenerate name) = 7
 order_of (BesideMap name) = 8
 order_of (NoMap name) = 9
-order_of (BesideTask asked name) = 10
-order_of NoMetals = 11
-order_of (Missing name) = 12
-order_of (BadNumber name value) = 13
+order_of (TwoTasks asked also) = 10
+order_of (BesideTask asked name) = 11
+order_of NoMetals = 12
+order_of (Missing name) = 13
+order_of (BadNumber name value) = 14
+order_of (NoCell value) = 14
+order_of (BadCoordinate axis part) = 14
 
 -- none of these causes is of a kind that is told before this one's
 abbrev pub IsOfFirstKind : (WordsCause → Type 0) → WordsCause → Type 0

@@ -2,11 +2,12 @@ ghost use Rattle.std.specs.Prelude.{◌≡◌};
 ghost use Rattle.command_line.specs.declared.cause.Refusal.TheVariants.{Memory};
 
 use crate::option_name::OptionName;
+use geo_core::Axis;
 use lists::Name;
 use std::alloc::{AllocError, AllocFailed};
 
 /// Why words ask for nothing. The kinds of causes stand in the order in which they are told; of the first four words have one
-/// at most.
+/// at most, and the last three are one kind: a value that is not of its option's form.
 #[derive(Drop)]
 pub enum WordsCause {
     /// There are no words.
@@ -35,6 +36,8 @@ pub enum WordsCause {
     BesideMap(OptionName),
     /// No map is named, and the option asks for something of a layout and a map.
     NoMap(OptionName),
+    /// The two options, in their order among all options, each ask for something other than a report.
+    TwoTasks(OptionName, OptionName),
     /// The first option asks for something other than a report, and the second, which is about how the work of a report is shared
     /// out, is given beside it.
     BesideTask(OptionName, OptionName),
@@ -44,6 +47,11 @@ pub enum WordsCause {
     Missing(OptionName),
     /// The value of the option is no number that it takes.
     BadNumber(OptionName, Name),
+    /// The value of `probe` is not two parts with one comma between them.
+    NoCell(Name),
+    /// This part of the value of `probe` is no coordinate: along `X` the column's, which stands first, and along `Y` the row's,
+    /// where the column's is one.
+    BadCoordinate(Axis, Name),
 }
 
 /// Why words are answered with no request, as the reader of words knows it.

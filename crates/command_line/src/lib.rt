@@ -4,6 +4,7 @@
 mod argument;
 mod arguments;
 mod cause;
+mod cell;
 mod fault;
 pub mod laws;
 mod name;

@@ -21,10 +21,12 @@ pub enum OptionName {
     Generate,
     /// `pairs`: the number of the size at which areas are told by pairs of nets.
     Pairs,
+    /// `probe`: the cell of which the nearest nets are told.
+    Probe,
 }
 
 /// All options.
-pub const OPTIONS: [OptionName; 9] = [
+pub const OPTIONS: [OptionName; 10] = [
     OptionName::Map,
     OptionName::Top,
     OptionName::Tile,
@@ -34,6 +36,7 @@ pub const OPTIONS: [OptionName; 9] = [
     OptionName::Radius,
     OptionName::Generate,
     OptionName::Pairs,
+    OptionName::Probe,
 ];
 
 /// The options of one metal.
@@ -44,19 +47,20 @@ pub const METAL_OPTIONS: [OptionName; 3] = [
 ];
 
 /// The options that ask for something other than a report, of a layout and a map. One of them may be given.
-pub const TASK_OPTIONS: [OptionName; 1] = [OptionName::Pairs];
+pub const TASK_OPTIONS: [OptionName; 2] = [OptionName::Pairs, OptionName::Probe];
 
 /// The options that are about how the work of a report is shared out, and stand beside no option that asks for something else.
 pub const WORK_OPTIONS: [OptionName; 2] = [OptionName::Tile, OptionName::Workers];
 
 /// The options that are about files, and stand beside no generated layout.
-pub const FILE_OPTIONS: [OptionName; 6] = [
+pub const FILE_OPTIONS: [OptionName; 7] = [
     OptionName::Map,
     OptionName::Top,
     OptionName::Layer,
     OptionName::Datatype,
     OptionName::Radius,
     OptionName::Pairs,
+    OptionName::Probe,
 ];
 
 impl OptionName {
@@ -78,15 +82,17 @@ impl OptionName {
             OptionName::Radius => "radius",
             OptionName::Generate => "generate",
             OptionName::Pairs => "pairs",
+            OptionName::Probe => "probe",
         }
     }
 
-    /// The numbers that it takes, where its value is a number. That of `map` and `top` is a name.
+    /// The numbers that it takes, where its value is a number. That of `map` and `top` is a name, and that of `probe` a
+    /// cell.
     pub fn range(self) -> Option<NumberRange>
         ensures { result ≡ range_of self }
     {
         match self {
-            OptionName::Map | OptionName::Top => None,
+            OptionName::Map | OptionName::Top | OptionName::Probe => None,
             OptionName::Tile => Some(EDGES),
             OptionName::Workers => Some(WORKERS),
             OptionName::Layer | OptionName::Datatype => Some(LAYERS),
@@ -111,6 +117,7 @@ impl OptionName {
             "radius" => Some(OptionName::Radius),
             "generate" => Some(OptionName::Generate),
             "pairs" => Some(OptionName::Pairs),
+            "probe" => Some(OptionName::Probe),
             _ => None,
         }
     }

@@ -36,3 +36,15 @@ pub const COLUMNS: NumberRange = NumberRange {
 
 /// Numbers of a map's sizes, counted from 1.
 pub const SIZES: NumberRange = NumberRange { least: 1, most: 32 };
+
+/// The digits of a coordinate without a dash in front.
+pub const FROM_0: NumberRange = NumberRange {
+    least: 0,
+    most: 999_999_999,
+};
+
+/// The digits of a coordinate behind a dash.
+pub const BELOW_0: NumberRange = NumberRange {
+    least: 0,
+    most: 1_000_000_000,
+};

@@ -1,3 +1,4 @@
+use geo_core::Cell;
 use lists::Name;
 
 /// What a command is to do.
@@ -35,6 +36,17 @@ pub enum Task {
         top: Option<Name>,
         /// The number of the size among those of the map, counted from 1: from 1 to 32.
         size: u32,
+    },
+    /// The nets of each metal of a layer map that are nearest to one cell.
+    Probe {
+        /// The name of the layout's file.
+        layout: Name,
+        /// The name of the layer map's file.
+        map: Name,
+        /// The name of the structure that is analysed, where one is wanted.
+        top: Option<Name>,
+        /// The cell, whose column and row, in database units, are each from -1,000,000,000 to 999,999,999.
+        cell: Cell,
     },
     /// The areas of a generated layout, which needs no file, for the sizes of its own layer map.
     Generated {

@@ -1,15 +1,16 @@
 ghost use Rattle.std.specs.Prelude.{◌≡◌, ◌≢◌, ◌↔◌, [], ◌∷◌, ℕ, All, Contains, Err, IfErr, IfNone, IfOk, IfSome, MatchBool, MatchOption, Some, option_to_list};
 ghost use Rattle.command_line.specs.inside.Arguments.{AreSingle, given_by};
 ghost use Rattle.command_line.specs.inside.Command.{positions_found, values_found};
-ghost use Rattle.command_line.specs.inside.Readings.{AreNumbers, texts_of};
+ghost use Rattle.command_line.specs.inside.Readings.{AreNumbers, AskOne, texts_of};
 ghost use Rattle.command_line.specs.inside.WordsRefusals.{HasCause, IsFirstCause, IsOfForm};
 ghost use Rattle.command_line.specs.OptionNames.{range_of};
-ghost use Rattle.command_line.specs.Requests.{Ask, GiveNoOther, IsNumberOnce, IsNumberOrDefault, IsRequestOf, IsTask, IsTextIfGiven, options_for, values_of};
+ghost use Rattle.command_line.specs.Requests.{Ask, GiveNoOther, IsCellOnce, IsNumberOnce, IsNumberOrDefault, IsRequestOf, IsTask, IsTextIfGiven, options_for, values_of};
 ghost use Rattle.command_line.specs.WordsCauses.{IsCause, IsCauseOf, IsOfFirstKind, metal_options, task_options};
 ghost use Rattle.command_line.specs.declared.request.Request.{Request};
 
 use crate::arguments::Arguments;
 use crate::cause::{Refusal, WordsCause};
+use crate::cell::{coordinate, parts};
 use crate::fault::WordsFault;
 use crate::name::name_from;
 use crate::number::number;
@@ -21,6 +22,7 @@ use crate::task::Task;
 use crate::word::Word;
 use clap::ArgMatches;
 use clap::error::ErrorKind;
+use geo_core::{Axis, Cell};
 use lists::Name;
 use std::alloc::{AllocError, Global};
 
@@ -134,6 +136,14 @@ fn is_given(matches: &ArgMatches<'_>, name: OptionName) -> bool
     text_of(matches, name).is_some()
 }
 
+/// Whether both options that ask for something other than a report are given.
+fn are_two_asked(matches: &ArgMatches<'_>) -> bool
+    ensures { MatchBool result ((values_found matches.now OptionName.Pairs ≢ []) × (values_found matches.now OptionName.Probe ≢ []))
+        (values_found matches.now OptionName.Pairs ≢ [] → values_found matches.now OptionName.Probe ≡ []) }
+{
+    is_given(matches, OptionName::Pairs) && is_given(matches, OptionName::Probe)
+}
+
 /// The first of these options that is given.
 fn first_given(matches: &ArgMatches<'_>, names: &[OptionName]) -> Option<OptionName>
     ensures listed { IfSome result (Contains names.now) }
@@ -179,6 +189,65 @@ fn generated_task(alloc: Global, matches: &ArgMatches<'_>) -> Result<Task, Refus
     Ok(Task::Generated { n })
 }
 
+/// The cell of the option of a probe.
+fn cell_given(alloc: Global, matches: &ArgMatches<'_>) -> Result<Cell, Refusal>
+    requires form { IsOfForm (values_found matches.now) (positions_found matches.now) }
+    requires given { values_found matches.now OptionName.Probe ≢ [] }
+    ensures cell { IfOk result (IsCellOnce (values_found matches.now OptionName.Probe)) }
+    ensures cause { IfErr result (HasCause (IsFirstCause (IsCauseOf (values_found matches.now) (positions_found matches.now)))) }
+{
+    let Some(text) = text_of(matches, OptionName::Probe) else {
+        unreachable!();
+    };
+    let Some((column, row)) = parts(text) else {
+        let text = name_from(alloc, text)?;
+        return Err(Refusal::Words(WordsCause::NoCell(text)));
+    };
+    let Some(i) = coordinate(column) else {
+        let column = name_from(alloc, column)?;
+        return Err(Refusal::Words(WordsCause::BadCoordinate(Axis::X, column)));
+    };
+    let Some(j) = coordinate(row) else {
+        let row = name_from(alloc, row)?;
+        return Err(Refusal::Words(WordsCause::BadCoordinate(Axis::Y, row)));
+    };
+    Ok(Cell { i, j })
+}
+
+/// The one task other than a report that these matches ask for on a layout and a map of these names.
+fn asked_task(
+    alloc: Global,
+    matches: &ArgMatches<'_>,
+    layout: Name,
+    map: Name,
+    top: Option<Name>,
+) -> Result<Task, Refusal>
+    requires layout { positions_found matches.now ≡ layout ∷ [] }
+    requires map { values_found matches.now OptionName.Map ≡ map ∷ [] }
+    requires top { IsTextIfGiven (values_found matches.now OptionName.Top) top }
+    requires one { AskOne (values_found matches.now) }
+    ensures task { IfOk result (IsTask (values_found matches.now) (positions_found matches.now)) }
+    ensures no_other { IfOk result (λ task. GiveNoOther (values_found matches.now) (options_for task)) }
+    ensures cause { IfErr result (HasCause (IsFirstCause (IsCauseOf (values_found matches.now) (positions_found matches.now)))) }
+{
+    if is_given(matches, OptionName::Pairs) {
+        let size = number_of_given(alloc, matches, OptionName::Pairs, SIZES)?;
+        return Ok(Task::Pairs {
+            layout,
+            map,
+            top,
+            size,
+        });
+    }
+    let cell = cell_given(alloc, matches)?;
+    Ok(Task::Probe {
+        layout,
+        map,
+        top,
+        cell,
+    })
+}
+
 /// The task of these matches on a layout and a map of these names, for the structure of this name where one is wanted.
 fn task_on_map(
     alloc: Global,
@@ -201,16 +270,13 @@ fn task_on_map(
     let Some(asked) = first_given(matches, &TASK_OPTIONS) else {
         return Ok(Task::Mapped { layout, map, top });
     };
+    if are_two_asked(matches) {
+        return Err(Refusal::Words(WordsCause::TwoTasks(OptionName::Pairs, OptionName::Probe)));
+    }
     if let Some(name) = first_given(matches, &WORK_OPTIONS) {
         return Err(Refusal::Words(WordsCause::BesideTask(asked, name)));
     }
-    let size = number_of_given(alloc, matches, OptionName::Pairs, SIZES)?;
-    Ok(Task::Pairs {
-        layout,
-        map,
-        top,
-        size,
-    })
+    asked_task(alloc, matches, layout, map, top)
 }
 
 /// The task of these matches, in which the layout of this name is named.
@@ -319,11 +385,14 @@ fn read_request(alloc: Global, words: &[Word]) -> Result<Request, Refusal>
 /// | one metal | `layer`, `datatype`, `radius` | `top`, `tile`, `workers` |
 /// | layer map | `map` | `top`, `tile`, `workers` |
 /// | pairs of nets | `map`, `pairs` | `top` |
+/// | nearest nets | `map`, `probe` | `top` |
 /// | generated | `generate`, and no layout | `tile`, `workers` |
 ///
 /// No value is empty. `top` is the name of a structure. `layer` and `datatype` are at most 65,535, and `radius` is from 1 to
 /// 1,000,000. `tile` is from 1 to 1,000,000,000, or 65,536 where it is left out, and `workers` from 1 to 64, or 4. `generate` is
-/// from 1 to 500. `pairs` is the number of one of the map's sizes, from 1 to 32; its request has the edge 65,536 and 4 workers.
+/// from 1 to 500. `pairs` is the number of one of the map's sizes, from 1 to 32. `probe` is the column and the row of a cell with
+/// a comma between them, each perhaps with a dash in front of its digits, and from -1,000,000,000 to 999,999,999. The request of
+/// `pairs` and of `probe` has the edge 65,536 and 4 workers.
 pub fn read_words(alloc: Global, words: &[Word]) -> Result<Request, WordsFault>
     ensures request { IfOk result (Ask words.now) }
     ensures usage { result ≡ Err WordsFault.Usage → (request : Request) → Ask words.now request → ⊥ }

@@ -1,5 +1,5 @@
 -- what tasks ask of a map
-use Rattle.std.proofs.Common.{ℕ, ◌≡◌, ◌+◌, ◌-◌, ◌<◌, ◌≤◌, List, length, map, get_or, slice_get, zip, Option, Some, refl, sym, ap, subst, ◌∙◌, arith}
+use Rattle.std.proofs.Common.{ℕ, ◌≡◌, ◌-◌, ◌<◌, ◌≤◌, List, length, map, get_or, slice_get, zip, Option, Some, refl, sym, ap, subst, ◌∙◌, arith}
 use Rattle.std.proofs.lemmas.Slice.Zip.{firsts-zip}
 use Rattle.lists.proofs.Words.{length-map, map-map}
 use Rattle.std.proofs.lemmas.Option.{slice_get-get_or, slice_get_within}
@@ -7,7 +7,7 @@ use Rattle.first_refusal.specs.Outcomes.{value, refused, reads, lacks}
 use Rattle.command_line.specs.declared.task.Task.TheVariants.{Pairs}
 use Rattle.map_model.specs.MapNames.{DefectSize, layer_map_of, weighed_size}
 use Rattle.map_model.specs.declared.map.Map.{Map}
-use Rattle.critarea_core.specs.Inquiries.{AreAsked, AskedComesTo, for_pairs}
+use Rattle.critarea_core.specs.Inquiries.{AskedComesTo, for_pairs}
 use Rattle.critarea_core.specs.Refusals.{no_such_size}
 
 module _ (given : Map) where

@@ -12,6 +12,11 @@ pub whole_text : {Gauge : Type 0} (view : Gauge → GaugeView Row) (rows : List 
 whole_text view rows old new lent none written all empty is told same gained =
     texts_gained view rows old new lent written all told same gained ∙ ap (λ text. text ++ texts_after rows (map view old)) (is ∙ ap (λ text. text ++ report_text rows) empty)
 
+-- what holds anyhow holds where there is a text
+pub on_ok : {T E P : Type 0} (result : Result T E) → P → OnOk result P
+on_ok (Ok text) p = p
+on_ok (Err why) p = tt
+
 -- what holds where there is a text, or where there is none, and what follows from it
 pub on_ok_then : {T E P Q : Type 0} (result : Result T E) → (P → Q) → OnOk result P → OnOk result Q
 on_ok_then (Ok text) then p = then p

@@ -6,11 +6,12 @@ use Rattle.first_refusal.specs.Answers.{Answers, gives, refuses, no_memory}
 use Rattle.first_refusal.specs.Outcomes.{Outcome, value, refused, Reads, Then, reads, lacks, kept, retold, stops, goes_on}
 use Rattle.lists.specs.ByteLists.{AreBytes, IsByte}
 use Rattle.lists.proofs.Containing.{Contains-head}
+use Rattle.geo_core.specs.declared.plane.Cell.{Cell}
 use Rattle.edge_io.specs.ReadAnswers.{ReadsWhole, is_whole, is_too_long, has_no_memory, has_failed}
 use Rattle.edge_io.specs.declared.whole.ReadError.{ReadError}
 use Rattle.edge_io.specs.declared.whole.ReadError.TheVariants as unread
 use Rattle.command_line.specs.declared.task.Task.{Task}
-use Rattle.command_line.specs.declared.task.Task.TheVariants.{OneMetal, Mapped, Generated, Pairs}
+use Rattle.command_line.specs.declared.task.Task.TheVariants.{OneMetal, Mapped, Generated, Pairs, Probe}
 use Rattle.layer_map.specs.Documents as document
 use Rattle.layer_map.specs.declared.fault.MapFault.{MapFault}
 use Rattle.layer_map.specs.declared.fault.MapFault.TheVariants as map_fault
@@ -208,6 +209,9 @@ mapped_in layout name top = record { names = refl; comes = λ bytes outcome come
 
 pub pairs_in : (layout name : List ℕ) (top : Option (List ℕ)) (size : ℕ) → HasMapIn (Pairs layout name top size) name
 pairs_in layout name top size = record { names = refl; comes = λ bytes outcome comes. comes }
+
+pub probe_in : (layout name : List ℕ) (top : Option (List ℕ)) (cell : Cell) → HasMapIn (Probe layout name top cell) name
+probe_in layout name top cell = record { names = refl; comes = λ bytes outcome comes. comes }
 
 module _ (told : List ℕ → Option (List ℕ)) where
   module _ (task : Task) (name : List ℕ) (in_file : HasMapIn task name) where

@@ -1,5 +1,5 @@
 -- what a run found of the words and the files, and what it printed
-use Rattle.std.proofs.Common.{ℕ, ◌≡◌, ◌≢◌, ◌≤◌, ◌↔◌, ◌⊎◌, arith, List, [], ◌∷◌, ◌++◌, refl, sym, ap, subst, ◌∙◌, inl, inr, append_assoc, Option, Some, None, IsErrAnd, Result, Ok, Err, Vec, map, length}
+use Rattle.std.proofs.Common.{ℕ, ◌≡◌, ◌≢◌, ◌≤◌, ◌↔◌, ◌⊎◌, arith, List, [], ◌++◌, refl, sym, ap, subst, ◌∙◌, inl, inr, append_assoc, Option, Some, None, IsErrAnd, Result, Ok, Err, Vec, map, length}
 use Rattle.lists.proofs.Words.{append-nil, Global, Contains-append_right}
 use Rattle.first_refusal.specs.Answers.{gives, refuses}
 use Rattle.first_refusal.specs.Outcomes.{Outcome, Retold, value, refused, reads, lacks, kept, retold, goes_on, stops}
@@ -14,7 +14,7 @@ use Rattle.gauges.specs.GaugeViews.{GaugeView}
 use Rattle.gauges.proofs.laws.Told.{some_told_keep_texts, told_keep_texts}
 use Rattle.critarea_core.specs.Contents.{MayContain, MayHave, names_in, map_names, file_names, bytes_from, layout_source, wanted_top}
 use Rattle.critarea_core.specs.Dues.{Due, IsDueAs}
-use Rattle.critarea_core.specs.Inquiries.{Asked, AskedComesTo, Inquiry, for_report, for_pairs}
+use Rattle.critarea_core.specs.Inquiries.{Asked, AskedComesTo, Inquiry, for_report, for_pairs, for_probe}
 use Rattle.critarea_core.specs.inside.Finding.{Analyses, AreItems, Finds, FindsInFiles, files_serve, files_fail, gives_thing, gives_refusal, HasFound, IsFound, IsFoundFor, IsMapOf}
 use Rattle.critarea_core.specs.inside.Finding.{IsPrinted, IsToldAs, LayoutMayCome, MapMayCome, due_out, due_cut, due_to, nothing_out, line_out, line_cut, no_line}
 use Rattle.critarea_core.specs.Layout.{ShortLayoutComesTo, Subject}
@@ -24,7 +24,7 @@ use Rattle.critarea_core.specs.Run.{AreToldAll, AreToldSome, AreUnsure, AreUntol
 use Rattle.critarea_core.specs.Run.{IsComplete, EndsWith, RunsTo, StartsNamed, no_file, map_file, both_files}
 use Rattle.critarea_core.specs.Run as run
 use Rattle.critarea_core.specs.declared.found.Found.{Found}
-use Rattle.critarea_core.specs.declared.found.Found.TheVariants.{Report as Rows, Pairs as Tables}
+use Rattle.critarea_core.specs.declared.found.Found.TheVariants.{Report as Rows, Pairs as Tables, Probe as Probed}
 use Rattle.critarea_core.specs.declared.layout_fault.LayoutFault.{LayoutFault}
 use Rattle.critarea_core.specs.declared.layout_fault.LayoutFault.TheVariants as layout_fault
 use Rattle.critarea_core.specs.declared.refusal.Refusal.{Refusal}
@@ -177,15 +177,17 @@ module _ (words : List (List ℕ)) (told : List ℕ → Option (List ℕ)) where
 is_due : (gauges : Gauges) (asked : Asked) (subject : Subject) (found : Found) → HasFound asked subject found
     → IsDueAs asked subject gauges.of_rows.before gauges.of_pairs.before (due_to gauges found)
 is_due gauges for_report subject (Rows rows) has = record { are_rows = has; no_pairs = refl; text = refl; room = refl }
-is_due gauges for_report subject (Tables tables) has = absurd has
-is_due gauges (for_pairs size) subject (Rows rows) has = absurd has
 is_due gauges (for_pairs size) subject (Tables tables) has = record { are_pairs = has; no_rows = refl; text = refl; room = refl }
+is_due gauges (for_probe cell) subject (Probed metals) has =
+    record { told = metals.items; is_probe = has; no_rows = refl; no_pairs = refl; text = refl; room = refl }
+is_due gauges asked subject found has = absurd has
 
 -- no more bytes are due than there has to be room for
 text_has_room : (asked : Asked) (subject : Subject) (gauges : List (GaugeView Row)) (pair_gauges : List (GaugeView PairRow)) (due : Due)
     → IsDueAs asked subject gauges pair_gauges due → length due.text ≤ due.room
 text_has_room for_report subject gauges pair_gauges due is = let room = is.room in omega (arith, room)
 text_has_room (for_pairs size) subject gauges pair_gauges due is = let room = is.room in omega (arith, room)
+text_has_room (for_probe cell) subject gauges pair_gauges due is = let room = is.room in omega (arith, room)
 
 untold_texts : (gauges : Gauges) → AreUntold gauges → KeepTheirTexts gauges
 untold_texts gauges untold =

@@ -1,4 +1,4 @@
--- rows and pairs on a subject, where its terminals are on their metals, and the first terminal that is not
+-- what is found on a subject, where its terminals are on their metals, and the first terminal that is not
 use Rattle.std.proofs.Common.{ℕ, ◌≢◌, ◌≤◌, List, length, get_or, refl, sym, ap, subst, Ok, Err, Vec, All}
 use Rattle.lists.proofs.Words.{Global, enumerate_from}
 use Rattle.first_refusal.specs.Answers.{Answers, gives, refuses, no_memory}
@@ -14,14 +14,17 @@ use Rattle.net_extract.specs.declared.fault.NetFault.{NetFault}
 use Rattle.net_extract.specs.declared.fault.NetFault.TheVariants.{Memory}
 use Rattle.questions.specs.declared.row.Row.{Row}
 use Rattle.questions.specs.declared.row.TheConstants.{MOST_ROWS}
-use Rattle.critical_areas.specs.Rows.{ComeToRows}
+use Rattle.critical_areas.specs.Rows.{AreRows, ComeToRows}
 use Rattle.critical_areas.proofs.laws.AlikeLaws.{rows_follow}
-use Rattle.map_pairs.specs.PairAreas.{ComeToPairs}
+use Rattle.map_pairs.specs.PairAreas.{ArePairRows, ComeToPairs}
 use Rattle.map_pairs.proofs.laws.AlikeLaws.{pairs_follow}
+use Rattle.map_probe.specs.Probe.{ComeToProbe, IsProbe}
+use Rattle.map_probe.specs.declared.metal_near.MetalNear.{MetalNear}
+use Rattle.map_probe.proofs.laws.AlikeLaws.{probes_follow}
 use Rattle.pair_report.specs.PairRows.{pair_rows}
 use Rattle.pair_report.specs.declared.tables.PairTables.{PairTables}
 use Rattle.critarea_core.specs.Coverage.{IsCoveredOn}
-use Rattle.critarea_core.specs.inside.Finding.{Analyses, HasPairs, HasRows, gives_thing}
+use Rattle.critarea_core.specs.inside.Finding.{Analyses, HasPairs, HasProbe, HasRows, gives_thing}
 use Rattle.critarea_core.specs.Layout.{Subject, IsTerminalOn, TerminalsComeTo}
 use Rattle.critarea_core.specs.inside.LayoutReaders.{AreLayersFor}
 use Rattle.critarea_core.specs.declared.layout_fault.LayoutFault.TheVariants.{Net}
@@ -37,15 +40,17 @@ module _ (layer_map : LayerMap) (layers : Layers) (subject : Subject) (laid : Ar
   terminals_on : (numbered : List (ℕ × (ℕ × Cell))) → All (IsOnItsMetal lists) numbered → All (IsTerminalOn subject) numbered
   terminals_on numbered all k d small = let one = get_or numbered k d in (laid.layers.covers one.1.0 one.1.1).0 (all k d small)
 
-  by_rows : (rows : Vec Row Global) → Answers Memory (ComeToRows subject.layer_map lists) (Ok rows) → length rows.items ≤ MOST_ROWS → Analyses (TerminalsComeTo subject) HasRows (Ok rows)
-  by_rows rows (gives (all_hold all are)) few = gives (gives_thing {v = subject} (all_hold (terminals_on numbered_terminals all) refl) (record {
-    are_rows = rows_follow subject.layer_map (IsCoveredIn lists) (IsCoveredOn subject.layer_map subject.routes) laid.layers.covers rows.items are;
-    few = few;
-  }))
-
   -- what the lists come to with this map, where terminals are on their metals, and else the fault of the first that is not
   abbrev pub ComeTo : {T : Type 0} → (LayerMap → T → Type 0) → LayerMap → Outcome T NetFault → Type 0
   ComeTo Good m = Checks (IsOnItsMetal lists) (enumerate_from 0 m.terminals) off_metal (Good m)
+
+  module _ {T : Type 0} (Good : LayerMap → T → Type 0) (IsFor : Subject → T → Type 0) (thing : T) (as_good : Good subject.layer_map thing → IsFor subject thing) where
+    by_thing : Answers Memory (ComeTo Good subject.layer_map) (Ok thing) → Analyses (TerminalsComeTo subject) IsFor (Ok thing)
+    by_thing (gives (all_hold all good)) = gives (gives_thing {v = subject} (all_hold (terminals_on numbered_terminals all) refl) (as_good good))
+
+    -- a thing that is good over the lists is one for the subject whose layers these are
+    thing_found : Answers Memory (ComeTo Good layer_map) (Ok thing) → Analyses (TerminalsComeTo subject) IsFor (Ok thing)
+    thing_found answer = by_thing (subst (λ m. Answers Memory (ComeTo Good m) (Ok thing)) (sym laid.of_map) answer)
 
   by_fault : {T : Type 0} (Good : LayerMap → T → Type 0) (fault : NetFault) → Answers Memory (ComeTo Good subject.layer_map) (Err fault) → fault ≢ Memory
       → TerminalsComeTo subject (refused (Net fault))
@@ -62,17 +67,22 @@ module _ (layer_map : LayerMap) (layers : Layers) (subject : Subject) (laid : Ar
   })
   by_fault Good fault no_memory known = absurd (known refl)
 
-  -- the rows over the lists are those on the subject whose layers these are
+  -- the rows over the lists are those on the subject
   pub rows_found : (rows : Vec Row Global) → Answers Memory (ComeToRows layer_map lists) (Ok rows) → length rows.items ≤ MOST_ROWS → Analyses (TerminalsComeTo subject) HasRows (Ok rows)
-  rows_found rows answer few = by_rows rows (subst (λ m. Answers Memory (ComeToRows m lists) (Ok rows)) (sym laid.of_map) answer) few
-
-  by_pairs : (size : ℕ) (tables : PairTables) → Answers Memory (ComeToPairs subject.layer_map lists size) (Ok tables) → Analyses (TerminalsComeTo subject) (HasPairs size) (Ok tables)
-  by_pairs size tables (gives (all_hold all are)) = gives (gives_thing {v = subject} (all_hold (terminals_on numbered_terminals all) refl)
-      (pairs_follow subject.layer_map (IsCoveredIn lists) (IsCoveredOn subject.layer_map subject.routes) laid.layers.covers size (pair_rows tables) are))
+  rows_found rows answer few = thing_found (λ m (found : Vec Row Global). AreRows m (IsCoveredIn lists) found.items) HasRows rows (λ are. record {
+    are_rows = rows_follow subject.layer_map (IsCoveredIn lists) (IsCoveredOn subject.layer_map subject.routes) laid.layers.covers rows.items are;
+    few = few;
+  }) answer
 
   -- and so are the pairs
   pub pairs_found : (size : ℕ) (tables : PairTables) → Answers Memory (ComeToPairs layer_map lists size) (Ok tables) → Analyses (TerminalsComeTo subject) (HasPairs size) (Ok tables)
-  pairs_found size tables answer = by_pairs size tables (subst (λ m. Answers Memory (ComeToPairs m lists size) (Ok tables)) (sym laid.of_map) answer)
+  pairs_found size tables answer = thing_found (λ m (found : PairTables). ArePairRows m (IsCoveredIn lists) size (pair_rows found)) (HasPairs size) tables
+      (pairs_follow subject.layer_map (IsCoveredIn lists) (IsCoveredOn subject.layer_map subject.routes) laid.layers.covers size (pair_rows tables)) answer
+
+  -- and so is the probe of a cell
+  pub probe_found : (cell : Cell) (metals : Vec MetalNear Global) → Answers Memory (ComeToProbe layer_map lists cell) (Ok metals) → Analyses (TerminalsComeTo subject) (HasProbe cell) (Ok metals)
+  probe_found cell metals answer = thing_found (λ m (found : Vec MetalNear Global). IsProbe m (IsCoveredIn lists) cell found.items) (HasProbe cell) metals
+      (probes_follow (IsCoveredIn lists) (IsCoveredOn subject.layer_map subject.routes) laid.layers.covers subject.layer_map cell metals.items) answer
 
   -- and the first terminal that is not on its metal is the same
   pub terminal_off : {T : Type 0} (Good : LayerMap → T → Type 0) (fault : NetFault) → Answers Memory (ComeTo Good layer_map) (Err fault) → fault ≢ Memory

@@ -4,3 +4,5 @@ pub mod FreshRuns
 -- odd sides beside even ones
 pub mod OddSideLaws
 pub mod OddAreaLaws
+-- what probes tell
+pub mod ProbeLaws

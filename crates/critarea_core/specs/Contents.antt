@@ -3,7 +3,7 @@ use Rattle.std.specs.Prelude.{ℕ, List, [], ◌∷◌, ◌++◌, ◌≡◌, Opt
 use Rattle.lists.specs.ByteLists.{AreBytes}
 use Rattle.layout_gen.specs.Generated.{generated_layout}
 use Rattle.command_line.specs.declared.task.Task.{Task}
-use Rattle.command_line.specs.declared.task.Task.TheVariants.{OneMetal, Mapped, Generated, Pairs}
+use Rattle.command_line.specs.declared.task.Task.TheVariants.{OneMetal, Mapped, Generated, Pairs, Probe}
 
 -- the bytes of the file of each name, where it is read as a map, and where it is read as a layout: a file of which nothing is
 -- told may change from the one reading to the other
@@ -35,6 +35,7 @@ layout_source (OneMetal layout layer datatype radius top) = file layout
 layout_source (Mapped layout map top) = file layout
 layout_source (Generated columns) = made (generated_layout columns)
 layout_source (Pairs layout map top size) = file layout
+layout_source (Probe layout map top cell) = file layout
 
 -- the bytes from there
 abbrev pub bytes_from : (List ℕ → List ℕ) → Source → List ℕ
@@ -47,6 +48,7 @@ wanted_top (OneMetal layout layer datatype radius top) = top
 wanted_top (Mapped layout map top) = top
 wanted_top (Generated columns) = None
 wanted_top (Pairs layout map top size) = top
+wanted_top (Probe layout map top cell) = top
 
 -- the name of the map's file, where there is one: for one metal, and for a generated layout, there is none
 abbrev pub map_names : Task → List (List ℕ)
@@ -54,6 +56,7 @@ map_names (OneMetal layout layer datatype radius top) = []
 map_names (Mapped layout map top) = map ∷ []
 map_names (Generated columns) = []
 map_names (Pairs layout map top size) = map ∷ []
+map_names (Probe layout map top cell) = map ∷ []
 
 -- the name of the file, where the source is one
 abbrev pub names_in : Source → List (List ℕ)

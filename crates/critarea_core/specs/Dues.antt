@@ -1,14 +1,18 @@
 -- what is due where words, map and layout are good
 use Rattle.std.specs.Prelude.{ℕ, List, [], ◌++◌, ◌≡◌, length}
+use Rattle.geo_core.specs.declared.plane.Cell.{Cell}
 use Rattle.critical_areas.specs.Rows.{AreRows}
 use Rattle.report.specs.Report.{report_text}
 use Rattle.gauges.specs.GaugeViews.{GaugeView, texts_after}
 use Rattle.gauges.specs.declared.pair_row.PairRow.{PairRow}
 use Rattle.pair_report.specs.PairReport.{whole_pair_text}
 use Rattle.map_pairs.specs.PairAreas.{ArePairRows}
+use Rattle.map_probe.specs.Probe.{IsProbe}
+use Rattle.map_probe.specs.ProbeText.{probe_text}
+use Rattle.map_probe.specs.declared.metal_near.MetalNear.{MetalNear}
 use Rattle.questions.specs.declared.row.Row.{Row}
 use Rattle.critarea_core.specs.Coverage.{IsCoveredOn}
-use Rattle.critarea_core.specs.Inquiries.{Asked, Inquiry, for_report, for_pairs}
+use Rattle.critarea_core.specs.Inquiries.{Asked, Inquiry, for_report, for_pairs, for_probe}
 use Rattle.critarea_core.specs.Layout.{Subject}
 
 -- the rows answer the questions of the subject's layer map on what its routes cover
@@ -18,6 +22,10 @@ AreRowsOn subject = AreRows subject.layer_map (IsCoveredOn subject.layer_map sub
 -- the rows are those of the pairs of nets of what the subject's routes cover, for defects of this size
 abbrev pub ArePairRowsOn : Subject → ℕ → List PairRow → Type 0
 ArePairRowsOn subject = ArePairRows subject.layer_map (IsCoveredOn subject.layer_map subject.routes)
+
+-- this is told at the cell: for each metal of the subject's layer map, the nearest two nets of what its routes cover
+abbrev pub IsProbeOn : Subject → Cell → List MetalNear → Type 0
+IsProbeOn subject = IsProbe subject.layer_map (IsCoveredOn subject.layer_map subject.routes)
 
 -- the text of a report with these rows: their lines and totals, and then what each gauge prints for the rows that it had seen
 -- before, followed by these
@@ -46,10 +54,20 @@ pub record ArePairsDue (subject : Subject) (size : ℕ) (pair_gauges : List (Gau
   pub text : due.text ≡ whole_pair_text due.pair_rows pair_gauges
   pub room : due.room ≡ length due.text
 
+-- of the probe of a cell: its text, and no row of either kind
+pub record IsProbeDue (subject : Subject) (cell : Cell) (due : Due) : Type 0 where
+  pub told : List MetalNear
+  pub is_probe : IsProbeOn subject cell told
+  pub no_rows : due.rows ≡ []
+  pub no_pairs : due.pair_rows ≡ []
+  pub text : due.text ≡ probe_text told
+  pub room : due.room ≡ length due.text
+
 -- the same by what is asked, where the gauges are these
 abbrev pub IsDueAs : Asked → Subject → List (GaugeView Row) → List (GaugeView PairRow) → Due → Type 0
 IsDueAs for_report subject gauges pair_gauges = IsReportDue subject gauges
 IsDueAs (for_pairs size) subject gauges pair_gauges = ArePairsDue subject size pair_gauges
+IsDueAs (for_probe cell) subject gauges pair_gauges = IsProbeDue subject cell
 
 abbrev pub IsDue : Inquiry → List (GaugeView Row) → List (GaugeView PairRow) → Due → Type 0
 IsDue inquiry = IsDueAs inquiry.asked inquiry.subject

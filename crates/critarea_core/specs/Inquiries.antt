@@ -1,17 +1,19 @@
--- what a task asks of its layout: rows of a report, or pairs of nets
-use Rattle.std.specs.Prelude.{ℕ, List, Some, length, map, slice_get, ◌+◌, ◌≡◌}
+-- what a task asks of its layout: rows of a report, pairs of nets, or what is near a cell
+use Rattle.std.specs.Prelude.{ℕ, Some, length, map, slice_get, ◌+◌, ◌≡◌}
 use Rattle.first_refusal.specs.Outcomes.{Outcome, value, Reads}
 use Rattle.command_line.specs.declared.task.Task.{Task}
-use Rattle.command_line.specs.declared.task.Task.TheVariants.{OneMetal, Mapped, Generated, Pairs}
+use Rattle.command_line.specs.declared.task.Task.TheVariants.{OneMetal, Mapped, Generated, Pairs, Probe}
+use Rattle.geo_core.specs.declared.plane.Cell.{Cell}
 use Rattle.map_model.specs.MapNames.{LayerMap}
 use Rattle.critarea_core.specs.Layout.{Subject}
 use Rattle.critarea_core.specs.Refusals.{no_such_size}
 use Rattle.critarea_core.specs.declared.refusal.Refusal.{Refusal}
 
--- what is asked: a report, or the pairs of nets for defects of one size, which is as the map lists it
+-- what is asked: a report, the pairs of nets for defects of one size, which is as the map lists it, or the probe of a cell
 pub data Asked : Type 0 where
   for_report : Asked
   for_pairs : ℕ → Asked
+  for_probe : Cell → Asked
 
 -- a layout, and what is asked of it
 pub record Inquiry : Type 0 where
@@ -36,3 +38,4 @@ AskedComesTo (OneMetal layout layer datatype radius top) layer_map outcome = out
 AskedComesTo (Mapped layout map top) layer_map outcome = outcome ≡ value for_report
 AskedComesTo (Generated columns) layer_map outcome = outcome ≡ value for_report
 AskedComesTo (Pairs layout map top number) layer_map outcome = Reads (AreAsked layer_map number) (no_such_size (length layer_map.sizes)) outcome
+AskedComesTo (Probe layout map top cell) layer_map outcome = outcome ≡ value (for_probe cell)

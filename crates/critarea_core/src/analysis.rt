@@ -7,7 +7,7 @@ ghost use Rattle.library_model.specs.Points.{AreWellPointed};
 ghost use Rattle.map_model.specs.MapView.{layer_map_of};
 ghost use Rattle.questions.specs.declared.row.TheConstants.{MOST_ROWS};
 ghost use Rattle.critarea_core.specs.Analysis.{AnalysisComesTo};
-ghost use Rattle.critarea_core.specs.inside.Finding.{Analyses, HasFound, HasPairs, HasRows, IsWantedOf, asked_by};
+ghost use Rattle.critarea_core.specs.inside.Finding.{Analyses, HasFound, HasPairs, HasProbe, HasRows, IsWantedOf, asked_by};
 ghost use Rattle.critarea_core.specs.inside.LayoutReaders.{AreLayersFor};
 ghost use Rattle.critarea_core.specs.Layout.{LibraryComesTo, ShortLayoutComesTo, TerminalsComeTo};
 ghost use Rattle.critarea_core.specs.Refusals.{layout_limit};
@@ -19,8 +19,10 @@ use super::wanted::Wanted;
 use critical_areas::{Gate, Sharing, critical_areas};
 use flatten::place;
 use gds_syntax::{Library, read_library};
+use geo_core::Cell;
 use map_model::{Layers, Map};
 use map_pairs::pair_tables;
+use map_probe::{MetalNear, probe};
 use pair_report::PairTables;
 use questions::Row;
 use rect_cover::cover_all;
@@ -97,6 +99,26 @@ fn pairs_of_library(
     Ok(pair_tables(alloc, map, &layers, place)?)
 }
 
+/// The nets of each metal of the map that are nearest to the cell, on a library, of which this top is wanted, or any.
+fn probe_of_library(
+    rt: &(impl Threads + Sync),
+    alloc: Global,
+    map: &Map,
+    top: Option<&[u8]>,
+    library: Library,
+    cell: Cell,
+) -> Result<Vec<MetalNear>, LayoutFault>
+    requires differ { AreDifferent (names_of library.structures) }
+    requires few_structures { length library.structures < 2 ^ 32 }
+    requires few_elements { All (λ structure. length structure.elements < 2 ^ 32) library.structures }
+    requires pointed { AreWellPointed library.structures }
+    ensures { Analyses (Then (LibraryComesTo (layer_map_of map.now) (option_copied top.entry) library) TerminalsComeTo)
+        (HasProbe cell) result }
+{
+    let layers = layers_of_library(rt, alloc, map, top, library)?;
+    Ok(probe(alloc, map, &layers, cell)?)
+}
+
 /// What is wanted of the map on the layout with these bytes, of which this top is wanted, or any. The bytes are let go once
 /// the library is read.
 pub fn find_in_layout<G: Gate + Sync>(
@@ -123,6 +145,10 @@ pub fn find_in_layout<G: Gate + Sync>(
         Wanted::Pairs { place } => {
             let tables = pairs_of_library(rt, alloc, map, top, library, place)?;
             Ok(Found::Pairs(tables))
+        }
+        Wanted::Probe { cell } => {
+            let metals = probe_of_library(rt, alloc, map, top, library, cell)?;
+            Ok(Found::Probe(metals))
         }
     }
 }

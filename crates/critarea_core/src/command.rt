@@ -23,9 +23,10 @@ fn top_of(task: &Task) -> Option<&[u8]>
     ensures { option_copied result ≡ wanted_top task.now }
 {
     match task {
-        Task::OneMetal { top, .. } | Task::Mapped { top, .. } | Task::Pairs { top, .. } => {
-            top.as_ref().map(Name::as_slice)
-        }
+        Task::OneMetal { top, .. }
+        | Task::Mapped { top, .. }
+        | Task::Pairs { top, .. }
+        | Task::Probe { top, .. } => top.as_ref().map(Name::as_slice),
         Task::Generated { .. } => None,
     }
 }
@@ -81,16 +82,18 @@ fn find<F: Files, G: Gate + Sync>(
 /// all that it places, in place of the one that no reference names. All three may have `tile`, the edge of the tiles over which
 /// areas are counted, and `workers`, how many share these at once; neither changes what is printed. With a map and the option
 /// `pairs`, which is the number of one of the map's sizes, from 1 to 32 and counted from 1, the pairs of nets are asked for in place
-/// of the report: `top` may stand beside it, and neither `tile` nor `workers`.
+/// of the report: `top` may stand beside it, and neither `tile` nor `workers`. With a map and the option `probe`, which is the column
+/// and the row of a cell with a comma between them, the nets are asked for that are nearest to the cell on each metal, and the same
+/// may stand beside it. No size of the map matters to it.
 ///
 /// `files` gives the map and the layout, `out` gets what is due, and `err` the line of a refusal. The gauges are told the rows
 /// of a report, and the gauges of pairs those of pairs; those that are told print at the end, in their order, for all rows that they
-/// have seen. A run drops none of them, and a run that is refused tells them nothing. No gate changes what is printed. That
-/// each tile passes the gate once is tested, and no clause says it.
+/// have seen. A probe tells neither kind anything, and neither prints. A run drops none of them, and a run that is refused tells
+/// them nothing. No gate changes what is printed. That each tile passes the gate once is tested, and no clause says it.
 ///
 /// | why it ended | status | printed to `out` | printed to `err` |
 /// |---|---|---|---|
-/// | what is due went out | 0 | the report, with the gauges' texts; or the pairs, with those of the gauges of pairs | |
+/// | what is due went out | 0 | the report or the pairs, with the texts of their gauges; or the probe | |
 /// | the words fit no form of the command | 2 | | `error 2 at 0` |
 /// | the map is refused | 3 | | `error`, the number, `at`, the place |
 /// | the layout is refused | 4 | | `error`, the number, `at`, the place |

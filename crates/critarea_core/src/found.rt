@@ -1,6 +1,7 @@
 ghost use Rattle.std.specs.Prelude.{◌≤◌, length};
 ghost use Rattle.questions.specs.declared.row.TheConstants.{MOST_ROWS};
 
+use map_probe::MetalNear;
 use pair_report::PairTables;
 use questions::Row;
 
@@ -18,4 +19,6 @@ pub enum Found {
     Report(ReportRows),
     /// The pairs of nets of each metal.
     Pairs(PairTables),
+    /// What is near a cell on each metal.
+    Probe(Vec<MetalNear>),
 }

@@ -1,11 +1,12 @@
-//! Laws of the sides of defects, which side makes the faults of which other one; and a law of pairs of nets, that they are shorts.
+//! Laws of the sides of defects, which side makes the faults of which other one; and laws of pairs of nets and of probes, that they
+//! tell of shorts.
 //!
 //! Each defect has its centre in the middle of a cell. One of an even side has the cells at its rim in halves, and one of
 //! an odd side has each cell wholly or not at all.
 
-ghost use Rattle.std.specs.Prelude.{ℕ, pos, List, [], All, Any, length, ◌+◌, ◌-◌, ◌/◌, ◌<◌, ◌≤◌, ◌≡◌, ◌↔◌};
+ghost use Rattle.std.specs.Prelude.{ℕ, pos, List, [], All, Any, Some, length, slice_get, ◌+◌, ◌-◌, ◌/◌, ◌<◌, ◌≤◌, ◌≡◌, ◌↔◌};
 ghost use Rattle.critarea_core.specs.Coverage.{IsCoveredOn};
-ghost use Rattle.critarea_core.specs.Dues.{ArePairRowsOn, AreRowsOn};
+ghost use Rattle.critarea_core.specs.Dues.{ArePairRowsOn, AreRowsOn, IsProbeOn};
 ghost use Rattle.critarea_core.specs.Layout.{Subject};
 ghost use Rattle.critarea_core.specs.WholeCells.{IsOfWholeCells};
 ghost use Rattle.critical_areas.specs.FaultKinds.{IsFault};
@@ -21,6 +22,8 @@ ghost use Rattle.geo_core.specs.declared.plane.Cell.{Cell};
 ghost use Rattle.map_model.specs.LayerMap.{LayerMap};
 ghost use Rattle.map_model.specs.Measures.{side_by};
 ghost use Rattle.map_pairs.specs.PairAreas.{TouchesSomeNets};
+ghost use Rattle.map_probe.specs.declared.metal_near.MetalNear.{MetalNear};
+ghost use Rattle.near_index.specs.declared.nearest.Near.{Near};
 ghost use Rattle.net_extract.specs.Cuts.{cuts_of};
 ghost use Rattle.questions.specs.declared.kind.Kind.TheVariants.{Open, Short, Via};
 ghost use Rattle.questions.specs.declared.row.Row.{Row};
@@ -91,4 +94,20 @@ pub fn pairs_are_shorts()
         Any (λ listed. listed.size ≡ size) subject.layer_map.sizes → ArePairRowsOn subject size pairs →
         AreRowsOn subject rows →
         (pairs ≡ []) ↔ All (λ row. row.kind ≡ Short → row.size ≡ size → row.area ≡ 0) rows }
+{}
+
+/// A probe tells of each metal of the map once, in its order. The distance to the second net of a metal is the least radius that makes
+/// a short: a defect of side `r + r` at the cell makes one of this metal exactly where a second net is told and it is at most `r`
+/// away. So one of side `s` does where the net is at most `s / 2` away.
+pub fn second_within()
+    ensures each { (subject : Subject) (c : Cell) (told : List MetalNear) → IsProbeOn subject c told →
+        length told ≡ length subject.layer_map.metals }
+    ensures radii { (subject : Subject) (metal r : ℕ) (c : Cell) (told : List MetalNear) (item : MetalNear) →
+        IsProbeOn subject c told → slice_get told metal ≡ Some item →
+        IsShort (IsCoveredOn subject.layer_map subject.routes) (cuts_of subject.layer_map) metal (r + r) c
+        ↔ ((near : Near) × (item.nearest.second ≡ Some near) × (near.distance ≤ r)) }
+    ensures sides { (subject : Subject) (metal s : ℕ) (c : Cell) (told : List MetalNear) (item : MetalNear) →
+        IsProbeOn subject c told → slice_get told metal ≡ Some item → 1 ≤ s →
+        IsShort (IsCoveredOn subject.layer_map subject.routes) (cuts_of subject.layer_map) metal s c
+        ↔ ((near : Near) × (item.nearest.second ≡ Some near) × (near.distance ≤ s / 2)) }
 {}

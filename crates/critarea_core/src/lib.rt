@@ -1,4 +1,4 @@
-//! What words, a layer map and a layout come to: the report, the pairs of nets, or the first refusal.
+//! What words, a layer map and a layout come to: the report, the pairs of nets, the probe of a cell, or the first refusal.
 //!
 //! `run` reads the words, then the map, and then the layout, and looks at nothing behind what is refused (`command`,
 //! `sources`). Where the words ask for what the map does not have, the layout is not looked at (`wanted`). `analysis` goes from the

@@ -3,6 +3,7 @@ ghost use Rattle.critarea_core.specs.Dues.{whole_report};
 ghost use Rattle.critarea_core.specs.inside.Finding.{DueEnds, IsPrinted, LineEnds, due_to};
 ghost use Rattle.critarea_core.specs.Run.{AreToldAll, AreToldSome, change, known_gauges};
 ghost use Rattle.gauges.specs.GaugeViews.{AreTold, AreToldPrefixes, views_of};
+ghost use Rattle.map_probe.specs.ProbeText.{probe_text};
 ghost use Rattle.pair_report.specs.PairReport.{whole_pair_text};
 ghost use Rattle.pair_report.specs.PairRows.{pair_rows};
 ghost use Rattle.questions.specs.declared.row.TheConstants.{MOST_ROWS};
@@ -13,6 +14,7 @@ use super::unreported::Unreported;
 use edge_io::{Failed, Sink, write_all};
 use gauges::{Gauge, PairGauge, append_texts, tell};
 use lists::NoMemory;
+use map_probe::{MetalNear, write_probe};
 use pair_report::{PairTables, write_pairs};
 use questions::Row;
 use report::write_report;
@@ -86,8 +88,17 @@ fn text_of_pairs(
     Ok(printed)
 }
 
-/// The text that is due where this was found. The gauges are told its rows first. Where memory runs out, each may have been told the
-/// first few of the rows alone, or none.
+/// The text of what is near a cell on these metals. No gauge is told of it.
+fn text_of_probe(alloc: Global, metals: &[MetalNear]) -> Result<Vec<u8>, NoMemory>
+    ensures { IfOk result (λ printed. printed.items ≡ probe_text metals.now) }
+{
+    let mut printed = Vec::new(alloc);
+    write_probe(metals, &mut printed)?;
+    Ok(printed)
+}
+
+/// The text that is due where this was found. The gauges are told its rows first, of which a probe has none. Where memory runs out,
+/// each may have been told the first few of the rows alone, or none.
 fn text_for(
     alloc: Global,
     found: &Found,
@@ -111,6 +122,7 @@ fn text_for(
     match found {
         Found::Report(report) => text_of_report(alloc, report.rows.as_slice(), gauges),
         Found::Pairs(tables) => text_of_pairs(Vec::new(alloc), tables, pair_gauges),
+        Found::Probe(metals) => text_of_probe(alloc, metals.as_slice()),
     }
 }
 

@@ -52,7 +52,7 @@ pub fn map_for<F: Files>(alloc: Global, request: &Request, files: &mut F) -> Res
             radius,
             ..
         } => Ok(one_metal(alloc, *layer, *datatype, *radius)?),
-        Task::Mapped { map, .. } | Task::Pairs { map, .. } => {
+        Task::Mapped { map, .. } | Task::Pairs { map, .. } | Task::Probe { map, .. } => {
             let bytes = bytes_in(alloc, files, map.as_slice(), MAP_LIMIT, MAP_TOO_LONG)?;
             Ok(read_map(alloc, bytes.as_slice())?)
         }
@@ -74,11 +74,13 @@ pub fn layout_for<F: Files>(
     ensures holds { (name : List ℕ) → F.holds files.new name ≡ F.holds files.old name }
 {
     match &request.task {
-        Task::OneMetal { layout, .. } | Task::Mapped { layout, .. } | Task::Pairs { layout, .. } =>
-            {
-                let name = layout.as_slice();
-                bytes_in(alloc, files, name, LAYOUT_LIMIT, LAYOUT_TOO_LONG)
-            }
+        Task::OneMetal { layout, .. }
+        | Task::Mapped { layout, .. }
+        | Task::Pairs { layout, .. }
+        | Task::Probe { layout, .. } => {
+            let name = layout.as_slice();
+            bytes_in(alloc, files, name, LAYOUT_LIMIT, LAYOUT_TOO_LONG)
+        }
         Task::Generated { n } => {
             let made = generate(alloc, *n)?;
             Ok(made.0)

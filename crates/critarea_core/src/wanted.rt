@@ -6,6 +6,7 @@ ghost use Rattle.critarea_core.specs.inside.Finding.{IsWantedOf, asked_by};
 
 use super::refusal::Refusal;
 use command_line::{Request, Task};
+use geo_core::Cell;
 use map_model::Map;
 
 /// What a task asks of its layout.
@@ -18,6 +19,11 @@ pub enum Wanted {
         /// The place of the size of defects in the map, counted from 0.
         place: u32,
     },
+    /// The nets that are nearest to a cell.
+    Probe {
+        /// The cell.
+        cell: Cell,
+    },
 }
 
 /// What the request asks of a layout with this map, or its refusal: 48 with the number of the map's sizes, where it names
@@ -28,12 +34,15 @@ pub fn wanted_of(request: &Request, map: &Map) -> Result<Wanted, Refusal>
     ensures there { IfOk result (IsWantedOf map.now.sizes) }
     ensures lacking { IfErr result (λ refusal. AskedComesTo request.now.task (layer_map_of map.now) (refused refusal)) }
 {
-    let Task::Pairs { size, .. } = &request.task else {
-        return Ok(Wanted::Report);
-    };
-    let sizes = map.sizes.as_slice().len();
-    if *size as usize > sizes {
-        return Err(Refusal::no_such_size(sizes));
+    match &request.task {
+        Task::OneMetal { .. } | Task::Mapped { .. } | Task::Generated { .. } => Ok(Wanted::Report),
+        Task::Pairs { size, .. } => {
+            let sizes = map.sizes.as_slice().len();
+            if *size as usize > sizes {
+                return Err(Refusal::no_such_size(sizes));
+            }
+            Ok(Wanted::Pairs { place: *size - 1 })
+        }
+        Task::Probe { cell, .. } => Ok(Wanted::Probe { cell: *cell }),
     }
-    Ok(Wanted::Pairs { place: *size - 1 })
 }

@@ -25,13 +25,13 @@ const READ_AGAIN: &[(&str, &str)] = &[
     (
         "2|error 2 at 0\n|a|--map",
         "arguments: --map is the last word, and has no value; --map takes the name of a file\n  \
-         critarea LAYOUT --map MAP\n  critarea LAYOUT --map MAP --pairs K\n  critarea LAYOUT --layer L --datatype D --radius R\n  critarea --generate N\n",
+         critarea LAYOUT --map MAP\n  critarea LAYOUT --map MAP --pairs K\n  critarea LAYOUT --map MAP --probe X,Y\n  critarea LAYOUT --layer L --datatype D --radius R\n  critarea --generate N\n",
     ),
     // the program lists no layers
     (
         "2|error 2 at 0\n|a",
         "arguments: it is not said which layers are metals; --explain in front of the layout alone lists those that it has\n  \
-         critarea LAYOUT --map MAP\n  critarea LAYOUT --map MAP --pairs K\n  critarea LAYOUT --layer L --datatype D --radius R\n  critarea --generate N\n",
+         critarea LAYOUT --map MAP\n  critarea LAYOUT --map MAP --pairs K\n  critarea LAYOUT --map MAP --probe X,Y\n  critarea LAYOUT --layer L --datatype D --radius R\n  critarea --generate N\n",
     ),
     (
         "5||none|--layer|1|--datatype|0|--radius|3",
@@ -189,8 +189,8 @@ fn ends_without_a_status_are_words(rt: HostRuntime) {
         2,
         [
             "error 2 at 0\narguments: there is no option '--ended'; ",
-            "options are --map, --top, --layer, --datatype, --radius, --tile, --workers, --generate and --pairs\n  ",
-            "critarea LAYOUT --map MAP\n  critarea LAYOUT --map MAP --pairs K\n  critarea LAYOUT --layer L --datatype D --radius R\n  critarea --generate N\n",
+            "options are --map, --top, --layer, --datatype, --radius, --tile, --workers, --generate, --pairs and --probe\n  ",
+            "critarea LAYOUT --map MAP\n  critarea LAYOUT --map MAP --pairs K\n  critarea LAYOUT --map MAP --probe X,Y\n  critarea LAYOUT --layer L --datatype D --radius R\n  critarea --generate N\n",
         ],
     );
 }

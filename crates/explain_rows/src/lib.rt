@@ -16,6 +16,8 @@ mod maps;
 #[cfg(test)]
 mod placing;
 #[cfg(test)]
+mod probes;
+#[cfg(test)]
 mod rows;
 #[cfg(test)]
 mod sizes;

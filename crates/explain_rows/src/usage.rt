@@ -21,7 +21,7 @@ const ROWS: &[(&str, &str)] = &[
     ),
     (
         "a|--maps|m",
-        "arguments: there is no option '--maps'; options are --map, --top, --layer, --datatype, --radius, --tile, --workers, --generate and --pairs",
+        "arguments: there is no option '--maps'; options are --map, --top, --layer, --datatype, --radius, --tile, --workers, --generate, --pairs and --probe",
     ),
     (
         "a|--map|m|--help",
@@ -121,10 +121,86 @@ const ROWS: &[(&str, &str)] = &[
         "--generate|3|--pairs|1",
         "arguments: --pairs stands beside --generate, which makes its layout and its map itself",
     ),
+    (
+        "a|--map|m|--probe|-1,0",
+        "arguments: '-1,0' behind --probe begins with a dash; write such a value in one word, as --probe=-1,0; --probe takes the column and the row of a cell with a comma between them, as 12,-5, each of at most 10 digits and from -1000000000 to 999999999",
+    ),
+    (
+        "a|--layer|-1",
+        "arguments: '-1' behind --layer begins with a dash; --layer takes a whole number from 0 to 65535",
+    ),
+    (
+        "a|--map|m|--probe|12",
+        "arguments: '12' behind --probe is not two numbers with one comma between them; --probe takes the column and the row of a cell with a comma between them, as 12,-5, each of at most 10 digits and from -1000000000 to 999999999",
+    ),
+    (
+        "a|--map|m|--probe|1,2,3",
+        "arguments: '1,2,3' behind --probe is not two numbers with one comma between them; --probe takes the column and the row of a cell with a comma between them, as 12,-5, each of at most 10 digits and from -1000000000 to 999999999",
+    ),
+    (
+        "a|--map|m|--probe|+1,2",
+        "arguments: the column '+1' behind --probe does not fit; --probe takes the column and the row of a cell with a comma between them, as 12,-5, each of at most 10 digits and from -1000000000 to 999999999",
+    ),
+    (
+        "a|--map|m|--probe|1 ,2",
+        "arguments: the column '1 ' behind --probe does not fit; --probe takes the column and the row of a cell with a comma between them, as 12,-5, each of at most 10 digits and from -1000000000 to 999999999",
+    ),
+    (
+        "a|--map|m|--probe|,2",
+        "arguments: the column '' behind --probe does not fit; --probe takes the column and the row of a cell with a comma between them, as 12,-5, each of at most 10 digits and from -1000000000 to 999999999",
+    ),
+    (
+        "a|--map|m|--probe=-,x",
+        "arguments: the column '-' behind --probe does not fit; --probe takes the column and the row of a cell with a comma between them, as 12,-5, each of at most 10 digits and from -1000000000 to 999999999",
+    ),
+    (
+        "a|--map|m|--probe|1,",
+        "arguments: the row '' behind --probe does not fit; --probe takes the column and the row of a cell with a comma between them, as 12,-5, each of at most 10 digits and from -1000000000 to 999999999",
+    ),
+    (
+        "a|--map|m|--probe|0,1000000000",
+        "arguments: the row '1000000000' behind --probe does not fit; --probe takes the column and the row of a cell with a comma between them, as 12,-5, each of at most 10 digits and from -1000000000 to 999999999",
+    ),
+    (
+        "a|--map|m|--probe|0,00000000012",
+        "arguments: the row '00000000012' behind --probe does not fit; --probe takes the column and the row of a cell with a comma between them, as 12,-5, each of at most 10 digits and from -1000000000 to 999999999",
+    ),
+    (
+        "a|--map|m|--probe",
+        "arguments: --probe is the last word, and has no value; --probe takes the column and the row of a cell with a comma between them, as 12,-5, each of at most 10 digits and from -1000000000 to 999999999",
+    ),
+    (
+        "a|--map|m|--probe=",
+        "arguments: --probe has an empty value; --probe takes the column and the row of a cell with a comma between them, as 12,-5, each of at most 10 digits and from -1000000000 to 999999999",
+    ),
+    (
+        "a|--map|m|--probe|1,2|--probe=1,2",
+        "arguments: --probe stands twice; --probe takes the column and the row of a cell with a comma between them, as 12,-5, each of at most 10 digits and from -1000000000 to 999999999",
+    ),
+    (
+        "a|--probe|1,2",
+        "arguments: --probe is for a layout with a map; name the map behind --map",
+    ),
+    (
+        "a|--map|m|--probe|1,2|--tile|7",
+        "arguments: --tile stands beside --probe, which takes neither --tile nor --workers",
+    ),
+    (
+        "a|--map|m|--probe|1,2|--workers|2",
+        "arguments: --workers stands beside --probe, which takes neither --tile nor --workers",
+    ),
+    (
+        "a|--map|m|--probe|1,2|--pairs|1",
+        "arguments: --pairs stands beside --probe; a run answers one of them",
+    ),
+    (
+        "--generate|3|--probe|1,2",
+        "arguments: --probe stands beside --generate, which makes its layout and its map itself",
+    ),
     // a name that would move a cursor, and one that is no ASCII
     (
         "a|--\x1B[2J",
-        "arguments: there is no option '--\\x1b[2J'; options are --map, --top, --layer, --datatype, --radius, --tile, --workers, --generate and --pairs",
+        "arguments: there is no option '--\\x1b[2J'; options are --map, --top, --layer, --datatype, --radius, --tile, --workers, --generate, --pairs and --probe",
     ),
 ];
 
@@ -181,6 +257,18 @@ const SEVERAL_CAUSES: &[(&str, &str)] = &[
         "arguments: --tile stands beside --pairs, which takes neither --tile nor --workers",
     ),
     (
+        "a|--map=m|--pairs=33|--probe=x|--tile=0",
+        "arguments: --pairs stands beside --probe; a run answers one of them",
+    ),
+    (
+        "a|--map=m|--probe=1,2|--radius=3|--tile=7",
+        "arguments: --radius stands beside --map, which says itself which layers there are, and which radii",
+    ),
+    (
+        "a|--map=m|--probe=x,y",
+        "arguments: the column 'x' behind --probe does not fit; --probe takes the column and the row of a cell with a comma between them, as 12,-5, each of at most 10 digits and from -1000000000 to 999999999",
+    ),
+    (
         "a|--tile=0",
         "arguments: it is not said which layers are metals; --explain in front of the layout alone lists those that it has",
     ),
@@ -192,7 +280,7 @@ const SEVERAL_CAUSES: &[(&str, &str)] = &[
 
 /// The forms of the command.
 const FORMS: &str =
-    "\n  critarea LAYOUT --map MAP\n  critarea LAYOUT --map MAP --pairs K\n  critarea LAYOUT --layer L --datatype D --radius R\n  critarea --generate N\n";
+    "\n  critarea LAYOUT --map MAP\n  critarea LAYOUT --map MAP --pairs K\n  critarea LAYOUT --map MAP --probe X,Y\n  critarea LAYOUT --layer L --datatype D --radius R\n  critarea --generate N\n";
 
 /// Checks that each of these rows is told.
 fn expect_rows(rt: &impl Abort, alloc: Global, rows: &[(&str, &str)]) {

@@ -5,12 +5,13 @@ ghost use Rattle.std.specs.Prelude.{◌≤◌};
 use crate::asked::{Asked, asked_of};
 use crate::good_map::GoodMap;
 use crate::inputs::{Input, LONGEST_LAYOUT, read_input};
+use crate::inquiry::Inquiry;
 use crate::layouts::{Layout, Origin, tell_layout};
 use crate::listing::tell_listing;
 use crate::maps::tell_map_fault;
 use crate::parting::{parted_of, tell_parted};
 use crate::path_kinds::Paths;
-use crate::sizes::{missing_size, place_of_pairs};
+use crate::sizes::missing_size;
 use crate::telling::Telling;
 use crate::words::tell_misfit;
 use command_line::{Request, Task, Word, WordsFault, cause_of, read_words};
@@ -35,7 +36,7 @@ pub fn tell_words(alloc: Global, told: &mut Telling, words: &[Word]) -> Result<(
     told.refuse(2, 2, 0);
     tell_misfit(&mut told.text, cause_of(alloc, words)?.as_ref());
     told.text.say(
-        "\n  critarea LAYOUT --map MAP\n  critarea LAYOUT --map MAP --pairs K\n  critarea LAYOUT --layer L --datatype D --radius R\n  critarea --generate N\n",
+        "\n  critarea LAYOUT --map MAP\n  critarea LAYOUT --map MAP --pairs K\n  critarea LAYOUT --map MAP --probe X,Y\n  critarea LAYOUT --layer L --datatype D --radius R\n  critarea --generate N\n",
     );
     Ok(())
 }
@@ -119,6 +120,12 @@ fn map_for<'a, F: Files, P: Paths>(
             layout,
             top,
             ..
+        }
+        | Task::Probe {
+            map,
+            layout,
+            top,
+            ..
         } => {
             let (name, layout) = (map.as_slice(), layout.as_slice());
             let top = top.as_ref().map(Name::as_slice);
@@ -159,11 +166,12 @@ fn tell_mapped<F: Files, P: Paths>(
     match &request.task {
         Task::OneMetal { layout, top, .. }
         | Task::Mapped { layout, top, .. }
-        | Task::Pairs { layout, top, .. } => {
+        | Task::Pairs { layout, top, .. }
+        | Task::Probe { layout, top, .. } => {
             let name = layout.as_slice();
             let top = top.as_ref().map(Name::as_slice);
-            let pairs_at = place_of_pairs(&request.task);
-            tell_file(alloc, told, good, name, top, pairs_at, files, paths)
+            let inquiry = Inquiry::of(&request.task);
+            tell_file(alloc, told, good, name, top, inquiry, files, paths)
         }
         Task::Generated { n } => tell_generated(alloc, told, good, *n),
     }
@@ -202,20 +210,19 @@ fn tell_generated(
         origin: Origin::Generated,
         bytes: made.0.as_slice(),
         top: None,
-        pairs_at: None,
+        inquiry: Inquiry::Report,
     };
     tell_layout(alloc, told, good, &layout)
 }
 
-/// Tells of the layout in the file of this name, of which this top is wanted, or any, and of its pairs of nets for the map's size at
-/// this place, where they are asked for.
+/// Tells of the layout in the file of this name, of which this top is wanted, or any, and of what the run gives of it.
 fn tell_file<F: Files, P: Paths>(
     alloc: Global,
     told: &mut Telling,
     good: &GoodMap<'_>,
     name: &[u8],
     top: Option<&[u8]>,
-    pairs_at: Option<u32>,
+    inquiry: Inquiry,
     files: &mut F,
     paths: &P,
 ) -> Result<(), NoMemory> {
@@ -225,7 +232,7 @@ fn tell_file<F: Files, P: Paths>(
                 origin: Origin::File(name),
                 bytes: bytes.as_slice(),
                 top,
-                pairs_at,
+                inquiry,
             };
             tell_layout(alloc, told, good, &layout)
         }
@@ -248,7 +255,7 @@ fn tell_asked<F: Files, P: Paths>(
                 origin: Origin::File(name),
                 bytes: bytes.as_slice(),
                 top: asked.top.map(str::as_bytes),
-                pairs_at: None,
+                inquiry: Inquiry::Report,
             };
             tell_listing(alloc, told, &layout, asked.as_map)
         }

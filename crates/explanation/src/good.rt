@@ -6,12 +6,14 @@ ghost use Rattle.library_model.specs.Names.{names_of};
 
 use crate::bounds::{bounds_of, tell_bounds};
 use crate::graph::name_of;
+use crate::inquiry::Inquiry;
 use crate::layer_names::tell_layer;
 use crate::layouts::Layout;
 use crate::metal_islands::{
     MetalIslands, has_cluster_terminals, is_joined, metal_islands, tell_all_carried,
     tell_island_counts,
 };
+use crate::nearest_nets::tell_nearest_nets;
 use crate::pairs::tell_pairs_of;
 use crate::shapes::{Held, Shapes, tell_held};
 use crate::text::Text;
@@ -168,10 +170,7 @@ pub fn tell_good(
     let islands = metal_islands(alloc, map, shapes)?;
     let islands = islands.as_slice();
     layout.tell(text);
-    text.say(match layout.pairs_at {
-        Some(_) => ": nothing is wrong, and the run gives its pairs of nets\n",
-        None => ": nothing is wrong, and the run gives its report\n",
-    });
+    layout.inquiry.tell(text);
     tell_empty_layers(alloc, text, map, library, layers)?;
     tell_opens(text, map, layers, islands);
     tell_library(text, library);
@@ -184,8 +183,9 @@ pub fn tell_good(
     if !map.terminals.as_slice().is_empty() {
         tell_all_carried(text, map, layers, islands);
     }
-    match layout.pairs_at {
-        Some(place) => tell_worst_pairs(alloc, text, map, layers, place),
-        None => Ok(()),
+    match layout.inquiry {
+        Inquiry::Report => Ok(()),
+        Inquiry::Pairs(place) => tell_worst_pairs(alloc, text, map, layers, place),
+        Inquiry::Probe(cell) => tell_nearest_nets(alloc, text, map, layers, cell),
     }
 }

@@ -9,6 +9,7 @@ ghost use Rattle.explanation.specs.declared.inputs.TheConstants.{LONGEST_LAYOUT}
 use crate::beginnings::{begins_as_text, format_of, is_gdsii};
 use crate::good::tell_good;
 use crate::good_map::GoodMap;
+use crate::inquiry::Inquiry;
 use crate::off_metal::tell_off_metal;
 use crate::places::{record_name, tell_before, tell_place};
 use crate::refused::meaning;
@@ -45,8 +46,8 @@ pub struct Layout<'a> {
     pub bytes: &'a [u8],
     /// The name of the structure that is wanted as the top, where one is.
     pub top: Option<&'a [u8]>,
-    /// The place among the map's sizes, counted from 0, of the one for which pairs of nets are asked for, where they are.
-    pub pairs_at: Option<u32>,
+    /// What the run gives of it.
+    pub inquiry: Inquiry,
 }
 
 impl Layout<'_> {

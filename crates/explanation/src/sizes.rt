@@ -34,15 +34,8 @@ fn named_size(task: &Task) -> Option<NamedSize> {
             option: OptionName::Pairs,
             number: *size,
         }),
-        Task::OneMetal { .. } | Task::Mapped { .. } | Task::Generated { .. } => None,
-    }
-}
-
-/// The place among a map's sizes, counted from 0, of the one for which the task asks for pairs of nets, where it does.
-pub fn place_of_pairs(task: &Task) -> Option<u32> {
-    match task {
-        Task::Pairs { size, .. } => size.checked_sub(1),
-        Task::OneMetal { .. } | Task::Mapped { .. } | Task::Generated { .. } => None,
+        Task::OneMetal { .. } | Task::Mapped { .. } | Task::Probe { .. } | Task::Generated { .. } =>
+            None,
     }
 }
 
@@ -60,14 +53,19 @@ pub fn tell_size_count(text: &mut Text, count: u64) {
     text.number("", count, if count == 1 { " size" } else { " sizes" });
 }
 
-/// Tells sizes, in one line.
-fn tell_sizes(text: &mut Text, sizes: &[u32]) {
-    tell_size_count(text, sizes.len() as u64);
-    let mut before = ": ";
-    for size in sizes {
-        text.number(before, u64::from(*size), "");
+/// Tells numbers behind some words, in one line.
+pub fn tell_numbers(text: &mut Text, before: &str, numbers: &[u32]) {
+    let mut before = before;
+    for number in numbers {
+        text.number(before, u64::from(*number), "");
         before = ", ";
     }
+}
+
+/// Tells how many sizes there are, and which.
+fn tell_sizes(text: &mut Text, sizes: &[u32]) {
+    tell_size_count(text, sizes.len() as u64);
+    tell_numbers(text, ": ", sizes);
 }
 
 impl NamedSize {

@@ -3,6 +3,7 @@
 use crate::asked::MAP_SKELETON;
 use crate::text::Text;
 use command_line::{OptionName, WordsCause};
+use geo_core::Axis;
 use lists::Name;
 
 /// What is said where there are no words.
@@ -13,8 +14,14 @@ const NO_WORDS: &str =
 const ONE_DASH: &str =
     " begins with one dash; options begin with two, and in front of a file's name with a dash stands `--`";
 
-/// What is said of a value, in a word of its own, that begins with a dash.
-const DASHED_VALUE: &str = " begins with a dash; write such a value in one word, as --map=-name";
+/// What is said of a value, in a word of its own, that begins with a dash, where the option takes a name.
+const DASHED_NAME: &str = " begins with a dash; write such a value in one word, as --map=-name";
+
+/// What is said of such a value where the option takes a cell.
+const DASHED_CELL: &str = " begins with a dash; write such a value in one word, as --probe=-1,0";
+
+/// What is said of such a value where the option takes a number that is never below 0.
+const DASHED_NUMBER: &str = " begins with a dash";
 
 /// What is said of a layout beside a generated one.
 const LAYOUT_BESIDE_GENERATED: &str = " is named beside --generate, which makes one";
@@ -33,12 +40,22 @@ const NO_MAP: &str = " is for a layout with a map; name the map behind --map";
 /// What is said of an option that is about the work of a report, behind the one that asks for something else.
 const BESIDE_TASK: &str = ", which takes neither --tile nor --workers";
 
+/// What is said of two options that ask for something other than a report.
+const TWO_TASKS: &str = "; a run answers one of them";
+
+/// What is said of the value of a cell that has no two parts.
+const NO_CELL: &str = " is not two numbers with one comma between them";
+
 /// What is said of an option of one metal that is not there, while another is.
 const LACKS: &str = " is missing; --layer, --datatype and --radius go together";
 
 /// What is said of a layout alone.
 const NO_METALS: &str =
     "it is not said which layers are metals; --explain in front of the layout alone lists those that it has";
+
+/// What an option takes that takes a cell.
+const CELL: &str =
+    "the column and the row of a cell with a comma between them, as 12,-5, each of at most 10 digits and from -1000000000 to 999999999";
 
 /// What is said behind a word that begins with a dash and is no option.
 fn no_option_ending(word: &[u8]) -> &'static str {
@@ -50,7 +67,7 @@ fn no_option_ending(word: &[u8]) -> &'static str {
     } else if word == MAP_SKELETON.as_bytes() {
         " of a run; it is for --explain, and stands there beside a layout and --top alone"
     } else {
-        "; options are --map, --top, --layer, --datatype, --radius, --tile, --workers, --generate and --pairs"
+        "; options are --map, --top, --layer, --datatype, --radius, --tile, --workers, --generate, --pairs and --probe"
     }
 }
 
@@ -77,6 +94,7 @@ fn tell_wanted(text: &mut Text, option: OptionName) {
             text.number("", u64::from(range.most), "");
         }
         (None, OptionName::Top) => text.say("the name of a structure"),
+        (None, OptionName::Probe) => text.say(CELL),
         (None, _) => text.say("the name of a file"),
     }
 }
@@ -94,6 +112,24 @@ fn tell_value(text: &mut Text, option: OptionName, value: &Name, what: &str) {
     tell_option(text, option, what);
 }
 
+/// Tells that a part of the value of a cell does not fit.
+fn tell_part(text: &mut Text, axis: Axis, part: &Name) {
+    text.say(match axis {
+        Axis::X => "the column ",
+        Axis::Y => "the row ",
+    });
+    tell_value(text, OptionName::Probe, part, " does not fit");
+}
+
+/// What is said of a value of the option, in a word of its own, that begins with a dash.
+fn dashed_words(option: OptionName) -> &'static str {
+    match (option.range(), option) {
+        (Some(_), _) => DASHED_NUMBER,
+        (None, OptionName::Probe) => DASHED_CELL,
+        (None, _) => DASHED_NAME,
+    }
+}
+
 /// Tells why words fit no form of the command.
 fn tell_cause(text: &mut Text, cause: &WordsCause) {
     match cause {
@@ -102,7 +138,9 @@ fn tell_cause(text: &mut Text, cause: &WordsCause) {
         WordsCause::NoValue(option) => {
             tell_option(text, *option, " is the last word, and has no value");
         }
-        WordsCause::DashedValue(option, value) => tell_value(text, *option, value, DASHED_VALUE),
+        WordsCause::DashedValue(option, value) => {
+            tell_value(text, *option, value, dashed_words(*option));
+        }
         WordsCause::EmptyValue(option) => tell_option(text, *option, " has an empty value"),
         WordsCause::EmptyLayout => text.say("the layout's name is empty"),
         WordsCause::Twice(option) => tell_option(text, *option, " stands twice"),
@@ -111,6 +149,8 @@ fn tell_cause(text: &mut Text, cause: &WordsCause) {
             text.name("", other.as_slice(), "; name one, and a map behind --map");
         }
         WordsCause::BadNumber(option, value) => tell_value(text, *option, value, " does not fit"),
+        WordsCause::NoCell(value) => tell_value(text, OptionName::Probe, value, NO_CELL),
+        WordsCause::BadCoordinate(axis, part) => tell_part(text, *axis, part),
         WordsCause::NoLayout => text.say("no layout is named"),
         WordsCause::LayoutBesideGenerate(layout) => {
             text.name("the layout ", layout.as_slice(), LAYOUT_BESIDE_GENERATED);
@@ -118,6 +158,10 @@ fn tell_cause(text: &mut Text, cause: &WordsCause) {
         WordsCause::BesideGenerate(option) => option_words(text, *option, BESIDE_GENERATED),
         WordsCause::BesideMap(option) => option_words(text, *option, BESIDE_MAP),
         WordsCause::NoMap(option) => option_words(text, *option, NO_MAP),
+        WordsCause::TwoTasks(one, other) => {
+            option_words(text, *one, " stands beside ");
+            option_words(text, *other, TWO_TASKS);
+        }
         WordsCause::BesideTask(asked, option) => {
             option_words(text, *option, " stands beside ");
             option_words(text, *asked, BESIDE_TASK);

@@ -1,17 +1,13 @@
 //! The pairs of nets with the greatest areas, and where their nets begin.
 
-ghost use Rattle.std.specs.Prelude.{◌≡◌, true, All};
-ghost use Rattle.geo_core.specs.Cells.{IsInLayout};
-
+use crate::covered::covered_layers;
 use crate::layer_names::tell_layer;
+use crate::net_starts::{NetStarts, net_starts};
 use crate::shapes::Held;
 use crate::text::Text;
-use critical_areas::{Parts, prepare};
-use geo_core::{Cell, FARTHEST, Rect, RectList};
 use lists::NoMemory;
-use map_model::{Layers, Map, Measure};
+use map_model::{Map, Measure};
 use map_pairs::{NetFault, pair_tables};
-use net_numbers::first_cells;
 use pair_report::{MetalPairs, PairTables};
 use std::alloc::Global;
 
@@ -25,51 +21,6 @@ struct Worst {
     first: usize,
     second: usize,
     area: u64,
-}
-
-/// What the layers cover, a list for each.
-fn layers_of(alloc: Global, held: &[Held]) -> Result<Layers, NoMemory> {
-    let mut lists = Vec::new(alloc);
-    for one in held {
-        let mut rects = Vec::new(alloc);
-        rects.extend_from_slice(one.rects.as_slice())?;
-        lists.push(RectList::from_vec(rects))?;
-    }
-    Ok(Layers { lists })
-}
-
-/// Whether a rectangle lies where those of a layout do.
-fn is_near(rect: Rect) -> bool
-    ensures { result ≡ true → IsInLayout rect }
-{
-    if rect.x0 < -FARTHEST || rect.x1 > FARTHEST {
-        return false;
-    }
-    -FARTHEST <= rect.y0 && rect.y1 <= FARTHEST
-}
-
-/// Whether all of these do.
-fn are_near(rects: &[Rect]) -> bool
-    ensures { result ≡ true → All IsInLayout rects.now }
-{
-    for rect in rects {
-        if !is_near(*rect) {
-            return false;
-        }
-    }
-    true
-}
-
-/// Whether all of each list do.
-fn are_all_near(lists: &[RectList]) -> bool
-    ensures { result ≡ true → All (All IsInLayout) lists.now }
-{
-    for list in lists {
-        if !are_near(list.as_slice()) {
-            return false;
-        }
-    }
-    true
 }
 
 /// Keeps a pair among the worst, which are in order, if it is one of them. Of pairs with the same area the earlier is the worse.
@@ -110,26 +61,6 @@ fn worst_of(alloc: Global, tables: &PairTables) -> Result<Vec<Worst>, NoMemory> 
     Ok(worst)
 }
 
-/// The first cells of the nets of each metal, in their order.
-fn starts_of(alloc: Global, parts: &Parts) -> Result<Vec<Vec<Cell>>, NoMemory> {
-    let mut starts = Vec::new(alloc);
-    for pieces in parts.metals.as_slice() {
-        starts.push(first_cells(alloc, pieces.as_slice())?)?;
-    }
-    Ok(starts)
-}
-
-/// Tells a net by its number and its first cell.
-fn tell_net(text: &mut Text, before: &str, starts: &[Vec<Cell>], metal: usize, number: usize) {
-    text.number(before, number as u64, "");
-    let Some(cells) = starts.get(metal) else {
-        return;
-    };
-    if let Some(cell) = cells.get(number) {
-        text.point(" from ", i64::from(cell.i), i64::from(cell.j), " on");
-    }
-}
-
 /// Tells for which size pairs are told.
 fn tell_size(text: &mut Text, tables: &PairTables) {
     let before = match tables.measure {
@@ -140,7 +71,7 @@ fn tell_size(text: &mut Text, tables: &PairTables) {
 }
 
 /// Tells the worst pairs, each with the first cells of its nets.
-fn tell_worst(text: &mut Text, map: &Map, worst: &[Worst], starts: &[Vec<Cell>]) {
+fn tell_worst(text: &mut Text, map: &Map, worst: &[Worst], starts: &NetStarts) {
     if worst.is_empty() {
         text.say(" none\n");
         return;
@@ -149,8 +80,8 @@ fn tell_worst(text: &mut Text, map: &Map, worst: &[Worst], starts: &[Vec<Cell>])
     for one in worst {
         tell_layer(text, "    ", map, one.metal);
         text.number(" area ", one.area, ": ");
-        tell_net(text, "net ", starts, one.metal, one.first);
-        tell_net(text, " and net ", starts, one.metal, one.second);
+        starts.tell(text, "net ", one.metal, one.first);
+        starts.tell(text, " and net ", one.metal, one.second);
         text.say("\n");
     }
 }
@@ -163,10 +94,10 @@ pub fn tell_worst_pairs(
     held: &[Held],
     place: u32,
 ) -> Result<(), NoMemory> {
-    let layers = layers_of(alloc, held)?;
-    let count = map.metals.as_slice().len() + map.cuts.as_slice().len();
-    let is_listed = (place as usize) < map.sizes.as_slice().len();
-    if !is_listed || layers.lists.len() != count || !are_all_near(layers.lists.as_slice()) {
+    let Some(layers) = covered_layers(alloc, map, held)? else {
+        return Ok(());
+    };
+    if place as usize >= map.sizes.as_slice().len() {
         return Ok(());
     }
     let tables = match pair_tables(alloc, map, &layers, place) {
@@ -174,14 +105,11 @@ pub fn tell_worst_pairs(
         Err(NetFault::Memory) => return Err(NoMemory),
         Err(_) => return Ok(()),
     };
-    let parts = match prepare(alloc, map, &layers) {
-        Ok(parts) => parts,
-        Err(NetFault::Memory) => return Err(NoMemory),
-        Err(_) => return Ok(()),
+    let Some(starts) = net_starts(alloc, map, &layers)? else {
+        return Ok(());
     };
     let worst = worst_of(alloc, &tables)?;
-    let starts = starts_of(alloc, &parts)?;
     tell_size(text, &tables);
-    tell_worst(text, map, worst.as_slice(), starts.as_slice());
+    tell_worst(text, map, worst.as_slice(), &starts);
     Ok(())
 }

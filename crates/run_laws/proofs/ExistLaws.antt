@@ -12,7 +12,7 @@ use Rattle.flatten.proofs.laws.Placings.{placings_cannot_lack}
 use Rattle.command_line.specs.Requests.{Ask}
 use Rattle.command_line.specs.declared.request.Request.{Request}
 use Rattle.command_line.specs.declared.task.Task.{Task}
-use Rattle.command_line.specs.declared.task.Task.TheVariants.{OneMetal, Mapped, Generated, Pairs}
+use Rattle.command_line.specs.declared.task.Task.TheVariants.{OneMetal, Mapped, Generated, Pairs, Probe}
 use Rattle.layer_map.specs.Documents as document
 use Rattle.layer_map.proofs.laws.Maps.{maps_cannot_lack}
 use Rattle.map_model.specs.MapNames.{LayerMap, one_metal_map}
@@ -21,7 +21,7 @@ use Rattle.layout_gen.proofs.laws.Generated.{generated_reads}
 use Rattle.lists.specs.ByteLists.{AreBytes}
 use Rattle.lists.proofs.Words.{enumerate_from}
 use Rattle.critarea_core.specs.Contents.{Contents, bytes_from, file, layout_source, wanted_top}
-use Rattle.critarea_core.specs.Inquiries.{Asked, AreAsked, AskedComesTo, for_report}
+use Rattle.critarea_core.specs.Inquiries.{Asked, AreAsked, AskedComesTo, for_probe, for_report}
 use Rattle.critarea_core.specs.Layout.{Subject, RouteHolds, route_checks, route_fault, RoutesComeTo, LibraryComesTo, IsTerminalOn, terminal_fault, ShapesComeTo, ShortLayoutComesTo, TerminalsComeTo}
 use Rattle.critarea_core.specs.Refusals.{usage, map_limit, map_too_long, of_map_fault, layout_limit, layout_too_long, no_such_size, of_layout_fault}
 use Rattle.critarea_core.specs.Verdict.{IsShortEnough, MapTextComesTo, MapComesTo, WordsComeTo, LayoutComesTo, InquiryComesTo, IsVerdict}
@@ -39,6 +39,7 @@ map_cannot_lack (OneMetal layout layer datatype radius top) bytes none = none (v
 map_cannot_lack (Mapped layout map top) bytes none = map_text_cannot_lack (bytes map) none
 map_cannot_lack (Generated columns) bytes none = map_text_cannot_lack generated_map none
 map_cannot_lack (Pairs layout map top size) bytes none = map_text_cannot_lack (bytes map) none
+map_cannot_lack (Probe layout map top cell) bytes none = map_text_cannot_lack (bytes map) none
 
 -- ---- what a task asks of a map
 
@@ -47,6 +48,7 @@ asked_cannot_lack (OneMetal layout layer datatype radius top) layer_map none = n
 asked_cannot_lack (Mapped layout map top) layer_map none = none (value for_report) refl
 asked_cannot_lack (Generated columns) layer_map none = none (value for_report) refl
 asked_cannot_lack (Pairs layout map top number) layer_map none = reading_cannot_lack (AreAsked layer_map number) (no_such_size (length layer_map.sizes)) none
+asked_cannot_lack (Probe layout map top cell) layer_map none = none (value (for_probe cell)) refl
 
 -- ---- layouts
 
@@ -82,6 +84,7 @@ layout_there : (task : Task) (contents : Contents) → ((name : List ℕ) → la
 layout_there (OneMetal layout layer datatype radius top) contents are = bytes_come_to_something (contents.layout layout) (are layout refl)
 layout_there (Mapped layout map top) contents are = bytes_come_to_something (contents.layout layout) (are layout refl)
 layout_there (Pairs layout map top size) contents are = bytes_come_to_something (contents.layout layout) (are layout refl)
+layout_there (Probe layout map top cell) contents are = bytes_come_to_something (contents.layout layout) (are layout refl)
 layout_there (Generated columns) contents are = let read = generated_reads columns in λ none. none (value read.0) read.2
 
 -- ---- words

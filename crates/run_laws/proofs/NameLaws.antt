@@ -5,7 +5,7 @@ use Rattle.first_refusal.specs.Outcomes.{Outcome, reads, lacks, Then, stops, goe
 use Rattle.command_line.specs.Requests.{Ask}
 use Rattle.command_line.specs.declared.request.Request.{Request}
 use Rattle.command_line.specs.declared.task.Task.{Task}
-use Rattle.command_line.specs.declared.task.Task.TheVariants.{OneMetal, Mapped, Generated, Pairs}
+use Rattle.command_line.specs.declared.task.Task.TheVariants.{OneMetal, Mapped, Generated, Pairs, Probe}
 use Rattle.command_line.proofs.laws.Requests.{requests_agree}
 use Rattle.critarea_core.specs.Contents.{Contents, bytes_from, layout_source, wanted_top}
 use Rattle.map_model.specs.MapNames.{LayerMap}
@@ -28,18 +28,23 @@ module _ (contents other : Contents) (outcome : Outcome Inquiry Refusal) where
       → Then (MapComesTo task other.map) (OnMapComesTo task (contents.layout name)) outcome → Then (MapComesTo task other.map) (OnMapComesTo task (other.layout name)) outcome
   same_layout task name same comes = subst (λ bytes. Then (MapComesTo task other.map) (OnMapComesTo task bytes) outcome) same comes
 
+  -- and so does the map's
+  same_map : (task : Task) (layout name : List ℕ) → contents.map name ≡ other.map name → contents.layout layout ≡ other.layout layout
+      → Then (MapTextComesTo (contents.map name)) (OnMapComesTo task (contents.layout layout)) outcome → Then (MapTextComesTo (other.map name)) (OnMapComesTo task (other.layout layout)) outcome
+  same_map task layout name map_same same comes =
+      let moved = subst (λ bytes. Then (MapTextComesTo bytes) (OnMapComesTo task (contents.layout layout)) outcome) map_same comes in
+      subst (λ bytes. Then (MapTextComesTo (other.map name)) (OnMapComesTo task bytes) outcome) same moved
+
   same_files_same_outcome : (task : Task) → HoldTheSame task contents other → TaskComesTo contents task outcome → TaskComesTo other task outcome
   same_files_same_outcome (OneMetal layout layer datatype radius top) same comes =
       same_layout (OneMetal layout layer datatype radius top) layout (same.layout layout (Contains-head layout [])) comes
   same_files_same_outcome (Mapped layout map top) same comes =
-      let task : Task = Mapped layout map top in
-      same_layout task layout (same.layout layout (Contains-head layout []))
-      (subst (λ bytes. Then (MapTextComesTo bytes) (OnMapComesTo task (contents.layout layout)) outcome) (same.map map (Contains-head map [])) comes)
+      same_map (Mapped layout map top) layout map (same.map map (Contains-head map [])) (same.layout layout (Contains-head layout [])) comes
   same_files_same_outcome (Generated columns) same comes = comes
   same_files_same_outcome (Pairs layout map top size) same comes =
-      let task : Task = Pairs layout map top size in
-      same_layout task layout (same.layout layout (Contains-head layout []))
-      (subst (λ bytes. Then (MapTextComesTo bytes) (OnMapComesTo task (contents.layout layout)) outcome) (same.map map (Contains-head map [])) comes)
+      same_map (Pairs layout map top size) layout map (same.map map (Contains-head map [])) (same.layout layout (Contains-head layout [])) comes
+  same_files_same_outcome (Probe layout map top cell) same comes =
+      same_map (Probe layout map top cell) layout map (same.map map (Contains-head map [])) (same.layout layout (Contains-head layout [])) comes
 
 pub same_files_same_verdict : (words : List (List ℕ)) (request : Request) → Ask words request → (contents other : Contents) → HoldTheSame request.task contents other
     → (outcome : Outcome Inquiry Refusal) → IsVerdict words contents outcome → IsVerdict words other outcome

@@ -6,18 +6,21 @@ use Rattle.first_refusal.specs.Laws.{IsUnique}
 use Rattle.command_line.specs.Requests.{Ask}
 use Rattle.command_line.specs.declared.request.Request.{Request}
 use Rattle.command_line.proofs.laws.Requests.{requests_agree}
+use Rattle.geo_core.specs.declared.plane.Cell.{Cell}
 use Rattle.map_model.specs.MapNames.{LayerMap}
 use Rattle.gauges.specs.GaugeViews.{GaugeView}
 use Rattle.gauges.specs.declared.pair_row.PairRow.{PairRow}
 use Rattle.pair_report.specs.PairReport.{whole_pair_text}
 use Rattle.map_pairs.proofs.laws.PairRowLaws.{rows_agree as pair_rows_agree}
+use Rattle.map_probe.specs.ProbeText.{probe_text}
+use Rattle.map_probe.proofs.laws.UniqueLaws.{probes_agree}
 use Rattle.critical_areas.proofs.laws.UniqueLaws.{rows_agree}
 use Rattle.questions.specs.declared.row.Row.{Row}
 use Rattle.critarea_core.specs.Analysis.{AnalysisComesTo, has_rows, has_fault}
 use Rattle.critarea_core.specs.Contents.{Contents}
 use Rattle.critarea_core.specs.Coverage.{IsCoveredOn}
-use Rattle.critarea_core.specs.Dues.{ArePairRowsOn, ArePairsDue, AreRowsOn, Due, IsDue, IsDueAs, IsReportDue, whole_report}
-use Rattle.critarea_core.specs.Inquiries.{Asked, Inquiry, for_pairs, for_report}
+use Rattle.critarea_core.specs.Dues.{ArePairRowsOn, ArePairsDue, AreRowsOn, Due, IsDue, IsDueAs, IsProbeDue, IsProbeOn, IsReportDue, whole_report}
+use Rattle.critarea_core.specs.Inquiries.{Asked, Inquiry, for_pairs, for_probe, for_report}
 use Rattle.critarea_core.specs.Layout.{Subject}
 use Rattle.critarea_core.specs.Verdict.{IsVerdict}
 use Rattle.critarea_core.specs.declared.layout_fault.LayoutFault.{LayoutFault}
@@ -35,6 +38,10 @@ rows_on_agree subject = rows_agree subject.layer_map (IsCoveredOn subject.layer_
 -- and one list of rows of pairs for a size
 pair_rows_on_agree : (subject : Subject) (size : ℕ) → IsUnique (ArePairRowsOn subject size)
 pair_rows_on_agree subject size = pair_rows_agree subject.layer_map (IsCoveredOn subject.layer_map subject.routes) size
+
+-- and one probe of a cell
+probes_on_agree : (subject : Subject) (cell : Cell) → IsUnique (IsProbeOn subject cell)
+probes_on_agree subject cell = probes_agree subject.layer_map (IsCoveredOn subject.layer_map subject.routes) cell
 
 -- and one report with these gauges
 pub reports_agree : (subject : Subject) (rows others : List Row) (gauges : List (GaugeView Row)) → AreRowsOn subject rows
@@ -67,9 +74,16 @@ pair_dues_agree subject size gauges one other a b =
     let text : one.text ≡ other.text = a.text ∙ ap (λ rows. whole_pair_text rows gauges) pairs ∙ sym b.text in
     same_due one other text (a.no_rows ∙ sym b.no_rows) pairs (same_room one other a.room b.room text)
 
+probe_dues_agree : (subject : Subject) (cell : Cell) → IsUnique (IsProbeDue subject cell)
+probe_dues_agree subject cell one other a b =
+    let told = probes_on_agree subject cell a.told b.told a.is_probe b.is_probe in
+    let text : one.text ≡ other.text = a.text ∙ ap probe_text told ∙ sym b.text in
+    same_due one other text (a.no_rows ∙ sym b.no_rows) (a.no_pairs ∙ sym b.no_pairs) (same_room one other a.room b.room text)
+
 dues_agree_as : (asked : Asked) (subject : Subject) (gauges : List (GaugeView Row)) (pair_gauges : List (GaugeView PairRow)) → IsUnique (IsDueAs asked subject gauges pair_gauges)
 dues_agree_as for_report subject gauges pair_gauges = report_dues_agree subject gauges
 dues_agree_as (for_pairs size) subject gauges pair_gauges = pair_dues_agree subject size pair_gauges
+dues_agree_as (for_probe cell) subject gauges pair_gauges = probe_dues_agree subject cell
 
 pub dues_agree : (inquiry : Inquiry) (gauges : List (GaugeView Row)) (pair_gauges : List (GaugeView PairRow)) → IsUnique (IsDue inquiry gauges pair_gauges)
 dues_agree inquiry = dues_agree_as inquiry.asked inquiry.subject

@@ -5,7 +5,7 @@ use Rattle.first_refusal.specs.Outcomes.{refused, reads, lacks, retold, stops, g
 use Rattle.command_line.specs.Requests.{Ask}
 use Rattle.command_line.specs.declared.request.Request.{Request}
 use Rattle.command_line.specs.declared.task.Task.{Task}
-use Rattle.command_line.specs.declared.task.Task.TheVariants.{OneMetal, Mapped, Generated, Pairs}
+use Rattle.command_line.specs.declared.task.Task.TheVariants.{OneMetal, Mapped, Generated, Pairs, Probe}
 use Rattle.command_line.proofs.laws.Requests.{requests_agree}
 use Rattle.gds_records.specs.RecordSpelling.{Entry}
 use Rattle.gds_records.specs.Split.{End}
@@ -179,12 +179,14 @@ map_stage (OneMetal layout layer datatype radius top) bytes refusal comes = cc c
 map_stage (Mapped layout map top) bytes refusal comes = map_text_stage (bytes map) refusal comes
 map_stage (Generated columns) bytes refusal comes = map_text_stage generated_map refusal comes
 map_stage (Pairs layout map top size) bytes refusal comes = map_text_stage (bytes map) refusal comes
+map_stage (Probe layout map top cell) bytes refusal comes = map_text_stage (bytes map) refusal comes
 
 asked_stage : (task : Task) (layer_map : LayerMap) (refusal : Refusal) → AskedComesTo task layer_map (refused refusal) → IsOfStage refusal
 asked_stage (OneMetal layout layer datatype radius top) layer_map refusal comes = cc comes
 asked_stage (Mapped layout map top) layer_map refusal comes = cc comes
 asked_stage (Generated columns) layer_map refusal comes = cc comes
 asked_stage (Pairs layout map top size) layer_map refusal (lacks none) = of_size refl refl
+asked_stage (Probe layout map top cell) layer_map refusal comes = cc comes
 
 inquiry_stage : (asked : Asked) (layer_map : LayerMap) (wanted : Option (List ℕ)) (layout : List ℕ) (refusal : Refusal) → InquiryComesTo asked layer_map wanted layout (refused refusal)
     → IsOfLayout refusal
@@ -230,6 +232,7 @@ no_report_lacks (OneMetal layout layer datatype radius top) layer_map refusal no
 no_report_lacks (Mapped layout map top) layer_map refusal none comes = cc comes
 no_report_lacks (Generated columns) layer_map refusal none comes = cc comes
 no_report_lacks (Pairs layout map top size) layer_map refusal none comes = none tt
+no_report_lacks (Probe layout map top cell) layer_map refusal none comes = cc comes
 
 -- a task that gives no pairs has none
 pub no_size_lacks : (words : List (List ℕ)) (contents : Contents) (request : Request) (refusal : Refusal) → Ask words request → (GivesPairs request.task → ⊥)

@@ -5,14 +5,14 @@ use Rattle.first_refusal.specs.Outcomes.{goes_on, reads, value}
 use Rattle.command_line.specs.Requests.{Ask}
 use Rattle.command_line.specs.declared.request.Request.{Request}
 use Rattle.command_line.specs.declared.task.Task.{Task}
-use Rattle.command_line.specs.declared.task.Task.TheVariants.{OneMetal, Mapped, Generated, Pairs}
+use Rattle.command_line.specs.declared.task.Task.TheVariants.{OneMetal, Mapped, Generated, Pairs, Probe}
 use Rattle.command_line.proofs.laws.Requests.{requests_agree}
 use Rattle.gauges.specs.GaugeViews.{AreTold, AreToldPrefixes, GaugeView, IsTold}
 use Rattle.gauges.proofs.laws.Told.{untold_same}
 use Rattle.map_model.specs.MapNames.{LayerMap}
 use Rattle.critarea_core.specs.Contents.{Contents}
 use Rattle.critarea_core.specs.Dues.{Due, IsDueAs}
-use Rattle.critarea_core.specs.Inquiries.{Asked, AskedComesTo, Inquiry, for_pairs, for_report}
+use Rattle.critarea_core.specs.Inquiries.{Asked, AskedComesTo, Inquiry, for_pairs, for_probe, for_report}
 use Rattle.critarea_core.specs.Run.{AreToldAll, AreToldSome, EndsWith, Gauges, IsDueFor, Surroundings}
 use Rattle.critarea_core.specs.Run as run
 use Rattle.critarea_core.specs.Verdict.{IsVerdict}
@@ -50,12 +50,14 @@ not_for_report (OneMetal layout layer datatype radius top) layer_map none fits =
 not_for_report (Mapped layout map top) layer_map none fits = none tt
 not_for_report (Generated columns) layer_map none fits = none tt
 not_for_report (Pairs layout map top size) layer_map none (reads asked) = cc asked.is_asked
+not_for_report (Probe layout map top cell) layer_map none fits = cc fits
 
 not_for_pairs : (task : Task) (layer_map : LayerMap) (size : ℕ) → (GivesPairs task → ⊥) → AskedComesTo task layer_map (value (for_pairs size)) → ⊥
 not_for_pairs (OneMetal layout layer datatype radius top) layer_map size none fits = cc fits
 not_for_pairs (Mapped layout map top) layer_map size none fits = cc fits
 not_for_pairs (Generated columns) layer_map size none fits = cc fits
 not_for_pairs (Pairs layout map top number) layer_map size none fits = none tt
+not_for_pairs (Probe layout map top cell) layer_map size none fits = cc fits
 
 -- so nothing of the one kind is due
 module _ (words : List (List ℕ)) (met : Surroundings) (request : Request) (asks : Ask words request) where
@@ -70,11 +72,13 @@ module _ (words : List (List ℕ)) (met : Surroundings) (request : Request) (ask
         → IsDueAs what is.inquiry.subject gauges.of_rows.before gauges.of_pairs.before due → due.rows ≡ []
     no_rows_as for_report none fits is_due = absurd (not_for_report request.task asked.0 none fits)
     no_rows_as (for_pairs size) none fits is_due = is_due.no_rows
+    no_rows_as (for_probe cell) none fits is_due = is_due.no_rows
 
     no_pairs_as : (what : Asked) → (GivesPairs request.task → ⊥) → AskedComesTo request.task asked.0 (value what)
         → IsDueAs what is.inquiry.subject gauges.of_rows.before gauges.of_pairs.before due → due.pair_rows ≡ []
     no_pairs_as for_report none fits is_due = is_due.no_pairs
     no_pairs_as (for_pairs size) none fits is_due = absurd (not_for_pairs request.task asked.0 size none fits)
+    no_pairs_as (for_probe cell) none fits is_due = is_due.no_pairs
 
     no_rows : (GivesReport request.task → ⊥) → due.rows ≡ []
     no_rows none = no_rows_as is.inquiry.asked none asked.1 is.is_due

@@ -33,6 +33,8 @@ mod pairs;
 #[cfg(test)]
 mod placements;
 #[cfg(test)]
+mod probes;
+#[cfg(test)]
 mod records;
 #[cfg(test)]
 mod refusals;

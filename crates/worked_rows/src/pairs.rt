@@ -45,7 +45,7 @@ fn expect_pairs(rt: &(impl Abort + Threads + Sync), alloc: Global, rows: &[Pairs
 /// Maps of two metals with a cut between them, of radii and of sides.
 const AT_2: MapText = &[b"version=1\nradii=[2]\nweights=[1]\n", METALS, CUT];
 
-const AT_3: MapText = &[b"version=1\nradii=[3]\nweights=[1]\n", METALS, CUT];
+pub const AT_3: MapText = &[b"version=1\nradii=[3]\nweights=[1]\n", METALS, CUT];
 
 const AT_4: MapText = &[b"version=1\nradii=[4]\nweights=[1]\n", METALS, CUT];
 
@@ -61,16 +61,16 @@ const SIDES_1_TO_4: MapText = &[
 const FROM_2_TO_4: MapText = &[b"version=1\nradii=[2,3,4]\nweights=[7,0,9]\n", METALS, CUT];
 
 /// The same without the cut, for one radius.
-const NO_CUT: MapText = &[b"version=1\nradii=[3]\nweights=[1]\n", METALS];
+pub const NO_CUT: MapText = &[b"version=1\nradii=[3]\nweights=[1]\n", METALS];
 
 /// The second metal before the first one.
-const UPPER_FIRST: MapText = &[
+pub const UPPER_FIRST: MapText = &[
     b"version=1\nradii=[3]\nweights=[1]\n",
     b"metal=[{name=\"upper\",pairs=[[3,0]]},{name=\"lower\",pairs=[[1,0],[1,20]]}]\n",
 ];
 
 /// Side 10, via clusters as terminals, and terminals of the map at both bars.
-const WITH_TERMINALS: MapText = &[
+pub const WITH_TERMINALS: MapText = &[
     b"version=2\nsides=[10]\nweights=[1]\ncontacts=true\n",
     METALS,
     CUT,
@@ -83,19 +83,19 @@ const GREATEST: MapText = &[b"version=1\nradii=[1000000]\nweights=[1]\n", METALS
 const NONE: &str = "pairs 0\nworst none\n";
 
 /// Bars of 10 by 4 cells, 4 apart, and a strap of the other metal over both.
-const LOWER: Plate = (1, 0, (0, 0, 10, 4));
+pub const LOWER: Plate = (1, 0, (0, 0, 10, 4));
 
-const UPPER: Plate = (1, 0, (0, 8, 10, 12));
+pub const UPPER: Plate = (1, 0, (0, 8, 10, 12));
 
-const STRAP: Plate = (3, 0, (0, 0, 4, 12));
+pub const STRAP: Plate = (3, 0, (0, 0, 4, 12));
 
 /// Contacts of the strap with either.
-const TO_LOWER: Plate = (2, 0, (0, 0, 2, 2));
+pub const TO_LOWER: Plate = (2, 0, (0, 0, 2, 2));
 
-const TO_UPPER: Plate = (2, 0, (0, 8, 2, 10));
+pub const TO_UPPER: Plate = (2, 0, (0, 8, 2, 10));
 
 /// Three squares of 4 by 4 cells, 2 apart.
-const THREE_SQUARES: &[Plate] = &[
+pub const THREE_SQUARES: &[Plate] = &[
     (1, 0, (0, 0, 4, 4)),
     (1, 0, (6, 0, 10, 4)),
     (1, 0, (12, 0, 16, 4)),
@@ -105,9 +105,9 @@ const THREE_SQUARES: &[Plate] = &[
 const AT_A_CORNER: &[Plate] = &[(1, 0, (0, 0, 4, 4)), (1, 0, (4, 4, 8, 8))];
 
 /// Two squares of the second metal, 3 apart.
-const SECOND: Plate = (3, 0, (40, 0, 50, 10));
+pub const SECOND: Plate = (3, 0, (40, 0, 50, 10));
 
-const THIRD: Plate = (3, 0, (53, 0, 63, 10));
+pub const THIRD: Plate = (3, 0, (53, 0, 63, 10));
 
 const AREAS: &[PairsRow] = &[
     // columns [9,15) of the rows [-5,15)

@@ -182,6 +182,35 @@ const PAIRS: &[Refusal] = refusals! {
     "pairs_and_terminal_off_its_metal": "a --map m --pairs 2", Changed(TERMINAL, AT_12), BARS => 4, error 50 at 0;
 };
 
+/// Words of a probe that are of no form, or whose map or layout is refused. Where the layout is no file it is not asked for.
+const PROBES: &[Refusal] = refusals! {
+    // 2: no cell, one that no layout has, a dash at the beginning of a word of its own, or what may not stand beside it.
+    "probe_of_no_cell": "a --map m --probe", Sample, BARS => 2, error 2 at 0;
+    "probe_of_a_column_alone": "a --map m --probe 12", Sample, BARS => 2, error 2 at 0;
+    "probe_of_column_1000000000": "a --map m --probe 1000000000,0", Sample, BARS => 2, error 2 at 0;
+    "probe_of_row_minus_1000000001": "a --map m --probe 0,-1000000001", Sample, BARS => 2, error 2 at 0;
+    "probe_of_a_word_with_a_dash": "a --map m --probe -1,0", Sample, BARS => 2, error 2 at 0;
+    "probe_given_twice": "a --map m --probe 12,5 --probe 12,5", Sample, BARS => 2, error 2 at 0;
+    "probe_without_map": "a --probe 12,5", Sample, BARS => 2, error 2 at 0;
+    "probe_without_layout": "--map m --probe 12,5", Sample, BARS => 2, error 2 at 0;
+    "probe_with_tile": "a --map m --probe 12,5 --tile 65536", Sample, BARS => 2, error 2 at 0;
+    "probe_with_workers": "a --map m --probe 12,5 --workers 4", Sample, BARS => 2, error 2 at 0;
+    "probe_with_pairs": "a --map m --probe 12,5 --pairs 1", Sample, BARS => 2, error 2 at 0;
+    "probe_of_one_metal": "a --layer 1 --datatype 0 --radius 3 --probe 12,5", Sample, BARS => 2, error 2 at 0;
+    "probe_of_a_generated_layout": "--generate 1 --probe 12,5", Sample, BARS => 2, error 2 at 0;
+
+    // 40 and 42: the map.
+    "probe_and_map_of_no_toml": "b --map m --probe 12,5", Raw(b"x"), BARS => 3, error 40 at 0;
+    "probe_and_contacts_by_a_number": "b --map m --probe 12,5", Changed(RADII_OF_SAMPLE, WITH_A_NUMBER), BARS => 3, error 42 at 8;
+
+    // 10, 27 and 50: the layout, its top, and a terminal between the two bars, at the cell of the probe and elsewhere.
+    "probe_of_no_layout": "a --map m --probe 12,5", Sample, Bytes(b"") => 4, error 10 at 0;
+    "probe_of_no_such_top": "a --map m --probe 12,5 --top X", Sample, BARS => 4, error 27 at 0;
+    "probe_at_a_terminal_off_its_metal": "a --map m --probe 12,5", Changed(TERMINAL, AT_12), BARS => 4, error 50 at 0;
+    "probe_far_from_a_terminal_off_its_metal": "a --map m --probe 0,0", Changed(TERMINAL, AT_12), BARS => 4, error 50 at 0;
+    "probe_of_nothing_and_a_terminal": "a --map m --probe 12,5", Sample, Plates(&[]) => 4, error 50 at 0;
+};
+
 /// Maps that are no documents, or have a key or a value that may not stand there. The layout is not asked for.
 const MAPS: &[Refusal] = refusals! {
     // 39: one byte more than the most.
@@ -490,6 +519,11 @@ fn words_are_refused(rt: HostRuntime) {
 #[test]
 fn pairs_are_refused(rt: HostRuntime) {
     expect_refusals(&rt, rt.alloc(), PAIRS, &[2, 40, 41, 42, 48, 10, 27, 50]);
+}
+
+#[test]
+fn probes_are_refused(rt: HostRuntime) {
+    expect_refusals(&rt, rt.alloc(), PROBES, &[2, 40, 42, 10, 27, 50]);
 }
 
 #[test]

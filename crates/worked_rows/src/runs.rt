@@ -153,7 +153,7 @@ fn line_of(alloc: Global, number: u8, place: usize) -> Result<String, AllocError
 pub enum Want {
     /// This report.
     Rows(Report),
-    /// The report with this text, or this text of pairs of nets.
+    /// The report with this text, or this text of pairs of nets or of a probe.
     Text(&'static str),
     /// The report of shorts: the radius of defects, and the area.
     Short(u32, u64),

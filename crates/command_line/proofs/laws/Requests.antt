@@ -3,12 +3,14 @@ use Rattle.std.proofs.Common.{ℕ, List, ◌≡◌, ◌∙◌, sym, ap, refl, su
 use Rattle.std.specs.Str.Parse.{digits_value}
 use Rattle.first_refusal.specs.Laws.{IsUnique}
 use Rattle.command_line.specs.declared.option_name.OptionName.{OptionName}
-use Rattle.command_line.specs.declared.option_name.OptionName.TheVariants.{Map, Top, Tile, Workers, Pairs}
+use Rattle.command_line.specs.declared.option_name.OptionName.TheVariants.{Map, Top, Tile, Workers, Pairs, Probe}
 use Rattle.command_line.specs.declared.task.Task.{Task}
+use Rattle.command_line.specs.Cells.{IsCellText}
 use Rattle.command_line.specs.OptionNames.{Text}
 use Rattle.command_line.specs.Spelling.{Given}
-use Rattle.command_line.specs.Requests.{Ask, GiveNoOther, IsNumberOnce, IsNumberOrDefault, IsTextIfGiven, as_given, left_out, IsTask, of_one_metal, of_map, of_pairs, of_generator, options_for, IsRequestOf}
+use Rattle.command_line.specs.Requests.{Ask, GiveNoOther, IsCellOnce, IsNumberOnce, IsNumberOrDefault, IsTextIfGiven, as_given, left_out, IsTask, of_one_metal, of_map, of_pairs, of_probe, of_generator, options_for, IsRequestOf}
 use Rattle.command_line.specs.Requests.{values_of}
+use Rattle.command_line.proofs.CellLaws.{cell_is}
 use Rattle.command_line.proofs.LimitLaws.{same_request}
 use Rattle.command_line.proofs.SpellingLaws.{spellings_agree}
 
@@ -29,6 +31,11 @@ text_if_given_is : (values : List Text) → IsUnique (IsTextIfGiven values)
 text_if_given_is values None None e f = refl
 text_if_given_is values (Some t) (Some u) e f = let same : t ≡ u = let s = sym e ∙ f in cc s in ap (λ (x : Text). Some x) same
 text_if_given_is values t u e f = let s = sym e ∙ f in cc s
+
+cell_once_is : (values : List Text) → IsUnique (IsCellOnce values)
+cell_once_is values c d a b =
+    let text : b.text ≡ a.text = let s = sym b.once ∙ a.once in cc s in
+    cell_is a.text c d a.is_cell (subst (λ t. IsCellText t d) text b.is_cell)
 
 -- the same task for two requests
 module _ (values : OptionName → List Text) (positions : List Text) where
@@ -66,6 +73,20 @@ module _ (values : OptionName → List Text) (positions : List Text) where
   task_is one other (of_one_metal q layer datatype radius also_top) (of_pairs p map size top) g h = let s = sym (g Map refl) ∙ map in cc s
   task_is one other (of_pairs p map size top) (of_generator q columns) g h = let s = sym p ∙ q in cc s
   task_is one other (of_generator q columns) (of_pairs p map size top) g h = let s = sym p ∙ q in cc s
+  task_is one other (of_probe {layout = l} {map = a} {top = x} {cell = c} p map cell top) (of_probe {layout = m} {map = b} {top = y} {cell = d} q also_map also_cell also_top) g h =
+      let named : l ≡ m = let s = sym p ∙ q in cc s in
+      let mapped : a ≡ b = let s = sym map ∙ also_map in cc s in
+      let ta : x ≡ y = text_if_given_is (values Top) x y top also_top in
+      let sa : c ≡ d = cell_once_is (values Probe) c d cell also_cell in
+      cc (named, mapped, ta, sa)
+  task_is one other (of_probe p map cell top) (of_map q also_map also_top) g h = let s = sym (h Probe refl) ∙ cell.once in cc s
+  task_is one other (of_map q also_map also_top) (of_probe p map cell top) g h = let s = sym (g Probe refl) ∙ cell.once in cc s
+  task_is one other (of_probe p map cell top) (of_pairs q also_map size also_top) g h = let s = sym (h Probe refl) ∙ cell.once in cc s
+  task_is one other (of_pairs q also_map size also_top) (of_probe p map cell top) g h = let s = sym (g Probe refl) ∙ cell.once in cc s
+  task_is one other (of_probe p map cell top) (of_one_metal q layer datatype radius also_top) g h = let s = sym (h Map refl) ∙ map in cc s
+  task_is one other (of_one_metal q layer datatype radius also_top) (of_probe p map cell top) g h = let s = sym (g Map refl) ∙ map in cc s
+  task_is one other (of_probe p map cell top) (of_generator q columns) g h = let s = sym p ∙ q in cc s
+  task_is one other (of_generator q columns) (of_probe p map cell top) g h = let s = sym p ∙ q in cc s
 
   -- options and positional words ask for one request at most
   request_is : IsUnique (IsRequestOf values positions)

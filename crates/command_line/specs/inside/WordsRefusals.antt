@@ -17,6 +17,6 @@ pub record IsFirstCause (Is : WordsCause → Type 0) (cause : WordsCause) : Type
   pub is : Is cause
   pub first : IsOfFirstKind Is cause
 
--- options with these values and these positional words are those of a form: a value that is no number is all that may be wrong
+-- options with these values and these positional words are those of a form: a value that is not of its option's form is all that may be wrong
 abbrev pub IsOfForm : (OptionName → List Text) → List Text → Type 0
-IsOfForm values positions = (cause : WordsCause) → IsCauseOf values positions cause → 13 ≤ order_of cause
+IsOfForm values positions = (cause : WordsCause) → IsCauseOf values positions cause → 14 ≤ order_of cause

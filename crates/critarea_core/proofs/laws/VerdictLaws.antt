@@ -7,7 +7,7 @@ use Rattle.first_refusal.proofs.StageLaws.{readings_agree, retold_agree, stages_
 use Rattle.lists.proofs.Words.{enumerate_from}
 use Rattle.command_line.specs.Requests.{Ask}
 use Rattle.command_line.specs.declared.task.Task.{Task}
-use Rattle.command_line.specs.declared.task.Task.TheVariants.{OneMetal, Mapped, Generated, Pairs}
+use Rattle.command_line.specs.declared.task.Task.TheVariants.{OneMetal, Mapped, Generated, Pairs, Probe}
 use Rattle.command_line.proofs.laws.Requests.{requests_agree}
 use Rattle.library_model.specs.declared.library.Library.{Library}
 use Rattle.library_grammar.specs.FirstFault.{BytesComeTo}
@@ -43,6 +43,7 @@ map_outcomes_agree (OneMetal layout layer datatype radius top) bytes one other a
 map_outcomes_agree (Mapped layout map top) bytes one other a b = map_texts_agree (bytes map) one other a b
 map_outcomes_agree (Generated columns) bytes one other a b = map_texts_agree generated_map one other a b
 map_outcomes_agree (Pairs layout map top size) bytes one other a b = map_texts_agree (bytes map) one other a b
+map_outcomes_agree (Probe layout map top cell) bytes one other a b = map_texts_agree (bytes map) one other a b
 
 -- a map has one size under a number
 sizes_agree : (layer_map : LayerMap) (number : ℕ) → IsUnique (AreAsked layer_map number)
@@ -61,6 +62,7 @@ asked_agree (Mapped layout map top) layer_map one other a b = a ∙ sym b
 asked_agree (Generated columns) layer_map one other a b = a ∙ sym b
 asked_agree (Pairs layout map top number) layer_map one other a b =
     readings_agree (AreAsked layer_map number) (no_such_size (length layer_map.sizes)) (sizes_agree layer_map number) one other a b
+asked_agree (Probe layout map top cell) layer_map one other a b = a ∙ sym b
 
 -- what a report is on, where the routes are these
 abbrev pub subject_of : LayerMap → List Route → Subject

@@ -4,26 +4,29 @@ use Rattle.lists.specs.Words.{Global}
 use Rattle.first_refusal.specs.Answers.{Answers}
 use Rattle.first_refusal.specs.Outcomes.{Outcome, Reads, value, refused}
 use Rattle.command_line.specs.declared.task.Task.{Task}
+use Rattle.geo_core.specs.declared.plane.Cell.{Cell}
 use Rattle.map_model.specs.MapNames.{LayerMap, layer_map_of}
 use Rattle.map_model.specs.declared.map.Map.{Map}
 use Rattle.gauges.specs.declared.pair_row.PairRow.{PairRow}
 use Rattle.pair_report.specs.PairReport.{whole_pair_text}
 use Rattle.pair_report.specs.PairRows.{pair_rows}
 use Rattle.pair_report.specs.declared.tables.PairTables.{PairTables}
+use Rattle.map_probe.specs.ProbeText.{probe_text}
+use Rattle.map_probe.specs.declared.metal_near.MetalNear.{MetalNear}
 use Rattle.questions.specs.declared.row.Row.{Row}
 use Rattle.questions.specs.declared.row.TheConstants.{MOST_ROWS}
 use Rattle.critarea_core.specs.Contents.{MayContain, Source, bytes_from}
-use Rattle.critarea_core.specs.Dues.{AreRowsOn, ArePairRowsOn, Due, whole_report}
-use Rattle.critarea_core.specs.Inquiries.{Asked, Inquiry, for_report, for_pairs}
+use Rattle.critarea_core.specs.Dues.{AreRowsOn, ArePairRowsOn, Due, IsProbeOn, whole_report}
+use Rattle.critarea_core.specs.Inquiries.{Asked, Inquiry, for_report, for_pairs, for_probe}
 use Rattle.critarea_core.specs.Refusals.{layout_limit, layout_too_long, refusal_text}
 use Rattle.critarea_core.specs.Run.{AreToldAll, AreToldSome, AreUnsure, AreUntold, Change, FailsWithin, Gauges, HasRisen}
 use Rattle.critarea_core.specs.Run.{IsCalm, IsIdle, MayComeTo, Output, Takes}
 use Rattle.critarea_core.specs.Layout.{Subject}
 use Rattle.critarea_core.specs.Verdict.{IsShortEnough, MapComesTo}
 use Rattle.critarea_core.specs.declared.found.Found.{Found}
-use Rattle.critarea_core.specs.declared.found.Found.TheVariants.{Report as Rows, Pairs as Tables}
+use Rattle.critarea_core.specs.declared.found.Found.TheVariants.{Report as Rows, Pairs as Tables, Probe as Probed}
 use Rattle.critarea_core.specs.declared.wanted.Wanted.{Wanted}
-use Rattle.critarea_core.specs.declared.wanted.Wanted.TheVariants.{Report, Pairs}
+use Rattle.critarea_core.specs.declared.wanted.Wanted.TheVariants.{Report, Pairs, Probe}
 use Rattle.critarea_core.specs.declared.layout_fault.LayoutFault.{LayoutFault}
 use Rattle.critarea_core.specs.declared.layout_fault.LayoutFault.TheVariants.{Memory as LayoutMemory}
 use Rattle.critarea_core.specs.declared.refusal.Refusal.{Refusal}
@@ -97,22 +100,28 @@ pub record HasRows (subject : Subject) (rows : Vec Row Global) : Type 0 where
 abbrev pub HasPairs : ℕ → Subject → PairTables → Type 0
 HasPairs size subject tables = ArePairRowsOn subject size (pair_rows tables)
 
+-- this is told at the cell of each metal of the subject
+abbrev pub HasProbe : Cell → Subject → Vec MetalNear Global → Type 0
+HasProbe cell subject metals = IsProbeOn subject cell metals.items
+
 -- what a task asks, by the place of the size in the map
 abbrev pub asked_by : List ℕ → Wanted → Asked
 asked_by sizes Report = for_report
 asked_by sizes (Pairs place) = for_pairs (slice_index_or sizes place 0)
+asked_by sizes (Probe cell) = for_probe cell
 
--- the map has a size at this place
+-- the map has a size at this place, where one is named
 abbrev pub IsWantedOf : List ℕ → Wanted → Type 0
 IsWantedOf sizes Report = Unit {0}
 IsWantedOf sizes (Pairs place) = place < length sizes
+IsWantedOf sizes (Probe cell) = Unit {0}
 
 -- this was found on the subject, as it is asked
 abbrev pub HasFound : Asked → Subject → Found → Type 0
 HasFound for_report subject (Rows report) = AreRowsOn subject report.rows.items
-HasFound for_report subject (Tables tables) = ⊥
-HasFound (for_pairs size) subject (Rows rows) = ⊥
 HasFound (for_pairs size) subject (Tables tables) = HasPairs size subject tables
+HasFound (for_probe cell) subject (Probed metals) = HasProbe cell subject metals
+HasFound asked subject found = ⊥
 
 -- this was found for the inquiry
 abbrev pub IsFoundFor : Inquiry → Found → Type 0
@@ -132,6 +141,7 @@ due_of text rows pairs = record { text = text; rows = rows; pair_rows = pairs; r
 abbrev pub due_to : Gauges → Found → Due
 due_to gauges (Rows report) = due_of (whole_report report.rows.items gauges.of_rows.before) report.rows.items []
 due_to gauges (Tables tables) = due_of (whole_pair_text (pair_rows tables) gauges.of_pairs.before) [] (pair_rows tables)
+due_to gauges (Probed metals) = due_of (probe_text metals.items) [] []
 
 -- how the printing of what is due ends, with this status
 pub data DueEnds (due : Due) (gauges : Gauges) (out : Output) : ℕ → Type 0 where

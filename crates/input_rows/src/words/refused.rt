@@ -1,5 +1,5 @@
 use super::rows::are_refused;
-use std::alloc::Global;
+use std::alloc::{AllocError, Global};
 use std::process::Abort;
 
 /// Stops the test at a line whose words are not refused.
@@ -77,6 +77,87 @@ const NO_PAIRS: &[&str] = &[
     "a|--map|m|--pairs=+1",
     "a|--map|m|--pairs|1,2",
     "a|--map|m|--pairs|all",
+];
+
+/// Words with the option of a probe that fit no form.
+const NO_PROBE: &[&str] = &[
+    // no map, no layout, or neither
+    "a|--probe|12,5",
+    "--probe|12,5",
+    "--map|m|--probe|12,5",
+    "a|--probe|12,5|--top|S",
+    // pairs of nets beside it, in either order, and without a map
+    "a|--map|m|--probe|12,5|--pairs|1",
+    "a|--map|m|--pairs|1|--probe|12,5",
+    "a|--pairs|1|--probe|12,5",
+    // a tile and workers
+    "a|--map|m|--probe|12,5|--tile|5",
+    "a|--map|m|--probe|12,5|--tile|65536",
+    "a|--map|m|--probe|12,5|--workers|4",
+    // the options of one metal, and a generated layout
+    "a|--map|m|--probe|12,5|--radius|3",
+    "a|--probe|12,5|--layer|1|--datatype|0|--radius|3",
+    "--generate|3|--probe|12,5",
+    "a|--generate|3|--map|m|--probe|12,5",
+    // given twice, without a value, and shortened
+    "a|--map|m|--probe|12,5|--probe|12,5",
+    "a|--map|m|--probe|12|--probe|5",
+    "a|--map|m|--probe",
+    "a|--map|m|--probe=",
+    "a|--map|m|--prob|12,5",
+    "a|--map|m|--probe|12|5",
+    // a dash in front of a value in a word of its own, and the dash alone, which is no cell
+    "a|--map|m|--probe|-1,0",
+    "a|--map|m|--probe|-1,-1",
+    "a|--map|m|--probe|-",
+];
+
+/// Values of the option of a probe that are no cell, each behind an equals sign.
+const NO_CELL: &[&str] = &[
+    // not two parts with one comma between them
+    "12",
+    "1,2,3",
+    "1,,2",
+    ",",
+    ",1,2",
+    "1,2,",
+    "12;5",
+    "12.5",
+    "12 5",
+    // a part without a digit
+    ",2",
+    "1,",
+    "-,1",
+    "1,-",
+    "-,-",
+    // what is no digit, and a dash anywhere but in front of all digits
+    "+1,2",
+    "1,+2",
+    "1 ,2",
+    "1, 2",
+    " 1,2",
+    "1,2 ",
+    "--1,2",
+    "1,--2",
+    "1-,2",
+    "1,2-",
+    "-+1,2",
+    "1.0,2",
+    "0x1,2",
+    "1_0,2",
+    "x,y",
+    "(1,2)",
+    "\u{0663},1",
+    // beyond the least coordinate and the greatest, and more than ten digits
+    "1000000000,0",
+    "0,1000000000",
+    "-1000000001,0",
+    "0,-1000000001",
+    "4294967297,0",
+    "0,-4294967296",
+    "12345678901,0",
+    "00000000001,0",
+    "0,-00000000001",
 ];
 
 /// Words that are no options and no values.
@@ -196,6 +277,24 @@ fn other_forms_are_refused(rt: HostRuntime) {
 #[test]
 fn other_words_with_pairs_are_refused(rt: HostRuntime) {
     expect_refused(&rt, rt.alloc(), NO_PAIRS);
+}
+
+#[test]
+fn other_words_with_a_probe_are_refused(rt: HostRuntime) {
+    expect_refused(&rt, rt.alloc(), NO_PROBE);
+}
+
+/// Whether a probe of this value is refused.
+fn is_no_cell(alloc: Global, value: &str) -> Result<bool, AllocError> {
+    let line = format!(in alloc; "a|--map|m|--probe={value}")?;
+    Ok(are_refused(alloc, line.as_str()))
+}
+
+#[test]
+fn other_cells_are_refused(rt: HostRuntime) {
+    for value in NO_CELL {
+        assert!(rt; is_no_cell(rt.alloc(), value) == Ok(true), "{value}");
+    }
 }
 
 #[test]

@@ -143,6 +143,85 @@ const PAIR_ROWS: &[Row] = &[
     ),
 ];
 
+/// Words of the form of a probe, which have no tile and no workers of their own.
+const PROBE_ROWS: &[Row] = &[
+    (
+        "a|--map|m|--probe|12,5",
+        Asked::Probe("a", "m", (12, 5)),
+        65_536,
+        4,
+    ),
+    (
+        "--probe=12,5|--map=m|a",
+        Asked::Probe("a", "m", (12, 5)),
+        65_536,
+        4,
+    ),
+    (
+        "--map|m|--probe|0,0|--|a",
+        Asked::Probe("a", "m", (0, 0)),
+        65_536,
+        4,
+    ),
+    // a dash in front of the column only behind the equals sign, and one in front of the row anywhere
+    (
+        "a|--map|m|--probe=-1,0",
+        Asked::Probe("a", "m", (-1, 0)),
+        65_536,
+        4,
+    ),
+    (
+        "a|--map|m|--probe|1,-1",
+        Asked::Probe("a", "m", (1, -1)),
+        65_536,
+        4,
+    ),
+    (
+        "a|--map|m|--probe=-7,-3",
+        Asked::Probe("a", "m", (-7, -3)),
+        65_536,
+        4,
+    ),
+    // the least coordinate and the greatest
+    (
+        "a|--map|m|--probe|999999999,-1000000000",
+        Asked::Probe("a", "m", (999_999_999, -1_000_000_000)),
+        65_536,
+        4,
+    ),
+    (
+        "a|--map|m|--probe=-1000000000,999999999",
+        Asked::Probe("a", "m", (-1_000_000_000, 999_999_999)),
+        65_536,
+        4,
+    ),
+    // zeros in front, ten digits, and a dash in front of 0
+    (
+        "a|--map|m|--probe|007,-0",
+        Asked::Probe("a", "m", (7, 0)),
+        65_536,
+        4,
+    ),
+    (
+        "a|--map|m|--probe=-0000000001,0999999999",
+        Asked::Probe("a", "m", (-1, 999_999_999)),
+        65_536,
+        4,
+    ),
+    (
+        "a|--map|m|--probe=-0,0000000000",
+        Asked::Probe("a", "m", (0, 0)),
+        65_536,
+        4,
+    ),
+    (
+        "probe|--map|probe|--probe|1,2",
+        Asked::Probe("probe", "probe", (1, 2)),
+        65_536,
+        4,
+    ),
+];
+
 /// Words of all forms with files that want a structure.
 const TOP_ROWS: &[TopRow] = &[
     (
@@ -185,6 +264,20 @@ const TOP_ROWS: &[TopRow] = &[
         "--top=--pairs=2|--pairs=3|--map=m|a",
         Asked::Pairs("a", "m", 3),
         "--pairs=2",
+        65_536,
+        4,
+    ),
+    (
+        "a|--map|m|--top|S|--probe|12,5",
+        Asked::Probe("a", "m", (12, 5)),
+        "S",
+        65_536,
+        4,
+    ),
+    (
+        "--top=--probe=1,2|--probe=3,4|--map=m|a",
+        Asked::Probe("a", "m", (3, 4)),
+        "--probe=1,2",
         65_536,
         4,
     ),
@@ -277,6 +370,11 @@ fn a_map_is_asked_for(rt: HostRuntime) {
 #[test]
 fn pairs_of_nets_are_asked_for(rt: HostRuntime) {
     expect_asked(&rt, rt.alloc(), PAIR_ROWS);
+}
+
+#[test]
+fn a_probe_is_asked_for(rt: HostRuntime) {
+    expect_asked(&rt, rt.alloc(), PROBE_ROWS);
 }
 
 #[test]

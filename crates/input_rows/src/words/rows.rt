@@ -10,6 +10,8 @@ pub enum Asked<'a> {
     Map(&'a str, &'a str),
     /// Pairs of nets: the layout, the map and the number of the size.
     Pairs(&'a str, &'a str, u32),
+    /// The nets nearest to a cell: the layout, the map, and the cell's column and row.
+    Probe(&'a str, &'a str, (i32, i32)),
     /// A generated layout of so many columns.
     Generated(u32),
 }
@@ -53,14 +55,16 @@ fn is_metal(task: &Task, name: &str, numbers: (u16, u16, u32)) -> bool {
             radius,
             ..
         } => layout.as_slice() == name.as_bytes() && (*layer, *datatype, *radius) == numbers,
-        Task::Mapped { .. } | Task::Pairs { .. } | Task::Generated { .. } => false,
+        Task::Mapped { .. } | Task::Pairs { .. } | Task::Probe { .. } | Task::Generated { .. } =>
+            false,
     }
 }
 
 /// Whether the task is that of this layout and this map.
 fn is_mapped(task: &Task, name: &str, map_name: &str) -> bool {
     match task {
-        Task::OneMetal { .. } | Task::Pairs { .. } | Task::Generated { .. } => false,
+        Task::OneMetal { .. } | Task::Pairs { .. } | Task::Probe { .. } | Task::Generated { .. } =>
+            false,
         Task::Mapped { layout, map, .. } => {
             layout.as_slice() == name.as_bytes() && map.as_slice() == map_name.as_bytes()
         }
@@ -80,14 +84,34 @@ fn is_of_pairs(task: &Task, name: &str, map_name: &str, number: u32) -> bool {
                 && map.as_slice() == map_name.as_bytes()
                 && *size == number
         }
-        Task::OneMetal { .. } | Task::Mapped { .. } | Task::Generated { .. } => false,
+        Task::OneMetal { .. } | Task::Mapped { .. } | Task::Probe { .. } | Task::Generated { .. } =>
+            false,
+    }
+}
+
+/// Whether the task is that of the nets of this layout and this map that are nearest to the cell of this column and row.
+fn is_of_probe(task: &Task, name: &str, map_name: &str, place: (i32, i32)) -> bool {
+    match task {
+        Task::Probe {
+            layout,
+            map,
+            cell,
+            ..
+        } => {
+            layout.as_slice() == name.as_bytes()
+                && map.as_slice() == map_name.as_bytes()
+                && (cell.i, cell.j) == place
+        }
+        Task::OneMetal { .. } | Task::Mapped { .. } | Task::Pairs { .. } | Task::Generated { .. } =>
+            false,
     }
 }
 
 /// Whether the task is a generated layout of so many columns.
 fn is_generated(task: &Task, count: u32) -> bool {
     match task {
-        Task::OneMetal { .. } | Task::Mapped { .. } | Task::Pairs { .. } => false,
+        Task::OneMetal { .. } | Task::Mapped { .. } | Task::Pairs { .. } | Task::Probe { .. } =>
+            false,
         Task::Generated { n } => *n == count,
     }
 }
@@ -98,6 +122,7 @@ fn is_task(task: &Task, asked: &Asked<'_>) -> bool {
         Asked::Metal(layout, numbers) => is_metal(task, layout, *numbers),
         Asked::Map(layout, map) => is_mapped(task, layout, map),
         Asked::Pairs(layout, map, number) => is_of_pairs(task, layout, map, *number),
+        Asked::Probe(layout, map, place) => is_of_probe(task, layout, map, *place),
         Asked::Generated(columns) => is_generated(task, *columns),
     }
 }
@@ -107,7 +132,8 @@ fn top_of(task: &Task) -> Option<&[u8]> {
     match task {
         Task::OneMetal { top: Some(top), .. }
         | Task::Mapped { top: Some(top), .. }
-        | Task::Pairs { top: Some(top), .. } => Some(top.as_slice()),
+        | Task::Pairs { top: Some(top), .. }
+        | Task::Probe { top: Some(top), .. } => Some(top.as_slice()),
         _ => None,
     }
 }

@@ -1,10 +1,10 @@
 use Rattle.std.proofs.Common.{Ok, option_copied, slice_index_or}
 use Rattle.first_refusal.specs.Outcomes.{Then}
 use Rattle.map_model.specs.MapNames.{layer_map_of}
-use Rattle.critarea_core.specs.inside.Finding.{HasFound, HasPairs, HasRows, asked_by}
-use Rattle.critarea_core.specs.Inquiries.{for_report, for_pairs}
+use Rattle.critarea_core.specs.inside.Finding.{HasFound, HasPairs, HasProbe, HasRows, asked_by}
+use Rattle.critarea_core.specs.Inquiries.{for_report, for_pairs, for_probe}
 use Rattle.critarea_core.specs.Layout.{LibraryComesTo, TerminalsComeTo}
-use Rattle.critarea_core.specs.declared.found.Found.TheVariants.{Pairs as Tables}
+use Rattle.critarea_core.specs.declared.found.Found.TheVariants.{Pairs as Tables, Probe as Probed}
 use Rattle.critarea_core.proofs.AnalysisLaws.{found_alike, found_few, in_library, no_library, refused_alike}
 use Rattle.critarea_core.proofs.analysis.find_in_layout.Goals as goal
 
@@ -33,6 +33,16 @@ returns-in_err-tables-in-Pairs g c =
     (refused_alike (Then (LibraryComesTo layer_map top library) TerminalsComeTo) (HasPairs (slice_index_or c.args.map.now.sizes c.in-Pairs.place 0)) (HasFound asked)
     c.in_err-tables-in-Pairs.field-0.0 c.from_residual-in_err-tables-in-Pairs.result c.from_residual-in_err-tables-in-Pairs.ensures.1 c.in_err-tables-in-Pairs.ensures)
 
+pub returns-in_err-metals-in-Probe : goal.returns-in_err-metals-in-Probe
+returns-in_err-metals-in-Probe g c =
+    let layer_map = layer_map_of c.args.map.now in
+    let top = option_copied c.args.top in
+    let library = c.in_ok-library.library in
+    let asked = asked_by c.args.map.now.sizes c.args.wanted in
+    in_library (HasFound asked) layer_map top c.args.bytes.items library c.from_residual-in_err-metals-in-Probe.result (rw c.as_slice.ensures.value at c.in_ok-library.ensures.answers)
+    (refused_alike (Then (LibraryComesTo layer_map top library) TerminalsComeTo) (HasProbe c.in-Probe.cell) (HasFound asked)
+    c.in_err-metals-in-Probe.field-0.0 c.from_residual-in_err-metals-in-Probe.result c.from_residual-in_err-metals-in-Probe.ensures.1 c.in_err-metals-in-Probe.ensures)
+
 pub invariant_of-result : goal.invariant_of-result
 invariant_of-result g c = record { few = found_few _ (Ok c.in_ok-rows-in-Report.rows) c.in_ok-rows-in-Report.ensures }
 
@@ -54,3 +64,13 @@ returns-in_ok-tables-in-Pairs g c =
     rw c.in-Pairs.is (in_library (HasFound (for_pairs size)) layer_map top c.args.bytes.items library _ (rw c.as_slice.ensures.value at c.in_ok-library.ensures.answers)
     (found_alike (Then (LibraryComesTo layer_map top library) TerminalsComeTo) (HasPairs size) (HasFound (for_pairs size)) c.in_ok-tables-in-Pairs.tables
     (Tables c.in_ok-tables-in-Pairs.tables) (λ subject has. has) c.in_ok-tables-in-Pairs.ensures))
+
+pub returns-in_ok-metals-in-Probe : goal.returns-in_ok-metals-in-Probe
+returns-in_ok-metals-in-Probe g c =
+    let layer_map = layer_map_of c.args.map.now in
+    let top = option_copied c.args.top in
+    let library = c.in_ok-library.library in
+    let cell = c.in-Probe.cell in
+    rw c.in-Probe.is (in_library (HasFound (for_probe cell)) layer_map top c.args.bytes.items library _ (rw c.as_slice.ensures.value at c.in_ok-library.ensures.answers)
+    (found_alike (Then (LibraryComesTo layer_map top library) TerminalsComeTo) (HasProbe cell) (HasFound (for_probe cell)) c.in_ok-metals-in-Probe.metals
+    (Probed c.in_ok-metals-in-Probe.metals) (λ subject has. has) c.in_ok-metals-in-Probe.ensures))

@@ -1,6 +1,6 @@
 use Rattle.std.proofs.Common.{[]}
-use Rattle.gauges.proofs.laws.Told.{untold, untold_prefixes}
-use Rattle.critarea_core.proofs.PrintLaws.{on_err_then, on_ok_then}
+use Rattle.gauges.proofs.laws.Told.{on_err, untold, untold_prefixes}
+use Rattle.critarea_core.proofs.PrintLaws.{on_err_then, on_ok, on_ok_then}
 use Rattle.critarea_core.proofs.printing.text_for.Goals as goal
 
 pub returns-in-Report-clause-printed : goal.returns-in-Report-clause-printed
@@ -19,3 +19,13 @@ returns-in-Pairs-clause-told g c = rw c.in-Pairs.is (on_ok_then c.text_of_pairs.
 
 pub returns-in-Pairs-clause-some : goal.returns-in-Pairs-clause-some
 returns-in-Pairs-clause-some g c = rw c.in-Pairs.is (on_err_then c.text_of_pairs.result (λ some. record { of_rows = untold_prefixes [] _; of_pairs = some }) c.text_of_pairs.ensures.prefixes)
+
+pub returns-in-Probe-clause-printed : goal.returns-in-Probe-clause-printed
+returns-in-Probe-clause-printed g c = rw c.in-Probe.is (rw c.as_slice-in-Probe.ensures.value at c.text_of_probe.ensures)
+
+pub returns-in-Probe-clause-told : goal.returns-in-Probe-clause-told
+returns-in-Probe-clause-told g c = rw c.in-Probe.is (on_ok c.text_of_probe.result (record { of_rows = untold _; of_pairs = untold _ }))
+
+pub returns-in-Probe-clause-some : goal.returns-in-Probe-clause-some
+returns-in-Probe-clause-some g c =
+    rw c.in-Probe.is (on_err c.text_of_probe.result (record { of_rows = untold_prefixes [] _; of_pairs = untold_prefixes [] _ }))

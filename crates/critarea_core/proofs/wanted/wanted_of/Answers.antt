@@ -7,8 +7,8 @@ returns-then-size-sizes-clause-lacking c =
     rw named.is (rw c.no_such_size.ensures (rw c.as_slice-sizes.ensures (size_lacking c.args.map.now named.layout named.map named.top named.size
     (rw named.is at c.args.request.now.task_limits).least (rw c.as_slice-sizes.ensures at c.if-size-sizes.true))))
 
-pub returns-clause-wanted : goal.returns-clause-wanted
-returns-clause-wanted c =
+pub returns-else-size-sizes-clause-wanted : goal.returns-else-size-sizes-clause-wanted
+returns-else-size-sizes-clause-wanted c =
     let named = c.in-Pairs in
     rw named.is (size_asked c.args.map.now named.layout named.map named.top named.size
     (rw named.is at c.args.request.now.task_limits).least (rw c.as_slice-sizes.ensures at c.if-size-sizes.false))

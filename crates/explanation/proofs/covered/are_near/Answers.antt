@@ -1,6 +1,6 @@
 use Rattle.lists.proofs.Reading.{All-read, All-read_all}
 use Rattle.geo_core.specs.Plane.{IsInLayout}
-use Rattle.explanation.proofs.worst_pairs.are_near.Goals as goal
+use Rattle.explanation.proofs.covered.are_near.Goals as goal
 
 pub loop-rect-preserved : goal.loop-rect-preserved
 loop-rect-preserved c =

@@ -1,1 +1,0 @@
-use Rattle.critarea_core.proofs.printing.text_of_pairs.Goals as goal

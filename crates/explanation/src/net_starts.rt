@@ -1,0 +1,51 @@
+//! The nets of the metals, each by its number and the cell with which it begins.
+
+ghost use Rattle.std.specs.Prelude.{◌≡◌, ◌+◌, length};
+
+use crate::text::Text;
+use critical_areas::{Parts, prepare};
+use geo_core::Cell;
+use lists::NoMemory;
+use map_model::{Layers, Map};
+use net_extract::NetFault;
+use net_numbers::first_cells;
+use std::alloc::Global;
+
+/// The first cells of the nets of each metal, in the order of their numbers.
+#[derive(Drop)]
+pub struct NetStarts {
+    metals: Vec<Vec<Cell>>,
+}
+
+impl NetStarts {
+    /// Those of the pieces of each metal.
+    fn of(alloc: Global, parts: &Parts) -> Result<NetStarts, NoMemory> {
+        let mut metals = Vec::new(alloc);
+        for pieces in parts.metals.as_slice() {
+            metals.push(first_cells(alloc, pieces.as_slice())?)?;
+        }
+        Ok(NetStarts { metals })
+    }
+
+    /// Tells a net of a metal by its number and its first cell.
+    pub fn tell(&self, text: &mut Text, before: &str, metal: usize, number: usize) {
+        text.number(before, number as u64, "");
+        let Some(cells) = self.metals.get(metal) else {
+            return;
+        };
+        if let Some(cell) = cells.get(number) {
+            text.point(" from ", i64::from(cell.i), i64::from(cell.j), " on");
+        }
+    }
+}
+
+/// The first cells of the nets of what these layers cover, where all terminals of the map are on their metals.
+pub fn net_starts(alloc: Global, map: &Map, layers: &Layers) -> Result<Option<NetStarts>, NoMemory>
+    requires { length layers.now.lists.items ≡ length map.now.metals + length map.now.cuts }
+{
+    match prepare(alloc, map, layers) {
+        Ok(parts) => Ok(Some(NetStarts::of(alloc, &parts)?)),
+        Err(NetFault::Memory) => Err(NoMemory),
+        Err(_) => Ok(None),
+    }
+}
