@@ -1,0 +1,2 @@
+-- what only this crate's proofs and private contracts cite
+pub mod inside

@@ -1,0 +1,4 @@
+pub mod Parts
+pub mod Zones
+pub mod LabelRuns
+pub mod Centres
