@@ -1,0 +1,4 @@
+pub mod RectLaws
+pub mod PieceFaults
+pub mod CutFaults
+pub mod CountedFaults

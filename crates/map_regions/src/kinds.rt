@@ -1,0 +1,53 @@
+ghost use Rattle.std.specs.Prelude.{◌+◌, ◌/◌, IfOk};
+ghost use Rattle.fault_model.specs.Areas.{cells_of};
+ghost use Rattle.geo_core.specs.Bounds.{IsSide};
+ghost use Rattle.severing.specs.Severing.{IsSomeOpen};
+ghost use Rattle.short_area.specs.Labels.{TouchesTwoLabels};
+ghost use Rattle.via_clusters.specs.Blocks.{CoversSomeBox};
+ghost use Rattle.map_regions.specs.inside.FoundRects.{AreRectsOf};
+
+use fault_model::Island;
+use geo_core::{Labelled, Rect};
+use lists::NoMemory;
+use open_grid::open_cells;
+use region_rects::{short_rects, union_rects, via_rects};
+use std::alloc::Global;
+
+/// The cells of the window at which a defect of this side touches pieces of two labels, which tell nets apart: none at side 1. The
+/// only error is that no memory is left.
+pub fn shorts(
+    alloc: Global,
+    pieces: &[Labelled],
+    window: Rect,
+    side: u32,
+) -> Result<Vec<Rect>, NoMemory>
+    requires { IsSide side }
+    ensures { IfOk result (λ rects. AreRectsOf (TouchesTwoLabels pieces.now (side / 2)) (cells_of window) rects.items) }
+{
+    if side < 2 {
+        return Ok(Vec::new(alloc));
+    }
+    short_rects(alloc, pieces, window, side / 2)
+}
+
+/// Those at which it parts two anchors of an island.
+pub fn opens(
+    alloc: Global,
+    islands: &[Island],
+    window: Rect,
+    side: u32,
+) -> Result<Vec<Rect>, NoMemory>
+    requires { IsSide side }
+    ensures { IfOk result (λ rects. AreRectsOf (IsSomeOpen islands.now side) (cells_of window) rects.items) }
+{
+    let cells = open_cells(alloc, islands, window, side)?;
+    union_rects(alloc, cells.as_slice(), window)
+}
+
+/// Those at which it covers one of the boxes.
+pub fn blocks(alloc: Global, boxes: &[Rect], window: Rect, side: u32) -> Result<Vec<Rect>, NoMemory>
+    requires { IsSide side }
+    ensures { IfOk result (λ rects. AreRectsOf (CoversSomeBox boxes.now ((side + 1) / 2)) (cells_of window) rects.items) }
+{
+    via_rects(alloc, boxes, window, (side + 1) / 2)
+}
