@@ -1,4 +1,6 @@
-ghost use Rattle.std.specs.Prelude.{◌≤◌, IfOk, length};
+ghost use Rattle.std.specs.Prelude.{◌≡◌, ◌≤◌, IfOk, length};
+ghost use Rattle.geo_core.specs.declared.plane.Cell.{Cell};
+ghost use Rattle.skyline_runs.specs.Depths.{depth_of};
 ghost use Rattle.skyline_runs.specs.Runs.{AreApart, HaveSameCells};
 ghost use Rattle.joined_rects.specs.inside.Joins.{IsJoined};
 
@@ -8,39 +10,18 @@ use lists::NoMemory;
 use std::alloc::Global;
 
 /// The same cells in fewer rectangles, or in as many: those above one another over equal columns become one, and then those
-/// side by side in equal rows. Where no two of the list have a common cell, no two of these have one. Which of them become
-/// one, and their order, is left open. The only error is that no memory is left.
+/// side by side in equal rows. Each cell lies in as many of these as of the list; so where no two of the list have a common
+/// cell, no two of these have one. Which of them become one, and their order, is left open. The only error is that no memory is
+/// left.
 ///
 /// Two passes over a list that is sorted for each: so `n` rectangles take `n log n` steps.
 pub fn joined(alloc: Global, rects: Vec<Rect>) -> Result<Vec<Rect>, NoMemory>
+    ensures depths { IfOk result (λ joined. (c : Cell) → depth_of joined.items c ≡ depth_of rects.items c) }
     ensures same { IfOk result (λ joined. HaveSameCells rects.items joined.items) }
     ensures apart { AreApart rects.items → IfOk result (λ joined. AreApart joined.items) }
     ensures fewer { IfOk result (λ joined. length joined.items ≤ length rects.items) }
 {
     joined_twice(alloc, rects)
-}
-
-/// A list is not joined again before it has so many rectangles.
-const FEW: usize = 1024;
-
-/// The list, joined if it has `most` rectangles or more; then `most` becomes twice what is left, or more. So a list that grows
-/// stays below twice what it is joined to, and some 1,000 rectangles, if this is called whenever some were added. `most` may be
-/// 0 at first. The only error is that no memory is left.
-pub fn joined_if_doubled(
-    alloc: Global,
-    rects: Vec<Rect>,
-    most: &mut usize,
-) -> Result<Vec<Rect>, NoMemory>
-    ensures same { IfOk result (λ joined. HaveSameCells rects.items joined.items) }
-    ensures apart { AreApart rects.items → IfOk result (λ joined. AreApart joined.items) }
-    ensures fewer { IfOk result (λ joined. length joined.items ≤ length rects.items) }
-{
-    if rects.len() < *most {
-        return Ok(rects);
-    }
-    let found = joined(alloc, rects)?;
-    *most = found.len().saturating_mul(2).max(FEW);
-    Ok(found)
 }
 
 /// Joined along columns, and then along rows.

@@ -1,5 +1,5 @@
 use geo_core::Rect;
-use joined_rects::{joined, joined_if_doubled};
+use joined_rects::{Gathered, joined};
 use samples::sides::{Sides, rect_of};
 use std::alloc::Global;
 
@@ -56,19 +56,18 @@ fn a_mesh_with_squares_is_bars_and_squares(rt: HostRuntime) {
 }
 
 /// How many rectangles the list has at most while so many rows of so many cells each are added cell by cell, and how many are left
-/// once it is joined at last.
+/// at last.
 fn grown(alloc: Global, columns: i32, rows: i32) -> Option<(usize, usize)> {
-    let mut rects = Vec::new(alloc);
-    let mut most: usize = 0;
+    let mut gathered = Gathered::new(alloc);
     let mut longest: usize = 0;
     for y in 0..rows {
         for x in 0..columns {
-            add(&mut rects, (x, y, x + 1, y + 1))?;
-            rects = joined_if_doubled(alloc, rects, &mut most).ok()?;
-            longest = longest.max(rects.len());
+            let cell = rect_of(&(x, y, x + 1, y + 1))?;
+            gathered = gathered.with(alloc, &[cell]).ok()?;
+            longest = longest.max(gathered.len());
         }
     }
-    Some((longest, joined(alloc, rects).ok()?.len()))
+    Some((longest, gathered.finish(alloc).ok()?.len()))
 }
 
 /// Of 3000 cells one above the other, or side by side, the list never has more than 1023: it is joined when it has 1024.

@@ -1,10 +1,10 @@
 -- what a rectangle has in common with a skyline
-use Rattle.std.proofs.Common.{List, [], arith, inl, inr, subst, sym, ◌++◌, ◌∷◌, ◌≡◌, All, ℤ, ◌≤ℤ◌, ◌<ℤ◌, ◌↔◌}
+use Rattle.std.proofs.Common.{List, [], arith, inl, inr, subst, sym, ◌++◌, ◌∷◌, ◌≡◌, All, Contains, ℤ, ◌≤ℤ◌, ◌<ℤ◌, ◌↔◌, ap, length, length-append}
 use Rattle.lists.proofs.Words.{ints, by_lt_z, All-push}
 use Rattle.geo_core.specs.Plane.{Has, IsIn, IsInUnion}
 use Rattle.geo_core.specs.declared.plane.Cell.{Cell}
 use Rattle.geo_core.specs.declared.plane.Rect.{Rect}
-use Rattle.skyline_runs.specs.inside.Skylines.{GainsCommon, IsActiveIn, IsActiveOver, IsBelow, IsCommonFrom, IsSkyline, IsUnder}
+use Rattle.skyline_runs.specs.inside.Skylines.{GainsCommon, HaveSides, IsActiveIn, IsActiveOver, IsBelow, IsCommonFrom, IsSkyline, IsUnder}
 use Rattle.skyline_runs.specs.declared.skyline.Skyline.{Skyline}
 use Rattle.skyline_runs.proofs.Primitives.{over_column}
 use Rattle.fault_model.proofs.UnionLaws.{union_push}
@@ -25,6 +25,77 @@ common_level active rect part low same =
     let d = back.up.from in
     omega (arith, ints)
 
+corner : (rect : Rect) → Has rect (record { i = rect.x0; j = rect.y0 })
+corner rect = let some = rect.across.some in let up = rect.up.some in record {
+  across = record { from = omega (arith, ints); before = some };
+  up = record { from = omega (arith, ints); before = up };
+}
+
+-- what two rectangles have in common begins in the first column of one of the two
+common_left : (a b part : Rect) (xs : List ℤ) → ((c : Cell) → Has part c ↔ (Has a c × Has b c)) → Contains xs a.x0
+    → Contains xs b.x0 → Contains xs part.x0
+common_left a b part xs same in_a in_b =
+    let both = (same (record { i = part.x0; j = part.y0 })).0 (corner part) in
+    let l = both.0.across.from in let m = both.1.across.from in let p = both.0.across.before in let q = both.1.across.before in
+    by_lt_z a.x0 b.x0
+    (λ less.
+    let from_a : Has a (record { i = b.x0; j = part.y0 }) = record {
+      across = record { from = omega (arith, ints); before = omega (arith, ints) };
+      up = both.0.up;
+    } in
+    let from_b : Has b (record { i = b.x0; j = part.y0 }) = record {
+      across = record { from = omega (arith, ints); before = omega (arith, ints) };
+      up = both.1.up;
+    } in
+    let back = ((same (record { i = b.x0; j = part.y0 })).1 (from_a, from_b)).across.from in
+    let e : b.x0 ≡ part.x0 = omega (arith, ints) in subst (Contains xs) e in_b)
+    (λ up.
+    let from_a : Has a (record { i = a.x0; j = part.y0 }) = record {
+      across = record { from = omega (arith, ints); before = omega (arith, ints) };
+      up = both.0.up;
+    } in
+    let from_b : Has b (record { i = a.x0; j = part.y0 }) = record {
+      across = record { from = omega (arith, ints); before = omega (arith, ints) };
+      up = both.1.up;
+    } in
+    let back = ((same (record { i = a.x0; j = part.y0 })).1 (from_a, from_b)).across.from in
+    let e : a.x0 ≡ part.x0 = omega (arith, ints) in subst (Contains xs) e in_a)
+
+-- the part ends no farther to the right than a rectangle that has it
+ends_within : (a part : Rect) → ((c : Cell) → Has part c → Has a c) → part.x1 ≤ℤ a.x1
+ends_within a part within =
+    let p = (within (record { i = part.x0; j = part.y0 }) (corner part)).across.before in let rows = (corner part).up in
+    by_lt_z a.x1 part.x1
+    (λ less.
+    let c : Has part (record { i = a.x1; j = part.y0 }) = record {
+      across = record { from = omega (arith, ints); before = less };
+      up = rows;
+    } in
+    let q = (within (record { i = a.x1; j = part.y0 }) c).across.before in absurd (omega (arith, ints)))
+    (λ up. up)
+
+-- and it ends behind the last column of one of the two
+common_right : (a b part : Rect) (xs : List ℤ) → ((c : Cell) → Has part c ↔ (Has a c × Has b c)) → Contains xs a.x1
+    → Contains xs b.x1 → Contains xs part.x1
+common_right a b part xs same in_a in_b =
+    let both = (same (record { i = part.x0; j = part.y0 })).0 (corner part) in let some = part.across.some in
+    let l = both.0.across.from in let m = both.1.across.from in
+    let before_a = ends_within a part (λ c h. ((same c).0 h).0) in let before_b = ends_within b part (λ c h. ((same c).0 h).1) in
+    by_lt_z part.x1 a.x1
+    (λ p. by_lt_z part.x1 b.x1
+    (λ q.
+    let from_a : Has a (record { i = part.x1; j = part.y0 }) = record {
+      across = record { from = omega (arith, ints); before = p };
+      up = both.0.up;
+    } in
+    let from_b : Has b (record { i = part.x1; j = part.y0 }) = record {
+      across = record { from = omega (arith, ints); before = q };
+      up = both.1.up;
+    } in
+    let back = ((same (record { i = part.x1; j = part.y0 })).1 (from_a, from_b)).across.before in absurd (omega (arith, ints)))
+    (λ q. let e : b.x1 ≡ part.x1 = omega (arith, ints) in subst (Contains xs) e in_b))
+    (λ p. let e : a.x1 ≡ part.x1 = omega (arith, ints) in subst (Contains xs) e in_a)
+
 pub common_gained : (old new : List Rect) (active rect part : Rect) → active.y0 ≤ℤ rect.y0 → ((c : Cell) → Has part c ↔ (Has active c × Has rect c)) → new ≡ old ++ part ∷ []
     → GainsCommon old new active rect
 common_gained old new active rect part low same more = record {
@@ -33,6 +104,10 @@ common_gained old new active rect part low same more = record {
     λ u. elim ((union_push c old part).0 (subst (λ (ps : List Rect). IsInUnion ps c) more u)) [ inl v ↦ inl v | inr h ↦ inr ((same c).0 h) ],
     λ k. subst (λ (ps : List Rect). IsInUnion ps c) (sym more) ((union_push c old part).1 (elim k [ inl v ↦ inl v | inr h ↦ inr ((same c).1 h) ])),
   );
+  sides = λ xs all a b d e. subst (λ (ps : List Rect). HaveSides xs ps) (sym more)
+      (All-push (λ (p : Rect). Contains xs p.x0 × Contains xs p.x1) old part all
+      (common_left active rect part xs same a d, common_right active rect part xs same b e));
+  one = let long = ap (λ (ps : List Rect). length ps) more in let push = length-append old (part ∷ []) in omega arith;
 }
 
 -- of the cells of the rectangle the skyline has those under active rectangles alone

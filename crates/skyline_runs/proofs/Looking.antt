@@ -1,6 +1,6 @@
 -- how many active rectangles are looked at: each begins at another column of a list
-use Rattle.std.proofs.Common.{ℕ, ℤ, suc, List, [], ◌∷◌, ◌+◌, ◌-◌, ◌*◌, ◌<◌, ◌≤◌, ◌≡◌, ◌∙◌, ◌≤ℤ◌, ◌<ℤ◌, cond, length, add-one, ap, sym, subst, inl, inr, arith, Contains}
-use Rattle.std.proofs.Math.Nat.{mul-le-mul_right, suc-mul}
+use Rattle.std.proofs.Common.{ℕ, ℤ, suc, List, [], ◌∷◌, ◌+◌, ◌*◌, ◌<◌, ◌≤◌, ◌≡◌, ◌∙◌, ◌≤ℤ◌, ◌<ℤ◌, cond, length, add-one, ap, sym, subst, inl, inr, arith, Contains}
+use Rattle.std.proofs.Math.Nat.{mul_comm, mul-le-mul_right, suc-mul}
 use Rattle.lists.proofs.Words.{ints, le_z}
 use Rattle.lists.proofs.Containing.{Contains-cons_cases, Contains-head, Contains-none, Contains-tail}
 use Rattle.geo_core.specs.declared.plane.Cell.{Cell}
@@ -80,12 +80,31 @@ none_active s xs none = record { begins = λ q at. absurd (empty q at); ends = �
         has = record { across = record { from = omega (arith, ints); before = some }; up = record { from = omega (arith, ints); before = rows } };
       })
 
+-- ---- looks for some rectangles
+
+-- where each takes no more than k
+pub looks_each : (i k so_far looks more : ℕ) → so_far ≤ i * k → looks ≤ k → more ≤ so_far + looks → more ≤ (i + 1) * k
+looks_each i k so_far looks more few one sum =
+    let one_more : (i + 1) * k ≡ i * k + k = ap (λ (m : ℕ). m * k) (add-one i) ∙ suc-mul i k in
+    subst (λ (m : ℕ). more ≤ m) (sym one_more) (omega arith)
+
+-- of the first skyline, for the parts by the second one, and for the rectangle itself
+pub looks_both : (n parts met over looks sum : ℕ) → met ≤ n → parts ≤ n → over ≤ parts * (n + 1) → looks ≤ n + 1
+    → sum ≤ looks + met + over → sum ≤ (n + 1) * (n + 2)
+looks_both n parts met over looks sum few_met few_parts few_over few all =
+    let most : parts * (n + 1) ≤ n * (n + 1) = mul-le-mul_right {m = parts} {n = n} (n + 1) few_parts in
+    let two : (n + 2) * (n + 1) ≡ n * (n + 1) + (n + 1) + (n + 1) =
+    ap (λ (m : ℕ). m * (n + 1)) (n_and_two n) ∙ suc-mul (suc n) (n + 1) ∙ ap (λ (m : ℕ). m + (n + 1)) (suc-mul n (n + 1)) in
+    subst (λ (m : ℕ). sum ≤ m) (mul_comm (n + 2) (n + 1)) (omega arith) where
+      n_and_two : (n : ℕ) → n + 2 ≡ suc (suc n)
+      n_and_two n = omega arith
+
 -- ---- looks that are left
 
-pub looks_more : (i k left looks initial : ℕ) → initial ≤ left + i * k → looks ≤ k → looks ≤ left → initial ≤ (left - looks) + (i + 1) * k
-looks_more i k left looks initial so_far few within =
+pub looks_more : (i k left rest looks initial : ℕ) → initial ≤ left + i * k → looks ≤ k → rest + looks ≡ left → initial ≤ rest + (i + 1) * k
+looks_more i k left rest looks initial so_far few taken =
     let one : (i + 1) * k ≡ i * k + k = ap (λ (m : ℕ). m * k) (add-one i) ∙ suc-mul i k in
-    subst (λ (m : ℕ). initial ≤ (left - looks) + m) (sym one) (omega arith)
+    subst (λ (m : ℕ). initial ≤ rest + m) (sym one) (omega arith)
 
 pub looks_over : (i n k left looks initial : ℕ) → initial ≤ left + i * k → looks ≤ k → left < looks → i < n → initial < n * k
 looks_over i n k left looks initial so_far few over small =

@@ -1,13 +1,13 @@
 -- two skylines: the one has the cells of the rectangles so far, the other one those in two of them
-use Rattle.std.proofs.Common.{List, ap, arith, get_or, inl, inr, length, subst, take, take_all, ℕ, ◌+◌, ◌<◌, ◌≡◌, ◌≤◌, ◌⊎◌, Some, slice_get, ℤ, ◌↔◌}
-use Rattle.lists.proofs.Words.{ints, get_or_from_slice_get, slice_get_within, IsPermutation}
+use Rattle.std.proofs.Common.{List, get_or, inl, inr, length, subst, take, take_all, ℕ, ◌+◌, ◌<◌, ◌≡◌, ◌≤◌, ◌⊎◌, Some, slice_get, ℤ, ◌↔◌}
+use Rattle.lists.proofs.Words.{IsPermutation}
 use Rattle.geo_core.specs.Plane.{Has, IsInUnion}
 use Rattle.geo_core.specs.declared.plane.Cell.{Cell}
 use Rattle.geo_core.specs.declared.plane.Rect.{Rect}
 use Rattle.skyline_runs.specs.Runs.{AreByRow, HaveCellsOfTwo, HaveSameCells, IsInTwo}
 use Rattle.skyline_runs.specs.inside.Skylines.{IsBelow, IsSkyline, IsUnder}
 use Rattle.skyline_runs.specs.declared.skyline.Skyline.{Skyline}
-use Rattle.skyline_runs.proofs.Covering.{IsUnionTo, below_higher, union_all}
+use Rattle.skyline_runs.proofs.Covering.{IsUnionTo, below_next, union_all, union_next}
 use Rattle.skyline_runs.proofs.TwiceSteps.{two_more, two_permutation}
 use Rattle.skyline_runs.proofs.laws.DepthLaws.{two_none}
 use Rattle.fault_model.proofs.UnionLaws.{union_permutation}
@@ -27,27 +27,34 @@ twice_begun once twice rects union sound below none = record {
   below = λ k rect up at. below rect.y0;
 }
 
-pub twice_next : (once more twice new : Skyline) (rects : List Rect) (i : ℕ) (x : Rect) (parts : List Rect) → AreByRow rects → i < length rects → x ≡ get_or rects i x → IsTwiceTo once twice rects i
-    → IsUnionTo more rects (i + 1) → ((c : Cell) → IsInUnion parts c ↔ (IsUnder once c × Has x c)) → IsSkyline new → IsBelow x.y0 new
-    → ((c : Cell) → IsUnder new c ↔ (IsUnder twice c ⊎ IsInUnion parts c)) → IsTwiceTo more new rects (i + 1)
-twice_next once more twice new rects i x parts sorted small is h union common sound below cells = record {
-  union = union;
+-- the second skyline gains what the rectangle has in common with the first one
+pub gains_common : (once twice new : Skyline) (rect : Rect) (parts : List Rect) → ((c : Cell) → IsInUnion parts c ↔ (IsUnder once c × Has rect c))
+    → ((c : Cell) → IsUnder new c ↔ (IsUnder twice c ⊎ IsInUnion parts c)) → (c : Cell)
+    → IsUnder new c ↔ (IsUnder twice c ⊎ (IsUnder once c × Has rect c))
+gains_common once twice new rect parts common cells c = (
+  λ u. elim ((cells c).0 u) [ inl v ↦ inl v | inr p ↦ inr ((common c).0 p) ],
+  λ k. (cells c).1 (elim k [ inl v ↦ inl v | inr both ↦ inr ((common c).1 both) ]),
+)
+
+pub twice_next : (once more twice new : Skyline) (rects : List Rect) (i : ℕ) (x : Rect) → AreByRow rects
+    → i < length rects → x ≡ get_or rects i x → IsTwiceTo once twice rects i
+    → IsSkyline more → IsBelow x.y0 more → ((c : Cell) → IsUnder more c ↔ (IsUnder once c ⊎ Has x c))
+    → IsSkyline new → IsBelow x.y0 new
+    → ((c : Cell) → IsUnder new c ↔ (IsUnder twice c ⊎ (IsUnder once c × Has x c))) → IsTwiceTo more new rects (i + 1)
+twice_next once more twice new rects i x sorted small is h more_sound more_below more_cells sound below cells = record {
+  union = union_next once more rects i x sorted small is h.union more_sound more_below more_cells;
   sound = sound;
   cells = λ c. (
     λ u. (two_more c rects i x small is).1 (elim ((cells c).0 u) [
       | inl v ↦ inl ((h.cells c).0 v)
-      | inr p ↦ let both = (common c).0 p in inr ((h.union.cells c).0 both.0, both.1)
+      | inr both ↦ inr ((h.union.cells c).0 both.0, both.1)
     ]),
     λ t. (cells c).1 (elim ((two_more c rects i x small is).0 t) [
       | inl v ↦ inl ((h.cells c).1 v)
-      | inr both ↦ inr ((common c).1 ((h.union.cells c).1 both.0, both.1))
+      | inr both ↦ inr ((h.union.cells c).1 both.0, both.1)
     ]),
   );
-  below = λ k rect up at.
-      let a = sorted i k x (omega arith) (slice_get_within rects k rect at) in
-      let b : x.y0 ≡ (get_or rects i x).y0 = ap (λ (r : Rect). r.y0) is in
-      let d : (get_or rects k x).y0 ≡ rect.y0 = ap (λ (r : Rect). r.y0) (get_or_from_slice_get rects k rect x at) in
-      below_higher x.y0 rect.y0 new (omega (arith, ints)) below;
+  below = λ k rect up at. below_next rects i k x rect new sorted small is up at below;
 }
 
 -- ---- in the order of the list that was given

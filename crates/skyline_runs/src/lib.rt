@@ -9,4 +9,4 @@ mod skyline;
 
 pub use geo_core::Rect;
 pub use lists::NoMemory;
-pub use runs::{merge_rects, runs_within, twice_runs, union_runs};
+pub use runs::{merge_rects, runs_within, twice_runs, twice_runs_within, union_runs};

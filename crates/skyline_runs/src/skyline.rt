@@ -1,4 +1,4 @@
-ghost use Rattle.std.specs.Prelude.{ℤ, List, length, All, Contains, IfOk, IfSome, IfNone, OnOk, ◌+◌, ◌<◌, ◌≤◌, ◌≤ℤ◌, ◌<ℤ◌, ◌≡◌, ◌↔◌, ◌⊎◌};
+ghost use Rattle.std.specs.Prelude.{ℤ, List, length, All, Contains, IfOk, IfSome, IfNone, OnOk, ◌+◌, ◌*◌, ◌<◌, ◌≤◌, ◌≤ℤ◌, ◌<ℤ◌, ◌≡◌, ◌↔◌, ◌⊎◌};
 ghost use Rattle.skyline_runs.specs.inside.Skylines.{GainsCommon};
 
 use geo_core::{Rect, clip};
@@ -23,7 +23,8 @@ impl Skyline {
     ghost use Rattle.geo_core.specs.declared.plane.Cell.{Cell};
     ghost use Rattle.geo_core.specs.declared.plane.Rect.{Rect};
     ghost use Rattle.skyline_runs.specs.Runs.{AreApart};
-    ghost use Rattle.skyline_runs.specs.inside.Skylines.{HasSides, IsActiveIn, IsActiveOver, IsAddedTo, IsBelow, IsDoneIn, IsNextActive, IsSkyline, IsUnder};
+    ghost use Rattle.skyline_runs.specs.inside.Skylines.{HasSides, HaveSides, IsActiveIn, IsActiveOver, IsAddedTo, IsBelow};
+    ghost use Rattle.skyline_runs.specs.inside.Skylines.{IsDoneIn, IsNextActive, IsSkyline, IsUnder};
     ghost use Rattle.skyline_runs.specs.inside.Skylines.{Activates, Finishes, FinishesLower, HasRoom, Joins, KeepsRest, TakesOut};
 
     /// Nothing is covered.
@@ -84,40 +85,51 @@ impl Skyline {
         Ok((end, met))
     }
 
-    /// Adds the cells of some rectangles that begin in the lowest row of this one.
-    pub fn add_all(&mut self, parts: &[Rect], rect: Rect) -> Result<(), NoMemory>
+    /// Adds the cells of some rectangles that begin in the lowest row of this one, and tells how many looks at active
+    /// rectangles this took.
+    pub fn add_all(&mut self, parts: &[Rect], rect: Rect) -> Result<usize, NoMemory>
         requires sound { IsSkyline self.old }
         requires below { IsBelow rect.y0 self.old }
         requires level { All (λ part. part.y0 ≡ rect.y0) parts.now }
         ensures sound { OnOk result (IsSkyline self.new) }
         ensures below { OnOk result (IsBelow rect.y0 self.new) }
         ensures cells { OnOk result ((c : Cell) → IsUnder self.new c ↔ (IsUnder self.old c ⊎ IsInUnion parts.now c)) }
+        ensures sides { OnOk result ((xs : List ℤ) → HasSides xs self.old → HaveSides xs parts.now → HasSides xs self.new) }
+        ensures few { IfOk result (λ looks. (xs : List ℤ) → HasSides xs self.old → HaveSides xs parts.now →
+            looks ≤ length parts.now * (length xs + 1)) }
     {
+        let mut looks: usize = 0;
         for part in parts {
-            self.add(*part)?;
+            looks = looks.saturating_add(self.add(*part)?);
         }
-        Ok(())
+        Ok(looks)
     }
 
     /// What a rectangle that begins no lower than those before it has in common with them: rectangles that begin where
-    /// it begins.
-    pub fn common(&self, alloc: Global, rect: Rect) -> Result<Vec<Rect>, NoMemory>
+    /// it begins. Tells also how many active rectangles were looked at: each part is found at another one of them.
+    pub fn common(&self, alloc: Global, rect: Rect) -> Result<(Vec<Rect>, usize), NoMemory>
         requires sound { IsSkyline self.now }
         requires below { IsBelow rect.y0 self.now }
-        ensures level { IfOk result (λ parts. All (λ part. part.y0 ≡ rect.y0) parts.items) }
-        ensures cells { IfOk result (λ parts. (c : Cell) →
-            IsInUnion parts.items c ↔ (IsUnder self.now c × Has rect c)) }
+        ensures level { IfOk result (λ found. All (λ part. part.y0 ≡ rect.y0) found.0.items) }
+        ensures cells { IfOk result (λ found. (c : Cell) →
+            IsInUnion found.0.items c ↔ (IsUnder self.now c × Has rect c)) }
+        ensures sides { IfOk result (λ found. (xs : List ℤ) → HasSides xs self.now → Contains xs rect.x0 →
+            Contains xs rect.x1 → HaveSides xs found.0.items) }
+        ensures few { IfOk result (λ found. (xs : List ℤ) → HasSides xs self.now → length found.0.items ≤ length xs) }
+        ensures looks { IfOk result (λ found. (xs : List ℤ) → HasSides xs self.now → found.1 ≤ length xs) }
     {
         let mut parts = Vec::new(alloc);
+        let mut met: usize = 0;
         let mut column = rect.x1;
         while rect.x0 < column {
             let Some(active) = self.last_before(column) else {
-                return Ok(parts);
+                return Ok((parts, met));
             };
             push_common(&mut parts, active, rect)?;
             column = active.x0;
+            met = met.saturating_add(1);
         }
-        Ok(parts)
+        Ok((parts, met))
     }
 
     /// All of the rectangles.

@@ -1,5 +1,5 @@
 -- skylines: finished rectangles, and active ones of which at most one lies over each column
-use Rattle.std.specs.Prelude.{ℤ, List, All, Contains, Some, ◌++◌, ◌∷◌, [], ◌≤ℤ◌, ◌<ℤ◌, ◌≡◌, ◌⊎◌, ◌↔◌}
+use Rattle.std.specs.Prelude.{ℤ, List, All, Contains, Some, length, ◌+◌, ◌≤◌, ◌++◌, ◌∷◌, [], ◌≤ℤ◌, ◌<ℤ◌, ◌≡◌, ◌⊎◌, ◌↔◌}
 use Rattle.std.specs.BTreeMap.{get}
 use Rattle.std.specs.Ordering.{int_cmp}
 use Rattle.geo_core.specs.Plane.{Has, IsIn, IsInUnion}
@@ -54,6 +54,10 @@ pub record HasRoom (skyline : Skyline) (low high : ℤ) (rect : Rect) : Type 0 w
 pub record HasSides (xs : List ℤ) (skyline : Skyline) : Type 0 where
   pub begins : (rect : Rect) → IsActiveIn skyline rect → Contains xs rect.x0
   pub ends : (rect : Rect) → IsActiveIn skyline rect → Contains xs rect.x1
+
+-- each of the rectangles begins and ends at one of these columns
+abbrev pub HaveSides : List ℤ → List Rect → Type 0
+HaveSides xs rects = All (λ rect. Contains xs rect.x0 × Contains xs rect.x1) rects
 
 -- the part of the rectangle in these columns is opened, and nothing else changes but how active rectangles are joined
 pub record Activates (old new : Skyline) (low high : ℤ) (rect : Rect) : Type 0 where
@@ -147,6 +151,9 @@ pub record FinishesLower (old new : Skyline) (active rect : Rect) (end : ℤ) : 
 pub record GainsCommon (old new : List Rect) (active rect : Rect) : Type 0 where
   pub level : All (λ part. part.y0 ≡ rect.y0) old → All (λ part. part.y0 ≡ rect.y0) new
   pub cells : (c : Cell) → IsInUnion new c ↔ (IsInUnion old c ⊎ (Has active c × Has rect c))
+  pub sides : (xs : List ℤ) → HaveSides xs old → Contains xs active.x0 → Contains xs active.x1 → Contains xs rect.x0 →
+      Contains xs rect.x1 → HaveSides xs new
+  pub one : length new ≤ length old + 1
 
 -- of the cells of the rectangle that the skyline has, those in columns from `column` on lie in the parts
 pub record IsCommonFrom (skyline : Skyline) (rect : Rect) (column : ℤ) (parts : List Rect) : Type 0 where

@@ -26,14 +26,15 @@ loop-rect-preserved c =
     let items = c.as_slice-rect-items.result.now in let rect = c.rect-item.result in
     let among = Contains-slice_get items c.loop-rect.rect-index rect (slice_get_read _ _ _ _ refl c.loop-rect-test.true c.rect-item.is) in
     let looks = c.in_ok-looks.ensures.few (sides_of items) c.loop-rect.invariant.sides (has_left items rect among) (has_right items rect among) in
-    let two = two_each items in let within = c.if-looks-left.false in
+    let two = two_each items in let taken = c.if-not-take_looks.ensures.taken refl in
     record {
       cells = union_next c.loop-rect.skyline c.add.new.self items c.loop-rect.rect-index rect
           (subst AreByRow (sym c.as_slice-rect-items.ensures.value) c.in_ok-sorted.ensures.ordered) c.loop-rect-test.true c.rect-item.is
           c.loop-rect.invariant.cells c.in_ok-looks.ensures.sound c.in_ok-looks.ensures.below c.in_ok-looks.ensures.cells;
       looks = let so_far = c.loop-rect.invariant.looks in let some = c.in_ok-looks.ensures.looks in omega arith;
       sides = c.in_ok-looks.ensures.sides (sides_of items) c.loop-rect.invariant.sides (has_left items rect among) (has_right items rect among);
-      few = looks_more c.loop-rect.rect-index (2 * length items + 1) c.loop-rect.left c.in_ok-looks.looks _ c.loop-rect.invariant.few (omega arith) (omega arith);
+      few = looks_more c.loop-rect.rect-index (2 * length items + 1) c.loop-rect.left _ c.in_ok-looks.looks _
+          c.loop-rect.invariant.few (omega arith) taken;
     }
 
 pub returns-clause-same : goal.returns-clause-same
@@ -49,14 +50,15 @@ returns-clause-taken c =
     let long = length_permutation c.args.rects.now c.as_slice-rect-items.result.now moved in
     let past = c.loop-rect-test.false in omega arith
 
-pub returns-then-looks-left-clause-enough : goal.returns-then-looks-left-clause-enough
-returns-then-looks-left-clause-enough c =
+pub returns-then-not-take_looks-clause-enough : goal.returns-then-not-take_looks-clause-enough
+returns-then-not-take_looks-clause-enough c =
     let moved = subst (λ (xs : List Rect). IsPermutation c.args.rects.now xs) (sym c.as_slice-rect-items.ensures.value) c.in_ok-sorted.ensures.same in
     let long = length_permutation c.args.rects.now c.as_slice-rect-items.result.now moved in
     let items = c.as_slice-rect-items.result.now in let rect = c.rect-item.result in
     let among = Contains-slice_get items c.loop-rect.rect-index rect (slice_get_read _ _ _ _ refl c.loop-rect-test.true c.rect-item.is) in
     let looks = c.in_ok-looks.ensures.few (sides_of items) c.loop-rect.invariant.sides (has_left items rect among) (has_right items rect among) in
-    let two = two_each items in let over = c.if-looks-left.true in
+    let two = two_each items in let over = c.if-not-take_looks.ensures.over refl in
     let as_many : length items ≡ length c.args.rects.now = omega arith in
     subst (λ (n : ℕ). c.args.left.now < n * (2 * n + 1)) as_many
-    (looks_over c.loop-rect.rect-index (length items) (2 * length items + 1) c.loop-rect.left c.in_ok-looks.looks c.args.left.now c.loop-rect.invariant.few (omega arith) (omega arith) (omega arith))
+    (looks_over c.loop-rect.rect-index (length items) (2 * length items + 1) c.loop-rect.left c.in_ok-looks.looks c.args.left.now
+    c.loop-rect.invariant.few (omega arith) over (omega arith))

@@ -1,11 +1,11 @@
 use Rattle.std.proofs.Common.{Global, Vec, arith, refl, subst, sym, List, ◌↔◌}
 use Rattle.lists.proofs.Words.{IfOk-weaker, IsPermutation, slice_get_read}
-use Rattle.geo_core.specs.Plane.{Has, IsInUnion}
+use Rattle.geo_core.specs.Plane.{IsInUnion}
 use Rattle.geo_core.specs.declared.plane.Cell.{Cell}
 use Rattle.geo_core.specs.declared.plane.Rect.{Rect}
 use Rattle.skyline_runs.specs.Runs.{AreByRow, HaveCellsOfTwo}
 use Rattle.skyline_runs.specs.inside.Skylines.{IsUnder}
-use Rattle.skyline_runs.proofs.Covering.{union_begun, union_next}
+use Rattle.skyline_runs.proofs.Covering.{union_begun}
 use Rattle.skyline_runs.proofs.TwiceCovering.{cells_of_two, twice_begun, twice_next}
 use Rattle.skyline_runs.proofs.runs.twice_runs.Goals as goal
 
@@ -16,13 +16,11 @@ loop-rect-init c = twice_begun c.new-once.result c.new-twice.result c.as_slice-r
 
 pub loop-rect-preserved : goal.loop-rect-preserved
 loop-rect-preserved c =
-    let sorted = subst AreByRow (sym c.as_slice-rect-items.ensures.value) c.in_ok-sorted.ensures.ordered in
-    twice_next c.loop-rect.once c.add.new.self c.loop-rect.twice c.add_all.new.self c.as_slice-rect-items.result.now c.loop-rect.rect-index c.rect-item.result c.as_slice.result.now
-    sorted c.loop-rect-test.true c.rect-item.is c.loop-rect.invariant
-    (union_next c.loop-rect.once c.add.new.self c.as_slice-rect-items.result.now c.loop-rect.rect-index c.rect-item.result sorted c.loop-rect-test.true c.rect-item.is
-    c.loop-rect.invariant.union c.in_ok-add.ensures.sound c.in_ok-add.ensures.below c.in_ok-add.ensures.cells)
-    (λ cell. subst (λ (ps : List Rect). IsInUnion ps cell ↔ (IsUnder c.loop-rect.once cell × Has c.rect-item.result cell)) (sym c.as_slice.ensures.value) (c.in_ok-parts.ensures.cells cell))
-    c.in_ok-add_all.ensures.sound c.in_ok-add_all.ensures.below c.in_ok-add_all.ensures.cells
+    let both = c.in_ok-add_to_both.ensures in
+    twice_next c.loop-rect.once c.add_to_both.new.once c.loop-rect.twice c.add_to_both.new.twice
+    c.as_slice-rect-items.result.now c.loop-rect.rect-index c.rect-item.result
+    (subst AreByRow (sym c.as_slice-rect-items.ensures.value) c.in_ok-sorted.ensures.ordered) c.loop-rect-test.true c.rect-item.is
+    c.loop-rect.invariant both.once_sound both.once_below both.once_cells both.twice_sound both.twice_below both.twice_cells
 
 pub returns-clause-twice : goal.returns-clause-twice
 returns-clause-twice c =
@@ -33,28 +31,18 @@ returns-clause-twice c =
     c.loop-rect.rect-index c.loop-rect-test.false moved c.loop-rect.invariant cells)
     c.finish.ensures.cells
 
-pub common-requires-clause-sound : goal.common-requires-clause-sound
-common-requires-clause-sound c = c.loop-rect.invariant.union.sound
+pub add_to_both-requires-clause-once_sound : goal.add_to_both-requires-clause-once_sound
+add_to_both-requires-clause-once_sound c = c.loop-rect.invariant.union.sound
 
-pub common-requires-clause-below : goal.common-requires-clause-below
-common-requires-clause-below c = c.loop-rect.invariant.union.below c.loop-rect.rect-index c.rect-item.result (omega arith)
+pub add_to_both-requires-clause-once_below : goal.add_to_both-requires-clause-once_below
+add_to_both-requires-clause-once_below c = c.loop-rect.invariant.union.below c.loop-rect.rect-index c.rect-item.result (omega arith)
     (slice_get_read _ _ _ _ refl c.loop-rect-test.true c.rect-item.is)
 
-pub add_all-requires-clause-sound : goal.add_all-requires-clause-sound
-add_all-requires-clause-sound c = c.loop-rect.invariant.sound
+pub add_to_both-requires-clause-twice_sound : goal.add_to_both-requires-clause-twice_sound
+add_to_both-requires-clause-twice_sound c = c.loop-rect.invariant.sound
 
-pub add_all-requires-clause-below : goal.add_all-requires-clause-below
-add_all-requires-clause-below c = c.loop-rect.invariant.below c.loop-rect.rect-index c.rect-item.result (omega arith)
-    (slice_get_read _ _ _ _ refl c.loop-rect-test.true c.rect-item.is)
-
-pub add_all-requires-clause-level : goal.add_all-requires-clause-level
-add_all-requires-clause-level c = rw c.as_slice.ensures.value c.in_ok-parts.ensures.level
-
-pub add-requires-clause-sound : goal.add-requires-clause-sound
-add-requires-clause-sound c = c.loop-rect.invariant.union.sound
-
-pub add-requires-clause-below : goal.add-requires-clause-below
-add-requires-clause-below c = c.loop-rect.invariant.union.below c.loop-rect.rect-index c.rect-item.result (omega arith)
+pub add_to_both-requires-clause-twice_below : goal.add_to_both-requires-clause-twice_below
+add_to_both-requires-clause-twice_below c = c.loop-rect.invariant.below c.loop-rect.rect-index c.rect-item.result (omega arith)
     (slice_get_read _ _ _ _ refl c.loop-rect-test.true c.rect-item.is)
 
 pub finish-requires : goal.finish-requires

@@ -1,0 +1,2 @@
+-- what the proofs of other crates may cite
+pub mod ApartLaws
