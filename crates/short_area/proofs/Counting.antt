@@ -7,16 +7,14 @@ use Rattle.geo_core.specs.declared.plane.Rect.{Rect}
 use Rattle.fault_model.specs.FaultNames.{Tally, none, hit, miss, cells_of}
 use Rattle.fault_model.proofs.CellLaws.{Contains-cells_of}
 use Rattle.fault_model.proofs.TallyLaws.{Tally-none, Tally-same, Tally-same_all}
-use Rattle.skyline_runs.specs.Runs.{IsInTwo}
 use Rattle.union_area.specs.WindowParts.{AreParts}
 use Rattle.union_area.proofs.laws.PartLaws.{few_tallied, parts_tally, whole_tally}
 use Rattle.short_area.specs.Labels.{TouchesTwoLabels}
-use Rattle.short_area.specs.inside.LabelRuns.{AreRunsOf}
 use Rattle.short_area.specs.Zones.{AreAlikeIn, AreZonesOf, IsCountOf, IsInTwoLabels}
-use Rattle.short_area.specs.inside.Zones.{AreSplit, HaveNoThird, HaveSameTwo, IsWholeIn}
+use Rattle.short_area.specs.inside.Zones.{AreSplit, HaveNoThird}
 use Rattle.fault_model.proofs.UnionLaws.{union_append}
 use Rattle.short_area.proofs.Touching.{two_touched}
-use Rattle.short_area.proofs.ZoneLaws.{beside_whole, both_of_two, two_alike}
+use Rattle.short_area.proofs.ZoneLaws.{both_of_two, two_alike}
 
 -- ---- tallies of two properties
 
@@ -52,37 +50,18 @@ tally_of_both P Q R S cells m n k either both s t u =
 
 -- ---- counts
 
-pub count_of_none : (zones : List Labelled) (window : Rect) → ((c : Cell) → IsInTwoLabels zones c → ⊥) → IsCountOf zones window 0
-count_of_none zones window never = record { tally = Tally-none (cells_of window) (λ c h. never c); small = omega arith }
+pub count_of_none : (zones : List Labelled) (window : Rect) → ((c : Cell) → Has window c → IsInTwoLabels zones c → ⊥) → IsCountOf zones window 0
+count_of_none zones window never = record { tally = Tally-none (cells_of window) (λ c h. never c ((Contains-cells_of window c).0 h)); small = omega arith }
 
-pub count_of_all : (zones : List Labelled) (window : Rect) (one other n : ℕ) → IsWholeIn window zones one → IsWholeIn window zones other → one ≢ other → n ≡ length (cells_of window)
-    → IsCountOf zones window n
-count_of_all zones window one other n h k different e =
-    let in_two : (c : Cell) → Has window c → IsInTwoLabels zones c = λ c has. record { one = one; other = other; in_one = h c has; in_other = k c has; different = different } in
-    let whole = subst (Tally (IsInTwoLabels zones) (cells_of window)) (sym e) (whole_tally window in_two) in
+pub count_of_all : (zones : List Labelled) (window : Rect) (n : ℕ) → ((c : Cell) → Has window c → IsInTwoLabels zones c) → n ≡ length (cells_of window) → IsCountOf zones window n
+count_of_all zones window n all e =
+    let whole = subst (Tally (IsInTwoLabels zones) (cells_of window)) (sym e) (whole_tally window all) in
     record { tally = whole; small = few_tallied window n whole }
 
 -- what is counted where the same cells are
-pub count_by : {E : Type 0} (P : Cell → Type 0) (zones : List Labelled) (window : Rect) (result : Result ℕ E) → ((c : Cell) → Has window c → P c ↔ IsInTwoLabels zones c)
-    → IfOk result (λ (n : ℕ). Tally P (cells_of window) n) → IfOk result (λ (n : ℕ). n < 2 ^ 63) → IfOk result (λ (n : ℕ). IsCountOf zones window n)
-count_by P zones window (Ok n) same tally small = record { tally = Tally-same (cells_of window) n (λ c h. same c ((Contains-cells_of window c).0 h)) tally; small = small }
-count_by P zones window (Err e) same tally small = tt
-
-pub count_beside : {E : Type 0} (zones : List Labelled) (window : Rect) (label : ℕ) (own others : List Rect) (result : Result ℕ E) → IsWholeIn window zones label → AreSplit zones label own others
-    → IfOk result (λ (n : ℕ). Tally (IsInUnion others) (cells_of window) n) → IfOk result (λ (n : ℕ). n < 2 ^ 63) → IfOk result (λ (n : ℕ). IsCountOf zones window n)
-count_beside zones window label own others result whole split = count_by (IsInUnion others) zones window result (λ c at.
-    let beside = beside_whole c zones label (whole c at) in
-    let cells = split.other_cells c in
-    (λ u. beside.0 (cells.0 u), λ t. cells.1 (beside.1 t)))
-
-pub count_by_runs : {E : Type 0} (zones : List Labelled) (window : Rect) (runs : List Rect) (result : Result ℕ E) → AreRunsOf zones runs
-    → IfOk result (λ (n : ℕ). Tally (IsInTwo runs) (cells_of window) n) → IfOk result (λ (n : ℕ). n < 2 ^ 63) → IfOk result (λ (n : ℕ). IsCountOf zones window n)
-count_by_runs zones window runs result h = count_by (IsInTwo runs) zones window result (λ c at. h.twice c)
-
-pub count_by_kept : {E : Type 0} (zones kept : List Labelled) (window : Rect) (result : Result ℕ E) → HaveSameTwo zones kept → IfOk result (λ (n : ℕ). IsCountOf kept window n)
-    → IfOk result (λ (n : ℕ). IsCountOf zones window n)
-count_by_kept zones kept window (Ok n) same count = record { tally = Tally-same_all (cells_of window) n same count.tally; small = count.small }
-count_by_kept zones kept window (Err e) same count = tt
+pub count_alike : (P : Cell → Type 0) (zones : List Labelled) (window : Rect) (n : ℕ) → ((c : Cell) → Has window c → P c ↔ IsInTwoLabels zones c) → Tally P (cells_of window) n → n < 2 ^ 63
+    → IsCountOf zones window n
+count_alike P zones window n same tally small = record { tally = Tally-same (cells_of window) n (λ c h. same c ((Contains-cells_of window c).0 h)) tally; small = small }
 
 pub count_by_zones : {E : Type 0} (pieces zones : List Labelled) (radius : ℕ) (window : Rect) (result : Result ℕ E) → 1 ≤ radius → AreZonesOf pieces radius window zones
     → IfOk result (λ (n : ℕ). IsCountOf zones window n)

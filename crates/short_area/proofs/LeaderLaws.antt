@@ -10,11 +10,11 @@ use Rattle.fault_model.proofs.UnionLaws.{union_append, union_none, union_push}
 use Rattle.union_area.proofs.laws.PartLaws.{few_tallied}
 use Rattle.lists.proofs.Comparing.{equal_or_not}
 use Rattle.skyline_runs.specs.Runs.{IsInTwo}
+use Rattle.joined_rects.proofs.laws.ApartLaws.{two_append}
 use Rattle.short_area.specs.inside.LabelRuns.{AreRunsOf, IsInZone}
 use Rattle.short_area.specs.inside.Leaders.{AreOthers, ArePartsIn, GainsPart, IsBesideRun}
 use Rattle.short_area.specs.Zones.{IsCountOf, IsInLabel, IsInTwoLabels}
-use Rattle.short_area.proofs.Counting.{count_by, tally_of_both}
-use Rattle.short_area.proofs.RunLaws.{two_append}
+use Rattle.short_area.proofs.Counting.{count_alike, tally_of_both}
 use Rattle.short_area.proofs.laws.LabelLaws.{label_more, label_none, label_push}
 
 -- ---- zones of the other labels
@@ -175,6 +175,5 @@ module _ (zones others : List Labelled) (leader : ℕ) (bounds : Rect) (own runs
     ]
   ]
 
-  pub count_by_leader : {E : Type 0} (window : Rect) (result : Result ℕ E) → IfOk result (λ (n : ℕ). Tally (IsBesideRun own runs) (cells_of window) n)
-      → IfOk result (λ (n : ℕ). n < 2 ^ 63) → IfOk result (λ (n : ℕ). IsCountOf zones window n)
-  count_by_leader window result = count_by (IsBesideRun own runs) zones window result (λ c at. (two_labels_beside c, beside_two_labels c))
+  pub count_by_leader : (window : Rect) (n : ℕ) → Tally (IsBesideRun own runs) (cells_of window) n → n < 2 ^ 63 → IsCountOf zones window n
+  count_by_leader window n = count_alike (IsBesideRun own runs) zones window n (λ c at. (two_labels_beside c, beside_two_labels c))

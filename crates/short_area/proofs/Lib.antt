@@ -7,3 +7,4 @@ pub mod LeaderLaws
 pub mod KeptLaws
 pub mod Ordering
 pub mod PlaceLaws
+pub mod ListLaws

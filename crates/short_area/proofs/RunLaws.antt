@@ -1,101 +1,24 @@
 -- runs of each label, label by label
-use Rattle.std.proofs.Common.{ℕ, zero, suc, ◌+◌, ◌<◌, ◌≤◌, ◌≡◌, ◌≢◌, ◌∙◌, refl, sym, ap, subst, List, [], ◌∷◌, ◌++◌, length, take, take_all, map, get_or, inl, inr, ◌⊎◌, ◌↔◌, arith, Some, slice_get, All, AllPairs, append_assoc}
+use Rattle.std.proofs.Common.{ℕ, ◌+◌, ◌<◌, ◌≤◌, ◌≡◌, ◌≢◌, ◌∙◌, refl, sym, ap, subst, List, [], ◌∷◌, ◌++◌, length, take, take_all, map, get_or, inl, inr, ◌⊎◌, ◌↔◌, arith, Some, slice_get, All, AllPairs, append_assoc}
 use Rattle.lists.proofs.Words.{All-append, All-contains, All-nil, All-push, All-weaker, append-nil, map-append, get_or_from_slice_get, slice_get_read, slice_get_within, IsPermutation, IsPermutation-sym, Contains-permutation}
-use Rattle.geo_core.specs.Plane.{Has, HasNumber, IsInUnion}
+use Rattle.geo_core.specs.Plane.{Has, IsInUnion}
 use Rattle.geo_core.specs.declared.plane.Cell.{Cell}
 use Rattle.geo_core.specs.declared.plane.Labelled.{Labelled}
 use Rattle.geo_core.specs.declared.plane.Rect.{Rect}
 use Rattle.lists.proofs.Comparing.{equal_or_not}
-use Rattle.lists.proofs.Containing.{slice_get-front, slice_get-back}
 use Rattle.lists.proofs.Mapping.{Contains-map, Contains-map_from}
 use Rattle.lists.proofs.Reading.{taken_more}
-use Rattle.skyline_runs.specs.Runs.{AreApart, HaveSameCells, IsInTwo}
+use Rattle.skyline_runs.specs.Runs.{AreApart, HaveSameCells}
 use Rattle.skyline_runs.proofs.laws.DepthLaws.{two_none}
+use Rattle.joined_rects.proofs.laws.ApartLaws.{TwoOfBoth, apart_few, two_apart, two_append}
 use Rattle.fault_model.proofs.UnionLaws.{in_union, among_union, union_append, union_none}
 use Rattle.short_area.specs.inside.LabelRuns.{AreRunsOf, AreRunsTo, GainsRuns, IsInZone}
 use Rattle.short_area.specs.Zones.{IsInLabel, IsInTwoLabels}
 use Rattle.short_area.proofs.laws.LabelLaws.{label_append, label_none}
 use Rattle.short_area.proofs.ZoneLaws.{two_alike}
 
--- ---- two lists of rectangles
-
-number_cases : (xs ys : List Rect) (k : ℕ) (r : Rect) → HasNumber (xs ++ ys) k r → HasNumber xs k r ⊎ ((m : ℕ) × (k ≡ length xs + m) × HasNumber ys m r)
-number_cases [] ys k r at = inr (k, omega arith, at)
-number_cases (x ∷ xs) ys zero r at = inl at
-number_cases (x ∷ xs) ys (suc k) r at = elim (number_cases xs ys k r at) [ inl h ↦ inl h | inr h ↦ let e = h.1 in inr (h.0, omega arith, h.2) ]
-
-module _ (c : Cell) (xs ys : List Rect) where
-  -- two rectangles of both lists
-  abbrev TwoOfBoth : Type 0
-  TwoOfBoth = IsInTwo xs c ⊎ (IsInTwo ys c ⊎ (IsInUnion xs c × IsInUnion ys c))
-
-  two_cases : (t : IsInTwo (xs ++ ys) c) → HasNumber xs t.first t.one ⊎ ((m : ℕ) × (t.first ≡ length xs + m) × HasNumber ys m t.one)
-      → HasNumber xs t.second t.other ⊎ ((m : ℕ) × (t.second ≡ length xs + m) × HasNumber ys m t.other) → TwoOfBoth
-  two_cases t (inl p) (inl q) = inl
-      (record { first = t.first; second = t.second; differ = t.differ; one = t.one; other = t.other; one_at = p; other_at = q; one_has = t.one_has; other_has = t.other_has })
-  two_cases t (inl p) (inr q) = inr (inr (record { number = t.first; rect = t.one; at = p; has = t.one_has }, record { number = q.0; rect = t.other; at = q.2; has = t.other_has }))
-  two_cases t (inr p) (inl q) = let e = p.1 in let d = t.differ in let w = slice_get_within xs t.second t.other q in absurd (omega arith)
-  two_cases t (inr p) (inr q) =
-      let e = p.1 in let f = q.1 in let d = t.differ in
-      inr (inl (record { first = p.0; second = q.0; differ = omega arith; one = t.one; other = t.other; one_at = p.2; other_at = q.2; one_has = t.one_has; other_has = t.other_has }))
-
-  two_in_front : IsInTwo xs c → IsInTwo (xs ++ ys) c
-  two_in_front t = record {
-    first = t.first;
-    second = t.second;
-    differ = t.differ;
-    one = t.one;
-    other = t.other;
-    one_at = slice_get-front xs ys t.first t.one t.one_at;
-    other_at = slice_get-front xs ys t.second t.other t.other_at;
-    one_has = t.one_has;
-    other_has = t.other_has;
-  }
-
-  two_behind : IsInTwo ys c → IsInTwo (xs ++ ys) c
-  two_behind t = let d = t.differ in record {
-    first = length xs + t.first;
-    second = length xs + t.second;
-    differ = omega arith;
-    one = t.one;
-    other = t.other;
-    one_at = slice_get-back xs ys t.first ∙ t.one_at;
-    other_at = slice_get-back xs ys t.second ∙ t.other_at;
-    one_has = t.one_has;
-    other_has = t.other_has;
-  }
-
-  one_in_each : IsInUnion xs c × IsInUnion ys c → IsInTwo (xs ++ ys) c
-  one_in_each h = let w = slice_get_within xs h.0.number h.0.rect h.0.at in record {
-    first = h.0.number;
-    second = length xs + h.1.number;
-    differ = omega arith;
-    one = h.0.rect;
-    other = h.1.rect;
-    one_at = slice_get-front xs ys h.0.number h.0.rect h.0.at;
-    other_at = slice_get-back xs ys h.1.number ∙ h.1.at;
-    one_has = h.0.has;
-    other_has = h.1.has;
-  }
-
-  two_from : TwoOfBoth → IsInTwo (xs ++ ys) c
-  two_from (inl t) = two_in_front t
-  two_from (inr (inl t)) = two_behind t
-  two_from (inr (inr h)) = one_in_each h
-
-  pub two_append : IsInTwo (xs ++ ys) c ↔ TwoOfBoth
-  two_append = (λ t. two_cases t (number_cases xs ys t.first t.one t.one_at) (number_cases xs ys t.second t.other t.other_at), two_from)
-
--- rectangles without common cells
-apart_two : (c : Cell) (xs : List Rect) → AreApart xs → IsInTwo xs c → ⊥
-apart_two c xs apart t =
-    let one = get_or_from_slice_get xs t.first t.one t.one t.one_at in
-    let other = get_or_from_slice_get xs t.second t.other t.one t.other_at in
-    apart t.first t.second t.one t.differ (slice_get_within xs t.second t.other t.other_at)
-    (c, subst (λ (r : Rect). Has r c) (sym one) t.one_has, subst (λ (r : Rect). Has r c) (sym other) t.other_has)
-
 pub gains_few : (old new rects : List Rect) → length rects < 2 → new ≡ old ++ rects → GainsRuns old new rects
-gains_few old new rects few e = record { gained = rects; new_is = e; same = λ c. (λ u. u, λ u. u); apart = λ i j d before within. absurd (omega arith) }
+gains_few old new rects few e = record { gained = rects; new_is = e; same = λ c. (λ u. u, λ u. u); apart = apart_few rects few }
 
 -- ---- a label more
 
@@ -153,7 +76,7 @@ module _ (front back : List Labelled) (runs gained : List Rect) (label : ℕ) (l
         in_one = (label_append c front back two.one).1 (inl two.in_one);
         in_other = (label_append c front back two.other).1 (inl two.in_other);
       }
-  two_labels_joined c (inr (inl t)) = absurd (apart_two c gained apart t)
+  two_labels_joined c (inr (inl t)) = absurd (two_apart gained apart c t)
   two_labels_joined c (inr (inr h)) =
       let z = (runs_are.some c).0 h.0 in
       let less = lesser_of c z.label z.in_label in record {

@@ -1,7 +1,7 @@
 -- the zones of pieces have the cells at which defects touch the pieces
 use Rattle.std.proofs.Common.{ℕ, ◌+◌, ◌<◌, ◌≤◌, ◌≡◌, sym, subst, List, [], ◌∷◌, ◌++◌, length, take, take_all, get_or, inl, inr, ◌⊎◌, ◌↔◌, arith, pos, Option, ℤ, ◌+ℤ◌, ◌-ℤ◌, to_z, of_z, w32}
 use Rattle.lists.proofs.Words.{clamps, int_max, int_min, ints, Contains-append_left, Contains-push, Contains-push_cases}
-use Rattle.geo_core.specs.Plane.{Has, IsRadius}
+use Rattle.geo_core.specs.Plane.{Has, IsInUnion, IsRadius}
 use Rattle.geo_core.specs.declared.plane.Cell.{Cell}
 use Rattle.geo_core.specs.declared.plane.Labelled.{Labelled}
 use Rattle.geo_core.specs.declared.plane.Rect.{Rect}
@@ -12,6 +12,9 @@ use Rattle.fault_model.specs.FaultNames.{IsOn, IsInFootprint}
 use Rattle.fault_model.proofs.SizeLaws.{footprint_near}
 use Rattle.lists.proofs.Containing.{Contains-none}
 use Rattle.lists.proofs.Reading.{taken_more}
+use Rattle.skyline_runs.specs.Runs.{HaveSameCells}
+use Rattle.union_area.specs.PartRects.{GainsPart}
+use Rattle.union_area.proofs.laws.GainLaws.{gained_all}
 use Rattle.short_area.specs.Labels.{TouchesLabel, TouchesTwoLabels}
 use Rattle.short_area.specs.Zones.{AreZonesOf, IsInTwoLabels}
 use Rattle.short_area.specs.inside.Zones.{GainsZone, IsInside, IsNearCell}
@@ -55,6 +58,15 @@ module _ (radius : ℕ) (positive : 1 ≤ radius) (c : Cell) where
     λ t. record { one = t.one; other = t.other; touches_one = (same c at t.one).0 t.in_one; touches_other = (same c at t.other).0 t.in_other; different = t.different },
     λ t. record { one = t.one; other = t.other; in_one = (same c at t.one).1 t.touches_one; in_other = (same c at t.other).1 t.touches_other; different = t.different },
   )
+
+-- the rectangles that were found from none, and joined
+pub shorts_found : (radius : ℕ) → 1 ≤ radius → (pieces zones : List Labelled) (window : Rect) (old new all : List Rect) → AreZonesOf pieces radius window zones → length old ≡ 0
+    → GainsPart (IsInTwoLabels zones) window old new → HaveSameCells new all → (c : Cell) → IsInUnion all c ↔ (TouchesTwoLabels pieces radius c × Has window c)
+shorts_found radius positive pieces zones window old new all same e gains joined c =
+    let both = gained_all (IsInTwoLabels zones) window old new all e gains joined c in (
+      λ u. let h = both.0 u in ((two_touched radius positive c pieces zones window same h.1).0 h.0, h.1),
+      λ h. both.1 ((two_touched radius positive c pieces zones window same h.1).1 h.0, h.1),
+    )
 
 pub zones_none : (radius : ℕ) (window : Rect) → AreZonesOf [] radius window []
 zones_none radius window c at label = (λ h. absurd (label_none c label h), λ t. absurd (Contains-none t.among))

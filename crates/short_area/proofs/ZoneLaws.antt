@@ -1,12 +1,14 @@
 -- labels at a cell: two of them, those but one, and as lists of zones are made
 use Rattle.std.proofs.Common.{ℕ, ◌+◌, ◌<◌, ◌≤◌, ◌≡◌, ◌≢◌, ◌∙◌, sym, subst, List, [], ◌∷◌, ◌++◌, length, take, take_all, get_or, inl, inr, ◌⊎◌, ◌↔◌, refl, Option, Some, None, IfSome, IfNone, All}
 use Rattle.lists.proofs.Words.{All-contains}
-use Rattle.geo_core.specs.Plane.{Has}
+use Rattle.geo_core.specs.Plane.{Has, IsInUnion}
 use Rattle.geo_core.specs.declared.plane.Cell.{Cell}
 use Rattle.geo_core.specs.declared.plane.Labelled.{Labelled}
 use Rattle.geo_core.specs.declared.plane.Rect.{Rect}
 use Rattle.lists.proofs.Comparing.{equal_or_not}
 use Rattle.fault_model.proofs.UnionLaws.{union_none, union_push}
+use Rattle.skyline_runs.specs.Runs.{AreApart, IsInTwo}
+use Rattle.joined_rects.proofs.laws.ApartLaws.{two_append, two_apart}
 use Rattle.union_area.specs.WindowParts.{HasAllOf}
 use Rattle.short_area.specs.Zones.{AreAlikeIn, IsInLabel, IsInTwoLabels}
 use Rattle.short_area.proofs.laws.LabelLaws.{label_more, label_none, label_push}
@@ -157,3 +159,43 @@ whole_one zones k zone window small is all c at = record { zone = zone; among = 
 -- the zone has this label, or not all of the window
 abbrev pub IsNoOtherWhole : Rect → ℕ → Labelled → Type 0
 IsNoOtherWhole window label zone = zone.label ≢ label → HasAllOf window zone.rect → ⊥
+
+-- ---- what is left where a label has all of a part
+
+-- two labels have all of it
+pub both_whole : (zones : List Labelled) (part : Rect) (one other : ℕ) → one ≢ other → IsWholeIn part zones one → IsWholeIn part zones other
+    → (c : Cell) → Has part c → IsInTwoLabels zones c
+both_whole zones part one other differ all both c at = record { one = one; other = other; in_one = all c at; in_other = both c at; different = differ }
+
+-- the cells of two labels are those of the others
+pub split_beside : (zones : List Labelled) (part : Rect) (label : ℕ) (own others : List Rect) → IsWholeIn part zones label → AreSplit zones label own others
+    → (c : Cell) → Has part c → IsInUnion others c ↔ IsInTwoLabels zones c
+split_beside zones part label own others whole split c at =
+    let beside = beside_whole c zones label (whole c at) in
+    let cells = split.other_cells c in (λ u. beside.0 (cells.0 u), λ t. cells.1 (beside.1 t))
+
+-- ---- zones of a part
+
+pub alike_in : (part : Rect) (zones inside : List Labelled) → AreAlikeIn part zones inside → (c : Cell) → Has part c → IsInTwoLabels inside c ↔ IsInTwoLabels zones c
+alike_in part zones inside same c at = two_alike c inside zones (same c at)
+
+-- ---- runs of two labels, where there is no third
+
+-- rectangles of the one label without common cells, and then those of the other: a cell of the part lies in two where both have it
+module _ (zones : List Labelled) (part : Rect) (one other : ℕ) (own others own_runs other_runs : List Rect) (alone : HaveNoThird zones one other) (split : AreSplit zones one own others)
+    (own_cells : (c : Cell) → IsInUnion own_runs c ↔ (IsInUnion own c × Has part c)) (own_apart : AreApart own_runs)
+    (other_cells : (c : Cell) → IsInUnion other_runs c ↔ (IsInUnion others c × Has part c)) (other_apart : AreApart other_runs) where
+  pub two_of_both : (c : Cell) → Has part c → IsInTwo (own_runs ++ other_runs) c ↔ IsInTwoLabels zones c
+  two_of_both c at =
+      let both = both_of_two c zones one other alone in
+      let append = two_append c own_runs other_runs in (
+        λ t. elim (append.0 t) [
+          | inl u ↦ absurd (two_apart own_runs own_apart c u)
+          | inr h ↦ elim h [
+            | inl u ↦ absurd (two_apart other_runs other_apart c u)
+            | inr k ↦ both.0 ((split.own_cells c).0 ((own_cells c).0 k.0).0, (split.other_cells c).0 ((other_cells c).0 k.1).0)
+          ]
+        ],
+        λ t. let p = both.1 t in
+            append.1 (inr (inr ((own_cells c).1 ((split.own_cells c).1 p.0, at), (other_cells c).1 ((split.other_cells c).1 p.1, at)))),
+      )

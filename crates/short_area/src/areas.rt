@@ -3,15 +3,21 @@ ghost use Rattle.geo_core.specs.Bounds.{IsRadius};
 ghost use Rattle.fault_model.specs.Areas.{Tally, cells_of};
 ghost use Rattle.short_area.specs.Labels.{TouchesTwoLabels};
 ghost use Rattle.short_area.specs.Zones.{IsCountOf};
+ghost use Rattle.short_area.specs.inside.AreaSteps.{IsStepOf};
+ghost use Rattle.short_area.specs.inside.WhatIsLeft.{IsLeftOf};
+ghost use Rattle.short_area.specs.inside.Zones.{HaveNoThird};
 
 use super::halves::halves;
+use super::labels::split;
+use super::leaders::counted_by_leader;
+use super::left::{Left, NONE_TRIED, left_of_many, soon_left};
 use super::steps::Step;
-use super::ways::{NONE_TRIED, next_step};
+use super::sweeps::area_of_two;
 use super::zones::zones_of;
 use geo_core::{Labelled, Rect};
 use lists::NoMemory;
 use std::alloc::Global;
-use union_area::parts_at;
+use union_area::{count_of, parts_at, union_area};
 
 /// How many cells of the window are the centre of a defect that touches pieces of two labels. The defect is the square
 /// of side `2r` round the cell's centre, in database units. A cell counts once, whether it is near two labels or more,
@@ -58,4 +64,60 @@ fn counted(
             Ok(one + other)
         }
     }
+}
+
+/// What comes next of a window with these zones: its count, or a place at which to halve it.
+fn next_step(
+    alloc: Global,
+    zones: &[Labelled],
+    window: Rect,
+    hopeless: usize,
+) -> Result<Step, NoMemory>
+    ensures { IfOk result (IsStepOf zones.now window) }
+{
+    if let Some(left) = soon_left(alloc, zones, window, hopeless)? {
+        return step_from(alloc, zones, window, left);
+    }
+    if let Some(count) = counted_by_leader(alloc, zones, window)? {
+        return Ok(Step::Count(count));
+    }
+    let left = left_of_many(alloc, zones, window, hopeless)?;
+    step_from(alloc, zones, window, left)
+}
+
+/// The count of what is left of a window, or the place at which to halve it.
+fn step_from(alloc: Global, zones: &[Labelled], window: Rect, left: Left) -> Result<Step, NoMemory>
+    requires { IsLeftOf zones.now window left }
+    ensures { IfOk result (IsStepOf zones.now window) }
+{
+    match left {
+        Left::Nothing => Ok(Step::Count(0)),
+        Left::All => Ok(Step::Count(count_of(window))),
+        Left::InOne(rects) => Ok(Step::Count(union_area(alloc, rects.as_slice(), window)?)),
+        Left::InTwo(rects) => Ok(Step::Count(area_of_two(alloc, rects.as_slice(), window)?)),
+        Left::InBoth(one, other) => {
+            Ok(Step::Count(counted_apart(alloc, zones, window, one, other)?))
+        }
+        Left::InHalves(axis, place, hopeless) => Ok(Step::Halve(axis, place, hopeless)),
+    }
+}
+
+/// The count where there are these two labels alone, without runs: the cells of the one and those of the other, less those
+/// of either.
+pub fn counted_apart(
+    alloc: Global,
+    zones: &[Labelled],
+    window: Rect,
+    one: usize,
+    other: usize,
+) -> Result<u64, NoMemory>
+    requires { HaveNoThird zones.now one other }
+    ensures { IfOk result (λ n. IsCountOf zones.now window n) }
+{
+    let (mut own, others) = split(alloc, zones, one)?;
+    let in_one = union_area(alloc, own.as_slice(), window)?;
+    let in_other = union_area(alloc, others.as_slice(), window)?;
+    own.extend_from_slice(others.as_slice())?;
+    let in_either = union_area(alloc, own.as_slice(), window)?;
+    Ok(in_one + in_other - in_either)
 }

@@ -4,20 +4,57 @@ ghost use Rattle.short_area.specs.inside.LabelRuns.{IsInZone};
 ghost use Rattle.short_area.specs.inside.Leaders.{AreOthers, ArePartsIn, GainsPart, IsBesideRun};
 ghost use Rattle.short_area.specs.Zones.{IsCountOf};
 
+use super::leads::{Lead, lead_of};
+use super::left::LOOKS_EACH;
 use super::runs::label_runs_within;
-use super::sweeps::{LOOKS_EACH, area_of_two};
+use super::sweeps::area_of_two;
 use geo_core::{Labelled, Rect, clip, join};
 use lists::NoMemory;
 use std::alloc::Global;
-use union_area::union_area;
+use union_area::{count_of, union_area};
 
 /// So few zones of other labels are soon parted.
 const FEW: usize = 64;
 
-/// The count where this label has most of the zones, if those of the others are many and their runs are found with few
+/// The count where one label has most of the zones, if those of the others are many and their runs are found with few
 /// looks. Its own zones need no runs, of which a mesh has as many as holes. They matter where the others lie, and nowhere
 /// else.
 pub fn counted_by_leader(
+    alloc: Global,
+    zones: &[Labelled],
+    window: Rect,
+) -> Result<Option<u64>, NoMemory>
+    ensures { IfOk result (λ found. IfSome found (λ n. IsCountOf zones.now window n)) }
+{
+    let lead = lead_of(zones);
+    if !leaves_holes(zones, lead, window) {
+        return Ok(None);
+    }
+    counted_beside(alloc, zones, window, lead.label)
+}
+
+/// Whether the label leads by half of the zones, and these leave holes. Where bars in both directions close them, parts of the
+/// window soon lie in one zone.
+fn leaves_holes(zones: &[Labelled], lead: Lead, window: Rect) -> bool {
+    if zones.len() - zones.len() / 2 > lead.zones {
+        return false;
+    }
+    cells_of_label(zones, lead.label) / 2 < count_of(window)
+}
+
+/// How many cells the zones with this label have, each counted by itself.
+fn cells_of_label(zones: &[Labelled], label: usize) -> u64 {
+    let mut cells: u64 = 0;
+    for zone in zones {
+        if zone.label == label {
+            cells = cells.saturating_add(count_of(zone.rect));
+        }
+    }
+    cells
+}
+
+/// The count by runs of the labels but this one, if their zones are many and the runs are found with few looks.
+fn counted_beside(
     alloc: Global,
     zones: &[Labelled],
     window: Rect,

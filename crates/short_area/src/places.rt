@@ -27,13 +27,6 @@ const SHARE: usize = 8;
 /// So many broad zones over the middle soon have all cells of the parts.
 const BROAD: usize = 8;
 
-/// A label, and by how many zones it leads all others together.
-#[derive(Clone, Copy)]
-pub struct Lead {
-    pub label: usize,
-    pub zones: usize,
-}
-
 impl Spread {
     /// Counts one zone more.
     fn add(self, across: bool, up: bool, broad: bool) -> Spread {
@@ -63,25 +56,6 @@ impl Spread {
     }
 }
 
-impl Lead {
-    /// The same with one zone more, of this label.
-    fn met(self, label: usize) -> Lead {
-        if label == self.label {
-            return Lead {
-                label,
-                zones: self.zones.saturating_add(1),
-            };
-        }
-        if self.zones == 0 {
-            return Lead { label, zones: 1 };
-        }
-        Lead {
-            label: self.label,
-            zones: self.zones - 1,
-        }
-    }
-}
-
 /// How the zones lie about the middle of the window.
 pub fn spread_of(zones: &[Labelled], window: Rect) -> Spread {
     let x = half_way(window.columns());
@@ -99,16 +73,6 @@ pub fn spread_of(zones: &[Labelled], window: Rect) -> Spread {
         spread = spread.add(across, up, is_broad(rect));
     }
     spread
-}
-
-/// The label that leads all others together, where one does, and by how many zones. The one that is left over when zones of
-/// different labels are taken away in pairs is the only one that can, and at least so many of its zones are left.
-pub fn lead_of(zones: &[Labelled]) -> Lead {
-    let mut lead = Lead { label: 0, zones: 0 };
-    for zone in zones {
-        lead = lead.met(zone.label);
-    }
-    lead
 }
 
 /// This place, where it lies between the ends of the places and nearer to their middle than the one found before.

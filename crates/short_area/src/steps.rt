@@ -1,6 +1,6 @@
 use geo_core::Axis;
 
-/// What comes next of a window.
+/// What comes next of a window that is counted.
 pub enum Step {
     /// This is its count.
     Count(u64),

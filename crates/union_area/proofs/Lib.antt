@@ -1,4 +1,4 @@
 pub mod CutLaws
-pub mod ClipLaws
+pub mod RestLaws
 pub mod RunLaws
 pub mod SpanLaws

@@ -1,5 +1,5 @@
 -- rectangles that are joined where they touch, one by one
-use Rattle.std.proofs.Common.{ℕ, ◌+◌, ◌<◌, ◌≤◌, ◌≡◌, ◌∙◌, refl, sym, subst, arith, List, [], ◌∷◌, ◌++◌, length, take, take_all, get_or, inl, inr, ◌⊎◌, ℤ, ◌≤ℤ◌, ◌<ℤ◌, ◌↔◌}
+use Rattle.std.proofs.Common.{ℕ, ◌+◌, ◌<◌, ◌≤◌, ◌≡◌, ◌∙◌, refl, sym, subst, arith, List, [], ◌∷◌, ◌++◌, length, take, take_all, get_or, inl, inr, ◌⊎◌, ℤ, ◌≤ℤ◌, ◌↔◌}
 use Rattle.lists.proofs.Words.{IsPermutation, append-nil, by_lt_z, clamps, int_max, int_min, ints}
 use Rattle.geo_core.proofs.IntervalLaws.{IsIn-at, in_ends}
 use Rattle.geo_core.specs.Plane.{Has, IsIn, IsInUnion, IsIntervalJoin}

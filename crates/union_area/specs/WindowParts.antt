@@ -49,12 +49,6 @@ pub record AreCutAt (axis : Axis) (place : ℤ) (window first second : Rect) : T
   pub before : (c : Cell) → Has first c ↔ (Has window c × (place_along axis c <ℤ place))
   pub behind : (c : Cell) → Has second c ↔ (Has window c × (place ≤ℤ place_along axis c))
 
--- it is cut half way along the axis
-pub record AreHalves (axis : Axis) (window first second : Rect) : Type 0 where
-  pub place : ℤ
-  pub half_way : IsHalfWay (low_along axis window) (high_along axis window) place
-  pub cut : AreCutAt axis place window first second
-
 -- the line has the cells of the window that stand first along the axis: its left column, or its bottom row
 pub record IsFirstLine (axis : Axis) (window line : Rect) : Type 0 where
   pub cells : (c : Cell) → Has line c ↔ (Has window c × (place_along axis c ≡ low_along axis window))

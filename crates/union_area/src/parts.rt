@@ -1,9 +1,8 @@
-ghost use Rattle.std.specs.Prelude.{ℤ, ◌≡◌, ◌<◌, ◌≤◌, ◌^◌, ◌↔◌, IfNone, IfSome, IsTrue, length};
+ghost use Rattle.std.specs.Prelude.{◌≡◌, ◌<◌, ◌≤◌, ◌^◌, ◌↔◌, IsTrue, length};
 ghost use Rattle.geo_core.specs.Axes.{low_along, high_along};
 ghost use Rattle.fault_model.specs.Areas.{cells_of};
-ghost use Rattle.union_area.specs.WindowParts.{AreCutAt, AreHalves, AreParts, HasAllOf, IsBetween, IsFirstLine, count_along};
+ghost use Rattle.union_area.specs.WindowParts.{AreCutAt, AreParts, HasAllOf, IsBetween, IsFirstLine, count_along};
 
-use super::middles::inner_half_way;
 use geo_core::{Axis, Interval, Rect};
 
 /// How many columns the window has, or how many rows.
@@ -69,16 +68,6 @@ pub fn parts_at(window: Rect, axis: Axis, place: i32) -> (Rect, Rect)
             Rect::of(window.columns(), behind),
         ),
     }
-}
-
-/// Two parts of the window, cut half way along the axis. There are none where it has one column, or one row.
-pub fn halved_along(window: Rect, axis: Axis) -> Option<(Rect, Rect)>
-    ensures some { IfSome result (λ parts. AreParts window parts.0 parts.1) }
-    ensures half { IfSome result (λ parts. AreHalves axis window parts.0 parts.1) }
-    ensures none { IfNone result ((place : ℤ) → IsBetween (low_along axis window) (high_along axis window) place → ⊥) }
-{
-    let place = inner_half_way(window.along(axis))?;
-    Some(parts_at(window, axis, place))
 }
 
 /// The first column of the window, for the axis from left to right, or its first row, for that from bottom to top.

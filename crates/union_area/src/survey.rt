@@ -1,8 +1,8 @@
 ghost use Rattle.std.specs.Prelude.{◌≡◌, ◌⊎◌, ◌↔◌, IsTrue};
 ghost use Rattle.union_area.specs.WindowParts.{IsAsCentral, IsBetween, IsHalfWay};
 
-use super::middles::{distance_from_middle, half_way, is_broad, longer_first};
-use super::parts::{halved_along, parts_at};
+use super::middles::{distance_from_middle, half_way, inner_half_way, is_broad, longer_first};
+use super::parts::parts_at;
 use geo_core::{Axis, Interval, Rect};
 use std::marker::Model;
 
@@ -11,6 +11,9 @@ const MANY_BROAD: usize = 8;
 
 /// No more than one rectangle of so many is to lie on both sides of where the window is parted.
 const TO_EACH_ACROSS: usize = 8;
+
+/// So few rectangles need no parting.
+const FEW: usize = 64;
 
 /// The middle of places along an axis, and what lies near it.
 #[derive(Clone, Copy)]
@@ -105,8 +108,8 @@ impl Middle {
 
 impl Survey {
     ghost use Rattle.std.specs.Prelude.{◌≡◌, IfSome};
-    ghost use Rattle.geo_core.specs.declared.axis.Axis.{Axis};
-    ghost use Rattle.union_area.specs.WindowParts.{AreHalves, AreParts};
+    ghost use Rattle.geo_core.specs.Axes.{low_along, high_along};
+    ghost use Rattle.union_area.specs.WindowParts.{AreParts, IsBetween, IsHalfWay};
 
     /// Of no rectangles so far.
     pub fn of(window: Rect) -> Survey
@@ -137,46 +140,62 @@ impl Survey {
         MANY_BROAD <= self.broad
     }
 
+    /// Whether the rectangles are so few that the window needs no parting.
+    pub fn is_few(&self) -> bool {
+        self.count <= FEW
+    }
+
     /// Whether few rectangles lie on both sides of the middle along some axis.
     pub fn parts_well(&self) -> bool {
         let across = self.columns.across.min(self.rows.across);
         across <= self.count / TO_EACH_ACROSS
     }
 
-    /// Two parts of the window; a single cell has none. The window is halved along the axis on which fewer rectangles
-    /// lie on both sides, if they are few. Else it is parted at the edge of a rectangle that is nearest to the middle of
-    /// its longer side, or of the other one, since rectangles that reach over all of a part soon decide it.
+    /// Where to halve the window, along which axis; a single cell has no such place. It is the middle of the axis on which
+    /// fewer rectangles lie on both sides, if they are few. Else it is the edge of a rectangle that is nearest to the middle
+    /// of its longer side, or of the other one, since rectangles that reach over all of a part soon decide it.
+    pub fn place(&self) -> Option<(Axis, i32)>
+        ensures { IfSome result (λ cut. IsBetween (low_along cut.0 self.now) (high_along cut.0 self.now) cut.1) }
+    {
+        if self.parts_well() {
+            return self.middle();
+        }
+        let (longer, shorter) = longer_first(self.window);
+        if let Some(place) = self.edge_along(longer) {
+            return Some((longer, place));
+        }
+        if let Some(place) = self.edge_along(shorter) {
+            return Some((shorter, place));
+        }
+        self.middle()
+    }
+
+    /// Two parts of the window, cut at that place.
     pub fn halves(&self) -> Option<(Rect, Rect)>
         ensures { IfSome result (λ parts. AreParts self.now parts.0 parts.1) }
     {
-        if self.parts_well() {
-            return self.halved();
-        }
-        let (longer, shorter) = longer_first(self.window);
-        if let Some(parts) = self.parts_at_edge(longer) {
-            return Some(parts);
-        }
-        if let Some(parts) = self.parts_at_edge(shorter) {
-            return Some(parts);
-        }
-        self.halved()
+        let (axis, place) = self.place()?;
+        Some(parts_at(self.window, axis, place))
     }
 
-    /// Two parts, cut in the middle along one of the axes.
-    fn halved(&self) -> Option<(Rect, Rect)>
-        ensures parts { IfSome result (λ parts. AreParts self.now parts.0 parts.1) }
-        ensures half { IfSome result (λ parts. (axis : Axis) × AreHalves axis self.now parts.0 parts.1) }
+    /// The middle along one of the axes.
+    fn middle(&self) -> Option<(Axis, i32)>
+        ensures between { IfSome result (λ cut. IsBetween (low_along cut.0 self.now) (high_along cut.0 self.now) cut.1) }
+        ensures half { IfSome result (λ cut. IsHalfWay (low_along cut.0 self.now) (high_along cut.0 self.now) cut.1) }
     {
         let (first, second) = self.clearer_first();
-        match halved_along(self.window, first) {
-            None => halved_along(self.window, second),
-            Some(parts) => Some(parts),
+        if let Some(place) = inner_half_way(self.window.along(first)) {
+            return Some((first, place));
+        }
+        match inner_half_way(self.window.along(second)) {
+            None => None,
+            Some(place) => Some((second, place)),
         }
     }
 
-    /// Two parts, cut at the edge that is nearest to the middle, where one lies within.
-    fn parts_at_edge(&self, axis: Axis) -> Option<(Rect, Rect)>
-        ensures { IfSome result (λ parts. AreParts self.now parts.0 parts.1) }
+    /// The edge that is nearest to the middle, where one lies within.
+    fn edge_along(&self, axis: Axis) -> Option<i32>
+        ensures { IfSome result (IsBetween (low_along axis self.now) (high_along axis self.now)) }
     {
         let places = self.window.along(axis);
         let edge = match axis {
@@ -186,7 +205,7 @@ impl Survey {
         if edge <= places.low || places.high <= edge {
             return None;
         }
-        Some(parts_at(self.window, axis, edge))
+        Some(edge)
     }
 
     /// The axis on which fewer rectangles lie on both sides of the middle, and the other one.

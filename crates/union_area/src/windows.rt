@@ -1,8 +1,9 @@
-ghost use Rattle.std.specs.Prelude.{◌↔◌, Contains, IfOk, IsTrue};
+ghost use Rattle.std.specs.Prelude.{Contains, IfOk, IsTrue};
 ghost use Rattle.geo_core.specs.Cells.{Has};
 ghost use Rattle.geo_core.specs.Unions.{IsInUnion};
 ghost use Rattle.geo_core.specs.declared.plane.Cell.{Cell};
 ghost use Rattle.geo_core.specs.declared.plane.Rect.{Rect};
+ghost use Rattle.union_area.specs.PartRects.{AreClipped};
 ghost use Rattle.union_area.specs.WindowParts.{HasAllOf};
 
 use super::parts::fills;
@@ -13,8 +14,7 @@ use std::alloc::Global;
 /// What each of the rectangles has in common with the window, if anything, in their order. The one error is that no
 /// memory is left.
 pub fn clipped(alloc: Global, rects: &[Rect], window: Rect) -> Result<Vec<Rect>, NoMemory>
-    ensures { IfOk result (λ inside. (c : Cell) →
-        IsInUnion inside.items c ↔ (IsInUnion rects.now c × Has window c)) }
+    ensures { IfOk result (λ inside. AreClipped rects.now window inside.items) }
 {
     let mut inside = Vec::new(alloc);
     for rect in rects {

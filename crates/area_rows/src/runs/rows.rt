@@ -2,6 +2,7 @@ use super::counting::{are_runs_of, cells_at};
 use depth_sweep::{Rect, twice_runs, union_runs};
 use lists::NoMemory;
 use samples::sides::{Sides, have_sides, rects_of};
+use skyline_runs::twice_runs_within;
 use std::alloc::Global;
 
 /// Rectangles, how many cells they have together, and how many lie in two of them or more.
@@ -72,10 +73,20 @@ fn have_cells(
     }
 }
 
+/// Runs of what lies in two of the rectangles, for which all looks are left that there can be.
+fn twice_with_all_looks(alloc: Global, rects: &[Rect]) -> Result<Vec<Rect>, NoMemory> {
+    let mut left = usize::MAX;
+    match twice_runs_within(alloc, rects, &mut left)? {
+        Some(runs) => Ok(runs),
+        None => Err(NoMemory),
+    }
+}
+
 /// Whether the runs of the rectangles have just the cells that they should.
 fn have_right_cells(alloc: Global, rects: &[Rect], once: usize, twice: usize) -> bool {
     have_cells(union_runs(alloc, rects), rects, 1, once)
         && have_cells(twice_runs(alloc, rects), rects, 2, twice)
+        && have_cells(twice_with_all_looks(alloc, rects), rects, 2, twice)
 }
 
 /// The same of a row.
@@ -122,4 +133,21 @@ fn are_one_run(alloc: Global) -> bool {
 #[test]
 fn plates_that_grow_are_one_run(rt: HostRuntime) {
     assert!(rt; are_one_run(rt.alloc()));
+}
+
+/// Whether three equal squares, each of which takes one look at least, have no runs where two looks are left, and leave none.
+fn end_without_looks(alloc: Global) -> bool {
+    let Some(rects) = rects_of(alloc, &[(0, 0, 3, 3); 3]) else {
+        return false;
+    };
+    let mut left = 2;
+    matches!(
+        twice_runs_within(alloc, rects.as_slice(), &mut left),
+        Ok(None)
+    ) && left == 0
+}
+
+#[test]
+fn runs_end_without_looks(rt: HostRuntime) {
+    assert!(rt; end_without_looks(rt.alloc()));
 }

@@ -1,7 +1,7 @@
 use geo_core::Rect;
 use samples::sides::{Sides, rect_of, rects_of};
 use std::alloc::{AllocError, Global};
-use union_area::union_area;
+use union_area::{count_of, union_area, union_rects};
 
 /// Rectangles, a window, and how many cells of the window lie in a rectangle.
 type Row = (&'static [Sides], Sides, u64);
@@ -33,13 +33,32 @@ const ROWS: &[Row] = &[
     ),
 ];
 
-/// Whether the area of the union is this one.
+/// How many cells rectangles have that have none in common.
+fn cells_of(rects: &[Rect]) -> u64 {
+    let mut cells: u64 = 0;
+    for rect in rects {
+        cells = cells.saturating_add(count_of(*rect));
+    }
+    cells
+}
+
+/// Whether the area of the union is this one, and also that of the rectangles that have its cells.
+fn is_area(alloc: Global, rects: &[Rect], window: Rect, area: u64) -> bool {
+    match union_rects(alloc, rects, window) {
+        Ok(list) => {
+            cells_of(list.as_slice()) == area && union_area(alloc, rects, window) == Ok(area)
+        }
+        Err(_) => false,
+    }
+}
+
+/// The same of rectangles in a table.
 fn have_area(alloc: Global, table: &[Sides], window: &Sides, area: u64) -> bool {
     let Some(window) = rect_of(window) else {
         return false;
     };
     match rects_of(alloc, table) {
-        Some(rects) => union_area(alloc, rects.as_slice(), window) == Ok(area),
+        Some(rects) => is_area(alloc, rects.as_slice(), window, area),
         None => false,
     }
 }
@@ -96,9 +115,12 @@ fn hundred(alloc: Global, layout: Layout) -> Result<Vec<Rect>, AllocError> {
 /// Whether the area of these is this one.
 fn have_area_of(alloc: Global, layout: Layout, area: u64) -> bool {
     match hundred(alloc, layout) {
-        Ok(rects) => {
-            union_area(alloc, rects.as_slice(), Rect::new(-200, -200, 200, 200)) == Ok(area)
-        }
+        Ok(rects) => is_area(
+            alloc,
+            rects.as_slice(),
+            Rect::new(-200, -200, 200, 200),
+            area,
+        ),
         Err(_) => false,
     }
 }

@@ -1,40 +1,64 @@
-use Rattle.std.proofs.Common.{refl, sym, subst, arith, length}
-use Rattle.lists.proofs.Words.{eqb-true, IfOk-weaker}
+use Rattle.std.proofs.Common.{subst, sym, arith, ◌∙◌}
+use Rattle.lists.proofs.Words.{IfOk-weaker}
 use Rattle.geo_core.specs.Plane.{IsInUnion}
 use Rattle.fault_model.specs.FaultNames.{Tally, cells_of}
-use Rattle.union_area.proofs.ClipLaws.{AreClipped, tally_all, tally_clipped, tally_none}
-use Rattle.union_area.proofs.laws.PartLaws.{few_tallied, fewer_cells, parts_tally}
+use Rattle.union_area.specs.PartRects.{AreRectsOf}
+use Rattle.union_area.specs.inside.Rests.{HasCellsIn}
+use Rattle.union_area.proofs.RestLaws.{tally_clipped, tally_none}
+use Rattle.union_area.proofs.laws.PartLaws.{few_tallied, fewer_cells, parts_tally, whole_tally}
 use Rattle.union_area.proofs.areas.+union_area.Goals as goal
 
-pub returns-then-is_empty-clause-tally : goal.returns-then-is_empty-clause-tally
-returns-then-is_empty-clause-tally t c =
-    let those = subst (AreClipped c.args.rects.now c.args.window) (sym c.as_slice-inside.ensures.value) c.in_ok-inside.ensures in
-    tally_none c.args.rects.now c.args.window c.as_slice-inside.result.now those (eqb-true (length c.as_slice-inside.result.now) 0 (sym c.if-is_empty.ensures))
+pub returns-in-Nothing-clause-tally : goal.returns-in-Nothing-clause-tally
+returns-in-Nothing-clause-tally t c = tally_none c.args.rects.now c.args.window (rw c.in-Nothing.is at c.in_ok-rest_of.ensures)
 
-pub returns-then-is_filled-clause-tally : goal.returns-then-is_filled-clause-tally
-returns-then-is_filled-clause-tally t c =
-    let those = subst (AreClipped c.args.rects.now c.args.window) (sym c.as_slice-inside.ensures.value) c.in_ok-inside.ensures in
-    rw c.count_of.ensures.count (tally_all c.args.rects.now c.args.window c.as_slice-inside.result.now those (c.if-is_filled.ensures.filled refl))
+pub returns-in-All-clause-tally : goal.returns-in-All-clause-tally
+returns-in-All-clause-tally t c = rw c.count_of.ensures.count (whole_tally c.args.window (rw c.in-All.is at c.in_ok-rest_of.ensures))
 
-pub returns-in-None-clause-tally : goal.returns-in-None-clause-tally
-returns-in-None-clause-tally t c =
-    let those = subst (AreClipped c.args.rects.now c.args.window) (sym c.as_slice-inside.ensures.value) c.in_ok-inside.ensures in
-    IfOk-weaker c.area_within.result (Tally (IsInUnion c.as_slice-inside.result.now) (cells_of c.args.window)) (Tally (IsInUnion c.args.rects.now) (cells_of c.args.window))
-    (tally_clipped c.args.rects.now c.args.window c.as_slice-inside.result.now those) c.area_within.ensures.tally
+pub area_of_runs-requires : goal.area_of_runs-requires
+area_of_runs-requires t c =
+    let are : AreRectsOf (IsInUnion c.args.rects.now) c.args.window c.in-Runs.runs.items = rw c.in-Runs.is at c.in_ok-rest_of.ensures in
+    let lent = subst (AreRectsOf (IsInUnion c.args.rects.now) c.args.window) (sym c.as_slice.ensures.value) are in
+    record { apart = lent.apart; within = λ cell u. ((lent.cells cell).0 u).1 }
+
+pub returns-in-Runs-clause-tally : goal.returns-in-Runs-clause-tally
+returns-in-Runs-clause-tally t c =
+    let are : AreRectsOf (IsInUnion c.args.rects.now) c.args.window c.in-Runs.runs.items = rw c.in-Runs.is at c.in_ok-rest_of.ensures in
+    let lent = subst (AreRectsOf (IsInUnion c.args.rects.now) c.args.window) (sym c.as_slice.ensures.value) are in
+    tally_clipped c.args.rects.now c.args.window c.as_slice.result.now lent.cells _ c.area_of_runs.ensures.tally
+
+pub returns-in-Across-clause-tally : goal.returns-in-Across-clause-tally
+returns-in-Across-clause-tally t c =
+    let rest = rw c.in-Across.is at c.in_ok-rest_of.ensures in
+    let clipped = subst (HasCellsIn c.args.rects.now c.args.window) (sym c.as_slice-in-Across.ensures.value) rest.0 in
+    IfOk-weaker c.swept_area.result (Tally (IsInUnion c.as_slice-in-Across.result.now) (cells_of c.args.window))
+    (Tally (IsInUnion c.args.rects.now) (cells_of c.args.window))
+    (tally_clipped c.args.rects.now c.args.window c.as_slice-in-Across.result.now clipped) c.swept_area.ensures.tally
 
 pub union_area-requires : goal.union_area-requires
-union_area-requires t c = let fewer = fewer_cells c.args.window c.in-Some.first c.in-Some.second c.in-Some.ensures in (omega (arith, fewer.0), tt)
+union_area-requires t c =
+    let rest = rw c.in-Halves.is at c.in_ok-rest_of.ensures in
+    let fewer = fewer_cells c.args.window c.in-Halves.first c.in-Halves.second rest.1 in
+    (omega (arith, fewer.0), tt)
 
-pub union_area-requires-in-Some : goal.union_area-requires-in-Some
-union_area-requires-in-Some t c = let fewer = fewer_cells c.args.window c.in-Some.first c.in-Some.second c.in-Some.ensures in (omega (arith, fewer.1), tt)
+pub union_area-requires-in-Halves : goal.union_area-requires-in-Halves
+union_area-requires-in-Halves t c =
+    let rest = rw c.in-Halves.is at c.in_ok-rest_of.ensures in
+    let fewer = fewer_cells c.args.window c.in-Halves.first c.in-Halves.second rest.1 in
+    (omega (arith, fewer.1), tt)
 
-pub returns-clause-tally : goal.returns-clause-tally
-returns-clause-tally t c =
-    let those = subst (AreClipped c.args.rects.now c.args.window) (sym c.as_slice-inside.ensures.value) c.in_ok-inside.ensures in
-    tally_clipped c.args.rects.now c.args.window c.as_slice-inside.result.now those _
-    (parts_tally c.args.window c.in-Some.first c.in-Some.second c.in-Some.ensures _ _ c.in_ok-one-in-Some.ensures.tally c.in_ok-other-in-Some.ensures.tally)
+pub returns-in_ok-other-in-Halves-clause-tally : goal.returns-in_ok-other-in-Halves-clause-tally
+returns-in_ok-other-in-Halves-clause-tally t c =
+    let rest = rw c.in-Halves.is at c.in_ok-rest_of.ensures in
+    let clipped = subst (HasCellsIn c.args.rects.now c.args.window) (sym c.as_slice-in-Halves.ensures.value) rest.0 in
+    let again = c.as_slice-in-Halves.ensures.value ∙ sym c.as_slice-in-Halves-2.ensures.value in
+    tally_clipped c.args.rects.now c.args.window c.as_slice-in-Halves.result.now clipped _
+    (parts_tally c.args.window c.in-Halves.first c.in-Halves.second rest.1 _ _ c.in_ok-one-in-Halves.ensures.tally
+    (rw again c.in_ok-other-in-Halves.ensures.tally))
 
-pub returns-clause-small : goal.returns-clause-small
-returns-clause-small t c =
+pub returns-in_ok-other-in-Halves-clause-small : goal.returns-in_ok-other-in-Halves-clause-small
+returns-in_ok-other-in-Halves-clause-small t c =
+    let rest = rw c.in-Halves.is at c.in_ok-rest_of.ensures in
+    let again = c.as_slice-in-Halves.ensures.value ∙ sym c.as_slice-in-Halves-2.ensures.value in
     few_tallied c.args.window _
-    (parts_tally c.args.window c.in-Some.first c.in-Some.second c.in-Some.ensures _ _ c.in_ok-one-in-Some.ensures.tally c.in_ok-other-in-Some.ensures.tally)
+    (parts_tally c.args.window c.in-Halves.first c.in-Halves.second rest.1 _ _ c.in_ok-one-in-Halves.ensures.tally
+    (rw again c.in_ok-other-in-Halves.ensures.tally))

@@ -1,4 +1,4 @@
-use Rattle.union_area.proofs.ClipLaws.{ClippedSoFar}
+use Rattle.union_area.proofs.laws.ClipLaws.{ClippedSoFar}
 use Rattle.union_area.proofs.windows.clipped.Given as goal
 
 abbrev pub invariant-loop-rect : goal.invariant-loop-rect

@@ -1,5 +1,0 @@
-use Rattle.region_rects.specs.inside.LabelRuns.{AreRunsTo}
-use Rattle.region_rects.proofs.runs.label_runs.Given as goal
-
-abbrev pub invariant-loop-zone : goal.invariant-loop-zone
-invariant-loop-zone l = AreRunsTo l.zone-items l.zone-index l.label l.runs.items l.listed.items

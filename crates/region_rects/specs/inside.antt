@@ -1,4 +1,0 @@
-pub mod Parts
-pub mod Zones
-pub mod LabelRuns
-pub mod Centres

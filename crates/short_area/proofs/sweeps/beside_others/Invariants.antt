@@ -1,5 +1,0 @@
-use Rattle.short_area.proofs.KeptLaws.{KeptSoFar}
-use Rattle.short_area.proofs.sweeps.beside_others.Given as goal
-
-abbrev pub invariant-loop-zone : goal.invariant-loop-zone
-invariant-loop-zone l = KeptSoFar l.zones l.zone-index l.kept.items
