@@ -7,6 +7,7 @@ ghost use Rattle.fault_model.specs.IslandLists.{IsIslandOpen};
 ghost use Rattle.geo_core.specs.declared.bounds.TheConstants.{GREATEST_SIDE};
 ghost use Rattle.open_grid.specs.RingCounts.{IsSomeRingMany};
 ghost use Rattle.severing.specs.Severing.{IsSomeOpen};
+ghost use Rattle.skyline_runs.specs.Runs.{AreApart};
 
 use super::boxes::anchor_boxes;
 use super::looked::look;
@@ -17,15 +18,32 @@ use geo_core::Rect;
 use lists::NoMemory;
 use severing::defects_sever_islands;
 use std::alloc::Global;
-use union_area::union_area;
+use union_area::{union_area, union_rects};
 
 /// The cells of the window that are the centre of a defect that parts two anchors of at least one of the islands, as
-/// rectangles in no order. The defect is the square of this side, 1 to 2,000,000 database units, round the cell's centre. The
-/// islands may be of one metal, or of several that do not know of one another.
+/// rectangles without common cells, order and number left open. The defect is the square of this side, 1 to 2,000,000 database
+/// units, round the cell's centre. The islands may be of one metal, or of several that do not know of one another.
 ///
 /// The rectangles serve for any part of the window, so that islands need to be looked at once a side. The one error is
 /// that no memory is left.
 pub fn open_cells(
+    alloc: Global,
+    islands: &[Island],
+    window: Rect,
+    side: u32,
+) -> Result<Vec<Rect>, NoMemory>
+    requires some { 1 ≤ side }
+    requires few { side ≤ GREATEST_SIDE }
+    ensures cells { IfOk result (λ rects. (c : Cell) →
+        IsInUnion rects.items c ↔ (Has window c × IsSomeOpen islands.now side c)) }
+    ensures apart { IfOk result (λ rects. AreApart rects.items) }
+{
+    let cells = overlapping_cells(alloc, islands, window, side)?;
+    union_rects(alloc, cells.as_slice(), window)
+}
+
+/// The same cells, island by island: those of several islands are given several times.
+fn overlapping_cells(
     alloc: Global,
     islands: &[Island],
     window: Rect,
@@ -125,7 +143,7 @@ pub fn open_area(
     // No edge of a window is further than 1,001,000,000 from 0.
     ensures small { IfOk result (λ n. n < 2 ^ 63) }
 {
-    let rects = open_cells(alloc, islands, window, side)?;
+    let rects = overlapping_cells(alloc, islands, window, side)?;
     union_area(alloc, &rects, window)
 }
 

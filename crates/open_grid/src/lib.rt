@@ -1,7 +1,7 @@
 //! At which cells of a window a defect parts two anchors of an island, and at how many.
 //!
 //! Whether a defect parts two anchors depends on the ways between them, so no rectangles are known beforehand, and a
-//! search at each cell would grow with the cells. `open_cells` finds the cells as rectangles, island by island, in zones of
+//! search at each cell would grow with the cells. The cells are found as rectangles, island by island, in zones of
 //! centres, first the whole window:
 //!
 //! 1. The island is looked at (`look_at`). Where it has one arc of the ring round all that some defect has, and no spot of
@@ -24,7 +24,8 @@
 //! A zone for which no island is left has no rectangle. That reach and core answer for the defects between them is a
 //! law of `severing`: the removal of more parts more. Which zones are looked at changes the time alone.
 //!
-//! `open_area` is the area of the rectangles' union in the window. Whoever needs the areas of parts of a window asks
+//! Rectangles of several islands may have cells in common. `open_area` is the area of their union in the window, and
+//! `open_cells` gives this union as rectangles without common cells. Whoever needs the areas of parts of a window asks
 //! once for the cells of the whole, and takes the union's area in each part, or asks in each part for the cells of the islands that
 //! come near it (`open_cells_of`).
 //!

@@ -5,13 +5,14 @@ ghost use Rattle.geo_core.specs.Intervals.{IsIn};
 ghost use Rattle.geo_core.specs.Unions.{IsInUnion};
 ghost use Rattle.geo_core.specs.declared.plane.Cell.{Cell};
 ghost use Rattle.fault_model.specs.Areas.{Tally, cells_of};
+ghost use Rattle.skyline_runs.specs.Runs.{AreApart};
 ghost use Rattle.via_clusters.specs.Blocks.{CoversBox, CoversSomeBox};
 ghost use Rattle.via_clusters.specs.inside.Centres.{AreCovered};
 
 use geo_core::{Interval, Rect};
 use lists::NoMemory;
 use std::alloc::Global;
-use union_area::union_area;
+use union_area::{union_area, union_rects};
 
 /// How many cells of the window are the centre of a defect that covers all of at least one of the boxes. The defect is
 /// the square of side `2r` round the cell's centre, in database units. A cell counts once, however many boxes are
@@ -27,6 +28,22 @@ pub fn via_area(alloc: Global, boxes: &[Rect], window: Rect, r: u32) -> Result<u
 {
     let centres = centres_of(alloc, boxes, window, r)?;
     union_area(alloc, centres.as_slice(), window)
+}
+
+/// The cells of the window that are the centre of a defect that covers all of at least one of the boxes, as rectangles without
+/// common cells. The defect is the square of side `2r` round the cell's centre, in database units, where `r` is 1 to 1,000,000. With
+/// the least rectangle of each cluster of a cut these are the cells at which a via is blocked. The order and the number of the
+/// rectangles are left open.
+///
+/// The one error is that no memory is left.
+pub fn via_rects(alloc: Global, boxes: &[Rect], window: Rect, r: u32) -> Result<Vec<Rect>, NoMemory>
+    requires { IsRadius r }
+    ensures cells { IfOk result (λ found. (c : Cell) →
+        IsInUnion found.items c ↔ (CoversSomeBox boxes.now r c × Has window c)) }
+    ensures apart { IfOk result (λ found. AreApart found.items) }
+{
+    let centres = centres_of(alloc, boxes, window, r)?;
+    union_rects(alloc, centres.as_slice(), window)
 }
 
 /// The cells of the window from which a defect covers one of the boxes, as rectangles.
