@@ -15,7 +15,7 @@ use Rattle.critical_areas.specs.FaultKinds.{IsFault}
 use Rattle.critical_areas.specs.Rows.{IsWindowFor}
 use Rattle.critical_areas.specs.declared.parts.Parts.{Parts}
 use Rattle.map_regions.specs.Regions.{IsNumberFor, IsRegion}
-use Rattle.map_regions.specs.inside.FoundRects.{AreRectsOf}
+use Rattle.map_regions.specs.inside.FoundRects.{AreWantedRects}
 use Rattle.map_regions.proofs.CutFaults.{block_is}
 use Rattle.map_regions.proofs.PieceFaults.{short_is}
 
@@ -49,7 +49,7 @@ module _ (layer_map : LayerMap) (lists : List (List Rect)) (parts : Parts) (are 
   -- rectangles of what is counted over the map's window are the region
   pub region_is : (window : Option Rect) (kind : Kind) (number size : ℕ) (rects : List Rect) → IsWindowFor layer_map (IsCoveredIn lists) window
       → IsNumberFor kind (length parts.metals) (length parts.cuts) number → 1 ≤ side_by layer_map.measure size
-      → AreRectsOf (IsCountedAs kind parts number (side_by layer_map.measure size)) (cells_of_window window) rects → IsRegion layer_map (IsCoveredIn lists) kind number size rects
+      → AreWantedRects (IsCountedAs kind parts number (side_by layer_map.measure size)) (cells_of_window window) rects → IsRegion layer_map (IsCoveredIn lists) kind number size rects
   region_is window kind number size rects is_window numbered some found = record {
     window = window;
     is_window = is_window;

@@ -4,14 +4,15 @@ ghost use Rattle.geo_core.specs.Bounds.{IsSide};
 ghost use Rattle.severing.specs.Severing.{IsSomeOpen};
 ghost use Rattle.short_area.specs.Labels.{TouchesTwoLabels};
 ghost use Rattle.via_clusters.specs.Blocks.{CoversSomeBox};
-ghost use Rattle.map_regions.specs.inside.FoundRects.{AreRectsOf};
+ghost use Rattle.map_regions.specs.inside.FoundRects.{AreWantedRects};
 
 use fault_model::Island;
 use geo_core::{Labelled, Rect};
 use lists::NoMemory;
 use open_grid::open_cells;
-use region_rects::{short_rects, union_rects, via_rects};
+use short_area::short_rects;
 use std::alloc::Global;
+use via_clusters::via_rects;
 
 /// The cells of the window at which a defect of this side touches pieces of two labels, which tell nets apart: none at side 1. The
 /// only error is that no memory is left.
@@ -22,7 +23,7 @@ pub fn shorts(
     side: u32,
 ) -> Result<Vec<Rect>, NoMemory>
     requires { IsSide side }
-    ensures { IfOk result (λ rects. AreRectsOf (TouchesTwoLabels pieces.now (side / 2)) (cells_of window) rects.items) }
+    ensures { IfOk result (λ rects. AreWantedRects (TouchesTwoLabels pieces.now (side / 2)) (cells_of window) rects.items) }
 {
     if side < 2 {
         return Ok(Vec::new(alloc));
@@ -38,16 +39,15 @@ pub fn opens(
     side: u32,
 ) -> Result<Vec<Rect>, NoMemory>
     requires { IsSide side }
-    ensures { IfOk result (λ rects. AreRectsOf (IsSomeOpen islands.now side) (cells_of window) rects.items) }
+    ensures { IfOk result (λ rects. AreWantedRects (IsSomeOpen islands.now side) (cells_of window) rects.items) }
 {
-    let cells = open_cells(alloc, islands, window, side)?;
-    union_rects(alloc, cells.as_slice(), window)
+    open_cells(alloc, islands, window, side)
 }
 
 /// Those at which it covers one of the boxes.
 pub fn blocks(alloc: Global, boxes: &[Rect], window: Rect, side: u32) -> Result<Vec<Rect>, NoMemory>
     requires { IsSide side }
-    ensures { IfOk result (λ rects. AreRectsOf (CoversSomeBox boxes.now ((side + 1) / 2)) (cells_of window) rects.items) }
+    ensures { IfOk result (λ rects. AreWantedRects (CoversSomeBox boxes.now ((side + 1) / 2)) (cells_of window) rects.items) }
 {
     via_rects(alloc, boxes, window, (side + 1) / 2)
 }

@@ -28,11 +28,14 @@ pub fn region_counts<L: Layout>()
         IsRegion layer_map L.covers question.kind question.number question.size rects → row.area ≡ cell_count rects }
 {}
 
-/// A row has one region: two lists of rectangles that are it have the same cells.
+/// A row has one region: two lists of rectangles that are it have the same cells, and as many.
 pub fn regions_cover_alike<L: Layout>()
-    ensures { (layer_map : LayerMap) (kind : Kind) (number size : ℕ) (one other : List Rect) (c : Cell) →
+    ensures cells { (layer_map : LayerMap) (kind : Kind) (number size : ℕ) (one other : List Rect) (c : Cell) →
         IsRegion layer_map L.covers kind number size one → IsRegion layer_map L.covers kind number size other →
         IsInUnion one c ↔ IsInUnion other c }
+    ensures count { (layer_map : LayerMap) (kind : Kind) (number size : ℕ) (one other : List Rect) →
+        IsRegion layer_map L.covers kind number size one → IsRegion layer_map L.covers kind number size other →
+        cell_count one ≡ cell_count other }
 {}
 
 /// What is covered alike has the same regions.

@@ -6,7 +6,7 @@ ghost use Rattle.geo_core.specs.Cells.{IsInLayout};
 ghost use Rattle.map_model.specs.MapView.{layer_map_of};
 ghost use Rattle.critical_areas.specs.AskedCounts.{IsCountedAs};
 ghost use Rattle.map_regions.specs.Regions.{ComeToRegion, IsNumberFor};
-ghost use Rattle.map_regions.specs.inside.FoundRects.{AreRectsOf};
+ghost use Rattle.map_regions.specs.inside.FoundRects.{AreWantedRects};
 
 use super::kinds::{blocks, opens, shorts};
 use critical_areas::{Parts, prepare, reach, window_of};
@@ -60,7 +60,7 @@ fn rects_of(
     requires numbered { IsNumberFor kind (length parts.now.metals) (length parts.now.cuts) number }
     requires is_side { IsSide side }
     ensures { IfOk result (λ rects.
-        AreRectsOf (IsCountedAs kind parts.now number side) (cells_of_window window) rects.items) }
+        AreWantedRects (IsCountedAs kind parts.now number side) (cells_of_window window) rects.items) }
 {
     match window {
         None => Ok(Vec::new(alloc)),
@@ -79,7 +79,7 @@ fn rects_in(
 ) -> Result<Vec<Rect>, NoMemory>
     requires numbered { IsNumberFor kind (length parts.now.metals) (length parts.now.cuts) number }
     requires is_side { IsSide side }
-    ensures { IfOk result (λ rects. AreRectsOf (IsCountedAs kind parts.now number side) (cells_of window) rects.items) }
+    ensures { IfOk result (λ rects. AreWantedRects (IsCountedAs kind parts.now number side) (cells_of window) rects.items) }
 {
     let layer = number as usize;
     match kind {

@@ -51,6 +51,16 @@ module _ (layer_map : LayerMap) (covers : ℕ → Cell → Type 0) where
         λ u. let h = there.0 u in here.1 (subst (λ (cs : List Cell). Contains cs c) (sym cells) h.0, h.1),
       )
 
+  -- so they have as many cells
+  pub count_alike : (kind : Kind) (number size : ℕ) (one other : List Rect) → IsRegion layer_map covers kind number size one
+      → IsRegion layer_map covers kind number size other → cell_count one ≡ cell_count other
+  count_alike kind number size one other are same =
+      let Fails : Cell → Type 0 = IsFault layer_map covers kind number (side_by layer_map.measure size) in
+      let cells = agree (IsCovered covers) (reach_of layer_map) are.window same.window are.is_window same.is_window in
+      Tally-unique (cells_of_window same.window) (cell_count one) (cell_count other)
+      (subst (λ listed. Tally Fails listed (cell_count one)) cells (tally_is_count are.window one are.apart are.cells))
+      (tally_is_count same.window other same.apart same.cells)
+
   module _ (rows : List Row) (answered : AreRows layer_map covers rows) (rects : List Rect) where
     -- the region of a question has as many cells as the row that answers the question says
     area_is : (question : Question) (row : Row) → Contains (questions layer_map) question → Answers layer_map covers (cells_of_window answered.window) question row

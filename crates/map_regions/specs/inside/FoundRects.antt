@@ -6,6 +6,6 @@ use Rattle.geo_core.specs.declared.plane.Rect.{Rect}
 use Rattle.skyline_runs.specs.Runs.{AreApart}
 
 -- they have exactly those of the cells that are wanted, and no cell in common
-pub record AreRectsOf (wanted : Cell → Type 0) (cells : List Cell) (rects : List Rect) : Type 0 where
+pub record AreWantedRects (wanted : Cell → Type 0) (cells : List Cell) (rects : List Rect) : Type 0 where
   pub cells_are : (c : Cell) → IsInUnion rects c ↔ (Contains cells c × wanted c)
   pub apart : AreApart rects

@@ -1,4 +1,5 @@
-use Rattle.std.proofs.Common.{List, sym, subst, ◌↔◌}
+use Rattle.std.proofs.Common.{Global, List, Vec, ◌↔◌}
+use Rattle.lists.proofs.Words.{IfOk-weaker}
 use Rattle.geo_core.specs.Plane.{Has, IsInUnion}
 use Rattle.geo_core.specs.declared.plane.Cell.{Cell}
 use Rattle.geo_core.specs.declared.plane.Rect.{Rect}
@@ -10,7 +11,8 @@ pub returns : goal.returns
 returns c =
     let window = c.args.window in
     let parted = IsSomeOpen c.args.islands.now c.args.side in
-    let HaveOpens : List Rect → Type 0 = λ rects. (d : Cell) → IsInUnion rects d ↔ (Has window d × parted d) in
-    let cells = subst HaveOpens (sym c.as_slice.ensures.value) c.in_ok-cells.ensures in
-    let same : (d : Cell) → Has window d → IsInUnion c.as_slice.result.now d ↔ parted d = λ d has. (λ u. ((cells d).0 u).1, λ o. (cells d).1 (has, o)) in
-    found_in parted window (IsInUnion c.as_slice.result.now) same c.union_rects.result c.union_rects.ensures.cells c.union_rects.ensures.apart
+    let swapped = IfOk-weaker c.open_cells.result (λ (found : Vec Rect Global). (d : Cell) → IsInUnion found.items d ↔ (Has window d × parted d))
+    (λ (found : Vec Rect Global). (d : Cell) → IsInUnion found.items d ↔ (parted d × Has window d))
+    (λ found are d. (λ u. let h = (are d).0 u in (h.1, h.0), λ h. (are d).1 (h.1, h.0)))
+    c.open_cells.ensures.cells in
+    found_in parted window parted (λ d has. (λ o. o, λ o. o)) c.open_cells.result swapped c.open_cells.ensures.apart

@@ -1,7 +1,7 @@
 use Rattle.std.proofs.Common.{◌/◌, arith, sym, subst}
 use Rattle.fault_model.specs.FaultNames.{cells_of}
 use Rattle.short_area.specs.Labels.{TouchesTwoLabels}
-use Rattle.map_regions.specs.inside.FoundRects.{AreRectsOf}
+use Rattle.map_regions.specs.inside.FoundRects.{AreWantedRects}
 use Rattle.map_regions.proofs.PieceFaults.{touches_none}
 use Rattle.map_regions.proofs.RectLaws.{found_in, none_wanted}
 use Rattle.map_regions.proofs.kinds.shorts.Goals as goal
@@ -10,7 +10,7 @@ pub returns-then-side-lt2 : goal.returns-then-side-lt2
 returns-then-side-lt2 c =
     let touched = TouchesTwoLabels c.args.pieces.now (c.args.side / 2) in
     let cells = cells_of c.args.window in
-    subst (AreRectsOf touched cells) (sym c.new.ensures.items)
+    subst (AreWantedRects touched cells) (sym c.new.ensures.items)
     (none_wanted touched cells (λ d listed t. touches_none c.args.pieces.now (c.args.side / 2) d (omega arith) t))
 
 pub returns : goal.returns

@@ -8,7 +8,7 @@ use Rattle.short_area.specs.Labels.{TouchesTwoLabels}
 use Rattle.via_clusters.specs.Blocks.{CoversSomeBox}
 use Rattle.critical_areas.specs.AskedCounts.{IsCountedAs}
 use Rattle.critical_areas.proofs.laws.ListLaws.{read_list}
-use Rattle.map_regions.specs.inside.FoundRects.{AreRectsOf}
+use Rattle.map_regions.specs.inside.FoundRects.{AreWantedRects}
 use Rattle.map_regions.proofs.rows.rects_in.Goals as goal
 
 -- a list that was read is the one with its number
@@ -27,9 +27,9 @@ returns-in-Short c =
     let small = c.requires.numbered.of_metal (λ via. cc (c.in-Short.is, via)) in
     let read = list_read c.as_slice.result.now parts.metals number c.index-as_slice-layer.result c.as_slice-pieces.result.now c.as_slice.ensures small c.index-as_slice-layer.is
     c.as_slice-pieces.ensures in
-    let Found = λ (kind : Kind). IfOk c.shorts.result (λ rects. AreRectsOf (IsCountedAs kind parts number side) cells rects.items) in
+    let Found = λ (kind : Kind). IfOk c.shorts.result (λ rects. AreWantedRects (IsCountedAs kind parts number side) cells rects.items) in
     subst Found (sym c.in-Short.is)
-    (subst (λ (pieces : List Labelled). IfOk c.shorts.result (λ rects. AreRectsOf (TouchesTwoLabels pieces (side / 2)) cells rects.items)) read c.shorts.ensures)
+    (subst (λ (pieces : List Labelled). IfOk c.shorts.result (λ rects. AreWantedRects (TouchesTwoLabels pieces (side / 2)) cells rects.items)) read c.shorts.ensures)
 
 pub returns-in-Open : goal.returns-in-Open
 returns-in-Open c =
@@ -41,9 +41,9 @@ returns-in-Open c =
     let small : number < length parts.islands = omega (arith, of_metal, parts.islands_each) in
     let read = list_read c.as_slice-in-Open.result.now parts.islands number c.index-as_slice-layer-in-Open.result c.as_slice-islands.result.now c.as_slice-in-Open.ensures small
     c.index-as_slice-layer-in-Open.is c.as_slice-islands.ensures in
-    let Found = λ (kind : Kind). IfOk c.opens.result (λ rects. AreRectsOf (IsCountedAs kind parts number side) cells rects.items) in
+    let Found = λ (kind : Kind). IfOk c.opens.result (λ rects. AreWantedRects (IsCountedAs kind parts number side) cells rects.items) in
     subst Found (sym c.in-Open.is)
-    (subst (λ (islands : List IslandLists). IfOk c.opens.result (λ rects. AreRectsOf (IsSomeOpen islands side) cells rects.items)) read c.opens.ensures)
+    (subst (λ (islands : List IslandLists). IfOk c.opens.result (λ rects. AreWantedRects (IsSomeOpen islands side) cells rects.items)) read c.opens.ensures)
 
 pub returns-in-Via : goal.returns-in-Via
 returns-in-Via c =
@@ -59,6 +59,6 @@ returns-in-Via c =
     let boxes = c.as_slice-boxes.result.now in
     let at = subst (λ n. c.index-as_slice-cut.result ≡ get_or c.as_slice-in-Via-2.result.now n c.index-as_slice-cut.result) same c.index-as_slice-cut.is in
     let read = list_read c.as_slice-in-Via-2.result.now parts.cuts k c.index-as_slice-cut.result boxes c.as_slice-in-Via-2.ensures small at c.as_slice-boxes.ensures in
-    let Found = λ (kind : Kind). IfOk c.blocks-in-Via.result (λ rects. AreRectsOf (IsCountedAs kind parts number side) cells rects.items) in
+    let Found = λ (kind : Kind). IfOk c.blocks-in-Via.result (λ rects. AreWantedRects (IsCountedAs kind parts number side) cells rects.items) in
     subst Found (sym c.in-Via.is)
-    (subst (λ (boxed : List Rect). IfOk c.blocks-in-Via.result (λ rects. AreRectsOf (CoversSomeBox boxed ((side + 1) / 2)) cells rects.items)) read c.blocks-in-Via.ensures)
+    (subst (λ (boxed : List Rect). IfOk c.blocks-in-Via.result (λ rects. AreWantedRects (CoversSomeBox boxed ((side + 1) / 2)) cells rects.items)) read c.blocks-in-Via.ensures)

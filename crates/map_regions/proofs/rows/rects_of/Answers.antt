@@ -3,7 +3,7 @@ use Rattle.lists.proofs.Containing.{Contains-none}
 use Rattle.geo_core.specs.declared.plane.Rect.{Rect}
 use Rattle.fault_model.specs.FaultNames.{cells_of_window}
 use Rattle.critical_areas.specs.AskedCounts.{IsCountedAs}
-use Rattle.map_regions.specs.inside.FoundRects.{AreRectsOf}
+use Rattle.map_regions.specs.inside.FoundRects.{AreWantedRects}
 use Rattle.map_regions.proofs.RectLaws.{none_wanted}
 use Rattle.map_regions.proofs.rows.rects_of.Goals as goal
 
@@ -15,4 +15,4 @@ returns-in-None c =
 pub returns-in-Some : goal.returns-in-Some
 returns-in-Some c =
     let counted = IsCountedAs c.args.kind c.args.parts.now c.args.number c.args.side in
-    subst (λ (window : Option Rect). IfOk c.rects_in.result (λ rects. AreRectsOf counted (cells_of_window window) rects.items)) (sym c.in-Some.is) c.rects_in.ensures
+    subst (λ (window : Option Rect). IfOk c.rects_in.result (λ rects. AreWantedRects counted (cells_of_window window) rects.items)) (sym c.in-Some.is) c.rects_in.ensures

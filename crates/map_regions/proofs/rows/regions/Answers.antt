@@ -14,7 +14,7 @@ use Rattle.critical_areas.specs.AreaParts.{ArePartsOf}
 use Rattle.critical_areas.specs.AskedCounts.{IsCountedAs}
 use Rattle.critical_areas.specs.declared.parts.Parts.{Parts}
 use Rattle.map_regions.specs.Regions.{IsNumberFor, IsRegion}
-use Rattle.map_regions.specs.inside.FoundRects.{AreRectsOf}
+use Rattle.map_regions.specs.inside.FoundRects.{AreWantedRects}
 use Rattle.map_regions.proofs.CountedFaults.{number_in_parts, region_is}
 use Rattle.map_regions.proofs.rows.regions.Goals as goal
 
@@ -56,7 +56,7 @@ returns c =
     let by_reach = subst (λ ls. IsWindowOf (IsCovered (IsCoveredIn ls)) c.reach.result window) c.as_slice.ensures.value c.window_of-window.ensures in
     let is_window = subst (λ r. IsWindowOf (IsCovered (IsCoveredIn lists)) r window) c.reach.ensures.reach by_reach in
     let some = subst (λ (s : ℕ). 1 ≤ s) c.side-side.ensures.side c.side-side.ensures.within.least in
-    let Found : ℕ → Type 0 = λ side. AreRectsOf (IsCountedAs kind parts number side) (cells_of_window window) rects.items in
+    let Found : ℕ → Type 0 = λ side. AreWantedRects (IsCountedAs kind parts number side) (cells_of_window window) rects.items in
     let found = subst Found c.side-side.ensures.side c.in_ok-rects_of.ensures in
     let of_parts = numbered map lists parts are kind number c.requires.numbered in
     passes (IsOnItsMetal lists) off_metal (λ (made : Vec Rect Global). IsRegion layer_map (IsCoveredIn lists) kind number size made.items) (enumerate_from 0 layer_map.terminals) rects (passed c.in_ok-parts.ensures)
