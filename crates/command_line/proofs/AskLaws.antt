@@ -6,14 +6,19 @@ use Rattle.command_line.specs.declared.cause.Refusal.TheVariants.{Words, Memory}
 use Rattle.command_line.specs.declared.cause.WordsCause.{WordsCause}
 use Rattle.command_line.specs.declared.option_name.OptionName.{OptionName}
 use Rattle.command_line.specs.declared.option_name.OptionName.TheVariants.{Map, Top, Tile, Workers, Layer, Datatype, Radius, Generate, Pairs, Probe}
+use Rattle.command_line.specs.declared.option_name.OptionName.TheVariants.{Regions}
 use Rattle.command_line.specs.declared.request.Request.{Request}
 use Rattle.command_line.specs.declared.task.Task.{Task}
 use Rattle.command_line.specs.inside.Arguments.{AreSingle}
 use Rattle.command_line.specs.inside.WordsRefusals.{HasCause, IsFirstCause}
 use Rattle.command_line.specs.OptionNames.{Text}
-use Rattle.command_line.specs.Requests.{Ask, GiveNoOther, HasNoEmptyText, IsCellOnce, IsNumberOnce, IsNumberOrDefault, IsTextIfGiven, as_given as number_given, left_out, IsTask, of_one_metal, of_map, of_pairs, of_probe, of_generator, options_for, IsRequestOf, values_of}
+use Rattle.command_line.specs.Requests.{AreRegionsOnce, Ask, GiveNoOther, HasNoEmptyText, IsCellOnce, IsNumberOnce, IsNumberOrDefault}
+use Rattle.command_line.specs.Requests.{IsTextIfGiven, as_given as number_given, left_out, IsTask, of_one_metal, of_map, of_pairs, of_probe}
+use Rattle.command_line.specs.Requests.{of_regions, of_generator, options_for, IsRequestOf, values_of}
 use Rattle.command_line.specs.Spelling.{Given, AreSpelled}
-use Rattle.command_line.specs.WordsCauses.{IsCauseOf, bad_number, no_cell, bad_column, bad_row, no_layout, layout_beside_generate, beside_generate, beside_map, no_map, two_tasks, beside_task, missing, no_metals, metal_options}
+use Rattle.command_line.specs.WordsCauses.{IsCauseOf, bad_number, no_cell, bad_column, bad_row, no_region, bad_kind, bad_layer_name}
+use Rattle.command_line.specs.WordsCauses.{bad_size_number, no_layout, layout_beside_generate, beside_generate, beside_map, no_map, two_tasks}
+use Rattle.command_line.specs.WordsCauses.{beside_task, missing, no_metals, metal_options}
 use Rattle.command_line.proofs.SpellingLaws.{spellings_agree}
 
 -- ---- the same values ask for the same
@@ -33,6 +38,8 @@ module _ (v w : OptionName → List Text) (p q : List Text) (same : (name : Opti
       of_pairs (sym at ∙ layout) (sym (same Map) ∙ map) (once_moved Pairs 1 32 n size) (sym (same Top) ∙ top)
   task_moved task (of_probe {cell = c} layout map cell top) =
       of_probe (sym at ∙ layout) (sym (same Map) ∙ map) (subst (λ t. IsCellOnce t c) (same Probe) cell) (sym (same Top) ∙ top)
+  task_moved task (of_regions {kind = k} {layer = l} {size = n} layout map once top) =
+      of_regions (sym at ∙ layout) (sym (same Map) ∙ map) (subst (λ t. AreRegionsOnce t k l n) (same Regions) once) (sym (same Top) ∙ top)
   task_moved task (of_generator {columns = n} none columns) = of_generator (sym at ∙ none) (once_moved Generate 1 500 n columns)
 
   pub request_moved : (request : Request) → IsRequestOf v p request → IsRequestOf w q request
@@ -48,6 +55,10 @@ module _ (v w : OptionName → List Text) (p q : List Text) (same : (name : Opti
   cause_moved cause (no_cell one none) = no_cell (sym (same Probe) ∙ one) none
   cause_moved cause (bad_column one parts none) = bad_column (sym (same Probe) ∙ one) parts none
   cause_moved cause (bad_row one parts column none) = bad_row (sym (same Probe) ∙ one) parts column none
+  cause_moved cause (no_region one none) = no_region (sym (same Regions) ∙ one) none
+  cause_moved cause (bad_kind one parts none) = bad_kind (sym (same Regions) ∙ one) parts none
+  cause_moved cause (bad_layer_name kind one parts none) = bad_layer_name kind (sym (same Regions) ∙ one) parts none
+  cause_moved cause (bad_size_number kind one parts name none) = bad_size_number kind (sym (same Regions) ∙ one) parts name none
   cause_moved cause (no_layout none columns) = no_layout (sym at ∙ none) (sym (same Generate) ∙ columns)
   cause_moved cause (layout_beside_generate one columns) = layout_beside_generate (sym at ∙ one) (λ none. columns (same Generate ∙ none))
   cause_moved cause (beside_generate {name = name} columns listed some) = beside_generate (λ none. columns (same Generate ∙ none)) listed (λ none. some (same name ∙ none))
@@ -104,6 +115,7 @@ module _ (values : OptionName → List Text) (positions : List Text) where
   positions_few task (of_map {layout = l} at _ _) = one_is_few positions l at
   positions_few task (of_pairs {layout = l} at _ _ _) = one_is_few positions l at
   positions_few task (of_probe {layout = l} at _ _ _) = one_is_few positions l at
+  positions_few task (of_regions {layout = l} at _ _ _) = one_is_few positions l at
   positions_few task (of_generator none _) = none_is_few positions none
 
   values_few : (request : Request) → IsRequestOf values positions request → (task : Task) → IsTask values positions task → GiveNoOther values (options_for task)
@@ -120,6 +132,9 @@ module _ (values : OptionName → List Text) (positions : List Text) where
   values_few request asked task (of_probe {map = m} _ map _ _) others Map = one_is_few (values Map) m map
   values_few request asked task (of_probe _ _ once _) others Probe = one_is_few (values Probe) once.text once.once
   values_few request asked task (of_probe {top = t} _ _ _ top) others Top = given_is_few (values Top) t top
+  values_few request asked task (of_regions {map = m} _ map _ _) others Map = one_is_few (values Map) m map
+  values_few request asked task (of_regions _ _ once _) others Regions = one_is_few (values Regions) once.text once.once
+  values_few request asked task (of_regions {top = t} _ _ _ top) others Top = given_is_few (values Top) t top
   values_few request asked task (of_generator {columns = n} _ columns) others Generate = once_is_few 1 500 (values Generate) n columns
   values_few request asked task is others Tile = default_is_few 1 1000000000 (values Tile) request.edge 65536 asked.edge
   values_few request asked task is others Workers = default_is_few 1 64 (values Workers) request.workers 4 asked.workers

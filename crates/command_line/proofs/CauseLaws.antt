@@ -1,30 +1,43 @@
 -- words that have a cause why they ask for nothing ask for nothing, and which of several causes is told
 use Rattle.std.proofs.Common.{ℕ, ◌≤◌, ◌<◌, List, [], ◌∷◌, ◌++◌, ◌≡◌, ◌≢◌, ◌∙◌, sym, ap, refl, arith, All, Contains, Some, None, Option, codes, drop, length, lit<, subst, append_assoc, Bool, true, false, ◌||◌}
-use Rattle.lists.proofs.Words.{flat_map, list_any, All-cons, All-contains, All-head, All-nil, All-tail}
+use Rattle.lists.proofs.Words.{flat_map, list_any, All-cons, All-contains, All-head, All-nil, All-tail, All-weaker}
 use Rattle.first_refusal.specs.Laws.{IsUnique}
 use Rattle.geo_core.specs.declared.plane.Cell.{Cell}
+use Rattle.questions.specs.KindTexts.{kind_text}
+use Rattle.questions.specs.declared.kind.Kind.{Kind}
 use Rattle.command_line.specs.declared.cause.Refusal.{Refusal}
 use Rattle.command_line.specs.declared.cause.Refusal.TheVariants.{Words, Memory}
 use Rattle.command_line.specs.declared.cause.WordsCause.{WordsCause}
 use Rattle.command_line.specs.declared.cause.WordsCause.TheVariants.{NoWords, NoOption, NoValue, NoLayout}
 use Rattle.command_line.specs.declared.option_name.OptionName.{OptionName}
 use Rattle.command_line.specs.declared.option_name.OptionName.TheVariants.{Map, Top, Tile, Workers, Layer, Datatype, Radius, Generate, Pairs, Probe}
+use Rattle.command_line.specs.declared.option_name.OptionName.TheVariants.{Regions}
 use Rattle.command_line.specs.declared.range.NumberRange.{NumberRange}
 use Rattle.command_line.specs.declared.request.Request.{Request}
 use Rattle.command_line.specs.declared.task.Task.{Task}
 use Rattle.command_line.specs.inside.Arguments.{AreSingle, HasRead}
+use Rattle.command_line.specs.inside.Readings.{IsGivenAlone}
 use Rattle.command_line.specs.inside.WordsRefusals.{HasCause, IsFirstCause, IsOfForm}
 use Rattle.command_line.specs.Cells.{IsCellText}
 use Rattle.command_line.specs.Numbers.{IsNumber}
 use Rattle.command_line.specs.OptionNames.{Text, range_of}
-use Rattle.command_line.specs.Requests.{Ask, GiveNoOther, HasNoEmptyText, IsNotEmpty, IsNumberOnce, IsNumberOrDefault, as_given as number_given, left_out, IsTask, of_one_metal, of_map, of_pairs, of_probe, of_generator, options_for, IsRequestOf, is_one_of, permitted, permitted_on_files, values_of}
+use Rattle.command_line.specs.RegionTexts.{IsRegionText}
+use Rattle.command_line.specs.Requests.{AreRegionsOnce, Ask, GiveNoOther, HasNoEmptyText, IsNotEmpty, IsCellOnce, IsNumberOnce, IsNumberOrDefault}
+use Rattle.command_line.specs.Requests.{as_given as number_given, left_out, IsTask, of_one_metal, of_map, of_pairs, of_probe, of_regions}
+use Rattle.command_line.specs.Requests.{of_generator, options_for, IsRequestOf, is_one_of, permitted, permitted_on_files, values_of}
 use Rattle.command_line.specs.Spelling.{Argument, in_one_word, in_two_words, positional, Given, AreSpelled, IsClearlySpelled, IsPlain, last_words, name_word, whole_word, words_of}
-use Rattle.command_line.specs.WordsCauses.{BeginWithNone, no_option, no_value, dashed_value, StopFor, IsCauseOf, bad_number, no_cell, bad_column, bad_row, no_layout, layout_beside_generate, beside_generate, beside_map, no_map, two_tasks, beside_task, missing, no_metals, IsCauseIn, empty_value, empty_layout, twice, two_layouts, of_values, IsCause, no_words, not_spelled, as_given, file_options, metal_options, order_of, task_options}
+use Rattle.command_line.specs.WordsCauses.{BeginWithNone, no_option, no_value, dashed_value, StopFor, IsCauseOf, bad_number, no_cell, bad_column}
+use Rattle.command_line.specs.WordsCauses.{bad_row, no_region, bad_kind, bad_layer_name, bad_size_number, no_layout, layout_beside_generate}
+use Rattle.command_line.specs.WordsCauses.{beside_generate, beside_map, no_map, two_tasks, beside_task, missing, no_metals, IsCauseIn, empty_value}
+use Rattle.command_line.specs.WordsCauses.{empty_layout, twice, two_layouts, of_values, IsCause, no_words, not_spelled, as_given, file_options}
+use Rattle.command_line.specs.WordsCauses.{metal_options, order_of, task_options}
+use Rattle.command_line.proofs.AloneLaws.{no_two}
 use Rattle.command_line.proofs.AskLaws.{asks_by_texts, asks_for, asks_once}
 use Rattle.command_line.proofs.ReadingLaws.{all_read, nothing_read}
 use Rattle.command_line.proofs.TaskLaws.{one_is_some}
 use Rattle.command_line.proofs.CellLaws.{has_parts, parts_of_cell}
-use Rattle.command_line.proofs.OrderLaws.{checked, first_given, second_given}
+use Rattle.command_line.proofs.OrderLaws.{checked, none_before}
+use Rattle.command_line.proofs.RegionLaws.{has_three, parts_of_region}
 use Rattle.command_line.proofs.SpellingLaws.{plain_has_no_dashes, whole_is_no_name, no_nameless, first_is_one, name_word_is, Follows, follow, spellings_agree}
 
 -- ---- words that are not spelled
@@ -141,6 +154,7 @@ module _ (values : OptionName → List Text) (positions : List Text) where
   fits request asked task is others Map range value within one none = cc within
   fits request asked task is others Top range value within one none = cc within
   fits request asked task is others Probe range value within one none = cc within
+  fits request asked task is others Regions range value within one none = cc within
   fits request asked task (of_pairs {size = n} _ _ size _) others Pairs range value within one none = not_once range (values Pairs) value one none 1 32 n within size
   fits request asked task is others Tile range value within one none = not_or_default range (values Tile) value one none 1 1000000000 65536 request.edge within asked.edge
   fits request asked task is others Workers range value within one none = not_or_default range (values Workers) value one none 1 64 4 request.workers within asked.workers
@@ -150,58 +164,98 @@ module _ (values : OptionName → List Text) (positions : List Text) where
   fits request asked task (of_generator {columns = n} _ columns) others Generate range value within one none = not_once range (values Generate) value one none 1 500 n within columns
   fits request asked task is others name range value within one none = one_is_some (values name) value one (others name refl)
 
+  -- the options of a list that has none of the task's are left out
+  are_left_out : (names : List OptionName) → GiveNoOther values names → (others : List OptionName) → list_any (is_one_of names) others ≡ false
+      → All (λ name. values name ≡ []) others
+  are_left_out names no_other others none =
+      All-weaker (λ name. is_one_of names name ≡ false) (λ name. values name ≡ []) no_other others (none_of names others none)
+
+  -- and so a task that gives one option that asks for something other than a report gives that one alone
+  alone : (names : List OptionName) → GiveNoOther values names → (asked : OptionName) (before behind : List OptionName)
+      → task_options ≡ before ++ asked ∷ behind
+      → list_any (is_one_of names) before ≡ false → list_any (is_one_of names) behind ≡ false → values asked ≢ []
+      → IsGivenAlone values task_options asked
+  alone names no_other asked before behind are front back given = record {
+    behind = behind;
+    first = record { before = before; are = are; none_before = are_left_out names no_other before front; given = given };
+    none_behind = are_left_out names no_other behind back;
+  }
+
+  -- what a task gives that asks for something other than a report
+  pairs_alone : (size : ℕ) → IsNumberOnce 1 32 (values Pairs) size → GiveNoOther values (Map ∷ Pairs ∷ Top ∷ [])
+      → IsGivenAlone values task_options Pairs
+  pairs_alone n size others =
+      alone (Map ∷ Pairs ∷ Top ∷ []) others Pairs [] (Probe ∷ Regions ∷ []) refl refl refl (one_is_some (values Pairs) size.text size.once)
+
+  probe_alone : (cell : Cell) → IsCellOnce (values Probe) cell → GiveNoOther values (Map ∷ Probe ∷ Top ∷ []) → IsGivenAlone values task_options Probe
+  probe_alone c cell others =
+      alone (Map ∷ Probe ∷ Top ∷ []) others Probe (Pairs ∷ []) (Regions ∷ []) refl refl refl (one_is_some (values Probe) cell.text cell.once)
+
+  regions_alone : (kind : Kind) (layer : Text) (size : ℕ) → AreRegionsOnce (values Regions) kind layer size
+      → GiveNoOther values (Map ∷ Regions ∷ Top ∷ [])
+      → IsGivenAlone values task_options Regions
+  regions_alone k l n regions others =
+      alone (Map ∷ Regions ∷ Top ∷ []) others Regions (Pairs ∷ Probe ∷ []) [] refl refl refl (one_is_some (values Regions) regions.text regions.once)
+
   -- such a task has no cause but a value that is not of its option's form
   no_form : (cause : WordsCause) → IsCauseOf values positions cause → order_of cause < 14 → (task : Task) → IsTask values positions task → GiveNoOther values (options_for task) → ⊥
   no_form cause (bad_number _ _ _) early task is others = absurd (omega arith)
   no_form cause (no_cell _ _) early task is others = absurd (omega arith)
   no_form cause (bad_column _ _ _) early task is others = absurd (omega arith)
   no_form cause (bad_row _ _ _ _) early task is others = absurd (omega arith)
+  no_form cause (no_region _ _) early task is others = absurd (omega arith)
+  no_form cause (bad_kind _ _ _) early task is others = absurd (omega arith)
+  no_form cause (bad_layer_name _ _ _ _) early task is others = absurd (omega arith)
+  no_form cause (bad_size_number _ _ _ _ _) early task is others = absurd (omega arith)
   no_form cause (no_layout none no_columns) early task (of_one_metal at _ _ _ _) others = let s = sym none ∙ at in cc s
   no_form cause (no_layout none no_columns) early task (of_map at _ _) others = let s = sym none ∙ at in cc s
   no_form cause (no_layout none no_columns) early task (of_pairs at _ _ _) others = let s = sym none ∙ at in cc s
   no_form cause (no_layout none no_columns) early task (of_probe at _ _ _) others = let s = sym none ∙ at in cc s
+  no_form cause (no_layout none no_columns) early task (of_regions at _ _ _) others = let s = sym none ∙ at in cc s
   no_form cause (no_layout none no_columns) early task (of_generator _ columns) others = one_is_some (values Generate) columns.text columns.once no_columns
   no_form cause (layout_beside_generate one columns) early task (of_generator none _) others = let s = sym one ∙ none in cc s
-  no_form cause (layout_beside_generate one columns) early task (of_one_metal _ _ _ _ _) others = columns (others Generate refl)
-  no_form cause (layout_beside_generate one columns) early task (of_map _ _ _) others = columns (others Generate refl)
-  no_form cause (layout_beside_generate one columns) early task (of_pairs _ _ _ _) others = columns (others Generate refl)
-  no_form cause (layout_beside_generate one columns) early task (of_probe _ _ _ _) others = columns (others Generate refl)
+  no_form cause (layout_beside_generate one columns) early task is others = columns (others Generate refl)
   no_form cause (beside_generate {name = name} columns listed some) early task (of_generator _ _) others = some (others name (is_none_of (Generate ∷ permitted) file_options refl name listed))
-  no_form cause (beside_generate columns listed some) early task (of_one_metal _ _ _ _ _) others = columns (others Generate refl)
-  no_form cause (beside_generate columns listed some) early task (of_map _ _ _) others = columns (others Generate refl)
-  no_form cause (beside_generate columns listed some) early task (of_pairs _ _ _ _) others = columns (others Generate refl)
-  no_form cause (beside_generate columns listed some) early task (of_probe _ _ _ _) others = columns (others Generate refl)
+  no_form cause (beside_generate columns listed some) early task is others = columns (others Generate refl)
   no_form cause (beside_map {name = name} map listed some) early task (of_map _ _ _) others = some (others name (is_none_of (Map ∷ permitted_on_files) metal_options refl name listed))
   no_form cause (beside_map {name = name} map listed some) early task (of_pairs _ _ _ _) others = some (others name (is_none_of (Map ∷ Pairs ∷ Top ∷ []) metal_options refl name listed))
   no_form cause (beside_map {name = name} map listed some) early task (of_probe _ _ _ _) others = some (others name (is_none_of (Map ∷ Probe ∷ Top ∷ []) metal_options refl name listed))
-  no_form cause (beside_map map listed some) early task (of_one_metal _ _ _ _ _) others = map (others Map refl)
-  no_form cause (beside_map map listed some) early task (of_generator _ _) others = map (others Map refl)
-  no_form cause (no_map {name = name} none listed some) early task (of_one_metal _ _ _ _ _) others = some (others name (is_none_of (Layer ∷ Datatype ∷ Radius ∷ permitted_on_files) task_options refl name listed))
+  no_form cause (beside_map {name = name} map listed some) early task (of_regions _ _ _ _) others =
+      some (others name (is_none_of (Map ∷ Regions ∷ Top ∷ []) metal_options refl name listed))
+  no_form cause (beside_map map listed some) early task is others = map (others Map refl)
   no_form cause (no_map none listed some) early task (of_map {map = map} _ is _) others = one_is_some (values Map) map is none
   no_form cause (no_map none listed some) early task (of_pairs {map = map} _ is _ _) others = one_is_some (values Map) map is none
   no_form cause (no_map none listed some) early task (of_probe {map = map} _ is _ _) others = one_is_some (values Map) map is none
-  no_form cause (no_map {name = name} none listed some) early task (of_generator _ _) others = some (others name (is_none_of (Generate ∷ permitted) task_options refl name listed))
-  no_form cause (two_tasks {asked = a} {also = b} c d are listed one other) early task (of_one_metal _ _ _ _ _) others = first_given values positions a b c d are listed one (others Pairs refl)
-  no_form cause (two_tasks {asked = a} {also = b} c d are listed one other) early task (of_map _ _ _) others = first_given values positions a b c d are listed one (others Pairs refl)
-  no_form cause (two_tasks {asked = a} {also = b} c d are listed one other) early task (of_pairs _ _ _ _) others = second_given values positions a b c d are listed other (others Probe refl)
-  no_form cause (two_tasks {asked = a} {also = b} c d are listed one other) early task (of_probe _ _ _ _) others = first_given values positions a b c d are listed one (others Pairs refl)
-  no_form cause (two_tasks {asked = a} {also = b} c d are listed one other) early task (of_generator _ _) others = first_given values positions a b c d are listed one (others Pairs refl)
-  no_form cause (beside_task {asked = name} listed some _ _) early task (of_one_metal _ _ _ _ _) others =
-      some (others name (is_none_of (Layer ∷ Datatype ∷ Radius ∷ permitted_on_files) task_options refl name listed))
-  no_form cause (beside_task {asked = name} listed some _ _) early task (of_map _ _ _) others = some (others name (is_none_of (Map ∷ permitted_on_files) task_options refl name listed))
+  no_form cause (no_map none listed some) early task (of_regions {map = map} _ is _ _) others = one_is_some (values Map) map is none
+  no_form cause (no_map {name = name} none listed some) early task is others =
+      some (others name (is_none_of (options_for task) task_options refl name listed))
+  no_form cause (two_tasks {asked = a} {also = b} c d are listed one other) early task (of_pairs {size = n} _ _ size _) others =
+      no_two values task_options Pairs (pairs_alone n size others) a b c d are listed one other
+  no_form cause (two_tasks {asked = a} {also = b} c d are listed one other) early task (of_probe {cell = e} _ _ cell _) others =
+      no_two values task_options Probe (probe_alone e cell others) a b c d are listed one other
+  no_form cause (two_tasks {asked = a} {also = b} c d are in_it one other) early task (of_regions {kind = k} {layer = l} {size = n} _ _ it _) others =
+      no_two values task_options Regions (regions_alone k l n it others) a b c d are in_it one other
+  no_form cause (two_tasks {asked = a} c d are _ one _) early task is others =
+      none_before values positions (are_left_out (options_for task) others task_options refl) a c d are one
   no_form cause (beside_task {name = name} _ _ beside also) early task (of_pairs _ _ _ _) others = also (others name (is_none_of (Map ∷ Pairs ∷ Top ∷ []) permitted refl name beside))
   no_form cause (beside_task {name = name} _ _ beside also) early task (of_probe _ _ _ _) others = also (others name (is_none_of (Map ∷ Probe ∷ Top ∷ []) permitted refl name beside))
-  no_form cause (beside_task {asked = name} listed some _ _) early task (of_generator _ _) others = some (others name (is_none_of (Generate ∷ permitted) task_options refl name listed))
+  no_form cause (beside_task {name = name} _ _ beside also) early task (of_regions _ _ _ _) others =
+      also (others name (is_none_of (Map ∷ Regions ∷ Top ∷ []) permitted refl name beside))
+  no_form cause (beside_task {asked = name} listed some _ _) early task is others =
+      some (others name (is_none_of (options_for task) task_options refl name listed))
   no_form cause (missing {name = name} unmapped no_columns listed none _) early task (of_one_metal {layer = a} {datatype = b} {radius = c} _ layer datatype radius _) others =
       metal_given a b c layer datatype radius name listed none
   no_form cause (missing unmapped no_columns listed none _) early task (of_map {map = map} _ is _) others = one_is_some (values Map) map is unmapped
   no_form cause (missing unmapped no_columns listed none _) early task (of_pairs {map = map} _ is _ _) others = one_is_some (values Map) map is unmapped
   no_form cause (missing unmapped no_columns listed none _) early task (of_probe {map = map} _ is _ _) others = one_is_some (values Map) map is unmapped
+  no_form cause (missing unmapped no_columns listed none _) early task (of_regions {map = map} _ is _ _) others =
+      one_is_some (values Map) map is unmapped
   no_form cause (missing unmapped no_columns listed none _) early task (of_generator _ columns) others = one_is_some (values Generate) columns.text columns.once no_columns
   no_form cause (no_metals unmapped no_columns none) early task (of_one_metal _ layer _ _ _) others = one_is_some (values Layer) layer.text layer.once (none 0 Layer (omega arith))
   no_form cause (no_metals unmapped no_columns none) early task (of_map {map = map} _ is _) others = one_is_some (values Map) map is unmapped
   no_form cause (no_metals unmapped no_columns none) early task (of_pairs {map = map} _ is _ _) others = one_is_some (values Map) map is unmapped
   no_form cause (no_metals unmapped no_columns none) early task (of_probe {map = map} _ is _ _) others = one_is_some (values Map) map is unmapped
+  no_form cause (no_metals unmapped no_columns none) early task (of_regions {map = map} _ is _ _) others = one_is_some (values Map) map is unmapped
   no_form cause (no_metals unmapped no_columns none) early task (of_generator _ columns) others = one_is_some (values Generate) columns.text columns.once no_columns
 
   pub task_form : (task : Task) → IsTask values positions task → GiveNoOther values (options_for task) → IsOfForm values positions
@@ -213,6 +267,14 @@ module _ (values : OptionName → List Text) (positions : List Text) where
       (cell, subst (λ t. IsCellText t cell) (let same : once.text ≡ value = let s = sym once.once ∙ one in cc s in same) once.is_cell)
   cell_of task is others value one = absurd (one_is_some (values Probe) value one (others Probe refl))
 
+  -- where the option of regions has a value, that asks for regions
+  region_of : (task : Task) → IsTask values positions task → GiveNoOther values (options_for task) → (value : Text) → values Regions ≡ value ∷ []
+      → (kind : Kind) × (layer : Text) × (size : ℕ) × IsRegionText value kind layer size
+  region_of task (of_regions {kind = kind} {layer = layer} {size = size} _ _ once _) others value one =
+      let same : once.text ≡ value = let s = sym once.once ∙ one in cc s in
+      (kind, layer, size, subst (λ t. IsRegionText t kind layer size) same once.is_region)
+  region_of task is others value one = absurd (one_is_some (values Regions) value one (others Regions refl))
+
   -- and none at all where it is that of a request
   no_task : (cause : WordsCause) → IsCauseOf values positions cause → (request : Request) → IsRequestOf values positions request → (task : Task) → IsTask values positions task
       → GiveNoOther values (options_for task) → ⊥
@@ -223,6 +285,17 @@ module _ (values : OptionName → List Text) (positions : List Text) where
       let found = cell_of task is others value one in none found.0.i (parts_of_cell value column row found.0 parts found.1).0
   no_task cause (bad_row {value = value} {column = column} {row = row} one parts _ none) request asked task is others =
       let found = cell_of task is others value one in none found.0.j (parts_of_cell value column row found.0 parts found.1).1
+  no_task cause (no_region {value = value} one none) request asked task is others =
+      let found = region_of task is others value one in none _ _ _ (has_three value found.0 found.1 found.2 found.3)
+  no_task cause (bad_kind {value = value} {first = first} {second = second} {third = third} one parts none) request asked task is others =
+      let found = region_of task is others value one in
+      none found.0 (parts_of_region value found.0 found.1 found.2 found.3 first second third parts).0
+  no_task cause (bad_layer_name {value = value} {second = second} {third = third} word one parts none) request asked task is others =
+      let found = region_of task is others value one in
+      none (parts_of_region value found.0 found.1 found.2 found.3 (kind_text word) second third parts).1
+  no_task cause (bad_size_number {value = value} {second = second} {third = third} word one parts name none) request asked task is others =
+      let found = region_of task is others value one in
+      none found.2 (parts_of_region value found.0 found.1 found.2 found.3 (kind_text word) second third parts).2
   no_task cause has request asked task is others = no_form cause has (lit< tt) task is others
 
 -- ---- what words ask for

@@ -17,7 +17,7 @@ use Rattle.command_line.specs.OptionNames.{Text}
 no_digit : (byte other : ℕ) → (digit_value other < 10 → ⊥) → digit_value byte < 10 → byte ≢ other
 no_digit byte other none digit e = none (subst (λ b. digit_value b < 10) e digit)
 
-digits_have_no_comma : (digits : Text) → AllDigits 10 digits → HasNoComma digits
+pub digits_have_no_comma : (digits : Text) → AllDigits 10 digits → HasNoComma digits
 digits_have_no_comma [] are = All-nil (λ byte. byte ≢ 44)
 digits_have_no_comma (d ∷ ds) are = All-cons (λ byte. byte ≢ 44) d ds (no_digit d 44 (λ is. absurd (omega arith)) are.0) (digits_have_no_comma ds are.1)
 
@@ -69,7 +69,8 @@ no_dashed text digits dashed none z (to_0 {digits = other} {n = n} whole number)
 
 -- ---- the parts of a text
 
-parts_are : (column row left right : Text) → HasNoComma column → HasNoComma left → column ++ 44 ∷ row ≡ left ++ 44 ∷ right → (column ≡ left) × (row ≡ right)
+pub parts_are : (column row left right : Text) → HasNoComma column → HasNoComma left → column ++ 44 ∷ row ≡ left ++ 44 ∷ right
+    → (column ≡ left) × (row ≡ right)
 parts_are [] row [] right p q e = let same : row ≡ right = cc e in (refl, same)
 parts_are [] row (c ∷ left) right p q e = let comma : c ≡ 44 = cc e in absurd (All-head (λ byte. byte ≢ 44) c left q comma)
 parts_are (b ∷ column) row [] right p q e = let comma : b ≡ 44 = cc e in absurd (All-head (λ byte. byte ≢ 44) b column p comma)
@@ -109,12 +110,15 @@ have_parts text column row whole before behind = record {
   one_behind = All-from_get_or (λ byte. byte ≢ 44) row 0 behind;
 }
 
+-- a text that has no comma is not cut at one
+pub no_cut : (text : Text) → ((k : ℕ) → k < length text → get_or text k 0 ≢ 44) → (left right : Text) → text ≢ left ++ 44 ∷ right
+no_cut text none left right whole =
+    let all : HasNoComma (left ++ 44 ∷ right) = subst HasNoComma whole (All-from_get_or (λ byte. byte ≢ 44) text 0 none) in
+    All-contains (λ byte. byte ≢ 44) (left ++ 44 ∷ right) 44 all (Contains-append_right left (44 ∷ right) 44 (0, omega arith, refl)) refl
+
 -- none, where it has no comma, and where the second part has one
 pub no_parts : (text : Text) → ((k : ℕ) → k < length text → get_or text k 0 ≢ 44) → (column row : Text) → HasParts text column row → ⊥
-no_parts text none column row parts =
-    let whole : text ≡ column ++ 44 ∷ row = parts.whole ∙ append_assoc column (codes ",") row in
-    let all : HasNoComma (column ++ 44 ∷ row) = subst HasNoComma whole (All-from_get_or (λ byte. byte ≢ 44) text 0 none) in
-    All-contains (λ byte. byte ≢ 44) (column ++ 44 ∷ row) 44 all (Contains-append_right column (44 ∷ row) 44 (0, omega arith, refl)) refl
+no_parts text none column row parts = no_cut text none column row (parts.whole ∙ append_assoc column (codes ",") row)
 
 pub not_parts : (text left right : Text) → text ≡ left ++ 44 ∷ right → ((k : ℕ) → k < length left → get_or left k 0 ≢ 44)
     → (k : ℕ) → k < length right → get_or right k 0 ≡ 44 → (column row : Text) → HasParts text column row → ⊥

@@ -5,6 +5,7 @@ use Rattle.std.proofs.lemmas.List.Sums.{length-filter}
 use Rattle.std.proofs.lemmas.List.Folds.{fold-map}
 use Rattle.command_line.specs.declared.option_name.OptionName.{OptionName}
 use Rattle.command_line.specs.declared.option_name.OptionName.TheVariants.{Map, Top, Tile, Workers, Layer, Datatype, Radius, Generate, Pairs, Probe}
+use Rattle.command_line.specs.declared.option_name.OptionName.TheVariants.{Regions}
 use Rattle.command_line.specs.declared.option_name.TheConstants.{OPTIONS}
 use Rattle.command_line.specs.OptionNames.{Text, name_of}
 use Rattle.command_line.specs.Requests.{IsNotEmpty, values_of}
@@ -84,6 +85,7 @@ each_listed P all Radius = all 6 Map (omega arith)
 each_listed P all Generate = all 7 Map (omega arith)
 each_listed P all Pairs = all 8 Map (omega arith)
 each_listed P all Probe = all 9 Map (omega arith)
+each_listed P all Regions = all 10 Map (omega arith)
 
 module _ (options : Found) where
   -- the option is given once at most

@@ -2,10 +2,12 @@ pub mod MatchLaws
 pub mod SpellingLaws
 pub mod ReadingLaws
 pub mod CheckLaws
+pub mod AloneLaws
 pub mod TaskLaws
 pub mod AskLaws
 pub mod OrderLaws
 pub mod CauseLaws
 pub mod ThereLaws
 pub mod CellLaws
+pub mod RegionLaws
 pub mod LimitLaws

@@ -3,7 +3,8 @@ use Rattle.std.proofs.Common.{ℕ, ◌≡◌, List, ap, subst}
 use Rattle.lists.proofs.Words.{props}
 use Rattle.command_line.specs.OptionNames.{Text}
 use Rattle.command_line.specs.RequestLimits.{IsWithin, IsWithinLimits, IsWithinLimits-prop}
-use Rattle.command_line.specs.Requests.{IsNumberOnce, IsNumberOrDefault, as_given, left_out, IsTask, of_one_metal, of_map, of_pairs, of_probe, of_generator}
+use Rattle.command_line.specs.Requests.{IsNumberOnce, IsNumberOrDefault, as_given, left_out, IsTask, of_one_metal, of_map, of_pairs, of_probe}
+use Rattle.command_line.specs.Requests.{of_regions, of_generator}
 use Rattle.command_line.proofs.CellLaws.{coordinate_within}
 use Rattle.command_line.specs.declared.option_name.OptionName.{OptionName}
 use Rattle.command_line.specs.declared.request.Request.{Request}
@@ -23,6 +24,7 @@ task_within values positions task (of_map p map top) = tt
 task_within values positions task (of_pairs p map size top) = number_within _ _ _ _ size
 task_within values positions task (of_probe p map once top) =
     let is = once.is_cell in (coordinate_within is.column _ is.is_column, coordinate_within is.row _ is.is_row)
+task_within values positions task (of_regions p map once top) = let is = once.is_region.is_size in record { least = is.least; most = is.most }
 task_within values positions task (of_generator p columns) = number_within _ _ _ _ columns
 
 abbrev RequestFacts : Task × ℕ × ℕ → Type 0

@@ -13,6 +13,7 @@ use Rattle.clap.specs.declared.parser.matches.ValueSource.TheVariants.{CommandLi
 use Rattle.clap.proofs.OnLiterals.{clap_on_literals}
 use Rattle.command_line.specs.declared.option_name.OptionName.{OptionName}
 use Rattle.command_line.specs.declared.option_name.OptionName.TheVariants.{Map, Top, Tile, Workers, Layer, Datatype, Radius, Generate, Pairs, Probe}
+use Rattle.command_line.specs.declared.option_name.OptionName.TheVariants.{Regions}
 use Rattle.command_line.specs.OptionNames.{Text, name_of}
 use Rattle.command_line.specs.Requests.{values_of}
 use Rattle.command_line.specs.Spelling.{Given, whole_word}
@@ -70,8 +71,20 @@ met : (name : OptionName) (value : Text) (rows : List Row) → walked rules [] (
     (with_values (name_of name) AsWritten CommandLine (value ∷ []) (without (name_of name) rows))
 unfolding clap_on_literals
 met name value rows =
-    elim name as (λ n. walked rules [] (walk_with rows) (whole_word n value) ≡ walk_with (with_values (name_of n) AsWritten CommandLine (value ∷ []) (without (name_of n) rows)))
-    [ Map ↦ refl | Top ↦ refl | Tile ↦ refl | Workers ↦ refl | Layer ↦ refl | Datatype ↦ refl | Radius ↦ refl | Generate ↦ refl | Pairs ↦ refl | Probe ↦ refl ]
+    elim name as (λ n. walked rules [] (walk_with rows) (whole_word n value) ≡ walk_with
+    (with_values (name_of n) AsWritten CommandLine (value ∷ []) (without (name_of n) rows))) [
+      | Map ↦ refl
+      | Top ↦ refl
+      | Tile ↦ refl
+      | Workers ↦ refl
+      | Layer ↦ refl
+      | Datatype ↦ refl
+      | Radius ↦ refl
+      | Generate ↦ refl
+      | Pairs ↦ refl
+      | Probe ↦ refl
+      | Regions ↦ refl
+    ]
 
 passes : (name : OptionName) (value : Text) (rows : List Row) → has_row (name_of name) rows ≡ false → turn_passes top [] (walk_with rows) (whole_word name value) ≡ true
 unfolding clap_on_literals
@@ -141,7 +154,19 @@ over_options after step done (o ∷ os) rest once =
 
 not_layout : (name : OptionName) → bytes_eq (name_of name) (codes "layout") ≡ false
 not_layout name =
-    elim name as (λ n. bytes_eq (name_of n) (codes "layout") ≡ false) [ Map ↦ refl | Top ↦ refl | Tile ↦ refl | Workers ↦ refl | Layer ↦ refl | Datatype ↦ refl | Radius ↦ refl | Generate ↦ refl | Pairs ↦ refl | Probe ↦ refl ]
+    elim name as (λ n. bytes_eq (name_of n) (codes "layout") ≡ false) [
+      | Map ↦ refl
+      | Top ↦ refl
+      | Tile ↦ refl
+      | Workers ↦ refl
+      | Layer ↦ refl
+      | Datatype ↦ refl
+      | Radius ↦ refl
+      | Generate ↦ refl
+      | Pairs ↦ refl
+      | Probe ↦ refl
+      | Regions ↦ refl
+    ]
 
 -- no option has the row of the positional word
 no_layout : (options : Options) → has_row (codes "layout") (rows_of_options options) ≡ false
@@ -175,7 +200,7 @@ pub record EndsWith (w : Walk) (rows : List Row) : Type 0 where
   pub finished_rows : finished rules w.held ≡ rows
 
 rules_have_no_defaults : HaveNoDefaults rules
-rules_have_no_defaults = (refl, (refl, (refl, (refl, (refl, (refl, (refl, (refl, (refl, (refl, (refl, (refl, tt))))))))))))
+rules_have_no_defaults = (refl, (refl, (refl, (refl, (refl, (refl, (refl, (refl, (refl, (refl, (refl, (refl, (refl, tt)))))))))))))
 
 module _ (rows : List Row) (fresh : has_row (codes "layout") rows ≡ false) where
   ends : (positions : List Text) → length positions ≤ 1 → EndsWith (fold (walked rules []) (walk_with rows) (position_words positions)) (rows ++ layout_rows positions)
@@ -237,7 +262,19 @@ taken given single =
 
 not_option : (name : OptionName) → bytes_eq (codes "layout") (name_of name) ≡ false
 not_option name =
-    elim name as (λ n. bytes_eq (codes "layout") (name_of n) ≡ false) [ Map ↦ refl | Top ↦ refl | Tile ↦ refl | Workers ↦ refl | Layer ↦ refl | Datatype ↦ refl | Radius ↦ refl | Generate ↦ refl | Pairs ↦ refl | Probe ↦ refl ]
+    elim name as (λ n. bytes_eq (codes "layout") (name_of n) ≡ false) [
+      | Map ↦ refl
+      | Top ↦ refl
+      | Tile ↦ refl
+      | Workers ↦ refl
+      | Layer ↦ refl
+      | Datatype ↦ refl
+      | Radius ↦ refl
+      | Generate ↦ refl
+      | Pairs ↦ refl
+      | Probe ↦ refl
+      | Regions ↦ refl
+    ]
 
 -- the texts that the matches have under this id: one or none
 abbrev found : Text → List Row → List Text

@@ -1,32 +1,19 @@
 -- which of several causes is told
-use Rattle.std.proofs.Common.{◌≤◌, ◌<◌, List, [], ◌∷◌, ◌++◌, ◌≡◌, ◌≢◌, ◌∙◌, sym, ap, refl, arith, All, Contains, length, lit≤, subst}
-use Rattle.lists.proofs.Words.{All-cons, All-contains, All-nil}
+use Rattle.std.proofs.Common.{◌≤◌, ◌<◌, List, [], ◌∷◌, ◌++◌, ◌≡◌, ◌≢◌, ◌∙◌, sym, ap, arith, All, Contains, length, lit≤, subst}
+use Rattle.lists.proofs.Containing.{All-back}
+use Rattle.lists.proofs.Words.{All-contains}
 use Rattle.command_line.specs.declared.cause.WordsCause.{WordsCause}
 use Rattle.command_line.specs.declared.cause.WordsCause.TheVariants.{EmptyValue, EmptyLayout, Twice, TwoLayouts, NoLayout, LayoutBesideGenerate, BesideGenerate, BesideMap, NoMap, TwoTasks, BesideTask, Missing, NoMetals}
 use Rattle.command_line.specs.declared.option_name.OptionName.{OptionName}
-use Rattle.command_line.specs.declared.option_name.OptionName.TheVariants.{Map, Generate, Pairs, Probe}
+use Rattle.command_line.specs.declared.option_name.OptionName.TheVariants.{Map, Top, Generate}
 use Rattle.command_line.specs.inside.Arguments.{AreSingle}
+use Rattle.command_line.specs.inside.Readings.{IsFirstGiven, IsGivenAlone}
 use Rattle.command_line.specs.inside.WordsRefusals.{IsFirstCause, IsOfForm}
 use Rattle.command_line.specs.OptionNames.{Text}
 use Rattle.command_line.specs.Requests.{HasNoEmptyText, IsNotEmpty, permitted, values_of}
 use Rattle.command_line.specs.Spelling.{Given}
 use Rattle.command_line.specs.WordsCauses.{IsOneGiven, IsCauseOf, no_layout, layout_beside_generate, beside_generate, beside_map, no_map, two_tasks, beside_task, missing, no_metals, IsCauseIn, empty_value, empty_layout, twice, two_layouts, of_values, file_options, metal_options, order_of, task_options}
-use Rattle.command_line.proofs.TaskLaws.{no_task}
-
--- ---- two options that ask for something other than a report
-
--- where one stands behind another, they are that of pairs and that of a probe
-two_are : (asked also : OptionName) (before behind : List OptionName) → task_options ≡ before ++ asked ∷ behind → Contains behind also → (asked ≡ Pairs) × (also ≡ Probe)
-two_are asked also [] behind e listed =
-    let first : asked ≡ Pairs = cc e in
-    let rest : Probe ∷ [] ≡ behind = cc e in
-    let IsProbe : OptionName → Type 0 = λ name. name ≡ Probe in
-    (first, All-contains IsProbe behind also (subst (All IsProbe) rest (All-cons IsProbe Probe [] refl (All-nil IsProbe))) listed)
-two_are asked also (x ∷ []) behind e listed =
-    let none : [] ≡ behind = cc e in
-    absurd (All-contains (λ name. ⊥) behind also (subst (All (λ name. ⊥)) none (All-nil (λ name. ⊥))) listed)
-two_are asked also (x ∷ y ∷ []) behind e listed = cc e
-two_are asked also (x ∷ y ∷ z ∷ more) behind e listed = cc e
+use Rattle.command_line.proofs.AloneLaws.{between_is_listed, first_is_listed, no_two}
 
 -- ---- what options with these values and these positional words lack
 
@@ -43,17 +30,13 @@ module _ (values : OptionName → List Text) (positions : List Text) where
   pub value_told : IsOfForm values positions → (cause : WordsCause) → 14 ≡ order_of cause → Is cause → IsFirstCause Is cause
   value_told form cause last is = record { is = is; first = λ other has. subst (λ n. n ≤ order_of other) last (form other has) }
 
-  -- where that of pairs and that of a probe are left out, no option that asks for something other than a report is given
-  no_task_listed : values Pairs ≡ [] → values Probe ≡ [] → (name : OptionName) → Contains task_options name → values name ≢ [] → ⊥
-  no_task_listed no_pairs no_probe name listed some = some (All-contains (λ other. values other ≡ []) task_options name (no_task values no_pairs no_probe) listed)
+  -- where the options that ask for something other than a report are left out, none of them is given
+  module _ (no_other : All (λ name. values name ≡ []) task_options) where
+    pub not_asked : (name : OptionName) → Contains task_options name → values name ≢ [] → ⊥
+    not_asked name listed given = given (All-contains (λ other. values other ≡ []) task_options name no_other listed)
 
-  -- where one of the two is left out, no two are given
-  module _ (asked also : OptionName) (before behind : List OptionName) (are : task_options ≡ before ++ asked ∷ behind) (listed : Contains behind also) where
-    pub first_given : values asked ≢ [] → values Pairs ≢ []
-    first_given one none = one (ap values (two_are asked also before behind are listed).0 ∙ none)
-
-    pub second_given : values also ≢ [] → values Probe ≢ []
-    second_given other none = other (ap values (two_are asked also before behind are listed).1 ∙ none)
+    pub none_before : (asked : OptionName) (before behind : List OptionName) → task_options ≡ before ++ asked ∷ behind → values asked ≢ [] → ⊥
+    none_before asked before behind are = not_asked asked (between_is_listed task_options asked before behind are)
 
   -- where no layout is named
   module _ (none : positions ≡ []) where
@@ -68,14 +51,18 @@ module _ (values : OptionName → List Text) (positions : List Text) where
         first other (layout_beside_generate one _) = let s = sym none ∙ one in cc s
         first other is = lit≤ tt
 
+      -- the last of the options about files ask for something other than a report
+      tasks : All (λ name. values name ≡ []) file_options → All (λ name. values name ≡ []) task_options
+      tasks = All-back (λ name. values name ≡ []) (Map ∷ Top ∷ metal_options) task_options
+
       pub generated_form : All (λ name. values name ≡ []) file_options → IsOfForm values positions
       generated_form all cause (no_layout _ no_columns) = absurd (columns no_columns)
       generated_form all cause (layout_beside_generate one _) = let s = sym none ∙ one in cc s
       generated_form all cause (beside_generate {name = name} _ listed some) = absurd (some (All-contains (λ other. values other ≡ []) file_options name all listed))
       generated_form all cause (beside_map map _ _) = absurd (map (all 0 Map (omega arith)))
-      generated_form all cause (no_map {name = name} _ listed some) = absurd (no_task_listed (all 5 Map (omega arith)) (all 6 Map (omega arith)) name listed some)
-      generated_form all cause (two_tasks {asked = asked} {also = also} b l are listed one _) = absurd (first_given asked also b l are listed one (all 5 Map (omega arith)))
-      generated_form all cause (beside_task {asked = asked} listed some _ _) = absurd (no_task_listed (all 5 Map (omega arith)) (all 6 Map (omega arith)) asked listed some)
+      generated_form all cause (no_map {name = name} _ listed some) = absurd (not_asked (tasks all) name listed some)
+      generated_form all cause (two_tasks {asked = asked} before behind are _ one _) = absurd (none_before (tasks all) asked before behind are one)
+      generated_form all cause (beside_task {asked = asked} listed some _ _) = absurd (not_asked (tasks all) asked listed some)
       generated_form all cause (missing _ no_columns _ _ _) = absurd (columns no_columns)
       generated_form all cause (no_metals _ no_columns _) = absurd (columns no_columns)
       generated_form all cause is = lit≤ tt
@@ -107,26 +94,28 @@ module _ (values : OptionName → List Text) (positions : List Text) where
         task_after other (no_map none _ _) = absurd (map none)
         task_after other is = lit≤ tt
 
-        pub two_tasks_told : values Pairs ≢ [] → values Probe ≢ [] → IsFirstCause Is (TwoTasks Pairs Probe)
-        two_tasks_told pairs probe = record { is = two_tasks [] (Probe ∷ []) refl (0, omega arith, refl) pairs probe; first = task_after }
+        pub two_tasks_told : (asked also : OptionName) (behind : List OptionName) → IsFirstGiven values task_options asked behind
+            → Contains behind also → values also ≢ []
+            → IsFirstCause Is (TwoTasks asked also)
+        two_tasks_told asked also behind first listed given =
+            record { is = two_tasks first.before behind first.are listed first.given given; first = task_after }
 
-        module _ (not_two : values Pairs ≢ [] → values Probe ≡ []) where
-          no_two : (asked also : OptionName) (before behind : List OptionName) → task_options ≡ before ++ asked ∷ behind → Contains behind also
-              → values asked ≢ [] → values also ≢ [] → ⊥
-          no_two asked also before behind are listed one other =
-              second_given asked also before behind are listed other (not_two (first_given asked also before behind are listed one))
-
-          pub beside_task_told : (asked name : OptionName) → Contains task_options asked → values asked ≢ [] → Contains permitted name → values name ≢ []
-              → IsFirstCause Is (BesideTask asked name)
-          beside_task_told asked name listed given beside also = record { is = beside_task listed given beside also; first = first } where
-            first : (other : WordsCause) → Is other → 11 ≤ order_of other
-            first other (no_layout none _) = absurd (some none)
-            first other (layout_beside_generate _ columns) = absurd (columns no_columns)
-            first other (beside_generate columns _ _) = absurd (columns no_columns)
-            first other (beside_map {name = metal} _ listed given) = absurd (given (All-contains (λ other. values other ≡ []) metal_options metal no_metal listed))
-            first other (no_map none _ _) = absurd (map none)
-            first other (two_tasks {asked = a} {also = b} c d are listed one two) = absurd (no_two a b c d are listed one two)
-            first other is = lit≤ tt
+        -- and one option alone asks for something other than a report
+        module _ (asked : OptionName) (alone : IsGivenAlone values task_options asked) where
+          pub beside_task_told : (name : OptionName) → Contains permitted name → values name ≢ [] → IsFirstCause Is (BesideTask asked name)
+          beside_task_told name beside also =
+              let listed = first_is_listed values task_options asked alone.behind alone.first in
+              record { is = beside_task listed alone.first.given beside also; first = first } where
+                first : (other : WordsCause) → Is other → 11 ≤ order_of other
+                first other (no_layout none _) = absurd (some none)
+                first other (layout_beside_generate _ columns) = absurd (columns no_columns)
+                first other (beside_generate columns _ _) = absurd (columns no_columns)
+                first other (beside_map {name = metal} _ listed given) =
+                    absurd (given (All-contains (λ other. values other ≡ []) metal_options metal no_metal listed))
+                first other (no_map none _ _) = absurd (map none)
+                first other (two_tasks {asked = a} {also = b} c d are listed one two) =
+                    absurd (no_two values task_options asked alone a b c d are listed one two)
+                first other is = lit≤ tt
 
           pub asked_form : All (λ name. values name ≡ []) permitted → IsOfForm values positions
           asked_form no_work cause (no_layout none _) = absurd (some none)
@@ -134,7 +123,8 @@ module _ (values : OptionName → List Text) (positions : List Text) where
           asked_form no_work cause (beside_generate columns _ _) = absurd (columns no_columns)
           asked_form no_work cause (beside_map {name = metal} _ listed given) = absurd (given (All-contains (λ other. values other ≡ []) metal_options metal no_metal listed))
           asked_form no_work cause (no_map none _ _) = absurd (map none)
-          asked_form no_work cause (two_tasks {asked = a} {also = b} c d are listed one two) = absurd (no_two a b c d are listed one two)
+          asked_form no_work cause (two_tasks {asked = a} {also = b} c d are listed one two) =
+              absurd (no_two values task_options asked alone a b c d are listed one two)
           asked_form no_work cause (beside_task {name = name} _ _ beside also) = absurd (also (All-contains (λ other. values other ≡ []) permitted name no_work beside))
           asked_form no_work cause (missing none _ _ _ _) = absurd (map none)
           asked_form no_work cause (no_metals none _ _) = absurd (map none)
@@ -151,12 +141,6 @@ module _ (values : OptionName → List Text) (positions : List Text) where
           first other is = lit≤ tt
 
         module _ (no_other : All (λ name. values name ≡ []) task_options) where
-          not_asked : (name : OptionName) → Contains task_options name → values name ≢ [] → ⊥
-          not_asked name listed given = given (All-contains (λ other. values other ≡ []) task_options name no_other listed)
-
-          not_two : (asked also : OptionName) (before behind : List OptionName) → task_options ≡ before ++ asked ∷ behind → Contains behind also → values asked ≢ [] → ⊥
-          not_two asked also before behind are listed one = first_given asked also before behind are listed one (no_other 0 Map (omega arith))
-
           pub no_metals_told : All (λ name. values name ≡ []) metal_options → IsFirstCause Is NoMetals
           no_metals_told all = record { is = no_metals none_mapped no_columns all; first = first } where
             first : (other : WordsCause) → Is other → 12 ≤ order_of other
@@ -164,9 +148,9 @@ module _ (values : OptionName → List Text) (positions : List Text) where
             first other (layout_beside_generate _ columns) = absurd (columns no_columns)
             first other (beside_generate columns _ _) = absurd (columns no_columns)
             first other (beside_map map _ _) = absurd (map none_mapped)
-            first other (no_map {name = name} _ listed given) = absurd (not_asked name listed given)
-            first other (two_tasks {asked = a} {also = b} c d are listed one _) = absurd (not_two a b c d are listed one)
-            first other (beside_task {asked = asked} listed given _ _) = absurd (not_asked asked listed given)
+            first other (no_map {name = name} _ listed given) = absurd (not_asked no_other name listed given)
+            first other (two_tasks {asked = a} c d are _ one _) = absurd (none_before no_other a c d are one)
+            first other (beside_task {asked = asked} listed given _ _) = absurd (not_asked no_other asked listed given)
             first other is = lit≤ tt
 
           pub missing_told : (name : OptionName) → Contains metal_options name → values name ≡ [] → IsOneGiven values metal_options → IsFirstCause Is (Missing name)
@@ -176,9 +160,9 @@ module _ (values : OptionName → List Text) (positions : List Text) where
             first other (layout_beside_generate _ columns) = absurd (columns no_columns)
             first other (beside_generate columns _ _) = absurd (columns no_columns)
             first other (beside_map map _ _) = absurd (map none_mapped)
-            first other (no_map {name = name} _ listed given) = absurd (not_asked name listed given)
-            first other (two_tasks {asked = a} {also = b} c d are listed one _) = absurd (not_two a b c d are listed one)
-            first other (beside_task {asked = asked} listed given _ _) = absurd (not_asked asked listed given)
+            first other (no_map {name = name} _ listed given) = absurd (not_asked no_other name listed given)
+            first other (two_tasks {asked = a} c d are _ one _) = absurd (none_before no_other a c d are one)
+            first other (beside_task {asked = asked} listed given _ _) = absurd (not_asked no_other asked listed given)
             first other (no_metals _ _ all) = absurd (one.given (All-contains (λ metal. values metal ≡ []) metal_options one.name all one.listed))
             first other is = lit≤ tt
 
@@ -187,9 +171,9 @@ module _ (values : OptionName → List Text) (positions : List Text) where
           metal_form all cause (layout_beside_generate _ columns) = absurd (columns no_columns)
           metal_form all cause (beside_generate columns _ _) = absurd (columns no_columns)
           metal_form all cause (beside_map map _ _) = absurd (map none_mapped)
-          metal_form all cause (no_map {name = name} _ listed given) = absurd (not_asked name listed given)
-          metal_form all cause (two_tasks {asked = a} {also = b} c d are listed one _) = absurd (not_two a b c d are listed one)
-          metal_form all cause (beside_task {asked = asked} listed given _ _) = absurd (not_asked asked listed given)
+          metal_form all cause (no_map {name = name} _ listed given) = absurd (not_asked no_other name listed given)
+          metal_form all cause (two_tasks {asked = a} c d are _ one _) = absurd (none_before no_other a c d are one)
+          metal_form all cause (beside_task {asked = asked} listed given _ _) = absurd (not_asked no_other asked listed given)
           metal_form all cause (missing {name = name} _ _ listed left_out _) = absurd (All-contains (λ metal. values metal ≢ []) metal_options name all listed left_out)
           metal_form all cause (no_metals _ _ none) = absurd (all 0 Map (omega arith) (none 0 Map (omega arith)))
           metal_form all cause is = lit≤ tt

@@ -5,6 +5,7 @@ use Rattle.std.specs.List.{before_first, after_first}
 use Rattle.first_refusal.specs.Laws.{IsUnique}
 use Rattle.command_line.specs.declared.option_name.OptionName.{OptionName}
 use Rattle.command_line.specs.declared.option_name.OptionName.TheVariants.{Map, Top, Tile, Workers, Layer, Datatype, Radius, Generate, Pairs, Probe}
+use Rattle.command_line.specs.declared.option_name.OptionName.TheVariants.{Regions}
 use Rattle.command_line.specs.OptionNames.{Text, name_of}
 use Rattle.command_line.specs.Spelling.{Argument, in_one_word, in_two_words, positional, name_word, whole_word, words_of, IsPlain, IsClearlySpelled, given_of, last_words, AreSpelled}
 
@@ -16,10 +17,23 @@ option_named text =
     if bytes_eq text (codes "map") then Some Map else (if bytes_eq text (codes "top") then Some Top else (if bytes_eq text (codes "tile") then Some Tile
     else (if bytes_eq text (codes "workers") then Some Workers else (if bytes_eq text (codes "layer") then Some Layer
     else (if bytes_eq text (codes "datatype") then Some Datatype else (if bytes_eq text (codes "radius") then Some Radius else (if bytes_eq text (codes "generate") then Some Generate else (if bytes_eq text (codes "pairs") then Some Pairs
-    else (if bytes_eq text (codes "probe") then Some Probe else None)))))))))
+    else (if bytes_eq text (codes "probe") then Some Probe else (if bytes_eq text (codes "regions") then Some Regions else None))))))))))
 
 named : (name : OptionName) → option_named (name_of name) ≡ Some name
-named name = elim name as (λ n. option_named (name_of n) ≡ Some n) [ Map ↦ refl | Top ↦ refl | Tile ↦ refl | Workers ↦ refl | Layer ↦ refl | Datatype ↦ refl | Radius ↦ refl | Generate ↦ refl | Pairs ↦ refl | Probe ↦ refl ]
+named name =
+    elim name as (λ n. option_named (name_of n) ≡ Some n) [
+      | Map ↦ refl
+      | Top ↦ refl
+      | Tile ↦ refl
+      | Workers ↦ refl
+      | Layer ↦ refl
+      | Datatype ↦ refl
+      | Radius ↦ refl
+      | Generate ↦ refl
+      | Pairs ↦ refl
+      | Probe ↦ refl
+      | Regions ↦ refl
+    ]
 
 pub same_name : (n m : OptionName) → name_of n ≡ name_of m → n ≡ m
 same_name n m e = let s : Some n ≡ Some m = sym (named n) ∙ ap option_named e ∙ named m in cc s
@@ -35,18 +49,67 @@ value_in word = after_first is_equals (drop 2 word)
 
 name_is_in : (n : OptionName) (v : Text) → name_in (whole_word n v) ≡ name_of n
 name_is_in name v =
-    elim name as (λ n. name_in (whole_word n v) ≡ name_of n) [ Map ↦ refl | Top ↦ refl | Tile ↦ refl | Workers ↦ refl | Layer ↦ refl | Datatype ↦ refl | Radius ↦ refl | Generate ↦ refl | Pairs ↦ refl | Probe ↦ refl ]
+    elim name as (λ n. name_in (whole_word n v) ≡ name_of n) [
+      | Map ↦ refl
+      | Top ↦ refl
+      | Tile ↦ refl
+      | Workers ↦ refl
+      | Layer ↦ refl
+      | Datatype ↦ refl
+      | Radius ↦ refl
+      | Generate ↦ refl
+      | Pairs ↦ refl
+      | Probe ↦ refl
+      | Regions ↦ refl
+    ]
 
 value_is_in : (n : OptionName) (v : Text) → value_in (whole_word n v) ≡ v
-value_is_in name v = elim name as (λ n. value_in (whole_word n v) ≡ v) [ Map ↦ refl | Top ↦ refl | Tile ↦ refl | Workers ↦ refl | Layer ↦ refl | Datatype ↦ refl | Radius ↦ refl | Generate ↦ refl | Pairs ↦ refl | Probe ↦ refl ]
+value_is_in name v =
+    elim name as (λ n. value_in (whole_word n v) ≡ v) [
+      | Map ↦ refl
+      | Top ↦ refl
+      | Tile ↦ refl
+      | Workers ↦ refl
+      | Layer ↦ refl
+      | Datatype ↦ refl
+      | Radius ↦ refl
+      | Generate ↦ refl
+      | Pairs ↦ refl
+      | Probe ↦ refl
+      | Regions ↦ refl
+    ]
 
 has_equals : (n : OptionName) (v : Text) → list_any is_equals (whole_word n v) ≡ true
 has_equals name v =
-    elim name as (λ n. list_any is_equals (whole_word n v) ≡ true) [ Map ↦ refl | Top ↦ refl | Tile ↦ refl | Workers ↦ refl | Layer ↦ refl | Datatype ↦ refl | Radius ↦ refl | Generate ↦ refl | Pairs ↦ refl | Probe ↦ refl ]
+    elim name as (λ n. list_any is_equals (whole_word n v) ≡ true) [
+      | Map ↦ refl
+      | Top ↦ refl
+      | Tile ↦ refl
+      | Workers ↦ refl
+      | Layer ↦ refl
+      | Datatype ↦ refl
+      | Radius ↦ refl
+      | Generate ↦ refl
+      | Pairs ↦ refl
+      | Probe ↦ refl
+      | Regions ↦ refl
+    ]
 
 has_no_equals : (n : OptionName) → list_any is_equals (name_word n) ≡ false
 has_no_equals name =
-    elim name as (λ n. list_any is_equals (name_word n) ≡ false) [ Map ↦ refl | Top ↦ refl | Tile ↦ refl | Workers ↦ refl | Layer ↦ refl | Datatype ↦ refl | Radius ↦ refl | Generate ↦ refl | Pairs ↦ refl | Probe ↦ refl ]
+    elim name as (λ n. list_any is_equals (name_word n) ≡ false) [
+      | Map ↦ refl
+      | Top ↦ refl
+      | Tile ↦ refl
+      | Workers ↦ refl
+      | Layer ↦ refl
+      | Datatype ↦ refl
+      | Radius ↦ refl
+      | Generate ↦ refl
+      | Pairs ↦ refl
+      | Probe ↦ refl
+      | Regions ↦ refl
+    ]
 
 pub no_nameless : (n : OptionName) → name_of n ≡ [] → ⊥
 no_nameless n e = let s : Some n ≡ None = sym (named n) ∙ ap option_named e in cc s

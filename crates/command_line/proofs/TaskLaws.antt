@@ -1,19 +1,28 @@
 -- tasks and requests of texts
 use Rattle.std.proofs.Common.{Bor, ℕ, ℤ, Bool, true, false, List, [], ◌∷◌, ◌≡◌, ◌≢◌, ◌∙◌, sym, ap, refl, arith, Option, Some, None, All, Contains, MatchOption, subst, unwrap_or}
-use Rattle.lists.proofs.Words.{All-cons, All-contains, All-nil}
+use Rattle.lists.proofs.Words.{bytes_eq, or-true, All-cons, All-contains, All-nil}
 use Rattle.geo_core.specs.declared.axis.Axis.TheVariants.{X, Y}
 use Rattle.geo_core.specs.declared.plane.Cell.{Cell}
-use Rattle.command_line.specs.declared.cause.WordsCause.TheVariants.{BadNumber, NoCell, BadCoordinate}
+use Rattle.map_model.specs.MapNames.{IsLayerName}
+use Rattle.questions.specs.KindTexts.{kind_text}
+use Rattle.questions.specs.declared.kind.Kind.{Kind}
+use Rattle.command_line.specs.declared.cause.WordsCause.{WordsCause}
+use Rattle.command_line.specs.declared.cause.WordsCause.TheVariants.{BadNumber, NoCell, BadCoordinate, NoRegion, BadKind, BadLayerName, BadSizeNumber}
 use Rattle.command_line.specs.declared.option_name.OptionName.{OptionName}
 use Rattle.command_line.specs.declared.option_name.OptionName.TheVariants.{Map, Top, Tile, Workers, Layer, Datatype, Radius, Generate, Pairs, Probe}
+use Rattle.command_line.specs.declared.option_name.OptionName.TheVariants.{Regions}
 use Rattle.command_line.specs.declared.range.NumberRange.{NumberRange}
 use Rattle.command_line.specs.declared.task.Task.TheVariants.{OneMetal}
 use Rattle.command_line.specs.Cells.{HasParts, IsCoordinate}
 use Rattle.command_line.specs.Numbers.{IsNumber}
-use Rattle.command_line.specs.OptionNames.{Text, range_of}
+use Rattle.command_line.specs.OptionNames.{Text, name_of, range_of}
+use Rattle.command_line.specs.RegionTexts.{HasThreeParts}
 use Rattle.command_line.specs.inside.Readings.{AreNumbers, AskOne, texts_of}
-use Rattle.command_line.specs.Requests.{GiveNoOther, IsCellOnce, IsNumberOnce, IsNumberOrDefault, as_given, left_out, IsTask, IsTextIfGiven, of_one_metal, permitted, permitted_on_files}
-use Rattle.command_line.specs.WordsCauses.{IsCauseOf, bad_number, no_cell, bad_column, bad_row, file_options, metal_options, task_options}
+use Rattle.command_line.specs.Requests.{AreRegionsOnce, GiveNoOther, IsCellOnce, IsNumberOnce, IsNumberOrDefault, as_given, left_out, IsTask}
+use Rattle.command_line.specs.Requests.{IsTextIfGiven, of_one_metal, is_one_of, permitted, permitted_on_files}
+use Rattle.command_line.specs.WordsCauses.{IsCauseOf, bad_number, no_cell, bad_column, bad_row, no_region, bad_kind, bad_layer_name}
+use Rattle.command_line.specs.WordsCauses.{bad_size_number, file_options, metal_options, task_options}
+use Rattle.command_line.proofs.AloneLaws.{others_left_out}
 
 -- ---- texts that are found or not
 
@@ -68,6 +77,41 @@ module _ (values : OptionName → List Text) (positions : List Text) (found : Op
     is_cell = record { column = column; row = row; whole = parts.whole; is_column = is_i; is_row = is_j };
   }
 
+-- the causes where it asks for no regions
+module _ (values : OptionName → List Text) (positions : List Text) (found : Option (Bor Text)) (text : Bor Text)
+    (same : texts_of found ≡ values Regions) (is : found ≡ Some text) where
+  abbrev Is : WordsCause → Type 0
+  Is = IsCauseOf values positions
+
+  pub region_cause : (told : Text) → ((first second third : Text) → HasThreeParts text.now first second third → ⊥) → told ≡ text.now
+      → Is (NoRegion told)
+  region_cause told none e = subst (λ t. Is (NoRegion t)) (sym e) (no_region (one_text found (values Regions) same text is) none)
+
+  module _ (first second third : Text) (parts : HasThreeParts text.now first second third) where
+    pub kind_cause : (told : Text) → ((kind : Kind) → first ≢ kind_text kind) → told ≡ first → Is (BadKind told)
+    kind_cause told none e = subst (λ t. Is (BadKind t)) (sym e) (bad_kind (one_text found (values Regions) same text is) parts none)
+
+    module _ (kind : Kind) (named : first ≡ kind_text kind) where
+      parts_of_kind : HasThreeParts text.now (kind_text kind) second third
+      parts_of_kind = subst (λ t. HasThreeParts text.now t second third) named parts
+
+      pub layer_name_cause : (told : Text) → (IsLayerName second → ⊥) → told ≡ second → Is (BadLayerName told)
+      layer_name_cause told none e =
+          subst (λ t. Is (BadLayerName t)) (sym e) (bad_layer_name kind (one_text found (values Regions) same text is) parts_of_kind none)
+
+      pub size_number_cause : (told : Text) → IsLayerName second → ((n : ℕ) → IsNumber 1 32 third n → ⊥) → told ≡ third → Is (BadSizeNumber told)
+      size_number_cause told name none e =
+          subst (λ t. Is (BadSizeNumber t)) (sym e) (bad_size_number kind (one_text found (values Regions) same text is) parts_of_kind name none)
+
+      -- and the regions where it asks for some
+      pub regions_once : (layer : Text) (size : ℕ) → layer ≡ second → IsLayerName second → IsNumber 1 32 third size
+          → AreRegionsOnce (values Regions) kind layer size
+      regions_once layer size e name number = subst (λ l. AreRegionsOnce (values Regions) kind l size) (sym e) (record {
+        text = text.now;
+        once = one_text found (values Regions) same text is;
+        is_region = record { digits = third; whole = parts_of_kind.whole; is_layer = name; is_size = number };
+      })
+
 -- ---- options that are left out
 
 listed : (b : Bool) → b ≡ false → true ≡ b → ⊥
@@ -79,6 +123,7 @@ module _ (values : OptionName → List Text) where
   metal_no_other none not no_task Generate other = not
   metal_no_other none not no_task Pairs other = no_task 0 Map (omega arith)
   metal_no_other none not no_task Probe other = no_task 1 Map (omega arith)
+  metal_no_other none not no_task Regions other = no_task 2 Map (omega arith)
   metal_no_other none not no_task name other = absurd (listed true other refl)
 
   pub mapped_no_other : values Generate ≡ [] → All (λ name. values name ≡ []) metal_options → All (λ name. values name ≡ []) task_options
@@ -86,32 +131,30 @@ module _ (values : OptionName → List Text) where
   mapped_no_other not none no_task Generate other = not
   mapped_no_other not none no_task Pairs other = no_task 0 Map (omega arith)
   mapped_no_other not none no_task Probe other = no_task 1 Map (omega arith)
+  mapped_no_other not none no_task Regions other = no_task 2 Map (omega arith)
   mapped_no_other not none no_task Layer other = none 0 Map (omega arith)
   mapped_no_other not none no_task Datatype other = none 1 Map (omega arith)
   mapped_no_other not none no_task Radius other = none 2 Map (omega arith)
   mapped_no_other not none no_task name other = absurd (listed true other refl)
 
-  -- where one option asks for something other than a report, and it is that of pairs or that of a probe
-  module _ (one : AskOne values) where
-    pub pairs_no_other : values Pairs ≢ [] → GiveNoOther values (Map ∷ Pairs ∷ Top ∷ [])
-    pairs_no_other asked Generate other = one.no_columns
-    pairs_no_other asked Layer other = one.no_metal 0 Map (omega arith)
-    pairs_no_other asked Datatype other = one.no_metal 1 Map (omega arith)
-    pairs_no_other asked Radius other = one.no_metal 2 Map (omega arith)
-    pairs_no_other asked Tile other = one.no_work 0 Map (omega arith)
-    pairs_no_other asked Workers other = one.no_work 1 Map (omega arith)
-    pairs_no_other asked Probe other = one.not_two asked
-    pairs_no_other asked name other = absurd (listed true other refl)
+  -- where this option alone asks for something other than a report
+  module _ (asked : OptionName) (one : AskOne values asked) where
+    differs : (name : OptionName) → is_one_of (Map ∷ asked ∷ Top ∷ []) name ≡ false → is_one_of (Map ∷ name ∷ Top ∷ []) name ≡ true → name ≢ asked
+    differs name other is e =
+        listed (is_one_of (Map ∷ asked ∷ Top ∷ []) name) other (sym (subst (λ n. is_one_of (Map ∷ n ∷ Top ∷ []) name ≡ true) e is))
 
-    pub probe_no_other : values Pairs ≡ [] → GiveNoOther values (Map ∷ Probe ∷ Top ∷ [])
-    probe_no_other none Generate other = one.no_columns
-    probe_no_other none Layer other = one.no_metal 0 Map (omega arith)
-    probe_no_other none Datatype other = one.no_metal 1 Map (omega arith)
-    probe_no_other none Radius other = one.no_metal 2 Map (omega arith)
-    probe_no_other none Tile other = one.no_work 0 Map (omega arith)
-    probe_no_other none Workers other = one.no_work 1 Map (omega arith)
-    probe_no_other none Pairs other = none
-    probe_no_other none name other = absurd (listed true other refl)
+    pub asked_no_other : GiveNoOther values (Map ∷ asked ∷ Top ∷ [])
+    asked_no_other Generate other = one.no_columns
+    asked_no_other Layer other = one.no_metal 0 Map (omega arith)
+    asked_no_other Datatype other = one.no_metal 1 Map (omega arith)
+    asked_no_other Radius other = one.no_metal 2 Map (omega arith)
+    asked_no_other Tile other = one.no_work 0 Map (omega arith)
+    asked_no_other Workers other = one.no_work 1 Map (omega arith)
+    asked_no_other Pairs other = others_left_out values task_options asked one.alone Pairs (0, omega arith, refl) (differs Pairs other refl)
+    asked_no_other Probe other = others_left_out values task_options asked one.alone Probe (1, omega arith, refl) (differs Probe other refl)
+    asked_no_other Regions other = others_left_out values task_options asked one.alone Regions (2, omega arith, refl) (differs Regions other refl)
+    asked_no_other Map other = absurd (listed true other refl)
+    asked_no_other Top other = absurd (listed (is_one_of (Map ∷ asked ∷ Top ∷ []) Top) other (sym (or-true (bytes_eq (name_of asked) (name_of Top)))))
 
   pub generated_no_other : All (λ name. values name ≡ []) file_options → GiveNoOther values (Generate ∷ permitted)
   generated_no_other none Map other = none 0 Map (omega arith)
@@ -121,15 +164,22 @@ module _ (values : OptionName → List Text) where
   generated_no_other none Radius other = none 4 Map (omega arith)
   generated_no_other none Pairs other = none 5 Map (omega arith)
   generated_no_other none Probe other = none 6 Map (omega arith)
+  generated_no_other none Regions other = none 7 Map (omega arith)
   generated_no_other none name other = absurd (listed true other refl)
 
-  pub no_task : values Pairs ≡ [] → values Probe ≡ [] → All (λ name. values name ≡ []) task_options
-  no_task no_pairs no_probe = let IsNone : OptionName → Type 0 = λ name. values name ≡ [] in
-      All-cons IsNone Pairs (Probe ∷ []) no_pairs (All-cons IsNone Probe [] no_probe (All-nil IsNone))
+-- no other option asks for something other than a report
+pub no_task_option : (name : OptionName) → is_one_of task_options name ≡ false → Contains task_options name → ⊥
+no_task_option name other is =
+    let Is : OptionName → Type 0 = λ option. is_one_of task_options option ≡ true in
+    listed (is_one_of task_options name) other (sym (All-contains Is task_options name
+    (All-cons Is Pairs (Probe ∷ Regions ∷ []) refl (All-cons Is Probe (Regions ∷ []) refl (All-cons Is Regions [] refl (All-nil Is)))) is))
 
-  -- where one of the options that ask for something other than a report is given, and it is not that of pairs, it is that of a probe
-  pub probe_given : (asked : OptionName) → Contains task_options asked → values asked ≢ [] → values Pairs ≡ [] → values Probe ≢ []
-  probe_given asked listed some no_pairs no_probe = some (All-contains (λ name. values name ≡ []) task_options asked (no_task no_pairs no_probe) listed)
+-- and one that does is one of the three
+pub one_of_three : (name : OptionName) → Contains task_options name → name ≢ Pairs → name ≢ Probe → name ≢ Regions → ⊥
+one_of_three Pairs is pairs probe regions = pairs refl
+one_of_three Probe is pairs probe regions = probe refl
+one_of_three Regions is pairs probe regions = regions refl
+one_of_three name is pairs probe regions = no_task_option name refl is
 
 -- ---- tasks
 

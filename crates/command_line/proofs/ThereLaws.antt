@@ -1,25 +1,40 @@
 -- words that ask for nothing have a cause, and those that are not spelled have one
-use Rattle.std.proofs.Common.{ℕ, ◌≤◌, ◌<◌, List, [], ◌∷◌, ◌++◌, ◌≡◌, ◌≢◌, ◌∙◌, sym, ap, refl, arith, All, Contains, Some, None, Option, codes, length, lit≤, subst}
+use Rattle.std.proofs.Common.{ℕ, ◌≤◌, ◌<◌, List, [], ◌∷◌, ◌++◌, ◌≡◌, ◌≢◌, ap, refl, arith, All, Contains, Some, None, Option, codes, length, lit≤}
+use Rattle.std.proofs.Common.{subst, ◌⊎◌, inl, inr}
 use Rattle.lists.proofs.Containing.{all_of_each}
 use Rattle.first_refusal.specs.Laws.{CannotLack}
 use Rattle.geo_core.specs.declared.axis.Axis.TheVariants.{X, Y}
+use Rattle.map_model.specs.MapNames.{IsLayerName}
+use Rattle.questions.specs.declared.kind.Kind.{Kind}
 use Rattle.command_line.specs.declared.cause.WordsCause.{WordsCause}
-use Rattle.command_line.specs.declared.cause.WordsCause.TheVariants.{NoWords, NoOption, NoValue, DashedValue, EmptyValue, EmptyLayout, Twice, TwoLayouts, BadNumber, NoCell, BadCoordinate, NoLayout, LayoutBesideGenerate, BesideGenerate, BesideMap, NoMap, TwoTasks, BesideTask, Missing, NoMetals}
+use Rattle.command_line.specs.declared.cause.WordsCause.TheVariants.{NoWords, NoOption, NoValue, DashedValue, EmptyValue, EmptyLayout, Twice}
+use Rattle.command_line.specs.declared.cause.WordsCause.TheVariants.{TwoLayouts, BadNumber, NoCell, BadCoordinate, NoRegion, BadKind, BadLayerName}
+use Rattle.command_line.specs.declared.cause.WordsCause.TheVariants.{BadSizeNumber, NoLayout, LayoutBesideGenerate, BesideGenerate, BesideMap}
+use Rattle.command_line.specs.declared.cause.WordsCause.TheVariants.{NoMap, TwoTasks, BesideTask, Missing, NoMetals}
 use Rattle.command_line.specs.declared.option_name.OptionName.{OptionName}
 use Rattle.command_line.specs.declared.option_name.OptionName.TheVariants.{Map, Top, Tile, Workers, Layer, Datatype, Radius, Generate, Pairs, Probe}
+use Rattle.command_line.specs.declared.option_name.OptionName.TheVariants.{Regions}
 use Rattle.command_line.specs.declared.request.Request.{Request}
 use Rattle.command_line.specs.declared.task.Task.{Task}
-use Rattle.command_line.specs.declared.task.Task.TheVariants.{OneMetal, Mapped, Pairs as PairsOf, Probe as ProbeOf, Generated}
+use Rattle.command_line.specs.declared.task.Task.TheVariants.{OneMetal, Mapped, Pairs as PairsOf, Probe as ProbeOf, Regions as RegionsOf, Generated}
 use Rattle.command_line.specs.inside.Arguments.{HasRead}
-use Rattle.command_line.specs.inside.Readings.{AskOne}
+use Rattle.command_line.specs.inside.Readings.{AskOne, IsFirstGiven}
 use Rattle.command_line.specs.OptionNames.{Text, range_of}
-use Rattle.command_line.specs.Requests.{Ask, GiveNoOther, HasNoEmptyText, IsNotEmpty, IsCellOnce, IsNumberOnce, IsNumberOrDefault, as_given as number_given, left_out, IsTask, IsTextIfGiven, of_one_metal, of_map, of_pairs, of_probe, of_generator, options_for, IsRequestOf, permitted, values_of}
+use Rattle.command_line.specs.RegionTexts.{HasThreeParts}
+use Rattle.command_line.specs.Requests.{AreRegionsOnce, Ask, GiveNoOther, HasNoEmptyText, IsNotEmpty, IsCellOnce, IsNumberOnce, IsNumberOrDefault}
+use Rattle.command_line.specs.Requests.{as_given as number_given, left_out, IsTask, IsTextIfGiven, of_one_metal, of_map, of_pairs, of_probe}
+use Rattle.command_line.specs.Requests.{of_regions, of_generator, options_for, IsRequestOf, permitted, values_of}
 use Rattle.command_line.specs.Spelling.{Argument, in_one_word, in_two_words, positional, Given, AreSpelled, IsPlain, name_word, options_in, positions_in, whole_word}
-use Rattle.command_line.specs.WordsCauses.{no_option, no_value, dashed_value, StopFor, IsCauseOf, bad_number, no_cell, bad_column, bad_row, no_layout, layout_beside_generate, beside_generate, beside_map, no_map, two_tasks, beside_task, missing, no_metals, IsCauseIn, empty_value, empty_layout, twice, two_layouts, of_values, IsCause, no_words, not_spelled, as_given, file_options, metal_options, task_options}
+use Rattle.command_line.specs.WordsCauses.{no_option, no_value, dashed_value, StopFor, IsCauseOf, bad_number, no_cell, bad_column, bad_row}
+use Rattle.command_line.specs.WordsCauses.{no_region, bad_kind, bad_layer_name, bad_size_number, no_layout, layout_beside_generate, beside_generate}
+use Rattle.command_line.specs.WordsCauses.{beside_map, no_map, two_tasks, beside_task, missing, no_metals, IsCauseIn, empty_value, empty_layout}
+use Rattle.command_line.specs.WordsCauses.{twice, two_layouts, of_values, IsCause, no_words, not_spelled, as_given, file_options, metal_options}
+use Rattle.command_line.specs.WordsCauses.{task_options}
+use Rattle.command_line.proofs.AloneLaws.{first_is_listed, none_or_first}
 use Rattle.command_line.proofs.AskLaws.{ask}
 use Rattle.command_line.proofs.LimitLaws.{count_within, task_within}
 use Rattle.command_line.proofs.ReadingLaws.{all_read, argument_read, last_read, nothing_read, stop_for}
-use Rattle.command_line.proofs.TaskLaws.{generated_no_other, mapped_no_other, metal_no_other, no_task as no_other_task, one_is_some, pairs_no_other, probe_no_other}
+use Rattle.command_line.proofs.TaskLaws.{asked_no_other, generated_no_other, mapped_no_other, metal_no_other, no_task_option, one_is_some}
 
 -- what does not hold and cannot fail to hold is contradictory
 either : (P : Type 0) → (P → ⊥) → ((P → ⊥) → ⊥) → ⊥
@@ -120,6 +135,21 @@ module _ (values : OptionName → List Text) (positions : List Text) (few : (nam
         (record { text = text; once = is; is_cell = record { column = column; row = row; whole = parts.whole; is_column = is_i; is_row = is_j } })))))))
     go (text ∷ other ∷ more) is = let least = few Probe in absurd (omega (arith, least, ap length is))
 
+  abbrev AreAnyRegions : Kind × Text × ℕ → Type 0
+  AreAnyRegions of = AreRegionsOnce (values Regions) of.0 of.1 of.2
+
+  regions_there : values Regions ≢ [] → CannotLack AreAnyRegions
+  regions_there some none = go (values Regions) refl where
+    go : (texts : List Text) → values Regions ≡ texts → ⊥
+    go [] is = some is
+    go (text ∷ []) is = never (NoRegion text) (no_region is (λ first second third parts. never (BadKind first) (bad_kind is parts (λ kind named.
+        let cut = subst (λ t. HasThreeParts text t second third) named parts in
+        either (IsLayerName second)
+        (λ name. never (BadSizeNumber third) (bad_size_number kind is cut name (λ size number. none (kind, second, size)
+        (record { text = text; once = is; is_region = record { digits = third; whole = cut.whole; is_layer = name; is_size = number } }))))
+        (λ no_name. never (BadLayerName second) (bad_layer_name kind is cut no_name))))))
+    go (text ∷ other ∷ more) is = let least = few Regions in absurd (omega (arith, least, ap length is))
+
   -- a task leads to a request
   with_task : (task : Task) → IsTask values positions task → GiveNoOther values (options_for task) → ⊥
   with_task task is others =
@@ -149,7 +179,7 @@ module _ (values : OptionName → List Text) (positions : List Text) (few : (nam
     no_columns = empty_unless (values Generate) (λ columns. never (LayoutBesideGenerate layout) (layout_beside_generate at columns))
 
     mapped_there : (map : Text) → values Map ≡ map ∷ [] → ⊥
-    mapped_there map is = go (values Pairs) (values Probe) refl refl where
+    mapped_there map is = go (none_or_first values task_options) where
       top : (text : Option Text) × IsTextIfGiven (values Top) text
       top = text_there Top
 
@@ -157,27 +187,37 @@ module _ (values : OptionName → List Text) (positions : List Text) (few : (nam
       metals = all_of_each (λ name. values name ≡ []) metal_options
           (λ name listed. empty_unless (values name) (λ some. never (BesideMap name) (beside_map (one_is_some (values Map) map is) listed some)))
 
-      ask_one : (asked : OptionName) → Contains task_options asked → values asked ≢ [] → (values Pairs ≡ [] → values Probe ≢ []) → AskOne values
-      ask_one asked listed given one = record {
+      ask_one : (asked : OptionName) (behind : List OptionName) → IsFirstGiven values task_options asked behind → AskOne values asked
+      ask_one asked behind first = record {
         no_columns = no_columns;
         no_metal = metals;
         no_work = all_of_each (λ name. values name ≡ []) permitted (λ name also. empty_unless (values name)
-            (λ some. never (BesideTask asked name) (beside_task listed given also some)));
-        not_two = λ pairs. empty_unless (values Probe)
-            (λ probe. never (TwoTasks Pairs Probe) (two_tasks [] (Probe ∷ []) refl (0, omega arith, refl) pairs probe));
-        one = one;
+            (λ some. never (BesideTask asked name) (beside_task (first_is_listed values task_options asked behind first) first.given also some)));
+        alone = record {
+          behind = behind;
+          first = first;
+          none_behind = all_of_each (λ name. values name ≡ []) behind (λ name listed. empty_unless (values name)
+              (λ some. never (TwoTasks asked name) (two_tasks first.before behind first.are listed first.given some)));
+        };
       }
 
-      go : (sizes cells : List Text) → values Pairs ≡ sizes → values Probe ≡ cells → ⊥
-      go [] [] none no_probe = with_task (Mapped layout map top.0) (of_map at is top.1) (mapped_no_other values no_columns metals (no_other_task values none no_probe))
-      go [] (text ∷ more) none one =
-          let asked : values Probe ≢ [] = λ no_probe. let s = sym no_probe ∙ one in cc s in
-          cell_there asked (λ cell is_cell. with_task (ProbeOf layout map top.0 cell) (of_probe at is is_cell top.1)
-          (probe_no_other values (ask_one Probe (1, omega arith, refl) asked (λ _. asked)) none))
-      go (text ∷ more) cells one _ =
-          let asked : values Pairs ≢ [] = λ none. let s = sym none ∙ one in cc s in
-          once_there Pairs 1 32 refl asked (λ size is_size. with_task (PairsOf layout map top.0 size) (of_pairs at is is_size top.1)
-          (pairs_no_other values (ask_one Pairs (0, omega arith, refl) asked (λ none. absurd (asked none))) asked))
+      asked_there : (asked : OptionName) → Contains task_options asked → values asked ≢ [] → AskOne values asked → ⊥
+      asked_there Pairs listed given one =
+          once_there Pairs 1 32 refl given
+          (λ size is_size. with_task (PairsOf layout map top.0 size) (of_pairs at is is_size top.1) (asked_no_other values Pairs one))
+      asked_there Probe listed given one =
+          cell_there given
+          (λ cell is_cell. with_task (ProbeOf layout map top.0 cell) (of_probe at is is_cell top.1) (asked_no_other values Probe one))
+      asked_there Regions listed given one =
+          regions_there given
+          (λ of are. with_task (RegionsOf layout map top.0 of.0 of.1 of.2) (of_regions at is are top.1) (asked_no_other values Regions one))
+      asked_there name listed given one = no_task_option name refl listed
+
+      go : All (λ name. values name ≡ []) task_options
+          ⊎ ((asked : OptionName) × (behind : List OptionName) × IsFirstGiven values task_options asked behind) → ⊥
+      go (inl none) = with_task (Mapped layout map top.0) (of_map at is top.1) (mapped_no_other values no_columns metals none)
+      go (inr (asked, behind, first)) =
+          asked_there asked (first_is_listed values task_options asked behind first) first.given (ask_one asked behind first)
 
     metal_there : values Map ≡ [] → ⊥
     metal_there unmapped =

@@ -2,6 +2,7 @@ pub mod OptionNames
 pub mod Spelling
 pub mod Numbers
 pub mod Cells
+pub mod RegionTexts
 pub mod RequestLimits
 pub mod Requests
 pub mod WordsFaults

@@ -2,6 +2,7 @@
 use Rattle.std.specs.Prelude.{ℕ, List, Option, Some, None, codes}
 use Rattle.command_line.specs.declared.option_name.OptionName.{OptionName}
 use Rattle.command_line.specs.declared.option_name.OptionName.TheVariants.{Map, Top, Tile, Workers, Layer, Datatype, Radius, Generate, Pairs, Probe}
+use Rattle.command_line.specs.declared.option_name.OptionName.TheVariants.{Regions}
 use Rattle.command_line.specs.declared.range.NumberRange.{NumberRange}
 
 -- a text, as its bytes
@@ -20,6 +21,7 @@ name_of Radius = codes "radius"
 name_of Generate = codes "generate"
 name_of Pairs = codes "pairs"
 name_of Probe = codes "probe"
+name_of Regions = codes "regions"
 
 -- the numbers that the option takes, where its value is a number
 abbrev pub range_of : OptionName → Option NumberRange
@@ -33,3 +35,4 @@ range_of Radius = Some (record { least = 1; most = 1000000 })
 range_of Generate = Some (record { least = 1; most = 500 })
 range_of Pairs = Some (record { least = 1; most = 32 })
 range_of Probe = None
+range_of Regions = None

@@ -2,14 +2,17 @@
 use Rattle.std.specs.Prelude.{ℕ, Bool, false, List, [], ◌∷◌, ◌≡◌, ◌<◌, All, Option, length, map, filter, option_to_list}
 use Rattle.lists.specs.Words.{list_any, bytes_eq}
 use Rattle.geo_core.specs.declared.plane.Cell.{Cell}
+use Rattle.questions.specs.declared.kind.Kind.{Kind}
 use Rattle.command_line.specs.declared.option_name.OptionName.{OptionName}
 use Rattle.command_line.specs.declared.option_name.OptionName.TheVariants.{Map, Top, Tile, Workers, Layer, Datatype, Radius, Generate, Pairs, Probe}
+use Rattle.command_line.specs.declared.option_name.OptionName.TheVariants.{Regions}
 use Rattle.command_line.specs.declared.request.Request.{Request}
 use Rattle.command_line.specs.declared.task.Task.{Task}
-use Rattle.command_line.specs.declared.task.Task.TheVariants.{OneMetal, Mapped, Pairs as PairsOf, Probe as ProbeOf, Generated}
+use Rattle.command_line.specs.declared.task.Task.TheVariants.{OneMetal, Mapped, Pairs as PairsOf, Probe as ProbeOf, Regions as RegionsOf, Generated}
 use Rattle.command_line.specs.Cells.{IsCellText}
 use Rattle.command_line.specs.Numbers.{IsNumber}
 use Rattle.command_line.specs.OptionNames.{Text, name_of}
+use Rattle.command_line.specs.RegionTexts.{IsRegionText}
 use Rattle.command_line.specs.Spelling.{Given, AreSpelled}
 
 -- the values that the option is given, in the order of the words: an option is known by its name
@@ -36,12 +39,19 @@ pub record IsCellOnce (values : List Text) (cell : Cell) : Type 0 where
   pub once : values ≡ text ∷ []
   pub is_cell : IsCellText text cell
 
+-- the option is given once, and its value asks for the regions of this kind, on the layer of this name, at the size of this number
+pub record AreRegionsOnce (values : List Text) (kind : Kind) (layer : Text) (size : ℕ) : Type 0 where
+  pub text : Text
+  pub once : values ≡ text ∷ []
+  pub is_region : IsRegionText text kind layer size
+
 -- the option is given once and this is its value, or it is left out and there is none
 abbrev pub IsTextIfGiven : List Text → Option Text → Type 0
 IsTextIfGiven values text = values ≡ option_to_list text
 
 -- the task of options with these values and of these positional words: the areas of one metal, those of a layer map, those of
--- pairs of nets at one size of a map, the nets of a map nearest to one cell, or the areas of a generated layout
+-- pairs of nets at one size of a map, the nets of a map nearest to one cell, the regions of one kind of fault on one layer at one
+-- size of a map, or the areas of a generated layout
 pub data IsTask (values : OptionName → List Text) (positions : List Text) : Task → Type 0 where
   of_one_metal : {layout : Text} {layer datatype radius : ℕ} {top : Option Text}
       → positions ≡ layout ∷ []
@@ -67,6 +77,12 @@ pub data IsTask (values : OptionName → List Text) (positions : List Text) : Ta
       → IsCellOnce (values Probe) cell
       → IsTextIfGiven (values Top) top
       → IsTask values positions (ProbeOf layout map top cell)
+  of_regions : {layout map : Text} {top : Option Text} {kind : Kind} {layer : Text} {size : ℕ}
+      → positions ≡ layout ∷ []
+      → values Map ≡ map ∷ []
+      → AreRegionsOnce (values Regions) kind layer size
+      → IsTextIfGiven (values Top) top
+      → IsTask values positions (RegionsOf layout map top kind layer size)
   of_generator : {columns : ℕ}
       → positions ≡ []
       → IsNumberOnce 1 500 (values Generate) columns
@@ -86,6 +102,7 @@ options_for (OneMetal layout layer datatype radius top) = Layer ∷ Datatype ∷
 options_for (Mapped layout map top) = Map ∷ permitted_on_files
 options_for (PairsOf layout map top size) = Map ∷ Pairs ∷ Top ∷ []
 options_for (ProbeOf layout map top cell) = Map ∷ Probe ∷ Top ∷ []
+options_for (RegionsOf layout map top kind layer size) = Map ∷ Regions ∷ Top ∷ []
 options_for (Generated columns) = Generate ∷ permitted
 
 -- whether the option is one of these

@@ -1,14 +1,21 @@
 -- why the words of a command ask for nothing
 use Rattle.std.specs.Prelude.{ℕ, ℤ, List, [], ◌∷◌, ◌++◌, ◌≡◌, ◌≢◌, ◌<◌, ◌≤◌, All, Contains, Some, codes, flat_map, length}
 use Rattle.geo_core.specs.declared.axis.Axis.TheVariants.{X, Y}
+use Rattle.map_model.specs.LayerNames.{IsLayerName}
+use Rattle.questions.specs.KindTexts.{kind_text}
+use Rattle.questions.specs.declared.kind.Kind.{Kind}
 use Rattle.command_line.specs.declared.cause.WordsCause.{WordsCause}
-use Rattle.command_line.specs.declared.cause.WordsCause.TheVariants.{NoWords, NoOption, NoValue, DashedValue, EmptyValue, EmptyLayout, Twice, TwoLayouts, BadNumber, NoCell, BadCoordinate, NoLayout, LayoutBesideGenerate, BesideGenerate, BesideMap, NoMap, TwoTasks, BesideTask, Missing, NoMetals}
+use Rattle.command_line.specs.declared.cause.WordsCause.TheVariants.{NoWords, NoOption, NoValue, DashedValue, EmptyValue, EmptyLayout, Twice}
+use Rattle.command_line.specs.declared.cause.WordsCause.TheVariants.{TwoLayouts, BadNumber, NoCell, BadCoordinate, NoRegion, BadKind, BadLayerName}
+use Rattle.command_line.specs.declared.cause.WordsCause.TheVariants.{BadSizeNumber, NoLayout, LayoutBesideGenerate, BesideGenerate, BesideMap}
+use Rattle.command_line.specs.declared.cause.WordsCause.TheVariants.{NoMap, TwoTasks, BesideTask, Missing, NoMetals}
 use Rattle.command_line.specs.declared.option_name.OptionName.{OptionName}
-use Rattle.command_line.specs.declared.option_name.OptionName.TheVariants.{Map, Top, Layer, Datatype, Radius, Generate, Pairs, Probe}
+use Rattle.command_line.specs.declared.option_name.OptionName.TheVariants.{Map, Top, Layer, Datatype, Radius, Generate, Pairs, Probe, Regions}
 use Rattle.command_line.specs.declared.range.NumberRange.{NumberRange}
 use Rattle.command_line.specs.Cells.{HasParts, IsCoordinate}
 use Rattle.command_line.specs.Numbers.{IsNumber}
 use Rattle.command_line.specs.OptionNames.{Text, range_of}
+use Rattle.command_line.specs.RegionTexts.{HasThreeParts}
 use Rattle.command_line.specs.Requests.{permitted, values_of}
 use Rattle.command_line.specs.Spelling.{Argument, Given, AreSpelled, IsClearlySpelled, IsPlain, name_word, whole_word, words_of}
 
@@ -43,7 +50,7 @@ abbrev pub metal_options : List OptionName
 metal_options = Layer ∷ Datatype ∷ Radius ∷ []
 
 abbrev pub task_options : List OptionName
-task_options = Pairs ∷ Probe ∷ []
+task_options = Pairs ∷ Probe ∷ Regions ∷ []
 
 abbrev pub file_options : List OptionName
 file_options = Map ∷ Top ∷ metal_options ++ task_options
@@ -63,6 +70,14 @@ pub data IsCauseOf (values : OptionName → List Text) (positions : List Text) :
       → IsCauseOf values positions (BadCoordinate X column)
   bad_row : {value column row : Text} {i : ℤ} → values Probe ≡ value ∷ [] → HasParts value column row → IsCoordinate column i
       → ((j : ℤ) → IsCoordinate row j → ⊥) → IsCauseOf values positions (BadCoordinate Y row)
+  no_region : {value : Text} → values Regions ≡ value ∷ [] → ((first second third : Text) → HasThreeParts value first second third → ⊥)
+      → IsCauseOf values positions (NoRegion value)
+  bad_kind : {value first second third : Text} → values Regions ≡ value ∷ [] → HasThreeParts value first second third
+      → ((kind : Kind) → first ≢ kind_text kind) → IsCauseOf values positions (BadKind first)
+  bad_layer_name : {value second third : Text} (kind : Kind) → values Regions ≡ value ∷ [] → HasThreeParts value (kind_text kind) second third
+      → (IsLayerName second → ⊥) → IsCauseOf values positions (BadLayerName second)
+  bad_size_number : {value second third : Text} (kind : Kind) → values Regions ≡ value ∷ [] → HasThreeParts value (kind_text kind) second third
+      → IsLayerName second → ((n : ℕ) → IsNumber 1 32 third n → ⊥) → IsCauseOf values positions (BadSizeNumber third)
   no_layout : positions ≡ [] → values Generate ≡ [] → IsCauseOf values positions NoLayout
   layout_beside_generate : {layout : Text} → positions ≡ layout ∷ [] → values Generate ≢ [] → IsCauseOf values positions (LayoutBesideGenerate layout)
   beside_generate : {name : OptionName} → values Generate ≢ [] → Contains file_options name → values name ≢ [] → IsCauseOf values positions (BesideGenerate name)
@@ -117,6 +132,10 @@ order_of (Missing name) = 13
 order_of (BadNumber name value) = 14
 order_of (NoCell value) = 14
 order_of (BadCoordinate axis part) = 14
+order_of (NoRegion value) = 14
+order_of (BadKind part) = 14
+order_of (BadLayerName part) = 14
+order_of (BadSizeNumber part) = 14
 
 -- none of these causes is of a kind that is told before this one's
 abbrev pub IsOfFirstKind : (WordsCause → Type 0) → WordsCause → Type 0

@@ -7,7 +7,7 @@ use lists::Name;
 use std::alloc::{AllocError, AllocFailed};
 
 /// Why words ask for nothing. The kinds of causes stand in the order in which they are told; of the first four words have one
-/// at most, and the last three are one kind: a value that is not of its option's form.
+/// at most, and the last seven are one kind: a value that is not of its option's form.
 #[derive(Drop)]
 pub enum WordsCause {
     /// There are no words.
@@ -52,6 +52,15 @@ pub enum WordsCause {
     /// This part of the value of `probe` is no coordinate: along `X` the column's, which stands first, and along `Y` the row's,
     /// where the column's is one.
     BadCoordinate(Axis, Name),
+    /// The value of `regions` is not three parts with two commas between them.
+    NoRegion(Name),
+    /// The first part of the value of `regions` is the word for no kind of fault.
+    BadKind(Name),
+    /// The first part of the value of `regions` is a kind's word, and this second part is no name of a layer.
+    BadLayerName(Name),
+    /// The first two parts of the value of `regions` are a kind's word and a layer's name, and this third part is no number of a
+    /// size.
+    BadSizeNumber(Name),
 }
 
 /// Why words are answered with no request, as the reader of words knows it.

@@ -12,6 +12,7 @@ mod number;
 mod option_name;
 mod parse;
 mod range;
+mod region;
 mod request;
 mod task;
 mod word;

@@ -23,10 +23,12 @@ pub enum OptionName {
     Pairs,
     /// `probe`: the cell of which the nearest nets are told.
     Probe,
+    /// `regions`: the kind of fault, the layer and the number of the size of which critical regions are told.
+    Regions,
 }
 
 /// All options.
-pub const OPTIONS: [OptionName; 10] = [
+pub const OPTIONS: [OptionName; 11] = [
     OptionName::Map,
     OptionName::Top,
     OptionName::Tile,
@@ -37,6 +39,7 @@ pub const OPTIONS: [OptionName; 10] = [
     OptionName::Generate,
     OptionName::Pairs,
     OptionName::Probe,
+    OptionName::Regions,
 ];
 
 /// The options of one metal.
@@ -47,13 +50,17 @@ pub const METAL_OPTIONS: [OptionName; 3] = [
 ];
 
 /// The options that ask for something other than a report, of a layout and a map. One of them may be given.
-pub const TASK_OPTIONS: [OptionName; 2] = [OptionName::Pairs, OptionName::Probe];
+pub const TASK_OPTIONS: [OptionName; 3] = [
+    OptionName::Pairs,
+    OptionName::Probe,
+    OptionName::Regions,
+];
 
 /// The options that are about how the work of a report is shared out, and stand beside no option that asks for something else.
 pub const WORK_OPTIONS: [OptionName; 2] = [OptionName::Tile, OptionName::Workers];
 
 /// The options that are about files, and stand beside no generated layout.
-pub const FILE_OPTIONS: [OptionName; 7] = [
+pub const FILE_OPTIONS: [OptionName; 8] = [
     OptionName::Map,
     OptionName::Top,
     OptionName::Layer,
@@ -61,6 +68,7 @@ pub const FILE_OPTIONS: [OptionName; 7] = [
     OptionName::Radius,
     OptionName::Pairs,
     OptionName::Probe,
+    OptionName::Regions,
 ];
 
 impl OptionName {
@@ -83,16 +91,17 @@ impl OptionName {
             OptionName::Generate => "generate",
             OptionName::Pairs => "pairs",
             OptionName::Probe => "probe",
+            OptionName::Regions => "regions",
         }
     }
 
-    /// The numbers that it takes, where its value is a number. That of `map` and `top` is a name, and that of `probe` a
-    /// cell.
+    /// The numbers that it takes, where its value is a number. That of `map` and `top` is a name, that of `probe` a cell,
+    /// and that of `regions` a kind, a layer and a size.
     pub fn range(self) -> Option<NumberRange>
         ensures { result ≡ range_of self }
     {
         match self {
-            OptionName::Map | OptionName::Top | OptionName::Probe => None,
+            OptionName::Map | OptionName::Top | OptionName::Probe | OptionName::Regions => None,
             OptionName::Tile => Some(EDGES),
             OptionName::Workers => Some(WORKERS),
             OptionName::Layer | OptionName::Datatype => Some(LAYERS),
@@ -118,6 +127,7 @@ impl OptionName {
             "generate" => Some(OptionName::Generate),
             "pairs" => Some(OptionName::Pairs),
             "probe" => Some(OptionName::Probe),
+            "regions" => Some(OptionName::Regions),
             _ => None,
         }
     }

@@ -1,5 +1,6 @@
 use geo_core::Cell;
 use lists::Name;
+use questions::Kind;
 
 /// What a command is to do.
 #[derive(Drop)]
@@ -47,6 +48,21 @@ pub enum Task {
         top: Option<Name>,
         /// The cell, whose column and row, in database units, are each from -1,000,000,000 to 999,999,999.
         cell: Cell,
+    },
+    /// The critical regions of one kind of fault, on one metal or at one cut of a layer map, for one of its sizes of defects.
+    Regions {
+        /// The name of the layout's file.
+        layout: Name,
+        /// The name of the layer map's file.
+        map: Name,
+        /// The name of the structure that is analysed, where one is wanted.
+        top: Option<Name>,
+        /// The kind of fault.
+        kind: Kind,
+        /// The name of the metal or cut: 1 to 32 ASCII letters, digits and `_`.
+        layer: Name,
+        /// The number of the size among those of the map, counted from 1: from 1 to 32.
+        size: u32,
     },
     /// The areas of a generated layout, which needs no file, for the sizes of its own layer map.
     Generated {

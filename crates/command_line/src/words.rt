@@ -1,10 +1,11 @@
 ghost use Rattle.std.specs.Prelude.{◌≡◌, ◌≢◌, ◌↔◌, [], ◌∷◌, ℕ, All, Contains, Err, IfErr, IfNone, IfOk, IfSome, MatchBool, MatchOption, Some, option_to_list};
 ghost use Rattle.command_line.specs.inside.Arguments.{AreSingle, given_by};
 ghost use Rattle.command_line.specs.inside.Command.{positions_found, values_found};
-ghost use Rattle.command_line.specs.inside.Readings.{AreNumbers, AskOne, texts_of};
+ghost use Rattle.command_line.specs.inside.Readings.{AreNumbers, AskOne, IsFirstGiven, texts_of};
 ghost use Rattle.command_line.specs.inside.WordsRefusals.{HasCause, IsFirstCause, IsOfForm};
 ghost use Rattle.command_line.specs.OptionNames.{range_of};
-ghost use Rattle.command_line.specs.Requests.{Ask, GiveNoOther, IsCellOnce, IsNumberOnce, IsNumberOrDefault, IsRequestOf, IsTask, IsTextIfGiven, options_for, values_of};
+ghost use Rattle.command_line.specs.Requests.{AreRegionsOnce, Ask, GiveNoOther, IsCellOnce, IsNumberOnce, IsNumberOrDefault};
+ghost use Rattle.command_line.specs.Requests.{IsRequestOf, IsTask, IsTextIfGiven, options_for, values_of};
 ghost use Rattle.command_line.specs.WordsCauses.{IsCause, IsCauseOf, IsOfFirstKind, metal_options, task_options};
 ghost use Rattle.command_line.specs.declared.request.Request.{Request};
 
@@ -17,6 +18,7 @@ use crate::number::number;
 use crate::option_name::{FILE_OPTIONS, METAL_OPTIONS, OptionName, TASK_OPTIONS, WORK_OPTIONS};
 use crate::parse::{LAYOUT, parse};
 use crate::range::{COLUMNS, EDGES, LAYERS, NumberRange, RADII, SIZES, WORKERS};
+use crate::region::{is_layer_name, kind_of, three_parts};
 use crate::request::Request;
 use crate::task::Task;
 use crate::word::Word;
@@ -24,6 +26,7 @@ use clap::ArgMatches;
 use clap::error::ErrorKind;
 use geo_core::{Axis, Cell};
 use lists::Name;
+use questions::Kind;
 use std::alloc::{AllocError, Global};
 
 /// The edge of a tile where none is given, in database units.
@@ -136,14 +139,6 @@ fn is_given(matches: &ArgMatches<'_>, name: OptionName) -> bool
     text_of(matches, name).is_some()
 }
 
-/// Whether both options that ask for something other than a report are given.
-fn are_two_asked(matches: &ArgMatches<'_>) -> bool
-    ensures { MatchBool result ((values_found matches.now OptionName.Pairs ≢ []) × (values_found matches.now OptionName.Probe ≢ []))
-        (values_found matches.now OptionName.Pairs ≢ [] → values_found matches.now OptionName.Probe ≡ []) }
-{
-    is_given(matches, OptionName::Pairs) && is_given(matches, OptionName::Probe)
-}
-
 /// The first of these options that is given.
 fn first_given(matches: &ArgMatches<'_>, names: &[OptionName]) -> Option<OptionName>
     ensures listed { IfSome result (Contains names.now) }
@@ -153,6 +148,22 @@ fn first_given(matches: &ArgMatches<'_>, names: &[OptionName]) -> Option<OptionN
     for name in names {
         if is_given(matches, *name) {
             return Some(*name);
+        }
+    }
+    None
+}
+
+/// The first of these options that is given, and those behind it.
+fn first_and_behind<'a>(
+    matches: &ArgMatches<'_>,
+    names: &'a [OptionName],
+) -> Option<(OptionName, &'a [OptionName])>
+    ensures some { IfSome result (λ found. IsFirstGiven (values_found matches.now) names.now found.0 found.1.now) }
+    ensures none { IfNone result (All (λ name. values_found matches.now name ≡ []) names.now) }
+{
+    for (k, name) in names.iter().enumerate() {
+        if is_given(matches, *name) {
+            return Some((*name, &names[k + 1..]));
         }
     }
     None
@@ -214,10 +225,40 @@ fn cell_given(alloc: Global, matches: &ArgMatches<'_>) -> Result<Cell, Refusal>
     Ok(Cell { i, j })
 }
 
-/// The one task other than a report that these matches ask for on a layout and a map of these names.
+/// The kind of fault, the name of the layer and the number of the size of the option of regions.
+fn regions_given(alloc: Global, matches: &ArgMatches<'_>) -> Result<(Kind, Name, u32), Refusal>
+    requires form { IsOfForm (values_found matches.now) (positions_found matches.now) }
+    requires given { values_found matches.now OptionName.Regions ≢ [] }
+    ensures regions { IfOk result (λ found. AreRegionsOnce (values_found matches.now OptionName.Regions) found.0 found.1 found.2) }
+    ensures cause { IfErr result (HasCause (IsFirstCause (IsCauseOf (values_found matches.now) (positions_found matches.now)))) }
+{
+    let Some(text) = text_of(matches, OptionName::Regions) else {
+        unreachable!();
+    };
+    let Some((word, layer, digits)) = three_parts(text) else {
+        let text = name_from(alloc, text)?;
+        return Err(Refusal::Words(WordsCause::NoRegion(text)));
+    };
+    let Some(kind) = kind_of(word) else {
+        let word = name_from(alloc, word)?;
+        return Err(Refusal::Words(WordsCause::BadKind(word)));
+    };
+    let name = name_from(alloc, layer)?;
+    if !is_layer_name(layer) {
+        return Err(Refusal::Words(WordsCause::BadLayerName(name)));
+    }
+    let Some(size) = number(digits, SIZES) else {
+        let digits = name_from(alloc, digits)?;
+        return Err(Refusal::Words(WordsCause::BadSizeNumber(digits)));
+    };
+    Ok((kind, name, size))
+}
+
+/// The task of this option, which alone asks for something other than a report, on a layout and a map of these names.
 fn asked_task(
     alloc: Global,
     matches: &ArgMatches<'_>,
+    asked: OptionName,
     layout: Name,
     map: Name,
     top: Option<Name>,
@@ -225,27 +266,44 @@ fn asked_task(
     requires layout { positions_found matches.now ≡ layout ∷ [] }
     requires map { values_found matches.now OptionName.Map ≡ map ∷ [] }
     requires top { IsTextIfGiven (values_found matches.now OptionName.Top) top }
-    requires one { AskOne (values_found matches.now) }
+    requires one { AskOne (values_found matches.now) asked }
     ensures task { IfOk result (IsTask (values_found matches.now) (positions_found matches.now)) }
     ensures no_other { IfOk result (λ task. GiveNoOther (values_found matches.now) (options_for task)) }
     ensures cause { IfErr result (HasCause (IsFirstCause (IsCauseOf (values_found matches.now) (positions_found matches.now)))) }
 {
-    if is_given(matches, OptionName::Pairs) {
-        let size = number_of_given(alloc, matches, OptionName::Pairs, SIZES)?;
-        return Ok(Task::Pairs {
-            layout,
-            map,
-            top,
-            size,
-        });
+    match asked {
+        OptionName::Pairs => {
+            let size = number_of_given(alloc, matches, OptionName::Pairs, SIZES)?;
+            Ok(Task::Pairs {
+                layout,
+                map,
+                top,
+                size,
+            })
+        }
+        OptionName::Probe => {
+            let cell = cell_given(alloc, matches)?;
+            Ok(Task::Probe {
+                layout,
+                map,
+                top,
+                cell,
+            })
+        }
+        OptionName::Regions => {
+            let regions = regions_given(alloc, matches)?;
+            let (kind, layer, size) = regions;
+            Ok(Task::Regions {
+                layout,
+                map,
+                top,
+                kind,
+                layer,
+                size,
+            })
+        }
+        _ => unreachable!(),
     }
-    let cell = cell_given(alloc, matches)?;
-    Ok(Task::Probe {
-        layout,
-        map,
-        top,
-        cell,
-    })
 }
 
 /// The task of these matches on a layout and a map of these names, for the structure of this name where one is wanted.
@@ -267,16 +325,16 @@ fn task_on_map(
     if let Some(name) = first_given(matches, &METAL_OPTIONS) {
         return Err(Refusal::Words(WordsCause::BesideMap(name)));
     }
-    let Some(asked) = first_given(matches, &TASK_OPTIONS) else {
+    let Some((asked, behind)) = first_and_behind(matches, &TASK_OPTIONS) else {
         return Ok(Task::Mapped { layout, map, top });
     };
-    if are_two_asked(matches) {
-        return Err(Refusal::Words(WordsCause::TwoTasks(OptionName::Pairs, OptionName::Probe)));
+    if let Some(also) = first_given(matches, behind) {
+        return Err(Refusal::Words(WordsCause::TwoTasks(asked, also)));
     }
     if let Some(name) = first_given(matches, &WORK_OPTIONS) {
         return Err(Refusal::Words(WordsCause::BesideTask(asked, name)));
     }
-    asked_task(alloc, matches, layout, map, top)
+    asked_task(alloc, matches, asked, layout, map, top)
 }
 
 /// The task of these matches, in which the layout of this name is named.
@@ -386,13 +444,16 @@ fn read_request(alloc: Global, words: &[Word]) -> Result<Request, Refusal>
 /// | layer map | `map` | `top`, `tile`, `workers` |
 /// | pairs of nets | `map`, `pairs` | `top` |
 /// | nearest nets | `map`, `probe` | `top` |
+/// | critical regions | `map`, `regions` | `top` |
 /// | generated | `generate`, and no layout | `tile`, `workers` |
 ///
 /// No value is empty. `top` is the name of a structure. `layer` and `datatype` are at most 65,535, and `radius` is from 1 to
 /// 1,000,000. `tile` is from 1 to 1,000,000,000, or 65,536 where it is left out, and `workers` from 1 to 64, or 4. `generate` is
 /// from 1 to 500. `pairs` is the number of one of the map's sizes, from 1 to 32. `probe` is the column and the row of a cell with
-/// a comma between them, each perhaps with a dash in front of its digits, and from -1,000,000,000 to 999,999,999. The request of
-/// `pairs` and of `probe` has the edge 65,536 and 4 workers.
+/// a comma between them, each perhaps with a dash in front of its digits, and from -1,000,000,000 to 999,999,999. `regions` is the
+/// word `short`, `open` or `via`, the name of a layer, and the number of a size, from 1 to 32, with a comma between two of them; a
+/// layer's name is 1 to 32 ASCII letters, digits and `_`. The request of `pairs`, of `probe` and of `regions` has the edge 65,536
+/// and 4 workers.
 pub fn read_words(alloc: Global, words: &[Word]) -> Result<Request, WordsFault>
     ensures request { IfOk result (Ask words.now) }
     ensures usage { result ≡ Err WordsFault.Usage → (request : Request) → Ask words.now request → ⊥ }

@@ -3,15 +3,20 @@ use Rattle.std.proofs.Common.{ℕ, List, ◌≡◌, ◌∙◌, sym, ap, refl, su
 use Rattle.std.specs.Str.Parse.{digits_value}
 use Rattle.first_refusal.specs.Laws.{IsUnique}
 use Rattle.command_line.specs.declared.option_name.OptionName.{OptionName}
-use Rattle.command_line.specs.declared.option_name.OptionName.TheVariants.{Map, Top, Tile, Workers, Pairs, Probe}
+use Rattle.command_line.specs.declared.option_name.OptionName.TheVariants.{Map, Top, Tile, Workers, Generate, Pairs, Probe, Regions}
 use Rattle.command_line.specs.declared.task.Task.{Task}
+use Rattle.questions.specs.declared.kind.Kind.{Kind}
 use Rattle.command_line.specs.Cells.{IsCellText}
 use Rattle.command_line.specs.OptionNames.{Text}
+use Rattle.command_line.specs.RegionTexts.{IsRegionText}
 use Rattle.command_line.specs.Spelling.{Given}
-use Rattle.command_line.specs.Requests.{Ask, GiveNoOther, IsCellOnce, IsNumberOnce, IsNumberOrDefault, IsTextIfGiven, as_given, left_out, IsTask, of_one_metal, of_map, of_pairs, of_probe, of_generator, options_for, IsRequestOf}
+use Rattle.command_line.specs.Requests.{AreRegionsOnce, Ask, GiveNoOther, IsCellOnce, IsNumberOnce, IsNumberOrDefault, IsTextIfGiven, as_given}
+use Rattle.command_line.specs.Requests.{left_out, IsTask, of_one_metal, of_map, of_pairs, of_probe, of_regions, of_generator, options_for}
+use Rattle.command_line.specs.Requests.{IsRequestOf}
 use Rattle.command_line.specs.Requests.{values_of}
 use Rattle.command_line.proofs.CellLaws.{cell_is}
 use Rattle.command_line.proofs.LimitLaws.{same_request}
+use Rattle.command_line.proofs.RegionLaws.{region_is}
 use Rattle.command_line.proofs.SpellingLaws.{spellings_agree}
 
 -- ---- numbers and tasks
@@ -37,6 +42,12 @@ cell_once_is values c d a b =
     let text : b.text ≡ a.text = let s = sym b.once ∙ a.once in cc s in
     cell_is a.text c d a.is_cell (subst (λ t. IsCellText t d) text b.is_cell)
 
+regions_once_are : (values : List Text) (one other : Kind) (a b : Text) (m n : ℕ) → AreRegionsOnce values one a m → AreRegionsOnce values other b n
+    → (one ≡ other) × (a ≡ b) × (m ≡ n)
+regions_once_are values one other a b m n x y =
+    let text : y.text ≡ x.text = let s = sym y.once ∙ x.once in cc s in
+    region_is x.text one other a b m n x.is_region (subst (λ t. IsRegionText t other b n) text y.is_region)
+
 -- the same task for two requests
 module _ (values : OptionName → List Text) (positions : List Text) where
   task_is : (one other : Task) → IsTask values positions one → IsTask values positions other
@@ -49,12 +60,6 @@ module _ (values : OptionName → List Text) (positions : List Text) where
       let ra : c ≡ f = number_is radius also_radius in
       let ta : x ≡ y = text_if_given_is (values Top) x y top also_top in
       cc (named, la, da, ra, ta)
-  task_is one other (of_one_metal p layer datatype radius top) (of_map q map also_top) g h = let s = sym (g Map refl) ∙ map in cc s
-  task_is one other (of_map q map also_top) (of_one_metal p layer datatype radius top) g h = let s = sym (h Map refl) ∙ map in cc s
-  task_is one other (of_one_metal p layer datatype radius top) (of_generator q columns) g h = let s = sym p ∙ q in cc s
-  task_is one other (of_generator q columns) (of_one_metal p layer datatype radius top) g h = let s = sym p ∙ q in cc s
-  task_is one other (of_map p map top) (of_generator q columns) g h = let s = sym p ∙ q in cc s
-  task_is one other (of_generator q columns) (of_map p map top) g h = let s = sym p ∙ q in cc s
   task_is one other (of_generator {columns = m} p columns) (of_generator {columns = n} q others) g h = let same : m ≡ n = number_is columns others in cc same
   task_is one other (of_map {layout = l} {map = a} {top = x} p map top) (of_map {layout = m} {map = b} {top = y} q also_map also_top) g h =
       let named : l ≡ m = let s = sym p ∙ q in cc s in
@@ -67,26 +72,33 @@ module _ (values : OptionName → List Text) (positions : List Text) where
       let ta : x ≡ y = text_if_given_is (values Top) x y top also_top in
       let sa : n ≡ k = number_is size also_size in
       cc (named, mapped, ta, sa)
-  task_is one other (of_pairs p map size top) (of_map q also_map also_top) g h = let s = sym (h Pairs refl) ∙ size.once in cc s
-  task_is one other (of_map q also_map also_top) (of_pairs p map size top) g h = let s = sym (g Pairs refl) ∙ size.once in cc s
-  task_is one other (of_pairs p map size top) (of_one_metal q layer datatype radius also_top) g h = let s = sym (h Map refl) ∙ map in cc s
-  task_is one other (of_one_metal q layer datatype radius also_top) (of_pairs p map size top) g h = let s = sym (g Map refl) ∙ map in cc s
-  task_is one other (of_pairs p map size top) (of_generator q columns) g h = let s = sym p ∙ q in cc s
-  task_is one other (of_generator q columns) (of_pairs p map size top) g h = let s = sym p ∙ q in cc s
   task_is one other (of_probe {layout = l} {map = a} {top = x} {cell = c} p map cell top) (of_probe {layout = m} {map = b} {top = y} {cell = d} q also_map also_cell also_top) g h =
       let named : l ≡ m = let s = sym p ∙ q in cc s in
       let mapped : a ≡ b = let s = sym map ∙ also_map in cc s in
       let ta : x ≡ y = text_if_given_is (values Top) x y top also_top in
       let sa : c ≡ d = cell_once_is (values Probe) c d cell also_cell in
       cc (named, mapped, ta, sa)
-  task_is one other (of_probe p map cell top) (of_map q also_map also_top) g h = let s = sym (h Probe refl) ∙ cell.once in cc s
-  task_is one other (of_map q also_map also_top) (of_probe p map cell top) g h = let s = sym (g Probe refl) ∙ cell.once in cc s
-  task_is one other (of_probe p map cell top) (of_pairs q also_map size also_top) g h = let s = sym (h Probe refl) ∙ cell.once in cc s
-  task_is one other (of_pairs q also_map size also_top) (of_probe p map cell top) g h = let s = sym (g Probe refl) ∙ cell.once in cc s
-  task_is one other (of_probe p map cell top) (of_one_metal q layer datatype radius also_top) g h = let s = sym (h Map refl) ∙ map in cc s
-  task_is one other (of_one_metal q layer datatype radius also_top) (of_probe p map cell top) g h = let s = sym (g Map refl) ∙ map in cc s
-  task_is one other (of_probe p map cell top) (of_generator q columns) g h = let s = sym p ∙ q in cc s
-  task_is one other (of_generator q columns) (of_probe p map cell top) g h = let s = sym p ∙ q in cc s
+  task_is one other (of_regions {layout = l} {map = a} {top = x} {kind = i} {layer = c} {size = n} p map once top)
+      (of_regions {layout = m} {map = b} {top = y} {kind = j} {layer = d} {size = k} q also_map also_once also_top) g h =
+      let named : l ≡ m = let s = sym p ∙ q in cc s in
+      let mapped : a ≡ b = let s = sym map ∙ also_map in cc s in
+      let ta : x ≡ y = text_if_given_is (values Top) x y top also_top in
+      let same = regions_once_are (values Regions) i j c d n k once also_once in
+      let kinds : i ≡ j = same.0 in
+      let layers : c ≡ d = same.1 in
+      let sizes : n ≡ k = same.2 in
+      cc (named, mapped, ta, kinds, layers, sizes)
+  -- each other task leaves out an option that this one gives
+  task_is one other (of_pairs _ _ size _) b g h = let s = sym (h Pairs refl) ∙ size.once in cc s
+  task_is one other a (of_pairs _ _ size _) g h = let s = sym (g Pairs refl) ∙ size.once in cc s
+  task_is one other (of_probe _ _ cell _) b g h = let s = sym (h Probe refl) ∙ cell.once in cc s
+  task_is one other a (of_probe _ _ cell _) g h = let s = sym (g Probe refl) ∙ cell.once in cc s
+  task_is one other (of_regions _ _ regions _) b g h = let s = sym (h Regions refl) ∙ regions.once in cc s
+  task_is one other a (of_regions _ _ regions _) g h = let s = sym (g Regions refl) ∙ regions.once in cc s
+  task_is one other (of_generator _ columns) b g h = let s = sym (h Generate refl) ∙ columns.once in cc s
+  task_is one other a (of_generator _ columns) g h = let s = sym (g Generate refl) ∙ columns.once in cc s
+  task_is one other (of_map _ map _) b g h = let s = sym (h Map refl) ∙ map in cc s
+  task_is one other a (of_map _ map _) g h = let s = sym (g Map refl) ∙ map in cc s
 
   -- options and positional words ask for one request at most
   request_is : IsUnique (IsRequestOf values positions)

@@ -160,6 +160,122 @@ const NO_CELL: &[&str] = &[
     "0,-00000000001",
 ];
 
+/// Words with the option of regions that fit no form.
+const NO_REGIONS: &[&str] = &[
+    // no map, no layout, or neither
+    "a|--regions|short,M1,3",
+    "--regions|short,M1,3",
+    "--map|m|--regions|short,M1,3",
+    "a|--regions|short,M1,3|--top|S",
+    // pairs of nets or a probe beside it, in either order, all three, and without a map
+    "a|--map|m|--regions|short,M1,3|--pairs|1",
+    "a|--map|m|--pairs|1|--regions|short,M1,3",
+    "a|--map|m|--regions|short,M1,3|--probe|12,5",
+    "a|--map|m|--probe|12,5|--regions|short,M1,3",
+    "a|--map|m|--pairs|1|--probe|12,5|--regions|short,M1,3",
+    "a|--map|m|--regions|short,M1,3|--probe|12,5|--pairs|1",
+    "a|--pairs|1|--regions|short,M1,3",
+    "a|--probe|12,5|--regions|short,M1,3",
+    // a tile and workers, also those that are taken where none are given
+    "a|--map|m|--regions|short,M1,3|--tile|5",
+    "a|--map|m|--regions|short,M1,3|--tile|65536",
+    "a|--map|m|--regions|short,M1,3|--workers|4",
+    "a|--map|m|--regions|short,M1,3|--tile|5|--workers|4",
+    // the options of one metal, with a map and without one
+    "a|--map|m|--regions|short,M1,3|--radius|3",
+    "a|--map|m|--regions|short,M1,3|--layer|1",
+    "a|--map|m|--regions|short,M1,3|--datatype|0",
+    "a|--regions|short,M1,3|--layer|1|--datatype|0|--radius|3",
+    // a generated layout
+    "--generate|3|--regions|short,M1,3",
+    "--generate|3|--map|m|--regions|short,M1,3",
+    "a|--generate|3|--map|m|--regions|short,M1,3",
+    // given twice, without a value, in more words than one, and shortened
+    "a|--map|m|--regions|short,M1,3|--regions|short,M1,3",
+    "a|--map|m|--regions=short,M1,3|--regions|open,M1,3",
+    "a|--map|m|--regions",
+    "a|--map|m|--regions=",
+    "a|--map|m|--regions|",
+    "a|--map|m|--regions|--top|S",
+    "a|--map|m|--regions|short|M1|3",
+    "a|--map|m|--region|short,M1,3",
+    "a|--map|m|--reg=short,M1,3",
+    "a|--map|m|--Regions=short,M1,3",
+    "a|--map|m|--regionsshort,M1,3",
+    // a dash in front of a value in a word of its own, and the dash alone
+    "a|--map|m|--regions|-short,M1,3",
+    "a|--map|m|--regions|-",
+];
+
+/// Values of the option of regions that ask for none, each behind an equals sign.
+const NO_REGION: &[&str] = &[
+    // not three parts with two commas between them
+    "short",
+    "short,M1",
+    "short,M1,3,4",
+    "short,M1,3,",
+    ",short,M1,3",
+    "short,,M1,3",
+    "short,M1,,3",
+    ",",
+    ",,",
+    ",,,",
+    "short;M1;3",
+    "short M1 3",
+    "short.M1.3",
+    "short:M1,3",
+    // the word for no kind
+    ",M1,3",
+    "area,M1,3",
+    "shorts,M1,3",
+    "shor,M1,3",
+    "s,M1,3",
+    "Short,M1,3",
+    "SHORT,M1,3",
+    "vias,M1,3",
+    "block,M1,3",
+    "pairs,M1,3",
+    " short,M1,3",
+    "short ,M1,3",
+    "0,M1,3",
+    // the parts in another order
+    "M1,short,3",
+    "short,3,M1",
+    "3,M1,short",
+    // no name of a layer: none, one of 33 bytes, and one with a byte that no name has
+    "short,,3",
+    "short,Metal_of_33_bytes_AZaz_0123456789,3",
+    "short,M-1,3",
+    "short,-M1,3",
+    "short,M1-,3",
+    "short,-,3",
+    "short,M.1,3",
+    "short,M/1,3",
+    "short,M=1,3",
+    "short, M1,3",
+    "short,M1 ,3",
+    "short,M 1,3",
+    "short,\"M1\",3",
+    "short,M\u{e4},3",
+    "short,*,3",
+    // no number of a size: none, one out of its bounds, more than ten digits, and what is no digit
+    "short,M1,",
+    "short,M1,0",
+    "short,M1,33",
+    "short,M1,0000000000",
+    "short,M1,00000000003",
+    "short,M1,4294967297",
+    "short,M1,-3",
+    "short,M1,+3",
+    "short,M1, 3",
+    "short,M1,3 ",
+    "short,M1,3.0",
+    "short,M1,0x3",
+    "short,M1,1_0",
+    "short,M1,\u{0663}",
+    "short,M1,all",
+];
+
 /// Words that are no options and no values.
 const NO_OPTION: &[&str] = &[
     "--help",
@@ -294,6 +410,24 @@ fn is_no_cell(alloc: Global, value: &str) -> Result<bool, AllocError> {
 fn other_cells_are_refused(rt: HostRuntime) {
     for value in NO_CELL {
         assert!(rt; is_no_cell(rt.alloc(), value) == Ok(true), "{value}");
+    }
+}
+
+#[test]
+fn other_words_with_regions_are_refused(rt: HostRuntime) {
+    expect_refused(&rt, rt.alloc(), NO_REGIONS);
+}
+
+/// Whether regions of this value are refused.
+fn is_no_region(alloc: Global, value: &str) -> Result<bool, AllocError> {
+    let line = format!(in alloc; "a|--map|m|--regions={value}")?;
+    Ok(are_refused(alloc, line.as_str()))
+}
+
+#[test]
+fn other_regions_are_refused(rt: HostRuntime) {
+    for value in NO_REGION {
+        assert!(rt; is_no_region(rt.alloc(), value) == Ok(true), "{value}");
     }
 }
 

@@ -1,4 +1,5 @@
 use super::rows::{Asked, Row, TopRow, ask_for};
+use questions::Kind;
 use std::alloc::{AllocError, Global};
 use std::process::Abort;
 
@@ -222,6 +223,88 @@ const PROBE_ROWS: &[Row] = &[
     ),
 ];
 
+/// Words of the form of regions, which have no tile and no workers of their own.
+const REGION_ROWS: &[Row] = &[
+    (
+        "a|--map|m|--regions|short,M1,3",
+        Asked::Regions("a", "m", (Kind::Short, "M1", 3)),
+        65_536,
+        4,
+    ),
+    (
+        "--regions=open,M1,3|--map=m|a",
+        Asked::Regions("a", "m", (Kind::Open, "M1", 3)),
+        65_536,
+        4,
+    ),
+    (
+        "--map|m|--regions|via,V1,3|--|a",
+        Asked::Regions("a", "m", (Kind::Via, "V1", 3)),
+        65_536,
+        4,
+    ),
+    // the least number and the greatest, and ten digits, most of them zeros in front
+    (
+        "a|--map|m|--regions|short,M1,1",
+        Asked::Regions("a", "m", (Kind::Short, "M1", 1)),
+        65_536,
+        4,
+    ),
+    (
+        "a|--map|m|--regions|short,M1,32",
+        Asked::Regions("a", "m", (Kind::Short, "M1", 32)),
+        65_536,
+        4,
+    ),
+    (
+        "a|--map|m|--regions=via,V1,0000000032",
+        Asked::Regions("a", "m", (Kind::Via, "V1", 32)),
+        65_536,
+        4,
+    ),
+    // a name of one letter, digit or '_', one of 32 bytes, and names that are the words of kinds and numbers
+    (
+        "a|--map|m|--regions|open,m,2",
+        Asked::Regions("a", "m", (Kind::Open, "m", 2)),
+        65_536,
+        4,
+    ),
+    (
+        "a|--map|m|--regions|open,_,2",
+        Asked::Regions("a", "m", (Kind::Open, "_", 2)),
+        65_536,
+        4,
+    ),
+    (
+        "a|--map|m|--regions|open,7,2",
+        Asked::Regions("a", "m", (Kind::Open, "7", 2)),
+        65_536,
+        4,
+    ),
+    (
+        "a|--map|m|--regions|short,Metal_of_32_bytes_AZaz_012345678,2",
+        Asked::Regions(
+            "a",
+            "m",
+            (Kind::Short, "Metal_of_32_bytes_AZaz_012345678", 2),
+        ),
+        65_536,
+        4,
+    ),
+    (
+        "a|--map|m|--regions|short,short,2",
+        Asked::Regions("a", "m", (Kind::Short, "short", 2)),
+        65_536,
+        4,
+    ),
+    (
+        "regions|--map|regions|--regions|via,regions,1",
+        Asked::Regions("regions", "regions", (Kind::Via, "regions", 1)),
+        65_536,
+        4,
+    ),
+];
+
 /// Words of all forms with files that want a structure.
 const TOP_ROWS: &[TopRow] = &[
     (
@@ -278,6 +361,20 @@ const TOP_ROWS: &[TopRow] = &[
         "--top=--probe=1,2|--probe=3,4|--map=m|a",
         Asked::Probe("a", "m", (3, 4)),
         "--probe=1,2",
+        65_536,
+        4,
+    ),
+    (
+        "a|--map|m|--top|S|--regions|short,M1,3",
+        Asked::Regions("a", "m", (Kind::Short, "M1", 3)),
+        "S",
+        65_536,
+        4,
+    ),
+    (
+        "--top=--regions=via,V1,2|--regions=open,M1,3|--map=m|a",
+        Asked::Regions("a", "m", (Kind::Open, "M1", 3)),
+        "--regions=via,V1,2",
         65_536,
         4,
     ),
@@ -375,6 +472,11 @@ fn pairs_of_nets_are_asked_for(rt: HostRuntime) {
 #[test]
 fn a_probe_is_asked_for(rt: HostRuntime) {
     expect_asked(&rt, rt.alloc(), PROBE_ROWS);
+}
+
+#[test]
+fn regions_are_asked_for(rt: HostRuntime) {
+    expect_asked(&rt, rt.alloc(), REGION_ROWS);
 }
 
 #[test]

@@ -1,4 +1,5 @@
 use command_line::{Request, Task, Word, WordsFault, read_words};
+use questions::Kind;
 use std::alloc::{AllocError, Global};
 
 /// What is asked for, but for the tile and the workers.
@@ -12,6 +13,8 @@ pub enum Asked<'a> {
     Pairs(&'a str, &'a str, u32),
     /// The nets nearest to a cell: the layout, the map, and the cell's column and row.
     Probe(&'a str, &'a str, (i32, i32)),
+    /// Critical regions: the layout, the map, and the kind of fault, the layer and the number of the size.
+    Regions(&'a str, &'a str, (Kind, &'a str, u32)),
     /// A generated layout of so many columns.
     Generated(u32),
 }
@@ -55,16 +58,22 @@ fn is_metal(task: &Task, name: &str, numbers: (u16, u16, u32)) -> bool {
             radius,
             ..
         } => layout.as_slice() == name.as_bytes() && (*layer, *datatype, *radius) == numbers,
-        Task::Mapped { .. } | Task::Pairs { .. } | Task::Probe { .. } | Task::Generated { .. } =>
-            false,
+        Task::Mapped { .. }
+        | Task::Pairs { .. }
+        | Task::Probe { .. }
+        | Task::Regions { .. }
+        | Task::Generated { .. } => false,
     }
 }
 
 /// Whether the task is that of this layout and this map.
 fn is_mapped(task: &Task, name: &str, map_name: &str) -> bool {
     match task {
-        Task::OneMetal { .. } | Task::Pairs { .. } | Task::Probe { .. } | Task::Generated { .. } =>
-            false,
+        Task::OneMetal { .. }
+        | Task::Pairs { .. }
+        | Task::Probe { .. }
+        | Task::Regions { .. }
+        | Task::Generated { .. } => false,
         Task::Mapped { layout, map, .. } => {
             layout.as_slice() == name.as_bytes() && map.as_slice() == map_name.as_bytes()
         }
@@ -84,8 +93,11 @@ fn is_of_pairs(task: &Task, name: &str, map_name: &str, number: u32) -> bool {
                 && map.as_slice() == map_name.as_bytes()
                 && *size == number
         }
-        Task::OneMetal { .. } | Task::Mapped { .. } | Task::Probe { .. } | Task::Generated { .. } =>
-            false,
+        Task::OneMetal { .. }
+        | Task::Mapped { .. }
+        | Task::Probe { .. }
+        | Task::Regions { .. }
+        | Task::Generated { .. } => false,
     }
 }
 
@@ -102,16 +114,48 @@ fn is_of_probe(task: &Task, name: &str, map_name: &str, place: (i32, i32)) -> bo
                 && map.as_slice() == map_name.as_bytes()
                 && (cell.i, cell.j) == place
         }
-        Task::OneMetal { .. } | Task::Mapped { .. } | Task::Pairs { .. } | Task::Generated { .. } =>
-            false,
+        Task::OneMetal { .. }
+        | Task::Mapped { .. }
+        | Task::Pairs { .. }
+        | Task::Regions { .. }
+        | Task::Generated { .. } => false,
+    }
+}
+
+/// Whether the task is that of regions of this layout and this map: of this kind of fault, on this layer, at the size of this
+/// number.
+fn is_of_regions(task: &Task, name: &str, map_name: &str, wanted: (Kind, &str, u32)) -> bool {
+    match task {
+        Task::Regions {
+            layout,
+            map,
+            kind,
+            layer,
+            size,
+            ..
+        } => {
+            layout.as_slice() == name.as_bytes()
+                && map.as_slice() == map_name.as_bytes()
+                && *kind == wanted.0
+                && layer.as_slice() == wanted.1.as_bytes()
+                && *size == wanted.2
+        }
+        Task::OneMetal { .. }
+        | Task::Mapped { .. }
+        | Task::Pairs { .. }
+        | Task::Probe { .. }
+        | Task::Generated { .. } => false,
     }
 }
 
 /// Whether the task is a generated layout of so many columns.
 fn is_generated(task: &Task, count: u32) -> bool {
     match task {
-        Task::OneMetal { .. } | Task::Mapped { .. } | Task::Pairs { .. } | Task::Probe { .. } =>
-            false,
+        Task::OneMetal { .. }
+        | Task::Mapped { .. }
+        | Task::Pairs { .. }
+        | Task::Probe { .. }
+        | Task::Regions { .. } => false,
         Task::Generated { n } => *n == count,
     }
 }
@@ -123,6 +167,7 @@ fn is_task(task: &Task, asked: &Asked<'_>) -> bool {
         Asked::Map(layout, map) => is_mapped(task, layout, map),
         Asked::Pairs(layout, map, number) => is_of_pairs(task, layout, map, *number),
         Asked::Probe(layout, map, place) => is_of_probe(task, layout, map, *place),
+        Asked::Regions(layout, map, regions) => is_of_regions(task, layout, map, *regions),
         Asked::Generated(columns) => is_generated(task, *columns),
     }
 }
@@ -133,7 +178,8 @@ fn top_of(task: &Task) -> Option<&[u8]> {
         Task::OneMetal { top: Some(top), .. }
         | Task::Mapped { top: Some(top), .. }
         | Task::Pairs { top: Some(top), .. }
-        | Task::Probe { top: Some(top), .. } => Some(top.as_slice()),
+        | Task::Probe { top: Some(top), .. }
+        | Task::Regions { top: Some(top), .. } => Some(top.as_slice()),
         _ => None,
     }
 }

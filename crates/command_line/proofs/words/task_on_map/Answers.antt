@@ -1,7 +1,7 @@
 use Rattle.command_line.specs.inside.Command.{positions_found, values_found}
 use Rattle.command_line.specs.Requests.{of_map}
 use Rattle.command_line.proofs.OrderLaws.{beside_map_told, beside_task_told, two_tasks_told}
-use Rattle.command_line.proofs.TaskLaws.{mapped_no_other, one_is_some, probe_given}
+use Rattle.command_line.proofs.TaskLaws.{mapped_no_other, one_is_some}
 use Rattle.command_line.proofs.words.task_on_map.Goals as goal
 
 pub returns-in-Some-clause-cause : goal.returns-in-Some-clause-cause
@@ -9,31 +9,37 @@ returns-in-Some-clause-cause c =
     beside_map_told (values_found c.args.matches.now) (positions_found c.args.matches.now) (one_is_some _ c.args.layout c.requires.layout) c.requires.no_columns
     c.in-Some.name (one_is_some _ c.args.map c.requires.map) c.in-Some.ensures.listed c.in-Some.ensures.some
 
-pub returns-in_default-first_given-clause-task : goal.returns-in_default-first_given-clause-task
-returns-in_default-first_given-clause-task c = of_map c.requires.layout c.requires.map c.requires.top
+pub returns-in_default-first_and_behind-clause-task : goal.returns-in_default-first_and_behind-clause-task
+returns-in_default-first_and_behind-clause-task c = of_map c.requires.layout c.requires.map c.requires.top
 
-pub returns-in_default-first_given-clause-no_other : goal.returns-in_default-first_given-clause-no_other
-returns-in_default-first_given-clause-no_other c =
-    mapped_no_other (values_found c.args.matches.now) c.requires.no_columns c.in_default.ensures.none c.in_default-first_given.ensures.none
+pub returns-in_default-first_and_behind-clause-no_other : goal.returns-in_default-first_and_behind-clause-no_other
+returns-in_default-first_and_behind-clause-no_other c =
+    mapped_no_other (values_found c.args.matches.now) c.requires.no_columns c.in_default.ensures.none c.in_default-first_and_behind.ensures.none
 
-pub returns-then-are_two_asked-clause-cause : goal.returns-then-are_two_asked-clause-cause
-returns-then-are_two_asked-clause-cause c =
-    let both = rw c.if-are_two_asked.true at c.are_two_asked.ensures in
+pub returns-in-Some-first_given-clause-cause : goal.returns-in-Some-first_given-clause-cause
+returns-in-Some-first_given-clause-cause c =
     two_tasks_told (values_found c.args.matches.now) (positions_found c.args.matches.now) (one_is_some _ c.args.layout c.requires.layout) c.requires.no_columns
-    (one_is_some _ c.args.map c.requires.map) c.in_default.ensures.none both.0 both.1
+    (one_is_some _ c.args.map c.requires.map) c.in_default.ensures.none c.in-Some-first_and_behind.asked c.in-Some-first_given.also
+    c.in-Some-first_and_behind.behind.now
+    c.in-Some-first_and_behind.ensures.some c.in-Some-first_given.ensures.listed c.in-Some-first_given.ensures.some
 
 pub returns-in-Some-first_given-2-clause-cause : goal.returns-in-Some-first_given-2-clause-cause
 returns-in-Some-first_given-2-clause-cause c =
     beside_task_told (values_found c.args.matches.now) (positions_found c.args.matches.now) (one_is_some _ c.args.layout c.requires.layout) c.requires.no_columns
-    (one_is_some _ c.args.map c.requires.map) c.in_default.ensures.none (rw c.if-are_two_asked.false at c.are_two_asked.ensures)
-    c.in-Some-first_given.asked c.in-Some-first_given-2.name
-    c.in-Some-first_given.ensures.listed c.in-Some-first_given.ensures.some c.in-Some-first_given-2.ensures.listed c.in-Some-first_given-2.ensures.some
+    (one_is_some _ c.args.map c.requires.map) c.in_default.ensures.none c.in-Some-first_and_behind.asked (record {
+      behind = c.in-Some-first_and_behind.behind.now;
+      first = c.in-Some-first_and_behind.ensures.some;
+      none_behind = c.in_default-first_given.ensures.none;
+    }) c.in-Some-first_given-2.name c.in-Some-first_given-2.ensures.listed c.in-Some-first_given-2.ensures.some
 
 pub asked_task-requires-clause-one : goal.asked_task-requires-clause-one
 asked_task-requires-clause-one c = record {
   no_columns = c.requires.no_columns;
   no_metal = c.in_default.ensures.none;
   no_work = c.in_default-first_given-2.ensures.none;
-  not_two = rw c.if-are_two_asked.false at c.are_two_asked.ensures;
-  one = probe_given (values_found c.args.matches.now) c.in-Some-first_given.asked c.in-Some-first_given.ensures.listed c.in-Some-first_given.ensures.some;
+  alone = record {
+    behind = c.in-Some-first_and_behind.behind.now;
+    first = c.in-Some-first_and_behind.ensures.some;
+    none_behind = c.in_default-first_given.ensures.none;
+  };
 }
