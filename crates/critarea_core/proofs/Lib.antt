@@ -4,6 +4,8 @@ pub mod ReadingLaws
 pub mod TerminalLaws
 pub mod AnalysisLaws
 pub mod StatusLaws
+pub mod NamingLaws
 pub mod AskedLaws
 pub mod PrintLaws
+pub mod RegionLaws
 pub mod RunLaws

@@ -11,13 +11,14 @@ use Rattle.edge_io.specs.ReadAnswers.{ReadsWhole, is_whole, is_too_long, has_no_
 use Rattle.edge_io.specs.declared.whole.ReadError.{ReadError}
 use Rattle.edge_io.specs.declared.whole.ReadError.TheVariants as unread
 use Rattle.command_line.specs.declared.task.Task.{Task}
-use Rattle.command_line.specs.declared.task.Task.TheVariants.{OneMetal, Mapped, Generated, Pairs, Probe}
+use Rattle.command_line.specs.declared.task.Task.TheVariants.{OneMetal, Mapped, Generated, Pairs, Probe, Regions}
 use Rattle.layer_map.specs.Documents as document
 use Rattle.layer_map.specs.declared.fault.MapFault.{MapFault}
 use Rattle.layer_map.specs.declared.fault.MapFault.TheVariants as map_fault
 use Rattle.layout_gen.specs.Generated.{generated_map}
 use Rattle.map_model.specs.MapNames.{LayerMap, layer_map_of, one_metal_map}
 use Rattle.map_model.specs.declared.map.Map.{Map}
+use Rattle.questions.specs.declared.kind.Kind.{Kind}
 use Rattle.critarea_core.specs.Contents.{MayContain, MayHave, Source, bytes_from, file, map_names}
 use Rattle.critarea_core.specs.inside.Finding.{Analyses, Finds, Gives, gives_thing, gives_refusal, FindsInFiles, files_serve, files_fail, IsToldAs, as_memory, as_known}
 use Rattle.critarea_core.specs.inside.Finding.{AreItems, BytesMayCome, IsMapOf, MapMayCome}
@@ -212,6 +213,9 @@ pairs_in layout name top size = record { names = refl; comes = λ bytes outcome 
 
 pub probe_in : (layout name : List ℕ) (top : Option (List ℕ)) (cell : Cell) → HasMapIn (Probe layout name top cell) name
 probe_in layout name top cell = record { names = refl; comes = λ bytes outcome comes. comes }
+
+pub regions_in : (layout name : List ℕ) (top : Option (List ℕ)) (kind : Kind) (layer : List ℕ) (size : ℕ) → HasMapIn (Regions layout name top kind layer size) name
+regions_in layout name top kind layer size = record { names = refl; comes = λ bytes outcome comes. comes }
 
 module _ (told : List ℕ → Option (List ℕ)) where
   module _ (task : Task) (name : List ℕ) (in_file : HasMapIn task name) where

@@ -13,8 +13,8 @@ use Rattle.gauges.specs.declared.pair_row.PairRow.{PairRow}
 use Rattle.gauges.specs.GaugeViews.{GaugeView}
 use Rattle.gauges.proofs.laws.Told.{some_told_keep_texts, told_keep_texts}
 use Rattle.critarea_core.specs.Contents.{MayContain, MayHave, names_in, map_names, file_names, bytes_from, layout_source, wanted_top}
-use Rattle.critarea_core.specs.Dues.{Due, IsDueAs}
-use Rattle.critarea_core.specs.Inquiries.{Asked, AskedComesTo, Inquiry, for_report, for_pairs, for_probe}
+use Rattle.critarea_core.specs.Dues.{Due, IsDueAs, IsRegionFile}
+use Rattle.critarea_core.specs.Inquiries.{Asked, AskedComesTo, Inquiry, for_report, for_pairs, for_probe, for_regions}
 use Rattle.critarea_core.specs.inside.Finding.{Analyses, AreItems, Finds, FindsInFiles, files_serve, files_fail, gives_thing, gives_refusal, HasFound, IsFound, IsFoundFor, IsMapOf}
 use Rattle.critarea_core.specs.inside.Finding.{IsPrinted, IsToldAs, LayoutMayCome, MapMayCome, due_out, due_cut, due_to, nothing_out, line_out, line_cut, no_line}
 use Rattle.critarea_core.specs.Layout.{ShortLayoutComesTo, Subject}
@@ -24,13 +24,14 @@ use Rattle.critarea_core.specs.Run.{AreToldAll, AreToldSome, AreUnsure, AreUntol
 use Rattle.critarea_core.specs.Run.{IsComplete, EndsWith, RunsTo, StartsNamed, no_file, map_file, both_files}
 use Rattle.critarea_core.specs.Run as run
 use Rattle.critarea_core.specs.declared.found.Found.{Found}
-use Rattle.critarea_core.specs.declared.found.Found.TheVariants.{Report as Rows, Pairs as Tables, Probe as Probed}
+use Rattle.critarea_core.specs.declared.found.Found.TheVariants.{Report as Rows, Pairs as Tables, Probe as Probed, Region as Cells}
 use Rattle.critarea_core.specs.declared.layout_fault.LayoutFault.{LayoutFault}
 use Rattle.critarea_core.specs.declared.layout_fault.LayoutFault.TheVariants as layout_fault
 use Rattle.critarea_core.specs.declared.refusal.Refusal.{Refusal}
 use Rattle.critarea_core.specs.declared.unreported.Unreported.{Unreported}
 use Rattle.critarea_core.specs.declared.unreported.Unreported.TheVariants.{Refused, FilesFailed, Memory}
 use Rattle.critarea_core.proofs.ReadingLaws.{fault_found, found_as, found_bytes, found_for, not_found, not_read, some_contents, some_may_be}
+use Rattle.critarea_core.proofs.RegionLaws.{region_has_room}
 use Rattle.critarea_core.proofs.StatusLaws.{refused_status}
 use Rattle.critarea_core.proofs.laws.VerdictLaws.{verdicts_agree}
 
@@ -180,6 +181,14 @@ is_due gauges for_report subject (Rows rows) has = record { are_rows = has; no_p
 is_due gauges (for_pairs size) subject (Tables tables) has = record { are_pairs = has; no_rows = refl; text = refl; room = refl }
 is_due gauges (for_probe cell) subject (Probed metals) has =
     record { told = metals.items; is_probe = has; no_rows = refl; no_pairs = refl; text = refl; room = refl }
+is_due gauges (for_regions kind number size) subject (Cells region) has = record {
+  rects = region.rects.items;
+  is_region = has.is_region;
+  is_file = subst (λ units. IsRegionFile units region.rects.items (due_to gauges (Cells region)).text) has.units (record { fit = region.fit; bytes = refl });
+  no_rows = refl;
+  no_pairs = refl;
+  room = refl;
+}
 is_due gauges asked subject found has = absurd has
 
 -- no more bytes are due than there has to be room for
@@ -188,6 +197,7 @@ text_has_room : (asked : Asked) (subject : Subject) (gauges : List (GaugeView Ro
 text_has_room for_report subject gauges pair_gauges due is = let room = is.room in omega (arith, room)
 text_has_room (for_pairs size) subject gauges pair_gauges due is = let room = is.room in omega (arith, room)
 text_has_room (for_probe cell) subject gauges pair_gauges due is = let room = is.room in omega (arith, room)
+text_has_room (for_regions kind number size) subject gauges pair_gauges due is = region_has_room subject.units is.rects due.text due.room is.is_file is.room
 
 untold_texts : (gauges : Gauges) → AreUntold gauges → KeepTheirTexts gauges
 untold_texts gauges untold =

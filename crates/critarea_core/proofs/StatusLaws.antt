@@ -2,7 +2,7 @@
 use Rattle.std.proofs.Common.{ℕ, ◌≡◌, ◌≢◌, List, Option, refl}
 use Rattle.first_refusal.specs.Outcomes.{refused, lacks, retold, stops, goes_on}
 use Rattle.command_line.specs.declared.task.Task.{Task}
-use Rattle.command_line.specs.declared.task.Task.TheVariants.{OneMetal, Mapped, Generated, Pairs, Probe}
+use Rattle.command_line.specs.declared.task.Task.TheVariants.{OneMetal, Mapped, Generated, Pairs, Probe, Regions}
 use Rattle.layout_gen.specs.Generated.{generated_map}
 use Rattle.map_model.specs.MapNames.{LayerMap}
 use Rattle.critarea_core.specs.Contents.{Contents}
@@ -26,6 +26,7 @@ map_status (Mapped layout map top) bytes refusal comes = map_text_status (bytes 
 map_status (Generated columns) bytes refusal comes = map_text_status generated_map refusal comes
 map_status (Pairs layout map top size) bytes refusal comes = map_text_status (bytes map) refusal comes
 map_status (Probe layout map top cell) bytes refusal comes = map_text_status (bytes map) refusal comes
+map_status (Regions layout map top kind layer size) bytes refusal comes = map_text_status (bytes map) refusal comes
 
 asked_status : (task : Task) (layer_map : LayerMap) (refusal : Refusal) → AskedComesTo task layer_map (refused refusal) → refusal.status ≡ 3
 asked_status (OneMetal layout layer datatype radius top) layer_map refusal comes = cc comes
@@ -33,6 +34,8 @@ asked_status (Mapped layout map top) layer_map refusal comes = cc comes
 asked_status (Generated columns) layer_map refusal comes = cc comes
 asked_status (Pairs layout map top size) layer_map refusal (lacks none) = refl
 asked_status (Probe layout map top cell) layer_map refusal comes = cc comes
+asked_status (Regions layout map top kind layer size) layer_map refusal (stops (lacks none)) = refl
+asked_status (Regions layout map top kind layer size) layer_map refusal (goes_on listed (lacks none)) = refl
 
 fault_status : (fault : LayoutFault) → (of_layout_fault fault).status ≡ 4
 fault_status (Syntax fault) = refl

@@ -3,7 +3,7 @@ use Rattle.std.specs.Prelude.{ℕ, List, [], ◌∷◌, ◌++◌, ◌≡◌, Opt
 use Rattle.lists.specs.ByteLists.{AreBytes}
 use Rattle.layout_gen.specs.Generated.{generated_layout}
 use Rattle.command_line.specs.declared.task.Task.{Task}
-use Rattle.command_line.specs.declared.task.Task.TheVariants.{OneMetal, Mapped, Generated, Pairs, Probe}
+use Rattle.command_line.specs.declared.task.Task.TheVariants.{OneMetal, Mapped, Generated, Pairs, Probe, Regions}
 
 -- the bytes of the file of each name, where it is read as a map, and where it is read as a layout: a file of which nothing is
 -- told may change from the one reading to the other
@@ -36,6 +36,7 @@ layout_source (Mapped layout map top) = file layout
 layout_source (Generated columns) = made (generated_layout columns)
 layout_source (Pairs layout map top size) = file layout
 layout_source (Probe layout map top cell) = file layout
+layout_source (Regions layout map top kind layer size) = file layout
 
 -- the bytes from there
 abbrev pub bytes_from : (List ℕ → List ℕ) → Source → List ℕ
@@ -49,6 +50,7 @@ wanted_top (Mapped layout map top) = top
 wanted_top (Generated columns) = None
 wanted_top (Pairs layout map top size) = top
 wanted_top (Probe layout map top cell) = top
+wanted_top (Regions layout map top kind layer size) = top
 
 -- the name of the map's file, where there is one: for one metal, and for a generated layout, there is none
 abbrev pub map_names : Task → List (List ℕ)
@@ -57,6 +59,7 @@ map_names (Mapped layout map top) = map ∷ []
 map_names (Generated columns) = []
 map_names (Pairs layout map top size) = map ∷ []
 map_names (Probe layout map top cell) = map ∷ []
+map_names (Regions layout map top kind layer size) = map ∷ []
 
 -- the name of the file, where the source is one
 abbrev pub names_in : Source → List (List ℕ)

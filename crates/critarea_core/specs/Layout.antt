@@ -17,9 +17,11 @@ use Rattle.critarea_core.specs.Coverage.{IsCoveredOn}
 use Rattle.critarea_core.specs.declared.layout_fault.LayoutFault.{LayoutFault}
 use Rattle.critarea_core.specs.declared.layout_fault.LayoutFault.TheVariants.{Syntax, Place, Cover, Net}
 
--- what a report is on: the layer map, and the routes to the shapes that the layout places on its layers
+-- what is asked about: the layer map, the body of UNITS of the layout's library, and the routes to the shapes that it places on
+-- layers of the map
 pub record Subject : Type 0 where
   pub layer_map : LayerMap
+  pub units : List ℕ
   pub routes : List Route
 
 -- a check of the shape in which a route ends
@@ -38,15 +40,15 @@ RouteHolds of_route = ShapeHolds (route_points of_route.0) of_route.1
 abbrev pub route_fault : RouteCheck → LayoutFault
 route_fault of_route = Cover (shape_fault of_route.0.shape.at of_route.1)
 
--- the routes to shapes on layers of the map: whether each shape has a cover, and what a report on them is on
-abbrev pub RoutesComeTo : LayerMap → List Route → Outcome Subject LayoutFault → Type 0
-RoutesComeTo layer_map routes =
-    Checks RouteHolds (route_checks routes) route_fault (λ subject. subject ≡ record { layer_map = layer_map; routes = routes })
+-- the routes to shapes on layers of the map, in a library with these units: whether each shape has a cover, and the subject
+abbrev pub RoutesComeTo : LayerMap → List ℕ → List Route → Outcome Subject LayoutFault → Type 0
+RoutesComeTo layer_map units routes = Checks RouteHolds (route_checks routes) route_fault
+    (λ subject. subject ≡ record { layer_map = layer_map; units = units; routes = routes })
 
 -- a library, of which the structure of this name is wanted, or any: the routes to what it places, and then those
 abbrev pub LibraryComesTo : LayerMap → Option (List ℕ) → Library → Outcome Subject LayoutFault → Type 0
 LibraryComesTo layer_map wanted library =
-    Then (Retold (λ fault. Place fault) (Placing library.structures layer_map wanted)) (RoutesComeTo layer_map)
+    Then (Retold (λ fault. Place fault) (Placing library.structures layer_map wanted)) (RoutesComeTo layer_map library.units)
 
 -- the bytes of a layout: the library that they come to, and then that
 abbrev pub ShapesComeTo : LayerMap → Option (List ℕ) → List ℕ → Outcome Subject LayoutFault → Type 0

@@ -48,6 +48,10 @@ of_map_fault fault = of_map (map_faults.number_of fault) (map_faults.place_of fa
 abbrev pub no_such_size : ℕ → Refusal
 no_such_size sizes = of_map 48 sizes
 
+-- the task names a metal that the map has not, or for via blocks a cut
+abbrev pub no_such_layer : Refusal
+no_such_layer = of_map 49 0
+
 -- the most bytes that a layout may have
 abbrev pub layout_limit : ℕ
 layout_limit = most_bytes

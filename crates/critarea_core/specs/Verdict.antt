@@ -4,7 +4,7 @@ use Rattle.first_refusal.specs.Outcomes.{Outcome, value, Reads, Retold, Then}
 use Rattle.command_line.specs.Requests.{Ask}
 use Rattle.command_line.specs.declared.request.Request.{Request}
 use Rattle.command_line.specs.declared.task.Task.{Task}
-use Rattle.command_line.specs.declared.task.Task.TheVariants.{OneMetal, Mapped, Generated, Pairs, Probe}
+use Rattle.command_line.specs.declared.task.Task.TheVariants.{OneMetal, Mapped, Generated, Pairs, Probe, Regions}
 use Rattle.layer_map.specs.Documents as document
 use Rattle.layout_gen.specs.Generated.{generated_map}
 use Rattle.map_model.specs.MapNames.{LayerMap, one_metal_map}
@@ -35,6 +35,7 @@ MapComesTo (Mapped layout map top) bytes outcome = MapTextComesTo (bytes map) ou
 MapComesTo (Generated columns) bytes outcome = MapTextComesTo generated_map outcome
 MapComesTo (Pairs layout map top size) bytes outcome = MapTextComesTo (bytes map) outcome
 MapComesTo (Probe layout map top cell) bytes outcome = MapTextComesTo (bytes map) outcome
+MapComesTo (Regions layout map top kind layer size) bytes outcome = MapTextComesTo (bytes map) outcome
 
 -- the words: a request, or they fit no form of the command
 abbrev pub WordsComeTo : List (List ℕ) → Outcome Request Refusal → Type 0

@@ -7,12 +7,12 @@ ghost use Rattle.library_model.specs.Points.{AreWellPointed};
 ghost use Rattle.map_model.specs.MapView.{layer_map_of};
 ghost use Rattle.questions.specs.declared.row.TheConstants.{MOST_ROWS};
 ghost use Rattle.critarea_core.specs.Analysis.{AnalysisComesTo};
-ghost use Rattle.critarea_core.specs.inside.Finding.{Analyses, HasFound, HasPairs, HasProbe, HasRows, IsWantedOf, asked_by};
+ghost use Rattle.critarea_core.specs.inside.Finding.{Analyses, HasFound, HasPairs, HasProbe, HasRegion, HasRows, HasSizeAndLayer, IsWantedOf, asked_by};
 ghost use Rattle.critarea_core.specs.inside.LayoutReaders.{AreLayersFor};
 ghost use Rattle.critarea_core.specs.Layout.{LibraryComesTo, ShortLayoutComesTo, TerminalsComeTo};
 ghost use Rattle.critarea_core.specs.Refusals.{layout_limit};
 
-use super::found::{Found, ReportRows};
+use super::found::{CriticalRegion, Found, ReportRows};
 use super::layers::layers_of;
 use super::layout_fault::LayoutFault;
 use super::wanted::Wanted;
@@ -23,8 +23,9 @@ use geo_core::Cell;
 use map_model::{Layers, Map};
 use map_pairs::pair_tables;
 use map_probe::{MetalNear, probe};
+use map_regions::regions;
 use pair_report::PairTables;
-use questions::Row;
+use questions::{Kind, Row};
 use rect_cover::cover_all;
 use std::alloc::Global;
 use std::mem::drop;
@@ -52,7 +53,7 @@ fn layers_of_library(
     requires few_elements { All (λ structure. length structure.elements < 2 ^ 32) library.structures }
     requires pointed { AreWellPointed library.structures }
     ensures { Analyses (LibraryComesTo (layer_map_of map.now) (option_copied top.entry) library)
-        (AreLayersFor (layer_map_of map.now)) result }
+        (AreLayersFor (layer_map_of map.now) library.units) result }
 {
     let placed = place(alloc, &library, map, top)?;
     let covers = cover_all(rt, alloc, &library, placed.as_slice())?;
@@ -119,6 +120,32 @@ fn probe_of_library(
     Ok(probe(alloc, map, &layers, cell)?)
 }
 
+/// The critical cells of this kind on a library, of which this top is wanted, or any: those of the layer of the map with this number,
+/// and of the map's size at this place.
+fn region_of_library(
+    rt: &(impl Threads + Sync),
+    alloc: Global,
+    map: &Map,
+    top: Option<&[u8]>,
+    library: Library,
+    kind: Kind,
+    number: u32,
+    place: u32,
+) -> Result<CriticalRegion, LayoutFault>
+    requires differ { AreDifferent (names_of library.structures) }
+    requires few_structures { length library.structures < 2 ^ 32 }
+    requires few_elements { All (λ structure. length structure.elements < 2 ^ 32) library.structures }
+    requires pointed { AreWellPointed library.structures }
+    requires there { HasSizeAndLayer map.now kind number place }
+    ensures { Analyses (Then (LibraryComesTo (layer_map_of map.now) (option_copied top.entry) library) TerminalsComeTo)
+        (HasRegion kind number (slice_index_or map.now.sizes place 0)) result }
+{
+    let units = library.units;
+    let layers = layers_of_library(rt, alloc, map, top, library)?;
+    let rects = regions(alloc, map, &layers, kind, number, place)?;
+    Ok(CriticalRegion { rects, units })
+}
+
 /// What is wanted of the map on the layout with these bytes, of which this top is wanted, or any. The bytes are let go once
 /// the library is read.
 pub fn find_in_layout<G: Gate + Sync>(
@@ -131,7 +158,7 @@ pub fn find_in_layout<G: Gate + Sync>(
     sharing: Sharing<'_, G>,
 ) -> Result<Found, LayoutFault>
     requires within { length bytes.items ≤ layout_limit }
-    requires there { IsWantedOf map.now.sizes wanted }
+    requires there { IsWantedOf map.now wanted }
     ensures { Analyses (ShortLayoutComesTo (layer_map_of map.now) (option_copied top.entry) bytes.items)
         (HasFound (asked_by map.now.sizes wanted)) result }
 {
@@ -149,6 +176,14 @@ pub fn find_in_layout<G: Gate + Sync>(
         Wanted::Probe { cell } => {
             let metals = probe_of_library(rt, alloc, map, top, library, cell)?;
             Ok(Found::Probe(metals))
+        }
+        Wanted::Region {
+            kind,
+            number,
+            place,
+        } => {
+            let region = region_of_library(rt, alloc, map, top, library, kind, number, place)?;
+            Ok(Found::Region(region))
         }
     }
 }

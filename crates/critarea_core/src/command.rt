@@ -26,7 +26,8 @@ fn top_of(task: &Task) -> Option<&[u8]>
         Task::OneMetal { top, .. }
         | Task::Mapped { top, .. }
         | Task::Pairs { top, .. }
-        | Task::Probe { top, .. } => top.as_ref().map(Name::as_slice),
+        | Task::Probe { top, .. }
+        | Task::Regions { top, .. } => top.as_ref().map(Name::as_slice),
         Task::Generated { .. } => None,
     }
 }
@@ -84,16 +85,18 @@ fn find<F: Files, G: Gate + Sync>(
 /// `pairs`, which is the number of one of the map's sizes, from 1 to 32 and counted from 1, the pairs of nets are asked for in place
 /// of the report: `top` may stand beside it, and neither `tile` nor `workers`. With a map and the option `probe`, which is the column
 /// and the row of a cell with a comma between them, the nets are asked for that are nearest to the cell on each metal, and the same
-/// may stand beside it. No size of the map matters to it.
+/// may stand beside it. No size of the map matters to it. With a map and the option `regions`, which is `short`, `open` or `via`, the
+/// name of a metal of the map, or for `via` of a cut, and the number of one of its sizes, with commas between them, the critical cells
+/// of that row are asked for, and the same may stand beside it.
 ///
 /// `files` gives the map and the layout, `out` gets what is due, and `err` the line of a refusal. The gauges are told the rows
 /// of a report, and the gauges of pairs those of pairs; those that are told print at the end, in their order, for all rows that they
-/// have seen. A probe tells neither kind anything, and neither prints. A run drops none of them, and a run that is refused tells
-/// them nothing. No gate changes what is printed. That each tile passes the gate once is tested, and no clause says it.
+/// have seen. A probe and a region tell neither kind anything, and neither prints. A run drops none of them, and a run that is
+/// refused tells them nothing. No gate changes what is printed. That each tile passes the gate once is tested, and no clause says it.
 ///
 /// | why it ended | status | printed to `out` | printed to `err` |
 /// |---|---|---|---|
-/// | what is due went out | 0 | the report or the pairs, with the texts of their gauges; or the probe | |
+/// | what is due went out | 0 | the report or the pairs, with the texts of their gauges; the probe; or a GDSII library of the critical cells | |
 /// | the words fit no form of the command | 2 | | `error 2 at 0` |
 /// | the map is refused | 3 | | `error`, the number, `at`, the place |
 /// | the layout is refused | 4 | | `error`, the number, `at`, the place |
@@ -105,7 +108,8 @@ fn find<F: Files, G: Gate + Sync>(
 /// of them alone, perhaps none or all. Nothing goes out before all of it is complete, so a refused map or layout leaves `out`
 /// as it was. Where what the files tell of the map is refused, the layout's file is not started. A map's refusal has number 39
 /// at 1048576 where the map has more bytes than that, one of 40 to 47 at a path of its document, and at last 48 at the number
-/// of its sizes where `pairs` names one behind them. A layout's refusal has number 9 at 268435456 where the layout has more
+/// of its sizes where `pairs` or `regions` names one behind them, and then 49 at 0 where `regions` names a layer that the map has
+/// not. A layout's refusal has number 9 at 268435456 where the layout has more
 /// bytes than that, one of 10 to 23 at an offset where its bytes are no library,
 /// one of 24 to 30 where its shapes are not placed, then one of 30 to 36 at the offset of the first placed shape, in the order
 /// of the routes, that has no cover, and at last 50 at the number of the first terminal of the map, counted from 0, whose cell

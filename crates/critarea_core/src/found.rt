@@ -1,6 +1,8 @@
 ghost use Rattle.std.specs.Prelude.{◌≤◌, length};
 ghost use Rattle.questions.specs.declared.row.TheConstants.{MOST_ROWS};
+ghost use Rattle.region_out.specs.Regions.{AreUnits};
 
+use geo_core::Rect;
 use map_probe::MetalNear;
 use pair_report::PairTables;
 use questions::Row;
@@ -12,6 +14,16 @@ pub struct ReportRows {
     pub ghost few: { length rows.items ≤ MOST_ROWS },
 }
 
+/// The critical cells of one row of a report, and the units of the layout in which they lie.
+#[derive(Drop)]
+pub struct CriticalRegion {
+    /// Rectangles without common cells.
+    pub rects: Vec<Rect>,
+    /// The body of UNITS of the layout's library.
+    pub units: [u8; 16],
+    pub ghost fit: { AreUnits units },
+}
+
 /// What was found of a layout, as it was asked.
 #[derive(Drop)]
 pub enum Found {
@@ -21,4 +33,6 @@ pub enum Found {
     Pairs(PairTables),
     /// What is near a cell on each metal.
     Probe(Vec<MetalNear>),
+    /// The critical cells of one kind, layer and size.
+    Region(CriticalRegion),
 }

@@ -1,12 +1,12 @@
-//! Laws of the sides of defects, which side makes the faults of which other one; and laws of pairs of nets and of probes, that they
-//! tell of shorts.
+//! Laws of the sides of defects, which side makes the faults of which other one; laws of pairs of nets and of probes, that they
+//! tell of shorts; and a law of region files, that they have as many cells as the rows of a report say.
 //!
 //! Each defect has its centre in the middle of a cell. One of an even side has the cells at its rim in halves, and one of
 //! an odd side has each cell wholly or not at all.
 
-ghost use Rattle.std.specs.Prelude.{ℕ, pos, List, [], All, Any, Some, length, slice_get, ◌+◌, ◌-◌, ◌/◌, ◌<◌, ◌≤◌, ◌≡◌, ◌↔◌};
+ghost use Rattle.std.specs.Prelude.{ℕ, pos, List, [], All, Any, Contains, Some, length, slice_get, ◌+◌, ◌-◌, ◌/◌, ◌<◌, ◌≤◌, ◌≡◌, ◌↔◌};
 ghost use Rattle.critarea_core.specs.Coverage.{IsCoveredOn};
-ghost use Rattle.critarea_core.specs.Dues.{ArePairRowsOn, AreRowsOn, IsProbeOn};
+ghost use Rattle.critarea_core.specs.Dues.{ArePairRowsOn, AreRowsOn, IsProbeOn, IsRegionOn};
 ghost use Rattle.critarea_core.specs.Layout.{Subject};
 ghost use Rattle.critarea_core.specs.WholeCells.{IsOfWholeCells};
 ghost use Rattle.critical_areas.specs.FaultKinds.{IsFault};
@@ -19,13 +19,19 @@ ghost use Rattle.flatten.specs.Routes.{Route};
 ghost use Rattle.gauges.specs.declared.pair_row.PairRow.{PairRow};
 ghost use Rattle.geo_core.specs.Cells.{IsNear};
 ghost use Rattle.geo_core.specs.declared.plane.Cell.{Cell};
-ghost use Rattle.map_model.specs.LayerMap.{LayerMap};
+ghost use Rattle.geo_core.specs.declared.plane.Rect.{Rect};
+ghost use Rattle.lists.specs.Differing.{AreDifferent};
+ghost use Rattle.map_model.specs.LayerMap.{LayerMap, layers_of};
+ghost use Rattle.map_model.specs.Layers.{names_of};
 ghost use Rattle.map_model.specs.Measures.{side_by};
 ghost use Rattle.map_pairs.specs.PairAreas.{TouchesSomeNets};
 ghost use Rattle.map_probe.specs.declared.metal_near.MetalNear.{MetalNear};
+ghost use Rattle.map_regions.specs.Regions.{cell_count};
 ghost use Rattle.near_index.specs.declared.nearest.Near.{Near};
 ghost use Rattle.net_extract.specs.Cuts.{cuts_of};
+ghost use Rattle.questions.specs.Questions.{IsRowFor, questions};
 ghost use Rattle.questions.specs.declared.kind.Kind.TheVariants.{Open, Short, Via};
+ghost use Rattle.questions.specs.declared.question.Question.{Question};
 ghost use Rattle.questions.specs.declared.row.Row.{Row};
 
 use fault_model::{HalfSet, Layout, Property};
@@ -110,4 +116,16 @@ pub fn second_within()
         IsProbeOn subject c told → slice_get told metal ≡ Some item → 1 ≤ s →
         IsShort (IsCoveredOn subject.layer_map subject.routes) (cuts_of subject.layer_map) metal s c
         ↔ ((near : Near) × (item.nearest.second ≡ Some near) × (near.distance ≤ s / 2)) }
+{}
+
+/// The region of a row has as many cells as the row says: the row that stands in the report where its question stands among those of
+/// the map, and, where the names of the map's layers differ, each row of its kind, layer and size.
+pub fn region_counts()
+    ensures at_its_place { (subject : Subject) (rows : List Row) (k : ℕ) (question : Question) (row : Row) (rects : List Rect) →
+        AreRowsOn subject rows → slice_get (questions subject.layer_map) k ≡ Some question → slice_get rows k ≡ Some row →
+        IsRegionOn subject question.kind question.number question.size rects → row.area ≡ cell_count rects }
+    ensures by_name { (subject : Subject) (rows : List Row) (question : Question) (row : Row) (rects : List Rect) →
+        AreDifferent (names_of (layers_of subject.layer_map)) → AreRowsOn subject rows →
+        Contains (questions subject.layer_map) question → Contains rows row → IsRowFor question row →
+        IsRegionOn subject question.kind question.number question.size rects → row.area ≡ cell_count rects }
 {}

@@ -1,4 +1,5 @@
-//! What words, a layer map and a layout come to: the report, the pairs of nets, the probe of a cell, or the first refusal.
+//! What words, a layer map and a layout come to: the report, the pairs of nets, the probe of a cell, the critical cells of a row as a
+//! library, or the first refusal.
 //!
 //! `run` reads the words, then the map, and then the layout, and looks at nothing behind what is refused (`command`,
 //! `sources`). Where the words ask for what the map does not have, the layout is not looked at (`wanted`). `analysis` goes from the
@@ -15,6 +16,7 @@ mod found;
 pub mod laws;
 mod layers;
 mod layout_fault;
+mod named_layers;
 mod printing;
 mod refusal;
 mod sources;

@@ -1,6 +1,6 @@
 ghost use Rattle.std.specs.Prelude.{[], ◌≤◌, ◌≡◌, IfOk, OnErr, OnOk, length};
 ghost use Rattle.critarea_core.specs.Dues.{whole_report};
-ghost use Rattle.critarea_core.specs.inside.Finding.{DueEnds, IsPrinted, LineEnds, due_to};
+ghost use Rattle.critarea_core.specs.inside.Finding.{DueEnds, IsPrinted, LineEnds, due_to, region_due};
 ghost use Rattle.critarea_core.specs.Run.{AreToldAll, AreToldSome, change, known_gauges};
 ghost use Rattle.gauges.specs.GaugeViews.{AreTold, AreToldPrefixes, views_of};
 ghost use Rattle.map_probe.specs.ProbeText.{probe_text};
@@ -8,15 +8,17 @@ ghost use Rattle.pair_report.specs.PairReport.{whole_pair_text};
 ghost use Rattle.pair_report.specs.PairRows.{pair_rows};
 ghost use Rattle.questions.specs.declared.row.TheConstants.{MOST_ROWS};
 
-use super::found::Found;
+use super::found::{CriticalRegion, Found};
 use super::refusal::Refusal;
 use super::unreported::Unreported;
 use edge_io::{Failed, Sink, write_all};
 use gauges::{Gauge, PairGauge, append_texts, tell};
+use gds_write::write_library;
 use lists::NoMemory;
 use map_probe::{MetalNear, write_probe};
 use pair_report::{PairTables, write_pairs};
 use questions::Row;
+use region_out::region_library;
 use report::write_report;
 use std::alloc::Global;
 
@@ -97,8 +99,16 @@ fn text_of_probe(alloc: Global, metals: &[MetalNear]) -> Result<Vec<u8>, NoMemor
     Ok(printed)
 }
 
-/// The text that is due where this was found. The gauges are told its rows first, of which a probe has none. Where memory runs out,
-/// each may have been told the first few of the rows alone, or none.
+/// The bytes of the region file of these cells. No gauge is told of it.
+fn bytes_of_region(alloc: Global, region: &CriticalRegion) -> Result<Vec<u8>, NoMemory>
+    ensures { IfOk result (λ printed. printed.items ≡ (region_due region.now).text) }
+{
+    let library = region_library(alloc, region.rects.as_slice(), region.units)?;
+    write_library(alloc, &library)
+}
+
+/// The text that is due where this was found. The gauges are told its rows first, of which a probe and a region have none. Where
+/// memory runs out, each may have been told the first few of the rows alone, or none.
 fn text_for(
     alloc: Global,
     found: &Found,
@@ -123,6 +133,7 @@ fn text_for(
         Found::Report(report) => text_of_report(alloc, report.rows.as_slice(), gauges),
         Found::Pairs(tables) => text_of_pairs(Vec::new(alloc), tables, pair_gauges),
         Found::Probe(metals) => text_of_probe(alloc, metals.as_slice()),
+        Found::Region(region) => bytes_of_region(alloc, region),
     }
 }
 

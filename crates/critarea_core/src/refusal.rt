@@ -33,6 +33,13 @@ pub const MAP_TOO_LONG: Refusal = Refusal {
     place: MAP_LIMIT as u64,
 };
 
+/// The refusal of a map that lacks the layer that a task names.
+pub const NO_SUCH_LAYER: Refusal = Refusal {
+    status: 3,
+    number: 49,
+    place: 0,
+};
+
 /// The refusal of a layout that has more bytes than it may.
 pub const LAYOUT_TOO_LONG: Refusal = Refusal {
     status: 4,

@@ -52,7 +52,10 @@ pub fn map_for<F: Files>(alloc: Global, request: &Request, files: &mut F) -> Res
             radius,
             ..
         } => Ok(one_metal(alloc, *layer, *datatype, *radius)?),
-        Task::Mapped { map, .. } | Task::Pairs { map, .. } | Task::Probe { map, .. } => {
+        Task::Mapped { map, .. }
+        | Task::Pairs { map, .. }
+        | Task::Probe { map, .. }
+        | Task::Regions { map, .. } => {
             let bytes = bytes_in(alloc, files, map.as_slice(), MAP_LIMIT, MAP_TOO_LONG)?;
             Ok(read_map(alloc, bytes.as_slice())?)
         }
@@ -77,7 +80,8 @@ pub fn layout_for<F: Files>(
         Task::OneMetal { layout, .. }
         | Task::Mapped { layout, .. }
         | Task::Pairs { layout, .. }
-        | Task::Probe { layout, .. } => {
+        | Task::Probe { layout, .. }
+        | Task::Regions { layout, .. } => {
             let name = layout.as_slice();
             bytes_in(alloc, files, name, LAYOUT_LIMIT, LAYOUT_TOO_LONG)
         }

@@ -1,5 +1,6 @@
 -- each stage of the verdict has one outcome at most
-use Rattle.std.proofs.Common.{ℕ, ◌≡◌, List, length, map, slice_get, sym, ap, arith, ◌∙◌, Option}
+use Rattle.std.proofs.Common.{ℕ, ◌≡◌, List, length, map, slice_get, sym, ap, arith, inl, inr, ◌∙◌, Option}
+use Rattle.lists.proofs.Words.{cases_lt}
 use Rattle.first_refusal.specs.Outcomes.{Retold}
 use Rattle.first_refusal.specs.Laws.{IsUnique}
 use Rattle.first_refusal.proofs.CheckLaws.{checks_agree}
@@ -7,7 +8,7 @@ use Rattle.first_refusal.proofs.StageLaws.{readings_agree, retold_agree, stages_
 use Rattle.lists.proofs.Words.{enumerate_from}
 use Rattle.command_line.specs.Requests.{Ask}
 use Rattle.command_line.specs.declared.task.Task.{Task}
-use Rattle.command_line.specs.declared.task.Task.TheVariants.{OneMetal, Mapped, Generated, Pairs, Probe}
+use Rattle.command_line.specs.declared.task.Task.TheVariants.{OneMetal, Mapped, Generated, Pairs, Probe, Regions}
 use Rattle.command_line.proofs.laws.Requests.{requests_agree}
 use Rattle.library_model.specs.declared.library.Library.{Library}
 use Rattle.library_grammar.specs.FirstFault.{BytesComeTo}
@@ -21,8 +22,10 @@ use Rattle.layout_gen.specs.Generated.{generated_map}
 use Rattle.map_model.specs.MapNames.{LayerMap}
 use Rattle.critarea_core.specs.Contents.{Contents, bytes_from, layout_source, wanted_top}
 use Rattle.critarea_core.specs.Layout.{Subject, RouteHolds, route_checks, route_fault, RoutesComeTo, LibraryComesTo, IsTerminalOn, terminal_fault, ShapesComeTo, ShortLayoutComesTo, TerminalsComeTo}
-use Rattle.critarea_core.specs.Inquiries.{Asked, AreAsked, AskedComesTo, for_pairs}
-use Rattle.critarea_core.specs.Refusals.{usage, map_limit, map_too_long, of_map_fault, layout_limit, layout_too_long, no_such_size, of_layout_fault}
+use Rattle.critarea_core.specs.Inquiries.{Asked, AreAsked, AskedComesTo, IsLayerNamed, IsRegionAsked, IsSizeNumbered, RegionComesTo, for_pairs, for_regions}
+use Rattle.critarea_core.specs.Refusals.{usage, map_limit, map_too_long, of_map_fault, layout_limit, layout_too_long, no_such_layer, no_such_size}
+use Rattle.critarea_core.specs.Refusals.{of_layout_fault}
+use Rattle.questions.specs.declared.kind.Kind.{Kind}
 use Rattle.critarea_core.specs.Verdict.{IsShortEnough, ShortMapComesTo, MapTextComesTo, MapComesTo, WordsComeTo, LayoutComesTo, InquiryComesTo, IsVerdict}
 use Rattle.critarea_core.specs.declared.layout_fault.LayoutFault.TheVariants.{Place, Syntax}
 
@@ -44,16 +47,34 @@ map_outcomes_agree (Mapped layout map top) bytes one other a b = map_texts_agree
 map_outcomes_agree (Generated columns) bytes one other a b = map_texts_agree generated_map one other a b
 map_outcomes_agree (Pairs layout map top size) bytes one other a b = map_texts_agree (bytes map) one other a b
 map_outcomes_agree (Probe layout map top cell) bytes one other a b = map_texts_agree (bytes map) one other a b
+map_outcomes_agree (Regions layout map top kind layer size) bytes one other a b = map_texts_agree (bytes map) one other a b
 
 -- a map has one size under a number
-sizes_agree : (layer_map : LayerMap) (number : ℕ) → IsUnique (AreAsked layer_map number)
-sizes_agree layer_map number one other a b =
-    let p = a.numbered in
-    let q = b.numbered in
+sizes_agree : (layer_map : LayerMap) (number : ℕ) → IsUnique (IsSizeNumbered layer_map number)
+sizes_agree layer_map number one other p q =
     let place : p.place ≡ q.place = omega (arith, p.counted, q.counted) in
     let sizes : List ℕ = map (λ listed. listed.size) layer_map.sizes in
-    let same : a.size ≡ b.size = cc (sym p.listed ∙ ap (λ k. slice_get sizes k) place ∙ q.listed) in
-    a.is_asked ∙ ap for_pairs same ∙ sym b.is_asked
+    cc (sym p.listed ∙ ap (λ k. slice_get sizes k) place ∙ q.listed)
+
+pairs_asked_agree : (layer_map : LayerMap) (number : ℕ) → IsUnique (AreAsked layer_map number)
+pairs_asked_agree layer_map number one other a b =
+    a.is_asked ∙ ap for_pairs (sizes_agree layer_map number a.size b.size a.numbered b.numbered) ∙ sym b.is_asked
+
+-- and one layer of a name
+layers_agree : (layer_map : LayerMap) (kind : Kind) (name : List ℕ) → IsUnique (IsLayerNamed layer_map kind name)
+layers_agree layer_map kind name one other a b = elim (cases_lt one other) [
+  | inl before ↦ absurd (b.first one before a.has_name)
+  | inr behind ↦ elim (cases_lt other one) [ inl before ↦ absurd (a.first other before b.has_name) | inr least ↦ omega (arith, behind, least) ]
+]
+
+regions_asked_agree : (layer_map : LayerMap) (kind : Kind) (name : List ℕ) (size : ℕ) → IsUnique (IsRegionAsked layer_map kind name size)
+regions_asked_agree layer_map kind name size one other a b =
+    a.is_asked ∙ ap (λ number. for_regions kind number size) (layers_agree layer_map kind name a.number b.number a.is_named b.is_named) ∙ sym b.is_asked
+
+regions_agree : (layer_map : LayerMap) (kind : Kind) (name : List ℕ) (number : ℕ) → IsUnique (RegionComesTo layer_map kind name number)
+regions_agree layer_map kind name number =
+    stages_agree _ _ (readings_agree (IsSizeNumbered layer_map number) (no_such_size (length layer_map.sizes)) (sizes_agree layer_map number))
+    (λ size. readings_agree (IsRegionAsked layer_map kind name size) no_such_layer (regions_asked_agree layer_map kind name size))
 
 -- and a task asks one thing of it
 asked_agree : (task : Task) (layer_map : LayerMap) → IsUnique (AskedComesTo task layer_map)
@@ -61,18 +82,19 @@ asked_agree (OneMetal layout layer datatype radius top) layer_map one other a b 
 asked_agree (Mapped layout map top) layer_map one other a b = a ∙ sym b
 asked_agree (Generated columns) layer_map one other a b = a ∙ sym b
 asked_agree (Pairs layout map top number) layer_map one other a b =
-    readings_agree (AreAsked layer_map number) (no_such_size (length layer_map.sizes)) (sizes_agree layer_map number) one other a b
+    readings_agree (AreAsked layer_map number) (no_such_size (length layer_map.sizes)) (pairs_asked_agree layer_map number) one other a b
 asked_agree (Probe layout map top cell) layer_map one other a b = a ∙ sym b
+asked_agree (Regions layout map top kind layer number) layer_map one other a b = regions_agree layer_map kind layer number one other a b
 
--- what a report is on, where the routes are these
-abbrev pub subject_of : LayerMap → List Route → Subject
-subject_of layer_map routes = record { layer_map = layer_map; routes = routes }
+-- the subject with these routes in a library of these units
+abbrev pub subject_of : LayerMap → List ℕ → List Route → Subject
+subject_of layer_map units routes = record { layer_map = layer_map; units = units; routes = routes }
 
 libraries_agree_on : (layer_map : LayerMap) (wanted : Option (List ℕ)) (library : Library) → IsUnique (LibraryComesTo layer_map wanted library)
 libraries_agree_on layer_map wanted library =
-    stages_agree (Retold (λ fault. Place fault) (Placing library.structures layer_map wanted)) (RoutesComeTo layer_map)
+    stages_agree (Retold (λ fault. Place fault) (Placing library.structures layer_map wanted)) (RoutesComeTo layer_map library.units)
     (retold_agree (λ fault. Place fault) (Placing library.structures layer_map wanted) (placings_agree library.structures layer_map wanted))
-    (λ routes. checks_agree RouteHolds (route_checks routes) route_fault (λ subject. subject ≡ subject_of layer_map routes) (λ one other a b. a ∙ sym b))
+    (λ routes. checks_agree RouteHolds (route_checks routes) route_fault (λ subject. subject ≡ subject_of layer_map library.units routes) (λ one other a b. a ∙ sym b))
 
 terminals_agree : (subject : Subject) → IsUnique (TerminalsComeTo subject)
 terminals_agree subject =

@@ -4,6 +4,8 @@ use Rattle.lists.specs.Words.{Global}
 use Rattle.first_refusal.specs.Answers.{Answers}
 use Rattle.first_refusal.specs.Outcomes.{Outcome, Reads, value, refused}
 use Rattle.command_line.specs.declared.task.Task.{Task}
+use Rattle.gds_records.specs.RecordSpelling.{spellings}
+use Rattle.gds_write.specs.Written.{written}
 use Rattle.geo_core.specs.declared.plane.Cell.{Cell}
 use Rattle.map_model.specs.MapNames.{LayerMap, layer_map_of}
 use Rattle.map_model.specs.declared.map.Map.{Map}
@@ -13,20 +15,24 @@ use Rattle.pair_report.specs.PairRows.{pair_rows}
 use Rattle.pair_report.specs.declared.tables.PairTables.{PairTables}
 use Rattle.map_probe.specs.ProbeText.{probe_text}
 use Rattle.map_probe.specs.declared.metal_near.MetalNear.{MetalNear}
+use Rattle.map_regions.specs.Regions.{IsNumberFor}
+use Rattle.questions.specs.declared.kind.Kind.{Kind}
 use Rattle.questions.specs.declared.row.Row.{Row}
 use Rattle.questions.specs.declared.row.TheConstants.{MOST_ROWS}
+use Rattle.region_out.specs.Regions.{region_library_of}
 use Rattle.critarea_core.specs.Contents.{MayContain, Source, bytes_from}
-use Rattle.critarea_core.specs.Dues.{AreRowsOn, ArePairRowsOn, Due, IsProbeOn, whole_report}
-use Rattle.critarea_core.specs.Inquiries.{Asked, Inquiry, for_report, for_pairs, for_probe}
+use Rattle.critarea_core.specs.Dues.{AreRowsOn, ArePairRowsOn, Due, IsProbeOn, IsRegionOn, region_room, whole_report}
+use Rattle.critarea_core.specs.Inquiries.{Asked, Inquiry, for_report, for_pairs, for_probe, for_regions}
 use Rattle.critarea_core.specs.Refusals.{layout_limit, layout_too_long, refusal_text}
 use Rattle.critarea_core.specs.Run.{AreToldAll, AreToldSome, AreUnsure, AreUntold, Change, FailsWithin, Gauges, HasRisen}
 use Rattle.critarea_core.specs.Run.{IsCalm, IsIdle, MayComeTo, Output, Takes}
 use Rattle.critarea_core.specs.Layout.{Subject}
 use Rattle.critarea_core.specs.Verdict.{IsShortEnough, MapComesTo}
+use Rattle.critarea_core.specs.declared.found.CriticalRegion.{CriticalRegion}
 use Rattle.critarea_core.specs.declared.found.Found.{Found}
-use Rattle.critarea_core.specs.declared.found.Found.TheVariants.{Report as Rows, Pairs as Tables, Probe as Probed}
+use Rattle.critarea_core.specs.declared.found.Found.TheVariants.{Report as Rows, Pairs as Tables, Probe as Probed, Region as Cells}
 use Rattle.critarea_core.specs.declared.wanted.Wanted.{Wanted}
-use Rattle.critarea_core.specs.declared.wanted.Wanted.TheVariants.{Report, Pairs, Probe}
+use Rattle.critarea_core.specs.declared.wanted.Wanted.TheVariants.{Report, Pairs, Probe, Region}
 use Rattle.critarea_core.specs.declared.layout_fault.LayoutFault.{LayoutFault}
 use Rattle.critarea_core.specs.declared.layout_fault.LayoutFault.TheVariants.{Memory as LayoutMemory}
 use Rattle.critarea_core.specs.declared.refusal.Refusal.{Refusal}
@@ -104,23 +110,36 @@ HasPairs size subject tables = ArePairRowsOn subject size (pair_rows tables)
 abbrev pub HasProbe : Cell → Subject → Vec MetalNear Global → Type 0
 HasProbe cell subject metals = IsProbeOn subject cell metals.items
 
+-- these are the critical cells of the subject, of this kind and size on the layer with this number, and its units
+pub record HasRegion (kind : Kind) (number size : ℕ) (subject : Subject) (region : CriticalRegion) : Type 0 where
+  pub is_region : IsRegionOn subject kind number size region.rects.items
+  pub units : region.units ≡ subject.units
+
 -- what a task asks, by the place of the size in the map
 abbrev pub asked_by : List ℕ → Wanted → Asked
 asked_by sizes Report = for_report
 asked_by sizes (Pairs place) = for_pairs (slice_index_or sizes place 0)
 asked_by sizes (Probe cell) = for_probe cell
+asked_by sizes (Region kind number place) = for_regions kind number (slice_index_or sizes place 0)
 
--- the map has a size at this place, where one is named
-abbrev pub IsWantedOf : List ℕ → Wanted → Type 0
-IsWantedOf sizes Report = Unit {0}
-IsWantedOf sizes (Pairs place) = place < length sizes
-IsWantedOf sizes (Probe cell) = Unit {0}
+-- the map has a size at this place, and a layer with this number
+pub record HasSizeAndLayer (map : Map) (kind : Kind) (number place : ℕ) : Type 0 where
+  pub numbered : IsNumberFor kind (length map.metals) (length map.cuts) number
+  pub below : place < length map.sizes
+
+-- the map has the size and the layer that are named, where any are
+abbrev pub IsWantedOf : Map → Wanted → Type 0
+IsWantedOf map Report = Unit {0}
+IsWantedOf map (Pairs place) = place < length map.sizes
+IsWantedOf map (Probe cell) = Unit {0}
+IsWantedOf map (Region kind number place) = HasSizeAndLayer map kind number place
 
 -- this was found on the subject, as it is asked
 abbrev pub HasFound : Asked → Subject → Found → Type 0
 HasFound for_report subject (Rows report) = AreRowsOn subject report.rows.items
 HasFound (for_pairs size) subject (Tables tables) = HasPairs size subject tables
 HasFound (for_probe cell) subject (Probed metals) = HasProbe cell subject metals
+HasFound (for_regions kind number size) subject (Cells region) = HasRegion kind number size subject region
 HasFound asked subject found = ⊥
 
 -- this was found for the inquiry
@@ -137,11 +156,21 @@ IsFound words told sure failures = FindsInFiles failures (AreUnsure words told s
 abbrev pub due_of : List ℕ → List Row → List PairRow → Due
 due_of text rows pairs = record { text = text; rows = rows; pair_rows = pairs; room = length text }
 
+-- the region file of these cells is due, with room for any such file
+abbrev pub region_due : CriticalRegion → Due
+region_due region = record {
+  text = spellings (written (region_library_of region.rects.items region.units region.fit));
+  rows = [];
+  pair_rows = [];
+  room = region_room region.rects.items;
+}
+
 -- what is due to these gauges where this was found
 abbrev pub due_to : Gauges → Found → Due
 due_to gauges (Rows report) = due_of (whole_report report.rows.items gauges.of_rows.before) report.rows.items []
 due_to gauges (Tables tables) = due_of (whole_pair_text (pair_rows tables) gauges.of_pairs.before) [] (pair_rows tables)
 due_to gauges (Probed metals) = due_of (probe_text metals.items) [] []
+due_to gauges (Cells region) = region_due region
 
 -- how the printing of what is due ends, with this status
 pub data DueEnds (due : Due) (gauges : Gauges) (out : Output) : ℕ → Type 0 where

@@ -28,7 +28,8 @@ pub record AreLayersOf (subject : Subject) (lists : List (List Rect)) : Type 0 w
   pub within : All (All IsInLayout) lists
   pub covers : (number : ℕ) (c : Cell) → IsCoveredIn lists number c ↔ IsCoveredOn subject.layer_map subject.routes number c
 
--- the layers are those of the subject, which has this layer map
-pub record AreLayersFor (layer_map : LayerMap) (subject : Subject) (found : Layers) : Type 0 where
+-- the layers are those of the subject, which has this layer map and these units
+pub record AreLayersFor (layer_map : LayerMap) (units : List ℕ) (subject : Subject) (found : Layers) : Type 0 where
   pub of_map : subject.layer_map ≡ layer_map
+  pub of_units : subject.units ≡ units
   pub layers : AreLayersOf subject found.lists.items

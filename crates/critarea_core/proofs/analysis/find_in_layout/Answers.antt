@@ -1,10 +1,10 @@
 use Rattle.std.proofs.Common.{Ok, option_copied, slice_index_or}
 use Rattle.first_refusal.specs.Outcomes.{Then}
 use Rattle.map_model.specs.MapNames.{layer_map_of}
-use Rattle.critarea_core.specs.inside.Finding.{HasFound, HasPairs, HasProbe, HasRows, asked_by}
-use Rattle.critarea_core.specs.Inquiries.{for_report, for_pairs, for_probe}
+use Rattle.critarea_core.specs.inside.Finding.{HasFound, HasPairs, HasProbe, HasRegion, HasRows, asked_by}
+use Rattle.critarea_core.specs.Inquiries.{for_report, for_pairs, for_probe, for_regions}
 use Rattle.critarea_core.specs.Layout.{LibraryComesTo, TerminalsComeTo}
-use Rattle.critarea_core.specs.declared.found.Found.TheVariants.{Pairs as Tables, Probe as Probed}
+use Rattle.critarea_core.specs.declared.found.Found.TheVariants.{Pairs as Tables, Probe as Probed, Region as Cells}
 use Rattle.critarea_core.proofs.AnalysisLaws.{found_alike, found_few, in_library, no_library, refused_alike}
 use Rattle.critarea_core.proofs.analysis.find_in_layout.Goals as goal
 
@@ -43,6 +43,17 @@ returns-in_err-metals-in-Probe g c =
     (refused_alike (Then (LibraryComesTo layer_map top library) TerminalsComeTo) (HasProbe c.in-Probe.cell) (HasFound asked)
     c.in_err-metals-in-Probe.field-0.0 c.from_residual-in_err-metals-in-Probe.result c.from_residual-in_err-metals-in-Probe.ensures.1 c.in_err-metals-in-Probe.ensures)
 
+pub returns-in_err-region-in-Region : goal.returns-in_err-region-in-Region
+returns-in_err-region-in-Region g c =
+    let layer_map = layer_map_of c.args.map.now in
+    let top = option_copied c.args.top in
+    let library = c.in_ok-library.library in
+    let asked = asked_by c.args.map.now.sizes c.args.wanted in
+    let wanted = c.in-Region in
+    in_library (HasFound asked) layer_map top c.args.bytes.items library c.from_residual-in_err-region-in-Region.result (rw c.as_slice.ensures.value at c.in_ok-library.ensures.answers)
+    (refused_alike (Then (LibraryComesTo layer_map top library) TerminalsComeTo) (HasRegion wanted.kind wanted.number (slice_index_or c.args.map.now.sizes wanted.place 0)) (HasFound asked)
+    c.in_err-region-in-Region.field-0.0 c.from_residual-in_err-region-in-Region.result c.from_residual-in_err-region-in-Region.ensures.1 c.in_err-region-in-Region.ensures)
+
 pub invariant_of-result : goal.invariant_of-result
 invariant_of-result g c = record { few = found_few _ (Ok c.in_ok-rows-in-Report.rows) c.in_ok-rows-in-Report.ensures }
 
@@ -74,3 +85,15 @@ returns-in_ok-metals-in-Probe g c =
     rw c.in-Probe.is (in_library (HasFound (for_probe cell)) layer_map top c.args.bytes.items library _ (rw c.as_slice.ensures.value at c.in_ok-library.ensures.answers)
     (found_alike (Then (LibraryComesTo layer_map top library) TerminalsComeTo) (HasProbe cell) (HasFound (for_probe cell)) c.in_ok-metals-in-Probe.metals
     (Probed c.in_ok-metals-in-Probe.metals) (λ subject has. has) c.in_ok-metals-in-Probe.ensures))
+
+pub returns-in_ok-region-in-Region : goal.returns-in_ok-region-in-Region
+returns-in_ok-region-in-Region g c =
+    let layer_map = layer_map_of c.args.map.now in
+    let top = option_copied c.args.top in
+    let library = c.in_ok-library.library in
+    let wanted = c.in-Region in
+    let size = slice_index_or c.args.map.now.sizes wanted.place 0 in
+    let asked = for_regions wanted.kind wanted.number size in
+    rw c.in-Region.is (in_library (HasFound asked) layer_map top c.args.bytes.items library _ (rw c.as_slice.ensures.value at c.in_ok-library.ensures.answers)
+    (found_alike (Then (LibraryComesTo layer_map top library) TerminalsComeTo) (HasRegion wanted.kind wanted.number size) (HasFound asked) c.in_ok-region-in-Region.region
+    (Cells c.in_ok-region-in-Region.region) (λ subject has. has) c.in_ok-region-in-Region.ensures))

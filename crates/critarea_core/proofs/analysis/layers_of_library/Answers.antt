@@ -23,7 +23,7 @@ pub returns-in_err-placed : goal.returns-in_err-placed
 returns-in_err-placed g c =
     let layer_map = layer_map_of c.args.map.now in
     let why = c.in_err-placed.field-0.0 in
-    not_read _ (λ fault. fault) (LibraryComesTo layer_map (option_copied c.args.top) c.args.library) (AreLayersFor layer_map) place.Memory (λ fault. Place fault) why
+    not_read _ (λ fault. fault) (LibraryComesTo layer_map (option_copied c.args.top) c.args.library) (AreLayersFor layer_map c.args.library.units) place.Memory (λ fault. Place fault) why
     c.from_residual.result c.from_residual.ensures.1 (λ known. stops (retold (c.in_err-placed.ensures.refused known)))
 
 pub cover_all-requires-clause-placed : goal.cover_all-requires-clause-placed
@@ -42,7 +42,7 @@ returns-in_err-covers g c =
     let layer_map = layer_map_of c.args.map.now in
     let along = placed_along library.structures layer_map (option_copied c.args.top) placed are in
     let why = c.in_err-covers.field-0.0 in
-    not_read _ (λ fault. fault) (LibraryComesTo layer_map (option_copied c.args.top) library) (AreLayersFor layer_map) cover.Memory (λ fault. Cover fault) why c.from_residual-in_err-covers.result
+    not_read _ (λ fault. fault) (LibraryComesTo layer_map (option_copied c.args.top) library) (AreLayersFor layer_map library.units) cover.Memory (λ fault. Cover fault) why c.from_residual-in_err-covers.result
     c.from_residual-in_err-covers.ensures.1 (λ known. goes_on {v = are.routes} (kept are.placing) (one_fails
     (first_refused library.structures layer_map are.routes placed why along (subst (λ ps. IsFirstCoverFault library.structures ps why) c.as_slice.ensures.value
     (first_fault _ _ _ c.in_err-covers.ensures known)))))
@@ -70,7 +70,7 @@ returns g c =
     let made_of = subst (λ ps. AreListsUpTo (zip ps c.as_slice-3.result.now) c.count_of.result layers) c.as_slice-2.ensures.value c.in_ok-layers_of.ensures in
     let made_from = subst (λ ls. AreListsUpTo (zip placed ls) c.count_of.result layers) c.as_slice-3.ensures.value made_of in
     let made = subst (λ n. AreListsUpTo (zip placed lists) n layers) (c.count_of.ensures ∙ sym (layer_count given.metals given.cuts)) made_from in
-    let subject : Subject = record { layer_map = layer_map; routes = are.routes } in
+    let subject : Subject = record { layer_map = layer_map; units = library.units; routes = are.routes } in
     let all = all_covered library.structures layer_map are.routes placed lists along covers in
     gives (gives_thing {v = subject} (goes_on {v = are.routes} (kept are.placing) (all_hold all refl))
-    (record { of_map = refl; layers = are_layers subject given.pairs_differ (zip placed lists) covered layers made }))
+    (record { of_map = refl; of_units = refl; layers = are_layers subject given.pairs_differ (zip placed lists) covered layers made }))

@@ -19,7 +19,7 @@ pub returns-in_err-layers : goal.returns-in_err-layers
 returns-in_err-layers g c =
     let layer_map = layer_map_of c.args.map.now in
     let gave = err_from_is_err_and c.from_residual.result c.from_residual.ensures.1 in
-    rw (gave.1, gave.2) (stopped _ _ (LibraryComesTo layer_map (option_copied c.args.top) c.args.library) TerminalsComeTo (AreLayersFor layer_map) (HasPairs (slice_index_or c.args.map.now.sizes c.args.place 0))
+    rw (gave.1, gave.2) (stopped _ _ (LibraryComesTo layer_map (option_copied c.args.top) c.args.library) TerminalsComeTo (AreLayersFor layer_map c.args.library.units) (HasPairs (slice_index_or c.args.map.now.sizes c.args.place 0))
     c.in_err-layers.field-0.0 c.in_err-layers.ensures)
 
 pub pair_tables-requires-clause-one_each : goal.pair_tables-requires-clause-one_each

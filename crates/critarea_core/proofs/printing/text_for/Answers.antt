@@ -29,3 +29,13 @@ returns-in-Probe-clause-told g c = rw c.in-Probe.is (on_ok c.text_of_probe.resul
 pub returns-in-Probe-clause-some : goal.returns-in-Probe-clause-some
 returns-in-Probe-clause-some g c =
     rw c.in-Probe.is (on_err c.text_of_probe.result (record { of_rows = untold_prefixes [] _; of_pairs = untold_prefixes [] _ }))
+
+pub returns-in-Region-clause-printed : goal.returns-in-Region-clause-printed
+returns-in-Region-clause-printed g c = rw c.in-Region.is c.bytes_of_region.ensures
+
+pub returns-in-Region-clause-told : goal.returns-in-Region-clause-told
+returns-in-Region-clause-told g c = rw c.in-Region.is (on_ok c.bytes_of_region.result (record { of_rows = untold _; of_pairs = untold _ }))
+
+pub returns-in-Region-clause-some : goal.returns-in-Region-clause-some
+returns-in-Region-clause-some g c =
+    rw c.in-Region.is (on_err c.bytes_of_region.result (record { of_rows = untold_prefixes [] _; of_pairs = untold_prefixes [] _ }))

@@ -16,12 +16,12 @@ generate-requires-clause-few g c = (rw c.in-Generated.is at c.args.request.now.t
 
 pub returns-in-OneMetal-clause-found : goal.returns-in-OneMetal-clause-found
 returns-in-OneMetal-clause-found g c =
-    let named : layout_source c.args.request.now.task ≡ file c.as_slice-name.result.now = rw c.as_slice-name.ensures (elim c.in-OneMetal.is [ inl h ↦ rw h.4 refl | inr h ↦ elim h [ inl m ↦ rw m.2 refl | inr p ↦ elim p [ inl q ↦ rw q.3 refl | inr r ↦ rw r.3 refl ] ] ]) in
+    let named : layout_source c.args.request.now.task ≡ file c.as_slice-name.result.now = rw c.as_slice-name.ensures (elim c.in-OneMetal.is [ inl h ↦ rw h.4 refl | inr h ↦ elim h [ inl m ↦ rw m.2 refl | inr p ↦ elim p [ inl q ↦ rw q.3 refl | inr r ↦ elim r [ inl t ↦ rw t.3 refl | inr u ↦ rw u.5 refl ] ] ] ]) in
     rw named c.bytes_in.ensures.found
 
 pub returns-in-OneMetal-clause-starts : goal.returns-in-OneMetal-clause-starts
 returns-in-OneMetal-clause-starts g c =
-    let named : layout_source c.args.request.now.task ≡ file c.as_slice-name.result.now = rw c.as_slice-name.ensures (elim c.in-OneMetal.is [ inl h ↦ rw h.4 refl | inr h ↦ elim h [ inl m ↦ rw m.2 refl | inr p ↦ elim p [ inl q ↦ rw q.3 refl | inr r ↦ rw r.3 refl ] ] ]) in
+    let named : layout_source c.args.request.now.task ≡ file c.as_slice-name.result.now = rw c.as_slice-name.ensures (elim c.in-OneMetal.is [ inl h ↦ rw h.4 refl | inr h ↦ elim h [ inl m ↦ rw m.2 refl | inr p ↦ elim p [ inl q ↦ rw q.3 refl | inr r ↦ elim r [ inl t ↦ rw t.3 refl | inr u ↦ rw u.5 refl ] ] ] ]) in
     rw named c.bytes_in.ensures.starts
 
 pub returns-in_err-made-in-Generated-clause-found : goal.returns-in_err-made-in-Generated-clause-found

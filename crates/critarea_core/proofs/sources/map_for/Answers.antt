@@ -5,7 +5,7 @@ use Rattle.first_refusal.proofs.AnswerLaws.{out_of_memory}
 use Rattle.layout_gen.specs.Generated.{generated_map}
 use Rattle.critarea_core.specs.inside.Finding.{files_serve}
 use Rattle.critarea_core.specs.Run.{IsUnsureOf}
-use Rattle.critarea_core.proofs.ReadingLaws.{HasMapIn, found_bytes, map_of_file, map_of_generated, map_read, map_unread, mapped_in, not_found, one_metal_found, pairs_in, probe_in, refused_text}
+use Rattle.critarea_core.proofs.ReadingLaws.{HasMapIn, found_bytes, map_of_file, map_of_generated, map_read, map_unread, mapped_in, not_found, one_metal_found, pairs_in, probe_in, refused_text, regions_in}
 use Rattle.critarea_core.proofs.sources.map_for.Goals as goal
 
 pub one_metal-requires : goal.one_metal-requires
@@ -25,7 +25,7 @@ returns-in_ok-one_metal-in-OneMetal-clause-found g c =
 pub returns-in_err-bytes-in-Mapped-clause-found : goal.returns-in_err-bytes-in-Mapped-clause-found
 returns-in_err-bytes-in-Mapped-clause-found g c =
     let mapped = c.in-Mapped in
-    let in_file : HasMapIn c.args.request.now.task mapped.map = elim mapped.is [ inl h ↦ rw h.2 (mapped_in h.0 _ h.1) | inr h ↦ elim h [ inl p ↦ rw p.3 (pairs_in p.0 _ p.1 p.2) | inr q ↦ rw q.3 (probe_in q.0 _ q.1 q.2) ] ] in
+    let in_file : HasMapIn c.args.request.now.task mapped.map = elim mapped.is [ inl h ↦ rw h.2 (mapped_in h.0 _ h.1) | inr h ↦ elim h [ inl p ↦ rw p.3 (pairs_in p.0 _ p.1 p.2) | inr q ↦ elim q [ inl r ↦ rw r.3 (probe_in r.0 _ r.1 r.2) | inr t ↦ rw t.5 (regions_in t.0 _ t.1 t.2 t.3 t.4) ] ] ] in
     let named = IsUnsureOf (g.F.Files.sure c.args.files.now) (mapped.map ∷ []) in
     rw in_file.names (not_found _ named named _ _ _ _ (λ one. one) (refused_text (g.F.Files.holds c.args.files.now) c.args.request.now.task mapped.map in_file) c.in_err-bytes-in-Mapped.field-0.0
     c.from_residual-in_err-bytes-in-Mapped.result c.from_residual-in_err-bytes-in-Mapped.ensures.1 (rw c.as_slice.ensures at c.in_err-bytes-in-Mapped.ensures.found))
@@ -34,7 +34,7 @@ pub returns-in_err-read_map-in-Mapped-clause-found : goal.returns-in_err-read_ma
 returns-in_err-read_map-in-Mapped-clause-found g c =
     let told = g.F.Files.holds c.args.files.now in
     let mapped = c.in-Mapped in
-    let in_file : HasMapIn c.args.request.now.task mapped.map = elim mapped.is [ inl h ↦ rw h.2 (mapped_in h.0 _ h.1) | inr h ↦ elim h [ inl p ↦ rw p.3 (pairs_in p.0 _ p.1 p.2) | inr q ↦ rw q.3 (probe_in q.0 _ q.1 q.2) ] ] in
+    let in_file : HasMapIn c.args.request.now.task mapped.map = elim mapped.is [ inl h ↦ rw h.2 (mapped_in h.0 _ h.1) | inr h ↦ elim h [ inl p ↦ rw p.3 (pairs_in p.0 _ p.1 p.2) | inr q ↦ elim q [ inl r ↦ rw r.3 (probe_in r.0 _ r.1 r.2) | inr t ↦ rw t.5 (regions_in t.0 _ t.1 t.2 t.3 t.4) ] ] ] in
     let read = c.in_ok-bytes-in-Mapped.bytes in
     let bytes = found_bytes _ _ _ read (rw c.as_slice.ensures at c.in_ok-bytes-in-Mapped.ensures.found) in
     (files_serve bytes.0 (map_unread told c.args.request.now.task read.items (map_of_file told c.args.request.now.task mapped.map in_file read.items bytes.1)
@@ -45,7 +45,7 @@ pub returns-in_ok-read_map-in-Mapped-clause-found : goal.returns-in_ok-read_map-
 returns-in_ok-read_map-in-Mapped-clause-found g c =
     let told = g.F.Files.holds c.args.files.now in
     let mapped = c.in-Mapped in
-    let in_file : HasMapIn c.args.request.now.task mapped.map = elim mapped.is [ inl h ↦ rw h.2 (mapped_in h.0 _ h.1) | inr h ↦ elim h [ inl p ↦ rw p.3 (pairs_in p.0 _ p.1 p.2) | inr q ↦ rw q.3 (probe_in q.0 _ q.1 q.2) ] ] in
+    let in_file : HasMapIn c.args.request.now.task mapped.map = elim mapped.is [ inl h ↦ rw h.2 (mapped_in h.0 _ h.1) | inr h ↦ elim h [ inl p ↦ rw p.3 (pairs_in p.0 _ p.1 p.2) | inr q ↦ elim q [ inl r ↦ rw r.3 (probe_in r.0 _ r.1 r.2) | inr t ↦ rw t.5 (regions_in t.0 _ t.1 t.2 t.3 t.4) ] ] ] in
     let read = c.in_ok-bytes-in-Mapped.bytes in
     let bytes = found_bytes _ _ _ read (rw c.as_slice.ensures at c.in_ok-bytes-in-Mapped.ensures.found) in
     (files_serve bytes.0 (map_read told c.args.request.now.task read.items (map_of_file told c.args.request.now.task mapped.map in_file read.items bytes.1)

@@ -1,14 +1,16 @@
-use Rattle.critarea_core.proofs.AskedLaws.{size_asked, size_lacking}
+use Rattle.std.proofs.lemmas.Result.{err_from_is_err_and}
+use Rattle.critarea_core.proofs.AskedLaws.{pairs_asked, pairs_lacking}
 use Rattle.critarea_core.proofs.wanted.wanted_of.Goals as goal
 
-pub returns-then-size-sizes-clause-lacking : goal.returns-then-size-sizes-clause-lacking
-returns-then-size-sizes-clause-lacking c =
+pub returns-in_err-place_of_size-in-Pairs-clause-lacking : goal.returns-in_err-place_of_size-in-Pairs-clause-lacking
+returns-in_err-place_of_size-in-Pairs-clause-lacking c =
+    let gave = err_from_is_err_and c.from_residual.result c.from_residual.ensures.1 in
+    let lack = c.in_err-place_of_size-in-Pairs.ensures.lacking in
     let named = c.in-Pairs in
-    rw named.is (rw c.no_such_size.ensures (rw c.as_slice-sizes.ensures (size_lacking c.args.map.now named.layout named.map named.top named.size
-    (rw named.is at c.args.request.now.task_limits).least (rw c.as_slice-sizes.ensures at c.if-size-sizes.true))))
+    rw (gave.1, gave.2, lack.0, named.is) (pairs_lacking c.args.map.now named.layout named.map named.top named.size lack.1)
 
-pub returns-else-size-sizes-clause-wanted : goal.returns-else-size-sizes-clause-wanted
-returns-else-size-sizes-clause-wanted c =
+pub returns-in_ok-place_of_size-in-Pairs-clause-wanted : goal.returns-in_ok-place_of_size-in-Pairs-clause-wanted
+returns-in_ok-place_of_size-in-Pairs-clause-wanted c =
     let named = c.in-Pairs in
-    rw named.is (size_asked c.args.map.now named.layout named.map named.top named.size
-    (rw named.is at c.args.request.now.task_limits).least (rw c.as_slice-sizes.ensures at c.if-size-sizes.false))
+    let there = c.in_ok-place_of_size-in-Pairs.ensures.there in
+    rw named.is (pairs_asked c.args.map.now named.layout named.map named.top named.size c.in_ok-place_of_size-in-Pairs.field-0 there.0 there.1)
