@@ -12,18 +12,20 @@ use Rattle.flatten.proofs.laws.Placings.{placings_cannot_lack}
 use Rattle.command_line.specs.Requests.{Ask}
 use Rattle.command_line.specs.declared.request.Request.{Request}
 use Rattle.command_line.specs.declared.task.Task.{Task}
-use Rattle.command_line.specs.declared.task.Task.TheVariants.{OneMetal, Mapped, Generated, Pairs, Probe}
+use Rattle.command_line.specs.declared.task.Task.TheVariants.{OneMetal, Mapped, Generated, Pairs, Probe, Regions}
 use Rattle.layer_map.specs.Documents as document
 use Rattle.layer_map.proofs.laws.Maps.{maps_cannot_lack}
 use Rattle.map_model.specs.MapNames.{LayerMap, one_metal_map}
+use Rattle.questions.specs.declared.kind.Kind.{Kind}
 use Rattle.layout_gen.specs.Generated.{generated_map}
 use Rattle.layout_gen.proofs.laws.Generated.{generated_reads}
 use Rattle.lists.specs.ByteLists.{AreBytes}
 use Rattle.lists.proofs.Words.{enumerate_from}
 use Rattle.critarea_core.specs.Contents.{Contents, bytes_from, file, layout_source, wanted_top}
-use Rattle.critarea_core.specs.Inquiries.{Asked, AreAsked, AskedComesTo, for_probe, for_report}
+use Rattle.critarea_core.specs.Inquiries.{Asked, AreAsked, AskedComesTo, IsRegionAsked, IsSizeNumbered, RegionComesTo, for_probe, for_report}
 use Rattle.critarea_core.specs.Layout.{Subject, RouteHolds, route_checks, route_fault, RoutesComeTo, LibraryComesTo, IsTerminalOn, terminal_fault, ShapesComeTo, ShortLayoutComesTo, TerminalsComeTo}
-use Rattle.critarea_core.specs.Refusals.{usage, map_limit, map_too_long, of_map_fault, layout_limit, layout_too_long, no_such_size, of_layout_fault}
+use Rattle.critarea_core.specs.Refusals.{usage, map_limit, map_too_long, of_map_fault, layout_limit, layout_too_long, of_layout_fault}
+use Rattle.critarea_core.specs.Refusals.{no_such_layer, no_such_size}
 use Rattle.critarea_core.specs.Verdict.{IsShortEnough, MapTextComesTo, MapComesTo, WordsComeTo, LayoutComesTo, InquiryComesTo, IsVerdict}
 use Rattle.critarea_core.specs.declared.layout_fault.LayoutFault.TheVariants.{Place, Syntax}
 use Rattle.critarea_core.proofs.laws.VerdictLaws.{subject_of}
@@ -40,8 +42,14 @@ map_cannot_lack (Mapped layout map top) bytes none = map_text_cannot_lack (bytes
 map_cannot_lack (Generated columns) bytes none = map_text_cannot_lack generated_map none
 map_cannot_lack (Pairs layout map top size) bytes none = map_text_cannot_lack (bytes map) none
 map_cannot_lack (Probe layout map top cell) bytes none = map_text_cannot_lack (bytes map) none
+map_cannot_lack (Regions layout map top kind layer size) bytes none = map_text_cannot_lack (bytes map) none
 
 -- ---- what a task asks of a map
+
+region_cannot_lack : (layer_map : LayerMap) (kind : Kind) (name : List ℕ) (number : ℕ) → CannotLack (RegionComesTo layer_map kind name number)
+region_cannot_lack layer_map kind name number =
+    stages_cannot_lack _ _ (reading_cannot_lack (IsSizeNumbered layer_map number) (no_such_size (length layer_map.sizes)))
+    (λ size numbered. reading_cannot_lack (IsRegionAsked layer_map kind name size) no_such_layer)
 
 asked_cannot_lack : (task : Task) (layer_map : LayerMap) → CannotLack (AskedComesTo task layer_map)
 asked_cannot_lack (OneMetal layout layer datatype radius top) layer_map none = none (value for_report) refl
@@ -49,14 +57,16 @@ asked_cannot_lack (Mapped layout map top) layer_map none = none (value for_repor
 asked_cannot_lack (Generated columns) layer_map none = none (value for_report) refl
 asked_cannot_lack (Pairs layout map top number) layer_map none = reading_cannot_lack (AreAsked layer_map number) (no_such_size (length layer_map.sizes)) none
 asked_cannot_lack (Probe layout map top cell) layer_map none = none (value (for_probe cell)) refl
+asked_cannot_lack (Regions layout map top kind layer number) layer_map none = region_cannot_lack layer_map kind layer number none
 
 -- ---- layouts
 
 library_cannot_lack : (layer_map : LayerMap) (wanted : Option (List ℕ)) (library : Library) → CannotLack (LibraryComesTo layer_map wanted library)
 library_cannot_lack layer_map wanted library =
-    stages_cannot_lack (Retold (λ fault. Place fault) (Placing library.structures layer_map wanted)) (RoutesComeTo layer_map)
+    stages_cannot_lack (Retold (λ fault. Place fault) (Placing library.structures layer_map wanted)) (RoutesComeTo layer_map library.units)
     (retold_cannot_lack (λ fault. Place fault) (Placing library.structures layer_map wanted) (placings_cannot_lack library.structures layer_map wanted))
-    (λ routes placing. checks_cannot_lack RouteHolds (route_checks routes) route_fault (λ subject. subject ≡ subject_of layer_map routes) (λ all none. none (subject_of layer_map routes) refl))
+    (λ routes placing. let subject = subject_of layer_map library.units routes in
+    checks_cannot_lack RouteHolds (route_checks routes) route_fault (λ same. same ≡ subject) (λ all none. none subject refl))
 
 terminals_cannot_lack : (subject : Subject) → CannotLack (TerminalsComeTo subject)
 terminals_cannot_lack subject =
@@ -85,6 +95,7 @@ layout_there (OneMetal layout layer datatype radius top) contents are = bytes_co
 layout_there (Mapped layout map top) contents are = bytes_come_to_something (contents.layout layout) (are layout refl)
 layout_there (Pairs layout map top size) contents are = bytes_come_to_something (contents.layout layout) (are layout refl)
 layout_there (Probe layout map top cell) contents are = bytes_come_to_something (contents.layout layout) (are layout refl)
+layout_there (Regions layout map top kind layer size) contents are = bytes_come_to_something (contents.layout layout) (are layout refl)
 layout_there (Generated columns) contents are = let read = generated_reads columns in λ none. none (value read.0) read.2
 
 -- ---- words

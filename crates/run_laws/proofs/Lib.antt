@@ -1,8 +1,10 @@
 pub mod MapLaws
 pub mod ExistLaws
 pub mod NameLaws
+pub mod AskedLaws
 pub mod SameLaws
 pub mod StageLaws
 pub mod SizeLaws
+pub mod LayerLaws
 pub mod TallyLaws
 pub mod TellingLaws

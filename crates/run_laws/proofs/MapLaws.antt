@@ -6,7 +6,7 @@ use Rattle.map_model.specs.declared.measure.Measure.TheVariants.{Radius}
 use Rattle.layer_map.proofs.laws.Maps.{radii_go_without_contacts}
 use Rattle.layout_gen.specs.Generated.{generated_map}
 use Rattle.command_line.specs.declared.task.Task.{Task}
-use Rattle.command_line.specs.declared.task.Task.TheVariants.{OneMetal, Mapped, Generated, Pairs, Probe}
+use Rattle.command_line.specs.declared.task.Task.TheVariants.{OneMetal, Mapped, Generated, Pairs, Probe, Regions}
 use Rattle.critarea_core.specs.Verdict.{MapComesTo, MapTextComesTo}
 
 of_text : (text : List ℕ) (layer_map : LayerMap) → MapTextComesTo text (value layer_map) → layer_map.measure ≡ Radius → layer_map.contacts ≡ false
@@ -19,4 +19,6 @@ maps_by_radii_name_terminals (OneMetal layout layer datatype radius top) bytes l
 maps_by_radii_name_terminals (Mapped layout map_name top) bytes layer_map comes radii = of_text (bytes map_name) layer_map comes radii
 maps_by_radii_name_terminals (Pairs layout map_name top size) bytes layer_map comes radii = of_text (bytes map_name) layer_map comes radii
 maps_by_radii_name_terminals (Probe layout map_name top cell) bytes layer_map comes radii = of_text (bytes map_name) layer_map comes radii
+maps_by_radii_name_terminals (Regions layout map_name top kind layer size) bytes layer_map comes radii =
+    of_text (bytes map_name) layer_map comes radii
 maps_by_radii_name_terminals (Generated columns) bytes layer_map comes radii = of_text generated_map layer_map comes radii

@@ -1,11 +1,11 @@
 -- a verdict looks at the named files alone
-use Rattle.std.proofs.Common.{ℕ, ◌≡◌, List, [], subst}
+use Rattle.std.proofs.Common.{ℕ, ◌≡◌, ◌↔◌, List, [], refl, sym, ap, subst, ◌∙◌}
 use Rattle.lists.proofs.Containing.{Contains-head}
 use Rattle.first_refusal.specs.Outcomes.{Outcome, reads, lacks, Then, stops, goes_on}
 use Rattle.command_line.specs.Requests.{Ask}
 use Rattle.command_line.specs.declared.request.Request.{Request}
 use Rattle.command_line.specs.declared.task.Task.{Task}
-use Rattle.command_line.specs.declared.task.Task.TheVariants.{OneMetal, Mapped, Generated, Pairs, Probe}
+use Rattle.command_line.specs.declared.task.Task.TheVariants.{OneMetal, Mapped, Generated, Pairs, Probe, Regions}
 use Rattle.command_line.proofs.laws.Requests.{requests_agree}
 use Rattle.critarea_core.specs.Contents.{Contents, bytes_from, layout_source, wanted_top}
 use Rattle.map_model.specs.MapNames.{LayerMap}
@@ -45,10 +45,27 @@ module _ (contents other : Contents) (outcome : Outcome Inquiry Refusal) where
       same_map (Pairs layout map top size) layout map (same.map map (Contains-head map [])) (same.layout layout (Contains-head layout [])) comes
   same_files_same_outcome (Probe layout map top cell) same comes =
       same_map (Probe layout map top cell) layout map (same.map map (Contains-head map [])) (same.layout layout (Contains-head layout [])) comes
+  same_files_same_outcome (Regions layout map top kind layer size) same comes =
+      same_map (Regions layout map top kind layer size) layout map (same.map map (Contains-head map []))
+      (same.layout layout (Contains-head layout [])) comes
+
+-- words that ask for a task come to what it comes to
+module _ (words : List (List ℕ)) (request : Request) (task : Task) (asks : Ask words request) (is : request.task ≡ task)
+    (contents : Contents) where
+  of_verdict : (outcome : Outcome Inquiry Refusal) → IsVerdict words contents outcome → TaskComesTo contents task outcome
+  of_verdict outcome (stops (lacks none)) = absurd (none request asks)
+  of_verdict outcome (goes_on {v = this} (reads asked) comes) =
+      let same : this ≡ request = requests_agree words this request asked asks in
+      subst (λ task. TaskComesTo contents task outcome) (ap (λ (r : Request). r.task) same ∙ is) comes
+
+  pub task_outcome : (outcome : Outcome Inquiry Refusal) → IsVerdict words contents outcome ↔ TaskComesTo contents task outcome
+  task_outcome outcome = (
+    of_verdict outcome,
+    λ comes. goes_on {v = request} (reads asks) (subst (λ task. TaskComesTo contents task outcome) (sym is) comes),
+  )
 
 pub same_files_same_verdict : (words : List (List ℕ)) (request : Request) → Ask words request → (contents other : Contents) → HoldTheSame request.task contents other
     → (outcome : Outcome Inquiry Refusal) → IsVerdict words contents outcome → IsVerdict words other outcome
-same_files_same_verdict words request asks contents other same outcome (stops (lacks none)) = absurd (none request asks)
-same_files_same_verdict words request asks contents other same outcome (goes_on {v = this} (reads asked) comes) =
-    let is : this ≡ request = requests_agree words this request asked asks in
-    goes_on {v = request} (reads asks) (same_files_same_outcome contents other outcome request.task same (subst (λ (r : Request). TaskComesTo contents r.task outcome) is comes))
+same_files_same_verdict words request asks contents other same outcome verdict =
+    let comes = (task_outcome words request request.task asks refl contents outcome).0 verdict in
+    (task_outcome words request request.task asks refl other outcome).1 (same_files_same_outcome contents other outcome request.task same comes)

@@ -1,11 +1,10 @@
 -- words that ask for the same come to the same, and one thing is due of what they come to
-use Rattle.std.proofs.Common.{ℕ, ◌≡◌, List, length, sym, ap, subst, ◌∙◌, Option, Vec}
+use Rattle.std.proofs.Common.{ℕ, ◌≡◌, ◌+◌, ◌*◌, List, length, refl, sym, ap, subst, ◌∙◌, Option, Vec}
 use Rattle.lists.proofs.Words.{Global}
-use Rattle.first_refusal.specs.Outcomes.{Outcome, value, refused, reads, lacks, stops, goes_on}
+use Rattle.first_refusal.specs.Outcomes.{Outcome, value, refused}
 use Rattle.first_refusal.specs.Laws.{IsUnique}
 use Rattle.command_line.specs.Requests.{Ask}
 use Rattle.command_line.specs.declared.request.Request.{Request}
-use Rattle.command_line.proofs.laws.Requests.{requests_agree}
 use Rattle.geo_core.specs.declared.plane.Cell.{Cell}
 use Rattle.map_model.specs.MapNames.{LayerMap}
 use Rattle.gauges.specs.GaugeViews.{GaugeView}
@@ -14,20 +13,26 @@ use Rattle.pair_report.specs.PairReport.{whole_pair_text}
 use Rattle.map_pairs.proofs.laws.PairRowLaws.{rows_agree as pair_rows_agree}
 use Rattle.map_probe.specs.ProbeText.{probe_text}
 use Rattle.map_probe.proofs.laws.UniqueLaws.{probes_agree}
+use Rattle.map_regions.proofs.laws.RegionLaws.{count_alike, cover_alike}
 use Rattle.critical_areas.proofs.laws.UniqueLaws.{rows_agree}
+use Rattle.questions.specs.declared.kind.Kind.{Kind}
 use Rattle.questions.specs.declared.row.Row.{Row}
 use Rattle.critarea_core.specs.Analysis.{AnalysisComesTo, has_rows, has_fault}
 use Rattle.critarea_core.specs.Contents.{Contents}
 use Rattle.critarea_core.specs.Coverage.{IsCoveredOn}
-use Rattle.critarea_core.specs.Dues.{ArePairRowsOn, ArePairsDue, AreRowsOn, Due, IsDue, IsDueAs, IsProbeDue, IsProbeOn, IsReportDue, whole_report}
-use Rattle.critarea_core.specs.Inquiries.{Asked, Inquiry, for_pairs, for_probe, for_report}
+use Rattle.critarea_core.specs.Dues.{ArePairRowsOn, AreRowsOn, IsProbeOn, whole_report}
+use Rattle.critarea_core.specs.Dues.{ArePairsDue, Due, IsDue, IsDueAs, IsProbeDue, IsRegionDue, IsReportDue}
+use Rattle.critarea_core.specs.Inquiries.{Asked, Inquiry, for_pairs, for_probe, for_regions, for_report}
 use Rattle.critarea_core.specs.Layout.{Subject}
 use Rattle.critarea_core.specs.Verdict.{IsVerdict}
 use Rattle.critarea_core.specs.declared.layout_fault.LayoutFault.{LayoutFault}
 use Rattle.critarea_core.specs.declared.refusal.Refusal.{Refusal}
 use Rattle.critarea_core.proofs.laws.VerdictLaws.{short_layouts_agree, verdicts_agree}
+use Rattle.run_laws.specs.AlikeDues.{AreAlikeDue, AreAlikeTexts, IsForRegions}
 use Rattle.run_laws.specs.NamedFiles.{HoldTheSame}
-use Rattle.run_laws.proofs.NameLaws.{TaskComesTo, same_files_same_verdict}
+use Rattle.run_laws.specs.TaskRows.{GivesRegion}
+use Rattle.run_laws.proofs.AskedLaws.{asked_of, not_for_regions}
+use Rattle.run_laws.proofs.NameLaws.{same_files_same_verdict, task_outcome}
 
 -- ---- rows and reports
 
@@ -80,31 +85,96 @@ probe_dues_agree subject cell one other a b =
     let text : one.text ≡ other.text = a.text ∙ ap probe_text told ∙ sym b.text in
     same_due one other text (a.no_rows ∙ sym b.no_rows) (a.no_pairs ∙ sym b.no_pairs) (same_room one other a.room b.room text)
 
-dues_agree_as : (asked : Asked) (subject : Subject) (gauges : List (GaugeView Row)) (pair_gauges : List (GaugeView PairRow)) → IsUnique (IsDueAs asked subject gauges pair_gauges)
-dues_agree_as for_report subject gauges pair_gauges = report_dues_agree subject gauges
-dues_agree_as (for_pairs size) subject gauges pair_gauges = pair_dues_agree subject size pair_gauges
-dues_agree_as (for_probe cell) subject gauges pair_gauges = probe_dues_agree subject cell
+dues_agree_as : (asked : Asked) (subject : Subject) (gauges : List (GaugeView Row)) (pair_gauges : List (GaugeView PairRow))
+    → (IsForRegions asked → ⊥) → IsUnique (IsDueAs asked subject gauges pair_gauges)
+dues_agree_as for_report subject gauges pair_gauges other = report_dues_agree subject gauges
+dues_agree_as (for_pairs size) subject gauges pair_gauges other = pair_dues_agree subject size pair_gauges
+dues_agree_as (for_probe cell) subject gauges pair_gauges other = probe_dues_agree subject cell
+dues_agree_as (for_regions kind number size) subject gauges pair_gauges other = absurd (other tt)
 
-pub dues_agree : (inquiry : Inquiry) (gauges : List (GaugeView Row)) (pair_gauges : List (GaugeView PairRow)) → IsUnique (IsDue inquiry gauges pair_gauges)
+pub dues_agree : (inquiry : Inquiry) (gauges : List (GaugeView Row)) (pair_gauges : List (GaugeView PairRow)) → (IsForRegions inquiry.asked → ⊥)
+    → IsUnique (IsDue inquiry gauges pair_gauges)
 dues_agree inquiry = dues_agree_as inquiry.asked inquiry.subject
+
+-- ---- what is due of regions is alike
+
+region_dues_alike : (subject : Subject) (kind : Kind) (number size : ℕ) (one other : Due)
+    → IsRegionDue subject kind number size one → IsRegionDue subject kind number size other
+    → AreAlikeDue (record { subject = subject; asked = for_regions kind number size }) one other
+region_dues_alike subject kind number size one other a b =
+    let covers = IsCoveredOn subject.layer_map subject.routes in
+    let same = λ (c : Cell). cover_alike subject.layer_map covers kind number size a.rects b.rects c a.is_region b.is_region in
+    let cells = count_alike subject.layer_map covers kind number size a.rects b.rects a.is_region b.is_region in
+    record {
+      texts = record { rects = a.rects; others = b.rects; is_file = a.is_file; is_other = b.is_file; same = same };
+      rows = a.no_rows ∙ sym b.no_rows;
+      pair_rows = a.no_pairs ∙ sym b.no_pairs;
+      room = a.room ∙ ap (λ n. 106 + 64 * n) cells ∙ sym b.room;
+    }
+
+-- what is the same is alike
+texts_alike : (asked : Asked) (units text other : List ℕ) → (IsForRegions asked → ⊥) → text ≡ other → AreAlikeTexts asked units text other
+texts_alike for_report units text other none same = same
+texts_alike (for_pairs size) units text other none same = same
+texts_alike (for_probe cell) units text other none same = same
+texts_alike (for_regions kind number size) units text other none same = absurd (none tt)
+
+module _ (subject : Subject) (gauges : List (GaugeView Row)) (pair_gauges : List (GaugeView PairRow)) (one other : Due) where
+  abbrev AreDue : Asked → Type 0
+  AreDue asked = IsDueAs asked subject gauges pair_gauges one × IsDueAs asked subject gauges pair_gauges other
+
+  abbrev AreAlike : Asked → Type 0
+  AreAlike asked = AreAlikeDue (record { subject = subject; asked = asked }) one other
+
+  same_alike : (asked : Asked) → (IsForRegions asked → ⊥) → AreDue asked → AreAlike asked
+  same_alike asked none are =
+      let same = dues_agree_as asked subject gauges pair_gauges none one other are.0 are.1 in
+      record {
+        texts = texts_alike asked subject.units one.text other.text none (ap (λ (due : Due). due.text) same);
+        rows = ap (λ (due : Due). due.rows) same;
+        pair_rows = ap (λ (due : Due). due.pair_rows) same;
+        room = ap (λ (due : Due). due.room) same;
+      }
+
+  dues_alike_as : (asked : Asked) → AreDue asked → AreAlike asked
+  dues_alike_as for_report are = same_alike for_report (λ never. never) are
+  dues_alike_as (for_pairs size) are = same_alike (for_pairs size) (λ never. never) are
+  dues_alike_as (for_probe cell) are = same_alike (for_probe cell) (λ never. never) are
+  dues_alike_as (for_regions kind number size) are = region_dues_alike subject kind number size one other are.0 are.1
+
+pub dues_alike : (inquiry : Inquiry) (gauges : List (GaugeView Row)) (pair_gauges : List (GaugeView PairRow)) (one other : Due)
+    → IsDue inquiry gauges pair_gauges one → IsDue inquiry gauges pair_gauges other → AreAlikeDue inquiry one other
+dues_alike inquiry gauges pair_gauges one other a b = dues_alike_as inquiry.subject gauges pair_gauges one other inquiry.asked (a, b)
 
 -- ---- what tiles and workers change: nothing
 
 pub same_task_same_verdict : (words other : List (List ℕ)) (one same : Request) → Ask words one → Ask other same → one.task ≡ same.task
     → (contents : Contents) (outcome : Outcome Inquiry Refusal) → IsVerdict words contents outcome → IsVerdict other contents outcome
-same_task_same_verdict words other one same asks also alike contents outcome (stops (lacks none)) = absurd (none one asks)
-same_task_same_verdict words other one same asks also alike contents outcome (goes_on {v = request} (reads asked) comes) =
-    let is : request ≡ one = requests_agree words request one asked asks in
-    goes_on {v = same} (reads also) (subst (λ task. TaskComesTo contents task outcome) (ap (λ (r : Request). r.task) is ∙ alike) comes)
+same_task_same_verdict words other one same asks also alike contents outcome verdict =
+    let comes = (task_outcome words one one.task asks refl contents outcome).0 verdict in
+    (task_outcome other same one.task also (sym alike) contents outcome).1 comes
 
-pub same_task_same_due : (words other : List (List ℕ)) (one same : Request) → Ask words one → Ask other same → one.task ≡ same.task
-    → (contents found : Contents) → HoldTheSame one.task contents found → (inquiry also : Inquiry) (due too : Due) (gauges : List (GaugeView Row)) (pair_gauges : List (GaugeView PairRow))
-    → IsVerdict words contents (value inquiry) → IsDue inquiry gauges pair_gauges due → IsVerdict other found (value also) → IsDue also gauges pair_gauges too → due ≡ too
-same_task_same_due words other one same asks asks_too alike contents found files inquiry also due too gauges pair_gauges verdict is verdict_too is_too =
-    let named = same_files_same_verdict words one asks contents found files (value inquiry) verdict in
-    let moved = same_task_same_verdict words other one same asks asks_too alike found (value inquiry) named in
-    let inquiries : inquiry ≡ also = cc (verdicts_agree other found (value inquiry) (value also) moved verdict_too) in
-    dues_agree also gauges pair_gauges due too (subst (λ (i : Inquiry). IsDue i gauges pair_gauges due) inquiries is) is_too
+module _ (words other : List (List ℕ)) (one same : Request) (asks : Ask words one) (asks_too : Ask other same)
+    (alike : one.task ≡ same.task) (contents found : Contents) (files : HoldTheSame one.task contents found)
+    (inquiry also : Inquiry) (due too : Due) (gauges : List (GaugeView Row)) (pair_gauges : List (GaugeView PairRow))
+    (verdict : IsVerdict words contents (value inquiry)) (is : IsDue inquiry gauges pair_gauges due)
+    (verdict_too : IsVerdict other found (value also)) (is_too : IsDue also gauges pair_gauges too) where
+  same_inquiry : inquiry ≡ also
+  same_inquiry =
+      let named = same_files_same_verdict words one asks contents found files (value inquiry) verdict in
+      let moved = same_task_same_verdict words other one same asks asks_too alike found (value inquiry) named in
+      cc (verdicts_agree other found (value inquiry) (value also) moved verdict_too)
+
+  due_here : IsDue inquiry gauges pair_gauges too
+  due_here = subst (λ (i : Inquiry). IsDue i gauges pair_gauges too) (sym same_inquiry) is_too
+
+  pub same_task_same_due : (GivesRegion one.task → ⊥) → due ≡ too
+  same_task_same_due none =
+      let asked = asked_of words contents one inquiry asks verdict in
+      dues_agree inquiry gauges pair_gauges (not_for_regions one.task asked.0 inquiry.asked none asked.1) due too is due_here
+
+  pub same_task_alike_due : AreAlikeDue inquiry due too
+  same_task_alike_due = dues_alike inquiry gauges pair_gauges due too is due_here
 
 -- ---- what is found in the bytes of a layout
 

@@ -1,12 +1,11 @@
 -- of which stage each refusal of a verdict is
 use Rattle.std.proofs.Common.{ℕ, ◌≡◌, ◌≢◌, ◌≤◌, arith, List, Option, refl, sym, subst, lit≤}
 use Rattle.first_refusal.specs.Checks.{one_fails}
-use Rattle.first_refusal.specs.Outcomes.{refused, reads, lacks, retold, stops, goes_on}
+use Rattle.first_refusal.specs.Outcomes.{refused, lacks, retold, stops, goes_on}
 use Rattle.command_line.specs.Requests.{Ask}
 use Rattle.command_line.specs.declared.request.Request.{Request}
 use Rattle.command_line.specs.declared.task.Task.{Task}
-use Rattle.command_line.specs.declared.task.Task.TheVariants.{OneMetal, Mapped, Generated, Pairs, Probe}
-use Rattle.command_line.proofs.laws.Requests.{requests_agree}
+use Rattle.command_line.specs.declared.task.Task.TheVariants.{OneMetal, Mapped, Generated, Pairs, Probe, Regions}
 use Rattle.gds_records.specs.RecordSpelling.{Entry}
 use Rattle.gds_records.specs.Split.{End}
 use Rattle.gds_records.specs.declared.fault.RecordFault.{RecordFault}
@@ -40,8 +39,9 @@ use Rattle.critarea_core.specs.Refusals.{of_layout_fault}
 use Rattle.critarea_core.specs.Verdict.{InquiryComesTo, IsVerdict, LayoutComesTo, MapComesTo, MapTextComesTo, WordsComeTo}
 use Rattle.critarea_core.specs.declared.layout_fault.LayoutFault.{LayoutFault}
 use Rattle.critarea_core.specs.declared.refusal.Refusal.{Refusal}
-use Rattle.run_laws.specs.RefusalStages.{IsOfStage, of_words, of_map, of_size, of_layout, of_terminal}
-use Rattle.run_laws.specs.TaskRows.{GivesPairs}
+use Rattle.run_laws.specs.RefusalStages.{IsOfStage, of_words, of_map, of_size, of_layer, of_layout, of_terminal}
+use Rattle.run_laws.specs.TaskRows.{GivesRegion, NamesSize}
+use Rattle.run_laws.proofs.NameLaws.{TaskComesTo, task_outcome}
 
 -- ---- the numbers of faults of maps
 
@@ -180,6 +180,7 @@ map_stage (Mapped layout map top) bytes refusal comes = map_text_stage (bytes ma
 map_stage (Generated columns) bytes refusal comes = map_text_stage generated_map refusal comes
 map_stage (Pairs layout map top size) bytes refusal comes = map_text_stage (bytes map) refusal comes
 map_stage (Probe layout map top cell) bytes refusal comes = map_text_stage (bytes map) refusal comes
+map_stage (Regions layout map top kind layer size) bytes refusal comes = map_text_stage (bytes map) refusal comes
 
 asked_stage : (task : Task) (layer_map : LayerMap) (refusal : Refusal) → AskedComesTo task layer_map (refused refusal) → IsOfStage refusal
 asked_stage (OneMetal layout layer datatype radius top) layer_map refusal comes = cc comes
@@ -187,6 +188,8 @@ asked_stage (Mapped layout map top) layer_map refusal comes = cc comes
 asked_stage (Generated columns) layer_map refusal comes = cc comes
 asked_stage (Pairs layout map top size) layer_map refusal (lacks none) = of_size refl refl
 asked_stage (Probe layout map top cell) layer_map refusal comes = cc comes
+asked_stage (Regions layout map top kind layer size) layer_map refusal (stops (lacks none)) = of_size refl refl
+asked_stage (Regions layout map top kind layer size) layer_map refusal (goes_on numbered (lacks none)) = of_layer refl refl
 
 inquiry_stage : (asked : Asked) (layer_map : LayerMap) (wanted : Option (List ℕ)) (layout : List ℕ) (refusal : Refusal) → InquiryComesTo asked layer_map wanted layout (refused refusal)
     → IsOfLayout refusal
@@ -205,42 +208,60 @@ refusals_tell_stages words contents refusal (goes_on {v = request} words_ask (go
 refusals_tell_stages words contents refusal (goes_on words_ask (goes_on map (goes_on fits comes))) =
     layout_stage_of refusal (inquiry_stage _ _ _ _ refusal comes)
 
--- ---- which stages have other numbers than 48
+-- ---- the numbers of what a map lacks, which no other stage has
 
-less_is_other : (n : ℕ) → n ≤ 47 → n ≢ 48
-less_is_other n small e = omega (arith, small, e)
+-- the number is that of a size or of a layer
+abbrev pub IsOfLack : ℕ → Type 0
+IsOfLack number = (48 ≤ number) × (number ≤ 49)
 
-terminal_is_other : (n : ℕ) → n ≡ 50 → n ≢ 48
-terminal_is_other n is e = omega (arith, is, e)
+map_lacks_none : (refusal : Refusal) → IsOfMap refusal → IsOfLack refusal.number → ⊥
+map_lacks_none refusal is lack = let most = is.number.1 in let least = lack.0 in omega (arith, most, least)
 
-not_of_map : (refusal : Refusal) → IsOfMap refusal → refusal.number ≢ 48
-not_of_map refusal is = less_is_other refusal.number is.number.1
+layout_lacks_none : (refusal : Refusal) → IsOfLayout refusal → IsOfLack refusal.number → ⊥
+layout_lacks_none refusal (in_bytes status number) lack = let most = number.1 in let least = lack.0 in omega (arith, most, least)
+layout_lacks_none refusal (off_metal status number) lack = let most = lack.1 in omega (arith, number, most)
 
-not_of_layout : (refusal : Refusal) → IsOfLayout refusal → refusal.number ≢ 48
-not_of_layout refusal (in_bytes status number) = let most = number.1 in less_is_other refusal.number (omega (arith, most))
-not_of_layout refusal (off_metal status number) = terminal_is_other refusal.number number
-
-pub no_map_refuses_so : (bytes : List ℕ) (refusal : Refusal) → MapTextComesTo bytes (refused refusal) → refusal.number ≢ 48
-no_map_refuses_so bytes refusal comes = not_of_map refusal (map_text_stage bytes refusal comes)
+pub no_map_refuses_so : (bytes : List ℕ) (refusal : Refusal) → MapTextComesTo bytes (refused refusal) → IsOfLack refusal.number → ⊥
+no_map_refuses_so bytes refusal comes = map_lacks_none refusal (map_text_stage bytes refusal comes)
 
 pub no_layout_refuses_so : (asked : Asked) (layer_map : LayerMap) (wanted : Option (List ℕ)) (layout : List ℕ) (refusal : Refusal)
-    → InquiryComesTo asked layer_map wanted layout (refused refusal) → refusal.number ≢ 48
-no_layout_refuses_so asked layer_map wanted layout refusal comes = not_of_layout refusal (inquiry_stage asked layer_map wanted layout refusal comes)
+    → InquiryComesTo asked layer_map wanted layout (refused refusal) → IsOfLack refusal.number → ⊥
+no_layout_refuses_so asked layer_map wanted layout refusal comes =
+    layout_lacks_none refusal (inquiry_stage asked layer_map wanted layout refusal comes)
 
-no_report_lacks : (task : Task) (layer_map : LayerMap) (refusal : Refusal) → (GivesPairs task → ⊥) → AskedComesTo task layer_map (refused refusal) → ⊥
-no_report_lacks (OneMetal layout layer datatype radius top) layer_map refusal none comes = cc comes
-no_report_lacks (Mapped layout map top) layer_map refusal none comes = cc comes
-no_report_lacks (Generated columns) layer_map refusal none comes = cc comes
-no_report_lacks (Pairs layout map top size) layer_map refusal none comes = none tt
-no_report_lacks (Probe layout map top cell) layer_map refusal none comes = cc comes
+-- so a refusal with one of them is of what the task asks of a map
+of_asking : (task : Task) (contents : Contents) (refusal : Refusal) → TaskComesTo contents task (refused refusal) → IsOfLack refusal.number
+    → (layer_map : LayerMap) × AskedComesTo task layer_map (refused refusal)
+of_asking task contents refusal (stops comes) lack = absurd (map_lacks_none refusal (map_stage task contents.map refusal comes) lack)
+of_asking task contents refusal (goes_on {v = layer_map} map (stops comes)) lack = (layer_map, comes)
+of_asking task contents refusal (goes_on map (goes_on fits comes)) lack = absurd (no_layout_refuses_so _ _ _ _ refusal comes lack)
 
--- a task that gives no pairs has none
-pub no_size_lacks : (words : List (List ℕ)) (contents : Contents) (request : Request) (refusal : Refusal) → Ask words request → (GivesPairs request.task → ⊥)
-    → IsVerdict words contents (refused refusal) → refusal.number ≢ 48
-no_size_lacks words contents request refusal asks none (stops (lacks no_request)) e = absurd (no_request request asks)
-no_size_lacks words contents request refusal asks none (goes_on {v = this} (reads asked) (stops comes)) e =
-    not_of_map refusal (map_stage this.task contents.map refusal comes) e
-no_size_lacks words contents request refusal asks none (goes_on {v = this} (reads asked) (goes_on {v = layer_map} map (stops comes))) e =
-    let same : this ≡ request = requests_agree words this request asked asks in
-    no_report_lacks request.task layer_map refusal none (subst (λ (r : Request). AskedComesTo r.task layer_map (refused refusal)) same comes)
-no_size_lacks words contents request refusal asks none (goes_on words_ask (goes_on map (goes_on fits comes))) e = no_layout_refuses_so _ _ _ _ refusal comes e
+-- a task that names no size lacks nothing
+nothing_lacks : (task : Task) (layer_map : LayerMap) (refusal : Refusal) → (NamesSize task → ⊥) → AskedComesTo task layer_map (refused refusal) → ⊥
+nothing_lacks (OneMetal layout layer datatype radius top) layer_map refusal none comes = cc comes
+nothing_lacks (Mapped layout map top) layer_map refusal none comes = cc comes
+nothing_lacks (Generated columns) layer_map refusal none comes = cc comes
+nothing_lacks (Pairs layout map top size) layer_map refusal none comes = none tt
+nothing_lacks (Probe layout map top cell) layer_map refusal none comes = cc comes
+nothing_lacks (Regions layout map top kind layer size) layer_map refusal none comes = none tt
+
+-- and one that gives no region lacks no layer
+no_layer_is_lacking : (task : Task) (layer_map : LayerMap) (refusal : Refusal) → (GivesRegion task → ⊥)
+    → AskedComesTo task layer_map (refused refusal) → refusal.number ≢ 49
+no_layer_is_lacking (OneMetal layout layer datatype radius top) layer_map refusal none comes e = cc comes
+no_layer_is_lacking (Mapped layout map top) layer_map refusal none comes e = cc comes
+no_layer_is_lacking (Generated columns) layer_map refusal none comes e = cc comes
+no_layer_is_lacking (Pairs layout map top size) layer_map refusal none (lacks never) e = let is : 48 ≡ 49 = e in omega (arith, is)
+no_layer_is_lacking (Probe layout map top cell) layer_map refusal none comes e = cc comes
+no_layer_is_lacking (Regions layout map top kind layer size) layer_map refusal none comes e = none tt
+
+module _ (words : List (List ℕ)) (contents : Contents) (request : Request) (refusal : Refusal) (asks : Ask words request)
+    (verdict : IsVerdict words contents (refused refusal)) where
+  lacking : IsOfLack refusal.number → (layer_map : LayerMap) × AskedComesTo request.task layer_map (refused refusal)
+  lacking = of_asking request.task contents refusal ((task_outcome words request request.task asks refl contents (refused refusal)).0 verdict)
+
+  pub no_size_lacks : (NamesSize request.task → ⊥) → refusal.number ≢ 48
+  no_size_lacks none e = let at = lacking (subst IsOfLack (sym e) (lit≤ tt, lit≤ tt)) in nothing_lacks request.task at.0 refusal none at.1
+
+  pub no_layer_lacks : (GivesRegion request.task → ⊥) → refusal.number ≢ 49
+  no_layer_lacks none e = let at = lacking (subst IsOfLack (sym e) (lit≤ tt, lit≤ tt)) in no_layer_is_lacking request.task at.0 refusal none at.1 e

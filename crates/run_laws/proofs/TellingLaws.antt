@@ -1,22 +1,18 @@
 -- gauges are told what is asked alone
-use Rattle.std.proofs.Common.{ℕ, ◌≡◌, List, [], ◌∷◌, ap, subst, sym}
+use Rattle.std.proofs.Common.{ℕ, ◌≡◌, List, [], ◌∷◌, subst}
 use Rattle.std.proofs.Math.Seq.{take-nil}
-use Rattle.first_refusal.specs.Outcomes.{goes_on, reads, value}
+use Rattle.first_refusal.specs.Outcomes.{value}
 use Rattle.command_line.specs.Requests.{Ask}
 use Rattle.command_line.specs.declared.request.Request.{Request}
-use Rattle.command_line.specs.declared.task.Task.{Task}
-use Rattle.command_line.specs.declared.task.Task.TheVariants.{OneMetal, Mapped, Generated, Pairs, Probe}
-use Rattle.command_line.proofs.laws.Requests.{requests_agree}
 use Rattle.gauges.specs.GaugeViews.{AreTold, AreToldPrefixes, GaugeView, IsTold}
 use Rattle.gauges.proofs.laws.Told.{untold_same}
 use Rattle.map_model.specs.MapNames.{LayerMap}
-use Rattle.critarea_core.specs.Contents.{Contents}
 use Rattle.critarea_core.specs.Dues.{Due, IsDueAs}
-use Rattle.critarea_core.specs.Inquiries.{Asked, AskedComesTo, Inquiry, for_pairs, for_probe, for_report}
+use Rattle.critarea_core.specs.Inquiries.{Asked, AskedComesTo, for_pairs, for_probe, for_regions, for_report}
 use Rattle.critarea_core.specs.Run.{AreToldAll, AreToldSome, EndsWith, Gauges, IsDueFor, Surroundings}
 use Rattle.critarea_core.specs.Run as run
-use Rattle.critarea_core.specs.Verdict.{IsVerdict}
 use Rattle.run_laws.specs.TaskRows.{GivesPairs, GivesReport}
+use Rattle.run_laws.proofs.AskedLaws.{asked_of, not_for_pairs, not_for_report}
 
 -- ---- gauges that are told the first few of no rows
 
@@ -35,31 +31,7 @@ module _ {Kind : Type 0} where
 
 -- ---- what is due to a task
 
--- what words come to is asked as their task asks it
-asked_of : (words : List (List ℕ)) (contents : Contents) (request : Request) (inquiry : Inquiry) → Ask words request → IsVerdict words contents (value inquiry)
-    → (layer_map : LayerMap) × AskedComesTo request.task layer_map (value inquiry.asked)
-asked_of words contents request inquiry asks (goes_on {v = this} (reads asked) (goes_on {v = layer_map} map (goes_on {v = what} fits (goes_on {v = subject} layout is)))) =
-    let same : this ≡ request = requests_agree words this request asked asks in
-    let of_what : inquiry ≡ record { subject = subject; asked = what } = cc is in
-    let fits_here = subst (λ (r : Request). AskedComesTo r.task layer_map (value what)) same fits in
-    (layer_map, subst (λ (a : Asked). AskedComesTo request.task layer_map (value a)) (sym (ap (λ (i : Inquiry). i.asked) of_what)) fits_here)
-
--- a task that gives no report asks for none, and one that gives no pairs asks for none
-not_for_report : (task : Task) (layer_map : LayerMap) → (GivesReport task → ⊥) → AskedComesTo task layer_map (value for_report) → ⊥
-not_for_report (OneMetal layout layer datatype radius top) layer_map none fits = none tt
-not_for_report (Mapped layout map top) layer_map none fits = none tt
-not_for_report (Generated columns) layer_map none fits = none tt
-not_for_report (Pairs layout map top size) layer_map none (reads asked) = cc asked.is_asked
-not_for_report (Probe layout map top cell) layer_map none fits = cc fits
-
-not_for_pairs : (task : Task) (layer_map : LayerMap) (size : ℕ) → (GivesPairs task → ⊥) → AskedComesTo task layer_map (value (for_pairs size)) → ⊥
-not_for_pairs (OneMetal layout layer datatype radius top) layer_map size none fits = cc fits
-not_for_pairs (Mapped layout map top) layer_map size none fits = cc fits
-not_for_pairs (Generated columns) layer_map size none fits = cc fits
-not_for_pairs (Pairs layout map top number) layer_map size none fits = none tt
-not_for_pairs (Probe layout map top cell) layer_map size none fits = cc fits
-
--- so nothing of the one kind is due
+-- nothing is due of a kind that the task does not give
 module _ (words : List (List ℕ)) (met : Surroundings) (request : Request) (asks : Ask words request) where
   abbrev gauges : Gauges
   gauges = met.gauges
@@ -73,12 +45,14 @@ module _ (words : List (List ℕ)) (met : Surroundings) (request : Request) (ask
     no_rows_as for_report none fits is_due = absurd (not_for_report request.task asked.0 none fits)
     no_rows_as (for_pairs size) none fits is_due = is_due.no_rows
     no_rows_as (for_probe cell) none fits is_due = is_due.no_rows
+    no_rows_as (for_regions kind number size) none fits is_due = is_due.no_rows
 
     no_pairs_as : (what : Asked) → (GivesPairs request.task → ⊥) → AskedComesTo request.task asked.0 (value what)
         → IsDueAs what is.inquiry.subject gauges.of_rows.before gauges.of_pairs.before due → due.pair_rows ≡ []
     no_pairs_as for_report none fits is_due = is_due.no_pairs
     no_pairs_as (for_pairs size) none fits is_due = absurd (not_for_pairs request.task asked.0 size none fits)
     no_pairs_as (for_probe cell) none fits is_due = is_due.no_pairs
+    no_pairs_as (for_regions kind number size) none fits is_due = is_due.no_pairs
 
     no_rows : (GivesReport request.task → ⊥) → due.rows ≡ []
     no_rows none = no_rows_as is.inquiry.asked none asked.1 is.is_due

@@ -1,0 +1,2 @@
+pub mod ReadRegions
+pub mod FileLaws
