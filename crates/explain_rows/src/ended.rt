@@ -25,13 +25,13 @@ const READ_AGAIN: &[(&str, &str)] = &[
     (
         "2|error 2 at 0\n|a|--map",
         "arguments: --map is the last word, and has no value; --map takes the name of a file\n  \
-         critarea LAYOUT --map MAP\n  critarea LAYOUT --map MAP --pairs K\n  critarea LAYOUT --map MAP --probe X,Y\n  critarea LAYOUT --layer L --datatype D --radius R\n  critarea --generate N\n",
+         critarea LAYOUT --map MAP\n  critarea LAYOUT --map MAP --pairs K\n  critarea LAYOUT --map MAP --probe X,Y\n  critarea LAYOUT --map MAP --regions KIND,LAYER,K\n  critarea LAYOUT --layer L --datatype D --radius R\n  critarea --generate N\n",
     ),
     // the program lists no layers
     (
         "2|error 2 at 0\n|a",
         "arguments: it is not said which layers are metals; --explain in front of the layout alone lists those that it has\n  \
-         critarea LAYOUT --map MAP\n  critarea LAYOUT --map MAP --pairs K\n  critarea LAYOUT --map MAP --probe X,Y\n  critarea LAYOUT --layer L --datatype D --radius R\n  critarea --generate N\n",
+         critarea LAYOUT --map MAP\n  critarea LAYOUT --map MAP --pairs K\n  critarea LAYOUT --map MAP --probe X,Y\n  critarea LAYOUT --map MAP --regions KIND,LAYER,K\n  critarea LAYOUT --layer L --datatype D --radius R\n  critarea --generate N\n",
     ),
     (
         "5||none|--layer|1|--datatype|0|--radius|3",
@@ -78,6 +78,13 @@ const READ_AGAIN: &[(&str, &str)] = &[
         "3|error 48 at 1\n|a|--map|m|--pairs|2",
         "the map, which lists 1 size: the option names a size number above the number of the map's sizes; \
          name one of the map's radii or sides by its number, counted from 1, or add the size to the map\n  \
+         read again, it ends otherwise: what stands there has changed\n  \
+         map 'm': there is no such file\n",
+    ),
+    (
+        "3|error 49 at 0\n|a|--map|m|--regions|short,m1,1",
+        "no metal of the map has the name that --regions gives, or for via no cut; \
+         for short and open write the name of a metal, and for via that of a cut, as its `name` has it, capital letters too\n  \
          read again, it ends otherwise: what stands there has changed\n  \
          map 'm': there is no such file\n",
     ),
@@ -189,8 +196,8 @@ fn ends_without_a_status_are_words(rt: HostRuntime) {
         2,
         [
             "error 2 at 0\narguments: there is no option '--ended'; ",
-            "options are --map, --top, --layer, --datatype, --radius, --tile, --workers, --generate, --pairs and --probe\n  ",
-            "critarea LAYOUT --map MAP\n  critarea LAYOUT --map MAP --pairs K\n  critarea LAYOUT --map MAP --probe X,Y\n  critarea LAYOUT --layer L --datatype D --radius R\n  critarea --generate N\n",
+            "options are --map, --top, --layer, --datatype, --radius, --tile, --workers, --generate, --pairs, --probe and --regions\n  ",
+            "critarea LAYOUT --map MAP\n  critarea LAYOUT --map MAP --pairs K\n  critarea LAYOUT --map MAP --probe X,Y\n  critarea LAYOUT --map MAP --regions KIND,LAYER,K\n  critarea LAYOUT --layer L --datatype D --radius R\n  critarea --generate N\n",
         ],
     );
 }

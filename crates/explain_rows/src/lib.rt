@@ -18,6 +18,8 @@ mod placing;
 #[cfg(test)]
 mod probes;
 #[cfg(test)]
+mod regions;
+#[cfg(test)]
 mod rows;
 #[cfg(test)]
 mod sizes;

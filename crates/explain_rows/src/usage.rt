@@ -21,7 +21,7 @@ const ROWS: &[(&str, &str)] = &[
     ),
     (
         "a|--maps|m",
-        "arguments: there is no option '--maps'; options are --map, --top, --layer, --datatype, --radius, --tile, --workers, --generate, --pairs and --probe",
+        "arguments: there is no option '--maps'; options are --map, --top, --layer, --datatype, --radius, --tile, --workers, --generate, --pairs, --probe and --regions",
     ),
     (
         "a|--map|m|--help",
@@ -200,7 +200,99 @@ const ROWS: &[(&str, &str)] = &[
     // a name that would move a cursor, and one that is no ASCII
     (
         "a|--\x1B[2J",
-        "arguments: there is no option '--\\x1b[2J'; options are --map, --top, --layer, --datatype, --radius, --tile, --workers, --generate, --pairs and --probe",
+        "arguments: there is no option '--\\x1b[2J'; options are --map, --top, --layer, --datatype, --radius, --tile, --workers, --generate, --pairs, --probe and --regions",
+    ),
+];
+
+/// The same of the option of regions.
+const OF_REGIONS: &[(&str, &str)] = &[
+    (
+        "a|--map|m|--regions|short,m1",
+        "arguments: 'short,m1' behind --regions is not three parts with two commas between them; --regions takes a kind of fault, a layer and a size, as short,m1,2: short or open with the name of a metal, or via with that of a cut, and the size's number in the map, from 1 to 32",
+    ),
+    (
+        "a|--map|m|--regions|short,m1,1,2",
+        "arguments: 'short,m1,1,2' behind --regions is not three parts with two commas between them; --regions takes a kind of fault, a layer and a size, as short,m1,2: short or open with the name of a metal, or via with that of a cut, and the size's number in the map, from 1 to 32",
+    ),
+    (
+        "a|--map|m|--regions|area,m1,1",
+        "arguments: the kind 'area' behind --regions is none of short, open and via; --regions takes a kind of fault, a layer and a size, as short,m1,2: short or open with the name of a metal, or via with that of a cut, and the size's number in the map, from 1 to 32",
+    ),
+    (
+        "a|--map|m|--regions|Short,m1,1",
+        "arguments: the kind 'Short' behind --regions is none of short, open and via; --regions takes a kind of fault, a layer and a size, as short,m1,2: short or open with the name of a metal, or via with that of a cut, and the size's number in the map, from 1 to 32",
+    ),
+    (
+        "a|--map|m|--regions|,,",
+        "arguments: the kind '' behind --regions is none of short, open and via; --regions takes a kind of fault, a layer and a size, as short,m1,2: short or open with the name of a metal, or via with that of a cut, and the size's number in the map, from 1 to 32",
+    ),
+    (
+        "a|--map|m|--regions|open,m-1,1",
+        "arguments: the layer 'm-1' behind --regions is not 1 to 32 ASCII letters, digits and `_`; --regions takes a kind of fault, a layer and a size, as short,m1,2: short or open with the name of a metal, or via with that of a cut, and the size's number in the map, from 1 to 32",
+    ),
+    (
+        "a|--map|m|--regions|open,,x",
+        "arguments: the layer '' behind --regions is not 1 to 32 ASCII letters, digits and `_`; --regions takes a kind of fault, a layer and a size, as short,m1,2: short or open with the name of a metal, or via with that of a cut, and the size's number in the map, from 1 to 32",
+    ),
+    (
+        "a|--map|m|--regions|via,abcdefghijabcdefghijabcdefghij_33,1",
+        "arguments: the layer 'abcdefghijabcdefghijabcdefghij_33' behind --regions is not 1 to 32 ASCII letters, digits and `_`; --regions takes a kind of fault, a layer and a size, as short,m1,2: short or open with the name of a metal, or via with that of a cut, and the size's number in the map, from 1 to 32",
+    ),
+    (
+        "a|--map|m|--regions|via,v1,0",
+        "arguments: the size '0' behind --regions is no number from 1 to 32 in at most 10 digits; --regions takes a kind of fault, a layer and a size, as short,m1,2: short or open with the name of a metal, or via with that of a cut, and the size's number in the map, from 1 to 32",
+    ),
+    (
+        "a|--map|m|--regions|via,v1,33",
+        "arguments: the size '33' behind --regions is no number from 1 to 32 in at most 10 digits; --regions takes a kind of fault, a layer and a size, as short,m1,2: short or open with the name of a metal, or via with that of a cut, and the size's number in the map, from 1 to 32",
+    ),
+    (
+        "a|--map|m|--regions|via,v1,",
+        "arguments: the size '' behind --regions is no number from 1 to 32 in at most 10 digits; --regions takes a kind of fault, a layer and a size, as short,m1,2: short or open with the name of a metal, or via with that of a cut, and the size's number in the map, from 1 to 32",
+    ),
+    (
+        "a|--map|m|--regions|via,v1,00000000001",
+        "arguments: the size '00000000001' behind --regions is no number from 1 to 32 in at most 10 digits; --regions takes a kind of fault, a layer and a size, as short,m1,2: short or open with the name of a metal, or via with that of a cut, and the size's number in the map, from 1 to 32",
+    ),
+    (
+        "a|--map|m|--regions|-short,m1,1",
+        "arguments: '-short,m1,1' behind --regions begins with a dash; --regions takes a kind of fault, a layer and a size, as short,m1,2: short or open with the name of a metal, or via with that of a cut, and the size's number in the map, from 1 to 32",
+    ),
+    (
+        "a|--map|m|--regions",
+        "arguments: --regions is the last word, and has no value; --regions takes a kind of fault, a layer and a size, as short,m1,2: short or open with the name of a metal, or via with that of a cut, and the size's number in the map, from 1 to 32",
+    ),
+    (
+        "a|--map|m|--regions=",
+        "arguments: --regions has an empty value; --regions takes a kind of fault, a layer and a size, as short,m1,2: short or open with the name of a metal, or via with that of a cut, and the size's number in the map, from 1 to 32",
+    ),
+    (
+        "a|--map|m|--regions|short,m1,1|--regions=open,m1,1",
+        "arguments: --regions stands twice; --regions takes a kind of fault, a layer and a size, as short,m1,2: short or open with the name of a metal, or via with that of a cut, and the size's number in the map, from 1 to 32",
+    ),
+    (
+        "a|--regions|short,m1,1",
+        "arguments: --regions is for a layout with a map; name the map behind --map",
+    ),
+    (
+        "a|--map|m|--regions|short,m1,1|--tile|7",
+        "arguments: --tile stands beside --regions, which takes neither --tile nor --workers",
+    ),
+    (
+        "a|--map|m|--regions|short,m1,1|--workers|2",
+        "arguments: --workers stands beside --regions, which takes neither --tile nor --workers",
+    ),
+    (
+        "a|--map|m|--regions|short,m1,1|--pairs|1",
+        "arguments: --pairs stands beside --regions; a run answers one of them",
+    ),
+    (
+        "a|--map|m|--regions|short,m1,1|--probe|1,2",
+        "arguments: --probe stands beside --regions; a run answers one of them",
+    ),
+    (
+        "--generate|3|--regions|short,m1,1",
+        "arguments: --regions stands beside --generate, which makes its layout and its map itself",
     ),
 ];
 
@@ -269,6 +361,22 @@ const SEVERAL_CAUSES: &[(&str, &str)] = &[
         "arguments: the column 'x' behind --probe does not fit; --probe takes the column and the row of a cell with a comma between them, as 12,-5, each of at most 10 digits and from -1000000000 to 999999999",
     ),
     (
+        "a|--map=m|--regions=x|--pairs=33|--tile=0",
+        "arguments: --pairs stands beside --regions; a run answers one of them",
+    ),
+    (
+        "a|--map=m|--regions=x|--probe=y|--pairs=33",
+        "arguments: --pairs stands beside --probe; a run answers one of them",
+    ),
+    (
+        "a|--map=m|--regions=area,m-1,0",
+        "arguments: the kind 'area' behind --regions is none of short, open and via; --regions takes a kind of fault, a layer and a size, as short,m1,2: short or open with the name of a metal, or via with that of a cut, and the size's number in the map, from 1 to 32",
+    ),
+    (
+        "a|--map=m|--regions=short,m-1,0",
+        "arguments: the layer 'm-1' behind --regions is not 1 to 32 ASCII letters, digits and `_`; --regions takes a kind of fault, a layer and a size, as short,m1,2: short or open with the name of a metal, or via with that of a cut, and the size's number in the map, from 1 to 32",
+    ),
+    (
         "a|--tile=0",
         "arguments: it is not said which layers are metals; --explain in front of the layout alone lists those that it has",
     ),
@@ -280,7 +388,7 @@ const SEVERAL_CAUSES: &[(&str, &str)] = &[
 
 /// The forms of the command.
 const FORMS: &str =
-    "\n  critarea LAYOUT --map MAP\n  critarea LAYOUT --map MAP --pairs K\n  critarea LAYOUT --map MAP --probe X,Y\n  critarea LAYOUT --layer L --datatype D --radius R\n  critarea --generate N\n";
+    "\n  critarea LAYOUT --map MAP\n  critarea LAYOUT --map MAP --pairs K\n  critarea LAYOUT --map MAP --probe X,Y\n  critarea LAYOUT --map MAP --regions KIND,LAYER,K\n  critarea LAYOUT --layer L --datatype D --radius R\n  critarea --generate N\n";
 
 /// Checks that each of these rows is told.
 fn expect_rows(rt: &impl Abort, alloc: Global, rows: &[(&str, &str)]) {
@@ -293,6 +401,11 @@ fn expect_rows(rt: &impl Abort, alloc: Global, rows: &[(&str, &str)]) {
 #[test]
 fn words_are_told(rt: HostRuntime) {
     expect_rows(&rt, rt.alloc(), ROWS);
+}
+
+#[test]
+fn words_of_regions_are_told(rt: HostRuntime) {
+    expect_rows(&rt, rt.alloc(), OF_REGIONS);
 }
 
 #[test]

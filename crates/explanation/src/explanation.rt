@@ -9,6 +9,7 @@ use crate::inquiry::Inquiry;
 use crate::layouts::{Layout, Origin, tell_layout};
 use crate::listing::tell_listing;
 use crate::maps::tell_map_fault;
+use crate::named_row::row_without_layer;
 use crate::parting::{parted_of, tell_parted};
 use crate::path_kinds::Paths;
 use crate::sizes::missing_size;
@@ -36,7 +37,7 @@ pub fn tell_words(alloc: Global, told: &mut Telling, words: &[Word]) -> Result<(
     told.refuse(2, 2, 0);
     tell_misfit(&mut told.text, cause_of(alloc, words)?.as_ref());
     told.text.say(
-        "\n  critarea LAYOUT --map MAP\n  critarea LAYOUT --map MAP --pairs K\n  critarea LAYOUT --map MAP --probe X,Y\n  critarea LAYOUT --layer L --datatype D --radius R\n  critarea --generate N\n",
+        "\n  critarea LAYOUT --map MAP\n  critarea LAYOUT --map MAP --pairs K\n  critarea LAYOUT --map MAP --probe X,Y\n  critarea LAYOUT --map MAP --regions KIND,LAYER,K\n  critarea LAYOUT --layer L --datatype D --radius R\n  critarea --generate N\n",
     );
     Ok(())
 }
@@ -126,6 +127,12 @@ fn map_for<'a, F: Files, P: Paths>(
             layout,
             top,
             ..
+        }
+        | Task::Regions {
+            map,
+            layout,
+            top,
+            ..
         } => {
             let (name, layout) = (map.as_slice(), layout.as_slice());
             let top = top.as_ref().map(Name::as_slice);
@@ -167,7 +174,8 @@ fn tell_mapped<F: Files, P: Paths>(
         Task::OneMetal { layout, top, .. }
         | Task::Mapped { layout, top, .. }
         | Task::Pairs { layout, top, .. }
-        | Task::Probe { layout, top, .. } => {
+        | Task::Probe { layout, top, .. }
+        | Task::Regions { layout, top, .. } => {
             let name = layout.as_slice();
             let top = top.as_ref().map(Name::as_slice);
             let inquiry = Inquiry::of(&request.task);
@@ -188,8 +196,13 @@ fn tell_request<F: Files, P: Paths>(
     let Some(good) = map_for(alloc, told, request, files, paths)? else {
         return Ok(());
     };
-    if let Some(size) = missing_size(&request.task, &good.map) {
+    let inquiry = Inquiry::of(&request.task);
+    if let Some(size) = missing_size(inquiry, &good.map) {
         size.tell_missing(alloc, told, &good);
+        return Ok(());
+    }
+    if let Some(row) = row_without_layer(inquiry, &good.map) {
+        row.tell_without_layer(told, &good);
         return Ok(());
     }
     tell_mapped(alloc, told, &good, request, files, paths)
@@ -222,7 +235,7 @@ fn tell_file<F: Files, P: Paths>(
     good: &GoodMap<'_>,
     name: &[u8],
     top: Option<&[u8]>,
-    inquiry: Inquiry,
+    inquiry: Inquiry<'_>,
     files: &mut F,
     paths: &P,
 ) -> Result<(), NoMemory> {
@@ -251,11 +264,12 @@ fn tell_asked<F: Files, P: Paths>(
     let name = asked.layout.as_bytes();
     match read_input(alloc, told, files, paths, Input::Layout, name)? {
         Some(bytes) if bytes.len() <= LONGEST_LAYOUT => {
+            let inquiry = Inquiry::Report;
             let layout = Layout {
                 origin: Origin::File(name),
                 bytes: bytes.as_slice(),
                 top: asked.top.map(str::as_bytes),
-                inquiry: Inquiry::Report,
+                inquiry,
             };
             tell_listing(alloc, told, &layout, asked.as_map)
         }

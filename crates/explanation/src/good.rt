@@ -15,6 +15,7 @@ use crate::metal_islands::{
 };
 use crate::nearest_nets::tell_nearest_nets;
 use crate::pairs::tell_pairs_of;
+use crate::regions::tell_regions;
 use crate::shapes::{Held, Shapes, tell_held};
 use crate::text::Text;
 use crate::unit::tell_unit;
@@ -185,7 +186,10 @@ pub fn tell_good(
     }
     match layout.inquiry {
         Inquiry::Report => Ok(()),
-        Inquiry::Pairs(place) => tell_worst_pairs(alloc, text, map, layers, place),
+        Inquiry::Pairs(number) => {
+            tell_worst_pairs(alloc, text, map, layers, number.saturating_sub(1))
+        }
         Inquiry::Probe(cell) => tell_nearest_nets(alloc, text, map, layers, cell),
+        Inquiry::Regions(row) => tell_regions(alloc, text, map, layers, row),
     }
 }

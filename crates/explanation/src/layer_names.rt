@@ -1,5 +1,7 @@
 //! The layers of a map by their names.
 
+ghost use Rattle.std.specs.Prelude.{◌<◌, IfSome, length};
+
 use crate::text::Text;
 use map_model::Map;
 
@@ -22,4 +24,39 @@ pub fn tell_layer(text: &mut Text, before: &str, map: &Map, number: usize) {
     if let Some(cut) = map.cuts.as_slice().get(number.saturating_sub(metals.len())) {
         text.name("cut ", cut.name.as_slice(), "");
     }
+}
+
+/// The place among the map's metals of the one with this name.
+pub fn metal_place(map: &Map, name: &[u8]) -> Option<usize>
+    ensures { IfSome result (λ place. place < length map.now.metals) }
+{
+    let mut metals = map.metals.as_slice().iter();
+    metals.position(|metal| metal.name.as_slice() == name)
+}
+
+/// The place among the map's cuts of the one with this name.
+pub fn cut_place(map: &Map, name: &[u8]) -> Option<usize>
+    ensures { IfSome result (λ place. place < length map.now.cuts) }
+{
+    let mut cuts = map.cuts.as_slice().iter();
+    cuts.position(|cut| cut.name.as_slice() == name)
+}
+
+/// Tells the names of the map's metals, in a line.
+pub fn tell_metal_names(text: &mut Text, map: &Map) {
+    text.say("  metals:");
+    for metal in map.metals.as_slice() {
+        text.name(" ", metal.name.as_slice(), "");
+    }
+    text.say("\n");
+}
+
+/// Tells the names of the map's cuts, in a line.
+pub fn tell_cut_names(text: &mut Text, map: &Map) {
+    let cuts = map.cuts.as_slice();
+    text.say("  cuts:");
+    for cut in cuts {
+        text.name(" ", cut.name.as_slice(), "");
+    }
+    text.say(if cuts.is_empty() { " none\n" } else { "\n" });
 }

@@ -47,7 +47,7 @@ pub struct Layout<'a> {
     /// The name of the structure that is wanted as the top, where one is.
     pub top: Option<&'a [u8]>,
     /// What the run gives of it.
-    pub inquiry: Inquiry,
+    pub inquiry: Inquiry<'a>,
 }
 
 impl Layout<'_> {

@@ -98,6 +98,13 @@ const OF_WORDS_AND_MAPS: &[Remedy] = &[
         place: "the number of the map's sizes",
         remedy: "name one of the map's radii or sides by its number, counted from 1, or add the size to the map",
     },
+    Remedy {
+        status: 3,
+        number: 49,
+        meaning: "no metal of the map has the name that --regions gives, or for via no cut",
+        place: "0",
+        remedy: "for short and open write the name of a metal, and for via that of a cut, as its `name` has it, capital letters too",
+    },
 ];
 
 /// Layouts whose bytes are refused.

@@ -1,12 +1,14 @@
 //! The size of a map that a task names by its number.
 
 use crate::good_map::GoodMap;
+use crate::inquiry::Inquiry;
 use crate::map_lines::Sought;
 use crate::maps::{place_of, tell_where};
+use crate::named_row::NamedRow;
 use crate::remedies::what_to_do;
 use crate::telling::Telling;
 use crate::text::Text;
-use command_line::{OptionName, Task};
+use command_line::OptionName;
 use map_model::Map;
 use std::alloc::Global;
 
@@ -18,31 +20,23 @@ const NO_SUCH_SIZE: u8 = 48;
 /// The path of a map's sizes.
 const SIZES: u64 = 3;
 
-/// A size that a task names by its number.
+/// A size that is named by its number among those of the map, counted from 1.
 #[derive(Clone, Copy)]
-pub struct NamedSize {
-    /// The option that names it.
-    option: OptionName,
-    /// Its number among the sizes of the map, counted from 1.
-    number: u32,
+pub enum NamedSize<'a> {
+    /// The size of this number, for pairs of nets.
+    OfPairs(u32),
+    /// That of a row of the report.
+    OfRow(NamedRow<'a>),
 }
 
-/// The size that the task names, where it names one.
-fn named_size(task: &Task) -> Option<NamedSize> {
-    match task {
-        Task::Pairs { size, .. } => Some(NamedSize {
-            option: OptionName::Pairs,
-            number: *size,
-        }),
-        Task::OneMetal { .. } | Task::Mapped { .. } | Task::Probe { .. } | Task::Generated { .. } =>
-            None,
-    }
-}
-
-/// The size that the task names, where the map has no size of this number.
-pub fn missing_size(task: &Task, map: &Map) -> Option<NamedSize> {
-    let size = named_size(task)?;
-    if size.number as usize <= map.sizes.as_slice().len() {
+/// The size that is asked for, where one is and the map has no size of its number.
+pub fn missing_size<'a>(inquiry: Inquiry<'a>, map: &Map) -> Option<NamedSize<'a>> {
+    let size = match inquiry {
+        Inquiry::Pairs(number) => NamedSize::OfPairs(number),
+        Inquiry::Regions(row) => NamedSize::OfRow(row),
+        Inquiry::Report | Inquiry::Probe(_) => return None,
+    };
+    if size.number() as usize <= map.sizes.as_slice().len() {
         return None;
     }
     Some(size)
@@ -68,11 +62,29 @@ fn tell_sizes(text: &mut Text, sizes: &[u32]) {
     tell_numbers(text, ": ", sizes);
 }
 
-impl NamedSize {
+impl NamedSize<'_> {
+    /// Its number.
+    fn number(self) -> u32 {
+        match self {
+            NamedSize::OfPairs(number) => number,
+            NamedSize::OfRow(row) => row.size,
+        }
+    }
+
+    /// Tells the option that names it.
+    fn tell_option(self, text: &mut Text) {
+        match self {
+            NamedSize::OfPairs(number) => {
+                text.word("`--", OptionName::Pairs.text(), "");
+                text.number(" ", u64::from(number), "`");
+            }
+            NamedSize::OfRow(row) => row.tell_option(text),
+        }
+    }
+
     /// Tells that the map has no size of this number.
     pub fn tell_missing(self, alloc: Global, told: &mut Telling, good: &GoodMap<'_>) {
         let sizes = good.map.sizes.as_slice();
-        let number = u64::from(self.number);
         told.refuse(REFUSED, NO_SUCH_SIZE, sizes.len() as u64);
         let text = &mut told.text;
         let measure = good.map.measure;
@@ -82,9 +94,13 @@ impl NamedSize {
             measure,
         };
         tell_where(alloc, text, good.name, good.bytes.as_slice(), None, sought);
-        text.word(": `--", self.option.text(), "");
-        text.number(" ", number, "`");
-        text.number(" names size ", number, ", but the map lists ");
+        text.say(": ");
+        self.tell_option(text);
+        text.number(
+            " names size ",
+            u64::from(self.number()),
+            ", but the map lists ",
+        );
         tell_sizes(text, sizes);
         text.word("; ", what_to_do(REFUSED, NO_SUCH_SIZE), "\n");
     }

@@ -20,8 +20,8 @@ const DASHED_NAME: &str = " begins with a dash; write such a value in one word, 
 /// What is said of such a value where the option takes a cell.
 const DASHED_CELL: &str = " begins with a dash; write such a value in one word, as --probe=-1,0";
 
-/// What is said of such a value where the option takes a number that is never below 0.
-const DASHED_NUMBER: &str = " begins with a dash";
+/// What is said of such a value where no value of the option begins with a dash.
+const DASHED: &str = " begins with a dash";
 
 /// What is said of a layout beside a generated one.
 const LAYOUT_BESIDE_GENERATED: &str = " is named beside --generate, which makes one";
@@ -46,6 +46,18 @@ const TWO_TASKS: &str = "; a run answers one of them";
 /// What is said of the value of a cell that has no two parts.
 const NO_CELL: &str = " is not two numbers with one comma between them";
 
+/// What is said of the value of `regions` that has no three parts.
+const NO_REGION: &str = " is not three parts with two commas between them";
+
+/// What is said of its first part where that is the word for no kind.
+const NO_KIND: &str = " is none of short, open and via";
+
+/// What is said of its second part where that is no name of a layer.
+const NO_LAYER_NAME: &str = " is not 1 to 32 ASCII letters, digits and `_`";
+
+/// What is said of its third part where that is no number of a size.
+const NO_SIZE_NUMBER: &str = " is no number from 1 to 32 in at most 10 digits";
+
 /// What is said of an option of one metal that is not there, while another is.
 const LACKS: &str = " is missing; --layer, --datatype and --radius go together";
 
@@ -57,6 +69,10 @@ const NO_METALS: &str =
 const CELL: &str =
     "the column and the row of a cell with a comma between them, as 12,-5, each of at most 10 digits and from -1000000000 to 999999999";
 
+/// What an option takes that takes a row of the report.
+const REGION: &str =
+    "a kind of fault, a layer and a size, as short,m1,2: short or open with the name of a metal, or via with that of a cut, and the size's number in the map, from 1 to 32";
+
 /// What is said behind a word that begins with a dash and is no option.
 fn no_option_ending(word: &[u8]) -> &'static str {
     if word.starts_with(b"--help")
@@ -67,7 +83,7 @@ fn no_option_ending(word: &[u8]) -> &'static str {
     } else if word == MAP_SKELETON.as_bytes() {
         " of a run; it is for --explain, and stands there beside a layout and --top alone"
     } else {
-        "; options are --map, --top, --layer, --datatype, --radius, --tile, --workers, --generate, --pairs and --probe"
+        "; options are --map, --top, --layer, --datatype, --radius, --tile, --workers, --generate, --pairs, --probe and --regions"
     }
 }
 
@@ -95,6 +111,7 @@ fn tell_wanted(text: &mut Text, option: OptionName) {
         }
         (None, OptionName::Top) => text.say("the name of a structure"),
         (None, OptionName::Probe) => text.say(CELL),
+        (None, OptionName::Regions) => text.say(REGION),
         (None, _) => text.say("the name of a file"),
     }
 }
@@ -121,10 +138,16 @@ fn tell_part(text: &mut Text, axis: Axis, part: &Name) {
     tell_value(text, OptionName::Probe, part, " does not fit");
 }
 
+/// Tells this of a part of the value of `regions`, behind what the part is to be.
+fn tell_region_part(text: &mut Text, before: &str, part: &Name, what: &str) {
+    text.say(before);
+    tell_value(text, OptionName::Regions, part, what);
+}
+
 /// What is said of a value of the option, in a word of its own, that begins with a dash.
 fn dashed_words(option: OptionName) -> &'static str {
     match (option.range(), option) {
-        (Some(_), _) => DASHED_NUMBER,
+        (Some(_), _) | (None, OptionName::Regions) => DASHED,
         (None, OptionName::Probe) => DASHED_CELL,
         (None, _) => DASHED_NAME,
     }
@@ -151,6 +174,14 @@ fn tell_cause(text: &mut Text, cause: &WordsCause) {
         WordsCause::BadNumber(option, value) => tell_value(text, *option, value, " does not fit"),
         WordsCause::NoCell(value) => tell_value(text, OptionName::Probe, value, NO_CELL),
         WordsCause::BadCoordinate(axis, part) => tell_part(text, *axis, part),
+        WordsCause::NoRegion(value) => tell_value(text, OptionName::Regions, value, NO_REGION),
+        WordsCause::BadKind(part) => tell_region_part(text, "the kind ", part, NO_KIND),
+        WordsCause::BadLayerName(part) => {
+            tell_region_part(text, "the layer ", part, NO_LAYER_NAME);
+        }
+        WordsCause::BadSizeNumber(part) => {
+            tell_region_part(text, "the size ", part, NO_SIZE_NUMBER);
+        }
         WordsCause::NoLayout => text.say("no layout is named"),
         WordsCause::LayoutBesideGenerate(layout) => {
             text.name("the layout ", layout.as_slice(), LAYOUT_BESIDE_GENERATED);
