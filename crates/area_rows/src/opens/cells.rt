@@ -74,6 +74,13 @@ const ROWS: &[Row] = &[
             ((12, -1, 13, 0), 0),
         ],
     ),
+    // 22 cells of row 0 and of row 1, and 3 for each terminal: in row -1 for the first, and in row 2 for the second
+    (
+        &[WIRE],
+        4,
+        (-2, -2, 22, 4),
+        &[((-2, -2, 22, 4), 50), ((-2, -2, 10, 4), 25)],
+    ),
     // no cell beside the window, which is a part of a row
     (&[WIRE], 4, (5, 0, 10, 1), &[(AROUND, 5), ((0, 0, 7, 4), 2)]),
     // in a column each of two wires is cut from 4 rows, one of them for both
