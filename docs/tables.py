@@ -6,7 +6,7 @@ Without more it prints them. `docs/tables.py --write` puts each into its page, b
 `docs/tables.py --check` says which page holds something else, and then ends with status 1. Calls, clauses and laws are taken
 from `src/`, what a crate is for from the first sentence of the `//!` of its first file, what it stands on from `crates.txt`, and
 the words of the index from the pages of `specs/`, each page with the subject that its head names. Pages of `specs/inside/` are
-left out. A crate of tests alone says so in its `//!`. Remedies are those of `crates/explanation/src/remedies.rt`, with which
+left out. A crate of tests alone says so in its `//!`. Remedies are those of `crates/input_explanation/src/remedies.rt`, with which
 `explain` tells an end of a run. It needs Python 3.8.
 """
 import pathlib
@@ -34,12 +34,20 @@ WORD = re.compile(r"^(?:(?:abbrev|unfoldable) )*pub (?:(?:record|data|unfoldable
 
 def crates():
     """All crates, those at the bottom first, each with the crates of this repository that it stands on."""
-    found = {}
+    return {name: below for _, group in groups() for name, below in group.items()}
+
+
+def groups():
+    """The headings of crates.txt, each with the crates below it, and with what these stand on. Its first comment heads no crate."""
+    found = []
     for line in (CRATES.parent / "crates.txt").read_text().splitlines():
-        if line.strip() and not line.startswith("#"):
-            name, _, below = line.partition(":")
-            found[name.split()[0]] = below.split()
-    return {name: [other for other in below if other in found] for name, below in found.items()}
+        name, _, below = line.partition(":")
+        if line.startswith("#"):
+            found.append((line[1:].strip(), {}))
+        elif line.strip():
+            found[-1][1][name.split()[0]] = below.split()
+    names = {name for _, group in found for name in group}
+    return [(head, {name: [it for it in below if it in names] for name, below in group.items()}) for head, group in found]
 
 
 def crate_names():
@@ -193,11 +201,11 @@ def purpose_of(crate):
 
 
 def clause_table():
-    """The table of crates with their public calls, laws and clauses."""
+    """The table of crates with their public calls, laws and clauses, but for those of tests."""
     yield "| crate | what it is for | calls with their clauses, and laws |"
     yield "|---|---|---|"
     known_traits = traits()
-    for crate in crate_names():
+    for crate in (crate for head, group in groups() if head != "Tests" for crate in group):
         calls, laws, bare = promises_of(crate, known_traits)
         parts = [before + ", ".join(names) for before, names in (("", calls), ("laws: ", laws), ("no clause: ", bare)) if names]
         if parts:
@@ -226,13 +234,16 @@ def has_tests_alone(crate):
 
 
 def crate_table():
-    """The table of crates with what each is for and what it stands on. Those of tests alone share a line."""
+    """The table of crates under the headings of crates.txt, with what each is for and what it stands on. Crates of tests alone share a
+    line."""
     below = crates()
     yield "| crate | what it is for | stands on |"
     yield "|---|---|---|"
-    for crate in below:
-        if not has_tests_alone(crate):
-            yield "| `%s` | %s | %s |" % (crate, purpose_of(crate), coded(stands_on(below, crate)))
+    for head, group in groups():
+        shown = [crate for crate in group if not has_tests_alone(crate)]
+        if shown:
+            yield "| **%s** | | |" % head
+            yield from ("| `%s` | %s | %s |" % (crate, purpose_of(crate), coded(stands_on(below, crate))) for crate in shown)
     yield ""
     yield from textwrap.wrap("Tests alone: %s." % coded(filter(has_tests_alone, below)), WIDTH)
 
@@ -266,7 +277,7 @@ def remedy_table():
     """The table of what each number means, and what to do, where a run ends with it."""
     yield "| status | number | what it means | place | what to do |"
     yield "|---|---|---|---|---|"
-    text = (CRATES / "explanation" / "src" / "remedies.rt").read_text()
+    text = (CRATES / "input_explanation" / "src" / "remedies.rt").read_text()
     for row in REMEDY.findall(text):
         fields = [number or re.sub(r"\\(.)", r"\1", words) for number, words in FIELD.findall(row)]
         if len(fields) != 5:

@@ -1,5 +1,3 @@
-//! The groups of contact pieces and the rectangles of via clusters.
+//! The rectangles of many via clusters.
 
-mod box_rows;
-mod group_rows;
 mod many_rows;

@@ -1,5 +1,5 @@
-//! Worked rows on areas, and on what is counted or cut out on the way to them: nets, defects that part terminals, unions, vias,
-//! clusters of contacts, runs and sweeps. Each row's answer was worked out by hand. The crate has tests alone.
+//! Areas, and what is counted or cut out on the way to them, of lists that are too long for a table, and steps that are counted. Few
+//! rectangles are rows of `area_calls`. Each answer was worked out by hand. The crate has tests alone.
 #![tactic(auto)]
 
 #[cfg(test)]
@@ -12,12 +12,6 @@ mod clusters;
 mod depth;
 #[cfg(test)]
 mod fields;
-#[cfg(test)]
-mod flood;
-#[cfg(test)]
-mod flood_rows;
-#[cfg(test)]
-mod halves;
 #[cfg(test)]
 mod island_rows;
 #[cfg(test)]
@@ -32,8 +26,6 @@ mod net_rows;
 mod nets;
 #[cfg(test)]
 mod opens;
-#[cfg(test)]
-mod rings;
 #[cfg(test)]
 mod runs;
 #[cfg(test)]

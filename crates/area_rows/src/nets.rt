@@ -99,10 +99,3 @@ pub fn nets_with(alloc: Global, terminals: &str, shapes: &Shapes) -> Result<Nets
     let text = format!(in alloc; "{METALS}{terminals}")?;
     nets_of(alloc, text.as_str(), 2, 1, shapes)
 }
-
-/// Two wires, a bar across both, and a cut on each.
-pub const STRIPES: &[Sides] = &[(0, 0, 10, 4), (0, 8, 10, 12)];
-
-pub const ACROSS: &[Sides] = &[(0, 0, 4, 12)];
-
-pub const CUTS: &[Sides] = &[(0, 0, 2, 2), (0, 8, 2, 10)];

@@ -1,14 +1,7 @@
-//! Which defects part terminals, and from how many cells.
+//! Which defects part terminals, and from how many cells, where there are many pieces or islands.
 
-mod areas;
-mod cells;
-mod counted;
-mod counted_partings;
 mod depth;
-pub mod drawn;
+mod drawn;
 mod links;
 mod many_rows;
-mod partings;
-mod spots;
-mod spotted;
 mod wire;

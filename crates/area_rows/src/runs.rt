@@ -1,6 +1,3 @@
-//! Runs: rectangles without common cells that have the cells of a list, or the cells of two of its rectangles.
+//! Runs of many rectangles.
 
-mod counting;
-mod looks;
 mod many_rows;
-mod rows;

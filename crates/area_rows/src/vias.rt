@@ -1,5 +1,3 @@
-//! Areas of unions and of vias.
+//! Areas of many rectangles and boxes.
 
 mod many_rows;
-mod unions;
-mod vias;

@@ -12,7 +12,7 @@ use Rattle.map_model.specs.declared.layers.Cut.{Cut}
 use Rattle.lists.specs.Differing.{AreDifferent}
 use Rattle.map_model.proofs.laws.PairLaws.{pair_tells_layer}
 use Rattle.net_extract.proofs.laws.BesideLaws.{across_from, back_from}
-use Rattle.critical_areas.proofs.laws.ListLaws.{in_union, among_union}
+use Rattle.area_parts.proofs.laws.ListLaws.{in_union, among_union}
 use Rattle.critarea_core.specs.Coverage.{IsCoveredOn}
 use Rattle.critarea_core.specs.Layout.{Subject}
 use Rattle.critarea_core.specs.inside.LayoutReaders.{Covered, rects_on, AreListsUpTo, AreLayersOf}

@@ -15,8 +15,8 @@ use Rattle.net_extract.specs.declared.fault.NetFault.TheVariants.{Memory}
 use Rattle.questions.specs.declared.kind.Kind.{Kind}
 use Rattle.questions.specs.declared.row.Row.{Row}
 use Rattle.questions.specs.declared.row.TheConstants.{MOST_ROWS}
-use Rattle.critical_areas.specs.Rows.{AreRows, ComeToRows}
-use Rattle.critical_areas.proofs.laws.AlikeLaws.{rows_follow}
+use Rattle.area_parts.specs.Rows.{AreRows, ComeToRows}
+use Rattle.area_parts.proofs.laws.AlikeLaws.{rows_follow}
 use Rattle.map_pairs.specs.PairAreas.{ArePairRows, ComeToPairs}
 use Rattle.map_pairs.proofs.laws.AlikeLaws.{pairs_follow}
 use Rattle.map_probe.specs.Probe.{ComeToProbe, IsProbe}

@@ -4,7 +4,7 @@ use Rattle.gds_records.specs.RecordSpelling.{spellings}
 use Rattle.gds_write.specs.Written.{written}
 use Rattle.geo_core.specs.declared.plane.Cell.{Cell}
 use Rattle.geo_core.specs.declared.plane.Rect.{Rect}
-use Rattle.critical_areas.specs.Rows.{AreRows}
+use Rattle.area_parts.specs.Rows.{AreRows}
 use Rattle.report.specs.Report.{report_text}
 use Rattle.gauges.specs.GaugeViews.{GaugeView, texts_after}
 use Rattle.gauges.specs.declared.pair_row.PairRow.{PairRow}

@@ -9,7 +9,7 @@ ghost use Rattle.critarea_core.specs.Coverage.{IsCoveredOn};
 ghost use Rattle.critarea_core.specs.Dues.{ArePairRowsOn, AreRowsOn, IsProbeOn, IsRegionOn};
 ghost use Rattle.critarea_core.specs.Layout.{Subject};
 ghost use Rattle.critarea_core.specs.WholeCells.{IsOfWholeCells};
-ghost use Rattle.critical_areas.specs.FaultKinds.{IsFault};
+ghost use Rattle.area_parts.specs.FaultKinds.{IsFault};
 ghost use Rattle.fault_model.specs.Areas.{Tally};
 ghost use Rattle.fault_model.specs.Faults.{AreParted, IsCellsOpen, IsShort, IsViaBlock};
 ghost use Rattle.fault_model.specs.Halves.{IsSwallowed, IsTouched};

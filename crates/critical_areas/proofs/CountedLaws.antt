@@ -13,12 +13,12 @@ use Rattle.questions.specs.declared.kind.Kind.{Kind}
 use Rattle.questions.specs.declared.kind.Kind.TheVariants.{Short, Open, Via}
 use Rattle.questions.specs.declared.question.Question.{Question}
 use Rattle.via_clusters.specs.Blocks.{CoversSomeBox}
-use Rattle.critical_areas.specs.AreaParts.{ArePartsOf}
-use Rattle.critical_areas.specs.AskedCounts.{AreCounted, IsCounted, IsCountedAs}
-use Rattle.critical_areas.specs.FaultKinds.{IsFault}
-use Rattle.critical_areas.specs.Rows.{AreAmounts, IsAmount}
-use Rattle.critical_areas.specs.declared.parts.Parts.{Parts}
-use Rattle.critical_areas.proofs.CutLaws.{block_is}
+use Rattle.area_parts.specs.AreaParts.{ArePartsOf}
+use Rattle.area_parts.specs.AskedCounts.{AreCounted, IsCounted, IsCountedAs}
+use Rattle.area_parts.specs.FaultKinds.{IsFault}
+use Rattle.area_parts.specs.Rows.{AreAmounts, IsAmount}
+use Rattle.area_parts.specs.declared.parts.Parts.{Parts}
+use Rattle.area_parts.proofs.laws.CutLaws.{block_is}
 use Rattle.critical_areas.proofs.PieceLaws.{reached_is}
 use Rattle.critical_areas.proofs.ZippedLaws.{item_has, zipped_at, zipped_by}
 

@@ -16,8 +16,8 @@ use Rattle.tile_plan.specs.Tiles.{IsGreatestTile, IsTile, tile_count}
 use Rattle.tile_plan.proofs.laws.TallyingLaws.{all_tiles, next_tile, no_tile}
 use Rattle.tile_work.specs.Crediting.{IsMadeFor, IsSumOfAmounts}
 use Rattle.union_area.proofs.laws.PartLaws.{few_tallied}
-use Rattle.critical_areas.specs.AskedCounts.{AreCounted, IsCounted}
-use Rattle.critical_areas.specs.declared.parts.Parts.{Parts}
+use Rattle.area_parts.specs.AskedCounts.{AreCounted, IsCounted}
+use Rattle.area_parts.specs.declared.parts.Parts.{Parts}
 use Rattle.critical_areas.specs.inside.Work.{IsAmountOfTile, Work}
 use Rattle.critical_areas.proofs.ZippedLaws.{zipped_all, zipped_by}
 

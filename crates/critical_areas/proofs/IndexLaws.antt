@@ -13,10 +13,10 @@ use Rattle.fault_model.proofs.UnionLaws.{among_union, in_union}
 use Rattle.questions.specs.declared.kind.Kind.TheVariants.{Open}
 use Rattle.questions.specs.declared.question.Question.{Question}
 use Rattle.critical_areas.specs.declared.apart.Apart.{Apart}
-use Rattle.critical_areas.specs.declared.parts.Parts.{Parts}
+use Rattle.area_parts.specs.declared.parts.Parts.{Parts}
 use Rattle.critical_areas.specs.inside.IslandsApart.{AreApart, none_apart}
 use Rattle.critical_areas.specs.inside.Indexes.{AreIndexesOf, AreOpensIn, AreReordered, HasItsOpens}
-use Rattle.critical_areas.proofs.laws.ListLaws.{read_list}
+use Rattle.area_parts.proofs.laws.ListLaws.{read_list}
 use Rattle.critical_areas.proofs.ZippedLaws.{zipped_at}
 
 -- ---- what is put in order

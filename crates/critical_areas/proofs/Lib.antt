@@ -1,10 +1,5 @@
-pub mod WindowLaws
-pub mod SizeLaws
 pub mod PieceLaws
-pub mod PartLaws
-pub mod FaultLaws
 pub mod RowLaws
-pub mod CutLaws
 pub mod NearLaws
 pub mod ZippedLaws
 pub mod IslandLaws

@@ -11,7 +11,7 @@ use Rattle.fault_model.proofs.FaultLaws.{none_at, short_at}
 use Rattle.short_area.specs.Labels.{TouchesLabel, TouchesTwoLabels}
 use Rattle.tile_plan.specs.Near.{HasExactlyNear, HitsLabel, HitsTwoLabels}
 use Rattle.tile_plan.proofs.laws.SeamLaws.{same_two_labels}
-use Rattle.critical_areas.specs.AreaParts.{IsInPieces, ArePiecesOf}
+use Rattle.area_parts.specs.AreaParts.{IsInPieces, ArePiecesOf}
 
 -- a defect of radius 0 touches nothing
 pub touches_none : (pieces : List Labelled) (r : ℕ) (c : Cell) → r ≡ 0 → TouchesTwoLabels pieces r c → ⊥

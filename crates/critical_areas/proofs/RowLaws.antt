@@ -8,10 +8,10 @@ use Rattle.fault_model.specs.FaultNames.{cells_of_window}
 use Rattle.map_model.specs.MapNames.{LayerMap}
 use Rattle.questions.specs.Questions.{IsRowFor, questions}
 use Rattle.questions.specs.declared.question.Question.{Question}
-use Rattle.critical_areas.specs.AreaParts.{ArePartsOf}
-use Rattle.critical_areas.specs.AskedCounts.{AreCounted}
-use Rattle.critical_areas.specs.Rows.{Answers, AreRows, AreRowsOf, IsAmount, IsWindowFor}
-use Rattle.critical_areas.specs.declared.parts.Parts.{Parts}
+use Rattle.area_parts.specs.AreaParts.{ArePartsOf}
+use Rattle.area_parts.specs.AskedCounts.{AreCounted}
+use Rattle.area_parts.specs.Rows.{Answers, AreRows, AreRowsOf, IsAmount, IsWindowFor}
+use Rattle.area_parts.specs.declared.parts.Parts.{Parts}
 use Rattle.questions.specs.declared.row.Row.{Row}
 use Rattle.critical_areas.proofs.CountedLaws.{counted_are_amounts}
 

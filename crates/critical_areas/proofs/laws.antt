@@ -1,5 +1,2 @@
 -- what the proofs of other crates may cite
-pub mod UniqueLaws
-pub mod AlikeLaws
-pub mod ListLaws
 pub mod NearIslandLaws

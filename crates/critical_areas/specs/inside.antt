@@ -1,4 +1,3 @@
-pub mod LayoutBounds
 pub mod Work
 pub mod IslandsApart
 pub mod Indexes

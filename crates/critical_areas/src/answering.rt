@@ -1,11 +1,11 @@
 ghost use Rattle.std.specs.Prelude.{◌≡◌, ◌<◌, ◌≤◌, ◌^◌, IfOk, All, length};
-ghost use Rattle.critical_areas.specs.Rows.{AreRowsOf};
+ghost use Rattle.area_parts.specs.Rows.{AreRowsOf};
 ghost use Rattle.critical_areas.specs.inside.CountedRows.{AreCountedRows};
 ghost use Rattle.questions.specs.declared.row.TheConstants.{MOST_ROWS};
 
 use super::counting::amounts;
-use super::parts::Asked;
 use super::sharing::Sharing;
+use area_parts::Asked;
 use geo_core::Rect;
 use lists::NoMemory;
 use questions::Row;

@@ -14,7 +14,7 @@ ghost use Rattle.critical_areas.specs.RoundPieces.{IsRound};
 ghost use Rattle.critical_areas.specs.inside.IslandsApart.{AreApart, IsOneOpen};
 
 use super::edges::further_tiles;
-use super::parts::MetalIslands;
+use area_parts::MetalIslands;
 use fault_model::Island;
 use geo_core::{Labelled, Rect, join};
 use lists::{Items, NoMemory};

@@ -1,11 +1,11 @@
 ghost use Rattle.std.specs.Prelude.{◌≤◌, ◌<◌, ◌^◌, IfOk, All, length};
 ghost use Rattle.fault_model.specs.Areas.{cells_of, cells_of_window};
-ghost use Rattle.critical_areas.specs.AskedCounts.{AreCounted};
+ghost use Rattle.area_parts.specs.AskedCounts.{AreCounted};
 
 use super::edges::{sensible_plan, shared_edge};
-use super::parts::Asked;
 use super::sharing::Sharing;
 use super::tiles::Tiles;
+use area_parts::Asked;
 use geo_core::Rect;
 use lists::NoMemory;
 use std::alloc::Global;

@@ -3,8 +3,8 @@ ghost use Rattle.questions.specs.Questions.{IsAskable};
 ghost use Rattle.critical_areas.specs.inside.Lengthening.{IsDoubled};
 
 use super::apart::boxes_of;
-use super::parts::{Asked, Parts};
 use super::sizes::reach_of_side;
+use area_parts::{Asked, Parts};
 use fault_model::Island;
 use geo_core::Rect;
 use questions::{Kind, Question};

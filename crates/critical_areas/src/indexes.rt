@@ -8,7 +8,7 @@ ghost use Rattle.critical_areas.specs.inside.IslandsApart.{AreApart};
 
 use super::apart::{Apart, cells_of_islands};
 use super::edges::greatest_reach;
-use super::parts::{Asked, Parts};
+use area_parts::{Asked, Parts};
 use geo_core::{Labelled, Rect};
 use lists::{Items, NoMemory};
 use questions::{Kind, Question};

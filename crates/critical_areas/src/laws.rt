@@ -1,31 +1,23 @@
 //! Facts about the definitions, each the contract of a function that does nothing else.
 
-ghost use Rattle.std.specs.Prelude.{ℕ, List, Contains, false, ◌/◌, ◌≤◌, ◌≡◌, ◌↔◌};
-ghost use Rattle.critical_areas.specs.AreaParts.{ArePartsOf, ArePiecesOf};
-ghost use Rattle.critical_areas.specs.AskedCounts.{AreCounted};
-ghost use Rattle.critical_areas.specs.declared.parts.Parts.{Parts};
-ghost use Rattle.critical_areas.specs.FaultKinds.{IsFault};
+ghost use Rattle.std.specs.Prelude.{ℕ, List, ◌/◌, ◌≤◌, ◌↔◌};
+ghost use Rattle.area_parts.specs.AreaParts.{ArePartsOf, ArePiecesOf};
+ghost use Rattle.area_parts.specs.AskedCounts.{AreCounted};
+ghost use Rattle.area_parts.specs.declared.parts.Parts.{Parts};
 ghost use Rattle.critical_areas.specs.RoundPieces.{IsRound};
-ghost use Rattle.critical_areas.specs.Rows.{AreAmounts, AreRows};
-ghost use Rattle.fault_model.specs.Faults.{IsCellsOpen, IsShort};
+ghost use Rattle.area_parts.specs.Rows.{AreAmounts};
+ghost use Rattle.fault_model.specs.Faults.{IsShort};
 ghost use Rattle.fault_model.specs.IslandLists.{IslandLists, IsIslandOpen};
 ghost use Rattle.fault_model.specs.Nets.{Cut};
-ghost use Rattle.first_refusal.specs.Laws.{IsUnique};
 ghost use Rattle.geo_core.specs.Cells.{Has};
 ghost use Rattle.geo_core.specs.Unions.{IsCoveredIn};
 ghost use Rattle.geo_core.specs.declared.plane.Cell.{Cell};
 ghost use Rattle.geo_core.specs.declared.plane.Labelled.{Labelled};
 ghost use Rattle.geo_core.specs.declared.plane.Rect.{Rect};
 ghost use Rattle.map_model.specs.LayerMap.{LayerMap};
-ghost use Rattle.questions.specs.declared.kind.Kind.TheVariants.{Open};
 ghost use Rattle.tile_plan.specs.Near.{HasExactlyNear, HitsTwoLabels, IsNearTile};
 
 use fault_model::Layout;
-
-/// The questions of a layer map have one list of rows at most, whatever its metals and cuts cover.
-pub fn rows_agree<L: Layout>()
-    ensures { (layer_map : LayerMap) → IsUnique (AreRows layer_map L.covers) }
-{}
 
 /// The law of seams. At a cell of a tile a defect makes a short of a metal exactly where it touches two labels of the metal's
 /// pieces that are near the tile. The labels tell the nets apart, and the reach is no less than the defect's: half of its side,
@@ -41,14 +33,6 @@ pub fn near_pieces_decide_shorts<L: Layout>()
 pub fn near_islands_decide_opens()
     ensures { (tile hull : Rect) (island : IslandLists) (reach s : ℕ) (c : Cell) → IsRound hull island.pieces → Has tile c →
         s / 2 ≤ reach → (IsNearTile tile reach hull → ⊥) → IsIslandOpen island s c → ⊥ }
-{}
-
-/// Where a layer map does not say that via clusters are terminals, what rows count as opens are opens between cells: a defect makes
-/// one of a metal exactly where it parts two of the cells that the map names as the metal's terminals.
-pub fn opens_are_of_cells<L: Layout>()
-    ensures { (layer_map : LayerMap) (metal s : ℕ) (c : Cell) → layer_map.contacts ≡ false →
-        IsFault layer_map L.covers Open metal s c ↔
-        IsCellsOpen (L.covers metal) (λ d. Contains layer_map.terminals (metal, d)) s c }
 {}
 
 /// What is counted over the parts of a layer map for its questions are the amounts of their faults.

@@ -1,11 +1,9 @@
 //! The critical areas of a layer map over what its layers cover, tile by tile.
 //!
-//! Four parts also stand alone: `window_of` gives the window, `prepare` makes once what all areas need, `amounts` counts
-//! over any window what questions ask for, and `rows` puts amounts into the rows of a report.
+//! Two parts also stand alone: `amounts` counts over any window what questions ask for, and `rows` puts amounts into the rows of a
+//! report. What is counted from, and the window, come from `area_parts`; `counts_are_amounts`, a law, says that what is counted over
+//! the parts of a map is the tally of the faults of the definitions.
 //!
-//! - What all areas need are the pieces of each metal, labelled by their nets, the islands with two terminals or more,
-//!   and the boxes of via clusters (`Parts`). `ArePartsOf` says that these are those of the map, and
-//!   `counts_are_amounts`, a law, that what is counted over them is the tally of the faults of the definitions.
 //! - `sensible_plan` cuts the window into tiles. Their edge is the one that is asked for, or shorter where several workers
 //!   would have too few tiles for opens of many rectangles, and it is doubled where tiles would be too many, would look at
 //!   long pieces too often, or would ask too many questions (`edges`).
@@ -26,33 +24,28 @@ mod counting;
 mod edges;
 mod indexes;
 pub mod laws;
-mod parts;
-mod preparing;
 mod sharing;
 mod sizes;
 mod tiles;
-mod window;
 
 ghost use Rattle.std.specs.Prelude.{◌≡◌, ◌≤◌, ◌+◌, IfOk, All, length};
 ghost use Rattle.first_refusal.specs.Answers.{Answers};
 ghost use Rattle.geo_core.specs.Cells.{IsInLayout};
-ghost use Rattle.critical_areas.specs.Rows.{ComeToRows};
+ghost use Rattle.area_parts.specs.Rows.{ComeToRows};
 ghost use Rattle.map_model.specs.MapView.{layer_map_of};
 ghost use Rattle.questions.specs.declared.row.TheConstants.{MOST_ROWS};
 
 use answering::counted_rows;
 pub use answering::rows;
+use area_parts::{prepare, reach, window_of};
 pub use counting::amounts;
 use map_model::{Layers, Map};
 pub use net_extract::NetFault;
-pub use parts::{Asked, MetalIslands, MetalPieces, Parts};
-pub use preparing::prepare;
 use questions::Row;
 pub use sharing::Sharing;
 use std::alloc::Global;
 use std::thread::Threads;
 pub use tile_work::{Gate, NoGate};
-pub use window::{reach, window_of};
 
 /// The rows of the report on what the rectangles cover, of which there is one list for each layer of the map: shorts of
 /// each metal, then opens of each, and then via blocks of each cut, for each size in order.

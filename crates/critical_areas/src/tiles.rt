@@ -16,8 +16,8 @@ ghost use Rattle.critical_areas.specs.inside.IslandsApart.{AreApart, IsOneOpen};
 use super::apart::{Apart, all_apart, cells_of_islands, numbers_of};
 use super::edges::greatest_reach;
 use super::indexes::{indexes_of, metals_of, opens_of};
-use super::parts::Asked;
 use super::sizes::{covering_radius, reach_of_side};
+use area_parts::Asked;
 use fault_model::Island;
 use geo_core::{Labelled, Rect};
 use lists::NoMemory;
@@ -69,7 +69,7 @@ impl<'a> Model for Tiles<'a> {
 }
 
 impl<'a> Tiles<'a> {
-    ghost use Rattle.critical_areas.specs.AskedCounts.{IsCounted};
+    ghost use Rattle.area_parts.specs.AskedCounts.{IsCounted};
 
     /// The tiles of the plan, with what they are counted from, for so many workers. The only error is that no memory is left.
     pub fn new(

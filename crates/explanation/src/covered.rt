@@ -3,8 +3,8 @@
 ghost use Rattle.std.specs.Prelude.{◌≡◌, ◌+◌, true, All, IfOk, IfSome, length};
 ghost use Rattle.geo_core.specs.Cells.{IsInLayout};
 
-use crate::shapes::Held;
 use geo_core::{FARTHEST, Rect, RectList};
+use input_explanation::Held;
 use lists::NoMemory;
 use map_model::{Layers, Map};
 use std::alloc::Global;

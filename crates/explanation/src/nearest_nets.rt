@@ -1,15 +1,13 @@
 //! The nets that are nearest to a cell, where they begin, and which defects at the cell make a short.
 
-use crate::covered::covered_layers;
-use crate::layer_names::tell_layer;
-use crate::net_starts::{NetStarts, net_starts};
-use crate::shapes::Held;
-use crate::sizes::tell_numbers;
-use crate::text::Text;
+ghost use Rattle.std.specs.Prelude.{◌≡◌, ◌+◌, All, length};
+ghost use Rattle.geo_core.specs.Cells.{IsInLayout};
+
+use crate::net_starts::{NetStarts, net_starts, of_nets};
 use geo_core::Cell;
-use lists::NoMemory;
-use map_model::{Map, Measure};
-use map_probe::{MetalNear, NetFault, probe};
+use input_explanation::{Text, tell_layer, tell_numbers};
+use map_model::{Layers, Map, Measure};
+use map_probe::{MetalNear, probe};
 use near_index::Near;
 use std::alloc::Global;
 
@@ -83,23 +81,17 @@ pub fn tell_nearest_nets(
     alloc: Global,
     text: &mut Text,
     map: &Map,
-    held: &[Held],
+    layers: &Layers,
     cell: Cell,
-) -> Result<(), NoMemory> {
-    let Some(layers) = covered_layers(alloc, map, held)? else {
-        return Ok(());
-    };
-    let metals = match probe(alloc, map, &layers, cell) {
-        Ok(metals) => metals,
-        Err(NetFault::Memory) => return Err(NoMemory),
-        Err(_) => return Ok(()),
-    };
-    let Some(starts) = net_starts(alloc, map, &layers)? else {
-        return Ok(());
-    };
+) -> Option<()>
+    requires one_each { length layers.now.lists.items ≡ length map.now.metals + length map.now.cuts }
+    requires within { All (All IsInLayout) layers.now.lists.items }
+{
+    let metals = of_nets(text, probe(alloc, map, layers, cell))?;
+    let starts = net_starts(alloc, text, map, layers)?;
     tell_cell(text, cell);
     for (metal, near) in metals.iter().enumerate() {
         tell_metal(text, map, &starts, metal, near);
     }
-    Ok(())
+    Some(())
 }

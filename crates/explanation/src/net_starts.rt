@@ -2,9 +2,9 @@
 
 ghost use Rattle.std.specs.Prelude.{◌≡◌, ◌+◌, length};
 
-use crate::text::Text;
-use critical_areas::{Parts, prepare};
+use area_parts::{Parts, prepare};
 use geo_core::Cell;
+use input_explanation::Text;
 use lists::NoMemory;
 use map_model::{Layers, Map};
 use net_extract::NetFault;
@@ -39,13 +39,23 @@ impl NetStarts {
     }
 }
 
+/// What was found of nets, if all terminals of the map are on their metals and memory was left. Otherwise the text is not whole
+/// if memory was not.
+pub fn of_nets<T: Drop>(text: &mut Text, found: Result<T, NetFault>) -> Option<T> {
+    match found {
+        Ok(found) => Some(found),
+        Err(NetFault::Memory) => {
+            text.lose();
+            None
+        }
+        Err(_) => None,
+    }
+}
+
 /// The first cells of the nets of what these layers cover, where all terminals of the map are on their metals.
-pub fn net_starts(alloc: Global, map: &Map, layers: &Layers) -> Result<Option<NetStarts>, NoMemory>
+pub fn net_starts(alloc: Global, text: &mut Text, map: &Map, layers: &Layers) -> Option<NetStarts>
     requires { length layers.now.lists.items ≡ length map.now.metals + length map.now.cuts }
 {
-    match prepare(alloc, map, layers) {
-        Ok(parts) => Ok(Some(NetStarts::of(alloc, &parts)?)),
-        Err(NetFault::Memory) => Err(NoMemory),
-        Err(_) => Ok(None),
-    }
+    let parts = of_nets(text, prepare(alloc, map, layers))?;
+    text.got(NetStarts::of(alloc, &parts))
 }

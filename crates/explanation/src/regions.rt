@@ -1,13 +1,14 @@
 //! The critical cells of one row of a report: how many there are, where they begin, and how a run writes them.
 
-use crate::covered::covered_layers;
-use crate::named_row::NamedRow;
-use crate::shapes::Held;
-use crate::text::Text;
+ghost use Rattle.std.specs.Prelude.{◌≡◌, ◌+◌, All, IfSome, length};
+ghost use Rattle.geo_core.specs.Cells.{IsInLayout};
+ghost use Rattle.map_regions.specs.Regions.{IsNumberFor};
+
+use crate::net_starts::of_nets;
 use geo_core::Rect;
-use lists::NoMemory;
-use map_model::{Map, Measure};
-use map_regions::{NetFault, regions};
+use input_explanation::{NamedRow, Text, cut_place, metal_place};
+use map_model::{Layers, Map, Measure};
+use map_regions::regions;
 use questions::Kind;
 use std::alloc::Global;
 
@@ -92,34 +93,41 @@ fn tell_meaning(text: &mut Text, kind: Kind, measure: Measure, size: u32) {
     text.say(", and not where such a defect reaches\n");
 }
 
+/// The number of the row's layer as questions have it, if the map has it: that of a cut follows those of the metals.
+fn layer_number(map: &Map, row: NamedRow<'_>) -> Option<u32>
+    ensures { IfSome result (IsNumberFor row.entry.kind (length map.now.metals) (length map.now.cuts)) }
+{
+    match row.kind {
+        Kind::Short | Kind::Open => Some(metal_place(map, row.layer)? as u32),
+        Kind::Via => {
+            let place = cut_place(map, row.layer)?;
+            Some((map.metals.as_slice().len() + place) as u32)
+        }
+    }
+}
+
 /// Tells the critical cells of the row by what these layers cover.
 pub fn tell_regions(
     alloc: Global,
     text: &mut Text,
     map: &Map,
-    held: &[Held],
+    layers: &Layers,
     row: NamedRow<'_>,
-) -> Result<(), NoMemory> {
-    let Some(layers) = covered_layers(alloc, map, held)? else {
-        return Ok(());
-    };
-    let Some(number) = row.layer_number(map) else {
-        return Ok(());
-    };
+) -> Option<()>
+    requires one_each { length layers.now.lists.items ≡ length map.now.metals + length map.now.cuts }
+    requires within { All (All IsInLayout) layers.now.lists.items }
+{
+    let number = layer_number(map, row)?;
     let place = row.size.saturating_sub(1);
     let sizes = map.sizes.as_slice();
     if place as usize >= sizes.len() {
-        return Ok(());
+        return None;
     }
-    let rects = match regions(alloc, map, &layers, row.kind, number, place) {
-        Ok(rects) => rects,
-        Err(NetFault::Memory) => return Err(NoMemory),
-        Err(_) => return Ok(()),
-    };
+    let rects = of_nets(text, regions(alloc, map, layers, row.kind, number, place))?;
     let size = sizes[place as usize];
     tell_row(text, row, map.measure, size);
     tell_rects(text, rects.as_slice());
     text.say(OUTPUT);
     tell_meaning(text, row.kind, map.measure, size);
-    Ok(())
+    Some(())
 }

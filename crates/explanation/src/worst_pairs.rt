@@ -1,13 +1,13 @@
 //! The pairs of nets with the greatest areas, and where their nets begin.
 
-use crate::covered::covered_layers;
-use crate::layer_names::tell_layer;
-use crate::net_starts::{NetStarts, net_starts};
-use crate::shapes::Held;
-use crate::text::Text;
+ghost use Rattle.std.specs.Prelude.{◌≡◌, ◌+◌, All, length};
+ghost use Rattle.geo_core.specs.Cells.{IsInLayout};
+
+use crate::net_starts::{NetStarts, net_starts, of_nets};
+use input_explanation::{Text, tell_layer};
 use lists::NoMemory;
-use map_model::{Map, Measure};
-use map_pairs::{NetFault, pair_tables};
+use map_model::{Layers, Map, Measure};
+use map_pairs::pair_tables;
 use pair_report::{MetalPairs, PairTables};
 use std::alloc::Global;
 
@@ -91,25 +91,19 @@ pub fn tell_worst_pairs(
     alloc: Global,
     text: &mut Text,
     map: &Map,
-    held: &[Held],
+    layers: &Layers,
     place: u32,
-) -> Result<(), NoMemory> {
-    let Some(layers) = covered_layers(alloc, map, held)? else {
-        return Ok(());
-    };
+) -> Option<()>
+    requires one_each { length layers.now.lists.items ≡ length map.now.metals + length map.now.cuts }
+    requires within { All (All IsInLayout) layers.now.lists.items }
+{
     if place as usize >= map.sizes.as_slice().len() {
-        return Ok(());
+        return None;
     }
-    let tables = match pair_tables(alloc, map, &layers, place) {
-        Ok(tables) => tables,
-        Err(NetFault::Memory) => return Err(NoMemory),
-        Err(_) => return Ok(()),
-    };
-    let Some(starts) = net_starts(alloc, map, &layers)? else {
-        return Ok(());
-    };
-    let worst = worst_of(alloc, &tables)?;
+    let tables = of_nets(text, pair_tables(alloc, map, layers, place))?;
+    let starts = net_starts(alloc, text, map, layers)?;
+    let worst = text.got(worst_of(alloc, &tables))?;
     tell_size(text, &tables);
     tell_worst(text, map, worst.as_slice(), &starts);
-    Ok(())
+    Some(())
 }

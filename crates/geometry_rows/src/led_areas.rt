@@ -1,6 +1,6 @@
 //! Areas of shorts where one label has most of the zones: bars that cross, with squares of other labels beside them.
 
-use geo_core::{Labelled, Rect};
+use geo_core::Labelled;
 use samples::sides::{Sides, rect_of};
 use short_area::short_area;
 use std::alloc::Global;
@@ -106,85 +106,4 @@ fn a_large_mesh_with_cells_has_its_area(rt: HostRuntime) {
         apart: 800,
     };
     assert!(rt; area_of_mesh(rt.alloc(), mesh) == Some(10_000 * IN_A_HOLE));
-}
-
-/// Where bars lie of which many are equal.
-const BARS_AT: [i32; 3] = [5, 30, 52];
-
-/// 220 bars with the label 5 on three columns and three rows, and 70 cells of nine other labels.
-fn crowd(alloc: Global) -> Option<Vec<Labelled>> {
-    let mut pieces = Vec::new(alloc);
-    for bar in 0..110_usize {
-        let at = BARS_AT[bar % 3];
-        let low = (bar % 9) as i32;
-        let high = 60 - (bar % 7) as i32;
-        add(&mut pieces, 5, (low, at, high, at + 1))?;
-        add(&mut pieces, 5, (at, low, at + 1, high))?;
-    }
-    for number in 0..70_usize {
-        let label = number % 9;
-        let x = (13 * number % 48) as i32;
-        let y = ((29 * number + 7) % 48) as i32;
-        let label = if label < 5 { label } else { label + 1 };
-        add(&mut pieces, label, (x, y, x + 1, y + 1))?;
-    }
-    Some(pieces)
-}
-
-/// Whether the cell of this column and row is at most the radius from the rectangle, in both directions.
-fn is_near(rect: Rect, i: i32, j: i32, radius: u8) -> bool {
-    let (i, j, radius) = (i64::from(i), i64::from(j), i64::from(radius));
-    i64::from(rect.x0) - radius <= i
-        && i < i64::from(rect.x1) + radius
-        && i64::from(rect.y0) - radius <= j
-        && j < i64::from(rect.y1) + radius
-}
-
-/// Whether pieces of two labels are near the cell.
-fn is_near_two(pieces: &[Labelled], i: i32, j: i32, radius: u8) -> bool {
-    let mut found = None;
-    for piece in pieces {
-        if is_near(piece.rect, i, j, radius) {
-            if *found.get_or_insert(piece.label) != piece.label {
-                return true;
-            }
-        }
-    }
-    false
-}
-
-/// How many cells from 0 to before 60 in either direction are near two labels, one by one.
-fn counted(pieces: &[Labelled], radius: u8) -> u64 {
-    let mut count: u64 = 0;
-    for j in 0..60 {
-        for i in 0..60 {
-            if is_near_two(pieces, i, j, radius) {
-                count = count.saturating_add(1);
-            }
-        }
-    }
-    count
-}
-
-/// Whether the area of the crowd is the one that is counted, for this radius.
-fn agrees(alloc: Global, radius: u8) -> bool {
-    let radius = radius.clamp(1, 5);
-    let Some(pieces) = crowd(alloc) else {
-        return false;
-    };
-    let area = short_area(
-        alloc,
-        pieces.as_slice(),
-        Rect::new(0, 0, 60, 60),
-        u32::from(radius),
-    );
-    area == Ok(counted(pieces.as_slice(), radius))
-}
-
-/// For the radius 1 the last bars in each direction have no cell in common with what is near the cells of other labels.
-#[test]
-fn a_crowd_has_the_area_that_is_counted(rt: HostRuntime) {
-    for radius in 1..6 {
-        assert!(rt; agrees(rt.alloc(), radius), "radius {radius}");
-    }
 }

@@ -1,10 +1,8 @@
-//! Worked rows on rectangles that are joined where they share a whole edge. Each row's answer was worked out by hand, or is counted
-//! cell by cell. The crate has tests alone.
+//! Many rectangles that are joined if they share a whole edge, and grids that are counted cell by cell. Few rectangles are rows of
+//! `area_calls`. The crate has tests alone.
 #![tactic(auto)]
 
 #[cfg(test)]
 mod grids;
 #[cfg(test)]
 mod many;
-#[cfg(test)]
-mod rows;

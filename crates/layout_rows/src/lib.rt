@@ -1,9 +1,9 @@
-//! Worked rows on the calls that read and write layouts: files, sinks, the records of a stream and what their bodies hold, and
-//! whole libraries, read and written. Each row's answer was worked out by hand. The crate has tests alone.
+//! Tests of the calls that read and write layouts: files, sinks, and streams that are cut, padded or changed at each byte. Rows on
+//! single streams are in the tables of `input_calls`. The crate has tests alone.
 #![tactic(auto)]
 
 #[cfg(test)]
-mod grammar;
+mod bad_input;
 #[cfg(test)]
 mod reading;
 #[cfg(test)]

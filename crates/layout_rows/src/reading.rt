@@ -1,14 +1,6 @@
-//! Files, sinks, records of a stream, and the numbers and texts in their bodies.
+//! Files, sinks, and records of streams that are cut or padded.
 
-/// A table of rows, one a line: bytes or a fault, and what is wanted of them.
-macro_rules! rows {
-    ($($given:expr => $($wanted:expr),+;)*) => {
-        &[$(($given, $($wanted),+)),*]
-    };
-}
-
-mod fields;
 mod files;
 mod listed_reads;
-pub mod records;
+mod records;
 mod sinks;

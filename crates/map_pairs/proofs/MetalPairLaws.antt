@@ -8,13 +8,13 @@ use Rattle.fault_model.specs.FaultNames.{Cut, cells_of}
 use Rattle.fault_model.proofs.TallyLaws.{Tally-same_all, Tally-some}
 use Rattle.net_numbers.specs.FirstCells.{IsNumbered}
 use Rattle.net_pairs.specs.Pairs.{ArePairAreas, TouchesBoth}
-use Rattle.critical_areas.specs.AreaParts.{ArePiecesOf}
+use Rattle.area_parts.specs.AreaParts.{ArePiecesOf}
 use Rattle.map_pairs.specs.PairAreas.{ArePairsOn, TouchesNets}
 use Rattle.map_pairs.specs.inside.NumberedPairs.{AreCountedPairs, AreNumberedPairs, IsCountedPair}
 use Rattle.map_pairs.proofs.AreaTallies.{area, area_is, listed_area}
-use Rattle.map_pairs.proofs.NetStartLaws.{number_below}
-use Rattle.map_pairs.proofs.NumberedNets.{NumbersKeepCells}
-use Rattle.map_pairs.proofs.PieceNets.{starts_are}
+use Rattle.layout_nets.proofs.laws.NetStartLaws.{number_below}
+use Rattle.layout_nets.proofs.laws.NumberedNets.{NumbersKeepCells}
+use Rattle.layout_nets.proofs.laws.PieceNets.{starts_are}
 use Rattle.map_pairs.proofs.TouchingLaws.{touches_is, touches_none}
 
 -- ---- what is counted

@@ -12,15 +12,15 @@ use Rattle.map_model.specs.declared.layers.Metal.{Metal}
 use Rattle.map_model.specs.declared.measure.Measure.{Measure}
 use Rattle.net_numbers.specs.FirstCells.{AreFirstCells, HaveOwnCells, IsLabelCell, IsNumberOf, IsNumbered}
 use Rattle.net_extract.specs.Cuts.{cuts_of}
-use Rattle.critical_areas.specs.AreaParts.{ArePartsOf, ArePiecesOf}
-use Rattle.critical_areas.specs.Rows.{IsWindowFor}
-use Rattle.critical_areas.specs.declared.parts.Parts.{Parts}
+use Rattle.area_parts.specs.AreaParts.{ArePartsOf, ArePiecesOf}
+use Rattle.area_parts.specs.Rows.{IsWindowFor}
+use Rattle.area_parts.specs.declared.parts.Parts.{Parts}
 use Rattle.pair_report.specs.PairRows.{pair_rows, rows_of_metal}
 use Rattle.pair_report.specs.declared.tables.MetalPairs.{MetalPairs}
 use Rattle.map_pairs.specs.PairAreas.{ArePairRows, ArePairsOn}
 use Rattle.map_pairs.specs.inside.NumberedPairs.{AreMadeFor, AreNumberedPairs, IsNamedAs}
 use Rattle.map_pairs.proofs.MetalPairLaws.{pairs_are}
-use Rattle.map_pairs.proofs.PieceNets.{own_cells}
+use Rattle.layout_nets.proofs.laws.PieceNets.{own_cells}
 
 -- the law of `net_numbers`: a number has the cells of its label
 abbrev pub NumberLaw : Type 0

@@ -13,12 +13,12 @@ use Rattle.short_area.specs.Labels.{TouchesLabel}
 use Rattle.paths.proofs.PathLaws.{last}
 use Rattle.net_numbers.specs.FirstCells.{IsLabelCell, IsNumbered}
 use Rattle.net_pairs.specs.Pairs.{TouchesBoth}
-use Rattle.critical_areas.specs.AreaParts.{ArePiecesOf}
-use Rattle.map_pairs.specs.NetNumbers.{AreNetStarts, IsOfNet}
+use Rattle.area_parts.specs.AreaParts.{ArePiecesOf}
+use Rattle.layout_nets.specs.NetNumbers.{AreNetStarts, IsOfNet}
 use Rattle.map_pairs.specs.PairAreas.{TouchesNets}
-use Rattle.map_pairs.proofs.NetStartLaws.{one_number}
-use Rattle.map_pairs.proofs.NumberedNets.{NumbersKeepCells, in_net, of_net}
-use Rattle.map_pairs.proofs.PieceNets.{starts_are}
+use Rattle.layout_nets.proofs.laws.NetStartLaws.{one_number}
+use Rattle.layout_nets.proofs.laws.NumberedNets.{NumbersKeepCells, in_net, of_net}
+use Rattle.layout_nets.proofs.laws.PieceNets.{starts_are}
 
 -- a defect of a side of 2 or more touches the cells that one of the radius touches which is half of the side, rounded down
 same_touched : (s : ℕ) → 2 ≤ s → (c d : Cell) → IsTouched c (s / 2 + s / 2) d ↔ IsTouched c s d

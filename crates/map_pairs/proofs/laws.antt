@@ -1,12 +1,9 @@
 -- what the proofs of other crates may cite
 pub mod AlikeLaws
-pub mod LeastLaws
-pub mod StartLaws
 pub mod SearchLaws
 pub mod TouchLaws
 pub mod PairLaws
 pub mod MetalLaws
-pub mod BesideLaws
 pub mod AskedLaws
 pub mod PairRowLaws
 pub mod ReportLaws

@@ -1,5 +1,4 @@
 -- what contracts of other crates cite
-pub mod NetNumbers
 pub mod PairAreas
 -- what only this crate's proofs and private contracts cite
 pub mod inside

@@ -14,12 +14,12 @@ use Rattle.questions.specs.Questions.{metal_layers}
 use Rattle.net_extract.specs.Cuts.{cuts_of}
 use Rattle.net_extract.specs.Extraction.{IsOnItsMetal, off_metal}
 use Rattle.net_extract.specs.declared.fault.NetFault.{NetFault}
-use Rattle.critical_areas.specs.Rows.{IsWindowFor}
+use Rattle.area_parts.specs.Rows.{IsWindowFor}
 use Rattle.net_pairs.specs.Pairs.{IsBefore}
 use Rattle.gauges.specs.declared.pair_row.PairRow.{PairRow}
 use Rattle.pair_report.specs.PairRows.{pair_rows, rows_of_metal}
 use Rattle.pair_report.specs.declared.tables.PairTables.{PairTables}
-use Rattle.map_pairs.specs.NetNumbers.{AreNetStarts, IsOfNet}
+use Rattle.layout_nets.specs.NetNumbers.{AreNetStarts, IsOfNet}
 
 -- the defect of this side at the cell has a half square of each of the two nets with these numbers
 pub record TouchesNets (covers : ℕ → Cell → Type 0) (cuts : List Cut) (metal side : ℕ) (starts : List Cell) (one other : ℕ) (c : Cell) : Type 0 where

@@ -1,29 +1,19 @@
 //! Facts about the definitions, each the contract of a function that does nothing else.
 
 ghost use Rattle.std.specs.Prelude.{ℕ, List, [], All, Any, length, ◌<◌, ◌≡◌, ◌↔◌};
-ghost use Rattle.critical_areas.specs.Rows.{AreRows};
+ghost use Rattle.area_parts.specs.Rows.{AreRows};
 ghost use Rattle.fault_model.specs.Faults.{IsShort};
-ghost use Rattle.fault_model.specs.Nets.{Cut, IsSameNetOn};
 ghost use Rattle.first_refusal.specs.Laws.{IsUnique};
 ghost use Rattle.gauges.specs.declared.pair_row.PairRow.{PairRow};
 ghost use Rattle.geo_core.specs.declared.plane.Cell.{Cell};
-ghost use Rattle.geo_core.specs.declared.plane.Half.{Half};
 ghost use Rattle.map_model.specs.LayerMap.{LayerMap};
 ghost use Rattle.map_model.specs.Measures.{side_by};
-ghost use Rattle.map_pairs.specs.NetNumbers.{AreNetStarts, IsOfNet};
 ghost use Rattle.map_pairs.specs.PairAreas.{ArePairRows, TouchesSomeNets};
 ghost use Rattle.net_extract.specs.Cuts.{cuts_of};
 ghost use Rattle.questions.specs.declared.kind.Kind.TheVariants.{Short};
 ghost use Rattle.questions.specs.declared.row.Row.{Row};
 
 use fault_model::Layout;
-
-/// Two half squares of a metal have one number exactly where they are of one net.
-pub fn numbers_tell_nets<L: Layout>()
-    ensures { (cuts : List Cut) (metal : ℕ) (starts : List Cell) (one other : ℕ) (p q : Half) →
-        AreNetStarts L.covers cuts metal starts → IsOfNet L.covers cuts metal starts one p →
-        IsOfNet L.covers cuts metal starts other q → (one ≡ other) ↔ IsSameNetOn L.covers cuts metal p q }
-{}
 
 /// A layer map, what its layers cover and a size of defects have one list of rows of pairs at most.
 pub fn pair_rows_agree<L: Layout>()

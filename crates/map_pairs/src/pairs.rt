@@ -8,7 +8,7 @@ ghost use Rattle.net_pairs.specs.Pairs.{ArePairAreas};
 ghost use Rattle.map_pairs.specs.PairAreas.{ComeToPairs};
 ghost use Rattle.map_pairs.specs.inside.NumberedPairs.{AreMadeFor, AreNumberedPairs};
 
-use critical_areas::{MetalPieces, prepare, reach, window_of};
+use area_parts::{MetalPieces, prepare, reach, window_of};
 use geo_core::{Labelled, Rect};
 use lists::{Items, NoMemory};
 use map_model::{Layers, Map, Metal};

@@ -8,8 +8,8 @@ use Rattle.map_model.specs.declared.layers.Metal.{Metal}
 use Rattle.net_extract.specs.Cuts.{cuts_of}
 use Rattle.near_index.specs.declared.nearest.Nearest.{Nearest}
 use Rattle.net_numbers.specs.FirstCells.{AreFirstCells, HaveOwnCells, IsLabelCell, IsNumberOf, IsNumbered}
-use Rattle.critical_areas.specs.AreaParts.{ArePiecesOf}
-use Rattle.map_pairs.proofs.PieceNets.{own_cells}
+use Rattle.area_parts.specs.AreaParts.{ArePiecesOf}
+use Rattle.layout_nets.proofs.laws.PieceNets.{own_cells}
 use Rattle.map_probe.specs.NearestNets.{AreNearestNets}
 use Rattle.map_probe.specs.Probe.{IsToldOf}
 use Rattle.map_probe.specs.inside.NumberedNearest.{AreFoundFor, AreNearestNumbers, IsNamedAs}

@@ -13,10 +13,10 @@ use Rattle.near_index.specs.Nearest.{IsDistance, IsLabelDistance, IsNearest, IsN
 use Rattle.near_index.specs.declared.nearest.Near.{Near}
 use Rattle.near_index.specs.declared.nearest.Nearest.{Nearest}
 use Rattle.net_numbers.specs.FirstCells.{IsLabelCell, IsNumbered, IsNumberedPiece}
-use Rattle.critical_areas.specs.AreaParts.{ArePiecesOf}
-use Rattle.map_pairs.specs.NetNumbers.{IsOfNet}
-use Rattle.map_pairs.proofs.NumberedNets.{NumbersKeepCells, in_net, of_net}
-use Rattle.map_pairs.proofs.PieceNets.{starts_are}
+use Rattle.area_parts.specs.AreaParts.{ArePiecesOf}
+use Rattle.layout_nets.specs.NetNumbers.{IsOfNet}
+use Rattle.layout_nets.proofs.laws.NumberedNets.{NumbersKeepCells, in_net, of_net}
+use Rattle.layout_nets.proofs.laws.PieceNets.{starts_are}
 use Rattle.map_probe.specs.NearestNets.{AreNearestNets, HasNetWithin, IsNearestOfNets, IsNetDistance}
 
 -- the law of `near_index`: a cell has a distance to each rectangle

@@ -7,7 +7,7 @@ use Rattle.fault_model.specs.FaultNames.{Cut, IsOn, LiesIn}
 use Rattle.near_index.specs.Nearest.{IsNoLater, found_label}
 use Rattle.near_index.specs.declared.nearest.Near.{Near}
 use Rattle.near_index.specs.declared.nearest.Nearest.{Nearest}
-use Rattle.map_pairs.specs.NetNumbers.{AreNetStarts, IsOfNet}
+use Rattle.layout_nets.specs.NetNumbers.{AreNetStarts, IsOfNet}
 
 -- Below, `covers` says which cells each metal and each cut covers, and `starts` are the first cells of the metal's nets: the place
 -- of a net among them, counted from 0, is its number, which stands as the label of what is near.

@@ -6,7 +6,7 @@ ghost use Rattle.map_probe.specs.Probe.{ComeToProbe};
 ghost use Rattle.map_probe.specs.inside.NumberedNearest.{AreFoundFor, AreNearestNumbers};
 
 use super::metal_near::MetalNear;
-use critical_areas::{MetalPieces, prepare};
+use area_parts::{MetalPieces, prepare};
 use geo_core::{Cell, Labelled};
 use lists::NoMemory;
 use map_model::{Layers, Map, Metal};

@@ -9,11 +9,11 @@ use Rattle.net_extract.specs.Cuts.{cuts_of}
 use Rattle.questions.specs.declared.kind.Kind.{Kind}
 use Rattle.questions.specs.declared.kind.Kind.TheVariants.{Short, Open, Via}
 use Rattle.via_clusters.specs.Blocks.{CoversSomeBox}
-use Rattle.critical_areas.specs.AreaParts.{ArePartsOf}
-use Rattle.critical_areas.specs.AskedCounts.{IsCountedAs}
-use Rattle.critical_areas.specs.FaultKinds.{IsFault}
-use Rattle.critical_areas.specs.Rows.{IsWindowFor}
-use Rattle.critical_areas.specs.declared.parts.Parts.{Parts}
+use Rattle.area_parts.specs.AreaParts.{ArePartsOf}
+use Rattle.area_parts.specs.AskedCounts.{IsCountedAs}
+use Rattle.area_parts.specs.FaultKinds.{IsFault}
+use Rattle.area_parts.specs.Rows.{IsWindowFor}
+use Rattle.area_parts.specs.declared.parts.Parts.{Parts}
 use Rattle.map_regions.specs.Regions.{IsNumberFor, IsRegion}
 use Rattle.map_regions.specs.inside.FoundRects.{AreWantedRects}
 use Rattle.map_regions.proofs.CutFaults.{block_is}

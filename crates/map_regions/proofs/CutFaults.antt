@@ -13,9 +13,9 @@ use Rattle.map_model.specs.MapNames.{LayerMap, MappedCut}
 use Rattle.net_extract.specs.Cuts.{cut_of, cuts_of, numbered_cuts}
 use Rattle.questions.specs.declared.kind.Kind.TheVariants.{Via}
 use Rattle.via_clusters.specs.Blocks.{CoversSomeBox}
-use Rattle.critical_areas.specs.AreaParts.{ArePartsOf}
-use Rattle.critical_areas.specs.FaultKinds.{IsFault}
-use Rattle.critical_areas.specs.declared.parts.Parts.{Parts}
+use Rattle.area_parts.specs.AreaParts.{ArePartsOf}
+use Rattle.area_parts.specs.FaultKinds.{IsFault}
+use Rattle.area_parts.specs.declared.parts.Parts.{Parts}
 
 module _ (layer_map : LayerMap) (k : ℕ) (small : k < length layer_map.cuts) where
   -- the cut with its number

@@ -8,7 +8,7 @@ use Rattle.geo_core.specs.declared.plane.Labelled.{Labelled}
 use Rattle.fault_model.specs.FaultNames.{Cut, IsInFootprint, IsOn, IsShort}
 use Rattle.fault_model.proofs.FaultLaws.{none_at, short_at}
 use Rattle.short_area.specs.Labels.{TouchesLabel, TouchesTwoLabels}
-use Rattle.critical_areas.specs.AreaParts.{ArePiecesOf, IsInPieces}
+use Rattle.area_parts.specs.AreaParts.{ArePiecesOf, IsInPieces}
 
 -- a defect of radius 0 touches nothing
 pub touches_none : (pieces : List Labelled) (r : ℕ) (c : Cell) → r ≡ 0 → TouchesTwoLabels pieces r c → ⊥

@@ -13,8 +13,8 @@ use Rattle.net_extract.specs.declared.fault.NetFault.{NetFault}
 use Rattle.questions.specs.declared.kind.Kind.{Kind}
 use Rattle.questions.specs.declared.kind.Kind.TheVariants.{Via}
 use Rattle.skyline_runs.specs.Runs.{AreApart}
-use Rattle.critical_areas.specs.FaultKinds.{IsFault}
-use Rattle.critical_areas.specs.Rows.{IsWindowFor}
+use Rattle.area_parts.specs.FaultKinds.{IsFault}
+use Rattle.area_parts.specs.Rows.{IsWindowFor}
 
 -- the number is one that a question of this kind may name, of so many metals and cuts: that of a metal, or for via blocks that of a
 -- cut, which goes on behind those of the metals

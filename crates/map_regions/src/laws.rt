@@ -1,7 +1,7 @@
 //! Facts about the definitions, each the contract of a function that does nothing else.
 
 ghost use Rattle.std.specs.Prelude.{ℕ, List, Contains, Some, slice_get, ◌≡◌, ◌↔◌};
-ghost use Rattle.critical_areas.specs.Rows.{AreRows};
+ghost use Rattle.area_parts.specs.Rows.{AreRows};
 ghost use Rattle.geo_core.specs.Unions.{IsInUnion};
 ghost use Rattle.geo_core.specs.declared.plane.Cell.{Cell};
 ghost use Rattle.geo_core.specs.declared.plane.Rect.{Rect};

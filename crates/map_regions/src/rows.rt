@@ -4,12 +4,12 @@ ghost use Rattle.fault_model.specs.Areas.{cells_of, cells_of_window};
 ghost use Rattle.geo_core.specs.Bounds.{IsSide};
 ghost use Rattle.geo_core.specs.Cells.{IsInLayout};
 ghost use Rattle.map_model.specs.MapView.{layer_map_of};
-ghost use Rattle.critical_areas.specs.AskedCounts.{IsCountedAs};
+ghost use Rattle.area_parts.specs.AskedCounts.{IsCountedAs};
 ghost use Rattle.map_regions.specs.Regions.{ComeToRegion, IsNumberFor};
 ghost use Rattle.map_regions.specs.inside.FoundRects.{AreWantedRects};
 
 use super::kinds::{blocks, opens, shorts};
-use critical_areas::{Parts, prepare, reach, window_of};
+use area_parts::{Parts, prepare, reach, window_of};
 use geo_core::Rect;
 use lists::NoMemory;
 use map_model::{Layers, Map};

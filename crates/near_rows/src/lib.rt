@@ -1,8 +1,6 @@
-//! Worked rows on the two labels that are nearest to a cell. The crate has tests alone.
+//! The two labels that are nearest to a cell, of many pieces. Few pieces are rows of `area_calls`. The crate has tests alone.
 #![tactic(auto)]
 
-#[cfg(test)]
-mod few;
 #[cfg(test)]
 mod looks;
 #[cfg(test)]

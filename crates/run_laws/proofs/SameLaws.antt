@@ -14,7 +14,7 @@ use Rattle.map_pairs.proofs.laws.PairRowLaws.{rows_agree as pair_rows_agree}
 use Rattle.map_probe.specs.ProbeText.{probe_text}
 use Rattle.map_probe.proofs.laws.UniqueLaws.{probes_agree}
 use Rattle.map_regions.proofs.laws.RegionLaws.{count_alike, cover_alike}
-use Rattle.critical_areas.proofs.laws.UniqueLaws.{rows_agree}
+use Rattle.area_parts.proofs.laws.UniqueLaws.{rows_agree}
 use Rattle.questions.specs.declared.kind.Kind.{Kind}
 use Rattle.questions.specs.declared.row.Row.{Row}
 use Rattle.critarea_core.specs.Analysis.{AnalysisComesTo, has_rows, has_fault}

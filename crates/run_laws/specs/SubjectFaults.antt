@@ -4,8 +4,8 @@ use Rattle.geo_core.specs.declared.plane.Cell.{Cell}
 use Rattle.geo_core.specs.declared.plane.Rect.{Rect}
 use Rattle.map_model.specs.MapNames.{side_by}
 use Rattle.questions.specs.declared.kind.Kind.{Kind}
-use Rattle.critical_areas.specs.FaultKinds.{IsFault}
-use Rattle.critical_areas.specs.Rows.{IsWindowFor}
+use Rattle.area_parts.specs.FaultKinds.{IsFault}
+use Rattle.area_parts.specs.Rows.{IsWindowFor}
 use Rattle.critarea_core.specs.Coverage.{IsCoveredOn}
 use Rattle.critarea_core.specs.Layout.{Subject}
 

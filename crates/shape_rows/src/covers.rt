@@ -8,6 +8,5 @@ mod path_rows;
 mod rows;
 mod spirals;
 mod stream;
-mod texts;
 mod wanted;
 mod wholes;

@@ -1,10 +1,7 @@
-//! Worked rows on shapes: what they cover, what libraries of them place, and the layouts that are generated. The crate has
-//! tests alone.
+//! Worked rows on shapes: what they cover, and what large libraries of them place. The crate has tests alone.
 #![tactic(auto)]
 
 #[cfg(test)]
 mod covers;
-#[cfg(test)]
-mod generated;
 #[cfg(test)]
 mod places;

@@ -1,9 +1,7 @@
-//! Rows on placements: what small libraries place, the limits and one more of each, the text of each fault, and layouts
-//! that ask for much more than they place.
+//! Placements at the limits and one more of each, and of layouts that ask for much more than they place. Rows on small
+//! libraries are in the tables of `input_calls`.
 
 mod hostile;
 mod limits;
-mod rows;
+mod parts;
 mod stream;
-mod texts;
-mod tops;

@@ -1,5 +1,5 @@
-//! Worked rows on tiles: the plan of a window's tiles and what is near them, the board that hands out their numbers, and
-//! workers that share a board. The crate has tests alone.
+//! Worked rows on tiles: what is near them, of many pieces, the board that hands out their numbers, and workers that share a board.
+//! Plans of tiles, and what is near one, are rows of `area_calls`. The crate has tests alone.
 #![tactic(auto)]
 
 #[cfg(test)]

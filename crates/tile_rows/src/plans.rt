@@ -1,7 +1,4 @@
-//! Worked rows on the tiles of a window and on what is near them. Each row's answer was worked out by hand.
+//! What is near the tiles of a window, of many pieces.
 
 mod found;
 mod indexes;
-mod nearby;
-mod sides;
-mod tiles;

@@ -1,7 +1,6 @@
 //! Runs on devices that fail, at each call and each byte in turn, and on devices that give and take one byte a call.
 
 use super::gauge_kinds::Gauges;
-use super::maps::{AT_1, CUT, METALS};
 use super::reports::{Report, text_of};
 use super::runs::{
     Failing, Given, ONE_METAL, PAIRS, Want, answers, calm, expect, files_of, mapped, push_words,
@@ -90,13 +89,19 @@ const BARS_UNDER_A_STRAP: &[Plate] = &[
     (2, 0, (0, 8, 2, 10)),
 ];
 
+/// Two metals.
+const METALS: &[u8] = b"metal=[{name=\"m1\",pairs=[[1,0]]},{name=\"m2\",pairs=[[3,0]]}]\n";
+
+/// A cut between the two.
+const CUT: &[u8] = b"cut=[{name=\"v1\",pairs=[[2,0]],lower=\"m1\",upper=\"m2\"}]\n";
+
 /// Their report at the radius 5: a defect of side 10 covers a box of 2 by 2 cells from 8 by 8 cells.
 const REPORT: Report = Report {
+    layers: &["short m1", "short m2", "open m1", "open m2", "via v1"],
     sizes: &[(5, 1)],
     areas: &[("via v1", 5, 128)],
     totals: [0, 0, 128, 128],
     peak: ("via v1", 5, 128),
-    ..AT_1
 };
 
 /// The line of a map that is no document.

@@ -1,7 +1,7 @@
 use gauge_samples::{
     GaugeKind, Mute, MutePairs, PairAreas, PairGaugeKind, Silent, Tight, TightPairs,
 };
-use gauges::{Gauge, Nonzero, PairGauge, Peak, Worst, append_pair_texts, append_texts};
+use gauges::{Gauge, Nonzero, PairGauge, Peak, Worst};
 use std::alloc::{AllocError, Global};
 
 /// The gauges of a run.
@@ -48,21 +48,6 @@ impl Gauges {
             self.pairs.push(boxed_pairs(alloc, *kind)?)?;
         }
         Ok(())
-    }
-
-    /// Whether this is what those that are told rows of a report print, as far as they print.
-    pub fn print(&self, alloc: Global, text: &str) -> bool {
-        let mut into = Vec::new(alloc);
-        // a gauge that refuses to print leaves what the others have printed
-        let _printed = append_texts(self.rows.as_slice(), &mut into);
-        into.as_slice() == text.as_bytes()
-    }
-
-    /// Whether this is what those that are told rows of pairs print, as far as they print.
-    pub fn print_pairs(&self, alloc: Global, text: &str) -> bool {
-        let mut into = Vec::new(alloc);
-        let _printed = append_pair_texts(self.pairs.as_slice(), &mut into);
-        into.as_slice() == text.as_bytes()
     }
 }
 

@@ -1,5 +1,10 @@
 use super::reports::Report;
-use super::runs::{RADIUS_3, Want, answers, expect, layout_answers, mapped};
+use super::runs::{
+    Failing, Given, ONE_METAL, PAIRS, RADIUS_3, Want, answers, calm, expect, layout_answers,
+    mapped, run_on,
+};
+use critarea_core::NoGate;
+use lists::NoMemory;
 use samples::layouts::{Plate, plates};
 use std::alloc::{AllocError, Global};
 use std::thread::Threads;
@@ -15,7 +20,7 @@ fn row_of_squares(alloc: Global, count: u32) -> Result<Vec<Plate>, AllocError> {
 }
 
 /// The file of so many squares in a row.
-pub fn row_layout(alloc: Global, count: u32) -> Result<Vec<u8>, AllocError> {
+fn row_layout(alloc: Global, count: u32) -> Result<Vec<u8>, AllocError> {
     let squares = row_of_squares(alloc, count)?;
     plates(alloc, squares.as_slice())
 }
@@ -110,4 +115,64 @@ fn island_answers(rt: &(impl Threads + Sync), alloc: Global) -> Result<bool, All
 #[test]
 fn islands_are_large(rt: HostRuntime) {
     assert!(rt; island_answers(&rt, rt.alloc()) == Ok(true));
+}
+
+/// The text for so many squares in a row, 4 apart: each is near the next one at the 32 cells of the two bars, and near no other.
+fn text_of_row(alloc: Global, count: u32) -> Result<String, AllocError> {
+    let mut text = String::new(alloc);
+    for number in 1..count {
+        write!(text, "pair m {} {number} r=3 area=32\n", number - 1)?;
+    }
+    write!(
+        text,
+        "pairs {}\nworst m 0 1 r=3 area=32\n",
+        count.saturating_sub(1)
+    )?;
+    Ok(text)
+}
+
+/// Whether a run on so many squares in a row writes their text.
+fn row_is_right(rt: &(impl Threads + Sync), alloc: Global, count: u32) -> Result<bool, NoMemory> {
+    let layout = row_layout(alloc, count)?;
+    let text = text_of_row(alloc, count)?;
+    let given = Given {
+        words: PAIRS,
+        layout: layout.as_slice(),
+        map: ONE_METAL,
+        failing: Failing::OutPast(text.len()),
+    };
+    let answer = run_on(rt, alloc, &given, &NoGate)?;
+    Ok(answer.has(0, text.as_str(), ""))
+}
+
+/// More pairs than a text of 65,535 bytes has, in order by their numbers and not by their digits.
+#[test]
+fn pairs_of_many_nets_stand_by_their_numbers(rt: HostRuntime) {
+    assert!(rt; row_is_right(&rt, rt.alloc(), 3_000) == Ok(true));
+}
+
+/// The report on a generated layout of 500 columns and 500 rows, the most that may be: 1,000,000 shapes. Of n columns and n rows a
+/// defect of radius 5 touches two wires of the first metal at (20 n + 2) (2 n - 2) + (18 n + 4) (8 n - 2) cells, and two of the second
+/// at 28 n (n - 1). There are n * n contacts of 2 by 2 cells, each of which is covered from 4 cells at the radius 2 and from 64 at the
+/// radius 5. The wire with both terminals is cut from 18 cells and from 174, as many as where it stands alone.
+const FIVE_HUNDRED: Want = Want::Rows(Report {
+    layers: &["short m1", "short m2", "open m1", "open m2", "via v1"],
+    sizes: &[(2, 10), (5, 1)],
+    areas: &[
+        ("short m1", 5, 45_979_988),
+        ("short m2", 5, 6_986_000),
+        ("open m1", 2, 18),
+        ("open m1", 5, 174),
+        ("via v1", 2, 1_000_000),
+        ("via v1", 5, 16_000_000),
+    ],
+    totals: [52_965_988, 354, 26_000_000, 78_966_342],
+    peak: ("short m1", 5, 45_979_988),
+});
+
+/// As many shapes as may be.
+#[test]
+fn generated_layouts_are_large(rt: HostRuntime) {
+    let given = calm("--generate 500", b"");
+    expect(&rt, answers(&rt, rt.alloc(), &given, &FIVE_HUNDRED), 500);
 }

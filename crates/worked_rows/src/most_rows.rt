@@ -1,11 +1,16 @@
 //! A report of as many rows as may be, 1,536: of 16 metals, 16 cuts and 32 radii, of which none has the area 0.
 
-use super::rows::{LEFT, RIGHT};
 use super::runs::{Failing, Given, expect, mapped, run_on};
 use critarea_core::NoGate;
 use samples::layouts::{Plate, plates};
+use samples::sides::Sides;
 use std::alloc::{AllocError, Global};
 use std::thread::Threads;
+
+/// The two bars.
+const LEFT: Sides = (0, 0, 10, 10);
+
+const RIGHT: Sides = (14, 0, 24, 10);
 
 /// The kinds of faults.
 #[derive(Clone, Copy)]
@@ -147,8 +152,8 @@ const FAR_CORNERS: [Plate; 2] = [
 fn shapes(alloc: Global) -> Result<Vec<Plate>, AllocError> {
     let mut shapes = Vec::new(alloc);
     for number in 10..26 {
-        shapes.push((number, 0, LEFT.2))?;
-        shapes.push((number, 0, RIGHT.2))?;
+        shapes.push((number, 0, LEFT))?;
+        shapes.push((number, 0, RIGHT))?;
         shapes.push((number + 100, 0, (0, 0, 2, 2)))?;
     }
     Ok(shapes)

@@ -7,14 +7,8 @@ use std::alloc::{AllocError, Global};
 use std::process::Abort;
 use std::thread::Threads;
 
-/// The words that ask for the areas of layer 1 and datatype 0 at the radius 2.
-pub const RADIUS_2: &str = "a --layer 1 --datatype 0 --radius 2";
-
 /// The same at the radius 3.
 pub const RADIUS_3: &str = "a --layer 1 --datatype 0 --radius 3";
-
-/// The same at the radius 4.
-pub const RADIUS_4: &str = "a --layer 1 --datatype 0 --radius 4";
 
 /// The words that ask for the areas by pairs of nets at the first size of the map `m`.
 pub const PAIRS: &str = "a --map m --pairs 1";
@@ -23,60 +17,24 @@ pub const PAIRS: &str = "a --map m --pairs 1";
 pub const ONE_METAL: &[u8] =
     b"version = 1\nradii = [3]\nweights = [1]\nmetal = [{ name = \"m\", pairs = [[1, 0]] }]\n";
 
-/// The text of pairs for the two bars with this map.
-pub const PAIR_32: &str = "pair m 0 1 r=3 area=32\npairs 1\nworst m 0 1 r=3 area=32\n";
-
 /// What the words of the radius 3 are answered for the two bars.
 pub const SHORT_32: Want = Want::Short(3, 32);
-
-/// What they are answered where no two nets are near one another.
-pub const NO_SHORT: Want = Want::Short(3, 0);
 
 /// What fails in a run.
 #[derive(Clone, Copy)]
 pub enum Failing {
     /// Nothing does.
     Nothing,
-    /// The calls of the files with these numbers, counted from 0.
-    Files(&'static [u64]),
-    /// The first call of the output.
-    Out,
     /// The output past so many bytes.
     OutPast(usize),
-    /// The first call of the error output.
-    ErrorOut,
 }
 
 impl Failing {
-    /// The numbers of the calls of the files that fail.
-    fn calls_of_files(&self) -> &'static [u64] {
-        match self {
-            Failing::Files(calls) => calls,
-            _ => &[],
-        }
-    }
-
     /// How many bytes the output takes.
     fn room(&self) -> usize {
         match self {
             Failing::OutPast(room) => *room,
-            _ => 1000,
-        }
-    }
-
-    /// The numbers of the calls of the output that fail.
-    fn calls_of_out(&self) -> &'static [u64] {
-        match self {
-            Failing::Out => &[0],
-            _ => &[],
-        }
-    }
-
-    /// The numbers of the calls of the error output that fail.
-    fn calls_of_error_out(&self) -> &'static [u64] {
-        match self {
-            Failing::ErrorOut => &[0],
-            _ => &[],
+            Failing::Nothing => 1000,
         }
     }
 }
@@ -153,18 +111,12 @@ fn line_of(alloc: Global, number: u8, place: usize) -> Result<String, AllocError
 pub enum Want {
     /// This report.
     Rows(Report),
-    /// The report with this text, or this text of pairs of nets or of a probe.
-    Text(&'static str),
     /// The report of shorts: the radius of defects, and the area.
     Short(u32, u64),
-    /// The words are refused.
-    BadWords,
     /// The map is refused, or the size that the words name: the number of what is wrong, and its place.
     BadMap(u8, usize),
     /// The layout is refused: the number of what is wrong, and the offset at which it shows.
     BadLayout(u8, usize),
-    /// A file or an output failed, and nothing was written.
-    Fault,
 }
 
 impl Want {
@@ -172,12 +124,9 @@ impl Want {
     fn is(&self, alloc: Global, answer: &Answer) -> bool {
         match self {
             Want::Rows(report) => answer.reports(text_of(alloc, report)),
-            Want::Text(report) => answer.has(0, report, ""),
             Want::Short(radius, area) => answer.reports(report_of(alloc, *radius, *area)),
-            Want::BadWords => answer.refuses(alloc, 2, 2, 0),
             Want::BadMap(number, place) => answer.refuses(alloc, 3, *number, *place),
             Want::BadLayout(number, place) => answer.refuses(alloc, 4, *number, *place),
-            Want::Fault => answer.has(5, "", ""),
         }
     }
 }
@@ -238,25 +187,17 @@ fn push_files(
 
 /// The files of the run.
 pub fn files_of(alloc: Global, given: &Given<'_>) -> Result<MemFiles, AllocError> {
-    let fails = Vec::from_slice(alloc, given.failing.calls_of_files())?;
-    let mut files = MemFiles::new(Vec::new(alloc), fails);
+    let mut files = MemFiles::new(Vec::new(alloc), Vec::new(alloc));
     push_files(alloc, &mut files.files, given)?;
     Ok(files)
 }
 
-/// A sink that takes so many bytes. Its calls of these numbers fail.
-fn sink(alloc: Global, room: usize, fails: &[u64]) -> Result<MemSink, NoMemory> {
-    MemSink::with(alloc, room, Vec::from_slice(alloc, fails)?)
-}
-
 /// What a run has answered before it begins.
 fn no_answer(alloc: Global, failing: Failing) -> Result<Answer, NoMemory> {
-    let out = sink(alloc, failing.room(), failing.calls_of_out())?;
-    let err = sink(alloc, 1000, failing.calls_of_error_out())?;
     Ok(Answer {
         status: 0,
-        out,
-        err,
+        out: MemSink::with(alloc, failing.room(), Vec::new(alloc))?,
+        err: MemSink::with(alloc, 1000, Vec::new(alloc))?,
     })
 }
 

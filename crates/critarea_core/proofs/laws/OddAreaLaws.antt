@@ -7,7 +7,7 @@ use Rattle.fault_model.proofs.TallyLaws.{Tally-same_all}
 use Rattle.map_model.specs.MapNames.{LayerMap}
 use Rattle.net_extract.specs.Cuts.{cuts_of, terminal_cuts_of}
 use Rattle.questions.specs.declared.kind.Kind.TheVariants.{Open, Short, Via}
-use Rattle.critical_areas.specs.FaultKinds.{IsFault}
+use Rattle.area_parts.specs.FaultKinds.{IsFault}
 use Rattle.critarea_core.proofs.laws.OddSideLaws.{vias_open_alike}
 
 -- what holds of the same cells has the same tally

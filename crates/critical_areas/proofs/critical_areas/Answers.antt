@@ -8,11 +8,11 @@ use Rattle.map_model.specs.MapNames.{layer_map_of}
 use Rattle.net_extract.specs.Extraction.{IsOnItsMetal, off_metal}
 use Rattle.net_extract.specs.declared.fault.NetFault.TheVariants.{Memory}
 use Rattle.questions.specs.declared.row.Row.{Row}
-use Rattle.critical_areas.specs.AreaParts.{ArePartsOf}
-use Rattle.critical_areas.specs.Rows.{AreRows}
+use Rattle.area_parts.specs.AreaParts.{ArePartsOf}
+use Rattle.area_parts.specs.Rows.{AreRows}
 use Rattle.critical_areas.specs.inside.CountedRows.{AreCountedRows}
 use Rattle.critical_areas.proofs.RowLaws.{rows_are}
-use Rattle.critical_areas.proofs.WindowLaws.{Covered}
+use Rattle.area_parts.proofs.laws.WindowLaws.{Covered}
 use Rattle.critical_areas.proofs.critical_areas.Goals as goal
 
 pub returns-in_err-parts-clause-rows : goal.returns-in_err-parts-clause-rows

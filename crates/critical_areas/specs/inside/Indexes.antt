@@ -9,7 +9,7 @@ use Rattle.questions.specs.Questions.{side_of}
 use Rattle.questions.specs.declared.kind.Kind.TheVariants.{Open}
 use Rattle.questions.specs.declared.question.Question.{Question}
 use Rattle.critical_areas.specs.declared.apart.Apart.{Apart}
-use Rattle.critical_areas.specs.declared.parts.Parts.{Parts}
+use Rattle.area_parts.specs.declared.parts.Parts.{Parts}
 use Rattle.critical_areas.specs.inside.IslandsApart.{AreApart, IsOneOpen, none_apart}
 
 -- each list has the items of the one with its number, in an order of its own; there may be fewer lists, or none

@@ -3,8 +3,8 @@ use Rattle.std.specs.Prelude.{ℕ, List, Some, slice_get, ◌≡◌}
 use Rattle.questions.specs.declared.question.Question.{Question}
 use Rattle.tile_plan.specs.TileTallies.{IsTallyOfTile}
 use Rattle.tile_plan.specs.declared.tiles.TilePlan.{TilePlan}
-use Rattle.critical_areas.specs.AskedCounts.{IsCounted}
-use Rattle.critical_areas.specs.declared.parts.Parts.{Parts}
+use Rattle.area_parts.specs.AskedCounts.{IsCounted}
+use Rattle.area_parts.specs.declared.parts.Parts.{Parts}
 
 -- questions, the parts of which they are asked, and the tiles over which they are counted
 pub record Work : Type 0 where

@@ -11,7 +11,7 @@ use Rattle.map_model.specs.MapNames.{LayerMap, MappedLayer, reach_of, side_by}
 use Rattle.questions.specs.Questions.{metal_layers}
 use Rattle.net_extract.specs.Cuts.{cuts_of}
 use Rattle.gauges.specs.declared.pair_row.PairRow.{PairRow}
-use Rattle.map_pairs.specs.NetNumbers.{AreNetStarts, AreOfOneNet, IsNetStart, IsOfNet}
+use Rattle.layout_nets.specs.NetNumbers.{AreNetStarts, AreOfOneNet, IsNetStart, IsOfNet}
 use Rattle.map_pairs.specs.PairAreas.{ArePairRows, ArePairsOn, TouchesNets}
 
 -- what covers at least as much has at least the same half squares of one net

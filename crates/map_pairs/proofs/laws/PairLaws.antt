@@ -6,7 +6,7 @@ use Rattle.fault_model.proofs.TallyLaws.{Tally-counts, Tally-some, Tally-unique}
 use Rattle.net_pairs.specs.Pairs.{IsBefore}
 use Rattle.net_numbers.proofs.ListLaws.{same_when_rising}
 use Rattle.map_pairs.specs.PairAreas.{ArePairsOn, TouchesNets}
-use Rattle.map_pairs.proofs.laws.StartLaws.{starts_agree}
+use Rattle.layout_nets.proofs.laws.StartLaws.{starts_agree}
 
 -- two nets by their numbers, and an area
 abbrev pub Item : Type 0

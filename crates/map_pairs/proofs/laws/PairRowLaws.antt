@@ -14,7 +14,7 @@ use Rattle.gauges.specs.declared.pair_row.PairRow.{PairRow}
 use Rattle.net_extract.specs.Cuts.{cuts_of}
 use Rattle.pair_report.specs.PairRows.{pair_row, rows_of_metal}
 use Rattle.map_pairs.specs.PairAreas.{ArePairRows, ArePairsOn, TouchesSomeNets}
-use Rattle.map_pairs.proofs.laws.BesideLaws.{beside_item, both_beside, none_listed, one_beside}
+use Rattle.layout_nets.proofs.laws.BesideLaws.{beside_item, both_beside, none_listed, one_beside}
 use Rattle.map_pairs.proofs.laws.MetalLaws.{no_pairs_no_shorts, no_shorts_no_pairs, shorts_are_touches}
 use Rattle.map_pairs.proofs.laws.PairLaws.{Item, pairs_agree}
 

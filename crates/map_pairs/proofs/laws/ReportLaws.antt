@@ -13,10 +13,10 @@ use Rattle.questions.specs.declared.question.Question.{Question}
 use Rattle.questions.specs.declared.row.Row.{Row}
 use Rattle.gauges.specs.declared.pair_row.PairRow.{PairRow}
 use Rattle.net_extract.specs.Cuts.{cuts_of}
-use Rattle.critical_areas.specs.Rows.{Answers, AreRows}
+use Rattle.area_parts.specs.Rows.{Answers, AreRows}
 use Rattle.map_pairs.specs.PairAreas.{ArePairRows, TouchesSomeNets}
 use Rattle.map_pairs.proofs.laws.AskedLaws.{reach_of_listed, short_asked, shorts_are_asked}
-use Rattle.map_pairs.proofs.laws.BesideLaws.{beside_item, item_beside}
+use Rattle.layout_nets.proofs.laws.BesideLaws.{beside_item, item_beside}
 use Rattle.map_pairs.proofs.laws.PairRowLaws.{none_row, none_short, short_is_touch}
 
 module _ (layer_map : LayerMap) (covers : ℕ → Cell → Type 0) (size : ℕ) (listed : Any (λ (one : DefectSize). one.size ≡ size) layer_map.sizes)

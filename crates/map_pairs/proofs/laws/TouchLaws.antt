@@ -4,10 +4,10 @@ use Rattle.lists.proofs.Words.{cases_lt, slice_get_within}
 use Rattle.paths.proofs.PathLaws.{last}
 use Rattle.geo_core.specs.declared.plane.Cell.{Cell}
 use Rattle.fault_model.specs.FaultNames.{Cut, IsShort}
-use Rattle.map_pairs.specs.NetNumbers.{AreNetStarts, IsOfNet}
+use Rattle.layout_nets.specs.NetNumbers.{AreNetStarts, IsOfNet}
 use Rattle.map_pairs.specs.PairAreas.{TouchesNets}
 use Rattle.map_pairs.proofs.laws.SearchLaws.{search_below}
-use Rattle.map_pairs.proofs.laws.StartLaws.{none_lacks_number, same_net, same_number}
+use Rattle.layout_nets.proofs.laws.StartLaws.{none_lacks_number, same_net, same_number}
 
 module _ (covers : ℕ → Cell → Type 0) (cuts : List Cut) (m side : ℕ) (starts : List Cell) (are : AreNetStarts covers cuts m starts) (c : Cell) where
   abbrev Touches : ℕ → ℕ → Type 0

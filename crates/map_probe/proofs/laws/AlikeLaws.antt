@@ -11,7 +11,7 @@ use Rattle.net_extract.specs.Cuts.{cuts_of}
 use Rattle.near_index.specs.Nearest.{found_label}
 use Rattle.near_index.specs.declared.nearest.Near.{Near}
 use Rattle.near_index.specs.declared.nearest.Nearest.{Nearest}
-use Rattle.map_pairs.specs.NetNumbers.{AreNetStarts, AreOfOneNet, IsNetStart, IsOfNet}
+use Rattle.layout_nets.specs.NetNumbers.{AreNetStarts, AreOfOneNet, IsNetStart, IsOfNet}
 use Rattle.map_probe.specs.NearestNets.{AreNearestNets, HasNetWithin, IsNearestOfNets, IsNetDistance}
 use Rattle.map_probe.specs.Probe.{IsProbe, IsToldOf}
 use Rattle.map_probe.specs.declared.metal_near.MetalNear.{MetalNear}

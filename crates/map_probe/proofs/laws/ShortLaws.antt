@@ -15,8 +15,8 @@ use Rattle.fault_model.proofs.SizeLaws.{reached, touched}
 use Rattle.near_index.specs.Nearest.{IsNoLater, found_label}
 use Rattle.near_index.specs.declared.nearest.Near.{Near}
 use Rattle.near_index.specs.declared.nearest.Nearest.{Nearest}
-use Rattle.map_pairs.specs.NetNumbers.{AreNetStarts, IsOfNet}
-use Rattle.map_pairs.proofs.laws.StartLaws.{same_net, same_number}
+use Rattle.layout_nets.specs.NetNumbers.{AreNetStarts, IsOfNet}
+use Rattle.layout_nets.proofs.laws.StartLaws.{same_net, same_number}
 use Rattle.map_probe.specs.NearestNets.{AreNearestNets, HasNetWithin, IsNearestNet, IsNearestOfNets, IsNetDistance}
 
 wider : (a b : ℤ) (by more : ℕ) → by ≤ more → IsWithin a b (pos by) → IsWithin a b (pos more)

@@ -9,8 +9,8 @@ use Rattle.net_extract.specs.Cuts.{cuts_of}
 use Rattle.near_index.specs.Nearest.{IsNoLater, found_label}
 use Rattle.near_index.specs.declared.nearest.Near.{Near}
 use Rattle.near_index.specs.declared.nearest.Nearest.{Nearest}
-use Rattle.map_pairs.proofs.laws.BesideLaws.{one_beside}
-use Rattle.map_pairs.proofs.laws.StartLaws.{starts_agree}
+use Rattle.layout_nets.proofs.laws.BesideLaws.{one_beside}
+use Rattle.layout_nets.proofs.laws.StartLaws.{starts_agree}
 use Rattle.map_probe.specs.NearestNets.{AreNearestNets, IsNearestOfNets}
 use Rattle.map_probe.specs.Probe.{IsProbe, IsToldOf}
 use Rattle.map_probe.specs.declared.metal_near.MetalNear.{MetalNear}

@@ -9,7 +9,7 @@ use Rattle.map_model.specs.MapNames.{LayerMap, reach_of, side_by}
 use Rattle.net_extract.specs.Cuts.{cuts_of, terminal_cuts_of}
 use Rattle.questions.specs.declared.kind.Kind.{Kind}
 use Rattle.questions.specs.declared.kind.Kind.TheVariants.{Short, Open, Via}
-use Rattle.critical_areas.specs.FaultKinds.{IsFault}
+use Rattle.area_parts.specs.FaultKinds.{IsFault}
 use Rattle.map_regions.specs.Regions.{IsRegion}
 
 module _ (layer_map : LayerMap) where

@@ -15,8 +15,8 @@ use Rattle.questions.specs.Questions.{IsRowFor, questions}
 use Rattle.questions.specs.declared.kind.Kind.{Kind}
 use Rattle.questions.specs.declared.question.Question.{Question}
 use Rattle.questions.specs.declared.row.Row.{Row}
-use Rattle.critical_areas.specs.FaultKinds.{IsFault}
-use Rattle.critical_areas.specs.Rows.{Answers, AreRows}
+use Rattle.area_parts.specs.FaultKinds.{IsFault}
+use Rattle.area_parts.specs.Rows.{Answers, AreRows}
 use Rattle.map_regions.specs.Regions.{IsRegion, cell_count}
 use Rattle.map_regions.proofs.laws.AskedLaws.{asked, same_number}
 use Rattle.map_regions.proofs.laws.CountLaws.{tally_is_count}

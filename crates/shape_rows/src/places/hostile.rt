@@ -1,6 +1,6 @@
 //! Layouts of very many references and very many structures.
 
-use super::rows::{A, B, CELL, MANY_OF_B, MAPPED, MILLION, TOP, UNMAPPED};
+use super::parts::{A, B, CELL, MANY_OF_B, MAPPED, MILLION, TOP, UNMAPPED};
 use super::stream::{Name, Outcome, Part, begun, comes_to, push_structure};
 use flatten::PlaceFault;
 use std::alloc::{AllocError, Global};

@@ -1,6 +1,6 @@
 //! As many points as may be placed, and one more.
 
-use super::rows::{CELL, TOO_MANY, TOP};
+use super::parts::{CELL, TOO_MANY, TOP};
 use super::stream::{Outcome, Part, begun, comes_to, push_structure};
 use samples::layouts::Corner;
 use std::alloc::{AllocError, Global};

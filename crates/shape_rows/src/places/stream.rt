@@ -1,6 +1,6 @@
 //! Streams of a few structures, and what they place.
 
-use flatten::{PlaceFault, Placed, place, tops_of};
+use flatten::{PlaceFault, Placed, place};
 use gds_syntax::read_library;
 use map_model::{Map, one_metal};
 use samples::layouts::{Corner, push_points};
@@ -27,9 +27,6 @@ pub enum Part<'a> {
         points: [Corner; 3],
     },
 }
-
-/// A structure: its name, and what it has. The elements of the first structure begin at 96.
-pub type Structure<'a> = (Name, &'a [Part<'a>]);
 
 /// BOUNDARY, and LAYER but for its number's last byte.
 const BOUNDARY: &[u8] = b"\x00\x04\x08\x00\x00\x06\x0D\x02\x00";
@@ -97,44 +94,19 @@ pub fn begun(alloc: Global) -> Result<Vec<u8>, AllocError> {
     Vec::from_slice(alloc, HEAD)
 }
 
-/// A library of these structures, but for its end.
-fn library_of(alloc: Global, structures: &[Structure<'_>]) -> Result<Vec<u8>, AllocError> {
-    let mut bytes = begun(alloc)?;
-    for (name, parts) in structures {
-        push_structure(&mut bytes, *name, parts)?;
-    }
-    Ok(bytes)
-}
-
 /// What a library has to come to.
 #[derive(Clone, Copy)]
 pub enum Outcome {
     /// So many shapes are placed.
     Count(usize),
-    /// Shapes are placed here, turned by a quarter.
-    Quarters(&'static [(i64, i64)]),
     /// Nothing is placed, by this fault.
     Fault(PlaceFault),
-}
-
-/// Whether the shapes are turned by a quarter, and lie at these places.
-fn lie_at(placed: &[Placed], places: &[(i64, i64)]) -> bool {
-    if placed.len() != places.len() {
-        return false;
-    }
-    for (shape, place) in placed.iter().zip(places) {
-        if shape.turn.quarters != 1 || (shape.dx, shape.dy) != *place {
-            return false;
-        }
-    }
-    true
 }
 
 /// Whether the placed shapes are as they have to be.
 fn are_wanted(placed: &[Placed], wanted: Outcome) -> bool {
     match wanted {
         Outcome::Count(count) => placed.len() == count,
-        Outcome::Quarters(places) => lie_at(placed, places),
         Outcome::Fault(_) => false,
     }
 }
@@ -182,28 +154,6 @@ pub fn comes_to(
 ) -> bool {
     match ended(made) {
         Ok(bytes) => places(alloc, bytes.as_slice(), top, wanted),
-        Err(_) => false,
-    }
-}
-
-/// Whether a library of these structures comes to that.
-pub fn structures_come_to(alloc: Global, structures: &[Structure<'_>], wanted: Outcome) -> bool {
-    comes_to(alloc, library_of(alloc, structures), None, wanted)
-}
-
-/// Whether these are the numbers of the structures of a library that no reference names.
-pub fn tops_are(alloc: Global, structures: &[Structure<'_>], wanted: &[u32]) -> bool {
-    let Ok(bytes) = ended(library_of(alloc, structures)) else {
-        return false;
-    };
-    if bytes.len() > 268_435_456 {
-        return false;
-    }
-    match read_library(alloc, bytes.as_slice()) {
-        Ok(library) => match tops_of(alloc, &library) {
-            Ok(tops) => tops.as_slice() == wanted,
-            Err(_) => false,
-        },
         Err(_) => false,
     }
 }

@@ -2,7 +2,7 @@ use Rattle.std.proofs.Common.{◌∙◌, ap, length, option_copied}
 use Rattle.std.proofs.lemmas.Result.{err_from_is_err_and}
 use Rattle.first_refusal.specs.Outcomes.{Then, goes_on}
 use Rattle.map_model.specs.MapNames.{LayerMap, layers_of, layer_map_of}
-use Rattle.critical_areas.specs.Rows.{AreRows}
+use Rattle.area_parts.specs.Rows.{AreRows}
 use Rattle.geo_core.specs.Plane.{IsCoveredIn}
 use Rattle.net_extract.specs.declared.fault.NetFault.TheVariants.{Memory}
 use Rattle.critarea_core.specs.declared.layout_fault.LayoutFault.TheVariants.{Net}

@@ -1,6 +1,6 @@
 use Rattle.std.proofs.Common.{[], refl, sym, ap, ◌∙◌, length, take_all, get_or, arith}
 use Rattle.lists.proofs.Words.{zip, slice_get-get_or, slice_get_read, length-zip}
-use Rattle.critical_areas.proofs.laws.ListLaws.{read_list}
+use Rattle.area_parts.proofs.laws.ListLaws.{read_list}
 use Rattle.critarea_core.specs.inside.LayoutReaders.{rects_on}
 use Rattle.critarea_core.proofs.LayerLaws.{next_on, next_off}
 use Rattle.critarea_core.proofs.layers.rects_on.Goals as goal

@@ -2,8 +2,8 @@ use Rattle.std.proofs.Common.{◌∙◌, ap, arith, length, subst}
 use Rattle.lists.proofs.Words.{AllZip-long, IfOk-weaker}
 use Rattle.fault_model.specs.FaultNames.{Tally, cells_of_window}
 use Rattle.questions.specs.Questions.{IsRowFor}
-use Rattle.critical_areas.specs.AskedCounts.{IsCounted}
-use Rattle.critical_areas.specs.Rows.{AreRowsOf}
+use Rattle.area_parts.specs.AskedCounts.{IsCounted}
+use Rattle.area_parts.specs.Rows.{AreRowsOf}
 use Rattle.critical_areas.specs.inside.CountedRows.{AreCountedRows}
 use Rattle.critical_areas.proofs.answering.counted_rows.Goals as goal
 

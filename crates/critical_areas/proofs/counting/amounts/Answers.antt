@@ -2,7 +2,7 @@ use Rattle.std.proofs.Common.{◌<◌, ◌^◌, ◌∙◌, All, IfOk, Option, sy
 use Rattle.lists.proofs.Words.{IfOk-weaker, eqb-true}
 use Rattle.geo_core.specs.declared.plane.Rect.{Rect}
 use Rattle.fault_model.specs.FaultNames.{cells_of_window}
-use Rattle.critical_areas.specs.AskedCounts.{AreCounted}
+use Rattle.area_parts.specs.AskedCounts.{AreCounted}
 use Rattle.critical_areas.proofs.CountingLaws.{counted_small, none_counted, nothing_asked}
 use Rattle.critical_areas.proofs.counting.amounts.Goals as goal
 

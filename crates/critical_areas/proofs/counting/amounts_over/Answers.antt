@@ -3,7 +3,7 @@ use Rattle.fault_model.specs.FaultNames.{cells_of}
 use Rattle.tile_board.specs.Hands.{limits_of}
 use Rattle.tile_plan.specs.Tiles.{tile_count}
 use Rattle.tile_work.specs.Crediting.{IsMadeFor}
-use Rattle.critical_areas.specs.AskedCounts.{AreCounted}
+use Rattle.area_parts.specs.AskedCounts.{AreCounted}
 use Rattle.critical_areas.specs.inside.Work.{IsAmountOfTile, Work}
 use Rattle.critical_areas.proofs.CountingLaws.{found_counted, made_for_tiles}
 use Rattle.critical_areas.proofs.counting.amounts_over.Goals as goal

@@ -9,7 +9,7 @@ use Rattle.map_model.specs.MapNames.{layer_map_of, metal_layer, side_by}
 use Rattle.map_model.specs.declared.layers.Metal.{Metal}
 use Rattle.net_extract.specs.Extraction.{IsOnItsMetal, off_metal}
 use Rattle.net_extract.specs.declared.fault.NetFault.TheVariants.{Memory}
-use Rattle.critical_areas.specs.AreaParts.{ArePartsOf}
+use Rattle.area_parts.specs.AreaParts.{ArePartsOf}
 use Rattle.pair_report.specs.PairRows.{pair_rows}
 use Rattle.pair_report.specs.declared.tables.MetalPairs.{MetalPairs}
 use Rattle.pair_report.specs.declared.tables.PairTables.{PairTables}

@@ -9,7 +9,7 @@ use Rattle.map_model.specs.MapNames.{layer_map_of, metal_layer}
 use Rattle.map_model.specs.declared.layers.Metal.{Metal}
 use Rattle.net_extract.specs.Extraction.{IsOnItsMetal, off_metal}
 use Rattle.net_extract.specs.declared.fault.NetFault.TheVariants.{Memory}
-use Rattle.critical_areas.specs.AreaParts.{ArePartsOf}
+use Rattle.area_parts.specs.AreaParts.{ArePartsOf}
 use Rattle.map_probe.specs.Probe.{IsProbe}
 use Rattle.map_probe.specs.inside.NumberedNearest.{AreFoundFor}
 use Rattle.map_probe.specs.declared.metal_near.MetalNear.{MetalNear}

@@ -6,8 +6,8 @@ use Rattle.questions.specs.declared.kind.Kind.{Kind}
 use Rattle.severing.specs.Severing.{IsSomeOpen}
 use Rattle.short_area.specs.Labels.{TouchesTwoLabels}
 use Rattle.via_clusters.specs.Blocks.{CoversSomeBox}
-use Rattle.critical_areas.specs.AskedCounts.{IsCountedAs}
-use Rattle.critical_areas.proofs.laws.ListLaws.{read_list}
+use Rattle.area_parts.specs.AskedCounts.{IsCountedAs}
+use Rattle.area_parts.proofs.laws.ListLaws.{read_list}
 use Rattle.map_regions.specs.inside.FoundRects.{AreWantedRects}
 use Rattle.map_regions.proofs.rows.rects_in.Goals as goal
 

@@ -2,7 +2,7 @@ use Rattle.std.proofs.Common.{IfOk, Option, [], sym, subst}
 use Rattle.lists.proofs.Containing.{Contains-none}
 use Rattle.geo_core.specs.declared.plane.Rect.{Rect}
 use Rattle.fault_model.specs.FaultNames.{cells_of_window}
-use Rattle.critical_areas.specs.AskedCounts.{IsCountedAs}
+use Rattle.area_parts.specs.AskedCounts.{IsCountedAs}
 use Rattle.map_regions.specs.inside.FoundRects.{AreWantedRects}
 use Rattle.map_regions.proofs.RectLaws.{none_wanted}
 use Rattle.map_regions.proofs.rows.rects_of.Goals as goal

@@ -10,9 +10,9 @@ use Rattle.map_model.specs.declared.map.Map.{Map}
 use Rattle.net_extract.specs.Extraction.{IsOnItsMetal, off_metal}
 use Rattle.net_extract.specs.declared.fault.NetFault.TheVariants.{Memory}
 use Rattle.questions.specs.declared.kind.Kind.{Kind}
-use Rattle.critical_areas.specs.AreaParts.{ArePartsOf}
-use Rattle.critical_areas.specs.AskedCounts.{IsCountedAs}
-use Rattle.critical_areas.specs.declared.parts.Parts.{Parts}
+use Rattle.area_parts.specs.AreaParts.{ArePartsOf}
+use Rattle.area_parts.specs.AskedCounts.{IsCountedAs}
+use Rattle.area_parts.specs.declared.parts.Parts.{Parts}
 use Rattle.map_regions.specs.Regions.{IsNumberFor, IsRegion}
 use Rattle.map_regions.specs.inside.FoundRects.{AreWantedRects}
 use Rattle.map_regions.proofs.CountedFaults.{number_in_parts, region_is}

@@ -1,0 +1,47 @@
+//! Pictures of cells, the highest row first.
+
+use geo_core::Rect;
+use std::alloc::Global;
+
+/// In how many of the rectangles the cell lies.
+fn depth(rects: &[Rect], i: i32, j: i32) -> usize {
+    rects
+        .iter()
+        .filter(|rect| rect.x0 <= i && i < rect.x1 && rect.y0 <= j && j < rect.y1)
+        .count()
+}
+
+/// How a cell is drawn that lies in so many runs of all rectangles, and in so many of what lies in two.
+fn mark(once: usize, twice: usize) -> char {
+    match (once, twice) {
+        (0, 0) => '.',
+        (1, 0) => '+',
+        (1, 1) => '#',
+        _ => '!',
+    }
+}
+
+/// Appends the cells of row `j`.
+fn draw_row(
+    picture: &mut String,
+    window: Rect,
+    once: &[Rect],
+    twice: &[Rect],
+    j: i32,
+) -> Option<()> {
+    for i in window.x0..window.x1 {
+        picture
+            .push(mark(depth(once, i, j), depth(twice, i, j)))
+            .ok()?;
+    }
+    picture.push('\n').ok()
+}
+
+/// The picture of the window with runs of all rectangles, and runs of what lies in two.
+pub fn picture(alloc: Global, window: Rect, once: &[Rect], twice: &[Rect]) -> Option<String> {
+    let mut picture = String::new(alloc);
+    for j in (window.y0..window.y1).rev() {
+        draw_row(&mut picture, window, once, twice, j)?;
+    }
+    Some(picture)
+}

@@ -1,0 +1,133 @@
+//! Islands with spots of any rectangles.
+
+ghost use Rattle.std.specs.Prelude.{All, true, ◌≡◌};
+ghost use Rattle.geo_core.specs.Cells.{Has};
+ghost use Rattle.geo_core.specs.declared.plane.Cell.{Cell};
+ghost use Rattle.area_calls.specs.OnPieces.{IsOnPieces, IsSpotOnPieces};
+
+use crate::readers::rects_of;
+use fault_model::{Island, Spot, Spots};
+use geo_core::{Rect, RectList, clip};
+use row_tables::Row;
+use std::alloc::{AllocError, Global};
+
+/// Adds what the rectangle has in common with each of the pieces.
+fn add_common(parts: &mut Vec<Rect>, rect: Rect, pieces: &[Rect]) -> Result<(), AllocError> {
+    for piece in pieces {
+        if let Some(part) = clip(rect, *piece) {
+            parts.push(part)?;
+        }
+    }
+    Ok(())
+}
+
+/// What the rectangles have in common with the pieces.
+fn common(alloc: Global, rects: &[Rect], pieces: &[Rect]) -> Result<Vec<Rect>, AllocError> {
+    let mut parts = Vec::new(alloc);
+    for rect in rects {
+        add_common(&mut parts, *rect, pieces)?;
+    }
+    Ok(parts)
+}
+
+/// The spot of these rectangles, of which there is one at least.
+fn spot_of(rects: Vec<Rect>) -> Option<Spot> {
+    if rects.is_empty() {
+        return None;
+    }
+    Some(Spot {
+        rects: RectList::from_vec(rects),
+    })
+}
+
+/// The spot that has what the rectangles with these sides have of the pieces.
+fn spot_on(alloc: Global, sides: &[i32], pieces: &[Rect]) -> Option<Spot> {
+    let rects = rects_of(alloc, sides)?;
+    spot_of(common(alloc, rects.as_slice(), pieces).ok()?)
+}
+
+/// The spots of a row, each with what it has of the pieces.
+fn spots_on(row: &mut Row<'_>, pieces: &[Rect]) -> Option<Vec<Spot>> {
+    let mut spots = Vec::new(row.alloc());
+    for sides in row.number_lists("spots")? {
+        let spot = spot_on(row.alloc(), sides.as_slice(), pieces)?;
+        spots.push(spot).ok()?;
+    }
+    Some(spots)
+}
+
+/// Whether the one rectangle lies in the other.
+fn is_within(rect: Rect, piece: Rect) -> bool
+    ensures { result ≡ true → (c : Cell) → Has rect c → Has piece c }
+{
+    if rect.x0 < piece.x0 {
+        return false;
+    }
+    if rect.x1 > piece.x1 {
+        return false;
+    }
+    if rect.y0 < piece.y0 {
+        return false;
+    }
+    if rect.y1 > piece.y1 {
+        return false;
+    }
+    true
+}
+
+/// Whether the rectangle lies in one of the pieces.
+fn is_on(rect: Rect, pieces: &[Rect]) -> bool
+    ensures { result ≡ true → IsOnPieces pieces.now rect }
+{
+    for piece in pieces {
+        if is_within(rect, *piece) {
+            return true;
+        }
+    }
+    false
+}
+
+/// Whether each rectangle of the spot lies in one.
+fn is_spot_on(spot: &Spot, pieces: &[Rect]) -> bool
+    ensures { result ≡ true → IsSpotOnPieces pieces.now spot.now }
+{
+    for rect in spot.rects.as_slice() {
+        if !is_on(*rect, pieces) {
+            return false;
+        }
+    }
+    true
+}
+
+/// Whether that is so of each of the spots.
+fn are_on(spots: &[Spot], pieces: &[Rect]) -> bool
+    ensures { result ≡ true → All (IsSpotOnPieces pieces.now) spots.now }
+{
+    for spot in spots {
+        if !is_spot_on(spot, pieces) {
+            return false;
+        }
+    }
+    true
+}
+
+/// The island with these spots in place of its own, if all of them lie on it.
+fn with_spots(island: Island, spots: Vec<Spot>) -> Option<Island> {
+    let Island {
+        pieces,
+        anchors: _anchors,
+    } = island;
+    if !are_on(spots.as_slice(), pieces.as_slice()) {
+        return None;
+    }
+    Some(Island {
+        pieces,
+        anchors: Spots::from_vec(spots),
+    })
+}
+
+/// The island with the spots of a row for its anchors, each with what it has of the pieces.
+pub fn with_spots_of(row: &mut Row<'_>, island: Island) -> Option<Island> {
+    let spots = spots_on(row, island.pieces.as_slice())?;
+    with_spots(island, spots)
+}

@@ -1,0 +1,3 @@
+pub mod SizeLaws
+pub mod PartLaws
+pub mod FaultLaws

@@ -1,5 +1,0 @@
-use Rattle.critical_areas.proofs.FaultLaws.{opens_of_cells}
-use Rattle.critical_areas.proofs.laws.opens_are_of_cells.Goals as goal
-
-pub returns : goal.returns
-returns g c layer_map metal s cell none = let same = opens_of_cells layer_map none g.L.Layout.covers metal s cell in (same.1, same.0)

@@ -1,5 +1,0 @@
-use Rattle.critical_areas.proofs.laws.UniqueLaws.{rows_agree}
-use Rattle.critical_areas.proofs.laws.rows_agree.Goals as goal
-
-pub returns : goal.returns
-returns g c layer_map = rows_agree layer_map g.L.Layout.covers

@@ -1,5 +1,0 @@
-use Rattle.critical_areas.specs.LayerParts.{AreAllIslands}
-use Rattle.critical_areas.proofs.preparing.anchored_islands.Given as goal
-
-abbrev pub invariant-loop-metal : goal.invariant-loop-metal
-invariant-loop-metal l = AreAllIslands l.nets l.metal l.lists.items

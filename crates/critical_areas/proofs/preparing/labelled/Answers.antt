@@ -1,7 +1,0 @@
-use Rattle.lists.proofs.Words.{map-append, take_more}
-use Rattle.critical_areas.specs.AreaParts.{by_net}
-use Rattle.critical_areas.proofs.preparing.labelled.Goals as goal
-
-pub loop-piece-preserved : goal.loop-piece-preserved
-loop-piece-preserved c =
-    rw (take_more c.args.pieces.now c.loop-piece.piece-index c.piece-item.result c.loop-piece-test.true, map-append by_net) (cc (c.loop-piece.invariant, c.in_ok-push.ensures.items, c.piece-item.is))

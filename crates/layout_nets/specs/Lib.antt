@@ -1,0 +1,2 @@
+-- what contracts of other crates cite
+pub mod NetNumbers
