@@ -194,7 +194,7 @@ pub fn gauges_are_told_what_is_asked<F: Files>()
 {}
 
 /// Where the sizes of a task's map are radii, as they are in maps of version 1, in that of one metal and in that of a generated
-/// layout, via clusters are no terminals. So what its rows count as opens are those of `critical_areas::laws::opens_are_of_cells`:
+/// layout, via clusters are no terminals. So what its rows count as opens are those of `area_parts::laws::opens_are_of_cells`:
 /// a defect parts two cells that the map names as terminals.
 #[tactic(auto, using(crate::proofs::MapLaws::maps_by_radii_name_terminals))]
 pub fn maps_by_radii_name_terminals()
