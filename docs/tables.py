@@ -27,8 +27,7 @@ CLAUSE = re.compile(r"^ *ensures(?: (\w+))? \{", re.M)
 BEFORE_CLAUSE = re.compile(r"(?:ensures|requires|decreases|by)(?: \w+)? $")
 FACT = re.compile(r"^ +pub ghost (\w+): \{", re.M)
 OUTPUT = re.compile(r"^ +ghost (output) = \{", re.M)
-REMEDY = re.compile(r"^    Remedy \{\n(.*?)^    \},", re.M | re.S)
-FIELD = re.compile(r'^ +\w+:\s+(?:(\d+)|"((?:[^"\\]|\\.)*)"),$', re.M)
+REMEDIES = re.compile(r'^const ROWS: &str = "\\\n(.*?)^";', re.M | re.S)
 WORD = re.compile(r"^(?:(?:abbrev|unfoldable) )*pub (?:(?:record|data|unfoldable) )?(?!use |mod )([^\s:({]+)", re.M)
 
 
@@ -278,8 +277,8 @@ def remedy_table():
     yield "| status | number | what it means | place | what to do |"
     yield "|---|---|---|---|---|"
     text = (CRATES / "input_explanation" / "src" / "remedies.rt").read_text()
-    for row in REMEDY.findall(text):
-        fields = [number or re.sub(r"\\(.)", r"\1", words) for number, words in FIELD.findall(row)]
+    for row in REMEDIES.search(text).group(1).splitlines():
+        fields = row.split("|")
         if len(fields) != 5:
             sys.exit("a remedy without five fields: " + row)
         status, number, meaning, place, remedy = fields

@@ -15,19 +15,17 @@ const ENDED: &str = "--ended";
 /// The greatest status that no signal gives.
 const LAST_STATUS: u8 = 128;
 
-/// The signals that are told by more than their numbers.
-const SIGNALS: &[(u8, &str)] = &[
-    (2, ", the interrupt of a keyboard"),
-    (
-        9,
-        ", as the system does where memory is short; use a machine with more of it, or take a part of the layout",
-    ),
-    (
-        11,
-        ", as where its stack is too deep; file an issue with the layout and the words",
-    ),
-    (15, ", which asks it to end"),
-];
+/// What is said of a signal behind its number.
+fn words_of(signal: u8) -> &'static str {
+    match signal {
+        2 => ", the interrupt of a keyboard",
+        9 =>
+            ", as the system does where memory is short; use a machine with more of it, or take a part of the layout",
+        11 => ", as where its stack is too deep; file an issue with the layout and the words",
+        15 => ", which asks it to end",
+        _ => "",
+    }
+}
 
 /// How a run of the program ended.
 #[derive(Clone, Copy)]
@@ -76,7 +74,7 @@ fn tell_map_place(text: &mut Text, place: u64) {
 }
 
 /// Tells what a row is about, where its place is this and the meaning does not name it.
-fn tell_subject(text: &mut Text, row: &Remedy, place: u64) {
+fn tell_subject(text: &mut Text, row: Remedy, place: u64) {
     match (row.status, row.number) {
         (3, 39) | (3, 40) | (3, 49) | (4, 9) | (4, 27) => {}
         (3, 48) => {
@@ -122,12 +120,7 @@ fn tell_meaning(text: &mut Text, ended: &Ended<'_>) {
 /// Tells which signal stopped the program.
 fn tell_signal(text: &mut Text, signal: u8) {
     text.number("the program was stopped by signal ", u64::from(signal), "");
-    for (number, words) in SIGNALS {
-        if *number == signal {
-            text.say(*words);
-        }
-    }
-    text.say("\n");
+    text.word("", words_of(signal), "\n");
 }
 
 /// Tells why the run ended so by its status and its line alone.
@@ -141,10 +134,13 @@ pub fn tell_end(text: &mut Text, ended: &Ended<'_>) {
 
 /// Puts lines behind the text, each two columns further in.
 fn tell_further_in(text: &mut Text, lines: &str) {
-    for line in lines.split('\n') {
+    let mut rest = lines;
+    for _ in 0..lines.len() {
+        let (line, behind) = rest.split_once('\n').unwrap_or((rest, ""));
         if !line.is_empty() {
             text.word("  ", line, "\n");
         }
+        rest = behind;
     }
 }
 

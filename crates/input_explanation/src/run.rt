@@ -43,13 +43,21 @@ struct Named<'a> {
     top: Option<&'a [u8]>,
 }
 
+/// The bytes of a name, where there is one.
+fn bytes_of(name: &Option<Name>) -> Option<&[u8]> {
+    match name {
+        Some(name) => Some(name.as_slice()),
+        None => None,
+    }
+}
+
 /// What the task names.
 fn named_by(task: &Task) -> Named<'_> {
     match task {
         Task::OneMetal { layout, top, .. } => Named {
             map: None,
             layout: Some(layout.as_slice()),
-            top: top.as_ref().map(Name::as_slice),
+            top: bytes_of(top),
         },
         Task::Mapped { map, layout, top }
         | Task::Pairs {
@@ -72,7 +80,7 @@ fn named_by(task: &Task) -> Named<'_> {
         } => Named {
             map: Some(map.as_slice()),
             layout: Some(layout.as_slice()),
-            top: top.as_ref().map(Name::as_slice),
+            top: bytes_of(top),
         },
         Task::Generated { .. } => Named {
             map: None,
@@ -120,6 +128,24 @@ fn map_of(alloc: Global, told: &mut Telling, name: &[u8], bytes: &[u8]) -> Optio
     }
 }
 
+/// What the layout of this name contains, if it can be read. What may be wrong with it is not told, since the map is refused.
+fn untold_input<F: Files, P: Paths>(
+    alloc: Global,
+    told: &mut Telling,
+    files: &mut F,
+    paths: &P,
+    name: &[u8],
+) -> Option<Vec<u8>>
+    ensures { IfSome result (λ bytes. length bytes.items ≤ LONGEST_LAYOUT) }
+{
+    let mut untold = Telling::new(alloc, told.is_behind_run);
+    let found = read_input(alloc, &mut untold, files, paths, Input::Layout, name);
+    if untold.text.is_cut() {
+        told.text.lose();
+    }
+    found
+}
+
 /// Tells the terminals of a map that has too many by their islands, if the layout is good.
 fn tell_many<F: Files, P: Paths>(
     alloc: Global,
@@ -129,21 +155,10 @@ fn tell_many<F: Files, P: Paths>(
     files: &mut F,
     paths: &P,
 ) -> Option<()> {
+    let layout = named.layout?;
     let parted = told.text.got(parted_of(alloc, map))??;
-    // The map is refused, and what may be wrong with the layout is not told.
-    let mut untold = Telling::new(alloc, told.is_behind_run);
-    let found = read_input(
-        alloc,
-        &mut untold,
-        files,
-        paths,
-        Input::Layout,
-        named.layout?,
-    );
-    if untold.text.is_cut() {
-        told.text.lose();
-    }
-    tell_parted(alloc, &mut told.text, parted, found?.as_slice(), named.top);
+    let bytes = untold_input(alloc, told, files, paths, layout)?;
+    tell_parted(alloc, &mut told.text, parted, bytes.as_slice(), named.top);
     Some(())
 }
 
@@ -270,17 +285,16 @@ fn inputs_of<F: Files, P: Paths>(
 fn tell_asked<F: Files, P: Paths>(
     alloc: Global,
     told: &mut Telling,
-    asked: &Asked<'_>,
+    asked: Asked<'_>,
     files: &mut F,
     paths: &P,
 ) -> Option<()> {
-    let name = asked.layout.as_bytes();
-    let bytes = read_input(alloc, told, files, paths, Input::Layout, name)?;
+    let bytes = read_input(alloc, told, files, paths, Input::Layout, asked.layout)?;
     let inquiry = Inquiry::Report;
     let layout = Layout {
-        name: Some(name),
+        name: Some(asked.layout),
         bytes: bytes.as_slice(),
-        top: asked.top.map(str::as_bytes),
+        top: asked.top,
         inquiry,
     };
     tell_listing(alloc, told, &layout, asked.as_map);
@@ -297,7 +311,7 @@ pub fn good_run<F: Files, P: Paths>(
     paths: &P,
 ) -> Option<GoodRun> {
     if let Some(asked) = asked_of(words) {
-        let _ = tell_asked(alloc, told, &asked, files, paths);
+        let _ = tell_asked(alloc, told, asked, files, paths);
         return None;
     }
     let request = request_of(alloc, told, words)?;

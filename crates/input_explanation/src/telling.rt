@@ -55,10 +55,11 @@ impl Text {
     /// Puts a number with its sign behind it.
     pub fn signed(&mut self, before: &str, number: i64, after: &str) {
         self.say(before);
-        if write!(self.text, "{number}").is_err() {
-            self.is_cut = true;
-        }
-        self.say(after);
+        self.number(
+            if number < 0 { "-" } else { "" },
+            number.unsigned_abs(),
+            after,
+        );
     }
 
     /// Puts a point or a cell behind it.

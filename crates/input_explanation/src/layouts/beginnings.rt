@@ -57,5 +57,10 @@ fn is_of_text(byte: u8) -> bool {
 
 /// Whether the bytes begin as a text does, with four printable bytes.
 pub fn begins_as_text(bytes: &[u8]) -> bool {
-    bytes.len() >= 4 && bytes[..4].iter().all(|byte| is_of_text(*byte))
+    match bytes {
+        [one, two, three, four, ..] => {
+            is_of_text(*one) && is_of_text(*two) && is_of_text(*three) && is_of_text(*four)
+        }
+        _ => false,
+    }
 }

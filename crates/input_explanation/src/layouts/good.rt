@@ -43,14 +43,31 @@ fn tell_empty_layers(
     }
 }
 
+/// Whether shapes are placed on the layer of this number.
+fn has_shapes(layers: &[Held], number: usize) -> bool {
+    match layers.get(number) {
+        Some(held) => held.shapes > 0,
+        None => false,
+    }
+}
+
+/// Whether the map lists a terminal of the metal.
+fn has_terminal(map: &Map, metal: usize) -> bool {
+    for terminal in map.terminals.as_slice() {
+        if terminal.metal as usize == metal {
+            return true;
+        }
+    }
+    false
+}
+
 /// Tells which terminals a metal lacks that has no opens.
 fn tell_lack(text: &mut Text, map: &Map, metal: usize) {
-    let mut terminals = map.terminals.as_slice().iter();
-    if terminals.any(|terminal| terminal.metal as usize == metal) {
-        text.say(": no island with two terminals");
+    text.say(if has_terminal(map, metal) {
+        ": no island with two terminals"
     } else {
-        text.say(": no terminals");
-    }
+        ": no terminals"
+    });
     if map.contacts {
         text.say(", nor a cut whose via clusters are terminals");
     }
@@ -89,8 +106,8 @@ fn tell_few_terminals(text: &mut Text, map: &Map, metal: usize) {
 
 /// Tells the metals with shapes on which no island has two terminals that the map names, and whether they have opens.
 fn tell_opens(text: &mut Text, map: &Map, layers: &[Held], islands: &[MetalIslands]) {
-    for (metal, (held, islands)) in layers.iter().zip(islands.iter()).enumerate() {
-        if held.shapes > 0 && islands.more == 0 {
+    for (metal, islands) in islands.iter().enumerate() {
+        if has_shapes(layers, metal) && islands.counts.more == 0 {
             tell_few_terminals(text, map, metal);
         }
     }
@@ -142,9 +159,9 @@ pub fn tell_library(text: &mut Text, library: &Library) {
 
 /// Tells how many islands the metals with shapes have.
 fn tell_all_counts(text: &mut Text, map: &Map, layers: &[Held], islands: &[MetalIslands]) {
-    for (metal, (held, islands)) in layers.iter().zip(islands.iter()).enumerate() {
-        if held.shapes > 0 {
-            tell_island_counts(text, map, metal, islands);
+    for (metal, islands) in islands.iter().enumerate() {
+        if has_shapes(layers, metal) {
+            tell_island_counts(text, map, metal, islands.counts);
         }
     }
 }

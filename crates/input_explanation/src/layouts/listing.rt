@@ -12,7 +12,7 @@ use crate::layouts::graph::{graph_of, name_of};
 use crate::layouts::pairs::{PairHeld, all_pairs, tell_pair};
 use crate::layouts::skeleton::tell_skeleton;
 use crate::layouts::structures::{tell_no_top, tell_tops};
-use crate::layouts::texts::{tell_placed_texts, texts_of};
+use crate::layouts::texts::{TextMark, tell_placed_texts, texts_of};
 use crate::telling::{Telling, Text};
 use flatten::tops_of;
 use gds_syntax::read_library;
@@ -20,12 +20,20 @@ use library_model::{Library, Structure};
 use lists::NoMemory;
 use std::alloc::Global;
 
+/// The number of the structure with this name, where there is one.
+fn structure_named(structures: &[Structure], name: &[u8]) -> Option<usize> {
+    for (number, structure) in structures.iter().enumerate() {
+        if structure.name.as_slice() == name {
+            return Some(number);
+        }
+    }
+    None
+}
+
 /// The top: the one of the name that is given, or else the only one that no reference names.
 fn chosen_top(layout: &Layout<'_>, structures: &[Structure], tops: &[u32]) -> Option<usize> {
     match (layout.top, tops) {
-        (Some(name), _) => structures
-            .iter()
-            .position(|structure| structure.name.as_slice() == name),
+        (Some(name), _) => structure_named(structures, name),
         (None, [only]) => Some(*only as usize),
         (None, _) => None,
     }
@@ -65,6 +73,42 @@ fn tell_pairs(text: &mut Text, pairs: &[PairHeld], has_top: bool) {
     text.say("  --map-skeleton behind these words prints a map of these layers, to be edited\n");
 }
 
+/// How often the structures of a library are placed by the top of this number.
+fn times_placed(alloc: Global, library: &Library, top: Option<usize>) -> Result<Vec<u64>, NoMemory>
+    requires differ { AreDifferent (names_of library.now.structures) }
+    requires few { length library.now.structures < 2 ^ 32 }
+{
+    let graph = graph_of(alloc, library)?;
+    graph.times_placed(alloc, top)
+}
+
+/// The name of the structure with this number, where there is one.
+fn top_name(structures: &[Structure], top: Option<usize>) -> Option<&[u8]> {
+    Some(name_of(structures, top?))
+}
+
+/// Tells a map of these layers.
+fn tell_map(
+    alloc: Global,
+    text: &mut Text,
+    layout: &Layout<'_>,
+    library: &Library,
+    pairs: &[PairHeld],
+    texts: &[TextMark<'_>],
+    times: &[u64],
+    top: Option<&[u8]>,
+)
+    requires differ { AreDifferent (names_of library.now.structures) }
+    requires few_structures { length library.now.structures < 2 ^ 32 }
+    requires few_elements { All (λ structure. length structure.elements < 2 ^ 32) library.now.structures }
+    requires pointed { AreWellPointed library.now.structures }
+{
+    tell_skeleton(alloc, text, layout, library, pairs, texts, top);
+    if let Some(top) = top {
+        tell_placed_texts(alloc, text, library, times, texts, top);
+    }
+}
+
 /// Tells the layers of a library, of which this is the top.
 fn tell_layers_of(
     alloc: Global,
@@ -80,20 +124,16 @@ fn tell_layers_of(
     requires few_elements { All (λ structure. length structure.elements < 2 ^ 32) library.now.structures }
     requires pointed { AreWellPointed library.now.structures }
 {
-    let structures = library.structures.as_slice();
-    let times = graph_of(alloc, structures)?.times_placed(alloc, top)?;
+    let times = times_placed(alloc, library, top)?;
     let texts = texts_of(alloc, layout.bytes)?;
-    let texts = texts.as_slice();
-    let pairs = all_pairs(alloc, library, texts, times.as_slice())?;
-    let top = top.map(|top| name_of(structures, top));
+    let pairs = all_pairs(alloc, library, texts.as_slice(), times.as_slice())?;
+    let top = top_name(library.structures.as_slice(), top);
+    let (times, texts, pairs) = (times.as_slice(), texts.as_slice(), pairs.as_slice());
     if as_map {
-        tell_skeleton(alloc, text, layout, library, pairs.as_slice(), texts, top);
-        if let Some(top) = top {
-            tell_placed_texts(alloc, text, structures, times.as_slice(), texts, top);
-        }
+        tell_map(alloc, text, layout, library, pairs, texts, times, top);
     } else {
         tell_head(text, layout, library, tops, top);
-        tell_pairs(text, pairs.as_slice(), top.is_some());
+        tell_pairs(text, pairs, top.is_some());
     }
     Ok(())
 }

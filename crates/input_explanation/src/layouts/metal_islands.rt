@@ -10,17 +10,43 @@ use lists::NoMemory;
 use map_model::Map;
 use std::alloc::Global;
 
-/// The islands of a metal.
-#[derive(Drop)]
-pub struct MetalIslands {
+/// How many islands have so many terminals.
+#[derive(Clone, Copy)]
+pub struct IslandCounts {
     /// How many have no terminal.
     pub none: u64,
     /// How many have one.
     pub one: u64,
     /// How many have two or more.
     pub more: u64,
+}
+
+impl IslandCounts {
+    /// Counts an island with so many terminals.
+    fn add(&mut self, terminals: usize) {
+        match terminals {
+            0 => self.none = self.none.saturating_add(1),
+            1 => self.one = self.one.saturating_add(1),
+            _ => self.more = self.more.saturating_add(1),
+        }
+    }
+}
+
+/// The islands of a metal.
+#[derive(Drop)]
+pub struct MetalIslands {
+    /// How many there are.
+    pub counts: IslandCounts,
     /// Each terminal behind the number of its island, which is that of a rectangle. Those of an island stand together.
     carried: Vec<(usize, usize)>,
+}
+
+/// The number of the terminal's island, where the metal of this number has it.
+fn island_of(one: &Known, metal: usize, labels: &[usize]) -> Option<usize> {
+    if one.metal as usize != metal {
+        return None;
+    }
+    labels.get(one.rect?).copied()
 }
 
 /// The terminals of the metal behind the numbers of their islands, in the order of these.
@@ -32,32 +58,51 @@ fn carried_by(
 ) -> Result<Vec<(usize, usize)>, NoMemory> {
     let mut carried = Vec::new(alloc);
     for one in terminals {
-        if one.metal as usize != metal {
-            continue;
-        }
-        if let Some(rect) = one.rect {
-            if let Some(island) = labels.get(rect) {
-                carried.push((*island, one.index))?;
-            }
+        if let Some(island) = island_of(one, metal, labels) {
+            carried.push((island, one.index))?;
         }
     }
     carried.sort_unstable();
     Ok(carried)
 }
 
-/// How many terminals each island has, where there are so many rectangles.
-fn carried_counts(
-    alloc: Global,
-    carried: &[(usize, usize)],
-    rects: usize,
-) -> Result<Vec<usize>, NoMemory> {
-    let mut counts = vec![in alloc; 0usize; rects]?;
+/// Counts the terminals of each island.
+fn count_carried(counts: &mut [usize], carried: &[(usize, usize)]) {
     for (island, _) in carried {
         if let Some(count) = counts.get_mut(*island) {
             *count = count.saturating_add(1);
         }
     }
-    Ok(counts)
+}
+
+/// How many islands have so many terminals, where the rectangles have these islands, and islands so many terminals.
+fn counts_of(labels: &[usize], carried: &[usize]) -> IslandCounts {
+    let mut counts = IslandCounts {
+        none: 0,
+        one: 0,
+        more: 0,
+    };
+    for (number, island) in labels.iter().enumerate() {
+        // An island is told by the first of its rectangles.
+        if number == *island {
+            counts.add(carried.get(number).copied().unwrap_or(0));
+        }
+    }
+    counts
+}
+
+/// The islands of a metal whose rectangles have these islands, and whose islands carry these terminals.
+fn with_counts(
+    alloc: Global,
+    labels: &[usize],
+    carried: Vec<(usize, usize)>,
+) -> Result<MetalIslands, NoMemory> {
+    let mut each = vec![in alloc; 0usize; labels.len()]?;
+    count_carried(each.as_mut_slice(), carried.as_slice());
+    Ok(MetalIslands {
+        counts: counts_of(labels, each.as_slice()),
+        carried,
+    })
 }
 
 /// The islands of the metal of this number, which covers these rectangles.
@@ -69,24 +114,7 @@ fn islands_of(
 ) -> Result<MetalIslands, NoMemory> {
     let labels = label(alloc, rects)?;
     let carried = carried_by(alloc, terminals, metal, labels.as_slice())?;
-    let counts = carried_counts(alloc, carried.as_slice(), labels.len())?;
-    let (mut none, mut one, mut more) = (0u64, 0u64, 0u64);
-    for (number, (island, count)) in labels.iter().zip(counts.iter()).enumerate() {
-        // An island is told by the first of its rectangles.
-        if number == *island {
-            match *count {
-                0 => none = none.saturating_add(1),
-                1 => one = one.saturating_add(1),
-                _ => more = more.saturating_add(1),
-            }
-        }
-    }
-    Ok(MetalIslands {
-        none,
-        one,
-        more,
-        carried,
-    })
+    with_counts(alloc, labels.as_slice(), carried)
 }
 
 /// Adds the islands of the metal of this number, which covers these rectangles.
@@ -121,8 +149,12 @@ pub fn metal_islands(
 
 /// Whether a cut of the map joins the metal to another one.
 pub fn is_joined(map: &Map, metal: usize) -> bool {
-    let mut cuts = map.cuts.as_slice().iter();
-    cuts.any(|cut| cut.lower as usize == metal || cut.upper as usize == metal)
+    for cut in map.cuts.as_slice() {
+        if cut.lower as usize == metal || cut.upper as usize == metal {
+            return true;
+        }
+    }
+    false
 }
 
 /// Whether via clusters are terminals of the metal besides those that the map names: they are those of the cuts that join it.
@@ -131,16 +163,14 @@ pub fn has_cluster_terminals(map: &Map, metal: usize) -> bool {
 }
 
 /// Tells how many islands a metal has, and how many of them have terminals that the map names.
-pub fn tell_island_counts(text: &mut Text, map: &Map, metal: usize, islands: &MetalIslands) {
-    let all = islands
-        .none
-        .saturating_add(islands.one)
-        .saturating_add(islands.more);
+pub fn tell_island_counts(text: &mut Text, map: &Map, metal: usize, counts: IslandCounts) {
+    let IslandCounts { none, one, more } = counts;
+    let all = none.saturating_add(one).saturating_add(more);
     tell_layer(text, "  ", map, metal);
     text.number(": ", all, " islands: ");
-    text.number("", islands.none, " with no terminal, ");
-    text.number("", islands.one, " with one, ");
-    text.number("", islands.more, " with more");
+    text.number("", none, " with no terminal, ");
+    text.number("", one, " with one, ");
+    text.number("", more, " with more");
     if has_cluster_terminals(map, metal) {
         text.say(
             ", by the terminals that the map names; via clusters, which are terminals too, are not counted",
@@ -183,7 +213,9 @@ fn tell_carried(text: &mut Text, map: &Map, metal: usize, held: &Held, islands: 
 /// Tells which terminals are on which islands of the metals.
 pub fn tell_all_carried(text: &mut Text, map: &Map, layers: &[Held], islands: &[MetalIslands]) {
     text.say("  terminals by islands, each told by a cell of it; terminals are counted from 1\n");
-    for (metal, (held, islands)) in layers.iter().zip(islands.iter()).enumerate() {
-        tell_carried(text, map, metal, held, islands);
+    for (metal, islands) in islands.iter().enumerate() {
+        if let Some(held) = layers.get(metal) {
+            tell_carried(text, map, metal, held, islands);
+        }
     }
 }

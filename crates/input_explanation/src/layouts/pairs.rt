@@ -8,7 +8,7 @@ use crate::layouts::texts::TextMark;
 use crate::remedies::SHORT_MEANINGS;
 use crate::telling::Text;
 use geo_core::{FARTHEST, Point, Rect};
-use indexmap::{IndexMap, IndexSet};
+use indexmap::IndexMap;
 use library_model::{Element, Library, Shape, ShapeKind, Structure};
 use lists::NoMemory;
 use rect_cover::{CoverFault, cover_shape};
@@ -76,8 +76,11 @@ fn with_points(bounds: Option<Bounds>, points: &[Point]) -> Option<Bounds> {
     bounds
 }
 
-/// Counts a shape without a cover, for the reason with this number.
-fn count_uncovered(held: &mut PairHeld, number: u8) {
+/// Counts a shape without a cover, for the reason with this number, where it has none.
+fn count_uncovered(held: &mut PairHeld, fault: Option<u8>) {
+    let Some(number) = fault else {
+        return;
+    };
     for (place, (of, _)) in SHORT_MEANINGS.iter().enumerate() {
         if *of == number {
             if let Some(count) = held.uncovered.get_mut(place) {
@@ -97,12 +100,25 @@ fn note_shape(
     let mut held = held_of(pairs, (shape.layer, shape.datatype));
     count_kind(&mut held, shape.kind);
     held.bounds = with_points(held.bounds, shape.points.as_slice());
-    held.is_placed = held.is_placed || is_placed;
-    if let Some(fault) = fault {
-        count_uncovered(&mut held, fault);
-    }
+    held.is_placed |= is_placed;
+    count_uncovered(&mut held, fault);
     pairs.insert(held.pair, held)?;
     Ok(())
+}
+
+/// Notes an element, if it is a shape.
+fn note_element(
+    alloc: Global,
+    pairs: &mut Pairs,
+    element: &Element,
+    is_placed: bool,
+) -> Result<(), NoMemory>
+    requires { IsWellPointed element.now }
+{
+    match element {
+        Element::Shape(shape) => note_shape(pairs, shape, cover_fault(alloc, shape)?, is_placed),
+        Element::Reference(_) => Ok(()),
+    }
 }
 
 /// Notes the shapes of a structure.
@@ -115,10 +131,7 @@ fn note_structure(
     requires { All IsWellPointed structure.now.elements }
 {
     for element in structure.elements.as_slice() {
-        if let Element::Shape(shape) = element {
-            let fault = cover_fault(alloc, shape)?;
-            note_shape(pairs, shape, fault, is_placed)?;
-        }
+        note_element(alloc, pairs, element, is_placed)?;
     }
     Ok(())
 }
@@ -132,6 +145,40 @@ fn note_text(pairs: &mut Pairs, one: &TextMark<'_>) -> Result<(), NoMemory> {
     Ok(())
 }
 
+/// Notes the shapes of all structures, where each structure is placed so often.
+fn note_structures(
+    alloc: Global,
+    pairs: &mut Pairs,
+    library: &Library,
+    times: &[u64],
+) -> Result<(), NoMemory>
+    requires { AreWellPointed library.now.structures }
+{
+    for (number, structure) in library.structures.as_slice().iter().enumerate() {
+        let is_placed = times.get(number).copied().unwrap_or(0) > 0;
+        note_structure(alloc, pairs, structure, is_placed)?;
+    }
+    Ok(())
+}
+
+/// Notes texts.
+fn note_texts(pairs: &mut Pairs, texts: &[TextMark<'_>]) -> Result<(), NoMemory> {
+    for one in texts {
+        note_text(pairs, one)?;
+    }
+    Ok(())
+}
+
+/// The pairs in their order.
+fn in_order(alloc: Global, pairs: &Pairs) -> Result<Vec<PairHeld>, NoMemory> {
+    let mut held = Vec::new(alloc);
+    for one in pairs.values() {
+        held.push(*one)?;
+    }
+    held.sort_unstable_by_key(|one| one.pair);
+    Ok(held)
+}
+
 /// The pairs that the structures and these texts have, in their order, where each structure is placed so often.
 pub fn all_pairs(
     alloc: Global,
@@ -142,19 +189,9 @@ pub fn all_pairs(
     requires { AreWellPointed library.now.structures }
 {
     let mut pairs = IndexMap::new(alloc);
-    for (number, structure) in library.structures.as_slice().iter().enumerate() {
-        let is_placed = times.get(number).copied().unwrap_or(0) > 0;
-        note_structure(alloc, &mut pairs, structure, is_placed)?;
-    }
-    for one in texts {
-        note_text(&mut pairs, one)?;
-    }
-    let mut held = Vec::new(alloc);
-    for one in pairs.values() {
-        held.push(*one)?;
-    }
-    held.sort_by_key(|one| one.pair)?;
-    Ok(held)
+    note_structures(alloc, &mut pairs, library, times)?;
+    note_texts(&mut pairs, texts)?;
+    in_order(alloc, &pairs)
 }
 
 /// Tells why shapes of the pair have no cover, each reason in a line that begins with these words.
@@ -194,28 +231,30 @@ pub fn tell_pair(text: &mut Text, before: &str, held: &PairHeld, has_top: bool) 
     tell_reasons(text, before, held);
 }
 
-/// Takes up the pairs of the shapes of a structure.
-fn add_pairs(pairs: &mut IndexSet<(u16, u16)>, structure: &Structure) -> Result<(), NoMemory> {
+/// Notes the pair of an element, if it is a shape.
+fn note_pair(pairs: &mut Pairs, element: &Element) -> Result<(), NoMemory> {
+    if let Element::Shape(shape) = element {
+        let held = held_of(pairs, (shape.layer, shape.datatype));
+        pairs.insert(held.pair, held)?;
+    }
+    Ok(())
+}
+
+/// Notes the pairs of the shapes of a structure.
+fn note_pairs(pairs: &mut Pairs, structure: &Structure) -> Result<(), NoMemory> {
     for element in structure.elements.as_slice() {
-        if let Element::Shape(shape) = element {
-            pairs.insert((shape.layer, shape.datatype))?;
-        }
+        note_pair(pairs, element)?;
     }
     Ok(())
 }
 
 /// The pairs of the shapes of structures, in their order.
-fn shape_pairs(alloc: Global, structures: &[Structure]) -> Result<Vec<(u16, u16)>, NoMemory> {
-    let mut pairs = IndexSet::new(alloc);
+fn shape_pairs(alloc: Global, structures: &[Structure]) -> Result<Vec<PairHeld>, NoMemory> {
+    let mut pairs = IndexMap::new(alloc);
     for structure in structures {
-        add_pairs(&mut pairs, structure)?;
+        note_pairs(&mut pairs, structure)?;
     }
-    let mut sorted = Vec::new(alloc);
-    for pair in pairs.iter() {
-        sorted.push(*pair)?;
-    }
-    sorted.sort_unstable();
-    Ok(sorted)
+    in_order(alloc, &pairs)
 }
 
 /// Tells a pair as a map has it.
@@ -225,15 +264,15 @@ pub fn tell_as_in_map(text: &mut Text, (layer, datatype): (u16, u16)) {
 }
 
 /// Tells that the layout has shapes of these pairs, as a map has them.
-fn tell_all_as_in_map(text: &mut Text, pairs: &[(u16, u16)]) {
+fn tell_all_as_in_map(text: &mut Text, pairs: &[PairHeld]) {
     if pairs.is_empty() {
         text.say("  the layout has no shapes\n");
         return;
     }
     text.say("  the layout has shapes of these pairs:");
-    for pair in pairs.iter().take(MOST_NAMED) {
+    for held in pairs.iter().take(MOST_NAMED) {
         text.say(" ");
-        tell_as_in_map(text, *pair);
+        tell_as_in_map(text, held.pair);
     }
     if pairs.len() > MOST_NAMED {
         text.number(", the first ", MOST_NAMED as u64, " of ");

@@ -96,6 +96,11 @@ impl<'a> ElementTold<'a> {
 }
 
 impl<'a> Spot<'a> {
+    /// The name of the structure that the element places, where it is a reference.
+    pub fn target(&self) -> Option<&'a [u8]> {
+        self.element?.target
+    }
+
     /// Goes behind a record that opens an element or tells something of one.
     fn pass_in_structure(&mut self, record: &Record<'a>) {
         if let Some(kind) = ElementKind::opened_by(record.kind) {

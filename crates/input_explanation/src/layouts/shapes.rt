@@ -61,16 +61,21 @@ fn point_count(library: &Library, placed: &Placed) -> usize {
     }
 }
 
+/// Adds a rectangle that the shape at this offset covers.
+fn add_rect(held: &mut Held, rect: Rect, offset: u32) -> Result<(), NoMemory> {
+    held.rects.push(rect)?;
+    held.offsets.push(offset)?;
+    Ok(())
+}
+
 /// Notes a rectangle that a shape of a layer covers.
 fn note_rect(shapes: &mut Shapes, one: &Placed, rect: Rect) -> Result<(), NoMemory> {
     let Some(held) = shapes.held.get_mut(one.layer as usize) else {
         return Ok(());
     };
     let number = held.rects.len();
-    held.rects.push(rect)?;
-    held.offsets.push(one.at)?;
     note_covered(&mut shapes.terminals, one.layer, rect, number);
-    Ok(())
+    add_rect(held, rect, one.at)
 }
 
 /// Counts a shape of a layer that has so many points and is placed so often.
@@ -155,7 +160,9 @@ fn shapes_of(
         let answer = cover(alloc, library, one);
         note(&mut shapes, library, one, answer)?;
     }
-    shapes.terminals.sort_by_key(|one| one.index)?;
+    shapes
+        .terminals
+        .sort_unstable_by_key(|one| (one.index, one.metal));
     Ok(shapes)
 }
 
@@ -181,10 +188,14 @@ pub fn placed_shapes(
 
 /// Tells how many shapes of a layer have no cover for the reason with this number.
 fn tell_count(text: &mut Text, map: &Map, found: &[Uncovered], number: u8, layer: usize) {
-    let is_meant = |one: &&Uncovered| one.fault.number() == number && one.layer as usize == layer;
-    let count = found.iter().filter(is_meant).count();
+    let mut count = 0u64;
+    for one in found {
+        if one.fault.number() == number && one.layer as usize == layer {
+            count = count.saturating_add(1);
+        }
+    }
     if count > 0 {
-        text.number("  ", count as u64, " placed shapes of ");
+        text.number("  ", count, " placed shapes of ");
         tell_layer(text, "", map, layer);
         text.number(": ", u64::from(number), ", ");
         text.word("", short_meaning(number), "\n");

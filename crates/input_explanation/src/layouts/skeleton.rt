@@ -8,7 +8,7 @@ ghost use Rattle.library_model.specs.Points.{AreWellPointed};
 use crate::layouts::faults::Layout;
 use crate::layouts::pairs::{PairHeld, shapes_of, tell_as_in_map, tell_pair};
 use crate::layouts::shapes::{Shapes, placed_shapes};
-use crate::layouts::terminals::Known;
+use crate::layouts::terminals::{Known, sort_by_columns};
 use crate::layouts::texts::TextMark;
 use crate::telling::Text;
 use flatten::PlaceFault;
@@ -17,37 +17,27 @@ use indexmap::IndexSet;
 use layer_map::{MapFault, read_map};
 use library_model::Library;
 use lists::NoMemory;
-use map_model::Map;
 use map_model::limits::{MOST_METALS, MOST_TERMINALS};
+use map_model::{Map, Metal};
 use std::alloc::Global;
 
 /// What stands in front of the lines that are comments until they are wanted.
 const COMMENT: &str = "#";
 
-/// Tells the keys of the document, with sizes that have to be replaced.
-fn tell_keys(text: &mut Text, layout: &Layout<'_>) {
-    text.say("# the layers of ");
-    layout.tell(text);
-    text.say(", to be edited: which of them are metals or cuts, and what they are called\n");
-    text.say("version = 1\n");
-    text.say(
-        "# half of the side of each defect, in database units, and its weight: replace these\n",
-    );
-    text.say("radii = [100]\nweights = [1]\n");
-    text.say(
-        "# for opens between vias, without a list: `version = 2`, `sides` in place of `radii`, and `contacts = true`\n",
-    );
-}
+/// The keys of the document, with sizes that have to be replaced.
+const KEYS: &str =
+    ", to be edited: which of them are metals or cuts, and what they are called\nversion = 1\n# half of the side of each defect, in database units, and its weight: replace these\nradii = [100]\nweights = [1]\n# for opens between vias, without a list: `version = 2`, `sides` in place of `radii`, and `contacts = true`\n";
+
+/// How a cut is written.
+const CUT: &str =
+    "\n# a layer of vias is a [[cut]] in place of a [[metal]], and names the metals that it joins besides:\n#lower = \"NAME\"\n#upper = \"NAME\"\n";
 
 /// Tells a metal, in lines that begin with these words.
 fn tell_metal(text: &mut Text, before: &str, held: &PairHeld, has_top: bool) {
     let (layer, datatype) = held.pair;
     text.say("\n");
-    if before.is_empty() {
-        tell_pair(text, "# ", held, has_top);
-    } else {
-        tell_pair(text, "## ", held, has_top);
-    }
+    let comment = if before.is_empty() { "# " } else { "## " };
+    tell_pair(text, comment, held, has_top);
     text.word(before, "[[metal]]\n", before);
     text.number("name = \"layer", u64::from(layer), "_");
     text.number("", u64::from(datatype), "\"\n");
@@ -75,12 +65,14 @@ fn tell_metals(text: &mut Text, pairs: &[PairHeld], has_top: bool) {
     }
 }
 
-/// Tells how a cut is written.
-fn tell_cut(text: &mut Text) {
-    text.say(
-        "\n# a layer of vias is a [[cut]] in place of a [[metal]], and names the metals that it joins besides:\n",
-    );
-    text.say("#lower = \"NAME\"\n#upper = \"NAME\"\n");
+/// Whether the metal has a pair with this layer.
+fn has_layer(metal: &Metal, layer: u16) -> bool {
+    for pair in metal.pairs.as_slice() {
+        if pair.0 == layer {
+            return true;
+        }
+    }
+    false
 }
 
 /// Adds the cell at which a text stands as a terminal of each metal of its layer.
@@ -92,14 +84,28 @@ fn add_known(
 ) -> Result<(), NoMemory> {
     let Point { x, y } = mark.point;
     for (metal, one) in map.metals.as_slice().iter().enumerate() {
-        let pairs = one.pairs.as_slice();
-        if pairs.iter().any(|(layer, _)| *layer == mark.layer) {
+        if has_layer(one, mark.layer) {
             known.push(Known {
                 index,
                 metal: metal as u32,
                 cell: Cell { i: x, j: y },
                 rect: None,
             })?;
+        }
+    }
+    Ok(())
+}
+
+/// Adds the texts of the top as terminals, with the numbers of the texts.
+fn add_all_known(
+    known: &mut Vec<Known>,
+    map: &Map,
+    texts: &[TextMark<'_>],
+    top: &[u8],
+) -> Result<(), NoMemory> {
+    for (index, mark) in texts.iter().enumerate() {
+        if mark.structure == top {
+            add_known(known, map, index, mark)?;
         }
     }
     Ok(())
@@ -113,12 +119,8 @@ fn known_texts(
     top: &[u8],
 ) -> Result<Vec<Known>, NoMemory> {
     let mut known = Vec::new(alloc);
-    for (index, mark) in texts.iter().enumerate() {
-        if mark.structure == top {
-            add_known(&mut known, map, index, mark)?;
-        }
-    }
-    known.sort_by_key(|one| (one.metal, one.cell.i))?;
+    add_all_known(&mut known, map, texts, top)?;
+    sort_by_columns(known.as_mut_slice());
     Ok(known)
 }
 
@@ -147,6 +149,30 @@ fn is_new(text: &mut Text, told: &mut IndexSet<(u32, i32, i32)>, one: Known) -> 
     }
 }
 
+/// Tells a text on a shape of its layer as a terminal, unless its cell is told already; whether others may follow.
+fn tell_next(
+    text: &mut Text,
+    map: &Map,
+    texts: &[TextMark<'_>],
+    told: &mut IndexSet<(u32, i32, i32)>,
+    one: Known,
+) -> bool {
+    if one.rect.is_none() || !is_new(text, told, one) {
+        return true;
+    }
+    if told.len() == 1 {
+        text.say("\n# terminals, for opens: the texts of the top on shapes of their layers\n");
+    }
+    if told.len() > MOST_TERMINALS {
+        text.say("\n# and others, which one map cannot have\n");
+        return false;
+    }
+    if let Some(mark) = texts.get(one.index) {
+        tell_terminal(text, map, mark, one);
+    }
+    true
+}
+
 /// Tells the texts on shapes of their layers as terminals, each cell of a metal once.
 fn tell_covered(
     alloc: Global,
@@ -157,18 +183,8 @@ fn tell_covered(
 ) {
     let mut told = IndexSet::new(alloc);
     for one in shapes.terminals.as_slice() {
-        if one.rect.is_none() || !is_new(text, &mut told, *one) {
-            continue;
-        }
-        if told.len() == 1 {
-            text.say("\n# terminals, for opens: the texts of the top on shapes of their layers\n");
-        }
-        if told.len() > MOST_TERMINALS {
-            text.say("\n# and others, which one map cannot have\n");
+        if !tell_next(text, map, texts, &mut told, *one) {
             return;
-        }
-        if let Some(mark) = texts.get(one.index) {
-            tell_terminal(text, map, mark, *one);
         }
     }
 }
@@ -222,9 +238,11 @@ pub fn tell_skeleton(
     requires few_elements { All (λ structure. length structure.elements < 2 ^ 32) library.now.structures }
     requires pointed { AreWellPointed library.now.structures }
 {
-    tell_keys(text, layout);
+    text.say("# the layers of ");
+    layout.tell(text);
+    text.say(KEYS);
     tell_metals(text, pairs, top.is_some());
-    tell_cut(text);
+    text.say(CUT);
     let Some(top) = top else {
         return;
     };

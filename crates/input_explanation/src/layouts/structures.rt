@@ -24,9 +24,12 @@ const HIDDEN: &[u8] = b"$$$";
 
 /// The number of the structure that begins at this offset.
 fn structure_at(structures: &[Structure], place: u64) -> Option<usize> {
-    structures
-        .iter()
-        .position(|structure| u64::from(structure.at) == place)
+    for (number, structure) in structures.iter().enumerate() {
+        if u64::from(structure.at) == place {
+            return Some(number);
+        }
+    }
+    None
 }
 
 /// Tells a structure whose name differs from this in nothing but capital letters, where there is one.
@@ -44,7 +47,7 @@ fn tell_alike(text: &mut Text, structures: &[Structure], name: &[u8]) {
 fn tell_unknown(text: &mut Text, layout: &Layout<'_>, structures: &[Structure], place: u32) {
     let spot = spot_at(layout.bytes, place);
     tell_place(text, "  ", &spot, "\n");
-    if let Some(target) = spot.element.and_then(|element| element.target) {
+    if let Some(target) = spot.target() {
         text.name("  no structure is named ", target, "\n");
         tell_alike(text, structures, target);
     }
@@ -125,13 +128,28 @@ pub fn tell_tops(text: &mut Text, structures: &[Structure], tops: &[u32]) {
     );
 }
 
+/// Adds an element that is placed so often to what the layers of the map hold, if it is a shape of one of them.
+fn add_shape(held: &mut [Held], map: &Map, element: &Element, times: u64) {
+    if let Element::Shape(shape) = element {
+        if let Some(layer) = map.layer_of(shape.layer, shape.datatype) {
+            count_shape(held, layer, shape.points.as_slice().len(), times);
+        }
+    }
+}
+
 /// Adds the shapes of a structure that is placed so often to what the layers of the map hold.
-fn add_shapes(held: &mut Vec<Held>, map: &Map, structure: &Structure, times: u64) {
+fn add_shapes(held: &mut [Held], map: &Map, structure: &Structure, times: u64) {
     for element in structure.elements.as_slice() {
-        if let Element::Shape(shape) = element {
-            if let Some(layer) = map.layer_of(shape.layer, shape.datatype) {
-                count_shape(held, layer, shape.points.as_slice().len(), times);
-            }
+        add_shape(held, map, element, times);
+    }
+}
+
+/// Adds the shapes of structures that are placed so often to what the layers of the map hold.
+fn add_all_shapes(held: &mut [Held], map: &Map, structures: &[Structure], times: &[u64]) {
+    for (number, structure) in structures.iter().enumerate() {
+        match times.get(number) {
+            Some(times) if *times > 0 => add_shapes(held, map, structure, *times),
+            _ => {}
         }
     }
 }
@@ -143,13 +161,14 @@ fn counts_of(
     graph: &Graph<'_>,
     top: usize,
 ) -> Result<Vec<Held>, NoMemory> {
-    let mut counts = nothing_held(alloc, layer_count(map))?;
     let times = graph.times_placed(alloc, Some(top))?;
-    for (structure, times) in graph.structures.iter().zip(times.iter()) {
-        if *times > 0 {
-            add_shapes(&mut counts, map, structure, *times);
-        }
-    }
+    let mut counts = nothing_held(alloc, layer_count(map))?;
+    add_all_shapes(
+        counts.as_mut_slice(),
+        map,
+        graph.structures,
+        times.as_slice(),
+    );
     Ok(counts)
 }
 
@@ -185,51 +204,64 @@ pub fn tell_no_top(
     tell_tops(text, structures, tops);
 }
 
+/// Tells of the structure of this number, with which the fault begins.
+fn tell_from(
+    alloc: Global,
+    text: &mut Text,
+    map: &Map,
+    graph: &Graph<'_>,
+    fault: PlaceFault,
+    one: usize,
+) {
+    match fault {
+        PlaceFault::Cycle { .. } => tell_circle(alloc, text, graph, one),
+        PlaceFault::TooDeep { .. } => tell_chain(text, graph, one),
+        _ => tell_counts(alloc, text, map, graph, one),
+    }
+}
+
 /// Tells of the reference, the structure or the shape at which the fault shows.
 fn tell_cause(
     alloc: Global,
     text: &mut Text,
     map: &Map,
     layout: &Layout<'_>,
-    structures: &[Structure],
+    library: &Library,
     fault: PlaceFault,
-) {
-    let Some(graph) = text.got(graph_of(alloc, structures)) else {
-        return;
-    };
-    match (fault, structure_at(structures, fault.place())) {
-        (PlaceFault::UnknownStructure { at }, _) => tell_unknown(text, layout, structures, at),
-        (PlaceFault::OutOfRange { at }, _) => {
+)
+    requires differ { AreDifferent (names_of library.now.structures) }
+    requires few { length library.now.structures < 2 ^ 32 }
+{
+    let structures = library.structures.as_slice();
+    match fault {
+        PlaceFault::UnknownStructure { at } => tell_unknown(text, layout, structures, at),
+        PlaceFault::OutOfRange { at } => {
             tell_place(text, "  ", &spot_at(layout.bytes, at), "\n");
         }
-        (PlaceFault::Cycle { .. }, Some(one)) => tell_circle(alloc, text, &graph, one),
-        (PlaceFault::TooDeep { .. }, Some(top)) => tell_chain(text, &graph, top),
-        (PlaceFault::TooManyShapes { .. }, Some(top)) => tell_counts(alloc, text, map, &graph, top),
-        _ => {}
+        _ => {
+            if let Some(one) = structure_at(structures, fault.place()) {
+                if let Some(graph) = text.got(graph_of(alloc, library)) {
+                    tell_from(alloc, text, map, &graph, fault, one);
+                }
+            }
+        }
     }
 }
 
-/// Tells why the shapes of structures are not placed, of which those with these numbers are named by no reference.
+/// Tells that the library has no top, or more than one, where these are the numbers of those that no reference names.
 fn tell_with_tops(
-    alloc: Global,
     told: &mut Telling,
-    map: &Map,
     layout: &Layout<'_>,
-    structures: &[Structure],
+    library: &Library,
     tops: &[u32],
     fault: PlaceFault,
 ) {
-    match fault {
-        PlaceFault::Memory => told.text.lose(),
-        PlaceFault::NoTop => tell_no_top(told, layout, structures, tops),
-        PlaceFault::ManyTops { .. } => {
-            tell_number(told, layout, fault.number(), fault.place());
-            tell_tops(&mut told.text, structures, tops);
-        }
-        _ => {
-            tell_number(told, layout, fault.number(), fault.place());
-            tell_cause(alloc, &mut told.text, map, layout, structures, fault);
-        }
+    let structures = library.structures.as_slice();
+    if fault == PlaceFault::NoTop {
+        tell_no_top(told, layout, structures, tops);
+    } else {
+        tell_number(told, layout, fault.number(), fault.place());
+        tell_tops(&mut told.text, structures, tops);
     }
 }
 
@@ -245,16 +277,16 @@ pub fn tell_place_fault(
     requires differ { AreDifferent (names_of library.now.structures) }
     requires few { length library.now.structures < 2 ^ 32 }
 {
-    match tops_of(alloc, library) {
-        Ok(tops) => tell_with_tops(
-            alloc,
-            told,
-            map,
-            layout,
-            library.structures.as_slice(),
-            tops.as_slice(),
-            fault,
-        ),
-        Err(NoMemory) => told.text.lose(),
+    match fault {
+        PlaceFault::Memory => told.text.lose(),
+        PlaceFault::NoTop | PlaceFault::ManyTops { .. } => {
+            if let Some(tops) = told.text.got(tops_of(alloc, library)) {
+                tell_with_tops(told, layout, library, tops.as_slice(), fault);
+            }
+        }
+        _ => {
+            tell_number(told, layout, fault.number(), fault.place());
+            tell_cause(alloc, &mut told.text, map, layout, library, fault);
+        }
     }
 }

@@ -9,7 +9,7 @@ use crate::telling::{Telling, Text};
 use geo_core::{Cell, Rect};
 use library_model::Library;
 use lists::NoMemory;
-use map_model::{Map, Metal};
+use map_model::{Map, Metal, Terminal};
 use std::alloc::Global;
 
 /// A terminal of the map, by its number, which is counted from 0.
@@ -22,10 +22,14 @@ pub struct Known {
     pub rect: Option<usize>,
 }
 
-/// The terminals of the map by their metals, and those of one metal by their columns.
-pub fn known_terminals(alloc: Global, map: &Map) -> Result<Vec<Known>, NoMemory> {
-    let mut known = Vec::new(alloc);
-    for (index, terminal) in map.terminals.as_slice().iter().enumerate() {
+/// Puts terminals in the order of their metals, and those of one metal in that of their columns.
+pub fn sort_by_columns(known: &mut [Known]) {
+    known.sort_unstable_by_key(|one| (one.metal, one.cell.i, one.index));
+}
+
+/// Adds terminals, which are numbered from 0.
+fn add_terminals(known: &mut Vec<Known>, terminals: &[Terminal]) -> Result<(), NoMemory> {
+    for (index, terminal) in terminals.iter().enumerate() {
         known.push(Known {
             index,
             metal: terminal.metal,
@@ -33,7 +37,14 @@ pub fn known_terminals(alloc: Global, map: &Map) -> Result<Vec<Known>, NoMemory>
             rect: None,
         })?;
     }
-    known.sort_by_key(|one| (one.metal, one.cell.i))?;
+    Ok(())
+}
+
+/// The terminals of the map by their metals, and those of one metal by their columns.
+pub fn known_terminals(alloc: Global, map: &Map) -> Result<Vec<Known>, NoMemory> {
+    let mut known = Vec::new(alloc);
+    add_terminals(&mut known, map.terminals.as_slice())?;
+    sort_by_columns(known.as_mut_slice());
     Ok(known)
 }
 
@@ -57,7 +68,12 @@ pub fn note_covered(known: &mut [Known], metal: u32, rect: Rect, number: usize) 
 
 /// The first terminal that no shape of its metal covers, where there is one.
 pub fn first_off(known: &[Known]) -> Option<Known> {
-    known.iter().find(|one| one.rect.is_none()).copied()
+    for one in known {
+        if one.rect.is_none() {
+            return Some(*one);
+        }
+    }
+    None
 }
 
 /// Tells behind some words which terminal is meant: its number and its line in the map, its metal and its cell.
@@ -112,14 +128,11 @@ fn nearer(known: Option<Near>, other: Near) -> Option<Near> {
 
 /// A nearest cell that a shape of the layer covers, where there is one.
 fn nearest(held: &Held, cell: Cell) -> Option<Near> {
+    let offsets = held.offsets.as_slice();
     let mut near = None;
-    for (rect, offset) in held
-        .rects
-        .as_slice()
-        .iter()
-        .zip(held.offsets.as_slice().iter())
-    {
-        near = nearer(near, near_in(*rect, *offset, cell));
+    for (number, rect) in held.rects.as_slice().iter().enumerate() {
+        let offset = offsets.get(number).copied().unwrap_or(0);
+        near = nearer(near, near_in(*rect, offset, cell));
     }
     near
 }
@@ -207,12 +220,11 @@ fn tell_metal_pairs(text: &mut Text, metal: &Metal) {
 
 /// Tells that the metal of this number covers nothing, and its pairs.
 fn tell_empty(text: &mut Text, map: &Map, shapes: &Shapes, number: usize) {
-    let is_some = shapes.held.get(number).is_some_and(|held| held.shapes > 0);
-    if is_some {
-        tell_layer(text, ": nothing is covered by the shapes of ", map, number);
-    } else {
-        tell_layer(text, ": the top places no shapes of ", map, number);
-    }
+    let before = match shapes.held.get(number) {
+        Some(held) if held.shapes > 0 => ": nothing is covered by the shapes of ",
+        _ => ": the top places no shapes of ",
+    };
+    tell_layer(text, before, map, number);
     text.say(", whose pairs are");
     if let Some(metal) = map.metals.as_slice().get(number) {
         tell_metal_pairs(text, metal);

@@ -20,7 +20,7 @@ fn tell_syntax(text: &mut Text, bytes: &[u8], error: &toml::de::Error) {
     let before = front(bytes, span.start);
     let line = line_ends(before).saturating_add(1);
     let column = last_line(before).saturating_add(1);
-    text.number("  line ", line as u64, ", column ");
+    text.number("  line ", line, ", column ");
     text.number("", column as u64, ": ");
     text.raw(error.message().as_bytes());
     text.say("\n");

@@ -61,16 +61,26 @@ pub fn tell_layer(text: &mut Text, before: &str, map: &Map, number: usize) {
 pub fn metal_place(map: &Map, name: &[u8]) -> Option<usize>
     ensures { IfSome result (λ place. place < length map.now.metals) }
 {
-    let mut metals = map.metals.as_slice().iter();
-    metals.position(|metal| metal.name.as_slice() == name)
+    let metals = map.metals.as_slice();
+    for place in 0..metals.len() {
+        if metals[place].name.as_slice() == name {
+            return Some(place);
+        }
+    }
+    None
 }
 
 /// The place among the map's cuts of the one with this name.
 pub fn cut_place(map: &Map, name: &[u8]) -> Option<usize>
     ensures { IfSome result (λ place. place < length map.now.cuts) }
 {
-    let mut cuts = map.cuts.as_slice().iter();
-    cuts.position(|cut| cut.name.as_slice() == name)
+    let cuts = map.cuts.as_slice();
+    for place in 0..cuts.len() {
+        if cuts[place].name.as_slice() == name {
+            return Some(place);
+        }
+    }
+    None
 }
 
 /// Tells the names of the map's metals, in a line.

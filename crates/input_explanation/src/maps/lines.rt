@@ -1,7 +1,5 @@
 //! In which line of a map a place of its document begins.
 
-ghost use Rattle.std.specs.Prelude.{◌≡◌, ◌==◌, count_by, length, take, min};
-
 use crate::telling::Text;
 use layer_map::{Measure, Place};
 use std::alloc::Global;
@@ -155,6 +153,14 @@ impl Walk {
         }
     }
 
+    /// Goes behind a statement that begins in this line.
+    fn pass_statement(&mut self, alloc: Global, statement: &[u8], line: u64) -> Option<Line> {
+        match toml::table_from_slice(alloc, statement) {
+            Ok(table) => self.pass(statement, &table, line),
+            Err(_) => None,
+        }
+    }
+
     /// Goes behind a statement that begins in this line, and of which this is the table. It has one key, or none where it is
     /// blank.
     fn pass(&mut self, statement: &[u8], table: &Table, line: u64) -> Option<Line> {
@@ -183,29 +189,30 @@ pub fn line_of(alloc: Global, text: &str, sought: Sought) -> Option<Line> {
         }
         let behind = behind_statement(alloc, rest);
         let statement = front(rest.as_bytes(), rest.len().saturating_sub(behind.len()));
-        if let Ok(table) = toml::table_from_slice(alloc, statement) {
-            if let Some(found) = walk.pass(statement, &table, line) {
-                return Some(found);
-            }
+        let found = walk.pass_statement(alloc, statement, line);
+        if found.is_some() {
+            return found;
         }
-        line = line.saturating_add(line_ends(statement) as u64);
+        line = line.saturating_add(line_ends(statement));
         rest = behind;
     }
     Some(Line::At(walk.table?))
 }
 
 /// The bytes in front of an offset, or all where it lies behind them.
-pub fn front(bytes: &[u8], offset: usize) -> &[u8]
-    ensures { result.now ≡ take (min offset (length bytes.now)) bytes.now }
-{
+pub fn front(bytes: &[u8], offset: usize) -> &[u8] {
     &bytes[..offset.min(bytes.len())]
 }
 
 /// How many lines end in the bytes.
-pub fn line_ends(bytes: &[u8]) -> usize
-    ensures { result ≡ count_by (λ byte. byte == 10) bytes.now }
-{
-    bytes.iter().filter(|byte| **byte == b'\n').count()
+pub fn line_ends(bytes: &[u8]) -> u64 {
+    let mut count = 0u64;
+    for byte in bytes {
+        if *byte == b'\n' {
+            count = count.saturating_add(1);
+        }
+    }
+    count
 }
 
 /// How many characters the last line of the bytes has, which begins behind the last line's end.

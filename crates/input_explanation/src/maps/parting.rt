@@ -8,8 +8,9 @@ ghost use Rattle.input_explanation.specs.declared.inputs.TheConstants.{LONGEST_L
 
 use crate::layouts::metal_islands::{metal_islands, tell_all_carried};
 use crate::layouts::shapes::placed_shapes;
-use crate::layouts::terminals::Known;
+use crate::layouts::terminals::{Known, sort_by_columns};
 use crate::maps::faults::terminal_of;
+use crate::maps::good_map::metal_place;
 use crate::telling::Text;
 use flatten::PlaceFault;
 use gds_syntax::{SyntaxFault, read_library};
@@ -29,31 +30,42 @@ pub struct Parted {
     terminals: Vec<Known>,
 }
 
+/// The cell in this column and this row, where there is one.
+fn cell_of(x: i64, y: i64) -> Option<Cell> {
+    Some(Cell {
+        i: i32::try_from(x).ok()?,
+        j: i32::try_from(y).ok()?,
+    })
+}
+
 /// The terminal of this number, where it is one of the map.
 fn known_of(map: &Map, index: usize, item: &Value) -> Option<Known> {
     let (name, x, y) = terminal_of(item)?;
-    let mut metals = map.metals.as_slice().iter();
-    let metal = metals.position(|metal| metal.name.as_slice() == name.as_bytes())?;
+    let metal = metal_place(map, name.as_bytes())?;
+    let cell = cell_of(x, y)?;
     Some(Known {
         index,
         metal: metal as u32,
-        cell: Cell {
-            i: i32::try_from(x).ok()?,
-            j: i32::try_from(y).ok()?,
-        },
+        cell,
         rect: None,
     })
 }
 
-/// The terminals of the map, by their metals and columns.
-fn all_known(alloc: Global, map: &Map, items: &[Value]) -> Result<Vec<Known>, NoMemory> {
-    let mut known = Vec::new(alloc);
+/// Adds the terminals of the map.
+fn add_known(known: &mut Vec<Known>, map: &Map, items: &[Value]) -> Result<(), NoMemory> {
     for (index, item) in items.iter().enumerate() {
         if let Some(one) = known_of(map, index, item) {
             known.push(one)?;
         }
     }
-    known.sort_by_key(|one| (one.metal, one.cell.i))?;
+    Ok(())
+}
+
+/// The terminals of the map, by their metals and columns.
+fn all_known(alloc: Global, map: &Map, items: &[Value]) -> Result<Vec<Known>, NoMemory> {
+    let mut known = Vec::new(alloc);
+    add_known(&mut known, map, items)?;
+    sort_by_columns(known.as_mut_slice());
     Ok(known)
 }
 
@@ -69,6 +81,19 @@ fn map_in(alloc: Global, document: &Table) -> Result<Option<Map>, NoMemory> {
     }
 }
 
+/// The map that this document is without the terminals that it had, where it is one, and these.
+fn without_terminals(
+    alloc: Global,
+    document: &Table,
+    items: &[Value],
+) -> Result<Option<Parted>, NoMemory> {
+    let Some(map) = map_in(alloc, document)? else {
+        return Ok(None);
+    };
+    let terminals = all_known(alloc, &map, items)?;
+    Ok(Some(Parted { map, terminals }))
+}
+
 /// The map that the bytes say without its terminals, where it has too many and is good but for them.
 pub fn parted_of(alloc: Global, bytes: &[u8]) -> Result<Option<Parted>, NoMemory> {
     let Ok(mut document) = toml::table_from_slice(alloc, bytes) else {
@@ -80,11 +105,7 @@ pub fn parted_of(alloc: Global, bytes: &[u8]) -> Result<Option<Parted>, NoMemory
     if items.len() <= MOST_TERMINALS {
         return Ok(None);
     }
-    let Some(map) = map_in(alloc, &document)? else {
-        return Ok(None);
-    };
-    let terminals = all_known(alloc, &map, items.as_slice())?;
-    Ok(Some(Parted { map, terminals }))
+    without_terminals(alloc, &document, items.as_slice())
 }
 
 /// Tells the terminals by their islands, where the layout is good.

@@ -9,8 +9,8 @@ pub const MAP_SKELETON: &str = "--map-skeleton";
 /// What is asked for.
 #[derive(Clone, Copy)]
 pub struct Asked<'a> {
-    pub layout: &'a str,
-    pub top: Option<&'a str>,
+    pub layout: &'a [u8],
+    pub top: Option<&'a [u8]>,
     /// Whether the layers are to come as a map.
     pub as_map: bool,
 }
@@ -18,8 +18,8 @@ pub struct Asked<'a> {
 /// What words have given so far.
 #[derive(Clone, Copy)]
 struct Given<'a> {
-    layout: Option<&'a str>,
-    top: Option<&'a str>,
+    layout: Option<&'a [u8]>,
+    top: Option<&'a [u8]>,
     as_map: bool,
     /// Whether the next word is the name of the top.
     awaits_top: bool,
@@ -33,7 +33,7 @@ impl<'a> Given<'a> {
         if self.layout.is_some() || name.is_empty() {
             return None;
         }
-        self.layout = Some(name);
+        self.layout = Some(name.as_bytes());
         Some(())
     }
 
@@ -42,7 +42,7 @@ impl<'a> Given<'a> {
         if self.top.is_some() || name.is_empty() {
             return None;
         }
-        self.top = Some(name);
+        self.top = Some(name.as_bytes());
         self.awaits_top = false;
         Some(())
     }
