@@ -6,13 +6,17 @@
 
 mod areas;
 mod clusters;
+mod critical;
 mod drawn;
+mod handed;
 mod joined;
 mod labelled;
 mod maps;
+mod nearest;
 mod nets;
 mod opens;
 mod pictures;
+mod plane;
 mod readers;
 mod runs;
 mod spots;
@@ -20,46 +24,54 @@ mod spotted;
 mod tiles;
 mod touching;
 
-use row_tables::{Document, check_files};
+use row_tables::{Flaw, Report, Row, check_files};
 use std::io;
 
-/// Checks the rows of each kind.
-fn check(document: &mut Document<'_>) {
-    document.share("drawn");
-    document.share("pieces_of");
-    document.share("map");
-    document.check("open_area", opens::area);
-    document.check("open_area_counted", opens::counted_area);
-    document.check("open_cells", opens::cells);
-    document.check("parted", opens::is_parted);
-    document.check("parted_counted", opens::counted_parting);
-    document.check("ring", opens::ring_tells);
-    document.check("spots", spots::field);
-    document.check("label", nets::labels);
-    document.check("nets", nets::names);
-    document.check("clusters", clusters::boxes);
-    document.check("contact_groups", clusters::groups);
-    document.check("pieces", clusters::pieces);
-    document.check("handed_out", clusters::handed_out);
-    document.check("net_fault", clusters::net_fault);
-    document.check("union", areas::union);
-    document.check("sweeps", areas::sweeps);
-    document.check("via_area", areas::vias);
-    document.check("short_area", areas::shorts);
-    document.check("pair_areas", labelled::pair_list);
-    document.check("two_nearest", labelled::nearest);
-    document.check("net_numbers", labelled::numbers);
-    document.check("joined", joined::rects);
-    document.check("touch_pairs", touching::pairs);
-    document.check("map_pairs", maps::pairs);
-    document.check("probe", maps::near);
-    document.check("region", maps::region);
-    document.check("plan", tiles::plans);
-    document.check("near_tile", tiles::near_tile);
-    document.check("runs", runs::runs);
-    document.check("union_runs", runs::union);
-    document.check("runs_within", runs::within);
-    document.check("twice_runs_within", runs::twice_within);
+/// Checks a row on pieces with labels, on rectangles that touch, on maps, on tiles or on what is drawn.
+fn check_other<'a>(row: Row<'a>, report: &mut Report) -> Result<(), Flaw<'a>> {
+    match row.kind {
+        "critical_cells" => critical::cells(row, report),
+        "gathered" => joined::gathered(row, report),
+        "joined" => joined::rects(row, report),
+        "map_pairs" => maps::pairs(row, report),
+        "meetings" => touching::meeting(row, report),
+        "near_tile" => tiles::near_tile(row, report),
+        "near_tiles" => tiles::near_all(row, report),
+        "nearest_at" => nearest::at_cells(row, report),
+        "net_numbers" => labelled::numbers(row, report),
+        "pair_areas" => labelled::pair_list(row, report),
+        "plan" => tiles::plans(row, report),
+        "probe" => maps::near(row, report),
+        "region" => maps::region(row, report),
+        "touch_pairs" => touching::pairs(row, report),
+        "turns" => plane::turns(row, report),
+        "two_nearest" => labelled::nearest(row, report),
+        "two_rects" => plane::two_rects(row, report),
+        _ => drawn::check(row, report),
+    }
+}
+
+/// Checks a row of any kind.
+fn check_row<'a>(row: Row<'a>, report: &mut Report) -> Result<(), Flaw<'a>> {
+    match row.kind {
+        "label" => nets::labels(row, report),
+        "merged" => runs::merged(row, report),
+        "runs" => runs::runs(row, report),
+        "runs_within" => runs::within(row, report),
+        "short_area" => areas::shorts(row, report),
+        "sweeps" => areas::sweeps(row, report),
+        "twice_runs_within" => runs::twice_within(row, report),
+        "union" => areas::union(row, report),
+        "union_runs" => runs::union(row, report),
+        "via_area" => areas::vias(row, report),
+        _ => check_other(row, report),
+    }
+}
+
+/// Checks a row and reports what is wrong in it.
+fn check(row: Row<'_>, report: &mut Report) {
+    let checked = check_row(row, report);
+    report.close(checked);
 }
 
 fn main(rt: HostRuntime) -> io::Result<()> {

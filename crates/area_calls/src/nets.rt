@@ -2,20 +2,42 @@
 
 ghost use Rattle.std.specs.Prelude.{◌≡◌, length};
 
-use crate::drawn::nets;
 use crate::readers::expect_cells;
 use geo_core::{Cell, Rect};
 use islands::label;
 use net_extract::{ContactPiece, Nets, Piece};
-use row_tables::Row;
-use std::alloc::Global;
+use row_tables::{Flaw, Report, Row};
+use std::alloc::{AllocError, Global};
 
-/// The island of each rectangle.
-pub fn labels(row: &mut Row<'_>) -> Option<()> {
+/// What is said of labels that are too many for a list.
+fn summary(labels: &[usize]) -> &'static str {
+    let mut are_one = true;
+    let mut are_apart = true;
+    for (number, label) in labels.iter().enumerate() {
+        are_one = are_one && *label == 0;
+        are_apart = are_apart && *label == number;
+    }
+    if are_one {
+        "one island"
+    } else if are_apart {
+        "an island each"
+    } else {
+        "others"
+    }
+}
+
+/// The island of each rectangle, or what is said of all and how many there are.
+pub fn labels<'a>(row: Row<'a>, report: &mut Report) -> Result<(), Flaw<'a>> {
+    row.only(&["rects", "labels", "count"])?;
     let rects = row.rects("rects")?;
-    let labels = label(row.alloc(), rects.as_slice()).ok()?;
-    row.expect("labels", format_args!("{:?}", labels.as_slice()));
-    Some(())
+    let labels = label(row.alloc, rects.as_slice())?;
+    if row.has("count") {
+        report.expect(row, "count", labels.len());
+        report.expect_text(row, "labels", summary(labels.as_slice()));
+    } else {
+        report.expect(row, "labels", format_args!("{:?}", labels.as_slice()));
+    }
+    Ok(())
 }
 
 /// Whether the rectangle has the cell.
@@ -33,89 +55,145 @@ pub fn numbers_at(pieces: &[Piece], cell: Cell) -> Option<(usize, usize)> {
     None
 }
 
-/// A place: the number of its metal, and its cell.
-type Place = (usize, Cell);
-
-/// Appends the lower left cell of each of the rectangles.
-fn add_corners(places: &mut Vec<Place>, metal: usize, rects: &[Rect]) -> Option<()> {
-    for rect in rects {
-        let cell = Cell {
-            i: rect.x0,
-            j: rect.y0,
-        };
-        places.push((metal, cell)).ok()?;
+/// Appends a metal and the lower left cell of each of the rectangles on it.
+fn add_corners<'a>(
+    row: Row<'a>,
+    places: &mut Vec<i32>,
+    metal: i32,
+    key: &'a str,
+) -> Result<(), Flaw<'a>> {
+    let rects = row.rects(key)?;
+    for rect in rects.as_slice() {
+        places.extend_from_slice(&[metal, rect.x0, rect.y0])?;
     }
-    Some(())
+    Ok(())
 }
 
-/// The places that a row names.
-fn named_places(row: &mut Row<'_>) -> Option<Vec<Place>> {
-    let mut places = Vec::new(row.alloc());
-    for place in row.number_lists("at")? {
-        let [metal, i, j] = place.as_slice() else {
-            return None;
-        };
-        let metal = if *metal == 0 { 0 } else { 1 };
-        places.push((metal, Cell { i: *i, j: *j })).ok()?;
-    }
-    Some(places)
-}
-
-/// The places that a row names, or else the lower left cells of the rectangles of both metals.
-fn places(row: &mut Row<'_>) -> Option<Vec<Place>> {
+/// The places that a row names, or else the lower left cells of the rectangles of both metals: the metal, the column and the row
+/// of each.
+fn places<'a>(row: Row<'a>) -> Result<Vec<i32>, Flaw<'a>> {
     if row.has("at") {
-        return named_places(row);
+        return row.flat("at", 3);
     }
-    let mut places = Vec::new(row.alloc());
-    add_corners(&mut places, 0, row.rects("lower")?.as_slice())?;
-    add_corners(&mut places, 1, row.rects("upper")?.as_slice())?;
-    Some(places)
+    let mut places = Vec::new(row.alloc);
+    add_corners(row, &mut places, 0, "lower")?;
+    add_corners(row, &mut places, 1, "upper")?;
+    Ok(places)
 }
 
-/// The letter of this number.
-fn letter(number: usize) -> char {
-    if number < 26 {
-        char::from(b'a' + number as u8)
-    } else {
-        '?'
+/// The islands and the nets at places, each as numbers that tell them apart.
+#[derive(Drop)]
+struct Numbers {
+    islands: Vec<(usize, usize)>,
+    nets: Vec<(usize, usize)>,
+}
+
+/// Appends the island and the net of a cell, if a piece of its metal has it.
+fn add_numbers(
+    numbers: &mut Numbers,
+    metals: &[&[Piece]; 2],
+    metal: usize,
+    cell: Cell,
+) -> Result<(), AllocError> {
+    if let Some((island, net)) = numbers_at(metals[metal % 2], cell) {
+        numbers.islands.push((metal, island))?;
+        numbers.nets.push((0, net))?;
     }
+    Ok(())
+}
+
+/// The islands and the nets at the places.
+fn numbers_of(
+    alloc: Global,
+    metals: &[&[Piece]; 2],
+    places: &[i32],
+) -> Result<Numbers, AllocError> {
+    let mut numbers = Numbers {
+        islands: Vec::new(alloc),
+        nets: Vec::new(alloc),
+    };
+    for place in places.chunks(3) {
+        if let [metal, i, j] = place {
+            add_numbers(
+                &mut numbers,
+                metals,
+                usize::from(*metal != 0),
+                Cell { i: *i, j: *j },
+            )?;
+        }
+    }
+    Ok(numbers)
+}
+
+/// The place of the first thing that is equal to this one.
+fn first_equal(things: &[(usize, usize)], thing: (usize, usize)) -> usize {
+    let mut place: usize = 0;
+    for other in things {
+        if *other == thing {
+            return place;
+        }
+        place = place.saturating_add(1);
+    }
+    place
 }
 
 /// A letter for each thing: the same as that of the first one that is equal.
-fn letters(alloc: Global, things: &[(usize, usize)]) -> Option<String> {
-    let mut seen: Vec<(usize, usize)> = Vec::new(alloc);
-    let mut text = String::new(alloc);
+fn letters(alloc: Global, things: &[(usize, usize)]) -> Result<Vec<u8>, AllocError> {
+    let mut letters: Vec<u8> = Vec::new(alloc);
+    let mut next = b'a';
     for thing in things {
-        let known = seen.as_slice().iter().position(|other| other == thing);
-        text.push(letter(known.unwrap_or(seen.len()))).ok()?;
-        if known.is_none() {
-            seen.push(*thing).ok()?;
+        let first = first_equal(things, *thing);
+        let letter = match letters.get(first) {
+            Some(letter) => *letter,
+            None => next,
+        };
+        if letter == next {
+            next = next.saturating_add(1);
         }
+        letters.push(letter)?;
     }
-    Some(text)
+    Ok(letters)
+}
+
+/// Compares the letters of the things.
+pub fn expect_letters<'a>(
+    row: Row<'a>,
+    report: &mut Report,
+    key: &'a str,
+    things: &[(usize, usize)],
+) -> Result<(), Flaw<'a>> {
+    let letters = letters(row.alloc, things)?;
+    match std::str::from_utf8(letters.as_slice()) {
+        Ok(text) => report.expect_text(row, key, text),
+        Err(_) => return Err(Flaw::of(key, "too many for letters")),
+    }
+    Ok(())
 }
 
 /// Compares the letters of the islands and of the nets at the places.
-fn expect_letters(row: &mut Row<'_>, metals: &[&[Piece]; 2], places: &[Place]) -> Option<()> {
-    let mut islands = Vec::new(row.alloc());
-    let mut nets = Vec::new(row.alloc());
-    for (metal, cell) in places {
-        let (island, net) = numbers_at(metals[*metal % 2], *cell)?;
-        islands.push((*metal, island)).ok()?;
-        nets.push((0, net)).ok()?;
-    }
-    row.expect("islands", letters(row.alloc(), islands.as_slice())?);
-    row.expect("nets", letters(row.alloc(), nets.as_slice())?);
-    Some(())
+fn expect_names<'a>(
+    row: Row<'a>,
+    report: &mut Report,
+    metals: &[&[Piece]; 2],
+    places: &[i32],
+) -> Result<(), Flaw<'a>> {
+    let numbers = numbers_of(row.alloc, metals, places)?;
+    expect_letters(row, report, "islands", numbers.islands.as_slice())?;
+    expect_letters(row, report, "nets", numbers.nets.as_slice())
 }
 
-/// The rectangles of the pieces.
-fn rects_of(alloc: Global, pieces: &[Piece]) -> Option<Vec<Rect>> {
-    let mut rects = Vec::new(alloc);
+/// Compares the cells of the pieces.
+fn expect_pieces<'a>(
+    row: Row<'a>,
+    report: &mut Report,
+    key: &'a str,
+    pieces: &[Piece],
+) -> Result<(), Flaw<'a>> {
+    let mut rects = Vec::new(row.alloc);
     for piece in pieces {
-        rects.push(piece.rect).ok()?;
+        rects.push(piece.rect)?;
     }
-    Some(rects)
+    expect_cells(row, report, key, rects.as_slice())
 }
 
 /// Whether the contact piece carries the islands of both metals on which its lower left cell lies.
@@ -130,40 +208,34 @@ fn lies_on_its_islands(contact: &ContactPiece, metals: &[&[Piece]; 2]) -> bool {
     }
 }
 
-/// Compares the contact pieces.
-fn expect_contacts(
-    row: &mut Row<'_>,
+/// Compares the cells of the contact pieces.
+fn expect_contacts<'a>(
+    row: Row<'a>,
+    report: &mut Report,
     contacts: &[ContactPiece],
     metals: &[&[Piece]; 2],
-) -> Option<()> {
-    let mut rects = Vec::new(row.alloc());
+) -> Result<(), Flaw<'a>> {
+    let mut rects = Vec::new(row.alloc);
     for contact in contacts {
         if !lies_on_its_islands(contact, metals) {
-            row.note("contacts", "one carries other islands than those under it");
+            return Err(Flaw::of("contacts", "one carries other islands than those under it"));
         }
-        rects.push(contact.rect).ok()?;
+        rects.push(contact.rect)?;
     }
-    expect_cells(row, "contacts", rects.as_slice())
-}
-
-/// Compares what two metals and a cut come to.
-fn expect_nets(row: &mut Row<'_>, nets: &Nets, places: &[Place]) -> Option<()>
-    requires metals { length nets.now.pieces ≡ 2 }
-    requires cuts { length nets.now.contacts ≡ 1 }
-{
-    let metals = [nets.pieces(0), nets.pieces(1)];
-    expect_letters(row, &metals, places)?;
-    expect_contacts(row, nets.contacts(0), &metals)?;
-    let lower = rects_of(row.alloc(), metals[0])?;
-    let upper = rects_of(row.alloc(), metals[1])?;
-    expect_cells(row, "lower", lower.as_slice())?;
-    expect_cells(row, "upper", upper.as_slice())
+    expect_cells(row, report, "contacts", rects.as_slice())
 }
 
 /// The islands, nets and contacts of two metals and a cut. How many pieces and contact pieces there are, in which order they come
 /// and which numbers they have is not promised.
-pub fn names(row: &mut Row<'_>) -> Option<()> {
+pub fn names<'a>(row: Row<'a>, report: &mut Report, nets: &Nets) -> Result<(), Flaw<'a>>
+    requires metals { length nets.now.pieces ≡ 2 }
+    requires cuts { length nets.now.contacts ≡ 1 }
+{
+    row.only(&["lower", "upper", "cut", "at", "islands", "nets", "contacts"])?;
+    let metals = [nets.pieces(0), nets.pieces(1)];
+    expect_contacts(row, report, nets.contacts(0), &metals)?;
+    expect_pieces(row, report, "lower", metals[0])?;
+    expect_pieces(row, report, "upper", metals[1])?;
     let places = places(row)?;
-    let nets = nets(row)?;
-    expect_nets(row, &nets, places.as_slice())
+    expect_names(row, report, &metals, places.as_slice())
 }

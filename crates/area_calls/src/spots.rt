@@ -1,168 +1,182 @@
 //! Islands whose anchors are spots of several rectangles and cells, at each cell of a window and for each of eight sides.
 
-use crate::drawn::{islands_in, only};
-use crate::readers::covers;
-use crate::spotted::with_spots_of;
+use crate::readers::{covers, expect_numbers};
 use fault_model::Island;
 use geo_core::{Cell, Rect};
+use lists::NoMemory;
 use open_grid::{open_area, open_cells, parted};
 use ring_test::{RingAnswer, ring};
-use row_tables::Row;
+use row_tables::{Flaw, Report, Row};
 use samples::sides::are_near;
 use std::alloc::Global;
 
-/// The greatest side of the defects that are tried.
-const MOST: u32 = 8;
-
-/// The columns, and the rows, of the cells at which they are.
+/// The columns, and the rows, of the cells at which the defects are.
 const FIRST: i32 = -4;
 
 const PAST_LAST: i32 = 12;
 
-/// For each side, the least one first, whether something holds.
-type Sides = [bool; 8];
-
-/// What defects of each side do at a cell.
+/// What a defect of one side does at a cell.
 #[derive(Clone, Copy)]
-struct Effects {
+struct Effect {
     /// Whether two spots are parted.
-    parted: Sides,
-    /// Whether the cell is listed among those at which two are.
-    listed: Sides,
+    parted: bool,
     /// Whether the metal is touched.
-    touched: Sides,
-    /// Whether what the ring tells agrees with what is parted.
+    touched: bool,
+    /// Whether the cell is listed exactly if two spots are parted, and what the ring tells agrees with that.
     agree: bool,
 }
 
-/// The digit of the least side at which it holds, if it does at all that are greater. If it does not the mark is `!`.
-fn digit(sides: Sides) -> char {
-    let least = sides.iter().position(|holds| *holds).unwrap_or(8);
-    if !sides.iter().skip(least).all(|holds| *holds) {
-        return '!';
-    }
-    if least < 8 {
-        char::from(b'1' + least as u8)
-    } else {
-        '.'
-    }
-}
-
-/// Adds what the defect of this side does.
-fn add_effect(
+/// What the defect of this side does at the cell. The list has the cells at which two spots are parted.
+fn effect_at(
     alloc: Global,
-    effects: &mut Effects,
     island: &Island,
-    listed: &[Rect],
+    list: &[Rect],
     cell: Cell,
     side: u32,
-) -> Option<()> {
-    if side == 0 || side > MOST || !are_near(island.pieces.as_slice()) {
-        return None;
+) -> Result<Effect, NoMemory> {
+    if side == 0 || side > 8 || !are_near(island.pieces.as_slice()) {
+        return Err(NoMemory);
     }
-    let place = (side as usize - 1) % 8;
-    let parted = parted(alloc, island, cell, side).ok()?;
-    let told = ring(alloc, island, cell, side).ok()?;
-    effects.parted[place] = parted;
-    effects.listed[place] = covers(listed, cell.i, cell.j);
-    effects.touched[place] = told != RingAnswer::Untouched;
+    let parted = parted(alloc, island, cell, side)?;
+    let told = ring(alloc, island, cell, side)?;
     let settled = match told {
         RingAnswer::Untouched => !parted,
         RingAnswer::OneArc { lost } => lost == parted,
         RingAnswer::Many => true,
     };
-    effects.agree = effects.agree && settled;
-    Some(())
+    Ok(Effect {
+        parted,
+        touched: told != RingAnswer::Untouched,
+        agree: settled && covers(list, cell.i, cell.j) == parted,
+    })
+}
+
+/// What defects of all sides do at a cell.
+#[derive(Clone, Copy)]
+struct Effects {
+    /// A bit for each side, the lowest one for side 1: whether two spots are parted.
+    parted: u8,
+    /// Whether the metal is touched, in the same way.
+    touched: u8,
+    agree: bool,
 }
 
 /// What defects of each side do at the cell. For each side there is a list of cells at which two spots are parted.
-fn effects_at(alloc: Global, island: &Island, lists: &[Vec<Rect>], cell: Cell) -> Option<Effects> {
+fn effects_at(
+    alloc: Global,
+    island: &Island,
+    lists: &[Vec<Rect>],
+    cell: Cell,
+) -> Result<Effects, NoMemory> {
     let mut effects = Effects {
-        parted: [false; 8],
-        listed: [false; 8],
-        touched: [false; 8],
+        parted: 0,
+        touched: 0,
         agree: true,
     };
-    for (list, side) in lists.iter().zip(1..=MOST) {
-        add_effect(alloc, &mut effects, island, list.as_slice(), cell, side)?;
+    let mut side = 0u32;
+    for list in lists {
+        side = side.saturating_add(1);
+        let effect = effect_at(alloc, island, list.as_slice(), cell, side)?;
+        effects.parted = effects.parted >> 1 | (u8::from(effect.parted) << 7);
+        effects.touched = effects.touched >> 1 | (u8::from(effect.touched) << 7);
+        effects.agree = effects.agree && effect.agree;
     }
-    Some(effects)
+    Ok(effects)
 }
 
-/// The pictures of an island: of what is parted, and of what is listed, each beside what is touched.
-#[derive(Drop)]
-struct Pictures {
-    parted: String,
-    listed: String,
+/// The digit of the least side at which something holds, if it holds at all that are greater. If it does not the mark is `!`.
+fn digit(sides: u8) -> char {
+    match sides {
+        0b0000_0000 => '.',
+        0b1000_0000 => '8',
+        0b1100_0000 => '7',
+        0b1110_0000 => '6',
+        0b1111_0000 => '5',
+        0b1111_1000 => '4',
+        0b1111_1100 => '3',
+        0b1111_1110 => '2',
+        0b1111_1111 => '1',
+        _ => '!',
+    }
 }
 
-/// Appends row `j` to the pictures.
+/// Appends row `j` to the picture: of what is parted, and then of what is touched.
 fn draw_row(
     alloc: Global,
-    pictures: &mut Pictures,
+    picture: &mut String,
     island: &Island,
     lists: &[Vec<Rect>],
     j: i32,
-) -> Option<()> {
+) -> Result<(), NoMemory> {
     let mut touched = String::new(alloc);
     for i in FIRST..PAST_LAST {
         let effects = effects_at(alloc, island, lists, Cell { i, j })?;
-        pictures.parted.push(digit(effects.parted)).ok()?;
-        pictures.listed.push(digit(effects.listed)).ok()?;
-        let mark = if effects.agree {
-            digit(effects.touched)
+        picture.push(digit(effects.parted))?;
+        if effects.agree {
+            touched.push(digit(effects.touched))?;
         } else {
-            '!'
-        };
-        touched.push(mark).ok()?;
+            touched.push('!')?;
+        }
     }
-    writeln!(pictures.parted, " {touched}").ok()?;
-    writeln!(pictures.listed, " {touched}").ok()
+    picture.push(' ')?;
+    picture.push_str(touched.as_str())?;
+    Ok(picture.push('\n')?)
 }
 
-/// Compares the pictures of the island.
-fn expect_pictures(row: &mut Row<'_>, island: &Island, lists: &[Vec<Rect>]) -> Option<()> {
-    let mut pictures = Pictures {
-        parted: String::new(row.alloc()),
-        listed: String::new(row.alloc()),
-    };
+/// The picture of the island.
+fn picture(alloc: Global, island: &Island, lists: &[Vec<Rect>]) -> Result<String, NoMemory> {
+    let mut picture = String::new(alloc);
     for j in (FIRST..PAST_LAST).rev() {
-        draw_row(row.alloc(), &mut pictures, island, lists, j)?;
+        draw_row(alloc, &mut picture, island, lists, j)?;
     }
-    let Pictures { parted, listed } = pictures;
-    row.expect("least", parted);
-    row.expect("least", listed);
-    Some(())
+    Ok(picture)
 }
 
-/// The area of opens for this side, with the cells added to the lists.
-fn add_list(
-    alloc: Global,
-    lists: &mut Vec<Vec<Rect>>,
-    islands: &[Island],
-    side: u32,
-) -> Option<u64> {
-    if side == 0 || side > MOST {
-        return None;
-    }
+/// The cells at which a defect parts two spots, for each side.
+fn lists_of(alloc: Global, islands: &[Island]) -> Result<Vec<Vec<Rect>>, NoMemory> {
     let window = Rect::new(FIRST, FIRST, PAST_LAST, PAST_LAST);
-    lists
-        .push(open_cells(alloc, islands, window, side).ok()?)
-        .ok()?;
-    open_area(alloc, islands, window, side).ok()
+    let mut lists = Vec::new(alloc);
+    for number in 0..8 {
+        lists.push(open_cells(alloc, islands, window, number + 1)?)?;
+    }
+    Ok(lists)
+}
+
+/// The area of opens for each side.
+fn areas_of(alloc: Global, islands: &[Island]) -> Result<Vec<u64>, NoMemory> {
+    let window = Rect::new(FIRST, FIRST, PAST_LAST, PAST_LAST);
+    let mut areas = Vec::new(alloc);
+    for number in 0..8 {
+        areas.push(open_area(alloc, islands, window, number + 1)?)?;
+    }
+    Ok(areas)
+}
+
+/// Compares the areas of opens of the island.
+fn expect_areas<'a>(row: Row<'a>, report: &mut Report, islands: &[Island]) -> Result<(), Flaw<'a>> {
+    let areas = areas_of(row.alloc, islands)?;
+    expect_numbers(row, report, "areas", areas.as_slice());
+    Ok(())
+}
+
+/// Compares the picture of the island.
+fn expect_picture<'a>(
+    row: Row<'a>,
+    report: &mut Report,
+    islands: &[Island],
+) -> Result<(), Flaw<'a>> {
+    let [island] = islands else {
+        return Err(Flaw::of("lower", "not one island"));
+    };
+    let lists = lists_of(row.alloc, islands)?;
+    let picture = picture(row.alloc, island, lists.as_slice())?;
+    report.expect_text(row, "least", picture.as_str());
+    Ok(())
 }
 
 /// What defects part on an island with spots, at each cell of a window.
-pub fn field(row: &mut Row<'_>) -> Option<()> {
-    let island = only(islands_in(row)?)?;
-    let mut islands = Vec::new(row.alloc());
-    islands.push(with_spots_of(row, island)?).ok()?;
-    let mut lists = Vec::new(row.alloc());
-    let mut areas = Vec::new(row.alloc());
-    for side in 1..=MOST {
-        let area = add_list(row.alloc(), &mut lists, islands.as_slice(), side)?;
-        areas.push(area).ok()?;
-    }
-    row.expect("areas", format_args!("{:?}", areas.as_slice()));
-    expect_pictures(row, islands.as_slice().first()?, lists.as_slice())
+pub fn field<'a>(row: Row<'a>, report: &mut Report, islands: &[Island]) -> Result<(), Flaw<'a>> {
+    row.only(&["lower", "terminals", "spots", "areas", "least"])?;
+    expect_areas(row, report, islands)?;
+    expect_picture(row, report, islands)
 }

@@ -5,10 +5,9 @@ ghost use Rattle.geo_core.specs.Cells.{Has};
 ghost use Rattle.geo_core.specs.declared.plane.Cell.{Cell};
 ghost use Rattle.area_calls.specs.OnPieces.{IsOnPieces, IsSpotOnPieces};
 
-use crate::readers::rects_of;
 use fault_model::{Island, Spot, Spots};
 use geo_core::{Rect, RectList, clip};
-use row_tables::Row;
+use row_tables::{Flaw, Row, rects_of};
 use std::alloc::{AllocError, Global};
 
 /// Adds what the rectangle has in common with each of the pieces.
@@ -46,14 +45,16 @@ fn spot_on(alloc: Global, sides: &[i32], pieces: &[Rect]) -> Option<Spot> {
     spot_of(common(alloc, rects.as_slice(), pieces).ok()?)
 }
 
-/// The spots of a row, each with what it has of the pieces.
-fn spots_on(row: &mut Row<'_>, pieces: &[Rect]) -> Option<Vec<Spot>> {
-    let mut spots = Vec::new(row.alloc());
-    for sides in row.number_lists("spots")? {
-        let spot = spot_on(row.alloc(), sides.as_slice(), pieces)?;
-        spots.push(spot).ok()?;
+/// Appends the spots of a row, each with what it has of the pieces.
+fn add_spots<'a>(row: Row<'a>, spots: &mut Vec<Spot>, pieces: &[Rect]) -> Result<(), Flaw<'a>> {
+    let lists = row.number_lists("spots")?;
+    for sides in lists.as_slice() {
+        match spot_on(row.alloc, sides.as_slice(), pieces) {
+            Some(spot) => spots.push(spot)?,
+            None => return Err(Flaw::of("spots", "one has nothing of the metal")),
+        }
     }
-    Some(spots)
+    Ok(())
 }
 
 /// Whether the one rectangle lies in the other.
@@ -126,8 +127,21 @@ fn with_spots(island: Island, spots: Vec<Spot>) -> Option<Island> {
     })
 }
 
-/// The island with the spots of a row for its anchors, each with what it has of the pieces.
-pub fn with_spots_of(row: &mut Row<'_>, island: Island) -> Option<Island> {
-    let spots = spots_on(row, island.pieces.as_slice())?;
-    with_spots(island, spots)
+/// The island with the spots of a row in place of its own, each with what it has of the pieces.
+fn with_spots_of<'a>(row: Row<'a>, island: Island) -> Result<Island, Flaw<'a>> {
+    let mut spots = Vec::new(row.alloc);
+    add_spots(row, &mut spots, island.pieces.as_slice())?;
+    match with_spots(island, spots) {
+        Some(island) => Ok(island),
+        None => Err(Flaw::of("spots", "one does not lie on the island")),
+    }
+}
+
+/// Puts the spots of a row in place of those of the last island.
+pub fn put_spots<'a>(row: Row<'a>, islands: &mut Vec<Island>) -> Result<(), Flaw<'a>> {
+    let Some(island) = islands.pop() else {
+        return Err(Flaw::of("spots", "no island for them"));
+    };
+    let island = with_spots_of(row, island)?;
+    Ok(islands.push(island)?)
 }

@@ -1,6 +1,4 @@
-//! The calls that count by columns: rows of nodes and the tree of counts.
+//! Steps that sweeps and their trees take.
 
-mod area_rows;
-mod many_rows;
 mod step_rows;
 mod tree_rows;

@@ -1,12 +1,14 @@
 //! What faults say: their numbers, their places and their texts.
 
+use crate::texts::shown;
 use command_line::WordsFault;
+use edge_io::ReadError;
 use flatten::PlaceFault;
 use gds_records::RecordFault;
 use gds_syntax::SyntaxFault;
 use layer_map::MapFault;
 use rect_cover::CoverFault;
-use row_tables::Row;
+use row_tables::{Flaw, Report, Row};
 use std::fmt::Display;
 
 const WORDS: &[WordsFault] = &[WordsFault::Usage, WordsFault::Memory];
@@ -71,67 +73,78 @@ const COVERS: &[CoverFault] = &[
     CoverFault::Memory,
 ];
 
-/// Appends a line on the fault.
-fn print(text: &mut String, number: u8, place: u64, fault: &impl Display) -> Option<()> {
-    writeln!(text, "{number} at {place}: {fault}").ok()
+const READS: &[ReadError] = &[ReadError::Fault, ReadError::TooLong, ReadError::Memory];
+
+/// Appends what errors of reading files say.
+fn print_reads(text: &mut Report) {
+    for error in READS {
+        text.print(error);
+        text.say("\n");
+    }
 }
 
-/// `[[words_faults]]`: what faults of words say, one a line.
-pub fn check_words(row: &mut Row<'_>) -> Option<()> {
-    let mut text = String::new(row.alloc());
+/// Appends a line on a fault: its number, its place and its text.
+fn print(text: &mut Report, number: u8, place: u64, fault: impl Display + Drop) {
+    text.print(format_args!("{number} at {place}: {fault}\n"));
+}
+
+/// Appends what faults of words say.
+fn print_words(text: &mut Report) {
     for fault in WORDS {
-        print(&mut text, fault.number(), fault.place(), fault)?;
+        print(text, fault.number(), fault.place(), fault);
     }
-    row.expect("say", text.as_str());
-    Some(())
 }
 
-/// `[[map_faults]]`: what faults of layer maps say, one a line.
-pub fn check_maps(row: &mut Row<'_>) -> Option<()> {
-    let mut text = String::new(row.alloc());
+/// Appends what faults of layer maps say.
+fn print_maps(text: &mut Report) {
     for fault in MAPS {
-        print(&mut text, fault.number(), fault.place(), fault)?;
+        print(text, fault.number(), fault.place(), fault);
     }
-    row.expect("say", text.as_str());
-    Some(())
 }
 
-/// `[[record_faults]]`: what faults of records say, one a line.
-pub fn check_records(row: &mut Row<'_>) -> Option<()> {
-    let mut text = String::new(row.alloc());
+/// Appends what faults of records say.
+fn print_records(text: &mut Report) {
     for fault in RECORDS {
-        print(&mut text, fault.number(), fault.place(), fault)?;
+        print(text, fault.number(), fault.place(), fault);
     }
-    row.expect("say", text.as_str());
-    Some(())
 }
 
-/// `[[layout_faults]]`: what faults of layouts say, one a line.
-pub fn check_layouts(row: &mut Row<'_>) -> Option<()> {
-    let mut text = String::new(row.alloc());
+/// Appends what faults of layouts say.
+fn print_layouts(text: &mut Report) {
     for fault in LAYOUTS {
-        print(&mut text, fault.number(), fault.place(), fault)?;
+        print(text, fault.number(), fault.place(), fault);
     }
-    row.expect("say", text.as_str());
-    Some(())
 }
 
-/// `[[place_faults]]`: what faults of placing say, one a line.
-pub fn check_places(row: &mut Row<'_>) -> Option<()> {
-    let mut text = String::new(row.alloc());
+/// Appends what faults of placing say.
+fn print_places(text: &mut Report) {
     for fault in PLACES {
-        print(&mut text, fault.number(), fault.place(), fault)?;
+        print(text, fault.number(), fault.place(), fault);
     }
-    row.expect("say", text.as_str());
-    Some(())
 }
 
-/// `[[cover_faults]]`: what faults of covers say, one a line.
-pub fn check_covers(row: &mut Row<'_>) -> Option<()> {
-    let mut text = String::new(row.alloc());
+/// Appends what faults of covers say.
+fn print_covers(text: &mut Report) {
     for fault in COVERS {
-        print(&mut text, fault.number(), fault.place(), fault)?;
+        print(text, fault.number(), fault.place(), fault);
     }
-    row.expect("say", text.as_str());
-    Some(())
+}
+
+/// `[[words_faults]]`, `[[map_faults]]`, `[[record_faults]]`, `[[layout_faults]]`, `[[place_faults]]`, `[[cover_faults]]` and
+/// `[[read_errors]]`: what faults and errors `say`, one a line.
+pub fn said<'a>(row: Row<'a>, report: &mut Report) -> Result<(), Flaw<'a>> {
+    row.only(&["say"])?;
+    let mut text = Report::new(row.alloc);
+    match row.kind {
+        "words_faults" => print_words(&mut text),
+        "map_faults" => print_maps(&mut text),
+        "record_faults" => print_records(&mut text),
+        "layout_faults" => print_layouts(&mut text),
+        "place_faults" => print_places(&mut text),
+        "cover_faults" => print_covers(&mut text),
+        "read_errors" => print_reads(&mut text),
+        _ => return Err(row.unknown_kind()),
+    }
+    report.expect_text(row, "say", shown(&text));
+    Ok(())
 }

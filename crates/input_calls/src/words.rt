@@ -1,58 +1,68 @@
-//! `[[words]]`: command lines, and what all of them ask for.
+//! Command lines, and what all of them ask for.
 
+use crate::texts::{joined, shown, text_of};
 use command_line::{Request, Task, Word, WordsFault, read_words};
 use lists::Name;
-use row_tables::Row;
+use row_tables::{Flaw, Report, Row};
 use std::alloc::{AllocError, Global};
+use toml::Value;
 
-/// Checks that each of the row's `lines` asks for what `asks` says. Words have a space between them, or a bar if `bars` is true.
-/// An `@` stands for the text `repeated`, so many times.
-pub fn check_lines(row: &mut Row<'_>) -> Option<()> {
-    let between = if row.truth("bars").unwrap_or(false) {
-        '|'
+/// `[[words]]`: each of the `lines` asks for what `asks` says. Words have a space between them, or a bar if the row has `bars`. An `@`
+/// stands for the text of the `parts`.
+pub fn lines<'a>(row: Row<'a>, report: &mut Report) -> Result<(), Flaw<'a>> {
+    let asks = row.text("asks")?;
+    let lines = row.items("lines")?;
+    if row.has("parts") {
+        let name = joined(row)?;
+        check_lines(row, report, lines, asks, shown(&name));
     } else {
-        ' '
-    };
-    let alloc = row.alloc();
-    let name = long_name(row)?;
-    let wanted = filled(alloc, row.text("asks")?, name.as_str()).ok()?;
-    for line in row.texts("lines")?.as_slice() {
-        let words = filled(alloc, line, name.as_str()).ok()?;
-        let came = answer(alloc, words.as_str(), between).ok()?;
-        row.compare(line, wanted.as_str(), came.as_str());
+        check_lines(row, report, lines, asks, "");
     }
-    Some(())
+    Ok(())
 }
 
-/// The row's long name, which is empty if it has none.
-fn long_name(row: &mut Row<'_>) -> Option<String> {
-    let mut name = String::new(row.alloc());
-    if let Some(part) = row.text("repeated") {
-        for _ in 0..row.number::<u32>("times")? {
-            name.push_str(part).ok()?;
+/// Compares what the words of each line ask for. The name stands in place of each `@`.
+fn check_lines(row: Row<'_>, report: &mut Report, lines: &[Value], asks: &str, name: &str) {
+    let between = if row.has("bars") { '|' } else { ' ' };
+    for line in lines {
+        check_line(
+            row.alloc,
+            report,
+            line.as_str().unwrap_or("no text"),
+            asks,
+            name,
+            between,
+        );
+    }
+}
+
+/// Compares what the words of a line ask for.
+fn check_line(
+    alloc: Global,
+    report: &mut Report,
+    line: &str,
+    asks: &str,
+    name: &str,
+    between: char,
+) {
+    let mut wanted = Report::new(alloc);
+    push_filled(&mut wanted, asks, name);
+    let mut text = Report::new(alloc);
+    push_filled(&mut text, line, name);
+    let answer = answer(alloc, shown(&text), between);
+    report.compare(line, shown(&wanted), shown(&answer));
+}
+
+/// Appends the text with the name in place of its first `@`.
+fn push_filled(text: &mut Report, part: &str, name: &str) {
+    match part.split_once('@') {
+        Some((front, back)) => {
+            text.say(front);
+            text.say(name);
+            text.say(back);
         }
+        None => text.say(part),
     }
-    Some(name)
-}
-
-/// The text with the name in place of its first `@`.
-fn filled(alloc: Global, text: &str, name: &str) -> Result<String, AllocError> {
-    match text.split_once('@') {
-        Some((front, back)) => format!(in alloc; "{front}{name}{back}"),
-        None => String::from_str(alloc, text),
-    }
-}
-
-/// What the words of a line are answered, as text.
-fn answer(alloc: Global, line: &str, between: char) -> Result<String, AllocError> {
-    let words = words_of(alloc, line, between)?;
-    let mut text = String::new(alloc);
-    match read_words(alloc, words.as_slice()) {
-        Ok(request) => print_request(&mut text, &request)?,
-        Err(WordsFault::Usage) => text.push_str("nothing")?,
-        Err(WordsFault::Memory) => text.push_str("no memory")?,
-    }
-    Ok(text)
 }
 
 /// The words of a line. An empty line has none.
@@ -66,22 +76,40 @@ fn words_of(alloc: Global, line: &str, between: char) -> Result<Vec<Word>, Alloc
     Ok(words)
 }
 
-/// The name as text.
-fn shown(name: &Name) -> &str {
-    std::str::from_utf8(name.as_slice()).unwrap_or("no text")
+/// What the words of a line are answered, as text.
+fn answer(alloc: Global, line: &str, between: char) -> Report {
+    let mut text = Report::new(alloc);
+    match words_of(alloc, line, between) {
+        Ok(words) => print_answer(alloc, &mut text, words.as_slice()),
+        Err(_) => text.say("no memory for the words"),
+    }
+    text
+}
+
+/// Appends what the words are answered.
+fn print_answer(alloc: Global, text: &mut Report, words: &[Word]) {
+    match read_words(alloc, words) {
+        Ok(request) => print_request(text, &request),
+        Err(WordsFault::Usage) => text.say("nothing"),
+        Err(WordsFault::Memory) => text.say("no memory"),
+    }
 }
 
 /// Appends what is asked for: the task, the structure if one is wanted, the tile and the workers.
-fn print_request(text: &mut String, request: &Request) -> Result<(), AllocError> {
-    print_task(text, &request.task)?;
+fn print_request(text: &mut Report, request: &Request) {
+    print_task(text, &request.task);
     if let Some(top) = top_of(&request.task) {
-        write!(text, ", of structure {}", shown(top))?;
+        text.say(", of structure ");
+        text.say(text_of(top.as_slice()));
     }
-    write!(text, ", tile {}, workers {}", request.edge, request.workers)
+    text.say(", tile ");
+    text.print(request.edge);
+    text.say(", workers ");
+    text.print(request.workers);
 }
 
 /// Appends the task.
-fn print_task(text: &mut String, task: &Task) -> Result<(), AllocError> {
+fn print_task(text: &mut Report, task: &Task) {
     match task {
         Task::OneMetal {
             layout,
@@ -89,11 +117,15 @@ fn print_task(text: &mut String, task: &Task) -> Result<(), AllocError> {
             datatype,
             radius,
             ..
-        } => write!(
-            text,
-            "{}: layer {layer}/{datatype}, radius {radius}",
-            shown(layout)
-        ),
+        } => {
+            text.say(text_of(layout.as_slice()));
+            text.say(": layer ");
+            text.print(*layer);
+            text.say("/");
+            text.print(*datatype);
+            text.say(", radius ");
+            text.print(*radius);
+        }
         Task::Mapped { layout, map, .. } => print_names(text, layout, map),
         Task::Pairs {
             layout,
@@ -101,8 +133,9 @@ fn print_task(text: &mut String, task: &Task) -> Result<(), AllocError> {
             size,
             ..
         } => {
-            print_names(text, layout, map)?;
-            write!(text, ", pairs at size {size}")
+            print_names(text, layout, map);
+            text.say(", pairs at size ");
+            text.print(*size);
         }
         Task::Probe {
             layout,
@@ -110,8 +143,11 @@ fn print_task(text: &mut String, task: &Task) -> Result<(), AllocError> {
             cell,
             ..
         } => {
-            print_names(text, layout, map)?;
-            write!(text, ", probe of {},{}", cell.i, cell.j)
+            print_names(text, layout, map);
+            text.say(", probe of ");
+            text.print(cell.i);
+            text.say(",");
+            text.print(cell.j);
         }
         Task::Regions {
             layout,
@@ -121,20 +157,26 @@ fn print_task(text: &mut String, task: &Task) -> Result<(), AllocError> {
             size,
             ..
         } => {
-            print_names(text, layout, map)?;
-            write!(
-                text,
-                ", regions of {kind} on {} at size {size}",
-                shown(layer)
-            )
+            print_names(text, layout, map);
+            text.say(", regions of ");
+            text.print(*kind);
+            text.say(" on ");
+            text.say(text_of(layer.as_slice()));
+            text.say(" at size ");
+            text.print(*size);
         }
-        Task::Generated { n } => write!(text, "generated: columns {n}"),
+        Task::Generated { n } => {
+            text.say("generated: columns ");
+            text.print(*n);
+        }
     }
 }
 
 /// Appends the names of a layout and of a map.
-fn print_names(text: &mut String, layout: &Name, map: &Name) -> Result<(), AllocError> {
-    write!(text, "{}: map {}", shown(layout), shown(map))
+fn print_names(text: &mut Report, layout: &Name, map: &Name) {
+    text.say(text_of(layout.as_slice()));
+    text.say(": map ");
+    text.say(text_of(map.as_slice()));
 }
 
 /// The name of the structure that the task wants, if it wants one.

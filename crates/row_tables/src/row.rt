@@ -1,235 +1,171 @@
-use super::report::Report;
-use super::texts::has_text;
-use super::values::{answer_of, bytes_of, list_of, number_lists_of, numbers_of, rect_of, whole_of};
+use super::flaw::Flaw;
+use super::values::{bytes_of, flat_of, number_lists_of, numbers_of, rect_of, rects_of, whole_of};
 use geo_core::Rect;
 use std::alloc::Global;
-use std::fmt::Display;
 use toml::{Table, Value};
 
 /// A row of a table: what is given to a call, and the answer that it must give.
-///
-/// A reader answers `None` if the row does not have the key, or if the value has another form. The latter is noted as wrong.
-#[derive(Drop)]
+#[derive(Clone, Copy)]
 pub struct Row<'a> {
-    alloc: Global,
+    /// The allocator for what is read.
+    pub alloc: Global,
+    /// The kind of row.
+    pub kind: &'a str,
     document: &'a Table,
     table: &'a Table,
-    /// The keys that were asked for.
-    asked: Vec<&'a str>,
-    /// What is wrong in the row.
-    wrong: Report,
-    /// Whether an answer was compared.
-    compared: bool,
 }
 
 impl<'a> Row<'a> {
-    /// The row of this table in the document.
-    pub fn new(alloc: Global, document: &'a Table, table: &'a Table) -> Row<'a> {
+    /// The row of this kind that is this table in the document.
+    pub fn new(alloc: Global, kind: &'a str, document: &'a Table, table: &'a Table) -> Row<'a> {
         Row {
             alloc,
+            kind,
             document,
             table,
-            asked: Vec::new(alloc),
-            wrong: Report::new(alloc),
-            compared: false,
         }
-    }
-
-    /// The allocator.
-    pub fn alloc(&self) -> Global {
-        self.alloc
-    }
-
-    /// Notes that something is wrong in the row, and what.
-    pub fn note(&mut self, what: &str, wrong: impl Display + Drop) {
-        self.wrong.print(format_args!("  {what}: {wrong}"));
     }
 
     /// What stands at the key.
-    pub fn value(&mut self, key: &'a str) -> Option<&'a Value> {
-        if self.asked.push(key).is_err() {
-            self.wrong.lose();
-        }
+    pub fn value(self, key: &str) -> Option<&'a Value> {
         self.table.get(key)
     }
 
     /// Whether the row has the key.
-    pub fn has(&mut self, key: &'a str) -> bool {
+    pub fn has(self, key: &str) -> bool {
         self.value(key).is_some()
     }
 
-    /// Notes what is wanted at the key if nothing of that form was found, and hands back what was.
-    fn noted<T: Drop>(&mut self, key: &str, wanted: &str, found: Option<T>) -> Option<T> {
-        if found.is_none() {
-            self.note(key, format_args!("not {wanted}"));
+    /// A flaw if the row has a key that is none of these, nor its name.
+    pub fn only(self, keys: &[&str]) -> Result<(), Flaw<'a>> {
+        for key in self.table.keys() {
+            if key.as_str() != "name" && !keys.iter().any(|known| *known == key.as_str()) {
+                return Err(Flaw::of(key.as_str(), "unknown key"));
+            }
         }
-        found
+        Ok(())
+    }
+
+    /// The flaw of a row of a kind that is not known.
+    pub fn unknown_kind(self) -> Flaw<'a> {
+        Flaw::of(self.kind, "unknown kind of row")
     }
 
     /// The text at the key.
-    pub fn text(&mut self, key: &'a str) -> Option<&'a str> {
-        let found = self.value(key)?.as_str();
-        self.noted(key, "a text", found)
+    pub fn text(self, key: &'a str) -> Result<&'a str, Flaw<'a>> {
+        match self.value(key) {
+            Some(Value::String(text)) => Ok(text.as_str()),
+            _ => Err(Flaw::of(key, "not a text")),
+        }
     }
 
     /// The truth value at the key.
-    pub fn truth(&mut self, key: &'a str) -> Option<bool> {
-        let found = self.value(key)?.as_bool();
-        self.noted(key, "a truth value", found)
+    pub fn truth(self, key: &'a str) -> Result<bool, Flaw<'a>> {
+        match self.value(key) {
+            Some(Value::Boolean(truth)) => Ok(*truth),
+            _ => Err(Flaw::of(key, "not a truth value")),
+        }
     }
 
     /// The whole number at the key.
-    pub fn number<T: TryFrom<i64> + Drop>(&mut self, key: &'a str) -> Option<T>
+    pub fn number<T: TryFrom<i64>>(self, key: &'a str) -> Result<T, Flaw<'a>>
     where
         T::Error: Drop,
     {
-        let found = whole_of(self.value(key)?);
-        self.noted(key, "a whole number in range", found)
+        match whole_of(self.value(key)) {
+            Some(number) => Ok(number),
+            None => Err(Flaw::of(key, "not a whole number in range")),
+        }
+    }
+
+    /// The values of the list at the key.
+    pub fn items(self, key: &'a str) -> Result<&'a [Value], Flaw<'a>> {
+        match self.value(key) {
+            Some(Value::Array(items)) => Ok(items.as_slice()),
+            _ => Err(Flaw::of(key, "not a list")),
+        }
     }
 
     /// The list of whole numbers at the key.
-    pub fn numbers<T: TryFrom<i64> + Drop>(&mut self, key: &'a str) -> Option<Vec<T>>
+    pub fn numbers<T: TryFrom<i64> + Drop>(self, key: &'a str) -> Result<Vec<T>, Flaw<'a>>
     where
         T::Error: Drop,
     {
-        let found = numbers_of(self.alloc, self.value(key)?);
-        self.noted(key, "a list of whole numbers in range", found)
+        let items = self.items(key)?;
+        match numbers_of(self.alloc, items) {
+            Some(numbers) => Ok(numbers),
+            None => Err(Flaw::of(key, "not a list of whole numbers in range")),
+        }
     }
 
-    /// The list of lists of whole numbers at the key, such as points and pairs.
-    pub fn number_lists<T: TryFrom<i64> + Drop>(&mut self, key: &'a str) -> Option<Vec<Vec<T>>>
+    /// The list of lists of whole numbers at the key.
+    pub fn number_lists<T: TryFrom<i64> + Drop>(self, key: &'a str) -> Result<Vec<Vec<T>>, Flaw<'a>>
     where
         T::Error: Drop,
     {
-        let found = number_lists_of(self.alloc, self.value(key)?);
-        self.noted(key, "lists of whole numbers in range", found)
+        let items = self.items(key)?;
+        match number_lists_of(self.alloc, items) {
+            Some(lists) => Ok(lists),
+            None => Err(Flaw::of(key, "not lists of whole numbers in range")),
+        }
     }
 
-    /// The list of texts at the key.
-    pub fn texts(&mut self, key: &'a str) -> Option<Vec<&'a str>> {
-        let found = list_of(self.alloc, self.value(key)?, |item| item.as_str());
-        self.noted(key, "a list of texts", found)
+    /// The numbers of the lists at the key, one after the other, where each list has as many as `width` says. In place of a list may
+    /// stand `{ first = [..], times = [c, r], right = [..], up = [..] }` for `c` columns of `r` lists each: `first`, to which `right`
+    /// is added once for each column and `up` once for each row.
+    pub fn flat(self, key: &'a str, width: usize) -> Result<Vec<i32>, Flaw<'a>> {
+        let items = self.items(key)?;
+        match flat_of(self.alloc, items, width) {
+            Some(numbers) => Ok(numbers),
+            None => Err(Flaw::of(key, "not lists of that many whole numbers in range")),
+        }
     }
 
     /// The rectangle at the key, as `[left, bottom, right, top]`.
-    pub fn rect(&mut self, key: &'a str) -> Option<Rect> {
-        let found = rect_of(self.value(key)?);
-        self.noted(key, "a rectangle", found)
+    pub fn rect(self, key: &'a str) -> Result<Rect, Flaw<'a>> {
+        match self.numbers(key)?.as_slice() {
+            [left, bottom, right, top] => match rect_of(*left, *bottom, *right, *top) {
+                Some(rect) => Ok(rect),
+                None => Err(Flaw::of(key, "not a rectangle")),
+            },
+            _ => Err(Flaw::of(key, "not a rectangle")),
+        }
     }
 
-    /// The list of rectangles at the key.
-    pub fn rects(&mut self, key: &'a str) -> Option<Vec<Rect>> {
-        let found = list_of(self.alloc, self.value(key)?, |item| rect_of(item));
-        self.noted(key, "a list of rectangles", found)
+    /// The rectangles at the key, of which many may be written as one, as `flat` says.
+    pub fn rects(self, key: &'a str) -> Result<Vec<Rect>, Flaw<'a>> {
+        let sides = self.flat(key, 4)?;
+        match rects_of(self.alloc, sides.as_slice()) {
+            Some(rects) => Ok(rects),
+            None => Err(Flaw::of(key, "not a list of rectangles")),
+        }
     }
 
     /// The bytes at the key, as a text of hexadecimal digits with spaces and newlines.
-    pub fn bytes(&mut self, key: &'a str) -> Option<Vec<u8>> {
-        let found = bytes_of(self.alloc, self.text(key)?);
-        self.noted(key, "bytes in hexadecimal digits", found)
-    }
-
-    /// The table at the key, as a row of its own. What is wrong in it is handed back by `join`.
-    pub fn inner(&mut self, key: &'a str) -> Option<Row<'a>> {
-        let found = self.value(key)?.as_table();
-        let table = self.noted(key, "a table", found)?;
-        Some(Row::new(self.alloc, self.document, table))
-    }
-
-    /// The first table of this kind in the document with this name, which is noted if there is none. What is wrong in it is
-    /// handed back by `join`.
-    pub fn shared(&mut self, kind: &str, name: &str) -> Option<Row<'a>> {
-        if let Some(table) = named_in(self.document, kind, name) {
-            let mut row = Row::new(self.alloc, self.document, table);
-            let _named = row.has("name");
-            return Some(row);
-        }
-        self.note(kind, format_args!("none is called {name}"));
-        None
-    }
-
-    /// Takes over what is wrong in a part of the row, with the keys of the part that were not asked for.
-    pub fn join(&mut self, part: Row<'a>) {
-        let mut part = part;
-        part.note_unknown_keys();
-        for line in part.wrong.lines().lines() {
-            self.wrong.print(line);
-        }
-        if part.wrong.is_lost() {
-            self.wrong.lose();
+    pub fn bytes(self, key: &'a str) -> Result<Vec<u8>, Flaw<'a>> {
+        let digits = self.text(key)?;
+        match bytes_of(self.alloc, digits) {
+            Some(bytes) => Ok(bytes),
+            None => Err(Flaw::of(key, "not bytes in hexadecimal digits")),
         }
     }
 
-    /// Compares the two texts, of which the second came.
-    pub fn compare(&mut self, what: &str, wanted: &str, came: &str) {
-        self.compared = true;
-        if wanted == came {
-            return;
-        }
-        self.note(what, "wanted - and came +");
-        for line in wanted.split('\n') {
-            self.wrong.print(format_args!("  - {line}"));
-        }
-        for line in came.split('\n') {
-            self.wrong.print(format_args!("  + {line}"));
+    /// The table at the key, as a row of its own.
+    pub fn inner(self, key: &'a str) -> Result<Row<'a>, Flaw<'a>> {
+        match self.value(key) {
+            Some(Value::Table(table)) => Ok(Row { table, ..self }),
+            _ => Err(Flaw::of(key, "not a table")),
         }
     }
 
-    /// Compares the answer at the key with the one that came. A text at the key is the answer as it is printed, and any other
-    /// value is the answer as TOML writes it: `50`, `true`, `[1, 2]`.
-    pub fn expect(&mut self, key: &'a str, came: impl Display + Drop) {
-        let Some(value) = self.value(key) else {
-            self.note(key, format_args!("nothing is wanted, and {came} came"));
-            return;
-        };
-        let wanted = answer_of(self.alloc, value);
-        let came = format!(in self.alloc; "{came}");
-        match (wanted, came) {
-            (Ok(wanted), Ok(came)) => self.compare(key, wanted.as_str(), came.as_str()),
-            _ => self.wrong.lose(),
-        }
-    }
-
-    /// What is wrong in the row, which was checked to its end or given up.
-    pub fn close(self, complete: bool) -> Report {
-        let mut row = self;
-        row.note_unknown_keys();
-        if !complete {
-            row.note("given up", "a value is missing");
-        }
-        if !row.compared {
-            row.note("given up", "nothing was compared");
-        }
-        let Row { wrong, .. } = row;
-        wrong
-    }
-
-    /// Notes each key that was not asked for.
-    fn note_unknown_keys(&mut self) {
-        for key in self.table.keys() {
-            if !has_text(self.asked.as_slice(), key.as_str()) {
-                self.wrong.print(format_args!("  {key}: unknown key"));
+    /// The table `[kind.name]` of the document, whose name stands at the key that is called as the kind.
+    pub fn shared(self, kind: &'a str) -> Result<Row<'a>, Flaw<'a>> {
+        let name = self.text(kind)?;
+        if let Some(Value::Table(named)) = self.document.get(kind) {
+            if let Some(Value::Table(table)) = named.get(name) {
+                return Ok(Row { table, ..self });
             }
         }
-    }
-}
-
-/// The first table of this kind in the document with this name.
-fn named_in<'a>(document: &'a Table, kind: &str, name: &str) -> Option<&'a Table> {
-    for item in document.get(kind)?.as_array()?.as_slice() {
-        if let Some(table) = named(item, name) {
-            return Some(table);
-        }
-    }
-    None
-}
-
-/// The table that the value is, if its name is this.
-fn named<'a>(value: &'a Value, name: &str) -> Option<&'a Table> {
-    let table = value.as_table()?;
-    if table.get("name")?.as_str()? == name {
-        Some(table)
-    } else {
-        None
+        Err(Flaw::of(kind, "the document has none of this name"))
     }
 }

@@ -1,32 +1,44 @@
 //! Whole runs from tables of text, from the words down to the bytes that are written.
 //!
 //! The tables stand in `data/`. Each `[[run]]` gives words, a layout `a` and a map `m`, and the status and the outputs that they must
-//! come to: `given` reads the files of a run, `records` the GDSII records in them, `gauges_of_runs` which gauges it has, and `runs`
-//! makes the run and compares. The keys of a row:
+//! come to: `prepared` makes ready what a run is handed, `gauges_of_runs` its gauges, `region_files` reads the files of critical cells,
+//! and `runs` makes the run and compares. The keys of a row:
 //!
 //! - `words`: the command line. A row that is `tiled` is run for tiles and workers of several kinds, which change nothing.
-//! - `shapes`: the layout, as rectangles `[layer, datatype, left, bottom, right, top]`. Without them it is the file of two bars, in
-//!   which `replaced = [from, to]` puts `records`, one after the other, or `bytes` in place of those offsets.
-//! - `map`, the name of a `[[map]]`, with `changed = [old, new]` if a part of its text is another one; `map_text` or `map_bytes`.
+//! - The layout and the map, as `row_files` reads them. `generated` is the number of columns of a generated layout, which comes with
+//!   its own map.
 //! - `files_fail`, `out_fails`, `err_fails`: the numbers of the calls that fail, from 0; `room`: how many bytes the output takes.
 //! - `gauges` and `pair_gauges`, if they are not those of the program.
-//! - `status`, 0 if there is none, and `out` and `err`, empty if there is none. `shorts = [radius, area]` stands for the report of
-//!   one metal with this one area.
+//! - `status`, 0 if there is none, and `out` and `err`, empty if there is none. In place of `out` may stand `report`, the name of a
+//!   `[report.NAME]` with its `text`; `shorts = [radius, area]`, the report of one metal with this one area; or `region`, the
+//!   critical cells of a region file as rectangles of which no two have a common cell, or `cells`, how many these cells are. `units`
+//!   are the bytes of the region file's units, if they are not the usual ones.
 //! - `printed` and `pairs_printed`: what the gauges print after the run.
+//!
+//! Each `[[analysis]]` gives a layout, the text of a map, and perhaps a `top`. Its areas, `areas = [shorts, opens]` of one metal at
+//! one size, or its `fault` are the same for each kind of tiles and each number of workers (`analyses`).
 #![tactic(auto)]
 
+mod analyses;
 mod gauges_of_runs;
-mod given;
-mod records;
+mod prepared;
+mod region_files;
 mod runs;
 
-use row_tables::check_files;
-use runs::check_run;
+use row_tables::{Report, Row, check_files};
 use std::io;
+use std::thread::Threads;
+
+/// Checks a row.
+fn check(rt: &(impl Threads + Sync), row: Row<'_>, report: &mut Report) {
+    let checked = match row.kind {
+        "run" => runs::run(rt, row, report),
+        "analysis" => analyses::analysis(rt, row, report),
+        _ => Err(row.unknown_kind()),
+    };
+    report.close(checked);
+}
 
 fn main(rt: HostRuntime) -> io::Result<()> {
-    check_files(&rt, |document| {
-        document.share("map");
-        document.check("run", |row| check_run(&rt, row));
-    })
+    check_files(&rt, |row, report| check(&rt, row, report))
 }

@@ -1,12 +1,14 @@
-//! Worked rows on tiles: what is near them, of many pieces, the board that hands out their numbers, and workers that share a board.
-//! Plans of tiles, and what is near one, are rows of `area_calls`. The crate has tests alone.
+//! Boards that hand out the numbers of tiles, workers that share a board, and small calls of the geometry. Most calls of the geometry
+//! are rows of `area_calls`. The crate has tests alone.
 #![tactic(auto)]
 
 #[cfg(test)]
+mod board_threads;
+#[cfg(test)]
 mod boards;
 #[cfg(test)]
-mod plans;
+mod jobs;
 #[cfg(test)]
-mod totals;
+mod small_calls;
 #[cfg(test)]
 mod workers;

@@ -1,10 +1,11 @@
 //! Gauges that go on from run to run, and that a run does not drop.
 
-use super::gauge_kinds::Gauges;
-use super::runs::{Failing, Given, ONE_METAL, PAIRS, RADIUS_3, calm, expect, run_told};
-use gauge_samples::{Counted, CountedPairs, GaugeKind};
+use super::gated::CELL_REPORT;
+use super::runs::{BARS, Gauges, Given, ONE_METAL, PAIRS, RADIUS_3, ends_with, expect, written};
+use critarea_core::NoGate;
+use gauge_samples::{Counted, CountedPairs, TightPairs};
 use lists::NoMemory;
-use samples::TWO_BARS;
+use samples::layouts::Plate;
 use std::alloc::Global;
 use std::sync::Arc;
 use std::sync::atomic::{AtomicU64, Ordering};
@@ -20,53 +21,110 @@ total via 0
 total 32
 ";
 
-/// The words that ask for a generated cell.
-const GENERATED: &str = "--generate 1";
-
 /// Whether a run with these gauges has these lines behind its report.
-fn is_told(rt: &(impl Threads + Sync), alloc: Global, gauges: &mut Gauges, lines: &str) -> bool {
-    match run_told(rt, alloc, &calm(RADIUS_3, TWO_BARS), gauges) {
-        Ok(answer) => match answer
-            .out
-            .written
-            .as_slice()
-            .strip_prefix(REPORT.as_bytes())
-        {
-            Some(behind) => answer.status == 0 && behind == lines.as_bytes(),
-            None => false,
-        },
-        Err(_) => false,
-    }
+fn is_told(
+    rt: &(impl Threads + Sync),
+    alloc: Global,
+    gauges: &mut Gauges,
+    lines: &str,
+) -> Result<bool, NoMemory> {
+    let given = Given {
+        words: RADIUS_3,
+        shapes: BARS,
+        map: b"",
+    };
+    let text = [REPORT.as_bytes(), lines.as_bytes()].concat(alloc)?;
+    let want = written(text.as_slice());
+    ends_with(rt, alloc, &given, gauges, &NoGate, &want)
 }
 
-/// Whether gauges go on from run to run, and a run without gauges prints its report alone. The list begins empty.
-fn go_on(rt: &(impl Threads + Sync), alloc: Global, gauges: &mut Gauges) -> bool {
-    is_told(rt, alloc, gauges, "")
-        && is_told(rt, alloc, gauges, "")
-        && gauges
-            .push_kinds(alloc, &[GaugeKind::Peak, GaugeKind::Nonzero])
-            .is_ok()
-        && is_told(
-            rt,
-            alloc,
-            gauges,
-            "peak short m r=3 sum=32\nnonzero 1 of 2\n",
-        )
-        && is_told(
-            rt,
-            alloc,
-            gauges,
-            "peak short m r=3 sum=32\nnonzero 2 of 4\n",
-        )
-}
+/// What the program's gauges print after the first run that they are told, and after the second.
+const LINES: [&str; 2] = [
+    "peak short m r=3 sum=32\nnonzero 1 of 2\n",
+    "peak short m r=3 sum=32\nnonzero 2 of 4\n",
+];
 
+/// Gauges go on from run to run, and a run without gauges prints its report alone.
 #[test]
 fn gauges_go_on_from_run_to_run(rt: HostRuntime) {
     let mut gauges = Gauges::new(rt.alloc());
-    assert!(rt; go_on(&rt, rt.alloc(), &mut gauges));
+    for number in 0..2 {
+        expect(&rt, is_told(&rt, rt.alloc(), &mut gauges, ""), number);
+    }
+    assert!(rt; gauges.push_usual(rt.alloc()).is_ok());
+    for (number, lines) in LINES.iter().enumerate() {
+        expect(&rt, is_told(&rt, rt.alloc(), &mut gauges, lines), number);
+    }
 }
 
-/// Appends a gauge that counts there when it is dropped.
+/// One metal of the layer 1, and a terminal in the first of the shapes.
+const MAP: &[u8] = b"version=1\nradii=[5]\nweights=[1]\nmetal=[{name=\"m1\",pairs=[[1,0]]}]\n\
+    terminal=[{metal=\"m1\",x=3,y=3}]\n";
+
+/// Three squares of 4 by 4 cells, 2 apart.
+const THREE_SQUARES: &[Plate] = &[
+    (1, 0, (0, 0, 4, 4)),
+    (1, 0, (6, 0, 10, 4)),
+    (1, 0, (12, 0, 16, 4)),
+];
+
+/// Two bars at a corner: grown they have the columns [1,11) of the rows [0,9) in common, fewer cells than neighbours of the squares.
+const AT_A_CORNER: &[Plate] = &[(1, 0, (0, 0, 6, 4)), (1, 0, (6, 5, 12, 9))];
+
+/// Runs one after the other with the same pair gauges, `Worst` and one with room for nine rows. The greatest area is in the second.
+const IN_TURN: &[(&[Plate], &[u8])] = &[
+    (
+        AT_A_CORNER,
+        b"pair m1 0 1 r=5 area=90\npairs 1\nworst m1 0 1 r=5 area=90\nseen 1 of 9\n",
+    ),
+    (
+        THREE_SQUARES,
+        b"pair m1 0 1 r=5 area=112\npair m1 0 2 r=5 area=28\npair m1 1 2 r=5 area=112\npairs 3\n\
+         worst m1 0 1 r=5 area=112\nseen 4 of 9\n",
+    ),
+    (
+        AT_A_CORNER,
+        b"pair m1 0 1 r=5 area=90\npairs 1\nworst m1 0 1 r=5 area=112\nseen 5 of 9\n",
+    ),
+];
+
+/// Whether a run on these shapes with these gauges writes this text.
+fn pairs_are_told(
+    rt: &(impl Threads + Sync),
+    alloc: Global,
+    gauges: &mut Gauges,
+    (shapes, text): &(&'static [Plate], &'static [u8]),
+) -> Result<bool, NoMemory> {
+    let given = Given {
+        words: PAIRS,
+        shapes,
+        map: MAP,
+    };
+    ends_with(rt, alloc, &given, gauges, &NoGate, &written(text))
+}
+
+/// Appends the gauges that the program has, and a pair gauge with room for nine rows.
+fn push_tight(alloc: Global, gauges: &mut Gauges) -> Result<(), NoMemory> {
+    gauges.push_usual(alloc)?;
+    let tight = TightPairs::new(alloc, 9);
+    gauges.pairs.push(Box::new(alloc, tight)?)?;
+    Ok(())
+}
+
+#[test]
+fn pair_gauges_go_on_from_run_to_run(rt: HostRuntime) {
+    let mut gauges = Gauges::new(rt.alloc());
+    assert!(rt; push_tight(rt.alloc(), &mut gauges) == Ok(()));
+    for (number, row) in IN_TURN.iter().enumerate() {
+        expect(
+            &rt,
+            pairs_are_told(&rt, rt.alloc(), &mut gauges, row),
+            number,
+        );
+    }
+}
+
+/// Appends a gauge and a pair gauge, which count there when they are dropped.
 fn push_counted(
     alloc: Global,
     gauges: &mut Gauges,
@@ -74,67 +132,63 @@ fn push_counted(
 ) -> Result<(), NoMemory> {
     let counted = Counted::new(alloc, Arc::try_clone(drops)?);
     gauges.rows.push(Box::new(alloc, counted)?)?;
-    Ok(())
-}
-
-/// Appends a pair gauge that counts there when it is dropped.
-fn push_counted_pairs(
-    alloc: Global,
-    gauges: &mut Gauges,
-    drops: &Arc<AtomicU64>,
-) -> Result<(), NoMemory> {
     let counted = CountedPairs::new(alloc, Arc::try_clone(drops)?);
     gauges.pairs.push(Box::new(alloc, counted)?)?;
     Ok(())
 }
 
-/// The status of a run, and how many of its four gauges were dropped after it, of which two are pair gauges. Their lists are
-/// dropped behind that.
-fn dropped_by_run(
+/// A run, and what it writes with the gauges that the program has.
+type Told = (Given<'static>, &'static [u8]);
+
+/// Whether a run drops none of its gauges, four of which count there. Their lists are dropped behind that.
+fn drops_none(
     rt: &(impl Threads + Sync),
     alloc: Global,
-    given: &Given<'_>,
+    (given, text): &Told,
     drops: &Arc<AtomicU64>,
-) -> Result<(u8, u64), NoMemory> {
+) -> Result<bool, NoMemory> {
     let mut gauges = Gauges::new(alloc);
     push_counted(alloc, &mut gauges, drops)?;
+    gauges.push_usual(alloc)?;
     push_counted(alloc, &mut gauges, drops)?;
-    push_counted_pairs(alloc, &mut gauges, drops)?;
-    push_counted_pairs(alloc, &mut gauges, drops)?;
-    let answer = run_told(rt, alloc, given, &mut gauges)?;
-    Ok((answer.status, drops.load(Ordering::SeqCst)))
+    let ended = ends_with(rt, alloc, given, &mut gauges, &NoGate, &written(text))?;
+    Ok(ended && drops.load(Ordering::SeqCst) == 0)
 }
 
-/// The status of a run, how many of its four gauges were dropped after it, and how many after their lists were dropped.
-fn drops(
+/// Whether the four are dropped with their lists, and not before.
+fn four_are_dropped(
     rt: &(impl Threads + Sync),
     alloc: Global,
-    given: &Given<'_>,
-) -> Result<(u8, u64, u64), NoMemory> {
+    told: &Told,
+) -> Result<bool, NoMemory> {
     let drops = Arc::new(alloc, AtomicU64::new(0))?;
-    let (status, before) = dropped_by_run(rt, alloc, given, &drops)?;
-    Ok((status, before, drops.load(Ordering::SeqCst)))
+    let holds = drops_none(rt, alloc, told, &drops)?;
+    Ok(holds && drops.load(Ordering::SeqCst) == 4)
 }
 
 /// A run that reports a generated cell, and one that tells the pairs of the two bars.
-const COUNTED_RUNS: &[Given<'static>] = &[
-    Given {
-        words: GENERATED,
-        layout: b"",
-        map: b"",
-        failing: Failing::Nothing,
-    },
-    Given {
-        words: PAIRS,
-        layout: TWO_BARS,
-        map: ONE_METAL,
-        failing: Failing::Nothing,
-    },
+const TOLD: &[Told] = &[
+    (
+        Given {
+            words: "--generate 1",
+            shapes: &[],
+            map: b"",
+        },
+        CELL_REPORT,
+    ),
+    (
+        Given {
+            words: PAIRS,
+            shapes: BARS,
+            map: ONE_METAL,
+        },
+        b"pair m 0 1 r=3 area=32\npairs 1\nworst m 0 1 r=3 area=32\n",
+    ),
 ];
 
 #[test]
 fn a_run_drops_no_gauge(rt: HostRuntime) {
-    for (number, given) in COUNTED_RUNS.iter().enumerate() {
-        expect(&rt, drops(&rt, rt.alloc(), given) == Ok((0, 0, 4)), number);
+    for (number, told) in TOLD.iter().enumerate() {
+        expect(&rt, four_are_dropped(&rt, rt.alloc(), told), number);
     }
 }

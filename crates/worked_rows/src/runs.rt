@@ -1,296 +1,179 @@
-use super::gauge_kinds::Gauges;
-use super::reports::{Report, text_of};
+//! Runs: what each is given, and how it ends.
+
 use critarea_core::{Gate, NoGate, Word, run};
-use edge_io::{Files, MemFiles, MemSink};
+use edge_io::{Files, MemFiles, MemSink, Sink};
+use gauges::{Gauge, Nonzero, PairGauge, Peak, Worst};
 use lists::{Name, NoMemory};
+use samples::layouts::{Plate, plates};
 use std::alloc::{AllocError, Global};
 use std::process::Abort;
 use std::thread::Threads;
 
-/// The same at the radius 3.
+/// Words for the areas of one metal at the radius 3.
 pub const RADIUS_3: &str = "a --layer 1 --datatype 0 --radius 3";
 
-/// The words that ask for the areas by pairs of nets at the first size of the map `m`.
+/// Words for the areas by pairs of nets.
 pub const PAIRS: &str = "a --map m --pairs 1";
 
-/// A map of one metal of all shapes of layer 1 and datatype 0, for one radius, 3.
+/// The two bars, and a map of their metal at the radius 3.
+pub const BARS: &[Plate] = &[(1, 0, (0, 0, 10, 10)), (1, 0, (14, 0, 24, 10))];
+
 pub const ONE_METAL: &[u8] =
     b"version = 1\nradii = [3]\nweights = [1]\nmetal = [{ name = \"m\", pairs = [[1, 0]] }]\n";
 
-/// What the words of the radius 3 are answered for the two bars.
-pub const SHORT_32: Want = Want::Short(3, 32);
-
-/// What fails in a run.
+/// What a run is given: a command line with one space between two words, the rectangles of the layout `a`, and the map `m`.
 #[derive(Clone, Copy)]
-pub enum Failing {
-    /// Nothing does.
-    Nothing,
-    /// The output past so many bytes.
-    OutPast(usize),
+pub struct Given<'a> {
+    pub words: &'a str,
+    pub shapes: &'a [Plate],
+    pub map: &'a [u8],
 }
 
-impl Failing {
-    /// How many bytes the output takes.
-    fn room(&self) -> usize {
-        match self {
-            Failing::OutPast(room) => *room,
-            Failing::Nothing => 1000,
-        }
+/// How a run ends: its status, and what its outputs took.
+#[derive(Clone, Copy)]
+pub struct Ending<'a> {
+    pub status: u8,
+    pub out: &'a [u8],
+    pub err: &'a [u8],
+}
+
+impl Ending<'_> {
+    /// Whether this is the status, and these bytes were taken.
+    pub fn is(&self, status: u8, out: &[u8], err: &[u8]) -> bool {
+        self.status == status && self.out == out && self.err == err
     }
 }
 
-/// What a run is given: the command line after the program's name, with one space between two words, and the files that
-/// are there, `a` and `m`.
-#[derive(Clone, Copy)]
-pub struct Given<'a> {
-    /// The command line.
-    pub words: &'a str,
-    /// The bytes of the file `a`.
-    pub layout: &'a [u8],
-    /// The bytes of the file `m`.
-    pub map: &'a [u8],
-    /// What fails.
-    pub failing: Failing,
+/// The end of a run that writes this.
+pub fn written(out: &[u8]) -> Ending<'_> {
+    Ending {
+        status: 0,
+        out,
+        err: b"",
+    }
 }
 
-/// What a run answered: its status, and its outputs with all that it wrote.
+/// The end of a run that is refused with this status and line.
+pub fn refused(status: u8, err: &[u8]) -> Ending<'_> {
+    Ending {
+        status,
+        out: b"",
+        err,
+    }
+}
+
+/// The gauges of a run.
 #[derive(Drop)]
-pub struct Answer {
-    /// The exit status.
-    pub status: u8,
-    /// The output.
+pub struct Gauges {
+    pub rows: Vec<Box<dyn Gauge>>,
+    pub pairs: Vec<Box<dyn PairGauge>>,
+}
+
+impl Gauges {
+    /// No gauges.
+    pub fn new(alloc: Global) -> Gauges {
+        Gauges {
+            rows: Vec::new(alloc),
+            pairs: Vec::new(alloc),
+        }
+    }
+
+    /// Appends those that the program has.
+    pub fn push_usual(&mut self, alloc: Global) -> Result<(), AllocError> {
+        self.rows.push(Box::new(alloc, Peak::new(alloc))?)?;
+        self.rows.push(Box::new(alloc, Nonzero::new(alloc))?)?;
+        self.pairs.push(Box::new(alloc, Worst::new(alloc))?)?;
+        Ok(())
+    }
+}
+
+/// The files of these bytes, each with a name of one letter.
+pub fn files_named(
+    alloc: Global,
+    layout: Vec<u8>,
+    map: Vec<u8>,
+) -> Result<Vec<(Name, Vec<u8>)>, AllocError> {
+    let layout = (Name::from_vec(Vec::from_slice(alloc, b"a")?), layout);
+    let map = (Name::from_vec(Vec::from_slice(alloc, b"m")?), map);
+    Ok(vec![in alloc; layout, map]?)
+}
+
+/// The files of a run.
+pub fn files_of(alloc: Global, given: &Given<'_>) -> Result<MemFiles, AllocError> {
+    let layout = plates(alloc, given.shapes)?;
+    let map = Vec::from_slice(alloc, given.map)?;
+    Ok(MemFiles::new(files_named(alloc, layout, map)?, Vec::new(alloc)))
+}
+
+/// The outputs of a run, in memory.
+#[derive(Drop)]
+pub struct Outputs {
     pub out: MemSink,
-    /// The error output.
     pub err: MemSink,
 }
 
-impl Answer {
-    /// Whether this is the status, and just these bytes were written.
-    pub fn has(&self, status: u8, out: &str, err: &str) -> bool {
-        self.status == status
-            && self.out.written.as_slice() == out.as_bytes()
-            && self.err.written.as_slice() == err.as_bytes()
+/// More room than outputs need.
+pub const ROOM: usize = 10_000;
+
+impl Outputs {
+    /// Those with so much room each.
+    pub fn new(alloc: Global, room: usize) -> Result<Outputs, NoMemory> {
+        let out = MemSink::with(alloc, room, Vec::new(alloc))?;
+        let err = MemSink::with(alloc, room, Vec::new(alloc))?;
+        Ok(Outputs { out, err })
     }
 
-    /// Whether the run was refused with this status, and the line of this number and place was written and nothing else.
-    pub fn refuses(&self, alloc: Global, status: u8, number: u8, place: usize) -> bool {
-        match line_of(alloc, number, place) {
-            Ok(line) => self.has(status, "", line.as_str()),
-            Err(_) => false,
-        }
-    }
-
-    /// Whether this report was written, and nothing else. Without one it was not.
-    fn reports(&self, report: Result<String, AllocError>) -> bool {
-        match report {
-            Ok(report) => self.has(0, report.as_str(), ""),
-            Err(_) => false,
-        }
+    /// Whether a run with this status, which was handed them, ended so.
+    pub fn are_left(&self, status: u8, want: &Ending<'_>) -> bool {
+        let (out, err) = (self.out.written.as_slice(), self.err.written.as_slice());
+        want.is(status, out, err)
     }
 }
 
-/// The report of this area of shorts of the metal `m` at this radius of defects, with the weight 1. Of equal products the
-/// peak is the first, which is the row of shorts.
-fn report_of(alloc: Global, radius: u32, area: u64) -> Result<String, AllocError> {
-    let nonzero = if area > 0 { 1 } else { 0 };
-    format!(in alloc;
-        "short m r={radius} area={area} weight=1 sum={area}\n\
-         open m r={radius} area=0 weight=1 sum=0\n\
-         total short {area}\ntotal open 0\ntotal via 0\ntotal {area}\n\
-         peak short m r={radius} sum={area}\nnonzero {nonzero} of 2\n"
-    )
-}
-
-/// The line of a refusal.
-fn line_of(alloc: Global, number: u8, place: usize) -> Result<String, AllocError> {
-    format!(in alloc; "error {number} at {place}\n")
-}
-
-/// What is wanted of a run.
-#[derive(Clone, Copy)]
-pub enum Want {
-    /// This report.
-    Rows(Report),
-    /// The report of shorts: the radius of defects, and the area.
-    Short(u32, u64),
-    /// The map is refused, or the size that the words name: the number of what is wrong, and its place.
-    BadMap(u8, usize),
-    /// The layout is refused: the number of what is wrong, and the offset at which it shows.
-    BadLayout(u8, usize),
-}
-
-impl Want {
-    /// Whether the answer is the wanted one, whose areas, totals and peak were worked out by hand.
-    fn is(&self, alloc: Global, answer: &Answer) -> bool {
-        match self {
-            Want::Rows(report) => answer.reports(text_of(alloc, report)),
-            Want::Short(radius, area) => answer.reports(report_of(alloc, *radius, *area)),
-            Want::BadMap(number, place) => answer.refuses(alloc, 3, *number, *place),
-            Want::BadLayout(number, place) => answer.refuses(alloc, 4, *number, *place),
-        }
-    }
-}
-
-/// A run of these words on this layout, where nothing fails. The map is empty.
-pub fn calm<'a>(words: &'a str, layout: &'a [u8]) -> Given<'a> {
-    Given {
-        words,
-        layout,
-        map: b"",
-        failing: Failing::Nothing,
-    }
-}
-
-/// A run on this layout with this map, where nothing fails.
-pub fn mapped<'a>(layout: &'a [u8], map: &'a [u8]) -> Given<'a> {
-    Given {
-        words: "a --map m",
-        layout,
-        map,
-        failing: Failing::Nothing,
-    }
-}
-
-/// Appends a word.
-fn push_word(alloc: Global, words: &mut Vec<Word>, word: &str) -> Result<(), AllocError> {
-    words.push(Word::from_string(String::from_str(alloc, word)?))?;
-    Ok(())
-}
-
-/// Appends the words of a command line. An empty line has none.
-pub fn push_words(alloc: Global, words: &mut Vec<Word>, line: &str) -> Result<(), AllocError> {
-    if line.is_empty() {
-        return Ok(());
-    }
+/// The words of a command line.
+fn words_of(alloc: Global, line: &str) -> Result<Vec<Word>, AllocError> {
+    let mut words = Vec::new(alloc);
     for word in line.split(' ') {
-        push_word(alloc, words, word)?;
+        let text = String::from_str(alloc, word)?;
+        words.push(Word::from_string(text))?;
     }
-    Ok(())
+    Ok(words)
 }
 
-/// A file with a name of one letter.
-fn file(alloc: Global, letter: u8, bytes: &[u8]) -> Result<(Name, Vec<u8>), AllocError> {
-    let name = Name::from_vec(Vec::from_slice(alloc, &[letter])?);
-    Ok((name, Vec::from_slice(alloc, bytes)?))
-}
-
-/// Appends the two files of the run.
-fn push_files(
-    alloc: Global,
-    files: &mut Vec<(Name, Vec<u8>)>,
-    given: &Given<'_>,
-) -> Result<(), AllocError> {
-    files.push(file(alloc, b'a', given.layout)?)?;
-    files.push(file(alloc, b'm', given.map)?)?;
-    Ok(())
-}
-
-/// The files of the run.
-pub fn files_of(alloc: Global, given: &Given<'_>) -> Result<MemFiles, AllocError> {
-    let mut files = MemFiles::new(Vec::new(alloc), Vec::new(alloc));
-    push_files(alloc, &mut files.files, given)?;
-    Ok(files)
-}
-
-/// What a run has answered before it begins.
-fn no_answer(alloc: Global, failing: Failing) -> Result<Answer, NoMemory> {
-    Ok(Answer {
-        status: 0,
-        out: MemSink::with(alloc, failing.room(), Vec::new(alloc))?,
-        err: MemSink::with(alloc, 1000, Vec::new(alloc))?,
-    })
-}
-
-/// What a run of these words on these files answers, with these gauges and tiles that pass this gate.
-fn run_with_gauges<F: Files, G: Gate + Sync>(
+/// The status of a run on these files and outputs, with the gauges that the program has.
+pub fn status_on<F: Files, O: Sink, E: Sink>(
     rt: &(impl Threads + Sync),
     alloc: Global,
     line: &str,
     files: &mut F,
-    failing: Failing,
-    gauges: &mut Gauges,
-    gate: &G,
-) -> Result<Answer, NoMemory> {
-    let mut words = Vec::new(alloc);
-    push_words(alloc, &mut words, line)?;
-    let words = words.as_slice();
-    let mut answer = no_answer(alloc, failing)?;
-    let (out, err) = (&mut answer.out, &mut answer.err);
-    let (rows, pairs) = (&mut gauges.rows, &mut gauges.pairs);
-    answer.status = run(rt, alloc, words, files, out, err, rows, pairs, gate);
-    Ok(answer)
+    (out, err): (&mut O, &mut E),
+) -> Result<u8, NoMemory> {
+    let words = words_of(alloc, line)?;
+    let mut gauges = Gauges::new(alloc);
+    gauges.push_usual(alloc)?;
+    let (words, rows, pairs) = (words.as_slice(), &mut gauges.rows, &mut gauges.pairs);
+    Ok(run(rt, alloc, words, files, out, err, rows, pairs, &NoGate))
 }
 
-/// What a run answers, with these gauges.
-pub fn run_told(
+/// Whether a run with these gauges ends so, whose tiles pass this gate.
+pub fn ends_with<G: Gate + Sync>(
     rt: &(impl Threads + Sync),
     alloc: Global,
     given: &Given<'_>,
     gauges: &mut Gauges,
-) -> Result<Answer, NoMemory> {
+    gate: &G,
+    want: &Ending<'_>,
+) -> Result<bool, NoMemory> {
+    let words = words_of(alloc, given.words)?;
     let mut files = files_of(alloc, given)?;
-    let failing = given.failing;
-    run_with_gauges(rt, alloc, given.words, &mut files, failing, gauges, &NoGate)
-}
-
-/// What a run of these words on these files answers, with the gauges that the program has and tiles that pass this gate.
-pub fn run_with<F: Files, G: Gate + Sync>(
-    rt: &(impl Threads + Sync),
-    alloc: Global,
-    words: &str,
-    files: &mut F,
-    failing: Failing,
-    gate: &G,
-) -> Result<Answer, NoMemory> {
-    let mut gauges = Gauges::of_the_program(alloc)?;
-    run_with_gauges(rt, alloc, words, files, failing, &mut gauges, gate)
-}
-
-/// What a run answers whose tiles pass this gate.
-pub fn run_on<G: Gate + Sync>(
-    rt: &(impl Threads + Sync),
-    alloc: Global,
-    given: &Given<'_>,
-    gate: &G,
-) -> Result<Answer, NoMemory> {
-    let mut files = files_of(alloc, given)?;
-    run_with(rt, alloc, given.words, &mut files, given.failing, gate)
-}
-
-/// Whether a run whose tiles pass this gate answers so: its status, and every byte that it writes.
-pub fn gated_answers<G: Gate + Sync>(
-    rt: &(impl Threads + Sync),
-    alloc: Global,
-    given: &Given<'_>,
-    gate: &G,
-    want: &Want,
-) -> bool {
-    match run_on(rt, alloc, given, gate) {
-        Ok(answer) => want.is(alloc, &answer),
-        Err(_) => false,
-    }
-}
-
-/// Whether a run answers so: its status, and every byte that it writes.
-pub fn answers(rt: &(impl Threads + Sync), alloc: Global, given: &Given<'_>, want: &Want) -> bool {
-    gated_answers(rt, alloc, given, &NoGate, want)
-}
-
-/// Whether a run of these words on this layout, where nothing fails, answers so. Without a layout it does not.
-pub fn layout_answers(
-    rt: &(impl Threads + Sync),
-    alloc: Global,
-    words: &str,
-    layout: Result<Vec<u8>, AllocError>,
-    want: &Want,
-) -> bool {
-    match layout {
-        Ok(layout) => answers(rt, alloc, &calm(words, layout.as_slice()), want),
-        Err(_) => false,
-    }
+    let mut outputs = Outputs::new(alloc, ROOM)?;
+    let (out, err) = (&mut outputs.out, &mut outputs.err);
+    let (words, rows, pairs) = (words.as_slice(), &mut gauges.rows, &mut gauges.pairs);
+    let status = run(rt, alloc, words, &mut files, out, err, rows, pairs, gate);
+    Ok(outputs.are_left(status, want))
 }
 
 /// Stops the test where this does not hold, and names the row by its number.
-pub fn expect(rt: &impl Abort, holds: bool, number: usize) {
-    assert!(rt; holds, "row {number}");
+pub fn expect(rt: &impl Abort, holds: Result<bool, NoMemory>, number: usize) {
+    assert!(rt; holds == Ok(true), "row {number}");
 }

@@ -1,3 +1,0 @@
-//! The rectangles of many via clusters.
-
-mod many_rows;

@@ -1,3 +1,0 @@
-//! Runs of many rectangles.
-
-mod many_rows;

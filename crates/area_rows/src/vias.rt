@@ -1,3 +1,0 @@
-//! Areas of many rectangles and boxes.
-
-mod many_rows;

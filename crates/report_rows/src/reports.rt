@@ -1,4 +1,0 @@
-//! Reports: products, and texts to the last byte.
-
-mod products;
-mod texts;
