@@ -28,4 +28,3 @@ pub mod ExpansionLaws
 pub mod GrowthLaws
 pub mod ShapeLaws
 pub mod PlacedLaws
-pub mod HopLaws

@@ -51,15 +51,6 @@ IsWithin-start m false p h = h
 pub IsWithin-image_under : (m : ℕ) (turn : Turn) (p : Point) → IsWithin m p → IsWithin m (image_under turn p)
 IsWithin-image_under m turn p h = IsWithin-quarter_turns m turn.quarters (if turn.reflect then mirror_image p else p) (IsWithin-start m turn.reflect p h)
 
--- a shift that is turned: it goes no farther in either direction than it did in both
-abbrev pub IsTurned : Turn → ℤ → ℤ → ℤ × ℤ → Type 0
-IsTurned turn x y shift = (shift.0 ≡ (image_under turn (at x y)).x) × (shift.1 ≡ (image_under turn (at x y)).y)
-
-pub turned_within : (turn : Turn) (x y : ℤ) (shift : ℤ × ℤ) (m : ℕ) → IsTurned turn x y shift → nat_abs x ≤ m → nat_abs y ≤ m → IsWithin m (at shift.0 shift.1)
-turned_within turn x y shift m is across up =
-    let there = IsWithin-image_under m turn (at x y) (record { across = across; up = up }) in
-    record { across = rw is.0 there.across; up = rw is.1 there.up }
-
 -- what one motion does behind another, from what is known of their turns and of the shift
 module _ (outer inner both : Turn) (outer_by inner_by by : Point) (after : (p : Point) → image_under both p ≡ image_under outer (image_under inner p))
     (across : by.x ≡ (image_under outer inner_by).x +ℤ outer_by.x) (up : by.y ≡ (image_under outer inner_by).y +ℤ outer_by.y) where

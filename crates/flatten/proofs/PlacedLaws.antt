@@ -26,7 +26,7 @@ use Rattle.flatten.proofs.ExpansionLaws.{have_layers}
 use Rattle.flatten.proofs.CountLaws.{routes_alike}
 
 -- routes behind no steps
-pub behind_none : (routes : List Route) → map (behind_steps []) routes ≡ routes
+behind_none : (routes : List Route) → map (behind_steps []) routes ≡ routes
 behind_none [] = refl
 behind_none (route ∷ routes) = ap (λ rs. route ∷ rs) (behind_none routes)
 

@@ -32,7 +32,7 @@ use Rattle.flatten.proofs.CountLaws.{counted, node_routes-is}
 use Rattle.flatten.proofs.EndLaws.{weigh}
 
 -- lists of which one item is set
-pub slice_get-set_other : {X : Type 0} (xs : List X) (i : ℕ) (x : X) (k : ℕ) → k ≢ i → slice_get (set xs i x) k ≡ slice_get xs k
+slice_get-set_other : {X : Type 0} (xs : List X) (i : ℕ) (x : X) (k : ℕ) → k ≢ i → slice_get (set xs i x) k ≡ slice_get xs k
 slice_get-set_other xs i x k apart = grind (arith, gets, get_or-set_other, length-set)
 
 -- the parts of one structure are set: those, and the others as they were

@@ -75,7 +75,7 @@ by_set states one state within P for_one for_rest other = elim (equal_or_not oth
 ]
 
 -- an item of a list behind which one is put is one of the list, or that one
-pub item_of_more : {X : Type 0} (xs : List X) (y : X) (k : ℕ) (x : X) → slice_get (xs ++ y ∷ []) k ≡ Some x → (slice_get xs k ≡ Some x) ⊎ ((k ≡ length xs) × (y ≡ x))
+item_of_more : {X : Type 0} (xs : List X) (y : X) (k : ℕ) (x : X) → slice_get (xs ++ y ∷ []) k ≡ Some x → (slice_get xs k ≡ Some x) ⊎ ((k ≡ length xs) × (y ≡ x))
 item_of_more [] y zero x e = inr (refl, cc)
 item_of_more [] y (suc k) x e = cc e
 item_of_more (z ∷ xs) y zero x e = inl e

@@ -1,7 +1,6 @@
 pub mod Ends
 pub mod Expansions
 pub mod FollowedParts
-pub mod Hops
 pub mod Marks
 pub mod Plans
 pub mod Prunings

@@ -8,10 +8,8 @@ ghost use Rattle.flatten.specs.Motions.{MovesAlong};
 ghost use Rattle.flatten.specs.inside.FollowedParts.{AreNodesBelow, parts_at};
 ghost use Rattle.flatten.specs.inside.Ends.{node_routes, part_routes, route_to, routes_below};
 ghost use Rattle.flatten.specs.inside.Expansions.{Expands, PlacesEach, copy_routes};
-ghost use Rattle.flatten.specs.inside.Hops.{AreHops};
 
 use super::fault::PlaceFault;
-use super::hop::Hop;
 use super::part::Part;
 use super::placed::Placed;
 use super::ranges::are_in_range;
@@ -73,7 +71,6 @@ fn rows(reference: &Reference) -> u16
 #[tactic(auto, using(crate::proofs::GrowthLaws::none_followed))]
 fn expand_row(
     nodes: &[Vec<Part<'_>>],
-    hops: &[Option<Hop>],
     placed: &mut Vec<Placed>,
     way: Way,
     reference: &Reference,
@@ -81,7 +78,6 @@ fn expand_row(
     row: u16,
 ) -> Result<(), PlaceFault>
     requires followed { AreNodesBelow (length nodes.now) nodes.now }
-    requires leading { AreHops nodes.now hops.now }
     requires there { target < length nodes.now }
     requires more { 1 ≤ way.left }
     requires few { row < 2 ^ 15 }
@@ -89,7 +85,7 @@ fn expand_row(
         (copy_routes nodes.now (way.left - 1) target (steps_in_row reference.now row)) placed.old.items placed.new.items) result }
 {
     for column in 0..columns(reference) {
-        expand(nodes, hops, placed, way.on(reference, column, row), target)?;
+        expand(nodes, placed, way.on(reference, column, row), target)?;
     }
     Ok(())
 }
@@ -99,21 +95,19 @@ fn expand_row(
 #[tactic(auto, using(crate::proofs::GrowthLaws::none_followed))]
 fn expand_copies(
     nodes: &[Vec<Part<'_>>],
-    hops: &[Option<Hop>],
     placed: &mut Vec<Placed>,
     way: Way,
     reference: &Reference,
     target: u32,
 ) -> Result<(), PlaceFault>
     requires followed { AreNodesBelow (length nodes.now) nodes.now }
-    requires leading { AreHops nodes.now hops.now }
     requires there { target < length nodes.now }
     requires more { 1 ≤ way.left }
     ensures { (steps : List Step) → MovesAlong way.motion steps → Answers PlaceFault.Memory (Expands nodes.now steps
         (copy_routes nodes.now (way.left - 1) target (steps_of reference.now)) placed.old.items placed.new.items) result }
 {
     for row in 0..rows(reference) {
-        expand_row(nodes, hops, placed, way, reference, target, row)?;
+        expand_row(nodes, placed, way, reference, target, row)?;
     }
     Ok(())
 }
@@ -122,14 +116,12 @@ fn expand_copies(
 #[cycle(expansion)]
 fn expand_part(
     nodes: &[Vec<Part<'_>>],
-    hops: &[Option<Hop>],
     placed: &mut Vec<Placed>,
     way: Way,
     one: u32,
     part: &Part<'_>,
 ) -> Result<(), PlaceFault>
     requires followed { AreNodesBelow (length nodes.now) nodes.now }
-    requires leading { AreHops nodes.now hops.now }
     requires there { Contains (parts_at nodes.now one) part.now }
     ensures { (steps : List Step) → MovesAlong way.motion steps → Answers PlaceFault.Memory (Expands nodes.now steps
         (part_routes (routes_below nodes.now way.left) one part.now) placed.old.items placed.new.items) result }
@@ -146,7 +138,7 @@ fn expand_part(
             if way.left == 0 {
                 return Ok(());
             }
-            expand_copies(nodes, hops, placed, way, reference, *target)
+            expand_copies(nodes, placed, way, reference, *target)
         }
     }
 }
@@ -154,49 +146,19 @@ fn expand_part(
 /// Places what the structure with this number places, part by part.
 #[cycle(expansion)]
 #[tactic(auto, using(crate::proofs::GrowthLaws::none_followed))]
-fn expand_parts(
+pub fn expand(
     nodes: &[Vec<Part<'_>>],
-    hops: &[Option<Hop>],
     placed: &mut Vec<Placed>,
     way: Way,
     one: u32,
 ) -> Result<(), PlaceFault>
     requires followed { AreNodesBelow (length nodes.now) nodes.now }
-    requires leading { AreHops nodes.now hops.now }
     requires there { one < length nodes.now }
     ensures { (steps : List Step) → MovesAlong way.motion steps → Answers PlaceFault.Memory (Expands nodes.now steps
         (node_routes nodes.now way.left one) placed.old.items placed.new.items) result }
 {
     for part in nodes[one as usize].as_slice() {
-        expand_part(nodes, hops, placed, way, one, part)?;
+        expand_part(nodes, placed, way, one, part)?;
     }
     Ok(())
-}
-
-/// Places what the structure with this number places. Where it leads without a choice, that is what the structure places
-/// to which it leads.
-#[cycle(expansion)]
-pub fn expand(
-    nodes: &[Vec<Part<'_>>],
-    hops: &[Option<Hop>],
-    placed: &mut Vec<Placed>,
-    way: Way,
-    one: u32,
-) -> Result<(), PlaceFault>
-    requires followed { AreNodesBelow (length nodes.now) nodes.now }
-    requires leading { AreHops nodes.now hops.now }
-    requires there { one < length nodes.now }
-    ensures { (steps : List Step) → MovesAlong way.motion steps → Answers PlaceFault.Memory (Expands nodes.now steps
-        (node_routes nodes.now way.left one) placed.old.items placed.new.items) result }
-{
-    match hops[one as usize] {
-        None => expand_parts(nodes, hops, placed, way, one),
-        Some(hop) => {
-            // Where chains are too long nothing is placed.
-            if way.left < hop.steps {
-                return Ok(());
-            }
-            expand_parts(nodes, hops, placed, way.along(hop), hop.to)
-        }
-    }
 }

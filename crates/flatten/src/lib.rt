@@ -7,15 +7,11 @@
 //! references, how long its longest chain of references is, and how many shapes and points it places (`plan`,
 //! `survey`). By these numbers the top is refused or not (`size`). Then what places nothing leaves the plan
 //! (`pruning`), and what is left is followed from the top down, each reference as often as it makes copies, with one
-//! motion for all steps so far (`expansion`, `way`, `motion`). So each copy that is walked places a shape. References
-//! in a row that each stand alone and make one copy are one step of the expansion (`hops`): a structure that is walked
-//! has a shape or more than one way on.
+//! motion for all steps so far (`expansion`, `way`, `motion`). So each copy that is walked places a shape.
 #![tactic(auto)]
 
 mod expansion;
 pub mod fault;
-mod hop;
-mod hops;
 pub mod laws;
 pub mod limits;
 mod marks;

@@ -11,7 +11,7 @@ pub struct Motion {
 }
 
 impl Motion {
-    ghost use Rattle.std.specs.Prelude.{ℕ, suc, [], ◌≡◌, ◌+◌, ◌≤◌, ◌<◌, ◌^◌};
+    ghost use Rattle.std.specs.Prelude.{ℕ, suc, [], ◌≡◌, ◌<◌, ◌^◌};
     ghost use Rattle.geo_core.specs.declared.plane.Point.{Point as PlanePoint};
     ghost use Rattle.flatten.specs.Steps.{moved_by};
     ghost use Rattle.flatten.specs.Motions.{MovesAlong, ShiftsAtMost, image_by};
@@ -54,17 +54,7 @@ impl Motion {
         ensures moves { (p : PlanePoint) → image_by result p ≡ image_by self (image_by inner p) }
         ensures reach { (steps : ℕ) → ShiftsAtMost steps self → ShiftsAtMost (suc steps) result }
     {
-        self.after_many(inner)
-    }
-
-    /// The motion that does `inner`, which may be that of many steps, first and then this.
-    pub(crate) fn after_many(self, inner: Motion) -> Motion
-        requires reach { ShiftsAtMost 256 self }
-        requires inner_reach { ShiftsAtMost 256 inner }
-        ensures moves { (p : PlanePoint) → image_by result p ≡ image_by self (image_by inner p) }
-        ensures reach { (steps more : ℕ) → ShiftsAtMost steps self → ShiftsAtMost more inner → ShiftsAtMost (steps + more) result }
-    {
-        let (across, up) = turn_point(self.turn, inner.dx, inner.dy);
+        let (across, up) = turned(self.turn, inner.dx, inner.dy);
         Motion {
             turn: after(self.turn, inner.turn),
             dx: both_shifts(across, self.dx),

@@ -12,7 +12,6 @@ ghost use Rattle.flatten.specs.declared.fault.PlaceFault.TheVariants.{Memory};
 
 use super::expansion::expand;
 use super::fault::PlaceFault;
-use super::hops::hops_of;
 use super::placed::Placed;
 use super::plan::{Plan, plan_of};
 use super::pruning::prune;
@@ -34,7 +33,7 @@ fn shape_count(plan: &Plan<'_>) -> usize
     }
 }
 
-/// All that the top places. What places nothing leaves the plan, and what leads on without a choice is followed once.
+/// All that the top places. What places nothing leaves the plan.
 fn expanded(alloc: Global, plan: &mut Plan<'_>) -> Result<Vec<Placed>, PlaceFault>
     requires { HasLibrary plan.old }
     ensures { Answers PlaceFault.Memory (PlacesEach (λ layer_map. HaveLayers layer_map plan.old.nodes.items)
@@ -43,8 +42,7 @@ fn expanded(alloc: Global, plan: &mut Plan<'_>) -> Result<Vec<Placed>, PlaceFaul
     let mut placed = Vec::with_capacity(alloc, shape_count(plan))?;
     prune(plan.nodes.as_mut_slice(), plan.states.as_slice());
     let nodes = plan.nodes.as_slice();
-    let hops = hops_of(alloc, nodes)?;
-    expand(nodes, hops.as_slice(), &mut placed, Way::at_top(), plan.top)?;
+    expand(nodes, &mut placed, Way::at_top(), plan.top)?;
     Ok(placed)
 }
 

@@ -1,6 +1,5 @@
 ghost use Rattle.std.specs.Prelude.{◌+◌, ◌*◌, ◌≤◌, ◌^◌, nat_abs};
 
-use super::hop::Hop;
 use super::limits::MOST_STEPS;
 use super::motion::Motion;
 use library_model::Reference;
@@ -45,19 +44,6 @@ impl Way {
         Way {
             motion: self.motion.after(Motion::of_copy(reference, column, row)),
             left: self.left - 1,
-        }
-    }
-
-    /// Farther along a hop.
-    pub fn along(self, hop: Hop) -> Way
-        requires { hop.steps ≤ self.left }
-        ensures moves { (steps more : List Step) → MovesAlong self.motion steps → MovesAlong hop.motion more →
-            MovesAlong result.motion (steps ++ more) }
-        ensures left { result.left ≡ self.left - hop.steps }
-    {
-        Way {
-            motion: self.motion.after_many(hop.motion),
-            left: self.left - hop.steps,
         }
     }
 }

@@ -1,48 +1,28 @@
-use Rattle.std.proofs.Common.{suc, ◌≡◌, ◌<◌, ◌-◌, Contains, length, sym, subst, arith}
+use Rattle.std.proofs.Common.{suc, ◌≡◌, ◌-◌, Contains, sym, subst, arith}
 use Rattle.lists.proofs.Words.{length-range_with_len}
 use Rattle.flatten.specs.inside.Ends.{routes_below}
 use Rattle.flatten.proofs.SearchLaws.{parts_read}
 use Rattle.flatten.proofs.ExpansionLaws.{by_parts, by_rows, by_columns, by_copies, nothing_left}
 use Rattle.flatten.proofs.GrowthLaws.{number_more, number_is, one_followed, one_refuses, all_followed, nothing_placed, end_placed, stepped}
-use Rattle.flatten.proofs.HopLaws.{hop_read, hopped, too_far}
 use Rattle.flatten.proofs.expansion.+expansion.Goals as goal
 
--- by a hop
-pub expand-returns-then-way-hop : goal.expand-returns-then-way-hop
-expand-returns-then-way-hop t c =
-    let within : c.args.one < length c.args.hops.now = omega (arith, c.requires.leading.long) in
-    let is = hop_read c.args.nodes.now c.args.hops.now c.requires.leading c.args.one c.in-Some.hop _ within c.in-Some.is in
-    too_far c.args.nodes.now c.args.way.motion is c.if-way-hop.true
-
-pub expand-expand_parts-requires-in-Some : goal.expand-expand_parts-requires-in-Some
-expand-expand_parts-requires-in-Some t c =
-    let within : c.args.one < length c.args.hops.now = omega (arith, c.requires.leading.long) in
-    let is = hop_read c.args.nodes.now c.args.hops.now c.requires.leading c.args.one c.in-Some.hop _ within c.in-Some.is in
-    (omega (arith, c.along.ensures.left), (c.requires.followed, (c.requires.leading, is.there)))
-
-pub expand-returns-else-way-hop : goal.expand-returns-else-way-hop
-expand-returns-else-way-hop t c =
-    let within : c.args.one < length c.args.hops.now = omega (arith, c.requires.leading.long) in
-    let is = hop_read c.args.nodes.now c.args.hops.now c.requires.leading c.args.one c.in-Some.hop _ within c.in-Some.is in
-    hopped c.args.nodes.now c.args.way.motion is c.along.result.motion c.if-way-hop.false c.along.ensures.left c.along.ensures.moves c.expand_parts-in-Some.ensures
-
 -- part by part
-pub expand_parts-expand_part-requires : goal.expand_parts-expand_part-requires
-expand_parts-expand_part-requires t c =
+pub expand-expand_part-requires : goal.expand-expand_part-requires
+expand-expand_part-requires t c =
     let read = parts_read c.args.nodes.now c.args.one c.index-nodes-one.result c.as_slice-part-items.result.now c.as_slice-part-items.ensures.value c.requires.there c.index-nodes-one.is in
-    (omega arith, (c.requires.followed, (c.requires.leading, subst (λ l. Contains l c.part-item.result) read (c.loop-part.part-index, c.loop-part-test.true, sym c.part-item.is))))
+    (omega arith, (c.requires.followed, subst (λ l. Contains l c.part-item.result) read (c.loop-part.part-index, c.loop-part-test.true, sym c.part-item.is)))
 
-pub expand_parts-loop-part-preserved : goal.expand_parts-loop-part-preserved
-expand_parts-loop-part-preserved t c = one_followed c.loop-part.invariant c.part-item.result (omega arith) c.part-item.is c.in_ok-expand_part.ensures
+pub expand-loop-part-preserved : goal.expand-loop-part-preserved
+expand-loop-part-preserved t c = one_followed c.loop-part.invariant c.part-item.result (omega arith) c.part-item.is c.in_ok-expand_part.ensures
 
-pub expand_parts-returns-in_err-expand_part : goal.expand_parts-returns-in_err-expand_part
-expand_parts-returns-in_err-expand_part t c =
+pub expand-returns-in_err-expand_part : goal.expand-returns-in_err-expand_part
+expand-returns-in_err-expand_part t c =
     let read = parts_read c.args.nodes.now c.args.one c.index-nodes-one.result c.as_slice-part-items.result.now c.as_slice-part-items.ensures.value c.requires.there c.index-nodes-one.is in
     one_refuses c.loop-part.invariant _ (by_parts c.args.nodes.now c.args.way.left c.args.one _ read) c.part-item.result (omega arith) c.part-item.is
     c.from_residual.result _ c.from_residual.ensures.1 c.in_err-expand_part.ensures
 
-pub expand_parts-returns : goal.expand_parts-returns
-expand_parts-returns t c =
+pub expand-returns : goal.expand-returns
+expand-returns t c =
     let read = parts_read c.args.nodes.now c.args.one c.index-nodes-one.result c.as_slice-part-items.result.now c.as_slice-part-items.ensures.value c.requires.there c.index-nodes-one.is in
     all_followed c.loop-part.invariant _ (by_parts c.args.nodes.now c.args.way.left c.args.one _ read) (omega arith)
 
@@ -50,7 +30,7 @@ expand_parts-returns t c =
 pub expand_part-expand_copies-requires : goal.expand_part-expand_copies-requires
 expand_part-expand_copies-requires t c =
     let there = c.requires.followed c.args.one c.in-Copies.reference c.in-Copies.target (rw c.in-Copies.is at c.requires.there) in
-    (omega arith, (c.requires.followed, (c.requires.leading, (there, omega arith))))
+    (omega arith, (c.requires.followed, (there, omega arith)))
 
 pub expand_part-returns-then-way-eq0 : goal.expand_part-returns-then-way-eq0
 expand_part-returns-then-way-eq0 t c =
@@ -70,7 +50,7 @@ expand_part-returns-else-way-eq0 t c =
 
 -- row by row
 pub expand_copies-expand_row-requires : goal.expand_copies-expand_row-requires
-expand_copies-expand_row-requires t c = (omega arith, (c.requires.followed, (c.requires.leading, (c.requires.there, (c.requires.more, omega (arith, c.rows-row-end.ensures.few))))))
+expand_copies-expand_row-requires t c = (omega arith, (c.requires.followed, (c.requires.there, (c.requires.more, omega (arith, c.rows-row-end.ensures.few)))))
 
 pub expand_copies-loop-row-preserved : goal.expand_copies-loop-row-preserved
 expand_copies-loop-row-preserved t c =
@@ -88,7 +68,7 @@ expand_copies-returns t c =
 
 -- column by column
 pub expand_row-expand-requires : goal.expand_row-expand-requires
-expand_row-expand-requires t c = (omega (arith, c.on.ensures.left), (c.requires.followed, (c.requires.leading, c.requires.there)))
+expand_row-expand-requires t c = (omega (arith, c.on.ensures.left), (c.requires.followed, c.requires.there))
 
 pub expand_row-loop-column-preserved : goal.expand_row-loop-column-preserved
 expand_row-loop-column-preserved t c =

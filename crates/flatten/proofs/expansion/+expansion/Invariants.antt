@@ -7,24 +7,21 @@ use Rattle.flatten.specs.inside.Expansions.{copy_routes}
 use Rattle.flatten.proofs.GrowthLaws.{IsFollowedTo}
 use Rattle.flatten.proofs.expansion.+expansion.Given as goal
 
--- Each call goes one function down, and that of `expand` one step, or as many as a hop has.
+-- Each call goes one function down, and that of `expand` one step.
 abbrev pub decreases-expand : goal.decreases-expand
-decreases-expand l = 5 * l.way.left + 4
-
-abbrev pub decreases-expand_parts : goal.decreases-expand_parts
-decreases-expand_parts l = 5 * l.way.left + 3
+decreases-expand l = 4 * l.way.left + 3
 
 abbrev pub decreases-expand_part : goal.decreases-expand_part
-decreases-expand_part l = 5 * l.way.left + 2
+decreases-expand_part l = 4 * l.way.left + 2
 
 abbrev pub decreases-expand_copies : goal.decreases-expand_copies
-decreases-expand_copies l = 5 * l.way.left + 1
+decreases-expand_copies l = 4 * l.way.left + 1
 
 abbrev pub decreases-expand_row : goal.decreases-expand_row
-decreases-expand_row l = 5 * l.way.left
+decreases-expand_row l = 4 * l.way.left
 
-abbrev pub invariant-expand_parts-loop-part : goal.invariant-expand_parts-loop-part
-invariant-expand_parts-loop-part l =
+abbrev pub invariant-expand-loop-part : goal.invariant-expand-loop-part
+invariant-expand-loop-part l =
     IsFollowedTo l.nodes l.way.motion (part_routes (routes_below l.nodes l.way.left) l.one) l.part-items l.part-index l.fn.placed.items l.placed.items
 
 abbrev pub invariant-expand_copies-loop-row : goal.invariant-expand_copies-loop-row

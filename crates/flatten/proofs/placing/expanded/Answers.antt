@@ -20,13 +20,6 @@ prune-requires-clause-done c = rw (c.as_mut_slice.ensures.value, c.as_slice.ensu
 pruned : {n : ℕ} {nodes slice new back : Nodes} → slice ≡ nodes → IsPruned slice new → back ≡ take n (new ++ drop (length new) nodes) → length new ≡ n → IsPruned nodes back
 pruned {n} {nodes} {slice} {new} read is rest long = rw (rest, put_back n new nodes (sym long)) (subst (λ all. IsPruned all new) read is)
 
-pub hops_of-requires : goal.hops_of-requires
-hops_of-requires c = still_below c.args.plan.now c.requires
-    (pruned c.as_mut_slice.ensures.value c.prune.ensures c.as_slice-nodes.ensures.value (c.prune.auto.nodes ∙ c.as_mut_slice.ensures.len))
-
-pub expand-requires-clause-leading : goal.expand-requires-clause-leading
-expand-requires-clause-leading c = rw c.as_slice-2.ensures.value c.in_ok-hops.ensures
-
 pub expand-requires-clause-followed : goal.expand-requires-clause-followed
 expand-requires-clause-followed c = still_below c.args.plan.now c.requires
     (pruned c.as_mut_slice.ensures.value c.prune.ensures c.as_slice-nodes.ensures.value (c.prune.auto.nodes ∙ c.as_mut_slice.ensures.len))
@@ -49,6 +42,3 @@ returns c =
 
 pub returns-in_err-placed : goal.returns-in_err-placed
 returns-in_err-placed c = out_of_memory _ _ c.from_residual.result c.from_residual.ensures.1
-
-pub returns-in_err-hops : goal.returns-in_err-hops
-returns-in_err-hops c = out_of_memory _ _ c.from_residual-in_err-hops.result c.from_residual-in_err-hops.ensures.1

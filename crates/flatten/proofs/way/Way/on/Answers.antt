@@ -1,6 +1,6 @@
-use Rattle.std.proofs.Common.{◌-◌, ◌∷◌, []}
+use Rattle.std.proofs.Common.{◌-◌}
 use Rattle.flatten.specs.Motions.{ShiftsAtMost}
-use Rattle.flatten.proofs.WayLaws.{moves_both, bound_on, bound_of}
+use Rattle.flatten.proofs.WayLaws.{moves_on, bound_on, bound_of}
 use Rattle.flatten.proofs.way.Way.on.Goals as goal
 
 pub invariant_of-result : goal.invariant_of-result
@@ -12,5 +12,5 @@ invariant_of-result c =
 
 pub returns-clause-moves : goal.returns-clause-moves
 returns-clause-moves c steps moves =
-    moves_both c.args.self.motion c.of_copy.result c.after.result steps ((record { reference = c.args.reference.now; column = c.args.column; row = c.args.row }) ∷ [])
+    moves_on c.args.self.motion c.of_copy.result c.after.result steps (record { reference = c.args.reference.now; column = c.args.column; row = c.args.row })
     moves c.of_copy.ensures.moves c.after.ensures.moves
