@@ -4,8 +4,8 @@
 use crate::inputs::{FAILED, READ_ONCE};
 use crate::maps::faults::{place_of, tell_place};
 use crate::maps::named::tell_size_count;
-use crate::remedies::{Remedy, remedy_of};
-use crate::telling::{Explanation, Text};
+use crate::remedies::{Remedy, known_remedy};
+use crate::telling::{Explanation, Telling};
 use command_line::Word;
 use layer_map::{Measure, Place};
 
@@ -38,78 +38,71 @@ pub struct Ended<'a> {
     pub words: &'a [Word],
 }
 
-impl<'a> Ended<'a> {
+impl Ended<'_> {
     /// The number and the place in the line, where the line is a refusal.
     fn refusal(&self) -> Option<(u64, u64)> {
-        let body = self.line.strip_prefix("error ")?;
-        let (number, rest) = body.split_once(" at ")?;
-        let place = rest.strip_suffix('\n')?;
-        Some((number.parse::<u64>().ok()?, place.parse::<u64>().ok()?))
+        let body = self.line.strip_prefix("error ")?.strip_suffix('\n')?;
+        let (number, place) = body.split_once(" at ")?;
+        match (number.parse::<u64>(), place.parse::<u64>()) {
+            (Ok(number), Ok(place)) => Some((number, place)),
+            _ => None,
+        }
     }
 
     /// Whether files and words are worth a second look.
     pub fn is_of_files(&self) -> bool {
         self.status <= FAILED && self.status != 1
     }
-
-    /// What was found behind the line that the program wrote itself, where it is the same end.
-    fn same_end<'b>(&self, found: &'b Explanation) -> Option<&'b str> {
-        if found.status != self.status {
-            return None;
-        }
-        found.text.as_str().strip_prefix(self.line)
-    }
 }
 
 /// Tells which place of a map is meant whose document is not known, so that its sizes may be radii or sides.
-fn tell_map_place(text: &mut Text, place: u64) {
+fn tell_map_place(told: &mut Telling, place: u64) {
     let of_radii = place_of(place, Measure::Radius);
     let of_sides = place_of(place, Measure::Side);
     // What stands beside sides alone has no place of its own beside radii.
     if of_radii != of_sides && of_radii != Place::Document {
-        tell_place(text, None, of_radii);
-        text.say(" or ");
+        tell_place(told, None, of_radii);
+        told.say(" or ");
     }
-    tell_place(text, None, of_sides);
+    tell_place(told, None, of_sides);
 }
 
 /// Tells what a row is about, where its place is this and the meaning does not name it.
-fn tell_subject(text: &mut Text, row: Remedy, place: u64) {
+fn tell_subject(told: &mut Telling, row: Remedy, place: u64) {
     match (row.status, row.number) {
         (3, 39) | (3, 40) | (3, 49) | (4, 9) | (4, 27) => {}
         (3, 48) => {
-            text.say("the map, which lists ");
-            tell_size_count(text, place);
-            text.say(": ");
+            told.say("the map, which lists ");
+            tell_size_count(told, place);
+            told.say(": ");
         }
         (3, _) => {
-            text.say("the map, ");
-            tell_map_place(text, place);
-            text.say(": ");
+            told.say("the map, ");
+            tell_map_place(told, place);
+            told.say(": ");
         }
-        (4, 50) => text.number(
-            "the layout, [[terminal]] number ",
-            place.saturating_add(1),
-            " of the map: ",
-        ),
+        (4, 50) => {
+            let number = place.saturating_add(1);
+            told.number("the layout, [[terminal]] number ", number, " of the map: ");
+        }
         (4, _) => {
-            text.word("the layout, ", row.place, " at byte ");
-            text.number("", place, ": ");
+            told.word("the layout, ", row.place, " at byte ");
+            told.number("", place, ": ");
         }
         _ => {}
     }
 }
 
 /// Tells what a status and a line mean by themselves.
-fn tell_meaning(text: &mut Text, ended: &Ended<'_>) {
+fn tell_meaning(told: &mut Telling, ended: &Ended<'_>) {
     let (number, place) = ended.refusal().unwrap_or((0, 0));
-    match remedy_of(ended.status, number) {
+    match known_remedy(ended.status, number) {
         Some(row) => {
-            tell_subject(text, row, place);
-            text.word("", row.meaning, "; ");
-            text.word("", row.remedy, "\n");
+            tell_subject(told, row, place);
+            told.word("", row.meaning, "; ");
+            told.word("", row.remedy, "\n");
         }
-        None => text.number(
+        None => told.number(
             "the program ended with status ",
             u64::from(ended.status),
             " in a way that docs/REFUSALS.md does not have; file an issue with the words and the files\n",
@@ -117,59 +110,48 @@ fn tell_meaning(text: &mut Text, ended: &Ended<'_>) {
     }
 }
 
-/// Tells which signal stopped the program.
-fn tell_signal(text: &mut Text, signal: u8) {
-    text.number("the program was stopped by signal ", u64::from(signal), "");
-    text.word("", words_of(signal), "\n");
-}
-
 /// Tells why the run ended so by its status and its line alone.
-pub fn tell_end(text: &mut Text, ended: &Ended<'_>) {
-    if ended.status > LAST_STATUS {
-        tell_signal(text, ended.status - LAST_STATUS);
-    } else {
-        tell_meaning(text, ended);
+pub fn tell_end(told: &mut Telling, ended: &Ended<'_>) {
+    if ended.status <= LAST_STATUS {
+        tell_meaning(told, ended);
+        return;
     }
+    let signal = ended.status - LAST_STATUS;
+    told.number("the program was stopped by signal ", u64::from(signal), "");
+    told.word("", words_of(signal), "\n");
 }
 
-/// Puts lines behind the text, each two columns further in.
-fn tell_further_in(text: &mut Text, lines: &str) {
-    let mut rest = lines;
-    for _ in 0..lines.len() {
-        let (line, behind) = rest.split_once('\n').unwrap_or((rest, ""));
+/// Tells what was found, in lines that begin with two spaces.
+fn tell_further_in(told: &mut Telling, found: &Explanation) {
+    for line in found.text.as_str().split('\n') {
         if !line.is_empty() {
-            text.word("  ", line, "\n");
+            told.word("  ", line, "\n");
         }
-        rest = behind;
     }
-}
-
-/// Tells that the words and files, read again, come to another end than that of the program.
-fn tell_other_end(text: &mut Text, ended: &Ended<'_>, found: &Explanation) {
-    text.say("  read again, ");
-    if ended.status == FAILED {
-        text.say("each file can be read: it was an output, or what stands there has changed\n");
-        return;
-    }
-    if found.status == 0 {
-        text.say("nothing is wrong: what stands there has changed\n");
-        return;
-    }
-    text.say("it ends otherwise: what stands there has changed\n");
-    tell_further_in(text, found.text.as_str());
 }
 
 /// Tells why the run ended so by what is found when its words and files are read again.
-pub fn tell_found(text: &mut Text, ended: &Ended<'_>, found: &Explanation) {
-    if let Some(behind) = ended.same_end(found) {
-        text.say(behind);
-        return;
+pub fn tell_found(told: &mut Telling, ended: &Ended<'_>, found: &Explanation) {
+    match found.text.as_str().strip_prefix(ended.line) {
+        Some(behind) if found.status == ended.status => told.say(behind),
+        _ => tell_other_end(told, ended, found),
     }
-    tell_meaning(text, ended);
+}
+
+/// Tells why the run ended so where reading its words and files again comes to another end.
+fn tell_other_end(told: &mut Telling, ended: &Ended<'_>, found: &Explanation) {
+    tell_meaning(told, ended);
     if found.status == READ_ONCE {
-        tell_further_in(text, found.text.as_str());
+        tell_further_in(told, found);
+    } else if ended.status == FAILED {
+        told.say(
+            "  read again, each file can be read: it was an output, or what stands there has changed\n",
+        );
+    } else if found.status == 0 {
+        told.say("  read again, nothing is wrong: what stands there has changed\n");
     } else {
-        tell_other_end(text, ended, found);
+        told.say("  read again, it ends otherwise: what stands there has changed\n");
+        tell_further_in(told, found);
     }
 }
 

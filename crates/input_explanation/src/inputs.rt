@@ -4,10 +4,9 @@ ghost use Rattle.std.specs.Prelude.{◌≤◌, IfSome, length};
 ghost use Rattle.input_explanation.specs.declared.inputs.TheConstants.{LONGEST_LAYOUT};
 
 use crate::path_kinds::{PathKind, Paths};
-use crate::remedies::what_to_do;
+use crate::remedies::remedy_of;
 use crate::telling::Telling;
 use edge_io::{Files, ReadError, read_whole};
-use std::alloc::Global;
 
 /// The status of a run in which a file or an output failed.
 pub const FAILED: u8 = 5;
@@ -46,14 +45,6 @@ impl Input {
             Input::Layout => LONGEST_LAYOUT,
         }
     }
-
-    /// The status of a run that refuses it, and the number of one that is too long.
-    fn too_long(self) -> (u8, u8) {
-        match self {
-            Input::Map => (3, 39),
-            Input::Layout => (4, 9),
-        }
-    }
 }
 
 /// Why a file that could not be read could not, in words.
@@ -85,43 +76,27 @@ fn words_of_once(kind: PathKind) -> Option<&'static str> {
 
 /// Tells in these words why a file is not read.
 fn tell_unread(told: &mut Telling, input: Input, name: &[u8], words: &str) {
-    told.text.say(input.word());
-    told.text.name(" ", name, ": ");
-    told.text.word("", words, "\n");
+    told.say(input.word());
+    told.name(" ", name, ": ");
+    told.word("", words, "\n");
 }
 
 /// Tells that a file is too long.
 fn tell_too_long(told: &mut Telling, input: Input, name: &[u8]) {
-    let limit = input.limit();
-    let (status, number) = input.too_long();
-    told.refuse(status, number, limit as u64);
-    told.text.say(input.word());
-    told.text.name(" ", name, ": it has more than ");
-    told.text.number("", limit as u64, " bytes; ");
-    told.text.word("", what_to_do(status, number), "\n");
-}
-
-/// Tells what went wrong when a file was read.
-fn tell_read_error(
-    told: &mut Telling,
-    input: Input,
-    name: &[u8],
-    kind: PathKind,
-    error: ReadError,
-) {
-    match error {
-        ReadError::TooLong => tell_too_long(told, input, name),
-        ReadError::Memory => told.text.lose(),
-        ReadError::Fault => {
-            told.status = FAILED;
-            tell_unread(told, input, name, words_of(kind));
-        }
-    }
+    let limit = input.limit() as u64;
+    let (status, number) = match input {
+        Input::Map => (3, 39),
+        Input::Layout => (4, 9),
+    };
+    told.refuse(status, number, limit);
+    told.say(input.word());
+    told.name(" ", name, ": it has more than ");
+    told.number("", limit, " bytes; ");
+    told.word("", remedy_of(status, number).remedy, "\n");
 }
 
 /// What the file contains, if it can be read, after a run a second time, and is not too long. Otherwise it is told why not.
 pub fn read_input<F: Files, P: Paths>(
-    alloc: Global,
     told: &mut Telling,
     files: &mut F,
     paths: &P,
@@ -138,11 +113,14 @@ pub fn read_input<F: Files, P: Paths>(
             return None;
         }
     }
-    match read_whole(alloc, files, name, input.limit()) {
-        Ok(bytes) => Some(bytes),
-        Err(error) => {
-            tell_read_error(told, input, name, kind, error);
-            None
+    match read_whole(told.alloc, files, name, input.limit()) {
+        Ok(bytes) => return Some(bytes),
+        Err(ReadError::TooLong) => tell_too_long(told, input, name),
+        Err(ReadError::Memory) => told.lose(),
+        Err(ReadError::Fault) => {
+            told.status = FAILED;
+            tell_unread(told, input, name, words_of(kind));
         }
     }
+    None
 }

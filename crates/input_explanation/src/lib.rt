@@ -16,12 +16,13 @@ mod run;
 mod telling;
 mod words;
 
-pub use command_line::Word;
+pub use command_line::{Request, Word};
 pub use ends::{Ended, ended_in, tell_end, tell_found};
 pub use layouts::shapes::Held;
-pub use maps::good_map::{cut_place, metal_place, tell_layer};
+pub use maps::good_map::{GoodMap, cut_place, metal_place};
 pub use maps::named::{NamedRow, tell_numbers};
 pub use path_kinds::{OsPaths, PathKind, Paths};
-pub use run::{GoodRun, good_run, tell_words};
-pub use telling::{Explanation, Telling, Text};
+pub use run::{layers_for, map_for, request_of, tell_asked};
+pub use telling::{Explanation, Telling};
 pub use words::inquiry::Inquiry;
+pub use words::misfit::tell_words;

@@ -57,15 +57,6 @@ fn kind_of(found: FileType) -> PathKind {
     PathKind::File
 }
 
-/// Why nothing can be said of what stands there.
-fn kind_of_error(kind: ErrorKind) -> PathKind {
-    match kind {
-        ErrorKind::NotFound => PathKind::Missing,
-        ErrorKind::PermissionDenied => PathKind::Forbidden,
-        _ => PathKind::Untold,
-    }
-}
-
 impl<R: Files> Paths for OsPaths<'_, R> {
     fn kind(&self, name: &[u8]) -> PathKind {
         let Ok(path) = str::from_utf8(name) else {
@@ -73,7 +64,11 @@ impl<R: Files> Paths for OsPaths<'_, R> {
         };
         match metadata(self.rt, path) {
             Ok(found) => kind_of(found.file_type()),
-            Err(error) => kind_of_error(error.kind()),
+            Err(error) => match error.kind() {
+                ErrorKind::NotFound => PathKind::Missing,
+                ErrorKind::PermissionDenied => PathKind::Forbidden,
+                _ => PathKind::Untold,
+            },
         }
     }
 }

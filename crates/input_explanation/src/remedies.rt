@@ -64,63 +64,48 @@ const ROWS: &str = "\
 7|0|the system does not tell the arguments as texts||write names of files in UTF-8
 ";
 
-/// The number in front of the first bar of a text, and the text behind the bar.
-fn number_in(text: &'static str) -> Option<(u64, &'static str)> {
-    let (number, behind) = text.split_once('|')?;
-    let number = number.parse::<u64>().ok()?;
-    Some((number, behind))
-}
-
 /// What a row says.
 fn remedy_in(row: &'static str) -> Option<Remedy> {
-    let (status, rest) = number_in(row)?;
-    let (number, rest) = number_in(rest)?;
-    let (meaning, rest) = rest.split_once('|')?;
-    let (place, remedy) = rest.split_once('|')?;
-    Some(Remedy {
-        status,
-        number,
-        meaning,
-        place,
-        remedy,
-    })
-}
-
-/// Whether the row is that of a status with a number.
-fn is_row_of(row: &'static str, status: u8, number: u64) -> bool {
-    match remedy_in(row) {
-        Some(remedy) => remedy.status == u64::from(status) && remedy.number == number,
-        None => false,
-    }
-}
-
-/// What a status with a number means, where a run ends so.
-pub fn remedy_of(status: u8, number: u64) -> Option<Remedy> {
-    let mut rest = ROWS;
-    for _ in 0..ROWS.len() {
-        let (row, behind) = rest.split_once('\n')?;
-        if is_row_of(row, status, number) {
-            return remedy_in(row);
-        }
-        rest = behind;
+    if let Some((status, rest)) = row.split_once('|')
+        && let Some((number, rest)) = rest.split_once('|')
+        && let Some((meaning, rest)) = rest.split_once('|')
+        && let Some((place, remedy)) = rest.split_once('|')
+        && let (Ok(status), Ok(number)) = (status.parse::<u64>(), number.parse::<u64>())
+    {
+        return Some(Remedy {
+            status,
+            number,
+            meaning,
+            place,
+            remedy,
+        });
     }
     None
 }
 
-/// What to do where a run ends with a status and a number.
-pub fn what_to_do(status: u8, number: u8) -> &'static str {
-    match remedy_of(status, u64::from(number)) {
-        Some(row) => row.remedy,
-        None => "see docs/REFUSALS.md",
+/// What a status with a number means, where a run ends so.
+pub fn known_remedy(status: u8, number: u64) -> Option<Remedy> {
+    let status = u64::from(status);
+    for row in ROWS.split('\n') {
+        match remedy_in(row) {
+            Some(remedy) if remedy.status == status && remedy.number == number => {
+                return Some(remedy);
+            }
+            _ => {}
+        }
     }
+    None
 }
 
-/// What a number of a refused layout means of the place, and what to do.
-pub fn meaning(number: u8) -> (&'static str, &'static str) {
-    match remedy_of(4, u64::from(number)) {
-        Some(row) => (row.meaning, row.remedy),
-        None => ("the layout is refused", "see docs/REFUSALS.md"),
-    }
+/// What a status with a number means, with which runs end.
+pub fn remedy_of(status: u8, number: u8) -> Remedy {
+    known_remedy(status, u64::from(number)).unwrap_or(Remedy {
+        status: u64::from(status),
+        number: u64::from(number),
+        meaning: "the layout is refused",
+        place: "",
+        remedy: "see docs/REFUSALS.md",
+    })
 }
 
 /// The numbers of shapes without a cover, and what each means, in short.

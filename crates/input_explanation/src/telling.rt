@@ -7,23 +7,39 @@ use std::fmt::Display;
 /// The most bytes of a name or a value that are shown.
 const MOST_SHOWN: usize = 256;
 
-/// Whether a byte is shown as it is: printable ASCII is, but for a quote and a backslash.
-fn is_shown(byte: u8) -> bool {
-    matches!(byte, b' '..=b'~') && byte != b'\'' && byte != b'\\'
+/// What is said of a run.
+#[derive(Drop)]
+pub struct Explanation {
+    /// The status with which the run ends, and 8 if a file cannot be read a second time.
+    pub status: u8,
+    /// The line that the run prints if it refuses its input, and then the words.
+    pub text: String,
 }
 
-/// A text. Where no memory is left for a piece, it stays without it and keeps that in mind, so that whoever writes pieces
-/// has no failure to pass on. Most pieces come with what stands in front of them and behind them.
+/// What is said of a run so far. Where no memory is left for a piece, or for something that is to be told, the text stays
+/// without it and keeps that in mind, so that whoever tells has no failure to pass on. Most pieces come with what stands in
+/// front of them and behind them.
 #[derive(Drop)]
-pub struct Text {
+pub struct Telling {
+    /// The allocator for all that is read and found.
+    pub alloc: Global,
+    /// Whether the run came before and has read its files, so that a pipe has nothing more.
+    pub is_behind_run: bool,
+    /// The status with which the run ends, and 8 where a file cannot be read a second time.
+    pub status: u8,
+    /// The line that the run prints, where it refuses its input, and then the words.
     text: String,
+    /// Whether no memory was left for a part of it.
     is_cut: bool,
 }
 
-impl Text {
-    /// No text yet.
-    pub fn new(alloc: Global) -> Text {
-        Text {
+impl Telling {
+    /// Nothing yet, where a run may have come before.
+    pub fn new(alloc: Global, is_behind_run: bool) -> Telling {
+        Telling {
+            alloc,
+            is_behind_run,
+            status: 0,
             text: String::new(alloc),
             is_cut: false,
         }
@@ -55,34 +71,29 @@ impl Text {
     /// Puts a number with its sign behind it.
     pub fn signed(&mut self, before: &str, number: i64, after: &str) {
         self.say(before);
-        self.number(
-            if number < 0 { "-" } else { "" },
-            number.unsigned_abs(),
-            after,
-        );
+        let sign = if number < 0 { "-" } else { "" };
+        self.number(sign, number.unsigned_abs(), after);
     }
 
     /// Puts a point or a cell behind it.
-    pub fn point(&mut self, before: &str, x: i64, y: i64, after: &str) {
+    pub fn point(&mut self, before: &str, x: i32, y: i32, after: &str) {
         self.say(before);
-        self.signed("(", x, ", ");
-        self.signed("", y, ")");
+        self.signed("(", i64::from(x), ", ");
+        self.signed("", i64::from(y), ")");
         self.say(after);
     }
 
     /// Puts a name behind it, in quotes.
     pub fn name(&mut self, before: &str, name: &[u8], after: &str) {
-        self.say(before);
-        self.say("'");
+        self.word(before, "'", "");
         self.raw(name);
-        self.say("'");
-        self.say(after);
+        self.word("'", after, "");
     }
 
     /// Puts what a file says behind it: printable ASCII as it is, and each other byte, a quote and a backslash as `\x` with
     /// its two digits. Of many bytes the first are shown, and two dots behind them.
     pub fn raw(&mut self, bytes: &[u8]) {
-        for byte in bytes.iter().take(MOST_SHOWN) {
+        for byte in &bytes[..bytes.len().min(MOST_SHOWN)] {
             self.byte(*byte);
         }
         if bytes.len() > MOST_SHOWN {
@@ -92,30 +103,25 @@ impl Text {
 
     /// Puts a byte behind it.
     fn byte(&mut self, byte: u8) {
-        let is_cut = if is_shown(byte) {
-            self.text.push(char::from(byte)).is_err()
-        } else {
-            write!(self.text, "\\x{byte:02x}").is_err()
+        let put = match byte {
+            b' '..=b'&' | b'('..=b'[' | b']'..=b'~' => self.text.push(char::from(byte)).is_ok(),
+            _ => write!(self.text, "\\x{byte:02x}").is_ok(),
         };
-        self.is_cut = self.is_cut || is_cut;
+        self.is_cut = self.is_cut || !put;
     }
 
     /// Puts a value behind it as it prints itself, shown as what a file says.
-    pub fn value<T: Display>(&mut self, alloc: Global, value: &T) {
-        match format!(in alloc; "{value}") {
+    pub fn value<T: Display>(&mut self, value: &T) {
+        match format!(in self.alloc; "{value}") {
             Ok(shown) => self.raw(shown.as_str().as_bytes()),
-            Err(_) => self.is_cut = true,
+            Err(_) => self.lose(),
         }
     }
 
-    /// What was found, if memory was left for it. Otherwise the text is not whole.
-    pub fn got<T>(&mut self, found: Result<T, NoMemory>) -> Option<T> {
-        match found {
-            Ok(found) => Some(found),
-            Err(_) => {
-                self.is_cut = true;
-                None
-            }
+    /// Puts an item behind others that are to be told.
+    pub fn keep<T: Drop>(&mut self, items: &mut Vec<T>, item: T) {
+        if items.push(item).is_err() {
+            self.is_cut = true;
         }
     }
 
@@ -134,63 +140,25 @@ impl Text {
         self.text.as_str()
     }
 
-    /// The text, where memory was left for all of it.
-    pub fn whole(self) -> Result<String, NoMemory> {
-        let Text { text, is_cut } = self;
-        if is_cut {
-            return Err(NoMemory);
-        }
-        Ok(text)
-    }
-}
-
-/// What is said of a run.
-#[derive(Drop)]
-pub struct Explanation {
-    /// The status with which the run ends, and 8 if a file cannot be read a second time.
-    pub status: u8,
-    /// The line that the run prints if it refuses its input, and then the words.
-    pub text: String,
-}
-
-/// What is said of a run so far.
-#[derive(Drop)]
-pub struct Telling {
-    /// Whether the run came before and has read its files, so that a pipe has nothing more.
-    pub is_behind_run: bool,
-    /// The status with which the run ends, and 8 where a file cannot be read a second time.
-    pub status: u8,
-    /// The line that the run prints, where it refuses its input, and then the words.
-    pub text: Text,
-}
-
-impl Telling {
-    /// Nothing yet, where a run may have come before.
-    pub fn new(alloc: Global, is_behind_run: bool) -> Telling {
-        Telling {
-            is_behind_run,
-            status: 0,
-            text: Text::new(alloc),
-        }
+    /// Says the line of a refusal, and keeps its status.
+    pub fn refuse(&mut self, status: u8, number: u8, place: u64) {
+        self.status = status;
+        self.number("error ", u64::from(number), " at ");
+        self.number("", place, "\n");
     }
 
     /// The explanation, if memory was left for all of it.
     pub fn explanation(self) -> Result<Explanation, NoMemory> {
         let Telling {
+            alloc: _,
             is_behind_run: _,
             status,
             text,
+            is_cut,
         } = self;
-        Ok(Explanation {
-            status,
-            text: text.whole()?,
-        })
-    }
-
-    /// Says the line of a refusal, and keeps its status.
-    pub fn refuse(&mut self, status: u8, number: u8, place: u64) {
-        self.status = status;
-        self.text.number("error ", u64::from(number), " at ");
-        self.text.number("", place, "\n");
+        if is_cut {
+            return Err(NoMemory);
+        }
+        Ok(Explanation { status, text })
     }
 }

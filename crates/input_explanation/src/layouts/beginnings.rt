@@ -50,17 +50,15 @@ pub fn is_gdsii(bytes: &[u8]) -> bool {
     }
 }
 
-/// Whether the byte is one of a text: a sign of ASCII, a space or another white one.
-fn is_of_text(byte: u8) -> bool {
-    matches!(byte, b'\t' | b'\n' | b'\x0C' | b'\r' | b' '..=b'~')
-}
-
-/// Whether the bytes begin as a text does, with four printable bytes.
+/// Whether the bytes begin as a text does, with four signs of ASCII, spaces or other white ones.
 pub fn begins_as_text(bytes: &[u8]) -> bool {
-    match bytes {
-        [one, two, three, four, ..] => {
-            is_of_text(*one) && is_of_text(*two) && is_of_text(*three) && is_of_text(*four)
+    let Some(beginning) = bytes.get(..4) else {
+        return false;
+    };
+    for byte in beginning {
+        if !matches!(*byte, b'\t' | b'\n' | b'\x0C' | b'\r' | b' '..=b'~') {
+            return false;
         }
-        _ => false,
     }
+    true
 }

@@ -6,170 +6,138 @@ ghost use Rattle.library_model.specs.Names.{names_of};
 
 use crate::layouts::faults::Layout;
 use crate::layouts::graph::name_of;
-use crate::layouts::metal_islands::{
-    MetalIslands, has_cluster_terminals, is_joined, metal_islands, tell_all_carried,
-    tell_island_counts,
-};
+use crate::layouts::metal_islands::{MetalIslands, metal_islands, tell_all_carried};
 use crate::layouts::pairs::{bounds_of, tell_bounds, tell_pairs_of};
-use crate::layouts::shapes::{Held, Shapes, tell_held};
-use crate::maps::good_map::tell_layer;
-use crate::telling::Text;
+use crate::layouts::shapes::{Held, Shapes};
+use crate::layouts::structures::found_tops;
+use crate::telling::Telling;
 use byteorder::{BigEndian, ByteOrder};
-use flatten::tops_of;
 use library_model::{Library, Structure};
 use map_model::Map;
-use std::alloc::Global;
 
-/// Tells the layers without shapes, and on which the layout has some.
-fn tell_empty_layers(
-    alloc: Global,
-    text: &mut Text,
-    map: &Map,
-    library: &Library,
-    layers: &[Held],
-) {
+/// Tells the layers without shapes, and on which pairs the layout has some.
+fn tell_empty_layers(told: &mut Telling, structures: &[Structure], layers: &[Held]) {
     let mut is_some_empty = false;
-    for (number, held) in layers.iter().enumerate() {
+    for held in layers {
         if held.shapes == 0 {
             is_some_empty = true;
-            tell_layer(text, "  ", map, number);
-            text.say(
+            held.tell_layer(told, "  ");
+            told.say(
                 ": no shapes, so its areas are 0; are its layers and datatypes those of the layout?\n",
             );
         }
     }
     if is_some_empty {
-        tell_pairs_of(alloc, text, library.structures.as_slice());
+        tell_pairs_of(told, structures);
     }
 }
 
-/// Whether shapes are placed on the layer of this number.
-fn has_shapes(layers: &[Held], number: usize) -> bool {
-    match layers.get(number) {
-        Some(held) => held.shapes > 0,
-        None => false,
+/// Tells of a metal on whose islands the map names few terminals whether via clusters are terminals, and else that it has no
+/// opens, and why: no island of it has two terminals.
+fn tell_few_terminals(told: &mut Telling, islands: &MetalIslands<'_>, contacts: bool) {
+    islands.held.tell_layer(told, "  ");
+    if contacts && islands.is_joined {
+        told.say(
+            ": each via cluster is a terminal of both its metals; islands with two terminals or more have opens\n",
+        );
+        return;
     }
-}
-
-/// Whether the map lists a terminal of the metal.
-fn has_terminal(map: &Map, metal: usize) -> bool {
-    for terminal in map.terminals.as_slice() {
-        if terminal.metal as usize == metal {
-            return true;
-        }
-    }
-    false
-}
-
-/// Tells which terminals a metal lacks that has no opens.
-fn tell_lack(text: &mut Text, map: &Map, metal: usize) {
-    text.say(if has_terminal(map, metal) {
+    told.say(if islands.with_one > 0 {
         ": no island with two terminals"
     } else {
         ": no terminals"
     });
-    if map.contacts {
-        text.say(", nor a cut whose via clusters are terminals");
+    if contacts {
+        told.say(", nor a cut whose via clusters are terminals");
     }
-}
-
-/// Tells how a metal that a cut joins comes to opens without a list of terminals.
-fn tell_way(text: &mut Text, map: &Map, metal: usize) {
-    if is_joined(map, metal) {
-        text.say(
+    told.say(", so its opens are 0, which says nothing of its wires");
+    if islands.is_joined {
+        told.say(
             "; `contacts = true`, in a map of version 2, makes each via cluster a terminal, and needs no list",
         );
     }
-}
-
-/// Tells that a metal has no opens, and why: no island of it has two terminals.
-fn tell_no_opens(text: &mut Text, map: &Map, metal: usize) {
-    tell_layer(text, "  ", map, metal);
-    tell_lack(text, map, metal);
-    text.say(", so its opens are 0, which says nothing of its wires");
-    tell_way(text, map, metal);
-    text.say("\n");
-}
-
-/// Tells of a metal on whose islands the map names few terminals whether via clusters are terminals, and else that it has no
-/// opens.
-fn tell_few_terminals(text: &mut Text, map: &Map, metal: usize) {
-    if has_cluster_terminals(map, metal) {
-        tell_layer(text, "  ", map, metal);
-        text.say(
-            ": each via cluster is a terminal of both its metals; islands with two terminals or more have opens\n",
-        );
-    } else {
-        tell_no_opens(text, map, metal);
-    }
+    told.say("\n");
 }
 
 /// Tells the metals with shapes on which no island has two terminals that the map names, and whether they have opens.
-fn tell_opens(text: &mut Text, map: &Map, layers: &[Held], islands: &[MetalIslands]) {
-    for (metal, islands) in islands.iter().enumerate() {
-        if has_shapes(layers, metal) && islands.counts.more == 0 {
-            tell_few_terminals(text, map, metal);
+fn tell_opens(told: &mut Telling, all: &[MetalIslands<'_>], contacts: bool) {
+    for islands in all {
+        if islands.held.shapes > 0 && islands.with_more == 0 {
+            tell_few_terminals(told, islands, contacts);
         }
     }
 }
 
-/// Tells what is placed on a layer, and what it covers.
-fn tell_covered(text: &mut Text, map: &Map, number: usize, held: &Held) {
-    if held.shapes == 0 {
-        return;
+/// Tells what is placed on the layers, and what it covers.
+fn tell_covered(told: &mut Telling, layers: &[Held]) {
+    for held in layers {
+        if held.shapes > 0 {
+            held.tell_counts(told);
+            match bounds_of(held.rects.as_slice()) {
+                Some(bounds) => tell_bounds(told, ", from ", bounds),
+                None => told.say(", which cover nothing"),
+            }
+            told.say("\n");
+        }
     }
-    tell_held(text, map, number, held);
-    match bounds_of(held.rects.as_slice()) {
-        Some(bounds) => tell_bounds(text, ", from ", bounds),
-        None => text.say(", which cover nothing"),
-    }
-    text.say("\n");
 }
 
-/// Tells the name of the first of the tops, as the end of a line.
-fn tell_first_top(text: &mut Text, structures: &[Structure], tops: &[u32]) {
-    match tops.first() {
-        Some(top) => text.name(", top ", name_of(structures, *top as usize), "\n"),
-        None => text.say("\n"),
+/// Tells how many islands the metals with shapes have, and how many of them have terminals that the map names.
+fn tell_island_counts(told: &mut Telling, all: &[MetalIslands<'_>], contacts: bool) {
+    for islands in all {
+        if islands.held.shapes == 0 {
+            continue;
+        }
+        let carrying = islands.with_one.saturating_add(islands.with_more);
+        islands.held.tell_layer(told, "  ");
+        told.number(": ", islands.count, " islands: ");
+        told.number(
+            "",
+            islands.count.saturating_sub(carrying),
+            " with no terminal, ",
+        );
+        told.number("", islands.with_one, " with one, ");
+        told.number("", islands.with_more, " with more");
+        if contacts && islands.is_joined {
+            told.say(
+                ", by the terminals that the map names; via clusters, which are terminals too, are not counted",
+            );
+        }
+        told.say("\n");
     }
 }
 
 /// Tells the name of the top, as the end of a line.
-fn tell_top(alloc: Global, text: &mut Text, layout: &Layout<'_>, library: &Library)
+fn tell_top(told: &mut Telling, layout: &Layout<'_>, library: &Library)
     requires differ { AreDifferent (names_of library.now.structures) }
     requires few { length library.now.structures < 2 ^ 32 }
 {
     if let Some(top) = layout.top {
-        text.name(", top ", top, "\n");
+        told.name(", top ", top, "\n");
         return;
     }
-    match tops_of(alloc, library) {
-        Ok(tops) => tell_first_top(text, library.structures.as_slice(), tops.as_slice()),
-        Err(_) => text.lose(),
+    let tops = found_tops(told, library);
+    match tops.first() {
+        Some(top) => told.name(
+            ", top ",
+            name_of(library.structures.as_slice(), *top as usize),
+            "\n",
+        ),
+        None => told.say("\n"),
     }
 }
 
 /// Tells of the library: its name, its database unit and how many structures it has.
-pub fn tell_library(text: &mut Text, library: &Library) {
-    text.name("  library ", library.name.as_slice(), ", ");
-    tell_unit(text, library.units);
+pub fn tell_library(told: &mut Telling, library: &Library) {
+    told.name("  library ", library.name.as_slice(), ", ");
+    tell_unit(told, library.units);
     let count = library.structures.as_slice().len();
-    text.number(", ", count as u64, " structures");
-}
-
-/// Tells how many islands the metals with shapes have.
-fn tell_all_counts(text: &mut Text, map: &Map, layers: &[Held], islands: &[MetalIslands]) {
-    for (metal, islands) in islands.iter().enumerate() {
-        if has_shapes(layers, metal) {
-            tell_island_counts(text, map, metal, islands.counts);
-        }
-    }
+    told.number(", ", count as u64, " structures");
 }
 
 /// Tells of a layout that is good.
 pub fn tell_good(
-    alloc: Global,
-    text: &mut Text,
+    told: &mut Telling,
     map: &Map,
     layout: &Layout<'_>,
     library: &Library,
@@ -179,24 +147,21 @@ pub fn tell_good(
     requires few { length library.now.structures < 2 ^ 32 }
 {
     let layers = shapes.held.as_slice();
-    let islands = metal_islands(alloc, text, map, shapes);
-    let islands = islands.as_slice();
-    layout.tell(text);
-    text.word(
+    let islands = metal_islands(told, map, shapes);
+    layout.tell(told);
+    told.word(
         ": nothing is wrong, and the run gives its ",
-        layout.inquiry.outcome(),
+        layout.outcome,
         "",
     );
-    tell_empty_layers(alloc, text, map, library, layers);
-    tell_opens(text, map, layers, islands);
-    tell_library(text, library);
-    tell_top(alloc, text, layout, library);
-    for (number, held) in layers.iter().enumerate() {
-        tell_covered(text, map, number, held);
-    }
-    tell_all_counts(text, map, layers, islands);
+    tell_empty_layers(told, library.structures.as_slice(), layers);
+    tell_opens(told, islands.as_slice(), map.contacts);
+    tell_library(told, library);
+    tell_top(told, layout, library);
+    tell_covered(told, layers);
+    tell_island_counts(told, islands.as_slice(), map.contacts);
     if !map.terminals.as_slice().is_empty() {
-        tell_all_carried(text, map, layers, islands);
+        tell_all_carried(told, islands.as_slice());
     }
 }
 
@@ -216,21 +181,21 @@ fn unit_of(units: [u8; 16]) -> Option<u64> {
 }
 
 /// Tells the length of the database unit, with as many digits as it takes.
-pub fn tell_unit(text: &mut Text, units: [u8; 16]) {
+fn tell_unit(told: &mut Telling, units: [u8; 16]) {
     let Some(unit) = unit_of(units) else {
-        text.say("a database unit that is no length below a metre");
+        told.say("a database unit that is no length below a metre");
         return;
     };
-    text.number("a database unit of ", unit / 1_000_000, "");
+    told.number("a database unit of ", unit / 1_000_000, "");
     let mut rest = unit % 1_000_000;
     if rest > 0 {
-        text.say(".");
+        told.say(".");
     }
     for _ in 0..6 {
         if rest > 0 {
-            text.number("", rest / 100_000, "");
+            told.number("", rest / 100_000, "");
         }
         rest = (rest % 100_000) * 10;
     }
-    text.say(" nm");
+    told.say(" nm");
 }

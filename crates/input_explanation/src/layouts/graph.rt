@@ -5,10 +5,9 @@ ghost use Rattle.std.specs.Prelude.{◌<◌, ◌^◌, length};
 ghost use Rattle.lists.specs.Differing.{AreDifferent};
 ghost use Rattle.library_model.specs.Names.{names_of};
 
+use crate::telling::Telling;
 use flatten::copies;
 use library_model::{Element, Library, NameIndex, Structure};
-use lists::NoMemory;
-use std::alloc::Global;
 
 /// A reference: the number of the structure that it places, and how often it does.
 #[derive(Clone, Copy)]
@@ -60,59 +59,17 @@ pub struct Graph<'a> {
     order: Vec<usize>,
 }
 
-/// The reference that the element is, where it is one to a structure with one of these names.
-fn link_of(index: &NameIndex<'_>, element: &Element) -> Option<Link> {
-    let Element::Reference(reference) = element else {
+/// The longer one of a chain and of another with one reference more in front of it, where both are known. Of those that are as
+/// long it is the one whose end comes last in the library.
+fn longer(one: Option<Chain>, other: Option<Chain>) -> Option<Chain> {
+    let (Some(one), Some(Chain { length, end })) = (one, other) else {
         return None;
     };
-    let target = index.find(reference.target.as_slice())?;
-    Some(Link {
-        target: target as usize,
-        copies: copies(reference),
-    })
-}
-
-/// Puts the references among these elements behind others.
-fn add_links(
-    links: &mut Vec<Link>,
-    index: &NameIndex<'_>,
-    elements: &[Element],
-) -> Result<(), NoMemory> {
-    for element in elements {
-        if let Some(link) = link_of(index, element) {
-            links.push(link)?;
-        }
+    let length = length.saturating_add(1);
+    if length > one.length || length == one.length && end > one.end {
+        return Some(Chain { length, end });
     }
-    Ok(())
-}
-
-/// Puts steps into the structures to which these references lead behind others.
-fn add_steps(steps: &mut Vec<Step>, links: &[Link]) -> Result<(), NoMemory> {
-    for link in links {
-        steps.push(Step::Enter(link.target))?;
-    }
-    Ok(())
-}
-
-/// The longer one of two chains, where both are known. Of those that are as long it is the one whose end comes last in the
-/// library.
-fn longer(one: Option<Chain>, other: Option<Chain>) -> Option<Chain> {
-    let one = one?;
-    let other = other?;
-    if other.length > one.length || other.length == one.length && other.end > one.end {
-        Some(other)
-    } else {
-        Some(one)
-    }
-}
-
-/// The chain with one reference more in front of it.
-fn with_one_more(chain: Option<Chain>) -> Option<Chain> {
-    let Chain { length, end } = chain?;
-    Some(Chain {
-        length: length.saturating_add(1),
-        end,
-    })
+    Some(one)
 }
 
 /// Adds to each target of the links as often as it is placed by a structure that is placed so often.
@@ -125,18 +82,22 @@ fn add_copies(times: &mut [u64], links: &[Link], of_one: u64) {
 }
 
 /// The graph of a library's structures.
-pub fn graph_of<'a>(alloc: Global, library: &'a Library) -> Result<Graph<'a>, NoMemory>
+pub fn graph_of<'a>(told: &mut Telling, library: &'a Library) -> Graph<'a>
     requires differ { AreDifferent (names_of library.now.structures) }
     requires few { length library.now.structures < 2 ^ 32 }
 {
+    let structures = library.structures.as_slice();
     let mut graph = Graph {
-        structures: library.structures.as_slice(),
-        links: Vec::new(alloc),
-        nodes: Vec::new(alloc),
-        order: Vec::new(alloc),
+        structures,
+        links: Vec::new(told.alloc),
+        nodes: Vec::new(told.alloc),
+        order: Vec::new(told.alloc),
     };
-    graph.fill(alloc, library)?;
-    Ok(graph)
+    match library.index(told.alloc) {
+        Ok(index) => graph.fill(told, &index),
+        Err(_) => told.lose(),
+    }
+    graph
 }
 
 /// The name of the structure with this number.
@@ -148,35 +109,38 @@ pub fn name_of(structures: &[Structure], one: usize) -> &[u8] {
 }
 
 impl Graph<'_> {
-    /// Takes up the references of all structures and follows them.
-    fn fill(&mut self, alloc: Global, library: &Library) -> Result<(), NoMemory>
-        requires differ { AreDifferent (names_of library.now.structures) }
-        requires few { length library.now.structures < 2 ^ 32 }
-    {
-        let index = library.index(alloc)?;
-        self.add_nodes(&index)?;
-        self.follow(&mut Vec::new(alloc))
-    }
-
-    /// Takes up the references of all structures.
-    fn add_nodes(&mut self, index: &NameIndex<'_>) -> Result<(), NoMemory> {
-        for structure in self.structures {
-            self.add_node(index, structure)?;
+    /// Takes up the references of all structures, and follows them.
+    fn fill(&mut self, told: &mut Telling, index: &NameIndex<'_>) {
+        let structures = self.structures;
+        let mut steps = Vec::new(told.alloc);
+        for (number, structure) in structures.iter().enumerate() {
+            self.add_node(told, index, structure);
+            told.keep(&mut steps, Step::Enter(number));
         }
-        Ok(())
+        self.follow(told, &mut steps);
     }
 
     /// Takes up the references of the next structure.
-    fn add_node(&mut self, index: &NameIndex<'_>, structure: &Structure) -> Result<(), NoMemory> {
+    fn add_node(&mut self, told: &mut Telling, index: &NameIndex<'_>, structure: &Structure) {
         let first = self.links.len();
-        add_links(&mut self.links, index, structure.elements.as_slice())?;
-        self.nodes.push(Node {
+        for element in structure.elements.as_slice() {
+            if let Element::Reference(reference) = element
+                && let Some(target) = index.find(reference.target.as_slice())
+            {
+                let link = Link {
+                    target: target as usize,
+                    copies: copies(reference),
+                };
+                told.keep(&mut self.links, link);
+            }
+        }
+        let node = Node {
             first,
             end: self.links.len(),
             is_entered: false,
             chain: None,
-        })?;
-        Ok(())
+        };
+        told.keep(&mut self.nodes, node);
     }
 
     /// The references of the structure.
@@ -192,69 +156,45 @@ impl Graph<'_> {
         self.nodes.get(one)?.chain
     }
 
-    /// A longest chain from the structure, where one is known from each structure to which it refers.
-    fn chain_over(&self, one: usize) -> Option<Chain> {
+    /// Follows the references of the structure, unless they are followed already.
+    fn enter(&mut self, told: &mut Telling, steps: &mut Vec<Step>, one: usize) {
+        match self.nodes.get_mut(one) {
+            Some(node) if !node.is_entered => node.is_entered = true,
+            _ => return,
+        }
+        told.keep(steps, Step::Leave(one));
+        for link in self.links_at(one) {
+            told.keep(steps, Step::Enter(link.target));
+        }
+    }
+
+    /// Comes back to the structure. A longest chain from it is known where one is from each to which it refers: from all but those
+    /// of a circle.
+    fn leave(&mut self, told: &mut Telling, one: usize) {
         let mut longest = Some(Chain {
             length: 0,
             end: one,
         });
         for link in self.links_at(one) {
-            longest = longer(longest, with_one_more(self.chain_from(link.target)));
+            longest = longer(longest, self.chain_from(link.target));
         }
-        longest
-    }
-
-    /// Marks the structure as entered; whether it was not before.
-    fn mark(&mut self, one: usize) -> bool {
-        match self.nodes.get_mut(one) {
-            Some(node) if !node.is_entered => {
-                node.is_entered = true;
-                true
-            }
-            _ => false,
-        }
-    }
-
-    /// Follows the references of the structure, unless they are followed already.
-    fn enter(&mut self, steps: &mut Vec<Step>, one: usize) -> Result<(), NoMemory> {
-        if !self.mark(one) {
-            return Ok(());
-        }
-        steps.push(Step::Leave(one))?;
-        add_steps(steps, self.links_at(one))
-    }
-
-    /// Comes back to the structure. What it refers to is left behind, but for structures of a circle.
-    fn leave(&mut self, one: usize) -> Result<(), NoMemory> {
-        let chain = self.chain_over(one);
         if let Some(node) = self.nodes.get_mut(one) {
-            node.chain = chain;
+            node.chain = longest;
         }
-        if chain.is_some() {
-            self.order.push(one)?;
+        if longest.is_some() {
+            told.keep(&mut self.order, one);
         }
-        Ok(())
     }
 
-    /// Follows the references of all structures, by steps of which there are none yet.
-    fn follow(&mut self, steps: &mut Vec<Step>) -> Result<(), NoMemory> {
-        for one in 0..self.nodes.len() {
-            steps.push(Step::Enter(one))?;
-            self.follow_steps(steps)?;
-        }
-        Ok(())
-    }
-
-    /// Goes on until no step is left.
-    fn follow_steps(&mut self, steps: &mut Vec<Step>) -> Result<(), NoMemory> {
+    /// Goes these steps, from the last one on, and those that they lead to.
+    fn follow(&mut self, told: &mut Telling, steps: &mut Vec<Step>) {
         for _ in 0..u64::MAX {
             match steps.pop() {
-                Some(Step::Enter(one)) => self.enter(steps, one)?,
-                Some(Step::Leave(one)) => self.leave(one)?,
-                None => return Ok(()),
+                Some(Step::Enter(one)) => self.enter(told, steps, one),
+                Some(Step::Leave(one)) => self.leave(told, one),
+                None => return,
             }
         }
-        Ok(())
     }
 
     /// The structure to which the first reference leads from which others lead on without end, and the structure itself where
@@ -279,41 +219,39 @@ impl Graph<'_> {
     }
 
     /// The structures of a circle to which references lead from the structure, in their order, at most so many.
-    pub fn circle_from(
-        &self,
-        alloc: Global,
-        one: usize,
-        most: usize,
-    ) -> Result<Vec<usize>, NoMemory> {
+    pub fn circle_from(&self, told: &mut Telling, one: usize, most: usize) -> Vec<usize> {
         let first = self.in_circle(one);
         let mut at = first;
-        let mut circle = Vec::new(alloc);
+        let mut circle = Vec::new(told.alloc);
         for _ in 0..most {
-            circle.push(at)?;
+            told.keep(&mut circle, at);
             at = self.endless_target(at);
             if at == first {
                 break;
             }
         }
-        Ok(circle)
+        circle
     }
 
     /// How often the top places each structure, where there is one and no references lead on from it without end. A number
     /// that 64 bits do not hold is the greatest that they do.
-    pub fn times_placed(&self, alloc: Global, top: Option<usize>) -> Result<Vec<u64>, NoMemory> {
-        let mut times = vec![in alloc; 0u64; self.nodes.len()]?;
-        self.place_from(times.as_mut_slice(), top);
-        Ok(times)
+    pub fn times_placed(&self, told: &mut Telling, top: Option<usize>) -> Vec<u64> {
+        let mut times = Vec::new(told.alloc);
+        for one in 0..self.nodes.len() {
+            let count = if top == Some(one) { 1 } else { 0 };
+            told.keep(&mut times, count);
+        }
+        self.place_on(times.as_mut_slice());
+        times
     }
 
-    /// Adds how often the top places each structure.
-    fn place_from(&self, times: &mut [u64], top: Option<usize>) {
-        if let Some(target) = top {
-            add_copies(times, &[Link { target, copies: 1 }], 1);
-        }
-        for one in self.order.iter().rev() {
-            let of_one = times.get(*one).copied().unwrap_or(0);
-            add_copies(times, self.links_at(*one), of_one);
+    /// Adds how often structures are placed by those of which it is known how often they are.
+    fn place_on(&self, times: &mut [u64]) {
+        let order = self.order.as_slice();
+        for behind in 0..order.len() {
+            let one = order[order.len() - 1 - behind];
+            let of_one = times.get(one).copied().unwrap_or(0);
+            add_copies(times, self.links_at(one), of_one);
         }
     }
 }

@@ -2,154 +2,102 @@
 
 use crate::layouts::shapes::{Held, Shapes};
 use crate::layouts::terminals::Known;
-use crate::maps::good_map::tell_layer;
-use crate::telling::Text;
-use geo_core::Rect;
+use crate::telling::Telling;
 use islands::label;
-use lists::NoMemory;
-use map_model::Map;
-use std::alloc::Global;
-
-/// How many islands have so many terminals.
-#[derive(Clone, Copy)]
-pub struct IslandCounts {
-    /// How many have no terminal.
-    pub none: u64,
-    /// How many have one.
-    pub one: u64,
-    /// How many have two or more.
-    pub more: u64,
-}
-
-impl IslandCounts {
-    /// Counts an island with so many terminals.
-    fn add(&mut self, terminals: usize) {
-        match terminals {
-            0 => self.none = self.none.saturating_add(1),
-            1 => self.one = self.one.saturating_add(1),
-            _ => self.more = self.more.saturating_add(1),
-        }
-    }
-}
+use map_model::{Cut, Map};
 
 /// The islands of a metal.
 #[derive(Drop)]
-pub struct MetalIslands {
-    /// How many there are.
-    pub counts: IslandCounts,
+pub struct MetalIslands<'a> {
+    /// What is placed on the metal.
+    pub held: &'a Held,
+    /// Whether a cut joins it to another one, so that via clusters may be terminals of it.
+    pub is_joined: bool,
+    /// How many islands there are.
+    pub count: u64,
+    /// How many of them have one terminal.
+    pub with_one: u64,
+    /// How many of them have two or more.
+    pub with_more: u64,
     /// Each terminal behind the number of its island, which is that of a rectangle. Those of an island stand together.
     carried: Vec<(usize, usize)>,
 }
 
-/// The number of the terminal's island, where the metal of this number has it.
-fn island_of(one: &Known, metal: usize, labels: &[usize]) -> Option<usize> {
-    if one.metal as usize != metal {
-        return None;
+impl MetalIslands<'_> {
+    /// Counts the islands of rectangles that have these.
+    fn count_islands(&mut self, labels: &[usize]) {
+        for (number, island) in labels.iter().enumerate() {
+            // An island is told by the first of its rectangles.
+            if number == *island {
+                self.count = self.count.saturating_add(1);
+            }
+        }
     }
-    labels.get(one.rect?).copied()
+
+    /// Takes up the terminals of the metal of this number, whose rectangles have these islands.
+    fn carry(&mut self, told: &mut Telling, terminals: &[Known], metal: usize, labels: &[usize]) {
+        for one in terminals {
+            if one.metal == metal
+                && let Some(rect) = one.rect
+                && let Some(island) = labels.get(rect)
+            {
+                told.keep(&mut self.carried, (*island, one.index));
+            }
+        }
+        self.carried.sort_unstable();
+    }
+
+    /// Counts the islands with terminals.
+    fn count_carried(&mut self) {
+        let mut last = None;
+        let mut terminals = 0usize;
+        for (island, _) in self.carried.as_slice() {
+            terminals = if last == Some(*island) {
+                terminals.saturating_add(1)
+            } else {
+                1
+            };
+            last = Some(*island);
+            if terminals == 1 {
+                self.with_one = self.with_one.saturating_add(1);
+            } else if terminals == 2 {
+                self.with_one = self.with_one.saturating_sub(1);
+                self.with_more = self.with_more.saturating_add(1);
+            }
+        }
+    }
 }
 
-/// The terminals of the metal behind the numbers of their islands, in the order of these.
-fn carried_by(
-    alloc: Global,
+/// The islands of the metal of this number, on which this is placed, and which a cut may join to another one.
+fn islands_of<'a>(
+    told: &mut Telling,
+    held: &'a Held,
+    is_joined: bool,
     terminals: &[Known],
     metal: usize,
-    labels: &[usize],
-) -> Result<Vec<(usize, usize)>, NoMemory> {
-    let mut carried = Vec::new(alloc);
-    for one in terminals {
-        if let Some(island) = island_of(one, metal, labels) {
-            carried.push((island, one.index))?;
-        }
-    }
-    carried.sort_unstable();
-    Ok(carried)
-}
-
-/// Counts the terminals of each island.
-fn count_carried(counts: &mut [usize], carried: &[(usize, usize)]) {
-    for (island, _) in carried {
-        if let Some(count) = counts.get_mut(*island) {
-            *count = count.saturating_add(1);
-        }
-    }
-}
-
-/// How many islands have so many terminals, where the rectangles have these islands, and islands so many terminals.
-fn counts_of(labels: &[usize], carried: &[usize]) -> IslandCounts {
-    let mut counts = IslandCounts {
-        none: 0,
-        one: 0,
-        more: 0,
+) -> MetalIslands<'a> {
+    let mut islands = MetalIslands {
+        held,
+        is_joined,
+        count: 0,
+        with_one: 0,
+        with_more: 0,
+        carried: Vec::new(told.alloc),
     };
-    for (number, island) in labels.iter().enumerate() {
-        // An island is told by the first of its rectangles.
-        if number == *island {
-            counts.add(carried.get(number).copied().unwrap_or(0));
+    match label(told.alloc, held.rects.as_slice()) {
+        Ok(labels) => {
+            islands.count_islands(labels.as_slice());
+            islands.carry(told, terminals, metal, labels.as_slice());
+            islands.count_carried();
         }
+        Err(_) => told.lose(),
     }
-    counts
+    islands
 }
 
-/// The islands of a metal whose rectangles have these islands, and whose islands carry these terminals.
-fn with_counts(
-    alloc: Global,
-    labels: &[usize],
-    carried: Vec<(usize, usize)>,
-) -> Result<MetalIslands, NoMemory> {
-    let mut each = vec![in alloc; 0usize; labels.len()]?;
-    count_carried(each.as_mut_slice(), carried.as_slice());
-    Ok(MetalIslands {
-        counts: counts_of(labels, each.as_slice()),
-        carried,
-    })
-}
-
-/// The islands of the metal of this number, which covers these rectangles.
-fn islands_of(
-    alloc: Global,
-    rects: &[Rect],
-    terminals: &[Known],
-    metal: usize,
-) -> Result<MetalIslands, NoMemory> {
-    let labels = label(alloc, rects)?;
-    let carried = carried_by(alloc, terminals, metal, labels.as_slice())?;
-    with_counts(alloc, labels.as_slice(), carried)
-}
-
-/// Adds the islands of the metal of this number, which covers these rectangles.
-fn add_islands(
-    alloc: Global,
-    all: &mut Vec<MetalIslands>,
-    rects: &[Rect],
-    terminals: &[Known],
-    metal: usize,
-) -> Result<(), NoMemory> {
-    let islands = islands_of(alloc, rects, terminals, metal)?;
-    Ok(all.push(islands)?)
-}
-
-/// The islands of each metal of the map. If no memory is left for one, the text is not whole.
-pub fn metal_islands(
-    alloc: Global,
-    text: &mut Text,
-    map: &Map,
-    shapes: &Shapes,
-) -> Vec<MetalIslands> {
-    let terminals = shapes.terminals.as_slice();
-    let metals = map.metals.as_slice().len();
-    let mut all = Vec::new(alloc);
-    for (metal, held) in shapes.held.iter().take(metals).enumerate() {
-        if add_islands(alloc, &mut all, held.rects.as_slice(), terminals, metal).is_err() {
-            text.lose();
-        }
-    }
-    all
-}
-
-/// Whether a cut of the map joins the metal to another one.
-pub fn is_joined(map: &Map, metal: usize) -> bool {
-    for cut in map.cuts.as_slice() {
+/// Whether one of the cuts joins the metal to another one.
+fn is_joined(cuts: &[Cut], metal: usize) -> bool {
+    for cut in cuts {
         if cut.lower as usize == metal || cut.upper as usize == metal {
             return true;
         }
@@ -157,65 +105,47 @@ pub fn is_joined(map: &Map, metal: usize) -> bool {
     false
 }
 
-/// Whether via clusters are terminals of the metal besides those that the map names: they are those of the cuts that join it.
-pub fn has_cluster_terminals(map: &Map, metal: usize) -> bool {
-    map.contacts && is_joined(map, metal)
-}
-
-/// Tells how many islands a metal has, and how many of them have terminals that the map names.
-pub fn tell_island_counts(text: &mut Text, map: &Map, metal: usize, counts: IslandCounts) {
-    let IslandCounts { none, one, more } = counts;
-    let all = none.saturating_add(one).saturating_add(more);
-    tell_layer(text, "  ", map, metal);
-    text.number(": ", all, " islands: ");
-    text.number("", none, " with no terminal, ");
-    text.number("", one, " with one, ");
-    text.number("", more, " with more");
-    if has_cluster_terminals(map, metal) {
-        text.say(
-            ", by the terminals that the map names; via clusters, which are terminals too, are not counted",
-        );
+/// The islands of each metal of the map.
+pub fn metal_islands<'a>(
+    told: &mut Telling,
+    map: &Map,
+    shapes: &'a Shapes,
+) -> Vec<MetalIslands<'a>> {
+    let cuts = map.cuts.as_slice();
+    let layers = shapes.held.as_slice();
+    let metals = &layers[..layers.len().min(map.metals.as_slice().len())];
+    let mut all = Vec::new(told.alloc);
+    for (metal, held) in metals.iter().enumerate() {
+        let is_joined = is_joined(cuts, metal);
+        let islands = islands_of(told, held, is_joined, shapes.terminals.as_slice(), metal);
+        told.keep(&mut all, islands);
     }
-    text.say("\n");
+    all
 }
 
-/// Tells an island by its metal and by a cell that it has.
-fn tell_island(text: &mut Text, map: &Map, metal: usize, held: &Held, island: usize) {
-    tell_layer(text, "    ", map, metal);
-    if let Some(rect) = held.rects.get(island) {
-        text.point(
-            ", island of the cell ",
-            i64::from(rect.x0),
-            i64::from(rect.y0),
-            ":",
-        );
-    }
-}
-
-/// Tells the islands of a metal that have terminals, each in a line with these, counted from 1.
-fn tell_carried(text: &mut Text, map: &Map, metal: usize, held: &Held, islands: &MetalIslands) {
+/// Tells the islands of a metal that have terminals, each by a cell of it, in a line with these, counted from 1.
+fn tell_carried(told: &mut Telling, islands: &MetalIslands<'_>) {
     let mut last = None;
     for (island, index) in islands.carried.as_slice() {
         if last != Some(*island) {
-            if last.is_some() {
-                text.say("\n");
+            told.say(if last.is_some() { "\n" } else { "" });
+            islands.held.tell_layer(told, "    ");
+            if let Some(rect) = islands.held.rects.get(*island) {
+                told.point(", island of the cell ", rect.x0, rect.y0, ":");
             }
-            tell_island(text, map, metal, held, *island);
             last = Some(*island);
         }
-        text.number(" ", (*index as u64).saturating_add(1), "");
+        told.number(" ", (*index as u64).saturating_add(1), "");
     }
     if last.is_some() {
-        text.say("\n");
+        told.say("\n");
     }
 }
 
 /// Tells which terminals are on which islands of the metals.
-pub fn tell_all_carried(text: &mut Text, map: &Map, layers: &[Held], islands: &[MetalIslands]) {
-    text.say("  terminals by islands, each told by a cell of it; terminals are counted from 1\n");
-    for (metal, islands) in islands.iter().enumerate() {
-        if let Some(held) = layers.get(metal) {
-            tell_carried(text, map, metal, held, islands);
-        }
+pub fn tell_all_carried(told: &mut Telling, all: &[MetalIslands<'_>]) {
+    told.say("  terminals by islands, each told by a cell of it; terminals are counted from 1\n");
+    for islands in all {
+        tell_carried(told, islands);
     }
 }

@@ -6,13 +6,11 @@ ghost use Rattle.geo_core.specs.Bounds.{IsInRange};
 
 use crate::layouts::texts::TextMark;
 use crate::remedies::SHORT_MEANINGS;
-use crate::telling::Text;
+use crate::telling::Telling;
 use geo_core::{FARTHEST, Point, Rect};
 use indexmap::IndexMap;
 use library_model::{Element, Library, Shape, ShapeKind, Structure};
-use lists::NoMemory;
 use rect_cover::{CoverFault, cover_shape};
-use std::alloc::Global;
 
 /// The most pairs that are told in a line.
 const MOST_NAMED: usize = 50;
@@ -58,15 +56,6 @@ pub fn shapes_of(held: &PairHeld) -> u64 {
         .saturating_add(held.paths)
 }
 
-/// Counts a shape of this kind.
-fn count_kind(held: &mut PairHeld, kind: ShapeKind) {
-    match kind {
-        ShapeKind::Boundary => held.boundaries = held.boundaries.saturating_add(1),
-        ShapeKind::BoxElement => held.boxes = held.boxes.saturating_add(1),
-        ShapeKind::Path { .. } => held.paths = held.paths.saturating_add(1),
-    }
-}
-
 /// The bounds with these points more.
 fn with_points(bounds: Option<Bounds>, points: &[Point]) -> Option<Bounds> {
     let mut bounds = bounds;
@@ -76,217 +65,184 @@ fn with_points(bounds: Option<Bounds>, points: &[Point]) -> Option<Bounds> {
     bounds
 }
 
-/// Counts a shape without a cover, for the reason with this number, where it has none.
-fn count_uncovered(held: &mut PairHeld, fault: Option<u8>) {
-    let Some(number) = fault else {
-        return;
-    };
+/// Counts a shape without a cover, for the reason with this number.
+fn count_uncovered(held: &mut PairHeld, number: u8) {
     for (place, (of, _)) in SHORT_MEANINGS.iter().enumerate() {
-        if *of == number {
-            if let Some(count) = held.uncovered.get_mut(place) {
-                *count = count.saturating_add(1);
-            }
+        if *of == number
+            && let Some(count) = held.uncovered.get_mut(place)
+        {
+            *count = count.saturating_add(1);
         }
     }
 }
 
-/// Notes a shape, and the number of the fault for which it has no cover, where it has none.
-fn note_shape(
-    pairs: &mut Pairs,
-    shape: &Shape,
-    fault: Option<u8>,
-    is_placed: bool,
-) -> Result<(), NoMemory> {
+/// Notes what a pair has.
+fn note(told: &mut Telling, pairs: &mut Pairs, held: PairHeld) {
+    if pairs.insert(held.pair, held).is_err() {
+        told.lose();
+    }
+}
+
+/// Notes a shape.
+fn note_shape(told: &mut Telling, pairs: &mut Pairs, shape: &Shape, is_placed: bool)
+    requires { HasItsPoints shape.now.kind shape.now.points }
+{
     let mut held = held_of(pairs, (shape.layer, shape.datatype));
-    count_kind(&mut held, shape.kind);
+    match shape.kind {
+        ShapeKind::Boundary => held.boundaries = held.boundaries.saturating_add(1),
+        ShapeKind::BoxElement => held.boxes = held.boxes.saturating_add(1),
+        ShapeKind::Path { .. } => held.paths = held.paths.saturating_add(1),
+    }
     held.bounds = with_points(held.bounds, shape.points.as_slice());
     held.is_placed |= is_placed;
-    count_uncovered(&mut held, fault);
-    pairs.insert(held.pair, held)?;
-    Ok(())
+    if let Some(number) = cover_fault(told, shape) {
+        count_uncovered(&mut held, number);
+    }
+    note(told, pairs, held);
 }
 
 /// Notes an element, if it is a shape.
-fn note_element(
-    alloc: Global,
-    pairs: &mut Pairs,
-    element: &Element,
-    is_placed: bool,
-) -> Result<(), NoMemory>
+fn note_element(told: &mut Telling, pairs: &mut Pairs, element: &Element, is_placed: bool)
     requires { IsWellPointed element.now }
 {
-    match element {
-        Element::Shape(shape) => note_shape(pairs, shape, cover_fault(alloc, shape)?, is_placed),
-        Element::Reference(_) => Ok(()),
+    if let Element::Shape(shape) = element {
+        note_shape(told, pairs, shape, is_placed);
     }
 }
 
 /// Notes the shapes of a structure.
-fn note_structure(
-    alloc: Global,
-    pairs: &mut Pairs,
-    structure: &Structure,
-    is_placed: bool,
-) -> Result<(), NoMemory>
+fn note_structure(told: &mut Telling, pairs: &mut Pairs, structure: &Structure, is_placed: bool)
     requires { All IsWellPointed structure.now.elements }
 {
     for element in structure.elements.as_slice() {
-        note_element(alloc, pairs, element, is_placed)?;
+        note_element(told, pairs, element, is_placed);
     }
-    Ok(())
-}
-
-/// Notes a text.
-fn note_text(pairs: &mut Pairs, one: &TextMark<'_>) -> Result<(), NoMemory> {
-    let mut held = held_of(pairs, (one.layer, one.texttype));
-    held.texts = held.texts.saturating_add(1);
-    held.bounds = with_point(held.bounds, one.point.x, one.point.y);
-    pairs.insert(held.pair, held)?;
-    Ok(())
 }
 
 /// Notes the shapes of all structures, where each structure is placed so often.
-fn note_structures(
-    alloc: Global,
-    pairs: &mut Pairs,
-    library: &Library,
-    times: &[u64],
-) -> Result<(), NoMemory>
+fn note_structures(told: &mut Telling, pairs: &mut Pairs, library: &Library, times: &[u64])
     requires { AreWellPointed library.now.structures }
 {
     for (number, structure) in library.structures.as_slice().iter().enumerate() {
         let is_placed = times.get(number).copied().unwrap_or(0) > 0;
-        note_structure(alloc, pairs, structure, is_placed)?;
+        note_structure(told, pairs, structure, is_placed);
     }
-    Ok(())
 }
 
 /// Notes texts.
-fn note_texts(pairs: &mut Pairs, texts: &[TextMark<'_>]) -> Result<(), NoMemory> {
+fn note_texts(told: &mut Telling, pairs: &mut Pairs, texts: &[TextMark<'_>]) {
     for one in texts {
-        note_text(pairs, one)?;
+        let mut held = held_of(pairs, (one.layer, one.texttype));
+        held.texts = held.texts.saturating_add(1);
+        held.bounds = with_point(held.bounds, one.point.x, one.point.y);
+        note(told, pairs, held);
     }
-    Ok(())
 }
 
 /// The pairs in their order.
-fn in_order(alloc: Global, pairs: &Pairs) -> Result<Vec<PairHeld>, NoMemory> {
-    let mut held = Vec::new(alloc);
+fn in_order(told: &mut Telling, pairs: &Pairs) -> Vec<PairHeld> {
+    let mut held = Vec::new(told.alloc);
     for one in pairs.values() {
-        held.push(*one)?;
+        told.keep(&mut held, *one);
     }
     held.sort_unstable_by_key(|one| one.pair);
-    Ok(held)
+    held
 }
 
 /// The pairs that the structures and these texts have, in their order, where each structure is placed so often.
 pub fn all_pairs(
-    alloc: Global,
+    told: &mut Telling,
     library: &Library,
     texts: &[TextMark<'_>],
     times: &[u64],
-) -> Result<Vec<PairHeld>, NoMemory>
+) -> Vec<PairHeld>
     requires { AreWellPointed library.now.structures }
 {
-    let mut pairs = IndexMap::new(alloc);
-    note_structures(alloc, &mut pairs, library, times)?;
-    note_texts(&mut pairs, texts)?;
-    in_order(alloc, &pairs)
+    let mut pairs = IndexMap::new(told.alloc);
+    note_structures(told, &mut pairs, library, times);
+    note_texts(told, &mut pairs, texts);
+    in_order(told, &pairs)
 }
 
 /// Tells why shapes of the pair have no cover, each reason in a line that begins with these words.
-fn tell_reasons(text: &mut Text, before: &str, held: &PairHeld) {
+fn tell_reasons(told: &mut Telling, before: &str, held: &PairHeld) {
     for (place, (number, meaning)) in SHORT_MEANINGS.iter().enumerate() {
         let count = held.uncovered.get(place).copied().unwrap_or(0);
         if count > 0 {
-            text.say(before);
-            text.number("  ", count, " of its shapes have no cover: ");
-            text.number("", u64::from(*number), ", ");
-            text.word("", *meaning, "\n");
+            told.say(before);
+            told.number("  ", count, " of its shapes have no cover: ");
+            told.number("", u64::from(*number), ", ");
+            told.word("", *meaning, "\n");
         }
     }
 }
 
 /// Tells what a pair has, in lines that begin with these words, and where a top is known, whether it places a shape of it.
-pub fn tell_pair(text: &mut Text, before: &str, held: &PairHeld, has_top: bool) {
+pub fn tell_pair(told: &mut Telling, before: &str, held: &PairHeld, has_top: bool) {
     let (layer, datatype) = held.pair;
-    text.say(before);
-    text.number("layer ", u64::from(layer), ", datatype ");
-    text.number("", u64::from(datatype), ": boundaries ");
-    text.number("", held.boundaries, ", boxes ");
-    text.number("", held.boxes, ", paths ");
-    text.number("", held.paths, ", texts ");
-    text.number("", held.texts, "");
+    told.say(before);
+    told.number("layer ", u64::from(layer), ", datatype ");
+    told.number("", u64::from(datatype), ": boundaries ");
+    told.number("", held.boundaries, ", boxes ");
+    told.number("", held.boxes, ", paths ");
+    told.number("", held.paths, ", texts ");
+    told.number("", held.texts, "");
     if let Some(bounds) = held.bounds {
-        tell_bounds(text, ", points from ", bounds);
+        tell_bounds(told, ", points from ", bounds);
     }
     if has_top && shapes_of(held) > 0 {
-        if held.is_placed {
-            text.say("; the top places shapes of it");
+        told.say(if held.is_placed {
+            "; the top places shapes of it"
         } else {
-            text.say("; the top places none of it");
-        }
+            "; the top places none of it"
+        });
     }
-    text.say("\n");
-    tell_reasons(text, before, held);
-}
-
-/// Notes the pair of an element, if it is a shape.
-fn note_pair(pairs: &mut Pairs, element: &Element) -> Result<(), NoMemory> {
-    if let Element::Shape(shape) = element {
-        let held = held_of(pairs, (shape.layer, shape.datatype));
-        pairs.insert(held.pair, held)?;
-    }
-    Ok(())
+    told.say("\n");
+    tell_reasons(told, before, held);
 }
 
 /// Notes the pairs of the shapes of a structure.
-fn note_pairs(pairs: &mut Pairs, structure: &Structure) -> Result<(), NoMemory> {
+fn note_pairs(told: &mut Telling, pairs: &mut Pairs, structure: &Structure) {
     for element in structure.elements.as_slice() {
-        note_pair(pairs, element)?;
+        if let Element::Shape(shape) = element {
+            let held = held_of(pairs, (shape.layer, shape.datatype));
+            note(told, pairs, held);
+        }
     }
-    Ok(())
-}
-
-/// The pairs of the shapes of structures, in their order.
-fn shape_pairs(alloc: Global, structures: &[Structure]) -> Result<Vec<PairHeld>, NoMemory> {
-    let mut pairs = IndexMap::new(alloc);
-    for structure in structures {
-        note_pairs(&mut pairs, structure)?;
-    }
-    in_order(alloc, &pairs)
 }
 
 /// Tells a pair as a map has it.
-pub fn tell_as_in_map(text: &mut Text, (layer, datatype): (u16, u16)) {
-    text.number("[", u64::from(layer), ", ");
-    text.number("", u64::from(datatype), "]");
+pub fn tell_as_in_map(told: &mut Telling, before: &str, (layer, datatype): (u16, u16)) {
+    told.say(before);
+    told.number("[", u64::from(layer), ", ");
+    told.number("", u64::from(datatype), "]");
 }
 
 /// Tells that the layout has shapes of these pairs, as a map has them.
-fn tell_all_as_in_map(text: &mut Text, pairs: &[PairHeld]) {
+fn tell_all_as_in_map(told: &mut Telling, pairs: &[PairHeld]) {
     if pairs.is_empty() {
-        text.say("  the layout has no shapes\n");
+        told.say("  the layout has no shapes\n");
         return;
     }
-    text.say("  the layout has shapes of these pairs:");
-    for held in pairs.iter().take(MOST_NAMED) {
-        text.say(" ");
-        tell_as_in_map(text, held.pair);
+    told.say("  the layout has shapes of these pairs:");
+    for held in &pairs[..pairs.len().min(MOST_NAMED)] {
+        tell_as_in_map(told, " ", held.pair);
     }
     if pairs.len() > MOST_NAMED {
-        text.number(", the first ", MOST_NAMED as u64, " of ");
-        text.number("", pairs.len() as u64, "");
+        told.number(", the first ", MOST_NAMED as u64, " of ");
+        told.number("", pairs.len() as u64, "");
     }
-    text.say("\n");
+    told.say("\n");
 }
 
 /// Tells of which pairs of a layer and a datatype structures have shapes, as a map has them.
-pub fn tell_pairs_of(alloc: Global, text: &mut Text, structures: &[Structure]) {
-    match shape_pairs(alloc, structures) {
-        Ok(pairs) => tell_all_as_in_map(text, pairs.as_slice()),
-        Err(NoMemory) => text.lose(),
+pub fn tell_pairs_of(told: &mut Telling, structures: &[Structure]) {
+    let mut pairs = IndexMap::new(told.alloc);
+    for structure in structures {
+        note_pairs(told, &mut pairs, structure);
     }
+    let held = in_order(told, &pairs);
+    tell_all_as_in_map(told, held.as_slice());
 }
 
 /// The left, the bottom, the right and the top of what is there.
@@ -299,7 +255,7 @@ pub struct Bounds {
 }
 
 /// The bounds with a point more.
-pub fn with_point(bounds: Option<Bounds>, x: i32, y: i32) -> Option<Bounds> {
+fn with_point(bounds: Option<Bounds>, x: i32, y: i32) -> Option<Bounds> {
     let known = bounds.unwrap_or(Bounds {
         left: x,
         bottom: y,
@@ -325,15 +281,9 @@ pub fn bounds_of(rects: &[Rect]) -> Option<Bounds> {
 }
 
 /// Tells the bounds behind some words.
-pub fn tell_bounds(text: &mut Text, before: &str, bounds: Bounds) {
-    let Bounds {
-        left,
-        bottom,
-        right,
-        top,
-    } = bounds;
-    text.point(before, i64::from(left), i64::from(bottom), " to ");
-    text.point("", i64::from(right), i64::from(top), "");
+pub fn tell_bounds(told: &mut Telling, before: &str, bounds: Bounds) {
+    told.point(before, bounds.left, bounds.bottom, " to ");
+    told.point("", bounds.right, bounds.top, "");
 }
 
 /// The number of a shape that is too far out.
@@ -354,16 +304,19 @@ fn are_in_range(points: &[Point]) -> bool
 }
 
 /// The number of the fault for which a shape has no cover where its structure has it, where it has none.
-pub fn cover_fault(alloc: Global, shape: &Shape) -> Result<Option<u8>, NoMemory>
+fn cover_fault(told: &mut Telling, shape: &Shape) -> Option<u8>
     requires { HasItsPoints shape.now.kind shape.now.points }
 {
     let points = shape.points.as_slice();
     if !are_in_range(points) {
-        return Ok(Some(OUT_OF_RANGE));
+        return Some(OUT_OF_RANGE);
     }
-    match cover_shape(alloc, shape.kind, points, shape.at) {
-        Ok(_) => Ok(None),
-        Err(CoverFault::Memory) => Err(NoMemory),
-        Err(fault) => Ok(Some(fault.number())),
+    match cover_shape(told.alloc, shape.kind, points, shape.at) {
+        Ok(_) => None,
+        Err(CoverFault::Memory) => {
+            told.lose();
+            None
+        }
+        Err(fault) => Some(fault.number()),
     }
 }

@@ -1,6 +1,6 @@
 //! Places in a layout: which structure and which element stand at an offset.
 
-use crate::telling::Text;
+use crate::telling::Telling;
 use gds_records::{Record, Records, kind_name, kinds, text, u16_at};
 use gds_syntax::{ElementKind, point_at};
 use geo_core::Point;
@@ -23,6 +23,8 @@ pub struct ElementTold<'a> {
 /// What is known of a place in a layout, as far as its records tell.
 #[derive(Clone, Copy)]
 pub struct Spot<'a> {
+    /// How many structures begin in front of the place.
+    pub structures: usize,
     /// The name of the structure.
     pub structure: Option<&'a [u8]>,
     /// The number of the element in its structure, counted from 1, and 0 in front of the first.
@@ -35,6 +37,7 @@ pub struct Spot<'a> {
 
 /// The place at the beginning of a layout.
 pub const BEGINNING: Spot<'static> = Spot {
+    structures: 0,
     structure: None,
     number: 0,
     element: None,
@@ -66,18 +69,6 @@ fn first_point(record: &Record<'_>) -> Option<Point> {
 }
 
 impl<'a> ElementTold<'a> {
-    /// An element of which nothing but its opening record is read.
-    fn opened(kind: ElementKind) -> ElementTold<'a> {
-        ElementTold {
-            kind,
-            layer: None,
-            datatype: None,
-            point: None,
-            target: None,
-            string: None,
-        }
-    }
-
     /// What is told once this record of it is read, too.
     fn with(self, record: &Record<'a>) -> ElementTold<'a> {
         let mut told = self;
@@ -96,16 +87,18 @@ impl<'a> ElementTold<'a> {
 }
 
 impl<'a> Spot<'a> {
-    /// The name of the structure that the element places, where it is a reference.
-    pub fn target(&self) -> Option<&'a [u8]> {
-        self.element?.target
-    }
-
     /// Goes behind a record that opens an element or tells something of one.
     fn pass_in_structure(&mut self, record: &Record<'a>) {
         if let Some(kind) = ElementKind::opened_by(record.kind) {
             self.number = self.number.saturating_add(1);
-            self.element = Some(ElementTold::opened(kind));
+            self.element = Some(ElementTold {
+                kind,
+                layer: None,
+                datatype: None,
+                point: None,
+                target: None,
+                string: None,
+            });
         } else if let Some(element) = self.element {
             self.element = Some(element.with(record));
         }
@@ -114,7 +107,12 @@ impl<'a> Spot<'a> {
     /// Goes behind a record.
     pub fn pass(&mut self, record: &Record<'a>) {
         match record.kind {
-            kinds::BGNSTR => *self = BEGINNING,
+            kinds::BGNSTR => {
+                *self = Spot {
+                    structures: self.structures.saturating_add(1),
+                    ..BEGINNING
+                }
+            }
             kinds::STRNAME => self.structure = Some(text(record)),
             kinds::ENDEL | kinds::ENDSTR => self.element = None,
             _ => self.pass_in_structure(record),
@@ -131,36 +129,26 @@ pub fn records_of(bytes: &[u8]) -> Records<'_> {
     Records::new(bytes)
 }
 
-/// Whether the record stands behind what is told of a place: at it or further on, or, where what the record there opens is
-/// told too, behind that.
-fn is_behind(record: &Record<'_>, place: u32, with_opened: bool) -> bool {
-    if with_opened {
-        return record.at > place && is_border(record.kind);
-    }
-    record.at >= place
-}
-
-/// What the records tell up to a place.
-fn spot_up_to(bytes: &[u8], place: u32, with_opened: bool) -> Spot<'_> {
+/// What stands in front of the record at this offset of the bytes, and where this is wanted, what that record opens, too: an
+/// element with what its records tell, or a structure with its name.
+pub fn spot_up_to(bytes: &[u8], place: u32, with_opened: bool) -> Spot<'_> {
     let mut spot = BEGINNING;
     let mut records = records_of(bytes);
     for _ in 0..bytes.len() {
-        match records.next() {
-            Ok(Some(record)) if !is_behind(&record, place, with_opened) => spot.pass(&record),
-            _ => return spot,
+        let Ok(Some(record)) = records.next() else {
+            return spot;
+        };
+        let is_behind = if with_opened {
+            record.at > place && is_border(record.kind)
+        } else {
+            record.at >= place
+        };
+        if is_behind {
+            return spot;
         }
+        spot.pass(&record);
     }
     spot
-}
-
-/// What stands in front of the record at this offset of the bytes.
-pub fn spot_before(bytes: &[u8], place: u32) -> Spot<'_> {
-    spot_up_to(bytes, place, false)
-}
-
-/// What the record at this offset of the bytes opens: an element with what its records tell, or a structure with its name.
-pub fn spot_at(bytes: &[u8], place: u32) -> Spot<'_> {
-    spot_up_to(bytes, place, true)
 }
 
 /// The name of a kind of records.
@@ -181,47 +169,38 @@ fn element_name(kind: ElementKind) -> &'static str {
     }
 }
 
-/// Tells which structure it is.
-fn tell_structure(text: &mut Text, spot: &Spot<'_>) {
-    match spot.structure {
-        Some(name) => text.name("structure ", name, ""),
-        None => text.say("in front of the first structure's name"),
-    }
-}
-
-/// Tells which element it is, where it is in one, and what is known of it.
-fn tell_element(text: &mut Text, spot: &Spot<'_>) {
-    let Some(element) = spot.element else {
-        return;
-    };
-    text.number(", element ", u64::from(spot.number), ": ");
-    text.say(element_name(element.kind));
+/// Tells the element of this number in its structure, and what is known of it.
+fn tell_element(told: &mut Telling, number: u32, element: ElementTold<'_>) {
+    told.number(", element ", u64::from(number), ": ");
+    told.say(element_name(element.kind));
     if let Some(target) = element.target {
-        text.name(" to ", target, "");
+        told.name(" to ", target, "");
     }
     if let Some(layer) = element.layer {
-        text.number(" on layer ", u64::from(layer), "");
+        told.number(" on layer ", u64::from(layer), "");
     }
     if let Some(datatype) = element.datatype {
-        text.number(", datatype ", u64::from(datatype), "");
+        told.number(", datatype ", u64::from(datatype), "");
     }
     if let Some(Point { x, y }) = element.point {
-        text.point(", first point ", i64::from(x), i64::from(y), "");
+        told.point(", first point ", x, y, "");
     }
 }
 
 /// Tells behind some words which structure and which element stand at a place, and then others.
-pub fn tell_place(text: &mut Text, before: &str, spot: &Spot<'_>, after: &str) {
-    text.say(before);
-    tell_structure(text, spot);
-    tell_element(text, spot);
-    text.say(after);
+pub fn tell_place(told: &mut Telling, before: &str, spot: &Spot<'_>, after: &str) {
+    told.say(before);
+    match spot.structure {
+        Some(name) => told.name("structure ", name, ""),
+        None => told.say("in front of the first structure's name"),
+    }
+    if let Some(element) = spot.element {
+        tell_element(told, spot.number, element);
+    }
+    told.say(after);
 }
 
-/// Tells which record stands in front of a place.
-pub fn tell_before(text: &mut Text, spot: &Spot<'_>) {
-    match spot.before {
-        Some(kind) => text.word("behind ", record_name(kind), ""),
-        None => text.say("at the file's beginning"),
-    }
+/// Tells behind some words what the record at this offset of the bytes opens, and then others.
+pub fn tell_place_at(told: &mut Telling, before: &str, bytes: &[u8], place: u32, after: &str) {
+    tell_place(told, before, &spot_up_to(bytes, place, true), after);
 }

@@ -8,16 +8,14 @@ ghost use Rattle.library_model.specs.Points.{AreWellPointed};
 ghost use Rattle.rect_cover.specs.Coverings.{IsWellPlaced};
 
 use crate::layouts::faults::Layout;
-use crate::layouts::places::{spot_at, tell_place};
+use crate::layouts::places::tell_place_at;
 use crate::layouts::terminals::{Known, note_covered};
-use crate::maps::good_map::{layer_count, tell_layer};
 use crate::remedies::{SHORT_MEANINGS, short_meaning};
-use crate::telling::Text;
+use crate::telling::Telling;
 use flatten::{PlaceFault, Placed, place};
 use geo_core::Rect;
-use library_model::{Element, Library};
-use lists::NoMemory;
-use map_model::Map;
+use library_model::{Element, Library, Structure};
+use map_model::{LayerName, Map};
 use rect_cover::{CoverFault, cover};
 use std::alloc::Global;
 
@@ -31,9 +29,13 @@ pub struct Uncovered {
     pub fault: CoverFault,
 }
 
-/// What is placed on a layer.
+/// What is placed on a layer of the map.
 #[derive(Drop)]
 pub struct Held {
+    /// What the layer is, a metal or a cut, and a space.
+    kind: &'static str,
+    /// The name of the metal or the cut.
+    pub name: LayerName,
     pub shapes: u64,
     pub points: u64,
     /// The rectangles that its shapes cover.
@@ -50,9 +52,36 @@ pub struct Shapes {
     pub terminals: Vec<Known>,
 }
 
+impl Held {
+    /// Nothing on a layer of this kind and name.
+    fn nothing(alloc: Global, kind: &'static str, name: LayerName) -> Held {
+        Held {
+            kind,
+            name,
+            shapes: 0,
+            points: 0,
+            rects: Vec::new(alloc),
+            offsets: Vec::new(alloc),
+        }
+    }
+
+    /// Tells behind some words which layer it is.
+    pub fn tell_layer(&self, told: &mut Telling, before: &str) {
+        told.say(before);
+        told.name(self.kind, self.name.as_slice(), "");
+    }
+
+    /// Tells how many shapes and points are placed on it.
+    pub fn tell_counts(&self, told: &mut Telling) {
+        self.tell_layer(told, "  ");
+        told.number(": ", self.shapes, " shapes with ");
+        told.number("", self.points, " points");
+    }
+}
+
 /// How many points the placed shape has.
-fn point_count(library: &Library, placed: &Placed) -> usize {
-    let Some(structure) = library.structures.as_slice().get(placed.structure as usize) else {
+fn point_count(structures: &[Structure], placed: &Placed) -> usize {
+    let Some(structure) = structures.get(placed.structure as usize) else {
         return 0;
     };
     match structure.elements.as_slice().get(placed.element as usize) {
@@ -61,21 +90,15 @@ fn point_count(library: &Library, placed: &Placed) -> usize {
     }
 }
 
-/// Adds a rectangle that the shape at this offset covers.
-fn add_rect(held: &mut Held, rect: Rect, offset: u32) -> Result<(), NoMemory> {
-    held.rects.push(rect)?;
-    held.offsets.push(offset)?;
-    Ok(())
-}
-
 /// Notes a rectangle that a shape of a layer covers.
-fn note_rect(shapes: &mut Shapes, one: &Placed, rect: Rect) -> Result<(), NoMemory> {
-    let Some(held) = shapes.held.get_mut(one.layer as usize) else {
-        return Ok(());
-    };
-    let number = held.rects.len();
-    note_covered(&mut shapes.terminals, one.layer, rect, number);
-    add_rect(held, rect, one.at)
+fn note_rect(told: &mut Telling, shapes: &mut Shapes, one: &Placed, rect: Rect) {
+    let layer = one.layer as usize;
+    if let Some(held) = shapes.held.get_mut(layer) {
+        let number = held.rects.len();
+        note_covered(&mut shapes.terminals, layer, rect, number);
+        told.keep(&mut held.rects, rect);
+        told.keep(&mut held.offsets, one.at);
+    }
 }
 
 /// Counts a shape of a layer that has so many points and is placed so often.
@@ -87,107 +110,96 @@ pub fn count_shape(layers: &mut [Held], layer: u32, points: usize, times: u64) {
     }
 }
 
-/// Notes a shape that covers these rectangles.
-fn note_rects(
-    shapes: &mut Shapes,
-    library: &Library,
-    one: &Placed,
-    rects: &[Rect],
-) -> Result<(), NoMemory> {
-    count_shape(&mut shapes.held, one.layer, point_count(library, one), 1);
-    for rect in rects {
-        note_rect(shapes, one, *rect)?;
-    }
-    Ok(())
-}
-
-/// Notes a shape with its cover, or that it has none.
+/// Notes a shape that has so many points, with its cover, or that it has none.
 fn note(
+    told: &mut Telling,
     shapes: &mut Shapes,
-    library: &Library,
     one: &Placed,
+    points: usize,
     answer: Result<Vec<Rect>, CoverFault>,
-) -> Result<(), NoMemory> {
+) {
     match answer {
-        Ok(rects) => note_rects(shapes, library, one, rects.as_slice()),
-        Err(CoverFault::Memory) => Err(NoMemory),
-        Err(fault) => Ok(
-            shapes.uncovered.push(Uncovered {
-                layer: one.layer,
-                fault,
-            })?,
-        ),
+        Ok(rects) => {
+            count_shape(&mut shapes.held, one.layer, points, 1);
+            for rect in rects.as_slice() {
+                note_rect(told, shapes, one, *rect);
+            }
+        }
+        Err(CoverFault::Memory) => told.lose(),
+        Err(fault) => {
+            let layer = one.layer;
+            told.keep(&mut shapes.uncovered, Uncovered { layer, fault });
+        }
     }
 }
 
-/// Tells how many shapes and points are placed on the layer of this number.
-pub fn tell_held(text: &mut Text, map: &Map, number: usize, held: &Held) {
-    tell_layer(text, "  ", map, number);
-    text.number(": ", held.shapes, " shapes with ");
-    text.number("", held.points, " points");
-}
-
-/// Nothing on each of so many layers.
-pub fn nothing_held(alloc: Global, count: usize) -> Result<Vec<Held>, NoMemory> {
-    let mut held = Vec::new(alloc);
-    for _ in 0..count {
-        held.push(Held {
-            shapes: 0,
-            points: 0,
-            rects: Vec::new(alloc),
-            offsets: Vec::new(alloc),
-        })?;
+/// Nothing on each layer of the map: its metals, and then its cuts.
+pub fn nothing_held(told: &mut Telling, map: &Map) -> Vec<Held> {
+    let mut layers = Vec::new(told.alloc);
+    for metal in map.metals.as_slice() {
+        let held = Held::nothing(told.alloc, "metal ", metal.name);
+        told.keep(&mut layers, held);
     }
-    Ok(held)
+    for cut in map.cuts.as_slice() {
+        let held = Held::nothing(told.alloc, "cut ", cut.name);
+        told.keep(&mut layers, held);
+    }
+    layers
 }
 
-/// Looks at all placed shapes. The terminals, which come by their metals and columns, then come by their numbers.
+/// Looks at all placed shapes. The terminals then come by their numbers.
 fn shapes_of(
-    alloc: Global,
+    told: &mut Telling,
     map: &Map,
     library: &Library,
     placed: &[Placed],
-    terminals: Vec<Known>,
-) -> Result<Shapes, NoMemory>
+    terminals: &[Known],
+) -> Shapes
     requires { All (IsWellPlaced library.now.structures) placed.now }
 {
     let mut shapes = Shapes {
-        held: nothing_held(alloc, layer_count(map))?,
-        uncovered: Vec::new(alloc),
-        terminals,
+        held: nothing_held(told, map),
+        uncovered: Vec::new(told.alloc),
+        terminals: Vec::new(told.alloc),
     };
+    if shapes.terminals.extend_from_slice(terminals).is_err() {
+        told.lose();
+    }
+    shapes
+        .terminals
+        .sort_unstable_by_key(|one| (one.metal, one.cell.i, one.index));
     for one in placed {
-        let answer = cover(alloc, library, one);
-        note(&mut shapes, library, one, answer)?;
+        let answer = cover(told.alloc, library, one);
+        let points = point_count(library.structures.as_slice(), one);
+        note(told, &mut shapes, one, points, answer);
     }
     shapes
         .terminals
         .sort_unstable_by_key(|one| (one.index, one.metal));
-    Ok(shapes)
+    shapes
 }
 
-/// What the top places on the layers of the map, and which of these terminals it covers, which come by their metals and
-/// columns.
+/// What the top places on the layers of the map, and which of these terminals it covers.
 pub fn placed_shapes(
-    alloc: Global,
+    told: &mut Telling,
     map: &Map,
     library: &Library,
     top: Option<&[u8]>,
-    terminals: Vec<Known>,
+    terminals: &[Known],
 ) -> Result<Shapes, PlaceFault>
     requires differ { AreDifferent (names_of library.now.structures) }
     requires few_structures { length library.now.structures < 2 ^ 32 }
     requires few_elements { All (λ structure. length structure.elements < 2 ^ 32) library.now.structures }
     requires pointed { AreWellPointed library.now.structures }
 {
-    match place(alloc, library, map, top) {
-        Ok(placed) => Ok(shapes_of(alloc, map, library, placed.as_slice(), terminals)?),
+    match place(told.alloc, library, map, top) {
+        Ok(placed) => Ok(shapes_of(told, map, library, placed.as_slice(), terminals)),
         Err(fault) => Err(fault),
     }
 }
 
-/// Tells how many shapes of a layer have no cover for the reason with this number.
-fn tell_count(text: &mut Text, map: &Map, found: &[Uncovered], number: u8, layer: usize) {
+/// Tells how many shapes of the layer of this number, on which this is placed, have no cover for the reason with this number.
+fn tell_count(told: &mut Telling, found: &[Uncovered], number: u8, layer: usize, held: &Held) {
     let mut count = 0u64;
     for one in found {
         if one.fault.number() == number && one.layer as usize == layer {
@@ -195,57 +207,39 @@ fn tell_count(text: &mut Text, map: &Map, found: &[Uncovered], number: u8, layer
         }
     }
     if count > 0 {
-        text.number("  ", count, " placed shapes of ");
-        tell_layer(text, "", map, layer);
-        text.number(": ", u64::from(number), ", ");
-        text.word("", short_meaning(number), "\n");
+        told.number("  ", count, " placed shapes of ");
+        held.tell_layer(told, "");
+        told.number(": ", u64::from(number), ", ");
+        told.word("", short_meaning(number), "\n");
     }
 }
 
 /// Tells how many shapes of each layer have no cover.
-fn tell_uncovered_counts(text: &mut Text, map: &Map, found: &[Uncovered]) {
+fn tell_counts(told: &mut Telling, shapes: &Shapes) {
     for (number, _) in SHORT_MEANINGS {
-        for layer in 0..layer_count(map) {
-            tell_count(text, map, found, *number, layer);
+        for (layer, held) in shapes.held.iter().enumerate() {
+            tell_count(told, shapes.uncovered.as_slice(), *number, layer, held);
         }
     }
 }
 
-/// Tells of a shape in a line.
-fn tell_line(text: &mut Text, layout: &Layout<'_>, one: &Uncovered) {
-    let place = one.fault.place();
-    let at = u32::try_from(place).unwrap_or(u32::MAX);
-    text.number("  byte ", place, ": ");
-    tell_place(text, "", &spot_at(layout.bytes, at), ": ");
-    text.word("", short_meaning(one.fault.number()), "\n");
-}
-
-/// Tells of the first shapes, each in a line. One that is placed many times has one line.
-fn tell_lines(alloc: Global, text: &mut Text, layout: &Layout<'_>, found: &[Uncovered]) {
-    let mut told = Vec::new(alloc);
-    for one in found {
-        if told.len() == MOST_LINES {
-            text.say("  and others\n");
+/// Tells of the placed shapes that have no cover: how many, and the first ones each in a line. One that is placed many times
+/// has one line.
+pub fn tell_uncovered(told: &mut Telling, layout: &Layout<'_>, shapes: &Shapes) {
+    tell_counts(told, shapes);
+    let mut lines = Vec::new(told.alloc);
+    for one in shapes.uncovered.as_slice() {
+        let place = one.fault.place();
+        if lines.len() == MOST_LINES {
+            told.say("  and others\n");
             return;
         }
-        let place = one.fault.place();
-        if !told.as_slice().contains(&place) {
-            tell_line(text, layout, one);
-            if told.push(place).is_err() {
-                text.lose();
-            }
+        if !lines.as_slice().contains(&place) {
+            told.keep(&mut lines, place);
+            told.number("  byte ", place, ": ");
+            let at = u32::try_from(place).unwrap_or(u32::MAX);
+            tell_place_at(told, "", layout.bytes, at, ": ");
+            told.word("", short_meaning(one.fault.number()), "\n");
         }
     }
-}
-
-/// Tells of the placed shapes that have no cover: how many, and the first ones each in a line.
-pub fn tell_uncovered(
-    alloc: Global,
-    text: &mut Text,
-    map: &Map,
-    layout: &Layout<'_>,
-    found: &[Uncovered],
-) {
-    tell_uncovered_counts(text, map, found);
-    tell_lines(alloc, text, layout, found);
 }

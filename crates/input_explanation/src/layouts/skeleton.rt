@@ -7,19 +7,17 @@ ghost use Rattle.library_model.specs.Points.{AreWellPointed};
 
 use crate::layouts::faults::Layout;
 use crate::layouts::pairs::{PairHeld, shapes_of, tell_as_in_map, tell_pair};
-use crate::layouts::shapes::{Shapes, placed_shapes};
-use crate::layouts::terminals::{Known, sort_by_columns};
+use crate::layouts::shapes::{Held, Shapes, placed_shapes};
+use crate::layouts::terminals::Known;
 use crate::layouts::texts::TextMark;
-use crate::telling::Text;
+use crate::telling::Telling;
 use flatten::PlaceFault;
 use geo_core::{Cell, Point};
 use indexmap::IndexSet;
 use layer_map::{MapFault, read_map};
 use library_model::Library;
-use lists::NoMemory;
 use map_model::limits::{MOST_METALS, MOST_TERMINALS};
 use map_model::{Map, Metal};
-use std::alloc::Global;
 
 /// What stands in front of the lines that are comments until they are wanted.
 const COMMENT: &str = "#";
@@ -33,35 +31,35 @@ const CUT: &str =
     "\n# a layer of vias is a [[cut]] in place of a [[metal]], and names the metals that it joins besides:\n#lower = \"NAME\"\n#upper = \"NAME\"\n";
 
 /// Tells a metal, in lines that begin with these words.
-fn tell_metal(text: &mut Text, before: &str, held: &PairHeld, has_top: bool) {
+fn tell_metal(told: &mut Telling, before: &str, held: &PairHeld, has_top: bool) {
     let (layer, datatype) = held.pair;
-    text.say("\n");
     let comment = if before.is_empty() { "# " } else { "## " };
-    tell_pair(text, comment, held, has_top);
-    text.word(before, "[[metal]]\n", before);
-    text.number("name = \"layer", u64::from(layer), "_");
-    text.number("", u64::from(datatype), "\"\n");
-    text.word(before, "pairs = [", "");
-    tell_as_in_map(text, held.pair);
-    text.say("]\n");
+    told.say("\n");
+    tell_pair(told, comment, held, has_top);
+    told.word(before, "[[metal]]\n", before);
+    told.number("name = \"layer", u64::from(layer), "_");
+    told.number("", u64::from(datatype), "\"\n");
+    told.say(before);
+    tell_as_in_map(told, "pairs = [", held.pair);
+    told.say("]\n");
 }
 
 /// Tells a metal for each pair with shapes. Those behind the most that a map has are comments.
-fn tell_metals(text: &mut Text, pairs: &[PairHeld], has_top: bool) {
+fn tell_metals(told: &mut Telling, pairs: &[PairHeld], has_top: bool) {
     let mut count = 0usize;
     for held in pairs {
         if shapes_of(held) == 0 {
             continue;
         }
         if count == MOST_METALS {
-            text.say("\n# a map has at most 16 metals; the others stand here as comments\n");
+            told.say("\n# a map has at most 16 metals; the others stand here as comments\n");
         }
         let before = if count < MOST_METALS { "" } else { COMMENT };
-        tell_metal(text, before, held, has_top);
+        tell_metal(told, before, held, has_top);
         count = count.saturating_add(1);
     }
     if count == 0 {
-        text.say("\n# the layout has no shapes, and a map has at least one metal\n");
+        told.say("\n# the layout has no shapes, and a map has at least one metal\n");
     }
 }
 
@@ -77,113 +75,88 @@ fn has_layer(metal: &Metal, layer: u16) -> bool {
 
 /// Adds the cell at which a text stands as a terminal of each metal of its layer.
 fn add_known(
+    told: &mut Telling,
     known: &mut Vec<Known>,
-    map: &Map,
+    metals: &[Metal],
     index: usize,
     mark: &TextMark<'_>,
-) -> Result<(), NoMemory> {
+) {
     let Point { x, y } = mark.point;
-    for (metal, one) in map.metals.as_slice().iter().enumerate() {
+    for (metal, one) in metals.iter().enumerate() {
         if has_layer(one, mark.layer) {
-            known.push(Known {
+            let one = Known {
                 index,
-                metal: metal as u32,
+                metal,
                 cell: Cell { i: x, j: y },
                 rect: None,
-            })?;
+            };
+            told.keep(known, one);
         }
     }
-    Ok(())
 }
 
-/// Adds the texts of the top as terminals, with the numbers of the texts.
-fn add_all_known(
-    known: &mut Vec<Known>,
-    map: &Map,
+/// The texts of the top as terminals, with the numbers of the texts.
+fn known_texts(
+    told: &mut Telling,
+    metals: &[Metal],
     texts: &[TextMark<'_>],
     top: &[u8],
-) -> Result<(), NoMemory> {
+) -> Vec<Known> {
+    let mut known = Vec::new(told.alloc);
     for (index, mark) in texts.iter().enumerate() {
         if mark.structure == top {
-            add_known(known, map, index, mark)?;
+            add_known(told, &mut known, metals, index, mark);
         }
     }
-    Ok(())
-}
-
-/// The texts of the top as terminals, with the numbers of the texts, by their metals and columns.
-fn known_texts(
-    alloc: Global,
-    map: &Map,
-    texts: &[TextMark<'_>],
-    top: &[u8],
-) -> Result<Vec<Known>, NoMemory> {
-    let mut known = Vec::new(alloc);
-    add_all_known(&mut known, map, texts, top)?;
-    sort_by_columns(known.as_mut_slice());
-    Ok(known)
+    known
 }
 
 /// Tells a terminal as a comment, and of which text it is.
-fn tell_terminal(text: &mut Text, map: &Map, mark: &TextMark<'_>, one: Known) {
-    text.name(
+fn tell_terminal(told: &mut Telling, layers: &[Held], mark: &TextMark<'_>, one: Known) {
+    told.name(
         "\n## the text ",
         mark.string,
         "\n#[[terminal]]\n#metal = \"",
     );
-    if let Some(metal) = map.metals.as_slice().get(one.metal as usize) {
-        text.raw(metal.name.as_slice());
+    if let Some(held) = layers.get(one.metal) {
+        told.raw(held.name.as_slice());
     }
-    text.signed("\"\n#x = ", i64::from(one.cell.i), "\n");
-    text.signed("#y = ", i64::from(one.cell.j), "\n");
+    told.signed("\"\n#x = ", i64::from(one.cell.i), "\n");
+    told.signed("#y = ", i64::from(one.cell.j), "\n");
 }
 
-/// Whether the cell of the metal is not told yet. From now on it is.
-fn is_new(text: &mut Text, told: &mut IndexSet<(u32, i32, i32)>, one: Known) -> bool {
-    match told.insert((one.metal, one.cell.i, one.cell.j)) {
-        Ok(is_new) => is_new,
-        Err(_) => {
-            text.lose();
-            false
-        }
-    }
-}
-
-/// Tells a text on a shape of its layer as a terminal, unless its cell is told already; whether others may follow.
+/// Tells a text on a shape of its layer as a terminal, unless its cell is among those that are told already; whether others may
+/// follow.
 fn tell_next(
-    text: &mut Text,
-    map: &Map,
+    told: &mut Telling,
+    layers: &[Held],
     texts: &[TextMark<'_>],
-    told: &mut IndexSet<(u32, i32, i32)>,
+    cells: &mut IndexSet<(usize, i32, i32)>,
     one: Known,
 ) -> bool {
-    if one.rect.is_none() || !is_new(text, told, one) {
+    let Ok(is_new) = cells.insert((one.metal, one.cell.i, one.cell.j)) else {
+        told.lose();
         return true;
-    }
-    if told.len() == 1 {
-        text.say("\n# terminals, for opens: the texts of the top on shapes of their layers\n");
-    }
-    if told.len() > MOST_TERMINALS {
-        text.say("\n# and others, which one map cannot have\n");
+    };
+    if is_new && cells.len() > MOST_TERMINALS {
+        told.say("\n# and others, which one map cannot have\n");
         return false;
     }
-    if let Some(mark) = texts.get(one.index) {
-        tell_terminal(text, map, mark, one);
+    if is_new && cells.len() == 1 {
+        told.say("\n# terminals, for opens: the texts of the top on shapes of their layers\n");
+    }
+    if is_new && let Some(mark) = texts.get(one.index) {
+        tell_terminal(told, layers, mark, one);
     }
     true
 }
 
 /// Tells the texts on shapes of their layers as terminals, each cell of a metal once.
-fn tell_covered(
-    alloc: Global,
-    text: &mut Text,
-    map: &Map,
-    texts: &[TextMark<'_>],
-    shapes: &Shapes,
-) {
-    let mut told = IndexSet::new(alloc);
+fn tell_covered(told: &mut Telling, texts: &[TextMark<'_>], shapes: &Shapes) {
+    let layers = shapes.held.as_slice();
+    let mut cells = IndexSet::new(told.alloc);
     for one in shapes.terminals.as_slice() {
-        if !tell_next(text, map, texts, &mut told, *one) {
+        if one.rect.is_some() && !tell_next(told, layers, texts, &mut cells, *one) {
             return;
         }
     }
@@ -191,8 +164,7 @@ fn tell_covered(
 
 /// Tells the terminals of a map of the layout's layers.
 fn tell_terminals(
-    alloc: Global,
-    text: &mut Text,
+    told: &mut Telling,
     library: &Library,
     map: &Map,
     texts: &[TextMark<'_>],
@@ -203,30 +175,24 @@ fn tell_terminals(
     requires few_elements { All (λ structure. length structure.elements < 2 ^ 32) library.now.structures }
     requires pointed { AreWellPointed library.now.structures }
 {
-    let Some(known) = text.got(known_texts(alloc, map, texts, top)) else {
-        return;
-    };
+    let known = known_texts(told, map.metals.as_slice(), texts, top);
     if known.is_empty() {
         return;
     }
-    match placed_shapes(alloc, map, library, Some(top), known) {
-        Ok(shapes) => tell_covered(alloc, text, map, texts, &shapes),
-        Err(PlaceFault::Memory) => text.lose(),
+    match placed_shapes(told, map, library, Some(top), known.as_slice()) {
+        Ok(shapes) => tell_covered(told, texts, &shapes),
+        Err(PlaceFault::Memory) => told.lose(),
         Err(fault) => {
-            text.number(
-                "\n# no terminals are told, since a run is refused: ",
-                u64::from(fault.number()),
-                " at ",
-            );
-            text.number("", fault.place(), "\n");
+            told.say("\n# no terminals are told, since a run is refused: ");
+            told.number("", u64::from(fault.number()), " at ");
+            told.number("", fault.place(), "\n");
         }
     }
 }
 
 /// Tells a map with a metal for each pair with shapes. Texts of the top, where it is known, are terminals in comments.
 pub fn tell_skeleton(
-    alloc: Global,
-    text: &mut Text,
+    told: &mut Telling,
     layout: &Layout<'_>,
     library: &Library,
     pairs: &[PairHeld],
@@ -238,17 +204,17 @@ pub fn tell_skeleton(
     requires few_elements { All (λ structure. length structure.elements < 2 ^ 32) library.now.structures }
     requires pointed { AreWellPointed library.now.structures }
 {
-    text.say("# the layers of ");
-    layout.tell(text);
-    text.say(KEYS);
-    tell_metals(text, pairs, top.is_some());
-    text.say(CUT);
+    told.say("# the layers of ");
+    layout.tell(told);
+    told.say(KEYS);
+    tell_metals(told, pairs, top.is_some());
+    told.say(CUT);
     let Some(top) = top else {
         return;
     };
-    match read_map(alloc, text.as_str().as_bytes()) {
-        Ok(map) => tell_terminals(alloc, text, library, &map, texts, top),
-        Err(MapFault::Memory) => text.lose(),
+    match read_map(told.alloc, told.as_str().as_bytes()) {
+        Ok(map) => tell_terminals(told, library, &map, texts, top),
+        Err(MapFault::Memory) => told.lose(),
         Err(_) => {}
     }
 }

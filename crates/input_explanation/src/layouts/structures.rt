@@ -6,15 +6,12 @@ ghost use Rattle.library_model.specs.Names.{names_of};
 
 use crate::layouts::faults::{Layout, tell_number};
 use crate::layouts::graph::{Graph, graph_of, name_of};
-use crate::layouts::places::{spot_at, tell_place};
-use crate::layouts::shapes::{Held, count_shape, nothing_held, tell_held};
-use crate::maps::good_map::layer_count;
-use crate::telling::{Telling, Text};
+use crate::layouts::places::{ElementTold, spot_up_to, tell_place, tell_place_at};
+use crate::layouts::shapes::{Held, count_shape, nothing_held};
+use crate::telling::Telling;
 use flatten::{PlaceFault, tops_of};
 use library_model::{Element, Library, Structure};
-use lists::NoMemory;
 use map_model::Map;
-use std::alloc::Global;
 
 /// The most structures of a circle, and the most tops of a kind, that are named.
 const MOST_NAMED: usize = 50;
@@ -32,62 +29,78 @@ fn structure_at(structures: &[Structure], place: u64) -> Option<usize> {
     None
 }
 
+/// The numbers of the structures that no reference names.
+pub fn found_tops(told: &mut Telling, library: &Library) -> Vec<u32>
+    requires differ { AreDifferent (names_of library.now.structures) }
+    requires few { length library.now.structures < 2 ^ 32 }
+{
+    match tops_of(told.alloc, library) {
+        Ok(tops) => tops,
+        Err(_) => {
+            told.lose();
+            Vec::new(told.alloc)
+        }
+    }
+}
+
 /// Tells a structure whose name differs from this in nothing but capital letters, where there is one.
-fn tell_alike(text: &mut Text, structures: &[Structure], name: &[u8]) {
+fn tell_alike(told: &mut Telling, structures: &[Structure], name: &[u8]) {
     for structure in structures {
         let other = structure.name.as_slice();
         if other.eq_ignore_ascii_case(name) {
-            text.name("  there is ", other, ", with other capital letters\n");
+            told.name("  there is ", other, ", with other capital letters\n");
             return;
         }
     }
 }
 
 /// Tells which reference names no structure.
-fn tell_unknown(text: &mut Text, layout: &Layout<'_>, structures: &[Structure], place: u32) {
-    let spot = spot_at(layout.bytes, place);
-    tell_place(text, "  ", &spot, "\n");
-    if let Some(target) = spot.target() {
-        text.name("  no structure is named ", target, "\n");
-        tell_alike(text, structures, target);
+fn tell_unknown(told: &mut Telling, layout: &Layout<'_>, structures: &[Structure], place: u32) {
+    let spot = spot_up_to(layout.bytes, place, true);
+    tell_place(told, "  ", &spot, "\n");
+    if let Some(
+        ElementTold {
+            target: Some(target),
+            ..
+        },
+    ) = spot.element
+    {
+        told.name("  no structure is named ", target, "\n");
+        tell_alike(told, structures, target);
     }
 }
 
 /// Tells the circle to which a structure leads: its structures in their order, and that it ends where it begins.
-fn tell_circle(alloc: Global, text: &mut Text, graph: &Graph<'_>, one: usize) {
-    let Some(circle) = text.got(graph.circle_from(alloc, one, MOST_NAMED)) else {
-        return;
-    };
-    text.name(
+fn tell_circle(told: &mut Telling, graph: &Graph<'_>, one: usize) {
+    let circle = graph.circle_from(told, one, MOST_NAMED);
+    told.name(
         "  structure ",
         name_of(graph.structures, one),
         "; the circle:",
     );
     for number in circle.as_slice() {
-        text.name(" ", name_of(graph.structures, *number), " ->");
+        told.name(" ", name_of(graph.structures, *number), " ->");
     }
     match circle.first() {
-        Some(first) if circle.len() < MOST_NAMED => text.name(
-            " ",
-            name_of(graph.structures, *first),
-            "\n",
-        ),
-        _ => text.say(" ..\n"),
+        Some(first) if circle.len() < MOST_NAMED => {
+            told.name(" ", name_of(graph.structures, *first), "\n");
+        }
+        _ => told.say(" ..\n"),
     }
 }
 
 /// Tells a longest chain from the top.
-fn tell_chain(text: &mut Text, graph: &Graph<'_>, top: usize) {
+fn tell_chain(told: &mut Telling, graph: &Graph<'_>, top: usize) {
     if let Some(chain) = graph.chain_from(top) {
-        text.number("  the longest chain has ", chain.length, " references");
-        text.name(", from ", name_of(graph.structures, top), "");
-        text.name(" to ", name_of(graph.structures, chain.end), "\n");
+        told.number("  the longest chain has ", chain.length, " references");
+        told.name(", from ", name_of(graph.structures, top), "");
+        told.name(" to ", name_of(graph.structures, chain.end), "\n");
     }
 }
 
 /// Tells those of the tops that are hidden by editors, or those that are not, in a line behind these words.
 fn tell_some_tops(
-    text: &mut Text,
+    told: &mut Telling,
     structures: &[Structure],
     tops: &[u32],
     hidden: bool,
@@ -100,87 +113,65 @@ fn tell_some_tops(
             continue;
         }
         if count == 0 {
-            text.word("  ", words, ":");
+            told.say(words);
         }
         if count < MOST_NAMED {
-            text.name(" ", name, "");
+            told.name(" ", name, "");
         }
         count = count.saturating_add(1);
     }
     if count > MOST_NAMED {
-        text.number(", the first ", MOST_NAMED as u64, " of ");
-        text.number("", count as u64, "");
+        told.number(", the first ", MOST_NAMED as u64, " of ");
+        told.number("", count as u64, "");
     }
     if count > 0 {
-        text.say("\n");
+        told.say("\n");
     }
 }
 
 /// Tells the structures with these numbers, which no reference names.
-pub fn tell_tops(text: &mut Text, structures: &[Structure], tops: &[u32]) {
-    tell_some_tops(text, structures, tops, false, "named by no reference");
+pub fn tell_tops(told: &mut Telling, structures: &[Structure], tops: &[u32]) {
+    tell_some_tops(told, structures, tops, false, "  named by no reference:");
     tell_some_tops(
-        text,
+        told,
         structures,
         tops,
         true,
-        "named by no reference, and hidden by editors, which keep notes of their own in them",
+        "  named by no reference, and hidden by editors, which keep notes of their own in them:",
     );
-}
-
-/// Adds an element that is placed so often to what the layers of the map hold, if it is a shape of one of them.
-fn add_shape(held: &mut [Held], map: &Map, element: &Element, times: u64) {
-    if let Element::Shape(shape) = element {
-        if let Some(layer) = map.layer_of(shape.layer, shape.datatype) {
-            count_shape(held, layer, shape.points.as_slice().len(), times);
-        }
-    }
 }
 
 /// Adds the shapes of a structure that is placed so often to what the layers of the map hold.
 fn add_shapes(held: &mut [Held], map: &Map, structure: &Structure, times: u64) {
     for element in structure.elements.as_slice() {
-        add_shape(held, map, element, times);
-    }
-}
-
-/// Adds the shapes of structures that are placed so often to what the layers of the map hold.
-fn add_all_shapes(held: &mut [Held], map: &Map, structures: &[Structure], times: &[u64]) {
-    for (number, structure) in structures.iter().enumerate() {
-        match times.get(number) {
-            Some(times) if *times > 0 => add_shapes(held, map, structure, *times),
-            _ => {}
+        if let Element::Shape(shape) = element
+            && let Some(layer) = map.layer_of(shape.layer, shape.datatype)
+        {
+            count_shape(held, layer, shape.points.as_slice().len(), times);
         }
     }
 }
 
 /// What the top places on each layer of the map, without the rectangles.
-fn counts_of(
-    alloc: Global,
-    map: &Map,
-    graph: &Graph<'_>,
-    top: usize,
-) -> Result<Vec<Held>, NoMemory> {
-    let times = graph.times_placed(alloc, Some(top))?;
-    let mut counts = nothing_held(alloc, layer_count(map))?;
-    add_all_shapes(
-        counts.as_mut_slice(),
-        map,
-        graph.structures,
-        times.as_slice(),
-    );
-    Ok(counts)
+fn counts_of(told: &mut Telling, map: &Map, graph: &Graph<'_>, top: usize) -> Vec<Held> {
+    let times = graph.times_placed(told, Some(top));
+    let mut counts = nothing_held(told, map);
+    for (number, structure) in graph.structures.iter().enumerate() {
+        let times = times.get(number).copied().unwrap_or(0);
+        if times > 0 {
+            add_shapes(counts.as_mut_slice(), map, structure, times);
+        }
+    }
+    counts
 }
 
 /// Tells how many shapes and points the top places on each layer of the map.
-fn tell_counts(alloc: Global, text: &mut Text, map: &Map, graph: &Graph<'_>, top: usize) {
-    text.name("  the top is ", name_of(graph.structures, top), "\n");
-    let Some(counts) = text.got(counts_of(alloc, map, graph, top)) else {
-        return;
-    };
-    for (number, held) in counts.iter().enumerate() {
-        tell_held(text, map, number, held);
-        text.say("\n");
+fn tell_counts(told: &mut Telling, map: &Map, graph: &Graph<'_>, top: usize) {
+    told.name("  the top is ", name_of(graph.structures, top), "\n");
+    let counts = counts_of(told, map, graph, top);
+    for held in counts.as_slice() {
+        held.tell_counts(told);
+        told.say("\n");
     }
 }
 
@@ -192,82 +183,35 @@ pub fn tell_no_top(
     tops: &[u32],
 ) {
     told.refuse(4, 27, 0);
-    let text = &mut told.text;
-    layout.tell(text);
+    layout.tell(told);
     if structures.is_empty() {
-        text.say(": it has no structure\n");
+        told.say(": it has no structure\n");
         return;
     }
     let top = layout.top.unwrap_or(b"");
-    text.name(": no structure has the name ", top, " that --top gives\n");
-    tell_alike(text, structures, top);
-    tell_tops(text, structures, tops);
+    told.name(": no structure has the name ", top, " that --top gives\n");
+    tell_alike(told, structures, top);
+    tell_tops(told, structures, tops);
 }
 
-/// Tells of the structure of this number, with which the fault begins.
-fn tell_from(
-    alloc: Global,
-    text: &mut Text,
-    map: &Map,
-    graph: &Graph<'_>,
-    fault: PlaceFault,
-    one: usize,
-) {
-    match fault {
-        PlaceFault::Cycle { .. } => tell_circle(alloc, text, graph, one),
-        PlaceFault::TooDeep { .. } => tell_chain(text, graph, one),
-        _ => tell_counts(alloc, text, map, graph, one),
-    }
-}
-
-/// Tells of the reference, the structure or the shape at which the fault shows.
-fn tell_cause(
-    alloc: Global,
-    text: &mut Text,
-    map: &Map,
-    layout: &Layout<'_>,
-    library: &Library,
-    fault: PlaceFault,
-)
+/// Tells of the structure with which the fault begins.
+fn tell_from(told: &mut Telling, map: &Map, library: &Library, fault: PlaceFault)
     requires differ { AreDifferent (names_of library.now.structures) }
     requires few { length library.now.structures < 2 ^ 32 }
 {
-    let structures = library.structures.as_slice();
+    let Some(one) = structure_at(library.structures.as_slice(), fault.place()) else {
+        return;
+    };
+    let graph = graph_of(told, library);
     match fault {
-        PlaceFault::UnknownStructure { at } => tell_unknown(text, layout, structures, at),
-        PlaceFault::OutOfRange { at } => {
-            tell_place(text, "  ", &spot_at(layout.bytes, at), "\n");
-        }
-        _ => {
-            if let Some(one) = structure_at(structures, fault.place()) {
-                if let Some(graph) = text.got(graph_of(alloc, library)) {
-                    tell_from(alloc, text, map, &graph, fault, one);
-                }
-            }
-        }
-    }
-}
-
-/// Tells that the library has no top, or more than one, where these are the numbers of those that no reference names.
-fn tell_with_tops(
-    told: &mut Telling,
-    layout: &Layout<'_>,
-    library: &Library,
-    tops: &[u32],
-    fault: PlaceFault,
-) {
-    let structures = library.structures.as_slice();
-    if fault == PlaceFault::NoTop {
-        tell_no_top(told, layout, structures, tops);
-    } else {
-        tell_number(told, layout, fault.number(), fault.place());
-        tell_tops(&mut told.text, structures, tops);
+        PlaceFault::Cycle { .. } => tell_circle(told, &graph, one),
+        PlaceFault::TooDeep { .. } => tell_chain(told, &graph, one),
+        _ => tell_counts(told, map, &graph, one),
     }
 }
 
 /// Tells why the shapes of a library are not placed.
 pub fn tell_place_fault(
-    alloc: Global,
     told: &mut Telling,
     map: &Map,
     layout: &Layout<'_>,
@@ -277,16 +221,24 @@ pub fn tell_place_fault(
     requires differ { AreDifferent (names_of library.now.structures) }
     requires few { length library.now.structures < 2 ^ 32 }
 {
+    if fault == PlaceFault::Memory {
+        told.lose();
+        return;
+    }
+    let structures = library.structures.as_slice();
+    if fault == PlaceFault::NoTop {
+        let tops = found_tops(told, library);
+        tell_no_top(told, layout, structures, tops.as_slice());
+        return;
+    }
+    tell_number(told, layout, fault.number(), fault.place());
     match fault {
-        PlaceFault::Memory => told.text.lose(),
-        PlaceFault::NoTop | PlaceFault::ManyTops { .. } => {
-            if let Some(tops) = told.text.got(tops_of(alloc, library)) {
-                tell_with_tops(told, layout, library, tops.as_slice(), fault);
-            }
+        PlaceFault::ManyTops { .. } => {
+            let tops = found_tops(told, library);
+            tell_tops(told, structures, tops.as_slice());
         }
-        _ => {
-            tell_number(told, layout, fault.number(), fault.place());
-            tell_cause(alloc, &mut told.text, map, layout, library, fault);
-        }
+        PlaceFault::UnknownStructure { at } => tell_unknown(told, layout, structures, at),
+        PlaceFault::OutOfRange { at } => tell_place_at(told, "  ", layout.bytes, at, "\n"),
+        _ => tell_from(told, map, library, fault),
     }
 }

@@ -2,54 +2,42 @@
 
 use crate::layouts::faults::{Layout, REFUSED};
 use crate::layouts::pairs::{tell_as_in_map, tell_pairs_of};
-use crate::layouts::places::{spot_at, tell_place};
-use crate::layouts::shapes::{Held, MOST_LINES, Shapes};
-use crate::maps::good_map::{GoodMap, tell_layer};
-use crate::telling::{Telling, Text};
+use crate::layouts::places::tell_place_at;
+use crate::layouts::shapes::{MOST_LINES, Shapes};
+use crate::maps::good_map::{GoodMap, MapFile};
+use crate::telling::Telling;
 use geo_core::{Cell, Rect};
 use library_model::Library;
-use lists::NoMemory;
-use map_model::{Map, Metal, Terminal};
-use std::alloc::Global;
+use map_model::{Map, Metal};
 
 /// A terminal of the map, by its number, which is counted from 0.
 #[derive(Clone, Copy)]
 pub struct Known {
     pub index: usize,
-    pub metal: u32,
+    pub metal: usize,
     pub cell: Cell,
     /// The number of a rectangle among those of its metal that covers it, where one does.
     pub rect: Option<usize>,
 }
 
-/// Puts terminals in the order of their metals, and those of one metal in that of their columns.
-pub fn sort_by_columns(known: &mut [Known]) {
-    known.sort_unstable_by_key(|one| (one.metal, one.cell.i, one.index));
-}
-
-/// Adds terminals, which are numbered from 0.
-fn add_terminals(known: &mut Vec<Known>, terminals: &[Terminal]) -> Result<(), NoMemory> {
-    for (index, terminal) in terminals.iter().enumerate() {
-        known.push(Known {
+/// The terminals of the map.
+pub fn known_terminals(told: &mut Telling, map: &Map) -> Vec<Known> {
+    let mut known = Vec::new(told.alloc);
+    for (index, terminal) in map.terminals.as_slice().iter().enumerate() {
+        let one = Known {
             index,
-            metal: terminal.metal,
+            metal: terminal.metal as usize,
             cell: terminal.cell,
             rect: None,
-        })?;
+        };
+        told.keep(&mut known, one);
     }
-    Ok(())
+    known
 }
 
-/// The terminals of the map by their metals, and those of one metal by their columns.
-pub fn known_terminals(alloc: Global, map: &Map) -> Result<Vec<Known>, NoMemory> {
-    let mut known = Vec::new(alloc);
-    add_terminals(&mut known, map.terminals.as_slice())?;
-    sort_by_columns(known.as_mut_slice());
-    Ok(known)
-}
-
-/// Notes the terminals that the rectangle of this number among those of the metal covers, among terminals in this order.
-pub fn note_covered(known: &mut [Known], metal: u32, rect: Rect, number: usize) {
+/// Notes the terminals that the rectangle of this number among those of the metal covers. They come by their metals, and those
+/// of one metal by their columns.
+pub fn note_covered(known: &mut [Known], metal: usize, rect: Rect, number: usize) {
     let first = known.partition_point(|one| one.metal < metal
         || one.metal == metal && one.cell.i < rect.x0);
     for k in first..known.len() {
@@ -77,194 +65,123 @@ pub fn first_off(known: &[Known]) -> Option<Known> {
 }
 
 /// Tells behind some words which terminal is meant: its number and its line in the map, its metal and its cell.
-pub fn tell_terminal(alloc: Global, text: &mut Text, before: &str, good: &GoodMap<'_>, one: Known) {
-    text.say(before);
-    text.number(
-        "[[terminal]] number ",
-        (one.index as u64).saturating_add(1),
-        ", counted from 1",
-    );
-    good.tell_line(alloc, text, one.index);
-    tell_layer(text, ", ", &good.map, one.metal as usize);
-    text.point(", cell ", one.cell.i as i64, one.cell.j as i64, "");
+fn tell_terminal(told: &mut Telling, before: &str, file: MapFile<'_>, shapes: &Shapes, one: Known) {
+    told.word(before, "[[terminal]] number ", "");
+    told.number("", (one.index as u64).saturating_add(1), ", counted from 1");
+    file.tell_line(told, one.index);
+    if let Some(held) = shapes.held.get(one.metal) {
+        held.tell_layer(told, ", ");
+    }
+    told.point(", cell ", one.cell.i, one.cell.j, "");
 }
 
-/// A cell that a shape covers, how far it is to the right and up, and the offset of the shape.
+/// A cell that a shape covers, how far it is to the right and up from another, and the offset of the shape.
 #[derive(Clone, Copy)]
 struct Near {
     cell: Cell,
     across: i64,
     up: i64,
+    /// The square of its distance.
+    square: i64,
     offset: u32,
-}
-
-/// The square of its distance.
-fn square(near: Near) -> i64 {
-    let Near { across, up, .. } = near;
-    across
-        .saturating_mul(across)
-        .saturating_add(up.saturating_mul(up))
 }
 
 /// The cell of a rectangle that is nearest to a cell.
 fn near_in(rect: Rect, offset: u32, cell: Cell) -> Near {
     let i = cell.i.max(rect.x0).min(rect.x1.saturating_sub(1));
     let j = cell.j.max(rect.y0).min(rect.y1.saturating_sub(1));
+    let across = i64::from(i).saturating_sub(i64::from(cell.i));
+    let up = i64::from(j).saturating_sub(i64::from(cell.j));
+    let square = across
+        .saturating_mul(across)
+        .saturating_add(up.saturating_mul(up));
     Near {
         cell: Cell { i, j },
-        across: i64::from(i).saturating_sub(i64::from(cell.i)),
-        up: i64::from(j).saturating_sub(i64::from(cell.j)),
+        across,
+        up,
+        square,
         offset,
     }
 }
 
-/// The nearer one, and the one known before where both are as near.
-fn nearer(known: Option<Near>, other: Near) -> Option<Near> {
-    match known {
-        Some(one) if square(one) <= square(other) => Some(one),
-        _ => Some(other),
+/// A nearest cell to the terminal that its metal covers, where there is one.
+fn nearest_to(shapes: &Shapes, one: Known) -> Option<Near> {
+    let held = shapes.held.get(one.metal)?;
+    let mut nearest: Option<Near> = None;
+    for (number, rect) in held.rects.iter().enumerate() {
+        let offset = held.offsets.get(number).copied().unwrap_or(0);
+        let near = near_in(*rect, offset, one.cell);
+        nearest = match nearest {
+            Some(known) if known.square <= near.square => Some(known),
+            _ => Some(near),
+        };
     }
-}
-
-/// A nearest cell that a shape of the layer covers, where there is one.
-fn nearest(held: &Held, cell: Cell) -> Option<Near> {
-    let offsets = held.offsets.as_slice();
-    let mut near = None;
-    for (number, rect) in held.rects.as_slice().iter().enumerate() {
-        let offset = offsets.get(number).copied().unwrap_or(0);
-        near = nearer(near, near_in(*rect, offset, cell));
-    }
-    near
+    nearest
 }
 
 /// Tells how far something is along an axis, where it is not at the same place.
-fn tell_way(text: &mut Text, way: i64, below: &str, above: &str) {
-    if way < 0 {
-        text.signed(", ", way.saturating_neg(), below);
-    } else if way > 0 {
-        text.signed(", ", way, above);
+fn tell_way(told: &mut Telling, way: i64, below: &str, above: &str) {
+    if way != 0 {
+        told.number(
+            ", ",
+            way.unsigned_abs(),
+            if way < 0 { below } else { above },
+        );
     }
 }
 
-/// Tells a near cell, and how far it is.
-fn tell_near(text: &mut Text, near: Near) {
-    text.point(
-        "; the nearest cell of the metal is ",
-        i64::from(near.cell.i),
-        i64::from(near.cell.j),
-        "",
-    );
-    tell_way(text, near.across, " to the left", " to the right");
-    tell_way(text, near.up, " down", " up");
-}
-
-/// A nearest cell to the terminal that its metal covers, where there is one.
-fn nearest_to(shapes: &Shapes, one: Known) -> Option<Near> {
-    nearest(shapes.held.get(one.metal as usize)?, one.cell)
-}
-
-/// Tells a terminal that is not covered, and what is nearest.
-fn tell_off(
-    alloc: Global,
-    text: &mut Text,
-    before: &str,
-    good: &GoodMap<'_>,
-    shapes: &Shapes,
-    one: Known,
-) {
-    tell_terminal(alloc, text, before, good, one);
+/// Tells behind some words a terminal that is not covered, and the cell of its metal that is nearest, where there is one.
+fn tell_off(told: &mut Telling, before: &str, file: MapFile<'_>, shapes: &Shapes, one: Known) {
+    tell_terminal(told, before, file, shapes, one);
     match nearest_to(shapes, one) {
-        Some(near) => tell_near(text, near),
-        None => text.say("; its metal covers nothing"),
+        Some(near) => {
+            let Cell { i, j } = near.cell;
+            told.point("; the nearest cell of the metal is ", i, j, "");
+            tell_way(told, near.across, " to the left", " to the right");
+            tell_way(told, near.up, " down", " up");
+        }
+        None => told.say("; its metal covers nothing"),
     }
-    text.say("\n");
-}
-
-/// Tells that a terminal is not covered, what is nearest, and the shape that has it.
-fn tell_beside(
-    alloc: Global,
-    text: &mut Text,
-    good: &GoodMap<'_>,
-    layout: &Layout<'_>,
-    shapes: &Shapes,
-    first: Known,
-    near: Near,
-) {
-    tell_off(
-        alloc,
-        text,
-        ": no shape of its metal covers ",
-        good,
-        shapes,
-        first,
-    );
-    text.number(
-        "  the nearest shape begins at byte ",
-        u64::from(near.offset),
-        ": ",
-    );
-    tell_place(text, "", &spot_at(layout.bytes, near.offset), "\n");
-    text.say(
-        "  move the terminal onto a shape, leave it out, or see whether the metal has the right layers and datatypes\n",
-    );
-}
-
-/// Tells the pairs of a metal.
-fn tell_metal_pairs(text: &mut Text, metal: &Metal) {
-    for pair in metal.pairs.as_slice() {
-        text.say(" ");
-        tell_as_in_map(text, *pair);
-    }
-    text.say("\n");
+    told.say("\n");
 }
 
 /// Tells that the metal of this number covers nothing, and its pairs.
-fn tell_empty(text: &mut Text, map: &Map, shapes: &Shapes, number: usize) {
-    let before = match shapes.held.get(number) {
-        Some(held) if held.shapes > 0 => ": nothing is covered by the shapes of ",
-        _ => ": the top places no shapes of ",
-    };
-    tell_layer(text, before, map, number);
-    text.say(", whose pairs are");
-    if let Some(metal) = map.metals.as_slice().get(number) {
-        tell_metal_pairs(text, metal);
+fn tell_empty(told: &mut Telling, metals: &[Metal], shapes: &Shapes, number: usize) {
+    if let Some(held) = shapes.held.get(number)
+        && let Some(metal) = metals.get(number)
+    {
+        let before = if held.shapes > 0 {
+            ": nothing is covered by the shapes of "
+        } else {
+            ": the top places no shapes of "
+        };
+        held.tell_layer(told, before);
+        told.say(", whose pairs are");
+        for pair in metal.pairs.as_slice() {
+            tell_as_in_map(told, " ", *pair);
+        }
+        told.say("\n");
     }
 }
 
-/// Tells that a metal covers nothing, which pairs the layout has, and the terminal that is on that metal.
-fn tell_on_empty(
-    alloc: Global,
-    text: &mut Text,
-    good: &GoodMap<'_>,
-    library: &Library,
-    shapes: &Shapes,
-    first: Known,
-) {
-    tell_empty(text, &good.map, shapes, first.metal as usize);
-    tell_pairs_of(alloc, text, library.structures.as_slice());
-    tell_terminal(alloc, text, "  so nothing covers ", good, first);
-    text.say("\n  give the metal the right layers and datatypes, or leave its terminals out\n");
-}
-
 /// Tells of the terminals behind the first that no shape of their metals covers either, each in a line.
-fn tell_others(alloc: Global, text: &mut Text, good: &GoodMap<'_>, shapes: &Shapes, first: Known) {
+fn tell_others(told: &mut Telling, file: MapFile<'_>, shapes: &Shapes, first: Known) {
     let mut count: usize = 0;
     for one in shapes.terminals.as_slice() {
         if one.rect.is_some() || one.index == first.index {
             continue;
         }
         if count >= MOST_LINES {
-            text.say("  and others\n");
+            told.say("  and others\n");
             return;
         }
-        tell_off(alloc, text, "  nor does one cover ", good, shapes, *one);
+        tell_off(told, "  nor does one cover ", file, shapes, *one);
         count = count.saturating_add(1);
     }
 }
 
 /// Tells of the terminals that no shape of their metals covers, of which this is the first.
 pub fn tell_off_metal(
-    alloc: Global,
     told: &mut Telling,
     good: &GoodMap<'_>,
     layout: &Layout<'_>,
@@ -272,12 +189,25 @@ pub fn tell_off_metal(
     shapes: &Shapes,
     first: Known,
 ) {
+    let file = good.file();
     told.refuse(REFUSED, 50, first.index as u64);
-    let text = &mut told.text;
-    layout.tell(text);
-    match nearest_to(shapes, first) {
-        Some(near) => tell_beside(alloc, text, good, layout, shapes, first, near),
-        None => tell_on_empty(alloc, text, good, library, shapes, first),
+    layout.tell(told);
+    if let Some(near) = nearest_to(shapes, first) {
+        tell_off(told, ": no shape of its metal covers ", file, shapes, first);
+        told.number(
+            "  the nearest shape begins at byte ",
+            u64::from(near.offset),
+            ": ",
+        );
+        tell_place_at(told, "", layout.bytes, near.offset, "\n");
+        told.say(
+            "  move the terminal onto a shape, leave it out, or see whether the metal has the right layers and datatypes\n",
+        );
+    } else {
+        tell_empty(told, good.map.metals.as_slice(), shapes, first.metal);
+        tell_pairs_of(told, library.structures.as_slice());
+        tell_terminal(told, "  so nothing covers ", file, shapes, first);
+        told.say("\n  give the metal the right layers and datatypes, or leave its terminals out\n");
     }
-    tell_others(alloc, text, good, shapes, first);
+    tell_others(told, file, shapes, first);
 }

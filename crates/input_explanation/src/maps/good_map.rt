@@ -3,10 +3,9 @@
 ghost use Rattle.std.specs.Prelude.{◌<◌, IfSome, length};
 
 use crate::maps::lines::{Sought, line_of};
-use crate::telling::Text;
+use crate::telling::Telling;
 use layer_map::{ItemKind, Place};
-use map_model::Map;
-use std::alloc::Global;
+use map_model::{Cut, Map, Measure, Metal};
 
 /// A map that is good.
 #[derive(Drop)]
@@ -19,41 +18,37 @@ pub struct GoodMap<'a> {
 }
 
 impl GoodMap<'_> {
-    /// Tells in which line of the file the terminal of this number stands, where that is known.
-    pub fn tell_line(&self, alloc: Global, text: &mut Text, index: usize) {
-        let Ok(written) = str::from_utf8(self.bytes.as_slice()) else {
-            return;
-        };
-        let sought = Sought {
-            place: Place::Item(ItemKind::Terminal, index),
-            is_unknown_key: false,
+    /// Its file.
+    pub(crate) fn file(&self) -> MapFile<'_> {
+        MapFile {
+            name: self.name,
+            bytes: self.bytes.as_slice(),
             measure: self.map.measure,
-        };
-        if let Some(line) = line_of(alloc, written, sought) {
-            line.tell(text, ", ", " of map ");
-            text.name("", self.name, "");
         }
     }
 }
 
-/// How many layers the map has: its metals, and then its cuts.
-pub fn layer_count(map: &Map) -> usize {
-    map.metals
-        .as_slice()
-        .len()
-        .saturating_add(map.cuts.as_slice().len())
+/// The file of a map that is good.
+#[derive(Clone, Copy)]
+pub struct MapFile<'a> {
+    pub name: &'a [u8],
+    pub bytes: &'a [u8],
+    /// What measures the sizes of the map.
+    pub measure: Measure,
 }
 
-/// Tells behind some words which layer has this number: which metal, or which cut.
-pub fn tell_layer(text: &mut Text, before: &str, map: &Map, number: usize) {
-    text.say(before);
-    let metals = map.metals.as_slice();
-    if let Some(metal) = metals.get(number) {
-        text.name("metal ", metal.name.as_slice(), "");
-        return;
-    }
-    if let Some(cut) = map.cuts.as_slice().get(number.saturating_sub(metals.len())) {
-        text.name("cut ", cut.name.as_slice(), "");
+impl MapFile<'_> {
+    /// Tells in which line the terminal of this number stands, where that is known.
+    pub fn tell_line(self, told: &mut Telling, index: usize) {
+        let sought = Sought {
+            place: Place::Item(ItemKind::Terminal, index),
+            is_unknown_key: false,
+            measure: self.measure,
+        };
+        if let Some(line) = line_of(told.alloc, self.bytes, sought) {
+            line.tell(told, ", ", " of map ");
+            told.name("", self.name, "");
+        }
     }
 }
 
@@ -83,21 +78,20 @@ pub fn cut_place(map: &Map, name: &[u8]) -> Option<usize>
     None
 }
 
-/// Tells the names of the map's metals, in a line.
-pub fn tell_metal_names(text: &mut Text, map: &Map) {
-    text.say("  metals:");
-    for metal in map.metals.as_slice() {
-        text.name(" ", metal.name.as_slice(), "");
+/// Tells the names of metals, in a line.
+pub fn tell_metal_names(told: &mut Telling, metals: &[Metal]) {
+    told.say("  metals:");
+    for metal in metals {
+        told.name(" ", metal.name.as_slice(), "");
     }
-    text.say("\n");
+    told.say("\n");
 }
 
-/// Tells the names of the map's cuts, in a line.
-pub fn tell_cut_names(text: &mut Text, map: &Map) {
-    let cuts = map.cuts.as_slice();
-    text.say("  cuts:");
+/// Tells the names of cuts, in a line.
+pub fn tell_cut_names(told: &mut Telling, cuts: &[Cut]) {
+    told.say("  cuts:");
     for cut in cuts {
-        text.name(" ", cut.name.as_slice(), "");
+        told.name(" ", cut.name.as_slice(), "");
     }
-    text.say(if cuts.is_empty() { " none\n" } else { "\n" });
+    told.say(if cuts.is_empty() { " none\n" } else { "\n" });
 }

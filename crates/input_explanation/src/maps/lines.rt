@@ -1,6 +1,6 @@
 //! In which line of a map a place of its document begins.
 
-use crate::telling::Text;
+use crate::telling::Telling;
 use layer_map::{Measure, Place};
 use std::alloc::Global;
 use toml::{Table, Value};
@@ -49,6 +49,11 @@ fn behind_statement(alloc: Global, text: &str) -> &str {
     rest
 }
 
+/// Whether the table at the place may have the key, in a document whose sizes are measured so.
+pub fn is_known(place: Place, measure: Measure, key: &str) -> bool {
+    place.known_keys(measure).contains(&key)
+}
+
 /// What is looked for in a map.
 #[derive(Clone, Copy)]
 pub struct Sought {
@@ -64,7 +69,7 @@ impl Sought {
     fn is_meant(&self, key: &str) -> bool {
         match self.place {
             Place::Document | Place::Item(_, _) => {
-                self.is_unknown_key && !self.place.known_keys(self.measure).contains(&key)
+                self.is_unknown_key && !is_known(self.place, self.measure, key)
             }
             Place::Key(meant) | Place::ItemKey(_, _, meant) => meant == key,
         }
@@ -91,11 +96,11 @@ pub enum Line {
 
 impl Line {
     /// Tells between some words which line it is, and whether something begins there that has the place within.
-    pub fn tell(self, text: &mut Text, before: &str, after: &str) {
-        text.say(before);
+    pub fn tell(self, told: &mut Telling, before: &str, after: &str) {
+        told.say(before);
         match self {
-            Line::At(line) => text.number("line ", line, after),
-            Line::Within(line) => text.number("in what begins in line ", line, after),
+            Line::At(line) => told.number("line ", line, after),
+            Line::Within(line) => told.number("in what begins in line ", line, after),
         }
     }
 }
@@ -112,32 +117,30 @@ struct Walk {
 }
 
 impl Walk {
-    /// Goes behind the head in this line of an item of the place's list.
-    fn enter_item(&mut self, number: usize, line: u64) {
-        if self.tables == number {
-            self.owner = Owner::Item;
-            self.table = Some(line);
-        }
-        self.tables = self.tables.saturating_add(1);
-    }
-
-    /// The line of the item that is looked for, where it was seen and no key of it is meant.
-    fn item_line(&self) -> Option<Line> {
-        match self.sought.place {
-            Place::Item(_, _) if !self.sought.is_unknown_key => Some(Line::At(self.table?)),
-            _ => None,
-        }
-    }
-
     /// Goes behind the head of a table in this line. The answer is the place, where it is found.
     fn pass_head(&mut self, key: &str, value: &Value, line: u64) -> Option<Line> {
         self.owner = Owner::Other;
         match self.sought.place.item() {
             Some((kind, number)) if kind.list() == key && value.is_array() => {
-                self.enter_item(number, line);
-                self.item_line()
+                self.enter_item(number, line)
             }
             None if self.sought.is_meant(key) => Some(Line::At(line)),
+            _ => None,
+        }
+    }
+
+    /// Goes behind the head in this line of an item of the place's list. The answer is the line, where the item is looked for
+    /// and no key of it.
+    fn enter_item(&mut self, number: usize, line: u64) -> Option<Line> {
+        let is_it = self.tables == number;
+        self.tables = self.tables.saturating_add(1);
+        if !is_it {
+            return None;
+        }
+        self.owner = Owner::Item;
+        self.table = Some(line);
+        match self.sought.place {
+            Place::Item(_, _) if !self.sought.is_unknown_key => Some(Line::At(line)),
             _ => None,
         }
     }
@@ -153,28 +156,23 @@ impl Walk {
         }
     }
 
-    /// Goes behind a statement that begins in this line.
-    fn pass_statement(&mut self, alloc: Global, statement: &[u8], line: u64) -> Option<Line> {
-        match toml::table_from_slice(alloc, statement) {
-            Ok(table) => self.pass(statement, &table, line),
-            Err(_) => None,
-        }
-    }
-
     /// Goes behind a statement that begins in this line, and of which this is the table. It has one key, or none where it is
     /// blank.
     fn pass(&mut self, statement: &[u8], table: &Table, line: u64) -> Option<Line> {
-        let (key, value) = table.iter().next()?;
-        if statement.trim_ascii_start().first() == Some(&b'[') {
-            return self.pass_head(key.as_str(), value, line);
+        match table.iter().next() {
+            Some((key, value)) if statement.trim_ascii_start().starts_with(b"[") => {
+                self.pass_head(key.as_str(), value, line)
+            }
+            Some((key, _)) => self.pass_key(key.as_str(), line),
+            None => None,
         }
-        self.pass_key(key.as_str(), line)
     }
 }
 
-/// In which line of a document, of which this is the text, begins what is looked for. Where it is missing it is the line of
-/// the table that is to have it, and none where that is the document.
-pub fn line_of(alloc: Global, text: &str, sought: Sought) -> Option<Line> {
+/// In which line of a document, which these bytes are, begins what is looked for. Where it is missing it is the line of the
+/// table that is to have it, and none where that is the document.
+pub fn line_of(alloc: Global, bytes: &[u8], sought: Sought) -> Option<Line> {
+    let text = str::from_utf8(bytes).unwrap_or("");
     let mut walk = Walk {
         sought,
         owner: Owner::Document,
@@ -189,9 +187,11 @@ pub fn line_of(alloc: Global, text: &str, sought: Sought) -> Option<Line> {
         }
         let behind = behind_statement(alloc, rest);
         let statement = front(rest.as_bytes(), rest.len().saturating_sub(behind.len()));
-        let found = walk.pass_statement(alloc, statement, line);
-        if found.is_some() {
-            return found;
+        if let Ok(table) = toml::table_from_slice(alloc, statement) {
+            let found = walk.pass(statement, &table, line);
+            if found.is_some() {
+                return found;
+            }
         }
         line = line.saturating_add(line_ends(statement));
         rest = behind;

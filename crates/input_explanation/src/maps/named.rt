@@ -1,14 +1,14 @@
 //! What a task names of a map: a size by its number, and a row of the report.
 
 use crate::maps::faults::{place_of, tell_where};
-use crate::maps::good_map::{GoodMap, cut_place, metal_place, tell_cut_names, tell_metal_names};
+use crate::maps::good_map::{
+    GoodMap, MapFile, cut_place, metal_place, tell_cut_names, tell_metal_names,
+};
 use crate::maps::lines::Sought;
-use crate::remedies::what_to_do;
-use crate::telling::{Telling, Text};
+use crate::remedies::remedy_of;
+use crate::telling::Telling;
 use crate::words::inquiry::Inquiry;
-use map_model::Map;
 use questions::Kind;
-use std::alloc::Global;
 
 /// The status of a run that refuses a map.
 const REFUSED: u8 = 3;
@@ -44,104 +44,88 @@ impl NamedRow<'_> {
     }
 
     /// Tells the option that names it.
-    pub fn tell_option(self, text: &mut Text) {
-        text.word("`--regions ", self.kind_word(), ",");
-        text.raw(self.layer);
-        text.number(",", u64::from(self.size), "`");
+    pub fn tell_option(self, told: &mut Telling) {
+        told.word("`--regions ", self.kind_word(), ",");
+        told.raw(self.layer);
+        told.number(",", u64::from(self.size), "`");
     }
 
-    /// Whether the map has its layer.
-    fn has_layer(self, map: &Map) -> bool {
-        match self.kind {
-            Kind::Short | Kind::Open => metal_place(map, self.layer).is_some(),
-            Kind::Via => cut_place(map, self.layer).is_some(),
-        }
-    }
-
-    /// Tells that no layer of its kind has the name, and whether one of the other kind has it.
-    fn tell_no_layer(self, text: &mut Text, map: &Map) {
-        let (asks, beside) = match self.kind {
+    /// Tells that the map has no layer for it where that is so, and the names of those that it has; whether it has one.
+    fn has_layer(self, told: &mut Telling, good: &GoodMap<'_>) -> bool {
+        let is_metal = metal_place(&good.map, self.layer).is_some();
+        let is_cut = cut_place(&good.map, self.layer).is_some();
+        let (is_there, asks, beside) = match self.kind {
             Kind::Short | Kind::Open => (
+                is_metal,
                 " asks for a metal, and none has the name ",
                 ", which is that of a cut",
             ),
             Kind::Via => (
+                is_cut,
                 " asks for a cut, and none has the name ",
                 ", which is that of a metal",
             ),
         };
-        text.name(asks, self.layer, "");
-        if metal_place(map, self.layer).is_some() || cut_place(map, self.layer).is_some() {
-            text.say(beside);
+        if is_there {
+            return true;
         }
-    }
-
-    /// Tells that the map has no layer for it, and the names of those that it has.
-    fn tell_without_layer(self, told: &mut Telling, good: &GoodMap<'_>) {
         told.refuse(REFUSED, NO_SUCH_LAYER, 0);
-        let text = &mut told.text;
-        text.name("map ", good.name, ": ");
-        self.tell_option(text);
-        self.tell_no_layer(text, &good.map);
-        text.word("; ", what_to_do(REFUSED, NO_SUCH_LAYER), "\n");
+        told.name("map ", good.name, ": ");
+        self.tell_option(told);
+        told.name(
+            asks,
+            self.layer,
+            if is_metal || is_cut { beside } else { "" },
+        );
+        told.word("; ", remedy_of(REFUSED, NO_SUCH_LAYER).remedy, "\n");
         match self.kind {
-            Kind::Short | Kind::Open => tell_metal_names(text, &good.map),
-            Kind::Via => tell_cut_names(text, &good.map),
+            Kind::Short | Kind::Open => tell_metal_names(told, good.map.metals.as_slice()),
+            Kind::Via => tell_cut_names(told, good.map.cuts.as_slice()),
         }
+        false
     }
 }
 
 /// Tells how many sizes there are.
-pub fn tell_size_count(text: &mut Text, count: u64) {
-    text.number("", count, if count == 1 { " size" } else { " sizes" });
+pub fn tell_size_count(told: &mut Telling, count: u64) {
+    told.number("", count, if count == 1 { " size" } else { " sizes" });
 }
 
 /// Tells numbers after some words, in one line.
-pub fn tell_numbers(text: &mut Text, before: &str, numbers: &[u32]) {
+pub fn tell_numbers(told: &mut Telling, before: &str, numbers: &[u32]) {
     let mut before = before;
     for number in numbers {
-        text.number(before, u64::from(*number), "");
+        told.number(before, u64::from(*number), "");
         before = ", ";
     }
 }
 
 /// Tells that the map has no size of the number that is asked for.
-fn tell_missing(alloc: Global, told: &mut Telling, good: &GoodMap<'_>, inquiry: Inquiry<'_>) {
-    let sizes = good.map.sizes.as_slice();
+fn tell_missing(told: &mut Telling, file: MapFile<'_>, sizes: &[u32], inquiry: Inquiry<'_>) {
     told.refuse(REFUSED, NO_SUCH_SIZE, sizes.len() as u64);
-    let text = &mut told.text;
-    let measure = good.map.measure;
     let sought = Sought {
-        place: place_of(SIZES, measure),
+        place: place_of(SIZES, file.measure),
         is_unknown_key: false,
-        measure,
+        measure: file.measure,
     };
-    tell_where(alloc, text, good.name, good.bytes.as_slice(), None, sought);
-    text.say(": ");
-    inquiry.tell_option(text);
+    tell_where(told, file.name, file.bytes, None, sought);
+    inquiry.tell_option(told);
     let size = u64::from(inquiry.size());
-    text.number(" names size ", size, ", but the map lists ");
-    tell_size_count(text, sizes.len() as u64);
-    tell_numbers(text, ": ", sizes);
-    text.word("; ", what_to_do(REFUSED, NO_SUCH_SIZE), "\n");
+    told.number(" names size ", size, ", but the map lists ");
+    tell_size_count(told, sizes.len() as u64);
+    tell_numbers(told, ": ", sizes);
+    told.word("; ", remedy_of(REFUSED, NO_SUCH_SIZE).remedy, "\n");
 }
 
 /// Whether the map has the size and the layer that are asked for. Otherwise it is told which one it lacks.
-pub fn has_what_is_named(
-    alloc: Global,
-    told: &mut Telling,
-    good: &GoodMap<'_>,
-    inquiry: Inquiry<'_>,
-) -> bool {
-    if inquiry.size() as usize > good.map.sizes.as_slice().len() {
-        tell_missing(alloc, told, good, inquiry);
+pub fn has_what_is_named(told: &mut Telling, good: &GoodMap<'_>, inquiry: Inquiry<'_>) -> bool {
+    let sizes = good.map.sizes.as_slice();
+    if inquiry.size() as usize > sizes.len() {
+        tell_missing(told, good.file(), sizes, inquiry);
         return false;
     }
     match inquiry {
-        Inquiry::Regions(row) if !row.has_layer(&good.map) => {
-            row.tell_without_layer(told, good);
-            false
-        }
-        _ => true,
+        Inquiry::Regions(row) => row.has_layer(told, good),
+        Inquiry::Report | Inquiry::Pairs(_) | Inquiry::Probe(_) => true,
     }
 }

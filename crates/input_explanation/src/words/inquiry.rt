@@ -1,7 +1,7 @@
 //! What a run gives of a layout.
 
 use crate::maps::named::NamedRow;
-use crate::telling::Text;
+use crate::telling::Telling;
 use command_line::Task;
 use geo_core::Cell;
 
@@ -58,10 +58,10 @@ impl Inquiry<'_> {
     }
 
     /// Tells the option that names its size, if it is about one.
-    pub fn tell_option(self, text: &mut Text) {
+    pub fn tell_option(self, told: &mut Telling) {
         match self {
-            Inquiry::Pairs(size) => text.number("`--pairs ", u64::from(size), "`"),
-            Inquiry::Regions(row) => row.tell_option(text),
+            Inquiry::Pairs(size) => told.number("`--pairs ", u64::from(size), "`"),
+            Inquiry::Regions(row) => row.tell_option(told),
             Inquiry::Report | Inquiry::Probe(_) => {}
         }
     }
