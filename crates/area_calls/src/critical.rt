@@ -1,37 +1,20 @@
 //! Cells that are critical to shorts or to vias, as rectangles, compared with cells that are looked at one by one.
 
-ghost use Rattle.geo_core.specs.Bounds.{IsRadius};
-
-use crate::labelled::{pieces_of, radius};
-use crate::nearest::gap;
-use crate::readers::{covers, expect_cells};
-use crate::runs::cells_of;
-use geo_core::{Labelled, Rect};
-use lists::NoMemory;
+use crate::case::Case;
+use crate::cells::{count_all, covers};
+use crate::labelled::{nearest_by_looks, pieces};
+use geo_core::{Cell, Labelled, Rect};
 use questions::Kind;
-use row_tables::{Flaw, Report, Row};
 use short_area::short_rects;
-use std::alloc::Global;
+use std::alloc::{AllocError, Global};
 use via_clusters::via_rects;
 
-/// Whether some cell of the rectangle is at most the radius from this one, in both directions.
-fn is_near(rect: Rect, i: i32, j: i32, radius: u32) -> bool {
-    gap(rect.x0, rect.x1, i) <= radius && gap(rect.y0, rect.y1, j) <= radius
-}
-
-/// Whether pieces of two labels are near the cell.
-fn is_short(pieces: &[Labelled], i: i32, j: i32, radius: u32) -> bool {
-    let mut first = None;
-    for piece in pieces {
-        if is_near(piece.rect, i, j, radius) {
-            let label = first.unwrap_or(piece.label);
-            if label != piece.label {
-                return true;
-            }
-            first = Some(label);
-        }
+/// Whether pieces of two labels are at most the radius from the cell.
+fn is_short(pieces: &[Labelled], cell: Cell, radius: u32) -> bool {
+    match nearest_by_looks(pieces, cell).second {
+        Some(near) => near.distance <= radius,
+        None => false,
     }
-    false
 }
 
 /// Whether each of these places is less than so far from the other.
@@ -40,10 +23,12 @@ fn are_nearer(low: i32, high: i32, place: i32, far: u32) -> bool {
 }
 
 /// Whether the defect of this radius at the cell covers all of the rectangle of a piece.
-fn is_block(pieces: &[Labelled], i: i32, j: i32, radius: u32) -> bool {
+fn is_block(pieces: &[Labelled], cell: Cell, radius: u32) -> bool {
     for piece in pieces {
         let rect = piece.rect;
-        if are_nearer(rect.x0, rect.x1, i, radius) && are_nearer(rect.y0, rect.y1, j, radius) {
+        if are_nearer(rect.x0, rect.x1, cell.i, radius)
+            && are_nearer(rect.y0, rect.y1, cell.j, radius)
+        {
             return true;
         }
     }
@@ -51,10 +36,10 @@ fn is_block(pieces: &[Labelled], i: i32, j: i32, radius: u32) -> bool {
 }
 
 /// Whether the cell is critical to faults of this kind.
-fn is_critical(kind: Kind, pieces: &[Labelled], i: i32, j: i32, radius: u32) -> bool {
+fn is_critical(kind: Kind, pieces: &[Labelled], cell: Cell, radius: u32) -> bool {
     match kind {
-        Kind::Via => is_block(pieces, i, j, radius),
-        Kind::Short | Kind::Open => is_short(pieces, i, j, radius),
+        Kind::Via => is_block(pieces, cell, radius),
+        Kind::Short | Kind::Open => is_short(pieces, cell, radius),
     }
 }
 
@@ -63,41 +48,18 @@ fn agree(rects: &[Rect], kind: Kind, pieces: &[Labelled], window: Rect, radius: 
     let mut count: u64 = 0;
     for j in window.y0..window.y1 {
         for i in window.x0..window.x1 {
-            let wanted = is_critical(kind, pieces, i, j, radius);
-            if covers(rects, i, j) != wanted {
+            let wanted = is_critical(kind, pieces, Cell { i, j }, radius);
+            if covers(rects, Cell { i, j }) != wanted {
                 return false;
             }
             count = count.saturating_add(u64::from(wanted));
         }
     }
-    cells_of(rects) == count
-}
-
-/// Compares the cells that are critical to shorts of the pieces.
-fn expect_shorts<'a>(
-    row: Row<'a>,
-    report: &mut Report,
-    pieces: &[Labelled],
-    window: Rect,
-    radius: u32,
-) -> Result<(), Flaw<'a>>
-    requires { IsRadius radius }
-{
-    let rects = short_rects(row.alloc, pieces, window, radius)?;
-    let rects = rects.as_slice();
-    report.expect(
-        row,
-        "shorts",
-        agree(rects, Kind::Short, pieces, window, radius),
-    );
-    if row.has("count") {
-        report.expect(row, "count", cells_of(rects));
-    }
-    Ok(())
+    count_all(rects) == count
 }
 
 /// The rectangles of the pieces.
-fn boxes_of(alloc: Global, pieces: &[Labelled]) -> Result<Vec<Rect>, NoMemory> {
+fn boxes_of(alloc: Global, pieces: &[Labelled]) -> Result<Vec<Rect>, AllocError> {
     let mut boxes = Vec::new(alloc);
     for piece in pieces {
         boxes.push(piece.rect)?;
@@ -105,41 +67,27 @@ fn boxes_of(alloc: Global, pieces: &[Labelled]) -> Result<Vec<Rect>, NoMemory> {
     Ok(boxes)
 }
 
-/// Compares the cells that are critical to vias, whose boxes are the rectangles of the pieces.
-fn expect_vias<'a>(
-    row: Row<'a>,
-    report: &mut Report,
-    pieces: &[Labelled],
-    window: Rect,
-    radius: u32,
-) -> Result<(), Flaw<'a>>
-    requires { IsRadius radius }
-{
-    let boxes = boxes_of(row.alloc, pieces)?;
-    let rects = via_rects(row.alloc, boxes.as_slice(), window, radius)?;
-    let rects = rects.as_slice();
-    report.expect(row, "vias", agree(rects, Kind::Via, pieces, window, radius));
-    if row.has("cells") {
-        expect_cells(row, report, "cells", rects)?;
-    }
-    Ok(())
-}
-
-/// The cells of the window that are critical to shorts of the pieces, and to vias with their rectangles.
-pub fn cells<'a>(row: Row<'a>, report: &mut Report) -> Result<(), Flaw<'a>> {
-    row.only(&[
-        "pieces",
-        "pieces_of",
-        "window",
-        "radius",
+/// The cells of the window that are critical to shorts of the pieces, and to vias whose boxes are their rectangles.
+pub fn cells(case: &mut Case<'_>) {
+    let window = case.rect("window");
+    let radius = case.radius();
+    let pieces = pieces(case);
+    let pieces = pieces.as_slice();
+    let boxes = case.list(boxes_of(case.alloc, pieces));
+    let shorts = short_rects(case.alloc, pieces, window, radius);
+    let shorts = case.list(shorts);
+    case.expect(
         "shorts",
+        agree(shorts.as_slice(), Kind::Short, pieces, window, radius),
+    );
+    case.expect_if_wanted("count", count_all(shorts.as_slice()));
+    let vias = via_rects(case.alloc, boxes.as_slice(), window, radius);
+    let vias = case.list(vias);
+    case.expect(
         "vias",
-        "count",
-        "cells",
-    ])?;
-    let window = row.rect("window")?;
-    let radius = radius(row)?;
-    let pieces = pieces_of(row)?;
-    expect_shorts(row, report, pieces.as_slice(), window, radius)?;
-    expect_vias(row, report, pieces.as_slice(), window, radius)
+        agree(vias.as_slice(), Kind::Via, pieces, window, radius),
+    );
+    if case.has("cells") {
+        case.expect_cells("cells", vias.as_slice());
+    }
 }

@@ -1,35 +1,22 @@
 //! Pieces with labels: areas by pairs of labels, the two labels that are nearest to a cell, and numbers by first cells.
 
-ghost use Rattle.std.specs.Prelude.{IfOk};
-ghost use Rattle.geo_core.specs.Bounds.{IsRadius};
-
-use crate::readers::{cell, expect_numbers, pieces};
-use geo_core::{Cell, Labelled, Rect};
+use crate::case::Case;
+use crate::cells::distance;
+use geo_core::{Cell, Labelled};
 use lists::NoMemory;
 use near_index::{Near, NearIndex, Nearest};
 use net_numbers::{first_cells, numbered};
 use net_pairs::pair_areas;
-use row_tables::{Flaw, Report, Row};
+use row_tables::rect_of;
 use std::alloc::Global;
 
-/// The pieces of a row, or those of the shared table that it names.
-pub fn pieces_of<'a>(row: Row<'a>) -> Result<Vec<Labelled>, Flaw<'a>> {
-    if row.has("pieces_of") {
-        pieces(row.shared("pieces_of")?)
+/// The label that a row writes so: a number below 0 is counted back from the greatest label, which is -1.
+fn label_of(number: i32) -> usize {
+    if number < 0 {
+        usize::MAX - (-1 - i64::from(number)) as usize
     } else {
-        pieces(row)
+        number as usize
     }
-}
-
-/// The radius of a defect.
-pub fn radius<'a>(row: Row<'a>) -> Result<u32, Flaw<'a>>
-    ensures { IfOk result IsRadius }
-{
-    let radius = row.number("radius")?;
-    if radius == 0 || radius > 1_000_000 {
-        return Err(Flaw::of("radius", "not the radius of a defect"));
-    }
-    Ok(radius)
 }
 
 /// How a row writes the label.
@@ -40,113 +27,193 @@ fn number_of(label: usize) -> i64 {
     }
 }
 
-/// Compares the areas, or how many there are and their sum.
-fn expect_areas<'a>(
-    row: Row<'a>,
-    report: &mut Report,
-    areas: &[(usize, usize, u64)],
-) -> Result<(), Flaw<'a>> {
-    let mut lists = Vec::new(row.alloc);
+/// The piece with these numbers: its label and its sides.
+fn piece_of(numbers: &[i32]) -> Option<Labelled> {
+    let [label, left, bottom, right, top] = numbers else {
+        return None;
+    };
+    let rect = rect_of(*left, *bottom, *right, *top)?;
+    let label = label_of(*label);
+    Some(Labelled { rect, label })
+}
+
+/// The pieces of a row, or those of the shared table that it names, each as its label and its sides.
+pub fn pieces(case: &mut Case<'_>) -> Vec<Labelled> {
+    case.share("pieces_of");
+    let mut pieces = Vec::new(case.alloc);
+    for numbers in case.flat("pieces", 5).as_slice().chunks(5) {
+        match piece_of(numbers) {
+            Some(piece) => case.push(&mut pieces, piece),
+            None => case.note("pieces", "not labels and rectangles"),
+        }
+    }
+    pieces
+}
+
+/// The sum of the areas.
+fn sum_of(areas: &[(usize, usize, u64)]) -> u64 {
     let mut sum: u64 = 0;
-    for (one, other, cells) in areas {
+    for (_, _, cells) in areas {
         sum = sum.saturating_add(*cells);
+    }
+    sum
+}
+
+/// Compares the areas one by one.
+fn expect_each(case: &mut Case<'_>, areas: &[(usize, usize, u64)]) {
+    let mut lists = Vec::new(case.alloc);
+    for (one, other, cells) in areas {
         let cells = i64::try_from(*cells).unwrap_or(i64::MAX);
-        lists.push([number_of(*one), number_of(*other), cells])?;
+        case.push(&mut lists, [number_of(*one), number_of(*other), cells]);
     }
-    if row.has("sum") {
-        report.expect(row, "count", areas.len());
-        report.expect(row, "sum", sum);
+    case.expect_list("areas", lists.as_slice());
+}
+
+/// Compares the areas, or how many there are and their sum.
+fn expect_areas(case: &mut Case<'_>, areas: &[(usize, usize, u64)]) {
+    if case.has("sum") {
+        case.expect("count", areas.len());
+        case.expect("sum", sum_of(areas));
     } else {
-        report.expect(row, "areas", format_args!("{:?}", lists.as_slice()));
+        expect_each(case, areas);
     }
-    Ok(())
 }
 
 /// For each two labels that a defect touches at some cells of the window, the lesser one, the greater one and the number of cells.
-pub fn pair_list<'a>(row: Row<'a>, report: &mut Report) -> Result<(), Flaw<'a>> {
-    row.only(&[
-        "pieces",
-        "pieces_of",
-        "window",
-        "radius",
-        "areas",
-        "count",
-        "sum",
-    ])?;
-    let window = row.rect("window")?;
-    let radius = radius(row)?;
-    let pieces = pieces_of(row)?;
-    let areas = pair_areas(row.alloc, pieces.as_slice(), window, radius)?;
-    expect_areas(row, report, areas.as_slice())
+pub fn pair_list(case: &mut Case<'_>) {
+    let window = case.rect("window");
+    let radius = case.radius();
+    let pieces = pieces(case);
+    let areas = pair_areas(case.alloc, pieces.as_slice(), window, radius);
+    let areas = case.list(areas);
+    expect_areas(case, areas.as_slice());
 }
 
 /// Compares what is near: its distance and its label, if there is something.
-fn expect_near<'a>(row: Row<'a>, report: &mut Report, key: &'a str, near: Option<Near>) {
+fn expect_near<'a>(case: &mut Case<'a>, key: &'a str, near: Option<Near>) {
     match near {
-        Some(Near { distance, label }) => {
-            report.expect(row, key, format_args!("[{distance}, {}]", number_of(label)));
-        }
-        None => report.expect_text(row, key, "[]"),
+        Some(near) => case.expect_list(key, &[i64::from(near.distance), number_of(near.label)]),
+        None => case.expect_text(key, "[]"),
     }
 }
 
-/// The two labels of the pieces that are nearest to the cell.
+/// The two labels of the pieces that are nearest to the cell, which an index of them finds.
 fn nearest_of(alloc: Global, pieces: &[Labelled], cell: Cell) -> Result<Nearest, NoMemory> {
     let index = NearIndex::new(alloc, pieces)?;
     index.two_nearest(cell)
 }
 
 /// The distances and the labels of the two labels that are nearest to the cell.
-pub fn nearest<'a>(row: Row<'a>, report: &mut Report) -> Result<(), Flaw<'a>> {
-    row.only(&["pieces", "pieces_of", "cell", "first", "second"])?;
-    let cell = cell(row)?;
-    let pieces = pieces_of(row)?;
-    let nearest = nearest_of(row.alloc, pieces.as_slice(), cell)?;
-    expect_near(row, report, "first", nearest.first);
-    expect_near(row, report, "second", nearest.second);
-    Ok(())
-}
-
-/// Compares the number of each piece, by the first cells of labels.
-fn expect_numbered<'a>(
-    row: Row<'a>,
-    report: &mut Report,
-    pieces: &[Labelled],
-) -> Result<(), Flaw<'a>> {
-    let found = numbered(row.alloc, pieces)?;
-    let mut numbers = Vec::new(row.alloc);
-    for (piece, given) in found.as_slice().iter().zip(pieces) {
-        if piece.rect != given.rect {
-            report.note("numbers", "a rectangle is another");
+pub fn nearest(case: &mut Case<'_>) {
+    let cell = case.cell("cell");
+    let pieces = pieces(case);
+    match nearest_of(case.alloc, pieces.as_slice(), cell) {
+        Ok(nearest) => {
+            expect_near(case, "first", nearest.first);
+            expect_near(case, "second", nearest.second);
         }
-        numbers.push(piece.label as u64)?;
+        Err(_) => case.no_memory(),
     }
-    if found.len() > pieces.len() {
-        report.note("numbers", "there are more rectangles");
-    }
-    expect_numbers(row, report, "numbers", numbers.as_slice());
-    Ok(())
 }
 
-/// Compares the first cells of the labels.
-fn expect_first_cells<'a>(
-    row: Row<'a>,
-    report: &mut Report,
-    pieces: &[Labelled],
-) -> Result<(), Flaw<'a>> {
-    let cells = first_cells(row.alloc, pieces)?;
-    let mut places = Vec::new(row.alloc);
-    for cell in cells.as_slice() {
-        places.push([cell.i, cell.j])?;
+/// Whether a label at this distance comes before what is nearest so far: it is nearer, or as near and less.
+fn comes_before(distance: u32, label: usize, nearest: Option<Near>) -> bool {
+    match nearest {
+        Some(near) => {
+            distance < near.distance || distance == near.distance && label < near.label
+        }
+        None => true,
     }
-    report.expect(row, "first_cells", format_args!("{:?}", places.as_slice()));
-    Ok(())
+}
+
+/// The nearest of all labels but this one, by a look at each piece.
+fn nearest_but(pieces: &[Labelled], cell: Cell, except: Option<usize>) -> Option<Near> {
+    let mut nearest = None;
+    for piece in pieces {
+        let label = piece.label;
+        let distance = distance(piece.rect, cell);
+        if except != Some(label) && comes_before(distance, label, nearest) {
+            nearest = Some(Near { distance, label });
+        }
+    }
+    nearest
+}
+
+/// The two labels that are nearest to the cell, by a look at each piece.
+pub fn nearest_by_looks(pieces: &[Labelled], cell: Cell) -> Nearest {
+    let first = nearest_but(pieces, cell, None);
+    let second = match first {
+        Some(near) => nearest_but(pieces, cell, Some(near.label)),
+        None => None,
+    };
+    Nearest { first, second }
+}
+
+/// Whether an index of the pieces finds the two that are nearest to each of the cells, which are two numbers each.
+fn agrees_at_all(index: &NearIndex<Labelled>, pieces: &[Labelled], cells: &[i32]) -> bool {
+    for cell in cells.chunks(2) {
+        let [i, j] = cell else {
+            return false;
+        };
+        let cell = Cell { i: *i, j: *j };
+        match index.two_nearest(cell) {
+            Ok(nearest) if nearest == nearest_by_looks(pieces, cell) => {}
+            _ => return false,
+        }
+    }
+    true
+}
+
+/// The two labels that are nearest to each of many cells.
+pub fn nearest_at(case: &mut Case<'_>) {
+    let pieces = pieces(case);
+    case.share("cells_of");
+    let cells = case.flat("cells", 2);
+    match NearIndex::new(case.alloc, pieces.as_slice()) {
+        Ok(index) => {
+            let agree = agrees_at_all(&index, pieces.as_slice(), cells.as_slice());
+            case.expect("agree", agree);
+        }
+        Err(_) => case.no_memory(),
+    }
+}
+
+/// Whether the pieces have the same rectangles.
+fn have_same_rects(pieces: &[Labelled], others: &[Labelled]) -> bool {
+    for (piece, other) in pieces.iter().zip(others) {
+        if piece.rect != other.rect {
+            return false;
+        }
+    }
+    pieces.len() == others.len()
+}
+
+/// Compares the labels of the pieces.
+pub fn expect_labels<'a>(case: &mut Case<'a>, key: &'a str, pieces: &[Labelled]) {
+    let mut labels = Vec::new(case.alloc);
+    for piece in pieces {
+        case.push(&mut labels, piece.label);
+    }
+    case.expect_list(key, labels.as_slice());
+}
+
+/// Compares the first cells of labels.
+fn expect_first_cells(case: &mut Case<'_>, cells: &[Cell]) {
+    let mut places = Vec::new(case.alloc);
+    for cell in cells {
+        case.push(&mut places, [cell.i, cell.j]);
+    }
+    case.expect_list("first_cells", places.as_slice());
 }
 
 /// The number of each piece, by the first cells of labels, and these cells.
-pub fn numbers<'a>(row: Row<'a>, report: &mut Report) -> Result<(), Flaw<'a>> {
-    row.only(&["pieces", "numbers", "first_cells"])?;
-    let pieces = pieces(row)?;
-    expect_numbered(row, report, pieces.as_slice())?;
-    expect_first_cells(row, report, pieces.as_slice())
+pub fn numbers(case: &mut Case<'_>) {
+    let pieces = pieces(case);
+    let found = case.list(numbered(case.alloc, pieces.as_slice()));
+    if !have_same_rects(found.as_slice(), pieces.as_slice()) {
+        case.note("numbers", "the rectangles are others");
+    }
+    expect_labels(case, "numbers", found.as_slice());
+    let cells = case.list(first_cells(case.alloc, pieces.as_slice()));
+    expect_first_cells(case, cells.as_slice());
 }

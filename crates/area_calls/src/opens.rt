@@ -1,24 +1,23 @@
 //! Which defects part terminals, and from how many cells.
 
-use crate::readers::{cell, expect_numbers, side};
+ghost use Rattle.std.specs.Prelude.{◌≤◌, All};
+ghost use Rattle.geo_core.specs.Cells.{IsInLayout};
+ghost use Rattle.geo_core.specs.declared.bounds.TheConstants.{GREATEST_SIDE};
+
+use crate::case::Case;
+use crate::{handed, spots};
 use fault_model::Island;
-use geo_core::Rect;
-use lists::NoMemory;
+use geo_core::{Cell, Rect};
 use open_grid::{open_area, open_area_counted, open_cells, parted, parted_counted};
 use ring_test::{RingAnswer, ring};
-use row_tables::{Flaw, Report, Row};
 use samples::sides::are_near;
-use std::alloc::Global;
 use union_area::union_area;
 
 /// From how many cells of the window a defect parts two terminals.
-pub fn area<'a>(row: Row<'a>, report: &mut Report, islands: &[Island]) -> Result<(), Flaw<'a>> {
-    row.only(&["drawn", "times", "side", "window", "area"])?;
-    let side = side(row)?;
-    let window = row.rect("window")?;
-    let area = open_area(row.alloc, islands, window, side)?;
-    report.expect(row, "area", area);
-    Ok(())
+fn area(case: &mut Case<'_>, islands: &[Island]) {
+    let side = case.side();
+    let window = case.rect("window");
+    case.expect_done("area", open_area(case.alloc, islands, window, side));
 }
 
 /// What became of a count of searches.
@@ -33,62 +32,38 @@ fn searches_from(before: u64, after: u64) -> &'static str {
 }
 
 /// The area of opens, with searches that are counted from `before`, which are more or stay as they are. The greatest count stays.
-pub fn counted_area<'a>(
-    row: Row<'a>,
-    report: &mut Report,
-    islands: &[Island],
-) -> Result<(), Flaw<'a>> {
-    row.only(&["drawn", "side", "window", "area", "searches"])?;
-    let side = side(row)?;
-    let window = row.rect("window")?;
+fn counted_area(case: &mut Case<'_>, islands: &[Island]) {
+    let side = case.side();
+    let window = case.rect("window");
     for before in [0, 7, u64::MAX - 1, u64::MAX] {
         let mut after = before;
-        let area = open_area_counted(row.alloc, islands, window, side, &mut after)?;
-        report.expect(row, "area", area);
+        let area = open_area_counted(case.alloc, islands, window, side, &mut after);
+        case.expect_done("area", area);
         if before < u64::MAX {
-            report.expect_text(row, "searches", searches_from(before, after));
+            case.expect_text("searches", searches_from(before, after));
         } else if after < u64::MAX {
-            report.note("searches", "the greatest count does not stay");
+            case.note("searches", "the greatest count does not stay");
         }
     }
-    Ok(())
-}
-
-/// How many cells of each part the rectangles have.
-fn counts_in(alloc: Global, rects: &[Rect], parts: &[Rect]) -> Result<Vec<u64>, NoMemory> {
-    let mut counts = Vec::new(alloc);
-    for part in parts {
-        counts.push(union_area(alloc, rects, *part)?)?;
-    }
-    Ok(counts)
 }
 
 /// Compares how many of the cells lie in each part of a row.
-fn expect_counts<'a>(row: Row<'a>, report: &mut Report, cells: &[Rect]) -> Result<(), Flaw<'a>> {
-    let parts = row.rects("parts")?;
-    let counts = counts_in(row.alloc, cells, parts.as_slice())?;
-    expect_numbers(row, report, "counts", counts.as_slice());
-    Ok(())
+fn expect_counts(case: &mut Case<'_>, cells: &[Rect]) {
+    let mut counts = Vec::new(case.alloc);
+    for part in case.rects("parts").as_slice() {
+        let count = case.done(union_area(case.alloc, cells, *part), 0);
+        case.push(&mut counts, count);
+    }
+    case.expect_list("counts", counts.as_slice());
 }
 
 /// At which cells of the window a defect parts two terminals: how many there are in each part.
-pub fn cells<'a>(row: Row<'a>, report: &mut Report, islands: &[Island]) -> Result<(), Flaw<'a>> {
-    row.only(&["drawn", "side", "window", "parts", "counts"])?;
-    let side = side(row)?;
-    let window = row.rect("window")?;
-    let cells = open_cells(row.alloc, islands, window, side)?;
-    expect_counts(row, report, cells.as_slice())
-}
-
-/// The count of searches before, from which searches go on.
-fn before<'a>(row: Row<'a>) -> Result<u64, Flaw<'a>> {
-    if !row.has("before") {
-        return Ok(0);
-    }
-    match row.text("before")?.parse() {
-        Ok(before) => Ok(before),
-        Err(_) => Err(Flaw::of("before", "not a count")),
-    }
+fn cells(case: &mut Case<'_>, islands: &[Island]) {
+    let side = case.side();
+    let window = case.rect("window");
+    let cells = open_cells(case.alloc, islands, window, side);
+    let cells = case.list(cells);
+    expect_counts(case, cells.as_slice());
 }
 
 /// How a row says what the ring tells.
@@ -101,29 +76,59 @@ fn told(answer: RingAnswer) -> &'static str {
     }
 }
 
-/// Whether a defect parts two terminals of the one island, to what a count of searches rises, and what the ring round it tells.
-pub fn at_cell<'a>(row: Row<'a>, report: &mut Report, islands: &[Island]) -> Result<(), Flaw<'a>> {
-    row.only(&[
-        "drawn", "spots", "side", "cell", "before", "parted", "after", "tells",
-    ])?;
-    let side = side(row)?;
-    let cell = cell(row)?;
-    let mut searches = before(row)?;
+/// Whether a defect parts two terminals of an island, and to what a count of searches rises that was at `before`.
+fn expect_counted(case: &mut Case<'_>, island: &Island, cell: Cell, side: u32)
+    requires some { 1 ≤ side }
+    requires few { side ≤ GREATEST_SIDE }
+    requires within { All IsInLayout island.now.pieces }
+{
+    let mut searches: u64 = case.text("before").parse().unwrap_or(u64::MAX);
+    if searches == u64::MAX {
+        return case.note("before", "not a count with room for a search");
+    }
+    let parted = parted_counted(case.alloc, island, cell, side, &mut searches);
+    case.expect_done("parted", parted);
+    case.expect("after", searches);
+}
+
+/// What the ring round a defect tells.
+fn expect_told(case: &mut Case<'_>, island: &Island, cell: Cell, side: u32)
+    requires some { 1 ≤ side }
+    requires few { side ≤ GREATEST_SIDE }
+    requires within { All IsInLayout island.now.pieces }
+{
+    match ring(case.alloc, island, cell, side) {
+        Ok(answer) => case.expect_text("tells", told(answer)),
+        Err(_) => case.no_memory(),
+    }
+}
+
+/// Whether a defect parts two terminals of the one island, or what the ring round it tells.
+fn at_cell(case: &mut Case<'_>, islands: &[Island]) {
+    let side = case.side();
+    let cell = case.cell("cell");
     let [island] = islands else {
-        return Err(Flaw::of("drawn", "not one island"));
+        return case.note("drawn", "not one island");
     };
-    if searches == u64::MAX || !are_near(island.pieces.as_slice()) {
-        return Err(Flaw::of("drawn", "too far out, or no room for a search"));
+    if !are_near(island.pieces.as_slice()) {
+        return case.note("drawn", "not in a layout");
     }
-    if row.kind == "ring" {
-        let answer = ring(row.alloc, island, cell, side)?;
-        report.expect_text(row, "tells", told(answer));
-    } else if row.kind == "parted" {
-        report.expect(row, "parted", parted(row.alloc, island, cell, side)?);
-    } else {
-        let parted = parted_counted(row.alloc, island, cell, side, &mut searches)?;
-        report.expect(row, "parted", parted);
-        report.expect(row, "after", searches);
+    match case.kind {
+        "parted" => case.expect_done("parted", parted(case.alloc, island, cell, side)),
+        "ring" => expect_told(case, island, cell, side),
+        _ => expect_counted(case, island, cell, side),
     }
-    Ok(())
+}
+
+/// Checks a row on islands.
+pub fn check(case: &mut Case<'_>, islands: &[Island]) {
+    match case.kind {
+        "handed_out" => handed::counts(case, islands),
+        "open_area" => area(case, islands),
+        "open_area_counted" => counted_area(case, islands),
+        "open_cells" => cells(case, islands),
+        "parted" | "parted_counted" | "ring" => at_cell(case, islands),
+        "spots" => spots::field(case, islands),
+        _ => case.unknown_kind(),
+    }
 }

@@ -1,110 +1,103 @@
 //! Runs: rectangles without common cells that have the cells of a list, or the cells of two of its rectangles.
 
-use crate::pictures::expect_picture;
-use crate::readers::expect_rects;
-use geo_core::Rect;
-use row_tables::{Flaw, Report, Row};
+use crate::case::Case;
+use crate::cells::{count_all, depth};
+use geo_core::{Cell, Rect};
 use skyline_runs::{merge_rects, runs_within, twice_runs, twice_runs_within, union_runs};
-use union_area::count_of;
+use std::alloc::{AllocError, Global};
 
-/// How many cells the rectangles have that have none in common.
-pub fn cells_of(rects: &[Rect]) -> u64 {
-    let mut cells: u64 = 0;
-    for rect in rects {
-        cells = cells.saturating_add(count_of(*rect));
+/// How a cell is drawn that lies in so many runs of all rectangles, and in so many of what lies in two.
+fn mark(once: usize, twice: usize) -> char {
+    match (once, twice) {
+        (0, 0) => '.',
+        (1, 0) => '+',
+        (1, 1) => '#',
+        _ => '!',
     }
-    cells
+}
+
+/// The picture of the window with runs of all rectangles, and runs of what lies in two, the highest row first.
+fn picture(
+    alloc: Global,
+    window: Rect,
+    once: &[Rect],
+    twice: &[Rect],
+) -> Result<String, AllocError> {
+    let mut picture = String::new(alloc);
+    for j in (window.y0..window.y1).rev() {
+        for i in window.x0..window.x1 {
+            let cell = Cell { i, j };
+            picture.push(mark(depth(once, cell), depth(twice, cell)))?;
+        }
+        picture.push('\n')?;
+    }
+    Ok(picture)
+}
+
+/// Compares the picture of the window of a row with runs of all rectangles, and runs of what lies in two.
+fn expect_picture(case: &mut Case<'_>, once: &[Rect], twice: &[Rect]) {
+    let window = case.rect("window");
+    match picture(case.alloc, window, once, twice) {
+        Ok(picture) => case.expect_text("picture", picture.as_str()),
+        Err(_) => case.no_memory(),
+    }
 }
 
 /// Compares runs of what lies in two of the rectangles: how many cells they have, and the picture of them and of the runs of all.
-fn expect_twice<'a>(
-    row: Row<'a>,
-    report: &mut Report,
-    once: &[Rect],
-    twice: &[Rect],
-) -> Result<(), Flaw<'a>> {
-    report.expect(row, "twice", cells_of(twice));
-    expect_picture(row, report, once, twice)
+fn expect_twice(case: &mut Case<'_>, once: &[Rect], twice: &[Rect]) {
+    case.expect("twice", count_all(twice));
+    expect_picture(case, once, twice);
 }
 
-/// Compares runs of what lies in two of the rectangles. They are found by themselves, and with all looks that there can be.
-fn expect_both<'a>(
-    row: Row<'a>,
-    report: &mut Report,
-    rects: &[Rect],
-    once: &[Rect],
-) -> Result<(), Flaw<'a>> {
+/// Runs of the rectangles, and runs of what lies in two of them, which are found with all looks that there can be, and by themselves.
+pub fn runs(case: &mut Case<'_>) {
+    let rects = case.rects("rects");
+    let once = case.list(union_runs(case.alloc, rects.as_slice()));
+    case.expect("once", count_all(once.as_slice()));
     let mut looks = usize::MAX;
-    match twice_runs_within(row.alloc, rects, &mut looks)? {
-        Some(twice) => expect_twice(row, report, once, twice.as_slice())?,
-        None => return Err(Flaw::of("twice", "all looks are too few")),
+    match twice_runs_within(case.alloc, rects.as_slice(), &mut looks) {
+        Ok(Some(twice)) => expect_twice(case, once.as_slice(), twice.as_slice()),
+        _ => case.note("twice", "all looks are too few"),
     }
-    let twice = twice_runs(row.alloc, rects)?;
-    expect_twice(row, report, once, twice.as_slice())
-}
-
-/// Runs of the rectangles, and runs of what lies in two of them.
-pub fn runs<'a>(row: Row<'a>, report: &mut Report) -> Result<(), Flaw<'a>> {
-    row.only(&["rects", "window", "once", "twice", "picture"])?;
-    let rects = row.rects("rects")?;
-    let once = union_runs(row.alloc, rects.as_slice())?;
-    report.expect(row, "once", cells_of(once.as_slice()));
-    expect_both(row, report, rects.as_slice(), once.as_slice())
+    let twice = case.list(twice_runs(case.alloc, rects.as_slice()));
+    expect_twice(case, once.as_slice(), twice.as_slice());
 }
 
 /// The runs of the rectangles, one by one.
-pub fn union<'a>(row: Row<'a>, report: &mut Report) -> Result<(), Flaw<'a>> {
-    row.only(&["rects", "runs"])?;
-    let rects = row.rects("rects")?;
-    let runs = union_runs(row.alloc, rects.as_slice())?;
-    expect_rects(row, report, "runs", runs.as_slice())
+pub fn union(case: &mut Case<'_>) {
+    let rects = case.rects("rects");
+    let runs = case.list(union_runs(case.alloc, rects.as_slice()));
+    case.expect_rects("runs", runs.as_slice());
 }
 
 /// How many cells rectangles have that are no more than those of the list, and have the same cells.
-pub fn merged<'a>(row: Row<'a>, report: &mut Report) -> Result<(), Flaw<'a>> {
-    row.only(&["rects", "cells"])?;
-    let rects = row.rects("rects")?;
-    let merged = merge_rects(row.alloc, rects.as_slice())?;
-    report.expect(row, "cells", cells_of(merged.as_slice()));
-    Ok(())
+pub fn merged(case: &mut Case<'_>) {
+    let rects = case.rects("rects");
+    let merged = case.list(merge_rects(case.alloc, rects.as_slice()));
+    case.expect("cells", count_all(merged.as_slice()));
 }
 
-/// Compares runs that were looked for: whether they were found, and then how many cells they have and their picture, or else how many looks are left.
-fn expect_found<'a>(
-    row: Row<'a>,
-    report: &mut Report,
-    found: Option<&[Rect]>,
-    looks: usize,
-) -> Result<(), Flaw<'a>> {
-    report.expect(row, "found", found.is_some());
-    if let Some(runs) = found {
-        if row.has("cells") {
-            report.expect(row, "cells", cells_of(runs));
+/// Compares runs that were found: how many cells they have, and their picture. If they were not, it compares how many looks are left.
+fn expect_found(case: &mut Case<'_>, found: Option<&[Rect]>, looks: usize) {
+    case.expect("found", found.is_some());
+    match found {
+        Some(runs) => {
+            case.expect_if_wanted("cells", count_all(runs));
+            expect_picture(case, runs, &[]);
         }
-        return expect_picture(row, report, runs, &[]);
+        None => case.expect("left", looks),
     }
-    report.expect(row, "left", looks);
-    Ok(())
 }
 
-/// Runs of the rectangles that are looked for with so many looks at rectangles and no more.
-pub fn within<'a>(row: Row<'a>, report: &mut Report) -> Result<(), Flaw<'a>> {
-    row.only(&[
-        "rects", "looks", "found", "left", "cells", "window", "picture",
-    ])?;
-    let mut looks = row.number("looks")?;
-    let rects = row.rects("rects")?;
-    let found = runs_within(row.alloc, rects.as_slice(), &mut looks)?;
-    expect_found(row, report, found.as_deref(), looks)
-}
-
-/// Runs of what lies in two of the rectangles that are looked for with so many looks and no more.
-pub fn twice_within<'a>(row: Row<'a>, report: &mut Report) -> Result<(), Flaw<'a>> {
-    row.only(&[
-        "rects", "looks", "found", "left", "cells", "window", "picture",
-    ])?;
-    let mut looks = row.number("looks")?;
-    let rects = row.rects("rects")?;
-    let found = twice_runs_within(row.alloc, rects.as_slice(), &mut looks)?;
-    expect_found(row, report, found.as_deref(), looks)
+/// Runs of the rectangles, or of what lies in two, that are looked for with so many looks at rectangles and no more.
+pub fn within(case: &mut Case<'_>) {
+    let mut looks = case.number("looks");
+    let rects = case.rects("rects");
+    let found = if case.kind == "runs_within" {
+        runs_within(case.alloc, rects.as_slice(), &mut looks)
+    } else {
+        twice_runs_within(case.alloc, rects.as_slice(), &mut looks)
+    };
+    let found = case.done(found, None);
+    expect_found(case, found.as_deref(), looks);
 }

@@ -5,9 +5,10 @@ ghost use Rattle.geo_core.specs.Cells.{Has};
 ghost use Rattle.geo_core.specs.declared.plane.Cell.{Cell};
 ghost use Rattle.area_calls.specs.OnPieces.{IsOnPieces, IsSpotOnPieces};
 
+use crate::case::Case;
 use fault_model::{Island, Spot, Spots};
 use geo_core::{Rect, RectList, clip};
-use row_tables::{Flaw, Row, rects_of};
+use row_tables::rects_of;
 use std::alloc::{AllocError, Global};
 
 /// Adds what the rectangle has in common with each of the pieces.
@@ -45,16 +46,16 @@ fn spot_on(alloc: Global, sides: &[i32], pieces: &[Rect]) -> Option<Spot> {
     spot_of(common(alloc, rects.as_slice(), pieces).ok()?)
 }
 
-/// Appends the spots of a row, each with what it has of the pieces.
-fn add_spots<'a>(row: Row<'a>, spots: &mut Vec<Spot>, pieces: &[Rect]) -> Result<(), Flaw<'a>> {
-    let lists = row.number_lists("spots")?;
-    for sides in lists.as_slice() {
-        match spot_on(row.alloc, sides.as_slice(), pieces) {
-            Some(spot) => spots.push(spot)?,
-            None => return Err(Flaw::of("spots", "one has nothing of the metal")),
+/// The spots of a row, each with what it has of the pieces.
+fn spots_of(case: &mut Case<'_>, pieces: &[Rect]) -> Vec<Spot> {
+    let mut spots = Vec::new(case.alloc);
+    for sides in case.number_lists("spots").as_slice() {
+        match spot_on(case.alloc, sides.as_slice(), pieces) {
+            Some(spot) => case.push(&mut spots, spot),
+            None => case.note("spots", "one has nothing of the metal"),
         }
     }
-    Ok(())
+    spots
 }
 
 /// Whether the one rectangle lies in the other.
@@ -127,21 +128,13 @@ fn with_spots(island: Island, spots: Vec<Spot>) -> Option<Island> {
     })
 }
 
-/// The island with the spots of a row in place of its own, each with what it has of the pieces.
-fn with_spots_of<'a>(row: Row<'a>, island: Island) -> Result<Island, Flaw<'a>> {
-    let mut spots = Vec::new(row.alloc);
-    add_spots(row, &mut spots, island.pieces.as_slice())?;
-    match with_spots(island, spots) {
-        Some(island) => Ok(island),
-        None => Err(Flaw::of("spots", "one does not lie on the island")),
-    }
-}
-
 /// Puts the spots of a row in place of those of the last island.
-pub fn put_spots<'a>(row: Row<'a>, islands: &mut Vec<Island>) -> Result<(), Flaw<'a>> {
-    let Some(island) = islands.pop() else {
-        return Err(Flaw::of("spots", "no island for them"));
-    };
-    let island = with_spots_of(row, island)?;
-    Ok(islands.push(island)?)
+pub fn put_spots(case: &mut Case<'_>, islands: &mut Vec<Island>) {
+    if let Some(island) = islands.pop() {
+        let spots = spots_of(case, island.pieces.as_slice());
+        match with_spots(island, spots) {
+            Some(island) => case.push(islands, island),
+            None => case.note("spots", "one does not lie on the island"),
+        }
+    }
 }

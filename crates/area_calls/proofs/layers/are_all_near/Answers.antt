@@ -1,7 +1,7 @@
 use Rattle.std.proofs.Common.{All, subst}
 use Rattle.lists.proofs.Reading.{All-read, All-read_all}
 use Rattle.geo_core.specs.Plane.{IsInLayout}
-use Rattle.area_calls.proofs.maps.are_all_near.Goals as goal
+use Rattle.area_calls.proofs.layers.are_all_near.Goals as goal
 
 pub loop-list-preserved : goal.loop-list-preserved
 loop-list-preserved c =
