@@ -24,7 +24,7 @@ use Rattle.questions.specs.Questions.{questions}
 use Rattle.via_clusters.specs.Blocks.{CoversSomeBox}
 use Rattle.via_clusters.specs.Clusters.{AreClusterBoxes}
 use Rattle.via_clusters.proofs.laws.BlockLaws.{block_is_box}
-use Rattle.area_parts.specs.AreaParts.{AreBoxesOf, AreIslandsOf, ArePartsOf, ArePiecesOf, IsInPieces, by_net}
+use Rattle.area_parts.specs.AreaParts.{AreBoxesOf, AreIslandsOf, AreMetalPieces, ArePartsOf, ArePiecesOf, IsInPieces, by_net}
 use Rattle.area_parts.specs.LayerParts.{AreAllBoxes, AreAllIslands}
 use Rattle.area_parts.specs.declared.parts.Parts.{Parts}
 
@@ -78,18 +78,26 @@ cut_is_among layer_map number cut there =
     let numbered = length-enumerate_from (length layer_map.metals) layer_map.cuts in
     omega (arith, within, as_many, numbered)
 
+pub metal_pieces_are : (layer_map : LayerMap) (lists : List (List Rect)) (made : NetLists) (metals : List (List Labelled)) → AreNetsOf layer_map lists made
+    → metals ≡ map (map by_net) made.pieces → AreMetalPieces layer_map lists metals
+metal_pieces_are layer_map lists made metals are same = record {
+  one_each = ap length same ∙ length-map made.pieces (map by_net) ∙ are.metals;
+  pieces = λ metal small.
+      let at = ap (λ ms. slice_index_or ms metal []) same ∙ get_or-map (map by_net) made.pieces metal [] in
+      subst (ArePiecesOf (IsCoveredIn lists) (cuts_of layer_map) metal) (sym at) (pieces_by_net layer_map lists made are metal small);
+}
+
 pub parts_are : (layer_map : LayerMap) (lists : List (List Rect)) (made : NetLists) (parts : Parts) → AreNetsOf layer_map lists made → parts.questions ≡ questions layer_map
     → parts.metals ≡ map (map by_net) made.pieces → AreAllIslands made (length made.pieces) parts.islands → AreAllBoxes made (length made.contacts) parts.cuts
     → ArePartsOf layer_map lists parts
 parts_are layer_map lists made parts are asked metals anchored boxed =
     let islands = subst (λ n. AreAllIslands made n parts.islands) are.metals anchored in
     let boxes = subst (λ n. AreAllBoxes made n parts.cuts) are.cuts boxed in
+    let of_metals = metal_pieces_are layer_map lists made parts.metals are metals in
     record {
       asked = asked;
-      one_each = ap length metals ∙ length-map made.pieces (map by_net) ∙ are.metals;
-      pieces = λ metal small.
-          let at = ap (λ ms. slice_index_or ms metal []) metals ∙ get_or-map (map by_net) made.pieces metal [] in
-          subst (ArePiecesOf (IsCoveredIn lists) (cuts_of layer_map) metal) (sym at) (pieces_by_net layer_map lists made are metal small);
+      one_each = of_metals.one_each;
+      pieces = of_metals.pieces;
       islands = λ metal small. islands_of_metal layer_map lists made are metal _ (islands.each metal small);
       boxes = λ number cut there. boxes_of_cut layer_map lists made are number cut there _ (boxes.each number (cut_is_among layer_map number cut there));
       each_once = record { nets = made; are_nets = are; islands = islands; boxes = boxes };

@@ -34,6 +34,12 @@ pub record ArePiecesOf (covers : ℕ → Cell → Type 0) (cuts : List Cut) (m :
   pub nets : (one other : Labelled) (p q : Half) → Contains pieces one → Contains pieces other →
       IsOn (Has one.rect) p → IsOn (Has other.rect) q → (one.label ≡ other.label) ↔ IsSameNetOn covers cuts m p q
 
+-- the lists are the pieces of each metal
+pub record AreMetalPieces (layer_map : LayerMap) (lists : List (List Rect)) (metals : List (List Labelled)) : Type 0 where
+  pub one_each : length metals ≡ length layer_map.metals
+  pub pieces : (metal : ℕ) → metal < length layer_map.metals →
+      ArePiecesOf (IsCoveredIn lists) (cuts_of layer_map) metal (slice_index_or metals metal [])
+
 -- a defect of any side parts two anchors of one of the islands exactly where it parts two terminals of the metal: cells that are
 -- named, or via clusters of these cuts
 abbrev pub AreIslandsOf : (ℕ → Cell → Type 0) → List Cut → (Cell → Type 0) → ℕ → List IslandLists → Type 0
@@ -69,6 +75,11 @@ pub record ArePartsOf (layer_map : LayerMap) (lists : List (List Rect)) (parts :
 abbrev pub ComeToParts : LayerMap → List (List Rect) → Outcome Parts NetFault → Type 0
 ComeToParts layer_map lists =
     Checks (IsOnItsMetal lists) (enumerate_from 0 layer_map.terminals) off_metal (ArePartsOf layer_map lists)
+
+-- the same with the pieces of metals alone
+abbrev pub ComeToPieces : LayerMap → List (List Rect) → Outcome (List (List Labelled)) NetFault → Type 0
+ComeToPieces layer_map lists =
+    Checks (IsOnItsMetal lists) (enumerate_from 0 layer_map.terminals) off_metal (AreMetalPieces layer_map lists)
 
 -- a piece with its net as its label
 abbrev pub by_net : Piece → Labelled

@@ -1,5 +1,5 @@
--- what a fault is, by its kind
-use Rattle.std.specs.Prelude.{ℕ, ◌≡◌, Contains}
+-- what a fault is, by its kind, and the numbers of the layers that may have it
+use Rattle.std.specs.Prelude.{ℕ, ◌+◌, ◌<◌, ◌≤◌, ◌≡◌, ◌≢◌, Contains}
 use Rattle.geo_core.specs.declared.plane.Cell.{Cell}
 use Rattle.fault_model.specs.FaultNames.{Cut, IsShort, IsViaBlock, IsViasOpen}
 use Rattle.map_model.specs.MapNames.{LayerMap}
@@ -15,3 +15,10 @@ IsFault layer_map covers Open number side c = IsViasOpen covers (terminal_cuts_o
     number side c
 IsFault layer_map covers Via number side c = (cut : Cut) × Contains (cuts_of layer_map) cut × (cut.number ≡ number)
     × IsViaBlock covers cut side c
+
+-- the number is one that a question of this kind may name, of so many metals and cuts: that of a metal, or for via blocks that of a
+-- cut, which goes on behind those of the metals
+pub record IsNumberFor (kind : Kind) (metals cuts number : ℕ) : Type 0 where
+  pub of_metal : kind ≢ Via → number < metals
+  pub behind_metals : kind ≡ Via → metals ≤ number
+  pub of_cut : kind ≡ Via → number < metals + cuts

@@ -3,7 +3,7 @@ ghost use Rattle.first_refusal.specs.Answers.{Answers};
 ghost use Rattle.geo_core.specs.declared.plane.Rect.{Rect as Rectangle};
 ghost use Rattle.map_model.specs.MapView.{layer_map_of};
 ghost use Rattle.net_extract.specs.Extraction.{AreNetsOf};
-ghost use Rattle.area_parts.specs.AreaParts.{ArePartsOf, ComeToParts, by_net};
+ghost use Rattle.area_parts.specs.AreaParts.{ArePartsOf, ComeToParts, ComeToPieces, by_net};
 ghost use Rattle.area_parts.specs.LayerParts.{AreAllBoxes, AreAllIslands};
 
 use super::parts::{MetalIslands, MetalPieces, Parts};
@@ -25,6 +25,20 @@ pub fn prepare(alloc: Global, map: &Map, layers: &Layers) -> Result<Parts, NetFa
 {
     let nets = extract(alloc, layers, map)?;
     parts_of(alloc, map, &nets)
+}
+
+/// Makes the pieces of each metal of the map, labelled by their nets, and nothing else. The layers and the error are as above.
+pub fn metal_pieces(
+    alloc: Global,
+    map: &Map,
+    layers: &Layers,
+) -> Result<Items<MetalPieces>, NetFault>
+    requires { length layers.now.lists.items ≡ length map.now.metals + length map.now.cuts }
+    ensures { Answers NetFault.Memory (ComeToPieces (layer_map_of map.now) layers.now.lists.items) result }
+{
+    let nets = extract(alloc, layers, map)?;
+    let pieces = pieces_by_net(alloc, &nets, map.metals.as_slice().len())?;
+    Ok(pieces)
 }
 
 /// What all areas of the map are counted from, by the nets of its layers. The only error is that no memory is left.

@@ -9,6 +9,7 @@ ghost use Rattle.area_parts.specs.inside.LayoutBounds.{AreBounds};
 ghost use Rattle.map_model.specs.LayerMap.{reach_of};
 ghost use Rattle.map_model.specs.MapView.{layer_map_of};
 
+use super::sides::reach_of_side;
 use geo_core::{Rect, RectList, grow, join};
 use map_model::Map;
 
@@ -18,7 +19,7 @@ pub fn reach(map: &Map) -> u32
     ensures within { pos result ≤ℤ GREATEST_REACH }
 {
     let last = map.sizes.as_slice().len() - 1;
-    map.side(last as u32) / 2
+    reach_of_side(map.side(last as u32))
 }
 
 /// The bounds of the rectangles, where there are any.

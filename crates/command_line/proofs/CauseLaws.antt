@@ -18,7 +18,7 @@ use Rattle.command_line.specs.declared.task.Task.{Task}
 use Rattle.command_line.specs.inside.Arguments.{AreSingle, HasRead}
 use Rattle.command_line.specs.inside.Readings.{IsGivenAlone}
 use Rattle.command_line.specs.inside.WordsRefusals.{HasCause, IsFirstCause, IsOfForm}
-use Rattle.command_line.specs.Cells.{IsCellText}
+use Rattle.command_line.specs.CellTexts.{IsCellText}
 use Rattle.command_line.specs.Numbers.{IsNumber}
 use Rattle.command_line.specs.OptionNames.{Text, range_of}
 use Rattle.command_line.specs.RegionTexts.{IsRegionText}

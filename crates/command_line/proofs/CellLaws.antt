@@ -7,7 +7,7 @@ use Rattle.std.specs.Str.Parse.{AllDigits, digits_value}
 use Rattle.lists.proofs.Words.{All-cons, All-contains, All-head, All-nil, All-tail}
 use Rattle.geo_core.specs.Intervals.{IsIn}
 use Rattle.geo_core.specs.declared.plane.Cell.{Cell}
-use Rattle.command_line.specs.Cells.{HasNoComma, HasParts, IsCellText, IsCoordinate, from_0, to_0}
+use Rattle.command_line.specs.CellTexts.{HasNoComma, HasParts, IsCellText, IsCoordinate, from_0, to_0}
 use Rattle.command_line.specs.Numbers.{IsNumber}
 use Rattle.command_line.specs.OptionNames.{Text}
 

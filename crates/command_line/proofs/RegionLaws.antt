@@ -7,7 +7,7 @@ use Rattle.map_model.specs.MapNames.{IsLayerName, is_name_byte}
 use Rattle.questions.specs.KindTexts.{kind_text}
 use Rattle.questions.specs.declared.kind.Kind.{Kind}
 use Rattle.questions.specs.declared.kind.Kind.TheVariants.{Short, Open, Via}
-use Rattle.command_line.specs.Cells.{HasNoComma, HasParts}
+use Rattle.command_line.specs.CellTexts.{HasNoComma, HasParts}
 use Rattle.command_line.specs.Numbers.{IsNumber}
 use Rattle.command_line.specs.OptionNames.{Text}
 use Rattle.command_line.specs.RegionTexts.{HasThreeParts, IsRegionText}

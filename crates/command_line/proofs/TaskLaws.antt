@@ -13,7 +13,7 @@ use Rattle.command_line.specs.declared.option_name.OptionName.TheVariants.{Map, 
 use Rattle.command_line.specs.declared.option_name.OptionName.TheVariants.{Regions}
 use Rattle.command_line.specs.declared.range.NumberRange.{NumberRange}
 use Rattle.command_line.specs.declared.task.Task.TheVariants.{OneMetal}
-use Rattle.command_line.specs.Cells.{HasParts, IsCoordinate}
+use Rattle.command_line.specs.CellTexts.{HasParts, IsCoordinate}
 use Rattle.command_line.specs.Numbers.{IsNumber}
 use Rattle.command_line.specs.OptionNames.{Text, name_of, range_of}
 use Rattle.command_line.specs.RegionTexts.{HasThreeParts}

@@ -1,7 +1,7 @@
 pub mod OptionNames
 pub mod Spelling
 pub mod Numbers
-pub mod Cells
+pub mod CellTexts
 pub mod RegionTexts
 pub mod RequestLimits
 pub mod Requests

@@ -3,7 +3,7 @@ use Rattle.std.specs.Prelude.{ℕ, ◌++◌, ◌≡◌, codes}
 use Rattle.map_model.specs.LayerNames.{IsLayerName}
 use Rattle.questions.specs.KindTexts.{kind_text}
 use Rattle.questions.specs.declared.kind.Kind.{Kind}
-use Rattle.command_line.specs.Cells.{HasNoComma}
+use Rattle.command_line.specs.CellTexts.{HasNoComma}
 use Rattle.command_line.specs.Numbers.{IsNumber}
 use Rattle.command_line.specs.OptionNames.{Text}
 

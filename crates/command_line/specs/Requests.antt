@@ -9,7 +9,7 @@ use Rattle.command_line.specs.declared.option_name.OptionName.TheVariants.{Regio
 use Rattle.command_line.specs.declared.request.Request.{Request}
 use Rattle.command_line.specs.declared.task.Task.{Task}
 use Rattle.command_line.specs.declared.task.Task.TheVariants.{OneMetal, Mapped, Pairs as PairsOf, Probe as ProbeOf, Regions as RegionsOf, Generated}
-use Rattle.command_line.specs.Cells.{IsCellText}
+use Rattle.command_line.specs.CellTexts.{IsCellText}
 use Rattle.command_line.specs.Numbers.{IsNumber}
 use Rattle.command_line.specs.OptionNames.{Text, name_of}
 use Rattle.command_line.specs.RegionTexts.{IsRegionText}

@@ -12,7 +12,7 @@ use Rattle.command_line.specs.declared.cause.WordsCause.TheVariants.{NoMap, TwoT
 use Rattle.command_line.specs.declared.option_name.OptionName.{OptionName}
 use Rattle.command_line.specs.declared.option_name.OptionName.TheVariants.{Map, Top, Layer, Datatype, Radius, Generate, Pairs, Probe, Regions}
 use Rattle.command_line.specs.declared.range.NumberRange.{NumberRange}
-use Rattle.command_line.specs.Cells.{HasParts, IsCoordinate}
+use Rattle.command_line.specs.CellTexts.{HasParts, IsCoordinate}
 use Rattle.command_line.specs.Numbers.{IsNumber}
 use Rattle.command_line.specs.OptionNames.{Text, range_of}
 use Rattle.command_line.specs.RegionTexts.{HasThreeParts}

@@ -1,5 +1,5 @@
 ghost use Rattle.std.specs.Prelude.{ℤ, IfSome, IfNone};
-ghost use Rattle.command_line.specs.Cells.{HasParts, IsCoordinate};
+ghost use Rattle.command_line.specs.CellTexts.{HasParts, IsCoordinate};
 ghost use Rattle.command_line.specs.OptionNames.{Text};
 
 use crate::number::number;

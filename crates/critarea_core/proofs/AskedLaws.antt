@@ -1,5 +1,5 @@
 -- what tasks ask of a map
-use Rattle.std.proofs.Common.{ℕ, ◌≡◌, ◌+◌, ◌<◌, List, length, map, get_or, slice_get, zip, Option, Some, refl, sym, ap, subst, ◌∙◌, arith}
+use Rattle.std.proofs.Common.{ℕ, ◌≡◌, ◌+◌, ◌<◌, List, length, map, slice_get, zip, Option, Some, refl, sym, ap, subst, ◌∙◌, arith}
 use Rattle.std.proofs.lemmas.Slice.Zip.{firsts-zip}
 use Rattle.lists.proofs.Words.{length-map, map-map}
 use Rattle.std.proofs.lemmas.Option.{slice_get-get_or, slice_get_within}
@@ -8,8 +8,10 @@ use Rattle.command_line.specs.declared.task.Task.TheVariants.{Pairs}
 use Rattle.map_model.specs.MapNames.{DefectSize, layer_map_of, weighed_size}
 use Rattle.map_model.specs.declared.map.Map.{Map}
 use Rattle.questions.specs.declared.kind.Kind.{Kind}
-use Rattle.critarea_core.specs.Inquiries.{AskedComesTo, IsLayerNamed, IsSizeNumbered, RegionComesTo, for_pairs, for_regions}
+use Rattle.critarea_core.specs.Inquiries.{IsLayerNamed, IsListedIn, IsSizeNumbered, QueryComesTo, RegionComesTo}
 use Rattle.critarea_core.specs.Refusals.{no_such_layer, no_such_size}
+use Rattle.critarea_core.specs.declared.query.ListedSize.{ListedSize}
+use Rattle.critarea_core.specs.declared.query.Query.TheVariants.{Pairs as for_pairs, Region as for_region}
 
 module _ (given : Map) where
   abbrev sizes : List DefectSize
@@ -23,17 +25,17 @@ module _ (given : Map) where
   as_many = sym (length-map sizes (λ (listed : DefectSize). listed.size)) ∙ ap length sizes_are
 
   -- the size at a place has the number behind it
-  pub size_numbered : (number place : ℕ) → number ≡ place + 1 → place < length given.sizes → IsSizeNumbered (layer_map_of given) number (get_or given.sizes place 0)
-  size_numbered number place counted below = record {
-    place = place;
+  size_numbered : (number : ℕ) (size : ListedSize) → number ≡ size.place + 1 → IsListedIn given.sizes size → IsSizeNumbered (layer_map_of given) number size
+  size_numbered number size counted is = record {
     counted = counted;
-    listed = subst (λ (all : List ℕ). slice_get all place ≡ Some (get_or given.sizes place 0)) (sym sizes_are) (slice_get-get_or given.sizes place 0 below);
+    listed = subst (λ (all : List ℕ). slice_get all size.place ≡ Some size.size) (sym sizes_are)
+        (subst (λ (n : ℕ). slice_get given.sizes size.place ≡ Some n) (sym is.is) (slice_get-get_or given.sizes size.place 0 is.below));
   }
 
   -- behind the last size there is none
-  pub size_lacking : (number : ℕ) → length given.sizes < number → (size : ℕ) → IsSizeNumbered (layer_map_of given) number size → ⊥
+  size_lacking : (number : ℕ) → length given.sizes < number → (size : ListedSize) → IsSizeNumbered (layer_map_of given) number size → ⊥
   size_lacking number behind size are =
-      let at = slice_get_within (map (λ (listed : DefectSize). listed.size) sizes) are.place size are.listed in
+      let at = slice_get_within (map (λ (listed : DefectSize). listed.size) sizes) size.place size.size are.listed in
       let counted = are.counted in
       let listed = length-map sizes (λ (listed : DefectSize). listed.size) in
       absurd (omega (arith, at, counted, listed, as_many, behind))
@@ -45,26 +47,25 @@ module _ (given : Map) where
 
   module _ (layout name : List ℕ) (top : Option (List ℕ)) (number : ℕ) where
     -- the map has the size of which pairs are asked for
-    pub pairs_asked : (place : ℕ) → number ≡ place + 1 → place < length given.sizes → AskedComesTo (Pairs layout name top number) (layer_map_of given) (value (for_pairs (get_or given.sizes place 0)))
-    pairs_asked place counted below = reads (record { size = get_or given.sizes place 0; numbered = size_numbered number place counted below; is_asked = refl })
+    pub pairs_asked : (size : ListedSize) → number ≡ size.place + 1 → IsListedIn given.sizes size → QueryComesTo (Pairs layout name top number) (layer_map_of given) (value (for_pairs size))
+    pairs_asked size counted is = reads (record { size = size; numbered = size_numbered number size counted is; is_asked = refl })
 
     -- or it has fewer sizes
-    pub pairs_lacking : length given.sizes < number → AskedComesTo (Pairs layout name top number) (layer_map_of given) (refused (no_such_size (length given.sizes)))
+    pub pairs_lacking : length given.sizes < number → QueryComesTo (Pairs layout name top number) (layer_map_of given) (refused (no_such_size (length given.sizes)))
     pairs_lacking behind =
-        subst (λ n. AskedComesTo (Pairs layout name top number) (layer_map_of given) (refused (no_such_size n))) as_many
-        (lacks (λ asked are. size_lacking number behind are.size are.numbered))
+        subst (λ n. QueryComesTo (Pairs layout name top number) (layer_map_of given) (refused (no_such_size n))) as_many
+        (lacks (λ query are. size_lacking number behind are.size are.numbered))
 
   module _ (kind : Kind) (layer : List ℕ) (number : ℕ) where
     -- the map lists fewer sizes than the number of the one whose cells are asked for
     pub region_lacks_size : length given.sizes < number → RegionComesTo (layer_map_of given) kind layer number (refused (no_such_size (length given.sizes)))
     region_lacks_size behind = stops (none_numbered number behind)
 
-    module _ (place : ℕ) (counted : number ≡ place + 1) (below : place < length given.sizes) where
+    module _ (size : ListedSize) (counted : number ≡ size.place + 1) (is : IsListedIn given.sizes size) where
       -- or it has the size and the layer
-      pub region_asked : (found : ℕ) → IsLayerNamed (layer_map_of given) kind layer found
-          → RegionComesTo (layer_map_of given) kind layer number (value (for_regions kind found (get_or given.sizes place 0)))
-      region_asked found is = goes_on {v = get_or given.sizes place 0} (reads (size_numbered number place counted below)) (reads (record { number = found; is_named = is; is_asked = refl }))
+      pub region_asked : (found : ℕ) → IsLayerNamed (layer_map_of given) kind layer found → RegionComesTo (layer_map_of given) kind layer number (value (for_region kind found size))
+      region_asked found named = goes_on {v = size} (reads (size_numbered number size counted is)) (reads (record { number = found; is_named = named; is_asked = refl }))
 
       -- or it lacks the layer
       pub region_lacks_layer : ((found : ℕ) → IsLayerNamed (layer_map_of given) kind layer found → ⊥) → RegionComesTo (layer_map_of given) kind layer number (refused no_such_layer)
-      region_lacks_layer none = goes_on {v = get_or given.sizes place 0} (reads (size_numbered number place counted below)) (lacks (λ asked are. none are.number are.is_named))
+      region_lacks_layer none = goes_on {v = size} (reads (size_numbered number size counted is)) (lacks (λ query are. none are.number are.is_named))

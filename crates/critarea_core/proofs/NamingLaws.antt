@@ -1,11 +1,11 @@
 -- layers of a map by their names
-use Rattle.std.proofs.Common.{ℕ, ◌+◌, ◌-◌, ◌<◌, ◌≤◌, ◌≡◌, ◌≢◌, refl, sym, ap, subst, ◌∙◌, arith, inl, inr, List, ◌++◌, length, map, get_or, slice_get, Bool, true, false, Some, None, cond, nat_lt}
+use Rattle.std.proofs.Common.{ℕ, ◌+◌, ◌-◌, ◌<◌, ◌≡◌, ◌≢◌, refl, sym, ap, subst, ◌∙◌, arith, inl, inr, List, length, map, get_or, slice_get, Bool, true, false, Some, None, cond, nat_lt}
 use Rattle.std.proofs.lemmas.Bool.{ltb-false}
 use Rattle.std.proofs.lemmas.List.Sums.{fails_before_first, passes_at_first}
 use Rattle.std.proofs.lemmas.Option.{cond_some, get_or_from_slice_get, slice_get-map, slice_get_cases, slice_get_within}
 use Rattle.lists.proofs.Containing.{slice_get-back, slice_get-front}
 use Rattle.lists.proofs.Words.{bytes_eq, bytes_eq-Decides, length-map, ltb-true, position, position_or_len}
-use Rattle.map_model.specs.MapNames.{LayerMap, MappedCut, MappedLayer, cut_layer, layer_map_of, layers_of, mapped_cut, metal_layer}
+use Rattle.map_model.specs.MapNames.{MappedCut, MappedLayer, cut_layer, layer_map_of, layers_of, mapped_cut, metal_layer}
 use Rattle.map_model.specs.declared.layers.Cut.{Cut}
 use Rattle.map_model.specs.declared.layers.Metal.{Metal}
 use Rattle.map_model.specs.declared.map.Map.{Map}

@@ -4,7 +4,7 @@ use Rattle.questions.specs.declared.row.Row.{Row}
 use Rattle.gauges.specs.GaugeViews.{GaugeView, AreTold, texts_after, texts_of}
 use Rattle.gauges.proofs.laws.Told.{texts_gained}
 use Rattle.report.specs.Report.{report_text}
-use Rattle.critarea_core.specs.Dues.{whole_report}
+use Rattle.critarea_core.specs.Outputs.{whole_report}
 
 -- the text that was written, with what the gauges print once they are told
 pub whole_text : {Gauge : Type 0} (view : Gauge → GaugeView Row) (rows : List Row) (old new lent : List Gauge) (none written all : List ℕ) → none ≡ [] → written ≡ none ++ report_text rows

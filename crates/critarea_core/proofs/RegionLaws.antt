@@ -6,9 +6,9 @@ use Rattle.fault_model.specs.FaultNames.{cells_of}
 use Rattle.fault_model.proofs.CellLaws.{Contains-cells_of}
 use Rattle.fault_model.proofs.UnionLaws.{corner_of}
 use Rattle.lists.proofs.Containing.{Contains-none}
-use Rattle.map_regions.specs.Regions.{cell_count}
+use Rattle.layout_regions.specs.Regions.{cell_count}
 use Rattle.region_out.proofs.laws.RegionBytes.{bytes_long}
-use Rattle.critarea_core.specs.Dues.{IsRegionFile, region_room}
+use Rattle.critarea_core.specs.Outputs.{IsRegionFile, region_room}
 
 -- a list that has something is not empty
 some_there : {X : Type 0} (xs : List X) (x : X) → Contains xs x → 1 ≤ length xs

@@ -13,8 +13,8 @@ use Rattle.gauges.specs.declared.pair_row.PairRow.{PairRow}
 use Rattle.gauges.specs.GaugeViews.{GaugeView}
 use Rattle.gauges.proofs.laws.Told.{some_told_keep_texts, told_keep_texts}
 use Rattle.critarea_core.specs.Contents.{MayContain, MayHave, names_in, map_names, file_names, bytes_from, layout_source, wanted_top}
-use Rattle.critarea_core.specs.Dues.{Due, IsDueAs, IsRegionFile}
-use Rattle.critarea_core.specs.Inquiries.{Asked, AskedComesTo, Inquiry, for_report, for_pairs, for_probe, for_regions}
+use Rattle.critarea_core.specs.Outputs.{Due, IsDueAs, IsRegionFile}
+use Rattle.critarea_core.specs.Inquiries.{Inquiry, QueryComesTo}
 use Rattle.critarea_core.specs.inside.Finding.{Analyses, AreItems, Finds, FindsInFiles, files_serve, files_fail, gives_thing, gives_refusal, HasFound, IsFound, IsFoundFor, IsMapOf}
 use Rattle.critarea_core.specs.inside.Finding.{IsPrinted, IsToldAs, LayoutMayCome, MapMayCome, due_out, due_cut, due_to, nothing_out, line_out, line_cut, no_line}
 use Rattle.critarea_core.specs.Layout.{ShortLayoutComesTo, Subject}
@@ -27,6 +27,8 @@ use Rattle.critarea_core.specs.declared.found.Found.{Found}
 use Rattle.critarea_core.specs.declared.found.Found.TheVariants.{Report as Rows, Pairs as Tables, Probe as Probed, Region as Cells}
 use Rattle.critarea_core.specs.declared.layout_fault.LayoutFault.{LayoutFault}
 use Rattle.critarea_core.specs.declared.layout_fault.LayoutFault.TheVariants as layout_fault
+use Rattle.critarea_core.specs.declared.query.Query.{Query}
+use Rattle.critarea_core.specs.declared.query.Query.TheVariants.{Report as for_report, Pairs as for_pairs, Probe as for_probe, Region as for_region}
 use Rattle.critarea_core.specs.declared.refusal.Refusal.{Refusal}
 use Rattle.critarea_core.specs.declared.unreported.Unreported.{Unreported}
 use Rattle.critarea_core.specs.declared.unreported.Unreported.TheVariants.{Refused, FilesFailed, Memory}
@@ -86,22 +88,22 @@ module _ (words : List (List ℕ)) (told : List ℕ → Option (List ℕ)) where
       good = found_as layer_map_of (MapMayCome told request.task) (change before middle) SomeFile map found_map
 
       -- the map has not what the task asks of it
-      lacks_asked : (refusal : Refusal) → AskedComesTo request.task (layer_map_of map) (refused refusal) → MayComeTo words told (refused refusal)
-      lacks_asked refusal unfit = record {
+      lacks_what_is_asked : (refusal : Refusal) → QueryComesTo request.task (layer_map_of map) (refused refusal) → MayComeTo words told (refused refusal)
+      lacks_what_is_asked refusal unfit = record {
         contents = record { map = good.1.bytes; layout = some_contents told };
         agree = (good.1.may_be, some_may_be told);
         verdict = goes_on (reads asked) (goes_on good.1.comes (stops unfit));
       }
 
       pub map_unfit : (sure : List ℕ → Type 0) (refusal : Refusal) (result : Result Found Unreported) → IsErrAnd result (λ why. why ≡ Refused refusal)
-          → AskedComesTo request.task (layer_map_of map) (refused refusal) → IsFound words told sure (change before middle) result
+          → QueryComesTo request.task (layer_map_of map) (refused refusal) → IsFound words told sure (change before middle) result
       map_unfit sure refusal (Ok found) gave unfit = absurd gave
-      map_unfit sure refusal (Err why) gave unfit = files_serve good.0 (rw gave (refuses (gives_refusal (lacks_asked refusal unfit))))
+      map_unfit sure refusal (Err why) gave unfit = files_serve good.0 (rw gave (refuses (gives_refusal (lacks_what_is_asked refusal unfit))))
 
       -- Below, it has what the task asks of it.
-      module _ (asks : Asked) (fits : AskedComesTo request.task (layer_map_of map) (value asks)) where
+      module _ (query : Query) (fits : QueryComesTo request.task (layer_map_of map) (value query)) where
         may_serve : MapMayServe told request
-        may_serve = record { bytes = good.1.bytes; may_be = good.1.may_be; layer_map = layer_map_of map; comes = good.1.comes; asked = asks; fits = fits }
+        may_serve = record { bytes = good.1.bytes; may_be = good.1.may_be; layer_map = layer_map_of map; comes = good.1.comes; query = query; fits = fits }
 
         -- the map's file, where there is one, and the layout's behind it
         pub starts_both : {first second third : Option (List (List ℕ))} → Appends first second (map_names request.task)
@@ -125,11 +127,11 @@ module _ (words : List (List ℕ)) (told : List ℕ → Option (List ℕ)) where
 
           -- what a layout comes to that they may have, the words may come to
           with_layout : (bytes : List ℕ → List ℕ) → MayContain later bytes → (outcome : Outcome Inquiry Refusal)
-              → InquiryComesTo asks (layer_map_of map) (wanted_top request.task) (bytes_from bytes (layout_source request.task)) outcome → MayComeTo words told outcome
+              → InquiryComesTo query (layer_map_of map) (wanted_top request.task) (bytes_from bytes (layout_source request.task)) outcome → MayComeTo words told outcome
           with_layout bytes may outcome comes = record {
             contents = record { map = good.1.bytes; layout = bytes };
             agree = (good.1.may_be, λ name. subst (λ known. MayHave known (bytes name)) (same name) (may name));
-            verdict = goes_on (reads asked) (goes_on good.1.comes (goes_on {v = asks} fits comes));
+            verdict = goes_on (reads asked) (goes_on good.1.comes (goes_on {v = query} fits comes));
           }
 
           -- a layout that was not found
@@ -145,7 +147,7 @@ module _ (words : List (List ℕ)) (told : List ℕ → Option (List ℕ)) where
           module _ {after : ℕ} {OtherFile : Type 0} (read : Vec ℕ Global)
               (found_layout : FindsInFiles (change middle after) OtherFile (LayoutMayCome later (layout_source request.task)) AreItems (Ok read)) where
             abbrev AreOnLayout : Result Found LayoutFault → Type 0
-            AreOnLayout = Analyses (ShortLayoutComesTo (layer_map_of map) (wanted_top request.task) read.items) (HasFound asks)
+            AreOnLayout = Analyses (ShortLayoutComesTo (layer_map_of map) (wanted_top request.task) read.items) (HasFound query)
 
             there : IsCalm (change middle after) × LayoutMayCome later (layout_source request.task) (value read.items)
             there = found_bytes (LayoutMayCome later (layout_source request.task)) (change middle after) OtherFile read found_layout
@@ -156,32 +158,32 @@ module _ (words : List (List ℕ)) (told : List ℕ → Option (List ℕ)) where
             to_refusal : (refusal : Refusal) → Retells (refused refusal) → MayComeTo words told (refused refusal)
             to_refusal refusal comes = with_layout there.1.bytes there.1.may_be (refused refusal) (stops (goes_on {v = read.items} there.1.comes comes))
 
-            to_inquiry : (subject : Subject) → Retells (value subject) → MayComeTo words told (value (record { subject = subject; asked = asks }))
+            to_inquiry : (subject : Subject) → Retells (value subject) → MayComeTo words told (value (record { subject = subject; query = query }))
             to_inquiry subject comes =
-                with_layout there.1.bytes there.1.may_be (value (record { subject = subject; asked = asks })) (goes_on {v = subject} (goes_on {v = read.items} there.1.comes comes) refl)
+                with_layout there.1.bytes there.1.may_be (value (record { subject = subject; query = query })) (goes_on {v = subject} (goes_on {v = read.items} there.1.comes comes) refl)
 
             -- its fault
             pub fault_on_layout : (why : LayoutFault) (result : Result Found Unreported) → IsErrAnd result (IsToldAs layout_fault.Memory Memory (λ known. Refused (of_layout_fault known)) why)
                 → AreOnLayout (Err why) → IsFound words told sure (change before after) result
             fault_on_layout why result gave found =
                 files_serve (there.0 ∙ good.0) (not_read Memory (λ refusal. Refused refusal) (MayComeTo words told) IsFoundFor layout_fault.Memory of_layout_fault why result gave
-                (λ known. to_refusal (of_layout_fault why) (retold (fault_found _ (HasFound asks) why found known))))
+                (λ known. to_refusal (of_layout_fault why) (retold (fault_found _ (HasFound query) why found known))))
 
             -- what was found on it
             pub found_on_layout : (found : Found) → AreOnLayout (Ok found) → IsFound words told sure (change before after) (Ok found)
             found_on_layout found is =
-                let on = found_for _ _ _ _ found is in files_serve (there.0 ∙ good.0) (gives (gives_thing {v = record { subject = on.0; asked = asks }} (to_inquiry on.0 (kept on.1)) on.2))
+                let on = found_for _ _ _ _ found is in files_serve (there.0 ∙ good.0) (gives (gives_thing {v = record { subject = on.0; query = query }} (to_inquiry on.0 (kept on.1)) on.2))
 
 -- ---- gauges
 
 -- what is due where this was found is due to the gauges
-is_due : (gauges : Gauges) (asked : Asked) (subject : Subject) (found : Found) → HasFound asked subject found
-    → IsDueAs asked subject gauges.of_rows.before gauges.of_pairs.before (due_to gauges found)
+is_due : (gauges : Gauges) (query : Query) (subject : Subject) (found : Found) → HasFound query subject found
+    → IsDueAs query subject gauges.of_rows.before gauges.of_pairs.before (due_to gauges found)
 is_due gauges for_report subject (Rows rows) has = record { are_rows = has; no_pairs = refl; text = refl; room = refl }
 is_due gauges (for_pairs size) subject (Tables tables) has = record { are_pairs = has; no_rows = refl; text = refl; room = refl }
 is_due gauges (for_probe cell) subject (Probed metals) has =
     record { told = metals.items; is_probe = has; no_rows = refl; no_pairs = refl; text = refl; room = refl }
-is_due gauges (for_regions kind number size) subject (Cells region) has = record {
+is_due gauges (for_region kind number size) subject (Cells region) has = record {
   rects = region.rects.items;
   is_region = has.is_region;
   is_file = subst (λ units. IsRegionFile units region.rects.items (due_to gauges (Cells region)).text) has.units (record { fit = region.fit; bytes = refl });
@@ -189,15 +191,15 @@ is_due gauges (for_regions kind number size) subject (Cells region) has = record
   no_pairs = refl;
   room = refl;
 }
-is_due gauges asked subject found has = absurd has
+is_due gauges query subject found has = absurd has
 
 -- no more bytes are due than there has to be room for
-text_has_room : (asked : Asked) (subject : Subject) (gauges : List (GaugeView Row)) (pair_gauges : List (GaugeView PairRow)) (due : Due)
-    → IsDueAs asked subject gauges pair_gauges due → length due.text ≤ due.room
+text_has_room : (query : Query) (subject : Subject) (gauges : List (GaugeView Row)) (pair_gauges : List (GaugeView PairRow)) (due : Due)
+    → IsDueAs query subject gauges pair_gauges due → length due.text ≤ due.room
 text_has_room for_report subject gauges pair_gauges due is = let room = is.room in omega (arith, room)
 text_has_room (for_pairs size) subject gauges pair_gauges due is = let room = is.room in omega (arith, room)
 text_has_room (for_probe cell) subject gauges pair_gauges due is = let room = is.room in omega (arith, room)
-text_has_room (for_regions kind number size) subject gauges pair_gauges due is = region_has_room subject.units is.rects due.text due.room is.is_file is.room
+text_has_room (for_region kind number size) subject gauges pair_gauges due is = region_has_room subject.units is.rects due.text due.room is.is_file is.room
 
 untold_texts : (gauges : Gauges) → AreUntold gauges → KeepTheirTexts gauges
 untold_texts gauges untold =
@@ -222,7 +224,7 @@ module _ (words : List (List ℕ)) (met : Surroundings) where
   told = met.files.holds.before
 
   due_for : (inquiry : Inquiry) (found : Found) → MayComeTo words told (value inquiry) → IsFoundFor inquiry found → IsDueFor words met (due_to met.gauges found)
-  due_for inquiry found comes has = record { inquiry = inquiry; comes = comes; is_due = is_due met.gauges inquiry.asked inquiry.subject found has }
+  due_for inquiry found comes has = record { inquiry = inquiry; comes = comes; is_due = is_due met.gauges inquiry.query inquiry.subject found has }
 
   never_failed : {T V : Type 0} (Stage : Outcome V Refusal → Type 0) (IsFor : V → T → Type 0) → Finds Stage IsFor (Err FilesFailed) → ⊥
   never_failed Stage IsFor (refuses h) = elim h [ ]
@@ -278,7 +280,7 @@ module _ (words : List (List ℕ)) (met : Surroundings) where
   never_fails status (run.files_failed unsure risen idle also untold) cannot e =
       let (name, among, not_sure) = unsure.not_sure in not_sure (cannot.files unsure.names unsure.may_be name among)
   never_fails status (run.report_cut_short {due = what} is calm fails idle told_all) cannot e =
-      absurd (omega (arith, cannot.out what is, fails.not_sure, text_has_room is.inquiry.asked is.inquiry.subject met.gauges.of_rows.before met.gauges.of_pairs.before what is.is_due))
+      absurd (omega (arith, cannot.out what is, fails.not_sure, text_has_room is.inquiry.query is.inquiry.subject met.gauges.of_rows.before met.gauges.of_pairs.before what is.is_due))
   never_fails status (run.refusal_cut_short {refusal = r} is calm idle fails untold) cannot e = absurd (omega (arith, cannot.err r is, fails.not_sure))
   never_fails status (run.out_of_memory calm idle also untold) cannot e = cc e
   never_fails status (run.out_of_memory_with_rows is calm idle also some) cannot e = cc e

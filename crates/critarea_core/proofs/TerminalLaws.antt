@@ -1,6 +1,6 @@
 -- what is found on a subject, where its terminals are on their metals, and the first terminal that is not
-use Rattle.std.proofs.Common.{ℕ, ◌≡◌, ◌≢◌, ◌≤◌, List, length, get_or, refl, sym, ap, subst, ◌∙◌, Ok, Err, Vec, All}
-use Rattle.lists.proofs.Words.{Global, enumerate_from}
+use Rattle.std.proofs.Common.{ℕ, ◌≡◌, ◌≢◌, ◌↔◌, List, get_or, refl, sym, ap, subst, ◌∙◌, Ok, Err, All}
+use Rattle.lists.proofs.Words.{enumerate_from}
 use Rattle.first_refusal.specs.Answers.{Answers, gives, refuses, no_memory}
 use Rattle.first_refusal.specs.Checks.{Checks, all_hold, one_fails}
 use Rattle.first_refusal.specs.Outcomes.{Outcome, refused}
@@ -12,26 +12,33 @@ use Rattle.map_model.specs.declared.layer_lists.Layers.{Layers}
 use Rattle.net_extract.specs.Extraction.{IsOnItsMetal, off_metal}
 use Rattle.net_extract.specs.declared.fault.NetFault.{NetFault}
 use Rattle.net_extract.specs.declared.fault.NetFault.TheVariants.{Memory}
-use Rattle.questions.specs.declared.kind.Kind.{Kind}
 use Rattle.questions.specs.declared.row.Row.{Row}
-use Rattle.questions.specs.declared.row.TheConstants.{MOST_ROWS}
-use Rattle.area_parts.specs.Rows.{AreRows, ComeToRows}
+use Rattle.area_parts.specs.Rows.{AreRows}
 use Rattle.area_parts.proofs.laws.AlikeLaws.{rows_follow}
-use Rattle.map_pairs.specs.PairAreas.{ArePairRows, ComeToPairs}
-use Rattle.map_pairs.proofs.laws.AlikeLaws.{pairs_follow}
-use Rattle.map_probe.specs.Probe.{ComeToProbe, IsProbe}
-use Rattle.map_probe.specs.declared.metal_near.MetalNear.{MetalNear}
-use Rattle.map_probe.proofs.laws.AlikeLaws.{probes_follow}
-use Rattle.map_regions.specs.Regions.{ComeToRegion, IsRegion}
-use Rattle.map_regions.proofs.laws.AlikeLaws.{region_follows}
+use Rattle.layout_pairs.proofs.laws.AlikeLaws.{pairs_follow}
+use Rattle.layout_probe.proofs.laws.AlikeLaws.{probes_follow}
+use Rattle.layout_regions.proofs.laws.AlikeLaws.{region_follows}
 use Rattle.pair_report.specs.PairRows.{pair_rows}
-use Rattle.pair_report.specs.declared.tables.PairTables.{PairTables}
 use Rattle.critarea_core.specs.Coverage.{IsCoveredOn}
-use Rattle.critarea_core.specs.inside.Finding.{Analyses, HasPairs, HasProbe, HasRegion, HasRows, gives_thing}
+use Rattle.critarea_core.specs.Outputs.{AreRowsOn}
+use Rattle.critarea_core.specs.inside.Finding.{Analyses, HasFound, IsFoundIn, gives_thing}
 use Rattle.critarea_core.specs.Layout.{Subject, IsTerminalOn, TerminalsComeTo}
 use Rattle.critarea_core.specs.inside.LayoutReaders.{AreLayersFor}
-use Rattle.critarea_core.specs.declared.found.CriticalRegion.{CriticalRegion}
+use Rattle.critarea_core.specs.declared.found.Found.{Found}
+use Rattle.critarea_core.specs.declared.found.Found.TheVariants.{Report as Rows, Pairs as Tables, Probe as Probed, Region as Cells}
 use Rattle.critarea_core.specs.declared.layout_fault.LayoutFault.TheVariants.{Net}
+use Rattle.critarea_core.specs.declared.query.Query.{Query}
+use Rattle.critarea_core.specs.declared.query.Query.TheVariants.{Report as for_report, Pairs as for_pairs, Probe as for_probe, Region as for_region}
+
+-- what was found of layers is found of those that cover alike, in a layout of the same units
+module _ (layer_map : LayerMap) (covers other : ℕ → Cell → Type 0) (same : (number : ℕ) (c : Cell) → covers number c ↔ other number c) (units others : List ℕ) (alike : units ≡ others) where
+  found_follows : (query : Query) (found : Found) → IsFoundIn query layer_map covers units found → IsFoundIn query layer_map other others found
+  found_follows for_report (Rows report) is = rows_follow layer_map covers other same report.rows.items is
+  found_follows (for_pairs size) (Tables tables) is = pairs_follow layer_map covers other same size.size (pair_rows tables) is
+  found_follows (for_probe cell) (Probed metals) is = probes_follow covers other same layer_map cell metals.items is
+  found_follows (for_region kind number size) (Cells region) is =
+      record { is_region = region_follows layer_map covers other same kind number size.size region.rects.items is.is_region; units = is.units ∙ alike }
+  found_follows query found is = absurd is
 
 module _ (layer_map : LayerMap) {units : List ℕ} (layers : Layers) (subject : Subject) (laid : AreLayersFor layer_map units subject layers) where
   abbrev lists : List (List Rect)
@@ -48,57 +55,39 @@ module _ (layer_map : LayerMap) {units : List ℕ} (layers : Layers) (subject : 
   abbrev pub ComeTo : {T : Type 0} → (LayerMap → T → Type 0) → LayerMap → Outcome T NetFault → Type 0
   ComeTo Good m = Checks (IsOnItsMetal lists) (enumerate_from 0 m.terminals) off_metal (Good m)
 
-  module _ {S T : Type 0} (Good : LayerMap → S → Type 0) (IsFor : Subject → T → Type 0) (good : S) (thing : T) (as_good : Good subject.layer_map good → IsFor subject thing) where
-    by_thing : Answers Memory (ComeTo Good subject.layer_map) (Ok good) → Analyses (TerminalsComeTo subject) IsFor (Ok thing)
-    by_thing (gives (all_hold all is)) = gives (gives_thing {v = subject} (all_hold (terminals_on numbered_terminals all) refl) (as_good is))
+  module _ {T : Type 0} (Good : LayerMap → T → Type 0) where
+    by_thing : (IsFor : Subject → T → Type 0) (thing : T) → (Good subject.layer_map thing → IsFor subject thing) → Answers Memory (ComeTo Good subject.layer_map) (Ok thing)
+        → Analyses (TerminalsComeTo subject) IsFor (Ok thing)
+    by_thing IsFor thing as_good (gives (all_hold all is)) = gives (gives_thing {v = subject} (all_hold (terminals_on numbered_terminals all) refl) (as_good is))
 
-    -- of what is good over the lists this thing is made, which is one for the subject whose layers these are
-    thing_found : Answers Memory (ComeTo Good layer_map) (Ok good) → Analyses (TerminalsComeTo subject) IsFor (Ok thing)
-    thing_found answer = by_thing (subst (λ m. Answers Memory (ComeTo Good m) (Ok good)) (sym laid.of_map) answer)
+    -- what is good over the lists is so for the subject whose layers these are
+    pub thing_found : (IsFor : Subject → T → Type 0) (thing : T) → (Good subject.layer_map thing → IsFor subject thing) → Answers Memory (ComeTo Good layer_map) (Ok thing)
+        → Analyses (TerminalsComeTo subject) IsFor (Ok thing)
+    thing_found IsFor thing as_good answer = by_thing IsFor thing as_good (subst (λ m. Answers Memory (ComeTo Good m) (Ok thing)) (sym laid.of_map) answer)
 
-  by_fault : {T : Type 0} (Good : LayerMap → T → Type 0) (fault : NetFault) → Answers Memory (ComeTo Good subject.layer_map) (Err fault) → fault ≢ Memory
-      → TerminalsComeTo subject (refused (Net fault))
-  by_fault Good fault (refuses (one_fails q)) known = one_fails (record {
-    check = q.check;
-    is_first = record {
-      before = q.is_first.before;
-      after = q.is_first.after;
-      parts = q.is_first.parts;
-      all_before = terminals_on q.is_first.before q.is_first.all_before;
-      fails = λ on. q.is_first.fails ((laid.layers.covers q.check.1.0 q.check.1.1).1 on);
-    };
-    is_its_refusal = ap (λ f. Net f) q.is_its_refusal;
-  })
-  by_fault Good fault no_memory known = absurd (known refl)
+    by_fault : (fault : NetFault) → Answers Memory (ComeTo Good subject.layer_map) (Err fault) → fault ≢ Memory → TerminalsComeTo subject (refused (Net fault))
+    by_fault fault (refuses (one_fails q)) known = one_fails (record {
+      check = q.check;
+      is_first = record {
+        before = q.is_first.before;
+        after = q.is_first.after;
+        parts = q.is_first.parts;
+        all_before = terminals_on q.is_first.before q.is_first.all_before;
+        fails = λ on. q.is_first.fails ((laid.layers.covers q.check.1.0 q.check.1.1).1 on);
+      };
+      is_its_refusal = ap (λ f. Net f) q.is_its_refusal;
+    })
+    by_fault fault no_memory known = absurd (known refl)
 
-  -- the rows over the lists are those on the subject
-  pub rows_found : (rows : Vec Row Global) → Answers Memory (ComeToRows layer_map lists) (Ok rows) → length rows.items ≤ MOST_ROWS → Analyses (TerminalsComeTo subject) HasRows (Ok rows)
-  rows_found rows answer few = thing_found (λ m (found : Vec Row Global). AreRows m (IsCoveredIn lists) found.items) HasRows rows rows (λ are. record {
-    are_rows = rows_follow subject.layer_map (IsCoveredIn lists) (IsCoveredOn subject.layer_map subject.routes) laid.layers.covers rows.items are;
-    few = few;
-  }) answer
+    -- and the first terminal that is not on its metal is the same
+    pub terminal_off : (fault : NetFault) → Answers Memory (ComeTo Good layer_map) (Err fault) → fault ≢ Memory → TerminalsComeTo subject (refused (Net fault))
+    terminal_off fault answer known = by_fault fault (subst (λ m. Answers Memory (ComeTo Good m) (Err fault)) (sym laid.of_map) answer) known
 
-  -- and so are the pairs
-  pub pairs_found : (size : ℕ) (tables : PairTables) → Answers Memory (ComeToPairs layer_map lists size) (Ok tables) → Analyses (TerminalsComeTo subject) (HasPairs size) (Ok tables)
-  pairs_found size tables answer = thing_found (λ m (found : PairTables). ArePairRows m (IsCoveredIn lists) size (pair_rows found)) (HasPairs size) tables tables
-      (pairs_follow subject.layer_map (IsCoveredIn lists) (IsCoveredOn subject.layer_map subject.routes) laid.layers.covers size (pair_rows tables)) answer
+  -- what is asked of the subject is what was found over the lists
+  pub as_found : (query : Query) (found : Found) → IsFoundIn query subject.layer_map (IsCoveredIn lists) units found → HasFound query subject found
+  as_found query found is =
+      found_follows subject.layer_map (IsCoveredIn lists) (IsCoveredOn subject.layer_map subject.routes) laid.layers.covers units subject.units (sym laid.of_units) query found is
 
-  -- and so is the probe of a cell
-  pub probe_found : (cell : Cell) (metals : Vec MetalNear Global) → Answers Memory (ComeToProbe layer_map lists cell) (Ok metals) → Analyses (TerminalsComeTo subject) (HasProbe cell) (Ok metals)
-  probe_found cell metals answer = thing_found (λ m (found : Vec MetalNear Global). IsProbe m (IsCoveredIn lists) cell found.items) (HasProbe cell) metals metals
-      (probes_follow (IsCoveredIn lists) (IsCoveredOn subject.layer_map subject.routes) laid.layers.covers subject.layer_map cell metals.items) answer
-
-  -- and so are critical cells, beside the units of the library
-  module _ (kind : Kind) (number size : ℕ) (rects : Vec Rect Global) (region : CriticalRegion) (same : region.rects ≡ rects) (of_library : region.units ≡ units) where
-    pub region_found : Answers Memory (ComeToRegion layer_map lists kind number size) (Ok rects)
-        → Analyses (TerminalsComeTo subject) (HasRegion kind number size) (Ok region)
-    region_found answer =
-        thing_found (λ m (found : Vec Rect Global). IsRegion m (IsCoveredIn lists) kind number size found.items) (HasRegion kind number size) rects region (λ is. record {
-          is_region = rw same (region_follows subject.layer_map (IsCoveredIn lists) (IsCoveredOn subject.layer_map subject.routes) laid.layers.covers kind number size rects.items is);
-          units = of_library ∙ sym laid.of_units;
-        }) answer
-
-  -- and the first terminal that is not on its metal is the same
-  pub terminal_off : {T : Type 0} (Good : LayerMap → T → Type 0) (fault : NetFault) → Answers Memory (ComeTo Good layer_map) (Err fault) → fault ≢ Memory
-      → TerminalsComeTo subject (refused (Net fault))
-  terminal_off Good fault answer known = by_fault Good fault (subst (λ m. Answers Memory (ComeTo Good m) (Err fault)) (sym laid.of_map) answer) known
+  -- and so are the rows
+  pub as_rows : (rows : List Row) → AreRows subject.layer_map (IsCoveredIn lists) rows → AreRowsOn subject rows
+  as_rows rows are = rows_follow subject.layer_map (IsCoveredIn lists) (IsCoveredOn subject.layer_map subject.routes) laid.layers.covers rows are

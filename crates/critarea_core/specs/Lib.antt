@@ -7,7 +7,7 @@ pub mod Layout
 pub mod Refusals
 pub mod Inquiries
 pub mod Verdict
-pub mod Dues
+pub mod Outputs
 -- what the laws of sides alone cite
 pub mod WholeCells
 -- the rows on the bytes of a layout

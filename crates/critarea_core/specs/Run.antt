@@ -11,9 +11,10 @@ use Rattle.gauges.specs.declared.pair_row.PairRow.{PairRow}
 use Rattle.gauges.specs.GaugeViews.{GaugeView, AreTold, AreToldPrefixes, views_of}
 use Rattle.critarea_core.specs.Contents.{Contents, AgreeWith, MayContain, map_names, file_names}
 use Rattle.critarea_core.specs.Refusals.{refusal_text}
-use Rattle.critarea_core.specs.Inquiries.{Asked, AskedComesTo, Inquiry}
-use Rattle.critarea_core.specs.Dues.{Due, IsDue}
+use Rattle.critarea_core.specs.Inquiries.{Inquiry, QueryComesTo}
+use Rattle.critarea_core.specs.Outputs.{Due, IsDue}
 use Rattle.critarea_core.specs.Verdict.{MapComesTo, IsVerdict}
+use Rattle.critarea_core.specs.declared.query.Query.{Query}
 use Rattle.critarea_core.specs.declared.refusal.Refusal.{Refusal}
 
 -- ---- the words, and what files tell
@@ -36,8 +37,8 @@ pub record MapMayServe (told : List ℕ → Option (List ℕ)) (request : Reques
   pub may_be : MayContain told bytes
   pub layer_map : LayerMap
   pub comes : MapComesTo request.task bytes (value layer_map)
-  pub asked : Asked
-  pub fits : AskedComesTo request.task layer_map (value asked)
+  pub query : Query
+  pub fits : QueryComesTo request.task layer_map (value query)
 
 -- ---- what a run met and left behind
 

@@ -9,9 +9,10 @@ use Rattle.layer_map.specs.Documents as document
 use Rattle.layout_gen.specs.Generated.{generated_map}
 use Rattle.map_model.specs.MapNames.{LayerMap, one_metal_map}
 use Rattle.critarea_core.specs.Contents.{Contents, bytes_from, layout_source, wanted_top}
-use Rattle.critarea_core.specs.Inquiries.{Asked, AskedComesTo, Inquiry}
+use Rattle.critarea_core.specs.Inquiries.{Inquiry, QueryComesTo}
 use Rattle.critarea_core.specs.Layout.{Subject, ShortLayoutComesTo}
 use Rattle.critarea_core.specs.Refusals.{usage, map_limit, map_too_long, of_map_fault, layout_limit, layout_too_long, of_layout_fault}
+use Rattle.critarea_core.specs.declared.query.Query.{Query}
 use Rattle.critarea_core.specs.declared.refusal.Refusal.{Refusal}
 
 -- the same text, where it has at most so many bytes
@@ -48,14 +49,14 @@ LayoutComesTo layer_map wanted layout =
     (λ same. Retold of_layout_fault (ShortLayoutComesTo layer_map wanted same))
 
 -- the layout, and what is asked of it
-abbrev pub InquiryComesTo : Asked → LayerMap → Option (List ℕ) → List ℕ → Outcome Inquiry Refusal → Type 0
-InquiryComesTo asked layer_map wanted layout =
-    Then (LayoutComesTo layer_map wanted layout) (λ subject outcome. outcome ≡ value (record { subject = subject; asked = asked }))
+abbrev pub InquiryComesTo : Query → LayerMap → Option (List ℕ) → List ℕ → Outcome Inquiry Refusal → Type 0
+InquiryComesTo query layer_map wanted layout =
+    Then (LayoutComesTo layer_map wanted layout) (λ subject outcome. outcome ≡ value (record { subject = subject; query = query }))
 
 -- the verdict on words, where files contain this: first the words, then the map, then what the task asks of the map, and then the
 -- layout, each of which is looked at only where what stands before it is good
 abbrev pub IsVerdict : List (List ℕ) → Contents → Outcome Inquiry Refusal → Type 0
 IsVerdict words contents =
     Then (WordsComeTo words) (λ request. Then (MapComesTo request.task contents.map)
-    (λ layer_map. Then (AskedComesTo request.task layer_map)
-    (λ asked. InquiryComesTo asked layer_map (wanted_top request.task) (bytes_from contents.layout (layout_source request.task)))))
+    (λ layer_map. Then (QueryComesTo request.task layer_map)
+    (λ query. InquiryComesTo query layer_map (wanted_top request.task) (bytes_from contents.layout (layout_source request.task)))))

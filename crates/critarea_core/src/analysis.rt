@@ -1,191 +1,89 @@
-ghost use Rattle.std.specs.Prelude.{◌≡◌, ◌≤◌, ◌<◌, ◌+◌, ◌^◌, IfOk, All, length, option_copied, slice_index_or};
-ghost use Rattle.lists.specs.Differing.{AreDifferent};
+ghost use Rattle.std.specs.Prelude.{◌≡◌, ◌≤◌, ◌<◌, ◌+◌, IfOk, All, length, option_copied};
 ghost use Rattle.first_refusal.specs.Answers.{Answers};
-ghost use Rattle.first_refusal.specs.Outcomes.{Then};
-ghost use Rattle.library_model.specs.Names.{names_of};
-ghost use Rattle.library_model.specs.Points.{AreWellPointed};
+ghost use Rattle.geo_core.specs.Cells.{IsInLayout};
 ghost use Rattle.map_model.specs.MapView.{layer_map_of};
 ghost use Rattle.questions.specs.declared.row.TheConstants.{MOST_ROWS};
+ghost use Rattle.region_out.specs.RegionLibraries.{AreUnits};
 ghost use Rattle.critarea_core.specs.Analysis.{AnalysisComesTo};
-ghost use Rattle.critarea_core.specs.inside.Finding.{Analyses, HasFound, HasPairs, HasProbe, HasRegion, HasRows, HasSizeAndLayer, IsWantedOf, asked_by};
-ghost use Rattle.critarea_core.specs.inside.LayoutReaders.{AreLayersFor};
-ghost use Rattle.critarea_core.specs.Layout.{LibraryComesTo, ShortLayoutComesTo, TerminalsComeTo};
+ghost use Rattle.critarea_core.specs.Inquiries.{IsQueryOf};
+ghost use Rattle.critarea_core.specs.inside.Finding.{Analyses, ComeToFound, HasFound};
+ghost use Rattle.critarea_core.specs.Layout.{ShortLayoutComesTo};
 ghost use Rattle.critarea_core.specs.Refusals.{layout_limit};
 
 use super::found::{CriticalRegion, Found, ReportRows};
-use super::layers::layers_of;
+use super::layers::layers_of_library;
 use super::layout_fault::LayoutFault;
-use super::wanted::Wanted;
+use super::query::Query;
 use critical_areas::{Gate, Sharing, critical_areas};
-use flatten::place;
-use gds_syntax::{Library, read_library};
-use geo_core::Cell;
+use gds_syntax::read_library;
+use layout_pairs::pair_tables;
+use layout_probe::probe;
+use layout_regions::regions;
 use map_model::{Layers, Map};
-use map_pairs::pair_tables;
-use map_probe::{MetalNear, probe};
-use map_regions::regions;
-use pair_report::PairTables;
-use questions::{Kind, Row};
-use rect_cover::cover_all;
+use net_extract::NetFault;
+use questions::Row;
 use std::alloc::Global;
 use std::mem::drop;
 use std::thread::Threads;
 
-/// How many layers the map has: its metals, and then its cuts.
-fn count_of(map: &Map) -> u32
-    ensures { result ≡ length map.now.metals + length map.now.cuts }
-{
-    (map.metals.as_slice().len() + map.cuts.as_slice().len()) as u32
-}
-
-/// Rectangles of all cells that the shapes of a library cover, a list for each layer of the map. The shapes are those that
-/// the top places: the structure of the wanted name, or the one that no reference names. The fault is that of the placement,
-/// or the first of the covers of the placed shapes. The library is let go once this is known.
-fn layers_of_library(
+/// What is asked of the map on these layers, one for each metal and cut, of a layout with these units. The error is the first terminal
+/// whose cell its metal does not cover, whatever is asked, or that no memory is left.
+fn find_on_layers<G: Gate + Sync>(
     rt: &(impl Threads + Sync),
     alloc: Global,
     map: &Map,
-    top: Option<&[u8]>,
-    library: Library,
-) -> Result<Layers, LayoutFault>
-    requires differ { AreDifferent (names_of library.structures) }
-    requires few_structures { length library.structures < 2 ^ 32 }
-    requires few_elements { All (λ structure. length structure.elements < 2 ^ 32) library.structures }
-    requires pointed { AreWellPointed library.structures }
-    ensures { Analyses (LibraryComesTo (layer_map_of map.now) (option_copied top.entry) library)
-        (AreLayersFor (layer_map_of map.now) library.units) result }
-{
-    let placed = place(alloc, &library, map, top)?;
-    let covers = cover_all(rt, alloc, &library, placed.as_slice())?;
-    Ok(layers_of(alloc, count_of(map), placed.as_slice(), covers.as_slice())?)
-}
-
-/// The rows of the map on a library, of which this top is wanted, or any.
-fn rows_of_library<G: Gate + Sync>(
-    rt: &(impl Threads + Sync),
-    alloc: Global,
-    map: &Map,
-    top: Option<&[u8]>,
-    library: Library,
+    query: Query,
+    layers: &Layers,
+    units: [u8; 16],
     sharing: Sharing<'_, G>,
-) -> Result<Vec<Row>, LayoutFault>
-    requires differ { AreDifferent (names_of library.structures) }
-    requires few_structures { length library.structures < 2 ^ 32 }
-    requires few_elements { All (λ structure. length structure.elements < 2 ^ 32) library.structures }
-    requires pointed { AreWellPointed library.structures }
-    ensures { Analyses (Then (LibraryComesTo (layer_map_of map.now) (option_copied top.entry) library) TerminalsComeTo) HasRows result }
+) -> Result<Found, NetFault>
+    requires one_each { length layers.now.lists.items ≡ length map.now.metals + length map.now.cuts }
+    requires within { All (All IsInLayout) layers.now.lists.items }
+    requires there { IsQueryOf map.now query }
+    requires fit { AreUnits units }
+    ensures { Answers NetFault.Memory (ComeToFound (layer_map_of map.now) layers.now.lists.items units query) result }
 {
-    let layers = layers_of_library(rt, alloc, map, top, library)?;
-    Ok(critical_areas(rt, alloc, map, &layers, sharing)?)
+    match query {
+        Query::Report => {
+            let rows = critical_areas(rt, alloc, map, layers, sharing)?;
+            Ok(Found::Report(ReportRows { rows }))
+        }
+        Query::Pairs { size } => {
+            let tables = pair_tables(alloc, map, layers, size.place)?;
+            Ok(Found::Pairs(tables))
+        }
+        Query::Probe { cell } => {
+            let metals = probe(alloc, map, layers, cell)?;
+            Ok(Found::Probe(metals))
+        }
+        Query::Region { kind, number, size } => {
+            let rects = regions(alloc, map, layers, kind, number, size.place)?;
+            Ok(Found::Region(CriticalRegion { rects, units }))
+        }
+    }
 }
 
-/// The pairs of nets of the map on a library, of which this top is wanted, or any, for the map's size at this place.
-fn pairs_of_library(
-    rt: &(impl Threads + Sync),
-    alloc: Global,
-    map: &Map,
-    top: Option<&[u8]>,
-    library: Library,
-    place: u32,
-) -> Result<PairTables, LayoutFault>
-    requires differ { AreDifferent (names_of library.structures) }
-    requires few_structures { length library.structures < 2 ^ 32 }
-    requires few_elements { All (λ structure. length structure.elements < 2 ^ 32) library.structures }
-    requires pointed { AreWellPointed library.structures }
-    requires there { place < length map.now.sizes }
-    ensures { Analyses (Then (LibraryComesTo (layer_map_of map.now) (option_copied top.entry) library) TerminalsComeTo)
-        (HasPairs (slice_index_or map.now.sizes place 0)) result }
-{
-    let layers = layers_of_library(rt, alloc, map, top, library)?;
-    Ok(pair_tables(alloc, map, &layers, place)?)
-}
-
-/// The nets of each metal of the map that are nearest to the cell, on a library, of which this top is wanted, or any.
-fn probe_of_library(
-    rt: &(impl Threads + Sync),
-    alloc: Global,
-    map: &Map,
-    top: Option<&[u8]>,
-    library: Library,
-    cell: Cell,
-) -> Result<Vec<MetalNear>, LayoutFault>
-    requires differ { AreDifferent (names_of library.structures) }
-    requires few_structures { length library.structures < 2 ^ 32 }
-    requires few_elements { All (λ structure. length structure.elements < 2 ^ 32) library.structures }
-    requires pointed { AreWellPointed library.structures }
-    ensures { Analyses (Then (LibraryComesTo (layer_map_of map.now) (option_copied top.entry) library) TerminalsComeTo)
-        (HasProbe cell) result }
-{
-    let layers = layers_of_library(rt, alloc, map, top, library)?;
-    Ok(probe(alloc, map, &layers, cell)?)
-}
-
-/// The critical cells of this kind on a library, of which this top is wanted, or any: those of the layer of the map with this number,
-/// and of the map's size at this place.
-fn region_of_library(
-    rt: &(impl Threads + Sync),
-    alloc: Global,
-    map: &Map,
-    top: Option<&[u8]>,
-    library: Library,
-    kind: Kind,
-    number: u32,
-    place: u32,
-) -> Result<CriticalRegion, LayoutFault>
-    requires differ { AreDifferent (names_of library.structures) }
-    requires few_structures { length library.structures < 2 ^ 32 }
-    requires few_elements { All (λ structure. length structure.elements < 2 ^ 32) library.structures }
-    requires pointed { AreWellPointed library.structures }
-    requires there { HasSizeAndLayer map.now kind number place }
-    ensures { Analyses (Then (LibraryComesTo (layer_map_of map.now) (option_copied top.entry) library) TerminalsComeTo)
-        (HasRegion kind number (slice_index_or map.now.sizes place 0)) result }
-{
-    let units = library.units;
-    let layers = layers_of_library(rt, alloc, map, top, library)?;
-    let rects = regions(alloc, map, &layers, kind, number, place)?;
-    Ok(CriticalRegion { rects, units })
-}
-
-/// What is wanted of the map on the layout with these bytes, of which this top is wanted, or any. The bytes are let go once
-/// the library is read.
+/// What is asked of the map on the layout with these bytes, of which this top is wanted, or any. The bytes are let go once
+/// the library is read, and the library once its layers are known.
 pub fn find_in_layout<G: Gate + Sync>(
     rt: &(impl Threads + Sync),
     alloc: Global,
     map: &Map,
-    wanted: Wanted,
+    query: Query,
     top: Option<&[u8]>,
     bytes: Vec<u8>,
     sharing: Sharing<'_, G>,
 ) -> Result<Found, LayoutFault>
     requires within { length bytes.items ≤ layout_limit }
-    requires there { IsWantedOf map.now wanted }
-    ensures { Analyses (ShortLayoutComesTo (layer_map_of map.now) (option_copied top.entry) bytes.items)
-        (HasFound (asked_by map.now.sizes wanted)) result }
+    requires there { IsQueryOf map.now query }
+    ensures { Analyses (ShortLayoutComesTo (layer_map_of map.now) (option_copied top.entry) bytes.items) (HasFound query) result }
 {
     let library = read_library(alloc, bytes.as_slice())?;
     drop(bytes);
-    match wanted {
-        Wanted::Report => {
-            let rows = rows_of_library(rt, alloc, map, top, library, sharing)?;
-            Ok(Found::Report(ReportRows { rows }))
-        }
-        Wanted::Pairs { place } => {
-            let tables = pairs_of_library(rt, alloc, map, top, library, place)?;
-            Ok(Found::Pairs(tables))
-        }
-        Wanted::Probe { cell } => {
-            let metals = probe_of_library(rt, alloc, map, top, library, cell)?;
-            Ok(Found::Probe(metals))
-        }
-        Wanted::Region {
-            kind,
-            number,
-            place,
-        } => {
-            let region = region_of_library(rt, alloc, map, top, library, kind, number, place)?;
-            Ok(Found::Region(region))
-        }
-    }
+    let units = library.units;
+    let layers = layers_of_library(rt, alloc, map, top, library)?;
+    let found = find_on_layers(rt, alloc, map, query, &layers, units, sharing)?;
+    Ok(found)
 }
 
 /// The rows of a report of the map on a layout: shorts of each metal, then opens of each, and then via blocks of each cut,
@@ -217,10 +115,12 @@ pub fn analyse<G: Gate + Sync>(
     ensures few { IfOk result (λ rows. length rows.items ≤ MOST_ROWS) }
 {
     let library = read_library(alloc, layout)?;
+    let layers = layers_of_library(rt, alloc, map, top, library)?;
     let sharing = Sharing {
         edge,
         workers,
         gate,
     };
-    rows_of_library(rt, alloc, map, top, library, sharing)
+    let rows = critical_areas(rt, alloc, map, &layers, sharing)?;
+    Ok(rows)
 }

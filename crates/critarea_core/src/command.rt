@@ -7,9 +7,9 @@ ghost use Rattle.critarea_core.specs.Run.{RunsTo, StartsNamed, change, known_gau
 use super::analysis::find_in_layout;
 use super::found::Found;
 use super::printing::print;
+use super::query::query_of;
 use super::sources::{layout_for, map_for};
 use super::unreported::Unreported;
-use super::wanted::wanted_of;
 use command_line::{Request, Task, Word, read_words};
 use critical_areas::{Gate, Sharing};
 use edge_io::{Files, Sink};
@@ -53,10 +53,10 @@ fn find_for_request<F: Files, G: Gate + Sync>(
         gate,
     };
     let map = map_for(alloc, request, files)?;
-    let wanted = wanted_of(request, &map)?;
+    let query = query_of(request, &map)?;
     let bytes = layout_for(alloc, request, files)?;
     let top = top_of(&request.task);
-    Ok(find_in_layout(rt, alloc, &map, wanted, top, bytes, sharing)?)
+    Ok(find_in_layout(rt, alloc, &map, query, top, bytes, sharing)?)
 }
 
 /// What the words ask for, or why it is not found.

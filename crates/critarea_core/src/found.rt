@@ -1,9 +1,9 @@
 ghost use Rattle.std.specs.Prelude.{◌≤◌, length};
 ghost use Rattle.questions.specs.declared.row.TheConstants.{MOST_ROWS};
-ghost use Rattle.region_out.specs.Regions.{AreUnits};
+ghost use Rattle.region_out.specs.RegionLibraries.{AreUnits};
 
 use geo_core::Rect;
-use map_probe::MetalNear;
+use layout_probe::MetalNear;
 use pair_report::PairTables;
 use questions::Row;
 

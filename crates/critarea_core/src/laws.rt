@@ -6,7 +6,7 @@
 
 ghost use Rattle.std.specs.Prelude.{ℕ, pos, List, [], All, Any, Contains, Some, length, slice_get, ◌+◌, ◌-◌, ◌/◌, ◌<◌, ◌≤◌, ◌≡◌, ◌↔◌};
 ghost use Rattle.critarea_core.specs.Coverage.{IsCoveredOn};
-ghost use Rattle.critarea_core.specs.Dues.{ArePairRowsOn, AreRowsOn, IsProbeOn, IsRegionOn};
+ghost use Rattle.critarea_core.specs.Outputs.{ArePairRowsOn, AreRowsOn, IsProbeOn, IsRegionOn};
 ghost use Rattle.critarea_core.specs.Layout.{Subject};
 ghost use Rattle.critarea_core.specs.WholeCells.{IsOfWholeCells};
 ghost use Rattle.area_parts.specs.FaultKinds.{IsFault};
@@ -24,9 +24,9 @@ ghost use Rattle.lists.specs.Differing.{AreDifferent};
 ghost use Rattle.map_model.specs.LayerMap.{LayerMap, layers_of};
 ghost use Rattle.map_model.specs.Layers.{names_of};
 ghost use Rattle.map_model.specs.Measures.{side_by};
-ghost use Rattle.map_pairs.specs.PairAreas.{TouchesSomeNets};
-ghost use Rattle.map_probe.specs.declared.metal_near.MetalNear.{MetalNear};
-ghost use Rattle.map_regions.specs.Regions.{cell_count};
+ghost use Rattle.layout_pairs.specs.PairAreas.{TouchesSomeNets};
+ghost use Rattle.layout_probe.specs.declared.metal_near.MetalNear.{MetalNear};
+ghost use Rattle.layout_regions.specs.Regions.{cell_count};
 ghost use Rattle.near_index.specs.declared.nearest.Near.{Near};
 ghost use Rattle.net_extract.specs.Cuts.{cuts_of};
 ghost use Rattle.questions.specs.Questions.{IsRowFor, questions};

@@ -2,7 +2,7 @@
 //! library, or the first refusal.
 //!
 //! `run` reads the words, then the map, and then the layout, and looks at nothing behind what is refused (`command`,
-//! `sources`). Where the words ask for what the map does not have, the layout is not looked at (`wanted`). `analysis` goes from the
+//! `sources`). Where the words ask for what the map does not have, the layout is not looked at (`query`). `analysis` goes from the
 //! bytes of a layout to what is asked, over lists of rectangles for each layer (`layers`).
 //! What is due is made whole before its first byte is written (`printing`), so a run that is refused has written nothing
 //! but its line. Here the side of texts and the side of faults meet: the cells that the definitions of faults ask about
@@ -18,11 +18,11 @@ mod layers;
 mod layout_fault;
 mod named_layers;
 mod printing;
+mod query;
 mod refusal;
 mod sources;
-mod told;
 mod unreported;
-mod wanted;
+mod words_of_system;
 
 pub use analysis::analyse;
 pub use boxed::run_boxed;
@@ -31,4 +31,4 @@ pub use command_line::{Request, Task, Word, WordsFault, read_words};
 pub use critical_areas::{Gate, NoGate};
 pub use layout_fault::LayoutFault;
 pub use printing::NO_MEMORY;
-pub use told::system_words;
+pub use words_of_system::system_words;

@@ -13,8 +13,7 @@ use Rattle.fault_model.specs.FaultNames.{IslandLists, IsIslandOpen}
 use Rattle.fault_model.proofs.UnionLaws.{union_none}
 use Rattle.severing.specs.Severing.{IsSomeOpen}
 use Rattle.open_grid.proofs.laws.GatheredLaws.{gathered}
-use Rattle.tile_plan.specs.Kept.{AreKept, all_seen, kept, dropped}
-use Rattle.tile_plan.specs.Near.{AreNear}
+use Rattle.tile_plan.specs.NearTiles.{AreKept, AreNear, all_seen, kept, dropped}
 use Rattle.tile_plan.proofs.laws.SeamLaws.{exactly_near}
 use Rattle.critical_areas.specs.RoundPieces.{IsRound}
 use Rattle.critical_areas.proofs.laws.NearIslandLaws.{far_parts_none}

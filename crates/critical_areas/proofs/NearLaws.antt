@@ -10,7 +10,7 @@ use Rattle.fault_model.proofs.CellLaws.{Contains-cells_of}
 use Rattle.fault_model.proofs.HalfLaws.{some_half}
 use Rattle.fault_model.proofs.TallyLaws.{Tally-same}
 use Rattle.short_area.specs.Labels.{TouchesLabel, TouchesTwoLabels}
-use Rattle.tile_plan.specs.Near.{AreNear, HasExactlyNear, IsHit, IsNearTile}
+use Rattle.tile_plan.specs.NearTiles.{AreNear, HasExactlyNear, IsHit, IsNearTile}
 use Rattle.tile_plan.proofs.laws.SeamLaws.{hit_is_near, near_in_any_order}
 use Rattle.via_clusters.specs.Blocks.{CoversBox, CoversSomeBox}
 

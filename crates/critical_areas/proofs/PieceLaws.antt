@@ -9,7 +9,7 @@ use Rattle.geo_core.specs.declared.plane.Rect.{Rect}
 use Rattle.fault_model.specs.FaultNames.{IsShort, IsOn, IsInFootprint, Cut}
 use Rattle.fault_model.proofs.FaultLaws.{none_at, short_at}
 use Rattle.short_area.specs.Labels.{TouchesLabel, TouchesTwoLabels}
-use Rattle.tile_plan.specs.Near.{HasExactlyNear, HitsLabel, HitsTwoLabels}
+use Rattle.tile_plan.specs.NearTiles.{HasExactlyNear, HitsLabel, HitsTwoLabels}
 use Rattle.tile_plan.proofs.laws.SeamLaws.{same_two_labels}
 use Rattle.area_parts.specs.AreaParts.{IsInPieces, ArePiecesOf}
 

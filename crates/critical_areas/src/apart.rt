@@ -13,7 +13,7 @@ ghost use Rattle.geo_core.specs.declared.plane.Cell.{Cell};
 ghost use Rattle.critical_areas.specs.RoundPieces.{IsRound};
 ghost use Rattle.critical_areas.specs.inside.IslandsApart.{AreApart, IsOneOpen};
 
-use super::edges::further_tiles;
+use super::tile_size::further_tiles;
 use area_parts::MetalIslands;
 use fault_model::Island;
 use geo_core::{Labelled, Rect, join};

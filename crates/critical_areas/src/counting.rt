@@ -2,8 +2,8 @@ ghost use Rattle.std.specs.Prelude.{◌≤◌, ◌<◌, ◌^◌, IfOk, All, leng
 ghost use Rattle.fault_model.specs.Areas.{cells_of, cells_of_window};
 ghost use Rattle.area_parts.specs.AskedCounts.{AreCounted};
 
-use super::edges::{sensible_plan, shared_edge};
 use super::sharing::Sharing;
+use super::tile_size::{sensible_plan, shared_edge};
 use super::tiles::Tiles;
 use area_parts::Asked;
 use geo_core::Rect;

@@ -7,7 +7,7 @@ ghost use Rattle.critical_areas.specs.inside.Indexes.{AreOpensIn, AreReordered, 
 ghost use Rattle.critical_areas.specs.inside.IslandsApart.{AreApart};
 
 use super::apart::{Apart, cells_of_islands};
-use super::edges::greatest_reach;
+use super::tile_size::greatest_reach;
 use area_parts::{Asked, Parts};
 use geo_core::{Labelled, Rect};
 use lists::{Items, NoMemory};

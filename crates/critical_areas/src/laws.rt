@@ -15,7 +15,7 @@ ghost use Rattle.geo_core.specs.declared.plane.Cell.{Cell};
 ghost use Rattle.geo_core.specs.declared.plane.Labelled.{Labelled};
 ghost use Rattle.geo_core.specs.declared.plane.Rect.{Rect};
 ghost use Rattle.map_model.specs.LayerMap.{LayerMap};
-ghost use Rattle.tile_plan.specs.Near.{HasExactlyNear, HitsTwoLabels, IsNearTile};
+ghost use Rattle.tile_plan.specs.NearTiles.{HasExactlyNear, HitsTwoLabels, IsNearTile};
 
 use fault_model::Layout;
 

@@ -6,7 +6,7 @@
 //!
 //! - `sensible_plan` cuts the window into tiles. Their edge is the one that is asked for, or shorter where several workers
 //!   would have too few tiles for opens of many rectangles, and it is doubled where tiles would be too many, would look at
-//!   long pieces too often, or would ask too many questions (`edges`).
+//!   long pieces too often, or would ask too many questions (`tile_size`).
 //! - The tiles are work to share (`Tiles`): each is a ticket and each question a slot, and the amount of the two is at
 //!   how many cells of the tile a defect does what the question asks for. `tile_work::run_tiles` has this done by
 //!   workers, and `close_sums` gives each slot the sum over all tickets, which is the tally of the window. It does not
@@ -21,11 +21,10 @@
 mod answering;
 mod apart;
 mod counting;
-mod edges;
 mod indexes;
 pub mod laws;
 mod sharing;
-mod sizes;
+mod tile_size;
 mod tiles;
 
 ghost use Rattle.std.specs.Prelude.{◌≡◌, ◌≤◌, ◌+◌, IfOk, All, length};
@@ -37,6 +36,7 @@ ghost use Rattle.questions.specs.declared.row.TheConstants.{MOST_ROWS};
 
 use answering::counted_rows;
 pub use answering::rows;
+pub use area_parts::{Asked, Parts};
 use area_parts::{prepare, reach, window_of};
 pub use counting::amounts;
 use map_model::{Layers, Map};

@@ -14,10 +14,9 @@ ghost use Rattle.via_clusters.specs.Blocks.{CoversSomeBox};
 ghost use Rattle.critical_areas.specs.inside.IslandsApart.{AreApart, IsOneOpen};
 
 use super::apart::{Apart, all_apart, cells_of_islands, numbers_of};
-use super::edges::greatest_reach;
 use super::indexes::{indexes_of, metals_of, opens_of};
-use super::sizes::{covering_radius, reach_of_side};
-use area_parts::Asked;
+use super::tile_size::greatest_reach;
+use area_parts::{Asked, covering_radius, reach_of_side};
 use fault_model::Island;
 use geo_core::{Labelled, Rect};
 use lists::NoMemory;

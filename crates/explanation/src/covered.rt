@@ -1,23 +1,29 @@
 //! What the layers of a map cover, as it is analysed.
 
-ghost use Rattle.std.specs.Prelude.{◌≡◌, ◌+◌, true, All, IfOk, IfSome, length};
+ghost use Rattle.std.specs.Prelude.{◌≡◌, ◌+◌, true, All, IfSome, length};
 ghost use Rattle.geo_core.specs.Cells.{IsInLayout};
 
 use geo_core::{FARTHEST, Rect, RectList};
-use input_explanation::Held;
-use lists::NoMemory;
+use input_explanation::{Held, Telling};
 use map_model::{Layers, Map};
-use std::alloc::Global;
+
+/// What a layer covers, as a list of its own.
+fn list_of(told: &mut Telling, held: &Held) -> RectList {
+    let mut rects = Vec::new(told.alloc);
+    if rects.extend_from_slice(held.rects.as_slice()).is_err() {
+        told.lose();
+    }
+    RectList::from_vec(rects)
+}
 
 /// What the layers cover, a list for each.
-fn layers_of(alloc: Global, held: &[Held]) -> Result<Layers, NoMemory> {
-    let mut lists = Vec::new(alloc);
+fn layers_of(told: &mut Telling, held: &[Held]) -> Layers {
+    let mut lists = Vec::new(told.alloc);
     for one in held {
-        let mut rects = Vec::new(alloc);
-        rects.extend_from_slice(one.rects.as_slice())?;
-        lists.push(RectList::from_vec(rects))?;
+        let list = list_of(told, one);
+        told.keep(&mut lists, list);
     }
-    Ok(Layers { lists })
+    Layers { lists }
 }
 
 /// Whether a rectangle lies where those of a layout do.
@@ -56,15 +62,14 @@ fn are_all_near(lists: &[RectList]) -> bool
 
 /// What these layers cover, where there is one for each metal and each cut of the map and all of it lies where that of a layout
 /// does. So it is with the layers of every layout.
-pub fn covered_layers(alloc: Global, map: &Map, held: &[Held]) -> Result<Option<Layers>, NoMemory>
-    ensures one_each { IfOk result (λ found. IfSome found (λ layers.
-        length layers.lists.items ≡ length map.now.metals + length map.now.cuts)) }
-    ensures within { IfOk result (λ found. IfSome found (λ layers. All (All IsInLayout) layers.lists.items)) }
+pub fn covered_layers(told: &mut Telling, map: &Map, held: &[Held]) -> Option<Layers>
+    ensures one_each { IfSome result (λ layers. length layers.lists.items ≡ length map.now.metals + length map.now.cuts) }
+    ensures within { IfSome result (λ layers. All (All IsInLayout) layers.lists.items) }
 {
-    let layers = layers_of(alloc, held)?;
+    let layers = layers_of(told, held);
     let count = map.metals.as_slice().len() + map.cuts.as_slice().len();
     if layers.lists.len() != count || !are_all_near(layers.lists.as_slice()) {
-        return Ok(None);
+        return None;
     }
-    Ok(Some(layers))
+    Some(layers)
 }

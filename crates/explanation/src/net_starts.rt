@@ -4,12 +4,10 @@ ghost use Rattle.std.specs.Prelude.{◌≡◌, ◌+◌, length};
 
 use area_parts::{Parts, prepare};
 use geo_core::Cell;
-use input_explanation::Text;
-use lists::NoMemory;
+use input_explanation::Telling;
 use map_model::{Layers, Map};
 use net_extract::NetFault;
 use net_numbers::first_cells;
-use std::alloc::Global;
 
 /// The first cells of the nets of each metal, in the order of their numbers.
 #[derive(Drop)]
@@ -19,43 +17,46 @@ pub struct NetStarts {
 
 impl NetStarts {
     /// Those of the pieces of each metal.
-    fn of(alloc: Global, parts: &Parts) -> Result<NetStarts, NoMemory> {
-        let mut metals = Vec::new(alloc);
+    fn of(told: &mut Telling, parts: &Parts) -> NetStarts {
+        let mut metals = Vec::new(told.alloc);
         for pieces in parts.metals.as_slice() {
-            metals.push(first_cells(alloc, pieces.as_slice())?)?;
+            match first_cells(told.alloc, pieces.as_slice()) {
+                Ok(cells) => told.keep(&mut metals, cells),
+                Err(_) => told.lose(),
+            }
         }
-        Ok(NetStarts { metals })
+        NetStarts { metals }
     }
 
     /// Tells a net of a metal by its number and its first cell.
-    pub fn tell(&self, text: &mut Text, before: &str, metal: usize, number: usize) {
-        text.number(before, number as u64, "");
-        let Some(cells) = self.metals.get(metal) else {
-            return;
-        };
-        if let Some(cell) = cells.get(number) {
-            text.point(" from ", i64::from(cell.i), i64::from(cell.j), " on");
+    pub fn tell(&self, told: &mut Telling, before: &str, metal: usize, number: usize) {
+        told.number(before, number as u64, "");
+        if let Some(cells) = self.metals.get(metal)
+            && let Some(cell) = cells.get(number)
+        {
+            told.point(" from ", cell.i, cell.j, " on");
         }
     }
 }
 
 /// What was found of nets, if all terminals of the map are on their metals and memory was left. Otherwise the text is not whole
 /// if memory was not.
-pub fn of_nets<T: Drop>(text: &mut Text, found: Result<T, NetFault>) -> Option<T> {
+pub fn of_nets<T: Drop>(told: &mut Telling, found: Result<T, NetFault>) -> Option<T> {
     match found {
-        Ok(found) => Some(found),
-        Err(NetFault::Memory) => {
-            text.lose();
-            None
-        }
-        Err(_) => None,
+        Ok(found) => return Some(found),
+        Err(NetFault::Memory) => told.lose(),
+        Err(_) => {}
     }
+    None
 }
 
 /// The first cells of the nets of what these layers cover, where all terminals of the map are on their metals.
-pub fn net_starts(alloc: Global, text: &mut Text, map: &Map, layers: &Layers) -> Option<NetStarts>
+pub fn net_starts(told: &mut Telling, map: &Map, layers: &Layers) -> Option<NetStarts>
     requires { length layers.now.lists.items ≡ length map.now.metals + length map.now.cuts }
 {
-    let parts = of_nets(text, prepare(alloc, map, layers))?;
-    text.got(NetStarts::of(alloc, &parts))
+    let found = prepare(told.alloc, map, layers);
+    match of_nets(told, found) {
+        Some(parts) => Some(NetStarts::of(told, &parts)),
+        None => None,
+    }
 }

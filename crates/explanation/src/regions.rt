@@ -2,15 +2,14 @@
 
 ghost use Rattle.std.specs.Prelude.{◌≡◌, ◌+◌, All, IfSome, length};
 ghost use Rattle.geo_core.specs.Cells.{IsInLayout};
-ghost use Rattle.map_regions.specs.Regions.{IsNumberFor};
+ghost use Rattle.layout_regions.specs.Regions.{IsNumberFor};
 
 use crate::net_starts::of_nets;
 use geo_core::Rect;
-use input_explanation::{NamedRow, Text, cut_place, metal_place};
+use input_explanation::{NamedRow, Telling, cut_place, metal_place};
+use layout_regions::regions;
 use map_model::{Layers, Map, Measure};
-use map_regions::regions;
 use questions::Kind;
-use std::alloc::Global;
 
 /// What is said of the output.
 const OUTPUT: &str =
@@ -20,77 +19,75 @@ const OUTPUT: &str =
 fn cell_count(rects: &[Rect]) -> u64 {
     let mut count = 0u64;
     for rect in rects {
-        let columns = i64::from(rect.x1).saturating_sub(i64::from(rect.x0));
-        let rows = i64::from(rect.y1).saturating_sub(i64::from(rect.y0));
-        let cells = columns.unsigned_abs().saturating_mul(rows.unsigned_abs());
-        count = count.saturating_add(cells);
+        let columns = rect.x0.abs_diff(rect.x1);
+        let rows = rect.y0.abs_diff(rect.y1);
+        count = count.saturating_add(u64::from(columns).saturating_mul(u64::from(rows)));
     }
     count
 }
 
-/// The one of two that begins in the lower row, and of the same row the one farther to the left.
-fn earlier(known: Option<Rect>, other: Rect) -> Option<Rect> {
-    match known {
-        Some(one) if (one.y0, one.x0) <= (other.y0, other.x0) => Some(one),
-        _ => Some(other),
-    }
-}
-
-/// The first of the rectangles, row by row from below.
+/// The first of the rectangles, row by row from below, and of a row the one farthest to the left.
 fn first_of(rects: &[Rect]) -> Option<Rect> {
-    let mut first = None;
+    let mut first: Option<Rect> = None;
     for rect in rects {
-        first = earlier(first, *rect);
+        first = match first {
+            Some(one) if (one.y0, one.x0) <= (rect.y0, rect.x0) => Some(one),
+            _ => Some(*rect),
+        };
     }
     first
 }
 
 /// Tells the row as the report has it in front of its area.
-fn tell_row(text: &mut Text, row: NamedRow<'_>, measure: Measure, size: u32) {
-    text.word("  critical cells that the row `", row.kind_word(), " ");
-    text.raw(row.layer);
-    text.say(match measure {
+fn tell_row(told: &mut Telling, row: NamedRow<'_>, measure: Measure, size: u32) {
+    told.word("  critical cells that the row `", row.kind_word(), " ");
+    told.raw(row.layer);
+    told.say(match measure {
         Measure::Radius => " r=",
         Measure::Side => " s=",
     });
-    text.number("", u64::from(size), "` of the report counts: ");
+    told.number("", u64::from(size), "` of the report counts: ");
 }
 
 /// Tells how many cells the rectangles have, how many they are, and where the first of them lies.
-fn tell_rects(text: &mut Text, rects: &[Rect]) {
+fn tell_rects(told: &mut Telling, rects: &[Rect]) {
     let count = rects.len() as u64;
-    text.number("", cell_count(rects), " in ");
-    let rectangles = if count == 1 {
-        " rectangle"
-    } else {
-        " rectangles"
-    };
-    text.number("", count, rectangles);
+    told.number("", cell_count(rects), " in ");
+    told.number(
+        "",
+        count,
+        if count == 1 {
+            " rectangle"
+        } else {
+            " rectangles"
+        },
+    );
     if let Some(first) = first_of(rects) {
-        text.point(
+        told.point(
             ", the first of which, row by row from below, is from ",
-            i64::from(first.x0),
-            i64::from(first.y0),
+            first.x0,
+            first.y0,
             " to ",
         );
-        text.point("", i64::from(first.x1), i64::from(first.y1), "");
+        told.point("", first.x1, first.y1, "");
     }
-    text.say("\n");
+    told.say("\n");
 }
 
 /// Tells what a rectangle is.
-fn tell_meaning(text: &mut Text, kind: Kind, measure: Measure, size: u32) {
-    text.say(match measure {
-        Measure::Radius => "    a rectangle is where the middle of a defect of radius ",
-        Measure::Side => "    a rectangle is where the middle of a defect of side ",
+fn tell_meaning(told: &mut Telling, kind: Kind, measure: Measure, size: u32) {
+    told.say("    a rectangle is where the middle of a defect of ");
+    told.say(match measure {
+        Measure::Radius => "radius ",
+        Measure::Side => "side ",
     });
-    text.number("", u64::from(size), " may lie that ");
-    text.say(match kind {
+    told.number("", u64::from(size), " may lie that ");
+    told.say(match kind {
         Kind::Short => "makes a short",
         Kind::Open => "makes an open",
         Kind::Via => "blocks a via",
     });
-    text.say(", and not where such a defect reaches\n");
+    told.say(", and not where such a defect reaches\n");
 }
 
 /// The number of the row's layer as questions have it, if the map has it: that of a cut follows those of the metals.
@@ -107,27 +104,24 @@ fn layer_number(map: &Map, row: NamedRow<'_>) -> Option<u32>
 }
 
 /// Tells the critical cells of the row by what these layers cover.
-pub fn tell_regions(
-    alloc: Global,
-    text: &mut Text,
-    map: &Map,
-    layers: &Layers,
-    row: NamedRow<'_>,
-) -> Option<()>
+pub fn tell_regions(told: &mut Telling, map: &Map, layers: &Layers, row: NamedRow<'_>)
     requires one_each { length layers.now.lists.items ≡ length map.now.metals + length map.now.cuts }
     requires within { All (All IsInLayout) layers.now.lists.items }
 {
-    let number = layer_number(map, row)?;
+    let Some(number) = layer_number(map, row) else {
+        return;
+    };
     let place = row.size.saturating_sub(1);
     let sizes = map.sizes.as_slice();
     if place as usize >= sizes.len() {
-        return None;
+        return;
     }
-    let rects = of_nets(text, regions(alloc, map, layers, row.kind, number, place))?;
     let size = sizes[place as usize];
-    tell_row(text, row, map.measure, size);
-    tell_rects(text, rects.as_slice());
-    text.say(OUTPUT);
-    tell_meaning(text, row.kind, map.measure, size);
-    Some(())
+    let found = regions(told.alloc, map, layers, row.kind, number, place);
+    if let Some(rects) = of_nets(told, found) {
+        tell_row(told, row, map.measure, size);
+        tell_rects(told, rects.as_slice());
+        told.say(OUTPUT);
+        tell_meaning(told, row.kind, map.measure, size);
+    }
 }

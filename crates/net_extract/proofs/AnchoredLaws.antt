@@ -17,9 +17,9 @@ use Rattle.net_extract.specs.Standing.{groups_of, standing_on, terminals_on_isla
 use Rattle.net_extract.specs.inside.Anchoring.{AreDifferentCarried, IsThere}
 use Rattle.net_extract.specs.declared.pieces.ContactGroup.{ContactGroup}
 use Rattle.net_extract.specs.declared.pieces.Piece.{Piece}
-use Rattle.net_extract.specs.declared.standing.MetalTerminal.{MetalTerminal}
-use Rattle.net_extract.specs.declared.standing.MetalTerminal.TheVariants.{Named}
-use Rattle.net_extract.specs.declared.standing.Standing.{Standing}
+use Rattle.net_extract.specs.declared.metal_terminals.MetalTerminal.{MetalTerminal}
+use Rattle.net_extract.specs.declared.metal_terminals.MetalTerminal.TheVariants.{Named}
+use Rattle.net_extract.specs.declared.metal_terminals.Standing.{Standing}
 use Rattle.lists.proofs.Pairing.{AllZip-push}
 use Rattle.lists.proofs.Containing.{Contains-slice_get, all_of_each, number_of, some_item}
 use Rattle.lists.proofs.Filtering.{Contains-filter, Contains-filter_passes, Contains-from_filter}

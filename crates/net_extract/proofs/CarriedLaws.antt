@@ -6,7 +6,7 @@ use Rattle.std.proofs.lemmas.Map.Keys.{IsStrictlyIncreasing-dedup}
 use Rattle.lists.specs.Differing.{AreDifferent}
 use Rattle.lists.proofs.Mapping.{Contains-map}
 use Rattle.net_extract.specs.inside.Anchoring.{AreDifferentCarried}
-use Rattle.net_extract.specs.declared.standing.Standing.{Standing}
+use Rattle.net_extract.specs.declared.metal_terminals.Standing.{Standing}
 
 -- sorted, and each once
 pub sorted_once : (terminals : List Standing) (numbers sorted once : List ℕ) → numbers ≡ map (λ (standing : Standing). standing.island) terminals → IsPermutation numbers sorted

@@ -14,9 +14,9 @@ use Rattle.net_extract.specs.NetLists.{NetLists}
 use Rattle.net_extract.specs.Standing.{groups_of, standing_cell, cells_standing, island_of_group, standing_group, groups_standing, clusters_standing, standing_on, terminals_on_island}
 use Rattle.net_extract.specs.declared.pieces.Anchor.{Anchor}
 use Rattle.net_extract.specs.declared.pieces.ContactGroup.{ContactGroup}
-use Rattle.net_extract.specs.declared.standing.MetalTerminal.{MetalTerminal}
-use Rattle.net_extract.specs.declared.standing.MetalTerminal.TheVariants.{Named, Group}
-use Rattle.net_extract.specs.declared.standing.Standing.{Standing}
+use Rattle.net_extract.specs.declared.metal_terminals.MetalTerminal.{MetalTerminal}
+use Rattle.net_extract.specs.declared.metal_terminals.MetalTerminal.TheVariants.{Named, Group}
+use Rattle.net_extract.specs.declared.metal_terminals.Standing.{Standing}
 use Rattle.net_extract.proofs.MadeLaws.{place_of}
 use Rattle.net_extract.proofs.WalkLaws.{got_unnumbered}
 

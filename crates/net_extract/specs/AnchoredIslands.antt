@@ -11,8 +11,8 @@ use Rattle.net_extract.specs.ContactGroups.{AreGroupsOf}
 use Rattle.net_extract.specs.NetLists.{NetLists, pieces_on}
 use Rattle.net_extract.specs.Standing.{groups_of, terminals_on_island}
 use Rattle.net_extract.specs.declared.pieces.ContactGroup.{ContactGroup}
-use Rattle.net_extract.specs.declared.standing.MetalTerminal.{MetalTerminal}
-use Rattle.net_extract.specs.declared.standing.MetalTerminal.TheVariants.{Named, Group}
+use Rattle.net_extract.specs.declared.metal_terminals.MetalTerminal.{MetalTerminal}
+use Rattle.net_extract.specs.declared.metal_terminals.MetalTerminal.TheVariants.{Named, Group}
 
 -- the rectangles of the metal's pieces that carry the island
 abbrev pub rects_of_island : NetLists → ℕ → ℕ → List Rect

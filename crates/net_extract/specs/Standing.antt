@@ -4,9 +4,9 @@ use Rattle.lists.specs.Words.{enumerate_from, range_with_len}
 use Rattle.net_extract.specs.NetLists.{NetLists}
 use Rattle.net_extract.specs.declared.pieces.Anchor.{Anchor}
 use Rattle.net_extract.specs.declared.pieces.ContactGroup.{ContactGroup}
-use Rattle.net_extract.specs.declared.standing.MetalTerminal.{MetalTerminal}
-use Rattle.net_extract.specs.declared.standing.MetalTerminal.TheVariants.{Named, Group}
-use Rattle.net_extract.specs.declared.standing.Standing.{Standing}
+use Rattle.net_extract.specs.declared.metal_terminals.MetalTerminal.{MetalTerminal}
+use Rattle.net_extract.specs.declared.metal_terminals.MetalTerminal.TheVariants.{Named, Group}
+use Rattle.net_extract.specs.declared.metal_terminals.Standing.{Standing}
 
 -- the groups of the cut with this number
 abbrev pub groups_of : List (List ContactGroup) → ℕ → List ContactGroup

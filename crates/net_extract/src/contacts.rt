@@ -5,9 +5,9 @@ ghost use Rattle.net_extract.specs.inside.LabelledCells.{AreContactsOf, AreParts
 ghost use Rattle.net_extract.specs.inside.Numbering.{AreContactLists};
 
 use super::meetings::meetings;
+use super::merging::slim;
 use super::metals::IslandList;
 use super::pieces::ContactList;
-use super::slimming::slim;
 use geo_core::{Labelled, Rect, RectList};
 use lists::{Items, NoMemory};
 use map_model::Cut;

@@ -1,8 +1,8 @@
 ghost use Rattle.std.specs.Prelude.{ℕ, ◌≡◌, ◌==◌, All, IfOk, filter};
 ghost use Rattle.std.specs.List.Sorted.{IsNonDecreasingBy};
 
+use super::metal_terminals::Standing;
 use super::pieces::Piece;
-use super::standing::Standing;
 use lists::NoMemory;
 use std::alloc::Global;
 

@@ -17,7 +17,7 @@
 //!    boxes of clusters and the terminals of both metals.
 //! 5. **Anchors** (`anchors`). A terminal is a rectangle of one cell, and `meetings` tells its island; where there is
 //!    none the answer is 50. This comes before contacts are sought.
-//! 6. **Terminals** (`standing`). The anchors of a metal and, where clusters are terminals, the groups of its cuts, sorted
+//! 6. **Terminals** (`metal_terminals`). The anchors of a metal and, where clusters are terminals, the groups of its cuts, sorted
 //!    by their islands. `Nets::islands` gives an island a spot for each (`spots`).
 //!
 //! Two metals and a cut, in which a letter is a piece and a dot is nothing:
@@ -44,20 +44,20 @@
 #![tactic(auto)]
 
 mod anchors;
-mod carried;
 mod contact_groups;
 mod contacts;
 mod fault;
 mod grouped;
+mod island_terminals;
 pub mod laws;
 mod meetings;
+mod merging;
+pub mod metal_terminals;
 mod metals;
 mod nets;
 mod numbers;
 mod pieces;
-mod slimming;
 mod spots;
-pub mod standing;
 
 ghost use Rattle.std.specs.Prelude.{◌≡◌, ◌+◌, IfOk, length, map};
 ghost use Rattle.std.specs.List.{AllZip};

@@ -2,7 +2,7 @@ ghost use Rattle.std.specs.Prelude.{◌+◌, ◌^◌, ◌<◌, ◌≤◌, IfOk, 
 ghost use Rattle.map_model.specs.declared.limits.TheConstants.{MOST_METALS};
 ghost use Rattle.net_extract.specs.inside.Numbering.{AreIslandsFrom, AreIslandsOf};
 
-use super::slimming::slim;
+use super::merging::slim;
 use geo_core::{Labelled, Rect, RectList, join};
 use islands::label;
 use lists::{Items, NoMemory};

@@ -1,10 +1,10 @@
 ghost use Rattle.std.specs.Prelude.{◌≡◌, ◌<◌, All, IfOk, length};
 
-use super::carried::{islands_carried, rects_on};
 use super::grouped::{by_island, part_of, terminals_at, terminals_by_island};
+use super::island_terminals::{islands_carried, rects_on};
+use super::metal_terminals::terminals_on;
 use super::pieces::{Anchor, ContactGroup, ContactList, ContactPiece, GroupList, Piece, PieceList};
 use super::spots::spots_of;
-use super::standing::terminals_on;
 use fault_model::{Island, Spots};
 use geo_core::RectList;
 use lists::{Items, NoMemory};

@@ -5,8 +5,8 @@ ghost use Rattle.geo_core.specs.declared.plane.Cell.{Cell as Square};
 ghost use Rattle.net_extract.specs.AnchoredIslands.{IsSpotOf, IsSpotOfTerminal};
 ghost use Rattle.net_extract.specs.inside.Anchoring.{IsThere, MayBeCovered};
 
+use super::metal_terminals::{MetalTerminal, Standing};
 use super::pieces::GroupList;
-use super::standing::{MetalTerminal, Standing};
 use fault_model::Spot;
 use geo_core::{Cell, Rect, RectList};
 use lists::NoMemory;

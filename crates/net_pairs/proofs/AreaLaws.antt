@@ -12,11 +12,11 @@ use Rattle.union_area.proofs.laws.PartLaws.{few_tallied, parts_tally}
 use Rattle.std.proofs.Math.Nat.{mod-eq_of_lt}
 use Rattle.short_area.specs.Zones.{AreAlikeIn, AreZonesOf, IsCountOf, IsInLabel, IsInTwoLabels}
 use Rattle.net_pairs.specs.Pairs.{IsPairArea, TouchesBoth}
-use Rattle.net_pairs.specs.inside.Gains.{GainsCells, IsInBoth}
-use Rattle.net_pairs.specs.inside.LabelRuns.{AreRunsOf}
+use Rattle.net_pairs.specs.inside.PairGains.{GainsCells, IsInBoth}
+use Rattle.net_pairs.specs.inside.RunsOfLabels.{AreRunsOf}
 use Rattle.net_pairs.specs.inside.PairSteps.{HaveOneLabel, HaveTwoLabels}
 use Rattle.net_pairs.specs.inside.Sums.{cells_for}
-use Rattle.net_pairs.specs.inside.Rests.{HaveOneRest}
+use Rattle.net_pairs.specs.inside.SameRests.{HaveOneRest}
 use Rattle.net_pairs.proofs.RestLaws.{rest_chained, rest_equal, rest_trans}
 use Rattle.net_pairs.proofs.GainLaws.{gains_none, gains_pair, gains_same}
 use Rattle.net_pairs.proofs.SumLaws.{Item}

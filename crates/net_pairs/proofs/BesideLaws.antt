@@ -7,7 +7,7 @@ use Rattle.geo_core.specs.declared.plane.Cell.{Cell}
 use Rattle.geo_core.specs.declared.plane.Labelled.{Labelled}
 use Rattle.short_area.specs.Zones.{IsInLabel}
 use Rattle.net_pairs.specs.inside.Beside.{AreKeptTo, HaveSameBoth, IsAlone, KeepsBeside}
-use Rattle.net_pairs.specs.inside.Gains.{IsInBoth}
+use Rattle.net_pairs.specs.inside.PairGains.{IsInBoth}
 
 pub not_true : (b : Bool) → IsTrue b → b ≡ false → ⊥
 not_true b t f = false≢true (sym f ∙ is_true b t) where

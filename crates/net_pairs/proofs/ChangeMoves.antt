@@ -13,10 +13,10 @@ use Rattle.fault_model.specs.FaultNames.{or_zero}
 use Rattle.skyline_runs.specs.Depths.{has_cell}
 use Rattle.skyline_runs.proofs.laws.DepthLaws.{has_from, has_so}
 use Rattle.net_pairs.specs.declared.weighted.Weighted.{Weighted}
-use Rattle.net_pairs.specs.inside.Changes.{CoverAlike, IsChangeIn, below, count_in, weight_at}
+use Rattle.net_pairs.specs.inside.RowChanges.{CoverAlike, IsChangeIn, below, count_in, weight_at}
 use Rattle.net_pairs.specs.inside.Dense.{AreLowered, AreSlabsOf, AreWeighed, GainsLower, IsOneLower, rows_up, weighed_in}
 use Rattle.net_pairs.specs.inside.Meetings.{counted_once}
-use Rattle.net_pairs.specs.inside.Rests.{HaveOneRest}
+use Rattle.net_pairs.specs.inside.SameRests.{HaveOneRest}
 use Rattle.net_pairs.proofs.CommonWeights.{weight_if}
 use Rattle.net_pairs.proofs.RestLaws.{rest_added, rest_equal, rest_trans, rest_wrapped_product}
 

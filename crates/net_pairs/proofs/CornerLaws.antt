@@ -9,9 +9,9 @@ use Rattle.geo_core.specs.declared.plane.Rect.{Rect}
 use Rattle.skyline_runs.specs.Depths.{has_cell}
 use Rattle.skyline_runs.proofs.laws.DepthLaws.{from_le, has_from, has_not, has_so, le_false, le_true, lt_false, lt_true}
 use Rattle.net_pairs.specs.declared.corners.Corner.{Corner}
-use Rattle.net_pairs.specs.inside.Changes.{CoverAlike, below, count_in}
-use Rattle.net_pairs.specs.inside.Corners.{AreCornersOf, AreOfOnePlace, GainAlike, GainsCorner, GainsCorners, corner_at, gain_at, gained, rect_corners}
-use Rattle.net_pairs.specs.inside.Rests.{HaveOneRest}
+use Rattle.net_pairs.specs.inside.RowChanges.{CoverAlike, below, count_in}
+use Rattle.net_pairs.specs.inside.ChangeCorners.{AreCornersOf, AreOfOnePlace, GainAlike, GainsCorner, GainsCorners, corner_at, gain_at, gained, rect_corners}
+use Rattle.net_pairs.specs.inside.SameRests.{HaveOneRest}
 use Rattle.net_pairs.proofs.RestLaws.{rest_added, rest_cancelled, rest_equal, rest_refl, rest_sym, rest_trans, rest_wrapped}
 
 -- ---- a cell and one rectangle

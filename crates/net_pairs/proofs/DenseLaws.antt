@@ -15,11 +15,11 @@ use Rattle.skyline_runs.specs.Depths.{has_cell}
 use Rattle.skyline_runs.proofs.laws.DepthLaws.{has_from, has_not, has_so}
 use Rattle.short_area.specs.Zones.{IsInLabel}
 use Rattle.net_pairs.specs.declared.weighted.Weighted.{Weighted}
-use Rattle.net_pairs.specs.inside.Changes.{AreChangesOf, below, count_in, weight_at}
+use Rattle.net_pairs.specs.inside.RowChanges.{AreChangesOf, below, count_in, weight_at}
 use Rattle.net_pairs.specs.inside.Dense.{AreLowered, AreSlabsOf, AreWeighed, AreWeighedChangesOf, GainsByChanges, common_weight, rows_up}
-use Rattle.net_pairs.specs.inside.Gains.{GainsCells, IsInBoth}
-use Rattle.net_pairs.specs.inside.LabelRuns.{IsApart}
-use Rattle.net_pairs.specs.inside.Rests.{HaveOneRest}
+use Rattle.net_pairs.specs.inside.PairGains.{GainsCells, IsInBoth}
+use Rattle.net_pairs.specs.inside.RunsOfLabels.{IsApart}
+use Rattle.net_pairs.specs.inside.SameRests.{HaveOneRest}
 use Rattle.net_pairs.proofs.DoubleSums.{sums_added, sums_agree}
 use Rattle.net_pairs.proofs.RestLaws.{rest_added, rest_chained, rest_equal, rest_multiplied, rest_refl, rest_sums, rest_sym, rest_trans}
 use Rattle.net_pairs.proofs.RowSums.{sum_by_parts, sum_moved}

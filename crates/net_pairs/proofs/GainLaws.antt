@@ -7,7 +7,7 @@ use Rattle.geo_core.specs.declared.plane.Rect.{Rect}
 use Rattle.fault_model.specs.FaultNames.{Tally, cells_of}
 use Rattle.fault_model.proofs.CellLaws.{Contains-cells_of}
 use Rattle.fault_model.proofs.TallyLaws.{Tally-none, Tally-same}
-use Rattle.net_pairs.specs.inside.Gains.{GainsCells}
+use Rattle.net_pairs.specs.inside.PairGains.{GainsCells}
 use Rattle.net_pairs.specs.inside.Sums.{cells_for, cells_if}
 use Rattle.net_pairs.proofs.RestLaws.{rest_equal}
 use Rattle.net_pairs.proofs.SumLaws.{Item, of_pair_or_not}

@@ -21,7 +21,7 @@ use Rattle.std.proofs.lemmas.Bool.{le-ltb, lt-ltb}
 use Rattle.std.proofs.Math.Nat.{mul-zero}
 use Rattle.net_pairs.specs.inside.Meetings.{AreByRow, GainsSum, admits, begins_before, common_cells, common_item, crosses, is_earlier, meeting, meetings_of, meetings_with, meetings_with_span, meets_partly}
 use Rattle.net_pairs.specs.inside.Sums.{AreAlike, cells_for, cells_if}
-use Rattle.net_pairs.specs.inside.Rests.{HaveOneRest}
+use Rattle.net_pairs.specs.inside.SameRests.{HaveOneRest}
 use Rattle.net_pairs.proofs.RestLaws.{rest_added, rest_chained, rest_come, rest_equal, rest_multiplied, rest_refl, rest_trans, rest_wrapped}
 use Rattle.net_pairs.proofs.DoubleSums.{sum_of_kinds, sum_of_zeros, sums_added, sums_agree}
 use Rattle.net_pairs.proofs.SumLaws.{Item, cells_alike, of_pair_or_not}

@@ -14,8 +14,8 @@ use Rattle.std.proofs.lemmas.Bool.{le-ltb, lt-ltb}
 use Rattle.short_area.specs.Zones.{IsInLabel}
 use Rattle.net_pairs.specs.declared.weighted.Lesser.TheVariants.{Either}
 use Rattle.net_pairs.specs.declared.weighted.Weighted.{Weighted}
-use Rattle.net_pairs.specs.inside.Gains.{GainsCells, IsInBoth}
-use Rattle.net_pairs.specs.inside.LabelRuns.{IsApart}
+use Rattle.net_pairs.specs.inside.PairGains.{GainsCells, IsInBoth}
+use Rattle.net_pairs.specs.inside.RunsOfLabels.{IsApart}
 use Rattle.net_pairs.specs.inside.Meetings.{GainsSum, common_cells, common_item, counted_once, is_earlier, meeting, meetings_of, meetings_with}
 use Rattle.net_pairs.specs.inside.Sums.{cells_if}
 use Rattle.net_pairs.proofs.DoubleSums.{sum_of_zeros, sums_agree, sums_both_ways}

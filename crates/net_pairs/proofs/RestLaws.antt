@@ -4,7 +4,7 @@ use Rattle.std.proofs.Math.Nat.{add-mod-mod, add-mul-mod_self_left, mod-add-mod,
 use Rattle.std.proofs.lemmas.Nat.{mul-mod_first, mul-mod_second}
 use Rattle.lists.proofs.Words.{sum_by-cons}
 use Rattle.lists.proofs.Containing.{Contains-head, Contains-tail}
-use Rattle.net_pairs.specs.inside.Rests.{HaveOneRest}
+use Rattle.net_pairs.specs.inside.SameRests.{HaveOneRest}
 
 -- ---- any modulus
 

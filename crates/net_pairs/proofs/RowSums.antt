@@ -7,9 +7,9 @@ use Rattle.geo_core.specs.Plane.{Has}
 use Rattle.fault_model.specs.FaultNames.{cells_of, from, or_zero, range, row}
 use Rattle.fault_model.proofs.CellLaws.{has_from_listed}
 use Rattle.fault_model.proofs.RangeLaws.{or_zero_is}
-use Rattle.net_pairs.specs.inside.Changes.{below}
+use Rattle.net_pairs.specs.inside.RowChanges.{below}
 use Rattle.net_pairs.specs.inside.Dense.{rows_up}
-use Rattle.net_pairs.specs.inside.Rests.{HaveOneRest}
+use Rattle.net_pairs.specs.inside.SameRests.{HaveOneRest}
 use Rattle.net_pairs.proofs.DoubleSums.{sums_added, sums_agree}
 use Rattle.net_pairs.proofs.RestLaws.{rest_added, rest_multiplied, rest_equal, rest_refl, rest_sums, rest_trans}
 

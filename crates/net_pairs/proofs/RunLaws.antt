@@ -14,7 +14,7 @@ use Rattle.skyline_runs.specs.Runs.{AreApart, HaveSameCells}
 use Rattle.fault_model.proofs.UnionLaws.{among_union, corner_of, in_union}
 use Rattle.short_area.specs.Zones.{IsInLabel}
 use Rattle.short_area.proofs.laws.LabelLaws.{label_append}
-use Rattle.net_pairs.specs.inside.LabelRuns.{AreRunsOf, AreRunsTo, GainsRuns, IsApart, with_label}
+use Rattle.net_pairs.specs.inside.RunsOfLabels.{AreRunsOf, AreRunsTo, GainsRuns, IsApart, with_label}
 
 -- what holds of each two items of a list and of another, and of each item of the one with each of the other
 AllPairs-append : {X : Type 0} (R : X → X → Type 0) (xs ys : List X) → AllPairs R xs → AllPairs R ys → ((x y : X) → Contains xs x → Contains ys y → R x y) → AllPairs R (xs ++ ys)

@@ -9,9 +9,9 @@ use Rattle.skyline_runs.specs.Depths.{has_cell}
 use Rattle.skyline_runs.proofs.laws.DepthLaws.{from_le, from_lt, has_from, has_so, le_true, lt_true}
 use Rattle.net_pairs.specs.declared.corners.Corner.{Corner}
 use Rattle.net_pairs.specs.declared.weighted.Weighted.{Weighted}
-use Rattle.net_pairs.specs.inside.Changes.{AreChangesOf, IsChangeIn, below, count_in, weight_at}
-use Rattle.net_pairs.specs.inside.Corners.{AreCornersOf, AreStretchesOf, Follows, GainsStretch, IsInRowPart, IsRowPart, corner_at, gain_at, gain_before, gained}
-use Rattle.net_pairs.specs.inside.Rests.{HaveOneRest}
+use Rattle.net_pairs.specs.inside.RowChanges.{AreChangesOf, IsChangeIn, below, count_in, weight_at}
+use Rattle.net_pairs.specs.inside.ChangeCorners.{AreCornersOf, AreStretchesOf, Follows, GainsStretch, IsInRowPart, IsRowPart, corner_at, gain_at, gain_before, gained}
+use Rattle.net_pairs.specs.inside.SameRests.{HaveOneRest}
 use Rattle.net_pairs.proofs.CornerLaws.{nothing_gained, same_tests}
 use Rattle.net_pairs.proofs.RestLaws.{rest_added, rest_equal, rest_refl, rest_sym, rest_trans, rest_wrapped}
 

@@ -9,7 +9,7 @@ use Rattle.std.specs.Cmp.{IsTotalOrder}
 use Rattle.std.specs.Ordering.{nat_cmp, ordering_then}
 use Rattle.net_pairs.specs.Pairs.{IsBefore}
 use Rattle.net_pairs.specs.inside.Sums.{AreAlike, AreOfOnePair, AreSumsOf, GainsSome, IsNoLater, cells_for, cells_if}
-use Rattle.net_pairs.specs.inside.Rests.{HaveOneRest}
+use Rattle.net_pairs.specs.inside.SameRests.{HaveOneRest}
 use Rattle.net_pairs.proofs.RestLaws.{rest_added, rest_equal, rest_refl, rest_small, rest_sym, rest_trans, rest_wrapped}
 
 abbrev pub Item : Type 0

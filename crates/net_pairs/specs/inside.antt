@@ -1,11 +1,11 @@
-pub mod Rests
+pub mod SameRests
 pub mod Sums
-pub mod Gains
-pub mod LabelRuns
+pub mod PairGains
+pub mod RunsOfLabels
 pub mod PairSteps
 pub mod Meetings
 pub mod Beside
-pub mod Changes
+pub mod RowChanges
 pub mod Whole
 pub mod Dense
-pub mod Corners
+pub mod ChangeCorners

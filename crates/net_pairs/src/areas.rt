@@ -2,11 +2,11 @@ ghost use Rattle.std.specs.Prelude.{IfOk, OnOk};
 ghost use Rattle.geo_core.specs.Bounds.{IsRadius};
 ghost use Rattle.short_area.specs.Zones.{AreAlikeIn};
 ghost use Rattle.net_pairs.specs.Pairs.{ArePairAreas};
-ghost use Rattle.net_pairs.specs.inside.Gains.{GainsCells, IsInBoth};
+ghost use Rattle.net_pairs.specs.inside.PairGains.{GainsCells, IsInBoth};
 
 use super::beside::add_few;
 use super::crossings::add_runs;
-use super::steps::Step;
+use super::part_case::PartCase;
 use super::sums::PairSums;
 use super::ways::{NONE_TRIED, next_step};
 use super::whole::zones_of_part;
@@ -51,14 +51,14 @@ fn add_areas(
     ensures { OnOk result (GainsCells (IsInBoth zones.items) window sums.old.items.items sums.new.items.items) }
 {
     match next_step(alloc, zones.as_slice(), window, hopeless)? {
-        Step::Nothing => Ok(()),
-        Step::Few => add_few(alloc, zones.as_slice(), window, sums),
-        Step::Two(one, other) => {
+        PartCase::Nothing => Ok(()),
+        PartCase::Few => add_few(alloc, zones.as_slice(), window, sums),
+        PartCase::Two(one, other) => {
             let cells = two_label_area(alloc, zones, window)?;
             sums.add(one, other, cells)
         }
-        Step::Meet(runs) => add_runs(alloc, runs.as_slice(), window, sums),
-        Step::Halve(axis, place, hopeless) => {
+        PartCase::Meet(runs) => add_runs(alloc, runs.as_slice(), window, sums),
+        PartCase::Halve(axis, place, hopeless) => {
             let (first, second) = parts_at(window, axis, place);
             let (before, behind) = halves(alloc, zones, first, second)?;
             add_areas(alloc, before, first, hopeless, sums)?;

@@ -1,7 +1,7 @@
 ghost use Rattle.std.specs.Prelude.{◌≡◌, IfOk, IsTrue, OnOk, false};
 ghost use Rattle.geo_core.specs.Cells.{Overlap};
 ghost use Rattle.net_pairs.specs.inside.Beside.{HaveSameBoth, IsAlone, KeepsBeside};
-ghost use Rattle.net_pairs.specs.inside.Gains.{GainsCells, IsInBoth};
+ghost use Rattle.net_pairs.specs.inside.PairGains.{GainsCells, IsInBoth};
 
 use super::meetings::add_meetings;
 use super::runs::label_runs;

@@ -1,8 +1,8 @@
 ghost use Rattle.std.specs.Prelude.{IfOk, IfNone, IfSome, OnOk, ◌≡◌};
 ghost use Rattle.geo_core.specs.Cells.{Has};
 ghost use Rattle.geo_core.specs.declared.plane.Cell.{Cell};
-ghost use Rattle.net_pairs.specs.inside.Changes.{AreChangesOf};
-ghost use Rattle.net_pairs.specs.inside.Corners.{AreStretchesOf, Follows, GainsStretch, IsInRowPart, IsRowPart};
+ghost use Rattle.net_pairs.specs.inside.RowChanges.{AreChangesOf};
+ghost use Rattle.net_pairs.specs.inside.ChangeCorners.{AreStretchesOf, Follows, GainsStretch, IsInRowPart, IsRowPart};
 
 use super::corners::{Corner, corners_of};
 use super::weighted::Weighted;

@@ -1,5 +1,5 @@
 ghost use Rattle.std.specs.Prelude.{◌≡◌, ◌↔◌, IfOk, IsTrue, OnOk};
-ghost use Rattle.net_pairs.specs.inside.Corners.{AreCornersOf, AreOfOnePlace, GainAlike, GainsCorner, GainsCorners, rect_corners};
+ghost use Rattle.net_pairs.specs.inside.ChangeCorners.{AreCornersOf, AreOfOnePlace, GainAlike, GainsCorner, GainsCorners, rect_corners};
 
 use geo_core::{Labelled, Rect, clip};
 use lists::NoMemory;

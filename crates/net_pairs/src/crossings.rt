@@ -1,6 +1,6 @@
 ghost use Rattle.std.specs.Prelude.{AllPairs, OnOk};
-ghost use Rattle.net_pairs.specs.inside.Gains.{GainsCells, IsInBoth};
-ghost use Rattle.net_pairs.specs.inside.LabelRuns.{IsApart};
+ghost use Rattle.net_pairs.specs.inside.PairGains.{GainsCells, IsInBoth};
+ghost use Rattle.net_pairs.specs.inside.RunsOfLabels.{IsApart};
 
 use super::dense::add_dense;
 use super::meetings::add_meetings;

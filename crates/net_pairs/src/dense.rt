@@ -1,8 +1,8 @@
 ghost use Rattle.std.specs.Prelude.{All, AllPairs, IfOk, OnOk, pos, ◌+ℤ◌, ◌<ℤ◌, ◌≡◌};
-ghost use Rattle.net_pairs.specs.inside.Changes.{IsChangeIn};
+ghost use Rattle.net_pairs.specs.inside.RowChanges.{IsChangeIn};
 ghost use Rattle.net_pairs.specs.inside.Dense.{AreLowered, AreSlabsOf, AreWeighed, AreWeighedChangesOf, GainsByChanges, GainsLower, common_weight, weighed_in};
-ghost use Rattle.net_pairs.specs.inside.Gains.{GainsCells, IsInBoth};
-ghost use Rattle.net_pairs.specs.inside.LabelRuns.{IsApart};
+ghost use Rattle.net_pairs.specs.inside.PairGains.{GainsCells, IsInBoth};
+ghost use Rattle.net_pairs.specs.inside.RunsOfLabels.{IsApart};
 ghost use Rattle.net_pairs.specs.inside.Meetings.{AreByRow, GainsSum};
 
 use super::changes::changes_of;

@@ -1,7 +1,7 @@
 ghost use Rattle.std.specs.Prelude.{◌≡◌, AllPairs, IfOk, OnOk, map};
 ghost use Rattle.std.specs.List.Sorted.{IsPermutation};
-ghost use Rattle.net_pairs.specs.inside.Gains.{GainsCells, IsInBoth};
-ghost use Rattle.net_pairs.specs.inside.LabelRuns.{IsApart};
+ghost use Rattle.net_pairs.specs.inside.PairGains.{GainsCells, IsInBoth};
+ghost use Rattle.net_pairs.specs.inside.RunsOfLabels.{IsApart};
 ghost use Rattle.net_pairs.specs.inside.Meetings.{AreByRow, counted_once};
 
 use super::search::{MOST_HALVINGS, search};

@@ -1,5 +1,5 @@
 ghost use Rattle.std.specs.Prelude.{◌++◌, ◌≡◌, IfOk, IfSome, IsTrue, OnOk, map};
-ghost use Rattle.net_pairs.specs.inside.LabelRuns.{AreRunsOf, GainsRuns, with_label};
+ghost use Rattle.net_pairs.specs.inside.RunsOfLabels.{AreRunsOf, GainsRuns, with_label};
 
 use geo_core::{Labelled, Rect};
 use lists::NoMemory;

@@ -1,5 +1,5 @@
 ghost use Rattle.std.specs.Prelude.{IfOk};
-ghost use Rattle.net_pairs.specs.inside.Changes.{CoverAlike};
+ghost use Rattle.net_pairs.specs.inside.RowChanges.{CoverAlike};
 
 use super::changes::stretches_of;
 use super::corners::{Corner, corners_of};

@@ -1,9 +1,9 @@
 ghost use Rattle.std.specs.Prelude.{◌≡◌, ◌⊎◌, All, IfOk, IfSome, IsTrue};
 ghost use Rattle.net_pairs.specs.inside.PairSteps.{HaveOneLabel, HaveTwoLabels, IsStepOf};
 
+use super::part_case::PartCase;
 use super::places::{Spread, place_to_halve, spread_of};
 use super::runs::{label_runs, label_runs_within};
-use super::steps::Step;
 use geo_core::{Labelled, Rect};
 use lists::NoMemory;
 use std::alloc::Global;
@@ -73,18 +73,18 @@ pub fn next_step(
     zones: &[Labelled],
     window: Rect,
     hopeless: usize,
-) -> Result<Step, NoMemory>
+) -> Result<PartCase, NoMemory>
     ensures { IfOk result (λ step. IsStepOf zones.now window step) }
 {
     if have_one_label(zones) {
-        return Ok(Step::Nothing);
+        return Ok(PartCase::Nothing);
     }
     let spread = spread_of(zones, window);
     if spread.is_few() {
-        return Ok(Step::Few);
+        return Ok(PartCase::Few);
     }
     if let Some((one, other)) = only_two(zones) {
-        return Ok(Step::Two(one, other));
+        return Ok(PartCase::Two(one, other));
     }
     if spread.is_parted() {
         return halved(alloc, zones, window, spread, hopeless);
@@ -99,12 +99,12 @@ fn halved(
     window: Rect,
     spread: Spread,
     hopeless: usize,
-) -> Result<Step, NoMemory>
+) -> Result<PartCase, NoMemory>
     ensures { IfOk result (λ step. IsStepOf zones.now window step) }
 {
     match place_to_halve(window, spread) {
-        Some((axis, place)) => Ok(Step::Halve(axis, place, hopeless)),
-        None => Ok(Step::Meet(label_runs(alloc, zones)?)),
+        Some((axis, place)) => Ok(PartCase::Halve(axis, place, hopeless)),
+        None => Ok(PartCase::Meet(label_runs(alloc, zones)?)),
     }
 }
 
@@ -116,7 +116,7 @@ fn met_or_halved(
     window: Rect,
     spread: Spread,
     hopeless: usize,
-) -> Result<Step, NoMemory>
+) -> Result<PartCase, NoMemory>
     ensures { IfOk result (λ step. IsStepOf zones.now window step) }
 {
     if hopeless / LESS < zones.len() {
@@ -124,7 +124,7 @@ fn met_or_halved(
     }
     let most = zones.len().saturating_mul(LOOKS_EACH);
     match label_runs_within(alloc, zones, most)? {
-        Some(runs) => Ok(Step::Meet(runs)),
+        Some(runs) => Ok(PartCase::Meet(runs)),
         None => halved(alloc, zones, window, spread, zones.len()),
     }
 }

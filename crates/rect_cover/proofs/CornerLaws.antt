@@ -5,7 +5,7 @@ use Rattle.geo_core.specs.declared.plane.Point.{Point}
 use Rattle.geo_core.proofs.TurnLaws.{same_at}
 use Rattle.outlines.specs.Outlines.{Edge, edges_of}
 use Rattle.rect_cover.specs.PathPieces.{is_long, is_same, direction_of, neighbours, corners_among, corners_of}
-use Rattle.rect_cover.specs.inside.Corners.{turns, corners_ahead}
+use Rattle.rect_cover.specs.inside.PathCorners.{turns, corners_ahead}
 use Rattle.rect_cover.specs.declared.direction.Direction.{Direction}
 
 -- an edge that is not long has equal ends

@@ -1,3 +1,3 @@
-pub mod Corners
+pub mod PathCorners
 pub mod PieceBoxes
 pub mod ShapeAnswers

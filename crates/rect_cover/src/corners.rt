@@ -3,7 +3,7 @@ ghost use Rattle.geo_core.specs.declared.plane.Point.{Point};
 ghost use Rattle.rect_cover.specs.ShapeChecks.{GoesOn};
 ghost use Rattle.outlines.specs.Outlines.{edges_of};
 ghost use Rattle.rect_cover.specs.PathPieces.{corners_of, neighbours};
-ghost use Rattle.rect_cover.specs.inside.Corners.{corners_ahead, turns};
+ghost use Rattle.rect_cover.specs.inside.PathCorners.{corners_ahead, turns};
 
 use super::course::Course;
 use super::direction::Direction;

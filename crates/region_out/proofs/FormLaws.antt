@@ -8,7 +8,7 @@ use Rattle.outlines.specs.Rectangles.{rectangle_corners}
 use Rattle.library_grammar.specs.GrammarNames.{AreDifferent}
 use Rattle.gds_write.specs.WellFormed.{IsWritableName, IsWritableElement, IsWritableStructure, IsWellFormed}
 use Rattle.region_out.specs.RegionFits.{four_hold}
-use Rattle.region_out.specs.Regions.{AreUnits, region_element, region_library_of, region_structure}
+use Rattle.region_out.specs.RegionLibraries.{AreUnits, region_element, region_library_of, region_structure}
 
 -- lists are the same where their first items and the rests are
 pub same_cons : {A : Type 0} {x y : A} {xs ys : List A} → x ≡ y → xs ≡ ys → (x ∷ xs) ≡ (y ∷ ys)

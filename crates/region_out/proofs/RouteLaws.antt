@@ -13,7 +13,7 @@ use Rattle.flatten.specs.Steps.{Step}
 use Rattle.flatten.specs.Structures.{elements_of, references_among, target_of, targets_of}
 use Rattle.flatten.specs.Tops.{IsTop, IsUnnamed}
 use Rattle.flatten.proofs.laws.Routes.{routes_are_listed}
-use Rattle.region_out.specs.Regions.{region_boundary, region_element, region_structure}
+use Rattle.region_out.specs.RegionLibraries.{region_boundary, region_element, region_structure}
 
 -- boundaries are no references
 no_references : (rects : List Rect) → references_among (map region_element rects) ≡ []

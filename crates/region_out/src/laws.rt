@@ -14,7 +14,7 @@ ghost use Rattle.gds_write.specs.WellFormed.{IsWellFormed};
 ghost use Rattle.gds_write.specs.Written.{written};
 ghost use Rattle.rect_cover.specs.Covers.{Covers};
 ghost use Rattle.region_out.specs.RegionCells.{IsCoveredByTop};
-ghost use Rattle.region_out.specs.Regions.{AreUnits, region_boundary, region_library_of};
+ghost use Rattle.region_out.specs.RegionLibraries.{AreUnits, region_boundary, region_library_of};
 
 /// A rectangle's boundary covers exactly its cells.
 pub fn a_boundary_covers_its_rectangle()

@@ -5,8 +5,8 @@ ghost use Rattle.lists.specs.ByteLists.{AreBytes};
 ghost use Rattle.geo_core.specs.Circuits.{circuit};
 ghost use Rattle.outlines.specs.Rectangles.{rectangle_corners};
 ghost use Rattle.gds_write.specs.WellFormed.{IsWellFormed};
-ghost use Rattle.region_out.specs.Regions as regions;
-ghost use Rattle.region_out.specs.Regions.{AreUnits, region_library_of};
+ghost use Rattle.region_out.specs.RegionLibraries as regions;
+ghost use Rattle.region_out.specs.RegionLibraries.{AreUnits, region_library_of};
 
 use geo_core::{Point, Rect};
 use library_model::{Element, Elements, Library, Shape, ShapeKind, Structure};

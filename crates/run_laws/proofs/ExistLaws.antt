@@ -22,7 +22,9 @@ use Rattle.layout_gen.proofs.laws.Generated.{generated_reads}
 use Rattle.lists.specs.ByteLists.{AreBytes}
 use Rattle.lists.proofs.Words.{enumerate_from}
 use Rattle.critarea_core.specs.Contents.{Contents, bytes_from, file, layout_source, wanted_top}
-use Rattle.critarea_core.specs.Inquiries.{Asked, AreAsked, AskedComesTo, IsRegionAsked, IsSizeNumbered, RegionComesTo, for_probe, for_report}
+use Rattle.critarea_core.specs.Inquiries.{ArePairsAsked, IsRegionAsked, IsSizeNumbered, QueryComesTo, RegionComesTo}
+use Rattle.critarea_core.specs.declared.query.Query.{Query}
+use Rattle.critarea_core.specs.declared.query.Query.TheVariants.{Probe as for_probe, Report as for_report}
 use Rattle.critarea_core.specs.Layout.{Subject, RouteHolds, route_checks, route_fault, RoutesComeTo, LibraryComesTo, IsTerminalOn, terminal_fault, ShapesComeTo, ShortLayoutComesTo, TerminalsComeTo}
 use Rattle.critarea_core.specs.Refusals.{usage, map_limit, map_too_long, of_map_fault, layout_limit, layout_too_long, of_layout_fault}
 use Rattle.critarea_core.specs.Refusals.{no_such_layer, no_such_size}
@@ -51,13 +53,13 @@ region_cannot_lack layer_map kind name number =
     stages_cannot_lack _ _ (reading_cannot_lack (IsSizeNumbered layer_map number) (no_such_size (length layer_map.sizes)))
     (λ size numbered. reading_cannot_lack (IsRegionAsked layer_map kind name size) no_such_layer)
 
-asked_cannot_lack : (task : Task) (layer_map : LayerMap) → CannotLack (AskedComesTo task layer_map)
-asked_cannot_lack (OneMetal layout layer datatype radius top) layer_map none = none (value for_report) refl
-asked_cannot_lack (Mapped layout map top) layer_map none = none (value for_report) refl
-asked_cannot_lack (Generated columns) layer_map none = none (value for_report) refl
-asked_cannot_lack (Pairs layout map top number) layer_map none = reading_cannot_lack (AreAsked layer_map number) (no_such_size (length layer_map.sizes)) none
-asked_cannot_lack (Probe layout map top cell) layer_map none = none (value (for_probe cell)) refl
-asked_cannot_lack (Regions layout map top kind layer number) layer_map none = region_cannot_lack layer_map kind layer number none
+query_cannot_lack : (task : Task) (layer_map : LayerMap) → CannotLack (QueryComesTo task layer_map)
+query_cannot_lack (OneMetal layout layer datatype radius top) layer_map none = none (value for_report) refl
+query_cannot_lack (Mapped layout map top) layer_map none = none (value for_report) refl
+query_cannot_lack (Generated columns) layer_map none = none (value for_report) refl
+query_cannot_lack (Pairs layout map top number) layer_map none = reading_cannot_lack (ArePairsAsked layer_map number) (no_such_size (length layer_map.sizes)) none
+query_cannot_lack (Probe layout map top cell) layer_map none = none (value (for_probe cell)) refl
+query_cannot_lack (Regions layout map top kind layer number) layer_map none = region_cannot_lack layer_map kind layer number none
 
 -- ---- layouts
 
@@ -83,10 +85,10 @@ layout_cannot_lack layer_map wanted layout some = stages_cannot_lack _ _ (readin
     (λ library comes. library_cannot_lack layer_map wanted library))
     (λ subject shapes. terminals_cannot_lack subject)))
 
-inquiry_cannot_lack : (asked : Asked) (layer_map : LayerMap) (wanted : Option (List ℕ)) (layout : List ℕ) → CannotLack (BytesComeTo layout)
-    → CannotLack (InquiryComesTo asked layer_map wanted layout)
-inquiry_cannot_lack asked layer_map wanted layout some = stages_cannot_lack (LayoutComesTo layer_map wanted layout) _ (layout_cannot_lack layer_map wanted layout some)
-    (λ subject comes none. none (value (record { subject = subject; asked = asked })) refl)
+inquiry_cannot_lack : (query : Query) (layer_map : LayerMap) (wanted : Option (List ℕ)) (layout : List ℕ) → CannotLack (BytesComeTo layout)
+    → CannotLack (InquiryComesTo query layer_map wanted layout)
+inquiry_cannot_lack query layer_map wanted layout some = stages_cannot_lack (LayoutComesTo layer_map wanted layout) _ (layout_cannot_lack layer_map wanted layout some)
+    (λ subject comes none. none (value (record { subject = subject; query = query })) refl)
 
 -- a layout that is a string of bytes, as that of a file is to be, and one that is generated
 layout_there : (task : Task) (contents : Contents) → ((name : List ℕ) → layout_source task ≡ file name → AreBytes (contents.layout name))
@@ -104,10 +106,10 @@ asked_for : (words : List (List ℕ)) (request : Request) → WordsComeTo words 
 asked_for words request (reads asked) = asked
 
 pub verdict_cannot_lack : (words : List (List ℕ)) (contents : Contents)
-    → ((request : Request) (layer_map : LayerMap) (asked : Asked) (name : List ℕ) → Ask words request → MapComesTo request.task contents.map (value layer_map)
-    → AskedComesTo request.task layer_map (value asked) → layout_source request.task ≡ file name → AreBytes (contents.layout name)) → CannotLack (IsVerdict words contents)
+    → ((request : Request) (layer_map : LayerMap) (query : Query) (name : List ℕ) → Ask words request → MapComesTo request.task contents.map (value layer_map)
+    → QueryComesTo request.task layer_map (value query) → layout_source request.task ≡ file name → AreBytes (contents.layout name)) → CannotLack (IsVerdict words contents)
 verdict_cannot_lack words contents are = stages_cannot_lack (WordsComeTo words) _ (reading_cannot_lack (Ask words) usage)
     (λ request asks. stages_cannot_lack (MapComesTo request.task contents.map) _ (map_cannot_lack request.task contents.map)
-    (λ layer_map good. stages_cannot_lack (AskedComesTo request.task layer_map) _ (asked_cannot_lack request.task layer_map)
-    (λ asked fits. inquiry_cannot_lack asked layer_map (wanted_top request.task) (bytes_from contents.layout (layout_source request.task))
-    (layout_there request.task contents (λ name is. are request layer_map asked name (asked_for words request asks) good fits is)))))
+    (λ layer_map good. stages_cannot_lack (QueryComesTo request.task layer_map) _ (query_cannot_lack request.task layer_map)
+    (λ query fits. inquiry_cannot_lack query layer_map (wanted_top request.task) (bytes_from contents.layout (layout_source request.task))
+    (layout_there request.task contents (λ name is. are request layer_map query name (asked_for words request asks) good fits is)))))

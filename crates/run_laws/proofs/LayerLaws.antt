@@ -9,7 +9,8 @@ use Rattle.command_line.specs.declared.task.Task.TheVariants.{Regions}
 use Rattle.map_model.specs.MapNames.{LayerMap}
 use Rattle.questions.specs.declared.kind.Kind.{Kind}
 use Rattle.critarea_core.specs.Contents.{Contents}
-use Rattle.critarea_core.specs.Inquiries.{IsLayerNamed, IsLayerOfName, RegionComesTo, for_regions}
+use Rattle.critarea_core.specs.Inquiries.{IsLayerNamed, IsLayerOfName, RegionComesTo}
+use Rattle.critarea_core.specs.declared.query.Query.TheVariants.{Region as for_region}
 use Rattle.critarea_core.specs.Refusals.{no_such_layer}
 use Rattle.critarea_core.specs.Verdict.{IsVerdict}
 use Rattle.critarea_core.specs.declared.refusal.Refusal.{Refusal}
@@ -33,14 +34,14 @@ module _ (kind : Kind) (name : List ℕ) where
     lacking : (layer_map : LayerMap) → IsLacking layer_map → RegionComesTo layer_map kind name number (refused no_such_layer)
     lacking layer_map is =
         let found = size_at layer_map number some is.0 in
-        goes_on {v = found.0} (reads found.1) (lacks (λ asked are. is.1 are.number are.is_named.has_name))
+        goes_on {v = found.0} (reads found.1) (lacks (λ query are. is.1 are.number are.is_named.has_name))
 
     lacked : (layer_map : LayerMap) (refusal : Refusal) → refusal ≡ no_such_layer
         → RegionComesTo layer_map kind name number (refused refusal) → IsLacking layer_map
     lacked layer_map refusal e (stops (lacks none)) = let numbers : 48 ≡ 49 = ap (λ (r : Refusal). r.number) e in absurd (omega (arith, numbers))
     lacked layer_map refusal e (goes_on {v = size} (reads numbered) (lacks none)) =
         let never = λ (layer : ℕ) (named : IsLayerNamed layer_map kind name layer).
-        none (for_regions kind layer size) (record { number = layer; is_named = named; is_asked = refl }) in
+        none (for_region kind layer size) (record { number = layer; is_named = named; is_asked = refl }) in
         (number_within layer_map number size numbered, λ layer is. none_below layer_map never (suc layer) layer (omega arith) is)
 
     module _ (layout map_name : List ℕ) (top : Option (List ℕ)) (contents : Contents) where

@@ -9,14 +9,14 @@ use Rattle.command_line.specs.declared.task.Task.TheVariants.{OneMetal, Mapped, 
 use Rattle.command_line.proofs.laws.Requests.{requests_agree}
 use Rattle.critarea_core.specs.Contents.{Contents, bytes_from, layout_source, wanted_top}
 use Rattle.map_model.specs.MapNames.{LayerMap}
-use Rattle.critarea_core.specs.Inquiries.{AskedComesTo, Inquiry}
+use Rattle.critarea_core.specs.Inquiries.{Inquiry, QueryComesTo}
 use Rattle.critarea_core.specs.Verdict.{InquiryComesTo, IsVerdict, MapComesTo, MapTextComesTo}
 use Rattle.critarea_core.specs.declared.refusal.Refusal.{Refusal}
 use Rattle.run_laws.specs.NamedFiles.{HoldTheSame}
 
 -- what a layout with these bytes comes to, where the task asks of it what it asks of this map
 abbrev pub OnMapComesTo : Task → List ℕ → LayerMap → Outcome Inquiry Refusal → Type 0
-OnMapComesTo task layout layer_map = Then (AskedComesTo task layer_map) (λ asked. InquiryComesTo asked layer_map (wanted_top task) layout)
+OnMapComesTo task layout layer_map = Then (QueryComesTo task layer_map) (λ query. InquiryComesTo query layer_map (wanted_top task) layout)
 
 -- the verdict on the task, where the words ask for it
 abbrev pub TaskComesTo : Contents → Task → Outcome Inquiry Refusal → Type 0

@@ -10,19 +10,22 @@ use Rattle.map_model.specs.MapNames.{LayerMap}
 use Rattle.gauges.specs.GaugeViews.{GaugeView}
 use Rattle.gauges.specs.declared.pair_row.PairRow.{PairRow}
 use Rattle.pair_report.specs.PairReport.{whole_pair_text}
-use Rattle.map_pairs.proofs.laws.PairRowLaws.{rows_agree as pair_rows_agree}
-use Rattle.map_probe.specs.ProbeText.{probe_text}
-use Rattle.map_probe.proofs.laws.UniqueLaws.{probes_agree}
-use Rattle.map_regions.proofs.laws.RegionLaws.{count_alike, cover_alike}
+use Rattle.layout_pairs.proofs.laws.PairRowLaws.{rows_agree as pair_rows_agree}
+use Rattle.layout_probe.specs.ProbeText.{probe_text}
+use Rattle.layout_probe.proofs.laws.UniqueLaws.{probes_agree}
+use Rattle.layout_regions.proofs.laws.RegionLaws.{count_alike, cover_alike}
 use Rattle.area_parts.proofs.laws.UniqueLaws.{rows_agree}
 use Rattle.questions.specs.declared.kind.Kind.{Kind}
 use Rattle.questions.specs.declared.row.Row.{Row}
 use Rattle.critarea_core.specs.Analysis.{AnalysisComesTo, has_rows, has_fault}
 use Rattle.critarea_core.specs.Contents.{Contents}
 use Rattle.critarea_core.specs.Coverage.{IsCoveredOn}
-use Rattle.critarea_core.specs.Dues.{ArePairRowsOn, AreRowsOn, IsProbeOn, whole_report}
-use Rattle.critarea_core.specs.Dues.{ArePairsDue, Due, IsDue, IsDueAs, IsProbeDue, IsRegionDue, IsReportDue}
-use Rattle.critarea_core.specs.Inquiries.{Asked, Inquiry, for_pairs, for_probe, for_regions, for_report}
+use Rattle.critarea_core.specs.Outputs.{ArePairRowsOn, AreRowsOn, IsProbeOn, whole_report}
+use Rattle.critarea_core.specs.Outputs.{ArePairsDue, Due, IsDue, IsDueAs, IsProbeDue, IsRegionDue, IsReportDue}
+use Rattle.critarea_core.specs.Inquiries.{Inquiry}
+use Rattle.critarea_core.specs.declared.query.ListedSize.{ListedSize}
+use Rattle.critarea_core.specs.declared.query.Query.{Query}
+use Rattle.critarea_core.specs.declared.query.Query.TheVariants.{Report as for_report, Pairs as for_pairs, Probe as for_probe, Region as for_region}
 use Rattle.critarea_core.specs.Layout.{Subject}
 use Rattle.critarea_core.specs.Verdict.{IsVerdict}
 use Rattle.critarea_core.specs.declared.layout_fault.LayoutFault.{LayoutFault}
@@ -31,7 +34,7 @@ use Rattle.critarea_core.proofs.laws.VerdictLaws.{short_layouts_agree, verdicts_
 use Rattle.run_laws.specs.AlikeDues.{AreAlikeDue, AreAlikeTexts, IsForRegions}
 use Rattle.run_laws.specs.NamedFiles.{HoldTheSame}
 use Rattle.run_laws.specs.TaskRows.{GivesRegion}
-use Rattle.run_laws.proofs.AskedLaws.{asked_of, not_for_regions}
+use Rattle.run_laws.proofs.AskedLaws.{asked_of, not_for_region}
 use Rattle.run_laws.proofs.NameLaws.{same_files_same_verdict, task_outcome}
 
 -- ---- rows and reports
@@ -85,26 +88,26 @@ probe_dues_agree subject cell one other a b =
     let text : one.text ≡ other.text = a.text ∙ ap probe_text told ∙ sym b.text in
     same_due one other text (a.no_rows ∙ sym b.no_rows) (a.no_pairs ∙ sym b.no_pairs) (same_room one other a.room b.room text)
 
-dues_agree_as : (asked : Asked) (subject : Subject) (gauges : List (GaugeView Row)) (pair_gauges : List (GaugeView PairRow))
-    → (IsForRegions asked → ⊥) → IsUnique (IsDueAs asked subject gauges pair_gauges)
+dues_agree_as : (query : Query) (subject : Subject) (gauges : List (GaugeView Row)) (pair_gauges : List (GaugeView PairRow))
+    → (IsForRegions query → ⊥) → IsUnique (IsDueAs query subject gauges pair_gauges)
 dues_agree_as for_report subject gauges pair_gauges other = report_dues_agree subject gauges
-dues_agree_as (for_pairs size) subject gauges pair_gauges other = pair_dues_agree subject size pair_gauges
+dues_agree_as (for_pairs size) subject gauges pair_gauges other = pair_dues_agree subject size.size pair_gauges
 dues_agree_as (for_probe cell) subject gauges pair_gauges other = probe_dues_agree subject cell
-dues_agree_as (for_regions kind number size) subject gauges pair_gauges other = absurd (other tt)
+dues_agree_as (for_region kind number size) subject gauges pair_gauges other = absurd (other tt)
 
-pub dues_agree : (inquiry : Inquiry) (gauges : List (GaugeView Row)) (pair_gauges : List (GaugeView PairRow)) → (IsForRegions inquiry.asked → ⊥)
+pub dues_agree : (inquiry : Inquiry) (gauges : List (GaugeView Row)) (pair_gauges : List (GaugeView PairRow)) → (IsForRegions inquiry.query → ⊥)
     → IsUnique (IsDue inquiry gauges pair_gauges)
-dues_agree inquiry = dues_agree_as inquiry.asked inquiry.subject
+dues_agree inquiry = dues_agree_as inquiry.query inquiry.subject
 
 -- ---- what is due of regions is alike
 
-region_dues_alike : (subject : Subject) (kind : Kind) (number size : ℕ) (one other : Due)
-    → IsRegionDue subject kind number size one → IsRegionDue subject kind number size other
-    → AreAlikeDue (record { subject = subject; asked = for_regions kind number size }) one other
+region_dues_alike : (subject : Subject) (kind : Kind) (number : ℕ) (size : ListedSize) (one other : Due)
+    → IsRegionDue subject kind number size.size one → IsRegionDue subject kind number size.size other
+    → AreAlikeDue (record { subject = subject; query = for_region kind number size }) one other
 region_dues_alike subject kind number size one other a b =
     let covers = IsCoveredOn subject.layer_map subject.routes in
-    let same = λ (c : Cell). cover_alike subject.layer_map covers kind number size a.rects b.rects c a.is_region b.is_region in
-    let cells = count_alike subject.layer_map covers kind number size a.rects b.rects a.is_region b.is_region in
+    let same = λ (c : Cell). cover_alike subject.layer_map covers kind number size.size a.rects b.rects c a.is_region b.is_region in
+    let cells = count_alike subject.layer_map covers kind number size.size a.rects b.rects a.is_region b.is_region in
     record {
       texts = record { rects = a.rects; others = b.rects; is_file = a.is_file; is_other = b.is_file; same = same };
       rows = a.no_rows ∙ sym b.no_rows;
@@ -113,38 +116,38 @@ region_dues_alike subject kind number size one other a b =
     }
 
 -- what is the same is alike
-texts_alike : (asked : Asked) (units text other : List ℕ) → (IsForRegions asked → ⊥) → text ≡ other → AreAlikeTexts asked units text other
+texts_alike : (query : Query) (units text other : List ℕ) → (IsForRegions query → ⊥) → text ≡ other → AreAlikeTexts query units text other
 texts_alike for_report units text other none same = same
 texts_alike (for_pairs size) units text other none same = same
 texts_alike (for_probe cell) units text other none same = same
-texts_alike (for_regions kind number size) units text other none same = absurd (none tt)
+texts_alike (for_region kind number size) units text other none same = absurd (none tt)
 
 module _ (subject : Subject) (gauges : List (GaugeView Row)) (pair_gauges : List (GaugeView PairRow)) (one other : Due) where
-  abbrev AreDue : Asked → Type 0
-  AreDue asked = IsDueAs asked subject gauges pair_gauges one × IsDueAs asked subject gauges pair_gauges other
+  abbrev AreDue : Query → Type 0
+  AreDue query = IsDueAs query subject gauges pair_gauges one × IsDueAs query subject gauges pair_gauges other
 
-  abbrev AreAlike : Asked → Type 0
-  AreAlike asked = AreAlikeDue (record { subject = subject; asked = asked }) one other
+  abbrev AreAlike : Query → Type 0
+  AreAlike query = AreAlikeDue (record { subject = subject; query = query }) one other
 
-  same_alike : (asked : Asked) → (IsForRegions asked → ⊥) → AreDue asked → AreAlike asked
-  same_alike asked none are =
-      let same = dues_agree_as asked subject gauges pair_gauges none one other are.0 are.1 in
+  same_alike : (query : Query) → (IsForRegions query → ⊥) → AreDue query → AreAlike query
+  same_alike query none are =
+      let same = dues_agree_as query subject gauges pair_gauges none one other are.0 are.1 in
       record {
-        texts = texts_alike asked subject.units one.text other.text none (ap (λ (due : Due). due.text) same);
+        texts = texts_alike query subject.units one.text other.text none (ap (λ (due : Due). due.text) same);
         rows = ap (λ (due : Due). due.rows) same;
         pair_rows = ap (λ (due : Due). due.pair_rows) same;
         room = ap (λ (due : Due). due.room) same;
       }
 
-  dues_alike_as : (asked : Asked) → AreDue asked → AreAlike asked
+  dues_alike_as : (query : Query) → AreDue query → AreAlike query
   dues_alike_as for_report are = same_alike for_report (λ never. never) are
   dues_alike_as (for_pairs size) are = same_alike (for_pairs size) (λ never. never) are
   dues_alike_as (for_probe cell) are = same_alike (for_probe cell) (λ never. never) are
-  dues_alike_as (for_regions kind number size) are = region_dues_alike subject kind number size one other are.0 are.1
+  dues_alike_as (for_region kind number size) are = region_dues_alike subject kind number size one other are.0 are.1
 
 pub dues_alike : (inquiry : Inquiry) (gauges : List (GaugeView Row)) (pair_gauges : List (GaugeView PairRow)) (one other : Due)
     → IsDue inquiry gauges pair_gauges one → IsDue inquiry gauges pair_gauges other → AreAlikeDue inquiry one other
-dues_alike inquiry gauges pair_gauges one other a b = dues_alike_as inquiry.subject gauges pair_gauges one other inquiry.asked (a, b)
+dues_alike inquiry gauges pair_gauges one other a b = dues_alike_as inquiry.subject gauges pair_gauges one other inquiry.query (a, b)
 
 -- ---- what tiles and workers change: nothing
 
@@ -171,7 +174,7 @@ module _ (words other : List (List ℕ)) (one same : Request) (asks : Ask words 
   pub same_task_same_due : (GivesRegion one.task → ⊥) → due ≡ too
   same_task_same_due none =
       let asked = asked_of words contents one inquiry asks verdict in
-      dues_agree inquiry gauges pair_gauges (not_for_regions one.task asked.0 inquiry.asked none asked.1) due too is due_here
+      dues_agree inquiry gauges pair_gauges (not_for_region one.task asked.0 inquiry.query none asked.1) due too is due_here
 
   pub same_task_alike_due : AreAlikeDue inquiry due too
   same_task_alike_due = dues_alike inquiry gauges pair_gauges due too is due_here

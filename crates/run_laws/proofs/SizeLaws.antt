@@ -13,7 +13,9 @@ use Rattle.command_line.specs.declared.task.Task.TheVariants.{Pairs, Regions}
 use Rattle.map_model.specs.MapNames.{LayerMap}
 use Rattle.questions.specs.declared.kind.Kind.{Kind}
 use Rattle.critarea_core.specs.Contents.{Contents}
-use Rattle.critarea_core.specs.Inquiries.{AskedComesTo, IsSizeNumbered, for_pairs}
+use Rattle.critarea_core.specs.Inquiries.{IsSizeNumbered, QueryComesTo}
+use Rattle.critarea_core.specs.declared.query.ListedSize.{ListedSize}
+use Rattle.critarea_core.specs.declared.query.Query.TheVariants.{Pairs as for_pairs}
 use Rattle.critarea_core.specs.Refusals.{no_such_size}
 use Rattle.critarea_core.specs.Verdict.{IsVerdict, MapTextComesTo}
 use Rattle.critarea_core.specs.declared.refusal.Refusal.{Refusal}
@@ -31,25 +33,25 @@ module _ (layer_map : LayerMap) (number : ℕ) where
   as_many = length-map layer_map.sizes (λ listed. listed.size)
 
   -- a size that has a number is one of so many
-  pub number_within : (size : ℕ) → IsSizeNumbered layer_map number size → number ≤ length layer_map.sizes
+  pub number_within : (size : ListedSize) → IsSizeNumbered layer_map number size → number ≤ length layer_map.sizes
   number_within size is =
-      let within : is.place < length sizes = slice_get_within sizes is.place size is.listed in
+      let within : size.place < length sizes = slice_get_within sizes size.place size.size is.listed in
       omega (arith, within, as_many, is.counted)
 
   -- so a number behind them has none
-  none_behind : length layer_map.sizes < number → (size : ℕ) → IsSizeNumbered layer_map number size → ⊥
+  none_behind : length layer_map.sizes < number → (size : ListedSize) → IsSizeNumbered layer_map number size → ⊥
   none_behind fewer size is = let most = number_within size is in omega (arith, most, fewer)
 
   module _ (some : 1 ≤ number) where
     -- and each number of so many has a size
-    pub size_at : number ≤ length layer_map.sizes → (size : ℕ) × IsSizeNumbered layer_map number size
+    pub size_at : number ≤ length layer_map.sizes → (size : ListedSize) × IsSizeNumbered layer_map number size
     size_at small =
         let found = some_item sizes (number - 1) (omega (arith, some, small, as_many)) in
-        (found.0, record { place = number - 1; counted = omega (arith, some); listed = found.1 })
+        (record { place = number - 1; size = found.0 }, record { counted = omega (arith, some); listed = found.1 })
 
     -- a map in which it has none lists fewer
     fewer_where_none : (refusal : Refusal) (count : ℕ) → refusal ≡ no_such_size count → refusal ≡ no_such_size (length layer_map.sizes)
-        → ((size : ℕ) → IsSizeNumbered layer_map number size → ⊥) → (length layer_map.sizes ≡ count) × (count < number)
+        → ((size : ListedSize) → IsSizeNumbered layer_map number size → ⊥) → (length layer_map.sizes ≡ count) × (count < number)
     fewer_where_none refusal count e is none =
         let same : length layer_map.sizes ≡ count = ap (λ (r : Refusal). r.place) (sym is ∙ e) in
         elim (cases_lt (length layer_map.sizes) number) [
@@ -62,16 +64,16 @@ module _ (layer_map : LayerMap) (number : ℕ) where
 -- a map of too few sizes is refused with their number
 abbrev LacksSizes : Task → ℕ → Type 0
 LacksSizes task number = (layer_map : LayerMap) → length layer_map.sizes < number
-    → AskedComesTo task layer_map (refused (no_such_size (length layer_map.sizes)))
+    → QueryComesTo task layer_map (refused (no_such_size (length layer_map.sizes)))
 
 -- and no other map is
 abbrev HasElseSizes : Task → ℕ → Type 0
 HasElseSizes task number = (layer_map : LayerMap) (refusal : Refusal) (count : ℕ) → refusal ≡ no_such_size count
-    → AskedComesTo task layer_map (refused refusal) → (length layer_map.sizes ≡ count) × (count < number)
+    → QueryComesTo task layer_map (refused refusal) → (length layer_map.sizes ≡ count) × (count < number)
 
 module _ (layout name : List ℕ) (top : Option (List ℕ)) (number : ℕ) (some : 1 ≤ number) where
   pairs_lack : LacksSizes (Pairs layout name top number) number
-  pairs_lack layer_map fewer = lacks (λ asked are. none_behind layer_map number fewer are.size are.numbered)
+  pairs_lack layer_map fewer = lacks (λ query are. none_behind layer_map number fewer are.size are.numbered)
 
   pairs_have : HasElseSizes (Pairs layout name top number) number
   pairs_have layer_map refusal count e (lacks none) =

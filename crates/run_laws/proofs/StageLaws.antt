@@ -33,7 +33,8 @@ use Rattle.library_model.specs.declared.library.Library.{Library}
 use Rattle.rect_cover.specs.CoverFaults as cover_faults
 use Rattle.rect_cover.specs.ShapeChecks.{ShapeCheck, is_not_round, shape_fault}
 use Rattle.critarea_core.specs.Contents.{Contents}
-use Rattle.critarea_core.specs.Inquiries.{Asked, AskedComesTo}
+use Rattle.critarea_core.specs.Inquiries.{QueryComesTo}
+use Rattle.critarea_core.specs.declared.query.Query.{Query}
 use Rattle.critarea_core.specs.Layout.{LibraryComesTo, ShapesComeTo, ShortLayoutComesTo}
 use Rattle.critarea_core.specs.Refusals.{of_layout_fault}
 use Rattle.critarea_core.specs.Verdict.{InquiryComesTo, IsVerdict, LayoutComesTo, MapComesTo, MapTextComesTo, WordsComeTo}
@@ -182,19 +183,19 @@ map_stage (Pairs layout map top size) bytes refusal comes = map_text_stage (byte
 map_stage (Probe layout map top cell) bytes refusal comes = map_text_stage (bytes map) refusal comes
 map_stage (Regions layout map top kind layer size) bytes refusal comes = map_text_stage (bytes map) refusal comes
 
-asked_stage : (task : Task) (layer_map : LayerMap) (refusal : Refusal) → AskedComesTo task layer_map (refused refusal) → IsOfStage refusal
-asked_stage (OneMetal layout layer datatype radius top) layer_map refusal comes = cc comes
-asked_stage (Mapped layout map top) layer_map refusal comes = cc comes
-asked_stage (Generated columns) layer_map refusal comes = cc comes
-asked_stage (Pairs layout map top size) layer_map refusal (lacks none) = of_size refl refl
-asked_stage (Probe layout map top cell) layer_map refusal comes = cc comes
-asked_stage (Regions layout map top kind layer size) layer_map refusal (stops (lacks none)) = of_size refl refl
-asked_stage (Regions layout map top kind layer size) layer_map refusal (goes_on numbered (lacks none)) = of_layer refl refl
+query_stage : (task : Task) (layer_map : LayerMap) (refusal : Refusal) → QueryComesTo task layer_map (refused refusal) → IsOfStage refusal
+query_stage (OneMetal layout layer datatype radius top) layer_map refusal comes = cc comes
+query_stage (Mapped layout map top) layer_map refusal comes = cc comes
+query_stage (Generated columns) layer_map refusal comes = cc comes
+query_stage (Pairs layout map top size) layer_map refusal (lacks none) = of_size refl refl
+query_stage (Probe layout map top cell) layer_map refusal comes = cc comes
+query_stage (Regions layout map top kind layer size) layer_map refusal (stops (lacks none)) = of_size refl refl
+query_stage (Regions layout map top kind layer size) layer_map refusal (goes_on numbered (lacks none)) = of_layer refl refl
 
-inquiry_stage : (asked : Asked) (layer_map : LayerMap) (wanted : Option (List ℕ)) (layout : List ℕ) (refusal : Refusal) → InquiryComesTo asked layer_map wanted layout (refused refusal)
+inquiry_stage : (query : Query) (layer_map : LayerMap) (wanted : Option (List ℕ)) (layout : List ℕ) (refusal : Refusal) → InquiryComesTo query layer_map wanted layout (refused refusal)
     → IsOfLayout refusal
-inquiry_stage asked layer_map wanted layout refusal (stops comes) = layout_stage layer_map wanted layout refusal comes
-inquiry_stage asked layer_map wanted layout refusal (goes_on comes is) = cc is
+inquiry_stage query layer_map wanted layout refusal (stops comes) = layout_stage layer_map wanted layout refusal comes
+inquiry_stage query layer_map wanted layout refusal (goes_on comes is) = cc is
 
 words_stage : (words : List (List ℕ)) (refusal : Refusal) → WordsComeTo words (refused refusal) → IsOfStage refusal
 words_stage words refusal (lacks none) = of_words refl refl
@@ -204,7 +205,7 @@ refusals_tell_stages words contents refusal (stops comes) = words_stage words re
 refusals_tell_stages words contents refusal (goes_on {v = request} words_ask (stops comes)) =
     map_stage_of refusal (map_stage request.task contents.map refusal comes)
 refusals_tell_stages words contents refusal (goes_on {v = request} words_ask (goes_on {v = layer_map} map (stops comes))) =
-    asked_stage request.task layer_map refusal comes
+    query_stage request.task layer_map refusal comes
 refusals_tell_stages words contents refusal (goes_on words_ask (goes_on map (goes_on fits comes))) =
     layout_stage_of refusal (inquiry_stage _ _ _ _ refusal comes)
 
@@ -224,20 +225,20 @@ layout_lacks_none refusal (off_metal status number) lack = let most = lack.1 in 
 pub no_map_refuses_so : (bytes : List ℕ) (refusal : Refusal) → MapTextComesTo bytes (refused refusal) → IsOfLack refusal.number → ⊥
 no_map_refuses_so bytes refusal comes = map_lacks_none refusal (map_text_stage bytes refusal comes)
 
-pub no_layout_refuses_so : (asked : Asked) (layer_map : LayerMap) (wanted : Option (List ℕ)) (layout : List ℕ) (refusal : Refusal)
-    → InquiryComesTo asked layer_map wanted layout (refused refusal) → IsOfLack refusal.number → ⊥
-no_layout_refuses_so asked layer_map wanted layout refusal comes =
-    layout_lacks_none refusal (inquiry_stage asked layer_map wanted layout refusal comes)
+pub no_layout_refuses_so : (query : Query) (layer_map : LayerMap) (wanted : Option (List ℕ)) (layout : List ℕ) (refusal : Refusal)
+    → InquiryComesTo query layer_map wanted layout (refused refusal) → IsOfLack refusal.number → ⊥
+no_layout_refuses_so query layer_map wanted layout refusal comes =
+    layout_lacks_none refusal (inquiry_stage query layer_map wanted layout refusal comes)
 
 -- so a refusal with one of them is of what the task asks of a map
 of_asking : (task : Task) (contents : Contents) (refusal : Refusal) → TaskComesTo contents task (refused refusal) → IsOfLack refusal.number
-    → (layer_map : LayerMap) × AskedComesTo task layer_map (refused refusal)
+    → (layer_map : LayerMap) × QueryComesTo task layer_map (refused refusal)
 of_asking task contents refusal (stops comes) lack = absurd (map_lacks_none refusal (map_stage task contents.map refusal comes) lack)
 of_asking task contents refusal (goes_on {v = layer_map} map (stops comes)) lack = (layer_map, comes)
 of_asking task contents refusal (goes_on map (goes_on fits comes)) lack = absurd (no_layout_refuses_so _ _ _ _ refusal comes lack)
 
 -- a task that names no size lacks nothing
-nothing_lacks : (task : Task) (layer_map : LayerMap) (refusal : Refusal) → (NamesSize task → ⊥) → AskedComesTo task layer_map (refused refusal) → ⊥
+nothing_lacks : (task : Task) (layer_map : LayerMap) (refusal : Refusal) → (NamesSize task → ⊥) → QueryComesTo task layer_map (refused refusal) → ⊥
 nothing_lacks (OneMetal layout layer datatype radius top) layer_map refusal none comes = cc comes
 nothing_lacks (Mapped layout map top) layer_map refusal none comes = cc comes
 nothing_lacks (Generated columns) layer_map refusal none comes = cc comes
@@ -247,7 +248,7 @@ nothing_lacks (Regions layout map top kind layer size) layer_map refusal none co
 
 -- and one that gives no region lacks no layer
 no_layer_is_lacking : (task : Task) (layer_map : LayerMap) (refusal : Refusal) → (GivesRegion task → ⊥)
-    → AskedComesTo task layer_map (refused refusal) → refusal.number ≢ 49
+    → QueryComesTo task layer_map (refused refusal) → refusal.number ≢ 49
 no_layer_is_lacking (OneMetal layout layer datatype radius top) layer_map refusal none comes e = cc comes
 no_layer_is_lacking (Mapped layout map top) layer_map refusal none comes e = cc comes
 no_layer_is_lacking (Generated columns) layer_map refusal none comes e = cc comes
@@ -257,7 +258,7 @@ no_layer_is_lacking (Regions layout map top kind layer size) layer_map refusal n
 
 module _ (words : List (List ℕ)) (contents : Contents) (request : Request) (refusal : Refusal) (asks : Ask words request)
     (verdict : IsVerdict words contents (refused refusal)) where
-  lacking : IsOfLack refusal.number → (layer_map : LayerMap) × AskedComesTo request.task layer_map (refused refusal)
+  lacking : IsOfLack refusal.number → (layer_map : LayerMap) × QueryComesTo request.task layer_map (refused refusal)
   lacking = of_asking request.task contents refusal ((task_outcome words request request.task asks refl contents (refused refusal)).0 verdict)
 
   pub no_size_lacks : (NamesSize request.task → ⊥) → refusal.number ≢ 48

@@ -7,8 +7,10 @@ use Rattle.command_line.specs.declared.request.Request.{Request}
 use Rattle.gauges.specs.GaugeViews.{AreTold, AreToldPrefixes, GaugeView, IsTold}
 use Rattle.gauges.proofs.laws.Told.{untold_same}
 use Rattle.map_model.specs.MapNames.{LayerMap}
-use Rattle.critarea_core.specs.Dues.{Due, IsDueAs}
-use Rattle.critarea_core.specs.Inquiries.{Asked, AskedComesTo, for_pairs, for_probe, for_regions, for_report}
+use Rattle.critarea_core.specs.Outputs.{Due, IsDueAs}
+use Rattle.critarea_core.specs.Inquiries.{QueryComesTo}
+use Rattle.critarea_core.specs.declared.query.Query.{Query}
+use Rattle.critarea_core.specs.declared.query.Query.TheVariants.{Report as for_report, Pairs as for_pairs, Probe as for_probe, Region as for_region}
 use Rattle.critarea_core.specs.Run.{AreToldAll, AreToldSome, EndsWith, Gauges, IsDueFor, Surroundings}
 use Rattle.critarea_core.specs.Run as run
 use Rattle.run_laws.specs.TaskRows.{GivesPairs, GivesReport}
@@ -37,28 +39,28 @@ module _ (words : List (List ℕ)) (met : Surroundings) (request : Request) (ask
   gauges = met.gauges
 
   module _ (due : Due) (is : IsDueFor words met due) where
-    asked : (layer_map : LayerMap) × AskedComesTo request.task layer_map (value is.inquiry.asked)
+    asked : (layer_map : LayerMap) × QueryComesTo request.task layer_map (value is.inquiry.query)
     asked = asked_of words is.comes.contents request is.inquiry asks is.comes.verdict
 
-    no_rows_as : (what : Asked) → (GivesReport request.task → ⊥) → AskedComesTo request.task asked.0 (value what)
+    no_rows_as : (what : Query) → (GivesReport request.task → ⊥) → QueryComesTo request.task asked.0 (value what)
         → IsDueAs what is.inquiry.subject gauges.of_rows.before gauges.of_pairs.before due → due.rows ≡ []
     no_rows_as for_report none fits is_due = absurd (not_for_report request.task asked.0 none fits)
     no_rows_as (for_pairs size) none fits is_due = is_due.no_rows
     no_rows_as (for_probe cell) none fits is_due = is_due.no_rows
-    no_rows_as (for_regions kind number size) none fits is_due = is_due.no_rows
+    no_rows_as (for_region kind number size) none fits is_due = is_due.no_rows
 
-    no_pairs_as : (what : Asked) → (GivesPairs request.task → ⊥) → AskedComesTo request.task asked.0 (value what)
+    no_pairs_as : (what : Query) → (GivesPairs request.task → ⊥) → QueryComesTo request.task asked.0 (value what)
         → IsDueAs what is.inquiry.subject gauges.of_rows.before gauges.of_pairs.before due → due.pair_rows ≡ []
     no_pairs_as for_report none fits is_due = is_due.no_pairs
     no_pairs_as (for_pairs size) none fits is_due = absurd (not_for_pairs request.task asked.0 size none fits)
     no_pairs_as (for_probe cell) none fits is_due = is_due.no_pairs
-    no_pairs_as (for_regions kind number size) none fits is_due = is_due.no_pairs
+    no_pairs_as (for_region kind number size) none fits is_due = is_due.no_pairs
 
     no_rows : (GivesReport request.task → ⊥) → due.rows ≡ []
-    no_rows none = no_rows_as is.inquiry.asked none asked.1 is.is_due
+    no_rows none = no_rows_as is.inquiry.query none asked.1 is.is_due
 
     no_pairs : (GivesPairs request.task → ⊥) → due.pair_rows ≡ []
-    no_pairs none = no_pairs_as is.inquiry.asked none asked.1 is.is_due
+    no_pairs none = no_pairs_as is.inquiry.query none asked.1 is.is_due
 
     -- so gauges of the one kind stay as they were where they are told all of this, or some
     rows_same : (GivesReport request.task → ⊥) → AreToldAll due gauges → gauges.of_rows.after ≡ gauges.of_rows.before

@@ -11,8 +11,8 @@ ghost use Rattle.first_refusal.specs.Laws.{IsUnique, CannotLack};
 ghost use Rattle.first_refusal.specs.Outcomes.{Outcome, refused, value};
 ghost use Rattle.critarea_core.specs.Analysis.{AnalysisComesTo};
 ghost use Rattle.critarea_core.specs.Contents.{Contents, file, layout_source};
-ghost use Rattle.critarea_core.specs.Dues.{AreRowsOn, Due, IsDue, whole_report};
-ghost use Rattle.critarea_core.specs.Inquiries.{Asked, AskedComesTo, Inquiry};
+ghost use Rattle.critarea_core.specs.Outputs.{AreRowsOn, Due, IsDue, whole_report};
+ghost use Rattle.critarea_core.specs.Inquiries.{Inquiry, QueryComesTo};
 ghost use Rattle.command_line.specs.Requests.{Ask};
 ghost use Rattle.command_line.specs.declared.request.Request.{Request};
 ghost use Rattle.command_line.specs.declared.task.Task.{Task};
@@ -26,6 +26,7 @@ ghost use Rattle.critarea_core.specs.Refusals.{no_such_layer, no_such_size};
 ghost use Rattle.critarea_core.specs.Run.{Change, EndsWith, Gauges, Output};
 ghost use Rattle.critarea_core.specs.Verdict.{IsVerdict, LayoutComesTo, MapComesTo};
 ghost use Rattle.critarea_core.specs.declared.layout_fault.LayoutFault.{LayoutFault};
+ghost use Rattle.critarea_core.specs.declared.query.Query.{Query};
 ghost use Rattle.critarea_core.specs.declared.refusal.Refusal.{Refusal};
 ghost use Rattle.map_model.specs.LayerMap.{LayerMap};
 ghost use Rattle.map_model.specs.declared.measure.Measure.TheVariants.{Radius};
@@ -60,8 +61,8 @@ pub fn verdicts_agree()
 #[tactic(auto, using(crate::proofs::ExistLaws::verdict_cannot_lack))]
 pub fn contents_have_verdicts()
     ensures { (words : List (List ℕ)) (contents : Contents) →
-        ((request : Request) (layer_map : LayerMap) (asked : Asked) (name : List ℕ) → Ask words request →
-        MapComesTo request.task contents.map (value layer_map) → AskedComesTo request.task layer_map (value asked) →
+        ((request : Request) (layer_map : LayerMap) (query : Query) (name : List ℕ) → Ask words request →
+        MapComesTo request.task contents.map (value layer_map) → QueryComesTo request.task layer_map (value query) →
         layout_source request.task ≡ file name → AreBytes (contents.layout name)) →
         CannotLack (IsVerdict words contents) }
 {}
@@ -162,7 +163,7 @@ pub fn reports_agree()
 /// the cells, the rows and the room do not.
 pub fn dues_agree()
     ensures bytes { (inquiry : Inquiry) (gauges : List (GaugeView Row)) (pair_gauges : List (GaugeView PairRow)) →
-        (IsForRegions inquiry.asked → ⊥) → IsUnique (IsDue inquiry gauges pair_gauges) }
+        (IsForRegions inquiry.query → ⊥) → IsUnique (IsDue inquiry gauges pair_gauges) }
     ensures alike { (inquiry : Inquiry) (gauges : List (GaugeView Row)) (pair_gauges : List (GaugeView PairRow)) (due other : Due) →
         IsDue inquiry gauges pair_gauges due → IsDue inquiry gauges pair_gauges other → AreAlikeDue inquiry due other }
 {}

@@ -1,7 +1,7 @@
 //! A law of region files, as whoever reads them has them.
 
 ghost use Rattle.std.specs.Prelude.{ℕ, List, Option, Contains, Some, length, slice_get, ◌≤◌, ◌≡◌, ◌↔◌};
-ghost use Rattle.critarea_core.specs.Dues.{AreRowsOn, Due, IsRegionDue};
+ghost use Rattle.critarea_core.specs.Outputs.{AreRowsOn, Due, IsRegionDue};
 ghost use Rattle.critarea_core.specs.Layout.{Subject};
 ghost use Rattle.fault_model.specs.Areas.{Tally, cells_of_window};
 ghost use Rattle.first_refusal.specs.Outcomes.{value};

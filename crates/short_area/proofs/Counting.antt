@@ -11,7 +11,7 @@ use Rattle.union_area.specs.WindowParts.{AreParts}
 use Rattle.union_area.proofs.laws.PartLaws.{few_tallied, parts_tally, whole_tally}
 use Rattle.short_area.specs.Labels.{TouchesTwoLabels}
 use Rattle.short_area.specs.Zones.{AreAlikeIn, AreZonesOf, IsCountOf, IsInTwoLabels}
-use Rattle.short_area.specs.inside.Zones.{AreSplit, HaveNoThird}
+use Rattle.short_area.specs.inside.ZonesNearCells.{AreSplit, HaveNoThird}
 use Rattle.fault_model.proofs.UnionLaws.{union_append}
 use Rattle.short_area.proofs.Touching.{two_touched}
 use Rattle.short_area.proofs.ZoneLaws.{both_of_two, two_alike}

@@ -5,7 +5,7 @@ use Rattle.geo_core.specs.Plane.{Overlap}
 use Rattle.geo_core.specs.declared.plane.Labelled.{Labelled}
 use Rattle.lists.proofs.Reading.{All-read, All-read_all}
 use Rattle.short_area.specs.Zones.{IsInLabel}
-use Rattle.short_area.specs.inside.Zones.{HaveSameTwo, MeetsOther}
+use Rattle.short_area.specs.inside.ZonesNearCells.{HaveSameTwo, MeetsOther}
 
 -- the zone has the label of the other, or no cell in common with it
 abbrev pub IsApartFrom : Labelled → Labelled → Type 0

@@ -17,7 +17,7 @@ use Rattle.union_area.specs.PartRects.{GainsPart}
 use Rattle.union_area.proofs.laws.GainLaws.{gained_all}
 use Rattle.short_area.specs.Labels.{TouchesLabel, TouchesTwoLabels}
 use Rattle.short_area.specs.Zones.{AreZonesOf, IsInTwoLabels}
-use Rattle.short_area.specs.inside.Zones.{GainsZone, IsInside, IsNearCell}
+use Rattle.short_area.specs.inside.ZonesNearCells.{GainsZone, IsInside, IsNearCell}
 use Rattle.short_area.proofs.laws.LabelLaws.{label_none}
 
 -- a defect touches a rectangle exactly where the rectangle is near its cell

@@ -12,7 +12,7 @@ use Rattle.joined_rects.proofs.laws.ApartLaws.{two_append, two_apart}
 use Rattle.union_area.specs.WindowParts.{HasAllOf}
 use Rattle.short_area.specs.Zones.{AreAlikeIn, IsInLabel, IsInTwoLabels}
 use Rattle.short_area.proofs.laws.LabelLaws.{label_more, label_none, label_push}
-use Rattle.short_area.specs.inside.Zones.{AreSplit, GainsZone, HaveNoThird, IsInOthers, IsInside, IsWholeIn}
+use Rattle.short_area.specs.inside.ZonesNearCells.{AreSplit, GainsZone, HaveNoThird, IsInOthers, IsInside, IsWholeIn}
 
 module _ (c : Cell) where
   -- where the labels at the cell are the same, so are two of them

@@ -1,4 +1,4 @@
-pub mod Zones
+pub mod ZonesNearCells
 pub mod LabelRuns
 pub mod Leaders
 pub mod AreaSteps

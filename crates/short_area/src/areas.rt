@@ -5,12 +5,12 @@ ghost use Rattle.short_area.specs.Labels.{TouchesTwoLabels};
 ghost use Rattle.short_area.specs.Zones.{IsCountOf};
 ghost use Rattle.short_area.specs.inside.AreaSteps.{IsStepOf};
 ghost use Rattle.short_area.specs.inside.WhatIsLeft.{IsLeftOf};
-ghost use Rattle.short_area.specs.inside.Zones.{HaveNoThird};
+ghost use Rattle.short_area.specs.inside.ZonesNearCells.{HaveNoThird};
 
 use super::halves::halves;
 use super::labels::split;
 use super::leaders::counted_by_leader;
-use super::left::{Left, NONE_TRIED, left_of_many, soon_left};
+use super::part_case::{NONE_TRIED, PartCase, left_of_many, soon_left};
 use super::steps::Step;
 use super::sweeps::area_of_two;
 use super::zones::zones_of;
@@ -86,19 +86,24 @@ fn next_step(
 }
 
 /// The count of what is left of a window, or the place at which to halve it.
-fn step_from(alloc: Global, zones: &[Labelled], window: Rect, left: Left) -> Result<Step, NoMemory>
+fn step_from(
+    alloc: Global,
+    zones: &[Labelled],
+    window: Rect,
+    left: PartCase,
+) -> Result<Step, NoMemory>
     requires { IsLeftOf zones.now window left }
     ensures { IfOk result (IsStepOf zones.now window) }
 {
     match left {
-        Left::Nothing => Ok(Step::Count(0)),
-        Left::All => Ok(Step::Count(count_of(window))),
-        Left::InOne(rects) => Ok(Step::Count(union_area(alloc, rects.as_slice(), window)?)),
-        Left::InTwo(rects) => Ok(Step::Count(area_of_two(alloc, rects.as_slice(), window)?)),
-        Left::InBoth(one, other) => {
+        PartCase::Nothing => Ok(Step::Count(0)),
+        PartCase::All => Ok(Step::Count(count_of(window))),
+        PartCase::InOne(rects) => Ok(Step::Count(union_area(alloc, rects.as_slice(), window)?)),
+        PartCase::InTwo(rects) => Ok(Step::Count(area_of_two(alloc, rects.as_slice(), window)?)),
+        PartCase::InBoth(one, other) => {
             Ok(Step::Count(counted_apart(alloc, zones, window, one, other)?))
         }
-        Left::InHalves(axis, place, hopeless) => Ok(Step::Halve(axis, place, hopeless)),
+        PartCase::InHalves(axis, place, hopeless) => Ok(Step::Halve(axis, place, hopeless)),
     }
 }
 

@@ -3,7 +3,7 @@ ghost use Rattle.geo_core.specs.declared.plane.Cell.{Cell};
 ghost use Rattle.geo_core.specs.declared.plane.Labelled.{Labelled};
 ghost use Rattle.union_area.specs.WindowParts.{HasAllOf};
 ghost use Rattle.short_area.specs.Zones.{IsInTwoLabels};
-ghost use Rattle.short_area.specs.inside.Zones.{AreSplit, HaveNoThird, IsWholeIn};
+ghost use Rattle.short_area.specs.inside.ZonesNearCells.{AreSplit, HaveNoThird, IsWholeIn};
 
 use geo_core::{Labelled, Rect};
 use lists::NoMemory;

@@ -5,7 +5,7 @@ ghost use Rattle.short_area.specs.inside.Leaders.{AreOthers, ArePartsIn, GainsPa
 ghost use Rattle.short_area.specs.Zones.{IsCountOf};
 
 use super::leads::{Lead, lead_of};
-use super::left::LOOKS_EACH;
+use super::part_case::LOOKS_EACH;
 use super::runs::label_runs_within;
 use super::sweeps::area_of_two;
 use geo_core::{Labelled, Rect, clip, join};

@@ -1,7 +1,7 @@
 //! At which cells of a window a square defect touches pieces of two labels: how many they are, and rectangles that have them.
 //!
 //! The cells of the window that are near a piece are a rectangle, the *zone* of the piece, and what is asked for is which
-//! cells lie in zones of two labels. What is left of a part of the window is told alike for a count and for a list (`left`):
+//! cells lie in zones of two labels. What is left of a part of the window is told alike for a count and for a list (`part_case`):
 //!
 //! - Where one label or none is left, nothing. Where a zone has all cells of the part, the cells of the other labels, or all
 //!   of it where another label has them all, too.
@@ -32,8 +32,8 @@ mod halves;
 mod labels;
 mod leaders;
 mod leads;
-mod left;
 mod meeting;
+mod part_case;
 mod places;
 mod rects;
 mod runs;

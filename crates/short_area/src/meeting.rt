@@ -1,5 +1,5 @@
 ghost use Rattle.std.specs.Prelude.{IfOk, IsTrue};
-ghost use Rattle.short_area.specs.inside.Zones.{HaveSameTwo, MeetsOther};
+ghost use Rattle.short_area.specs.inside.ZonesNearCells.{HaveSameTwo, MeetsOther};
 
 use geo_core::{Labelled, overlaps};
 use lists::NoMemory;

@@ -7,11 +7,11 @@ ghost use Rattle.skyline_runs.specs.Runs.{AreApart, IsInTwo};
 ghost use Rattle.union_area.specs.PartRects.{GainsPart};
 ghost use Rattle.short_area.specs.Labels.{TouchesTwoLabels};
 ghost use Rattle.short_area.specs.Zones.{IsInTwoLabels};
-ghost use Rattle.short_area.specs.inside.Zones.{HaveNoThird};
+ghost use Rattle.short_area.specs.inside.ZonesNearCells.{HaveNoThird};
 
 use super::halves::halves;
 use super::labels::split;
-use super::left::{Left, NONE_TRIED, left_of};
+use super::part_case::{NONE_TRIED, PartCase, left_of};
 use super::twice::with_twice;
 use super::zones::zones_of;
 use geo_core::{Labelled, Rect};
@@ -53,18 +53,18 @@ fn with_shorts(
     ensures { IfOk result (λ more. GainsPart (IsInTwoLabels zones.items) part found more) }
 {
     match left_of(alloc, zones.as_slice(), part, hopeless)? {
-        Left::Nothing => Ok(found),
-        Left::All => found.with(alloc, &[part]),
-        Left::InOne(rects) => {
+        PartCase::Nothing => Ok(found),
+        PartCase::All => found.with(alloc, &[part]),
+        PartCase::InOne(rects) => {
             let union = union_rects(alloc, rects.as_slice(), part)?;
             found.with(alloc, union.as_slice())
         }
-        Left::InTwo(runs) => with_twice(alloc, found, runs, part),
-        Left::InBoth(one, other) => {
+        PartCase::InTwo(runs) => with_twice(alloc, found, runs, part),
+        PartCase::InBoth(one, other) => {
             let runs = runs_of_both(alloc, zones.as_slice(), part, one, other)?;
             with_twice(alloc, found, runs, part)
         }
-        Left::InHalves(axis, place, hopeless) => {
+        PartCase::InHalves(axis, place, hopeless) => {
             let (first, second) = parts_at(part, axis, place);
             let (before, behind) = halves(alloc, zones, first, second)?;
             let found = with_shorts(alloc, found, before, first, hopeless)?;

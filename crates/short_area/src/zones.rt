@@ -4,7 +4,7 @@ ghost use Rattle.geo_core.specs.Cells.{Has};
 ghost use Rattle.geo_core.specs.Intervals.{IsIn};
 ghost use Rattle.geo_core.specs.declared.plane.Cell.{Cell};
 ghost use Rattle.short_area.specs.Zones.{AreAlikeIn, AreZonesOf};
-ghost use Rattle.short_area.specs.inside.Zones.{GainsZone, IsInside, IsNearCell, IsNearPlaces};
+ghost use Rattle.short_area.specs.inside.ZonesNearCells.{GainsZone, IsInside, IsNearCell, IsNearPlaces};
 
 use geo_core::{Interval, Labelled, Rect, clip};
 use lists::NoMemory;

@@ -2,5 +2,4 @@
 pub mod TilesAlong
 pub mod Tiles
 pub mod TileTallies
-pub mod Kept
-pub mod Near
+pub mod NearTiles

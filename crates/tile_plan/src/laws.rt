@@ -8,7 +8,7 @@ ghost use Rattle.geo_core.specs.Unions.{IsInUnion};
 ghost use Rattle.geo_core.specs.declared.plane.Labelled.{Labelled};
 ghost use Rattle.geo_core.specs.declared.plane.Rect.{Rect};
 ghost use Rattle.fault_model.specs.Areas.{Tally, cells_of};
-ghost use Rattle.tile_plan.specs.Near.{AreNear, HasExactlyNear, HitsLabel, HitsTwoLabels, IsHit, IsNearTile};
+ghost use Rattle.tile_plan.specs.NearTiles.{AreNear, HasExactlyNear, HitsLabel, HitsTwoLabels, IsHit, IsNearTile};
 ghost use Rattle.tile_plan.specs.Tiles.{IsInTile, IsTile, tile_count};
 ghost use Rattle.tile_plan.specs.TileTallies.{AreTalliesOfTiles, IsTallyOfFirst};
 ghost use Rattle.tile_plan.specs.declared.tiles.TilePlan.{TilePlan as Plan};

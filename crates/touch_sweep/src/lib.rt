@@ -11,9 +11,9 @@ mod link;
 mod numbered;
 mod order;
 mod search;
+mod spanning_forest;
 mod strip;
 mod sweep;
-mod thin;
 
 ghost use Rattle.std.specs.Prelude.{ℕ, length, AllPairs, Contains, IfOk, ◌+◌, ◌*◌, ◌^◌, ◌≤◌, ◌↔◌};
 ghost use Rattle.classes.specs.Classes.{AreJoined};

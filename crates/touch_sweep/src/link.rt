@@ -8,9 +8,9 @@ ghost use Rattle.touch_sweep.specs.inside.Strips.{begins_in, crosses, meets_part
 
 use super::chain::chain;
 use super::numbered::Numbered;
+use super::spanning_forest::thin;
 use super::strip::{Met, Strip};
 use super::sweep::{sweep, sweep_some};
-use super::thin::thin;
 use std::alloc::{AllocError, Global};
 
 /// Where no more than this many rectangles begin, all pairs are looked at.

@@ -9,7 +9,7 @@ use Rattle.fault_model.proofs.TallyLaws.{Tally-none, Tally-same}
 use Rattle.skyline_runs.specs.Runs.{AreApart, HaveSameCells}
 use Rattle.union_area.specs.PartRects.{AreRectsOf, GainsPart}
 use Rattle.union_area.specs.WindowParts.{AreParts}
-use Rattle.union_area.specs.inside.Rests.{HasCellsIn}
+use Rattle.union_area.specs.inside.PartCases.{HasCellsIn}
 use Rattle.union_area.proofs.laws.GainLaws.{gains_halves}
 
 -- another list with the same cells

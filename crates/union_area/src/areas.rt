@@ -5,8 +5,8 @@ ghost use Rattle.geo_core.specs.declared.plane.Cell.{Cell};
 ghost use Rattle.skyline_runs.specs.Runs.{AreApart};
 ghost use Rattle.fault_model.specs.Areas.{Tally, cells_of};
 
+use super::part_case::{NONE_TRIED, PartCase, rest_of};
 use super::parts::count_of;
-use super::rest::{NONE_TRIED, Rest, rest_of};
 use depth_sweep::area_once;
 use geo_core::{Rect, Steps};
 use lists::NoMemory;
@@ -20,11 +20,11 @@ pub fn union_area(alloc: Global, rects: &[Rect], window: Rect) -> Result<u64, No
     ensures small { IfOk result (λ n. n < 2 ^ 63) }
 {
     match rest_of(alloc, rects, window, NONE_TRIED)? {
-        Rest::Nothing => Ok(0),
-        Rest::All => Ok(count_of(window)),
-        Rest::Runs(runs) => Ok(area_of_runs(runs.as_slice(), window)),
-        Rest::Across(inside, _) => swept_area(alloc, inside.as_slice(), window),
-        Rest::Halves(inside, first, second) => {
+        PartCase::Nothing => Ok(0),
+        PartCase::All => Ok(count_of(window)),
+        PartCase::Runs(runs) => Ok(area_of_runs(runs.as_slice(), window)),
+        PartCase::Across(inside, _) => swept_area(alloc, inside.as_slice(), window),
+        PartCase::Halves(inside, first, second) => {
             let one = union_area(alloc, inside.as_slice(), first)?;
             let other = union_area(alloc, inside.as_slice(), second)?;
             Ok(one + other)

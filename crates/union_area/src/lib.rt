@@ -4,7 +4,7 @@
 //! Of parts it is said how many cells a window has, what has all of it, where it is halved, and how the tallies of its parts
 //! make its own (`parts`, `middles`, `laws`).
 //!
-//! What is left of a part decides how it is counted and how it is listed (`rest`). It is parted for as long as that parts the
+//! What is left of a part decides how it is counted and how it is listed (`part_case`). It is parted for as long as that parts the
 //! rectangles well, mostly half way. Rectangles that reach over all rows of a part, or over all its columns, are joined there
 //! where they touch (`spans`). Of what is left, rectangles without common cells are taken where they are soon found: their areas
 //! are added up, or they are listed. Where the rectangles lie across one another a sweep counts, while for the list the part is
@@ -17,9 +17,9 @@
 mod areas;
 pub mod laws;
 pub mod middles;
+mod part_case;
 pub mod parts;
 mod rects;
-mod rest;
 mod spans;
 mod survey;
 mod windows;

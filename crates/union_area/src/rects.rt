@@ -5,7 +5,7 @@ ghost use Rattle.geo_core.specs.declared.plane.Cell.{Cell};
 ghost use Rattle.skyline_runs.specs.Runs.{AreApart};
 ghost use Rattle.union_area.specs.PartRects.{GainsPart};
 
-use super::rest::{NONE_TRIED, Rest, rest_of};
+use super::part_case::{NONE_TRIED, PartCase, rest_of};
 use geo_core::Rect;
 use joined_rects::Gathered;
 use lists::NoMemory;
@@ -35,10 +35,10 @@ fn with_union(
     ensures { IfOk result (λ more. GainsPart (IsInUnion rects.now) window found more) }
 {
     match rest_of(alloc, rects, window, hopeless)? {
-        Rest::Nothing => Ok(found),
-        Rest::All => found.with(alloc, &[window]),
-        Rest::Runs(runs) => found.with(alloc, runs.as_slice()),
-        Rest::Across(inside, halves) => match halves {
+        PartCase::Nothing => Ok(found),
+        PartCase::All => found.with(alloc, &[window]),
+        PartCase::Runs(runs) => found.with(alloc, runs.as_slice()),
+        PartCase::Across(inside, halves) => match halves {
             None => {
                 let runs = union_runs(alloc, inside.as_slice())?;
                 found.with(alloc, runs.as_slice())
@@ -49,7 +49,7 @@ fn with_union(
                 with_union(alloc, found, inside.as_slice(), second, hopeless)
             }
         },
-        Rest::Halves(inside, first, second) => {
+        PartCase::Halves(inside, first, second) => {
             let found = with_union(alloc, found, inside.as_slice(), first, hopeless)?;
             with_union(alloc, found, inside.as_slice(), second, hopeless)
         }

@@ -6,7 +6,7 @@ use Rattle.command_line.specs.declared.option_name.OptionName.{OptionName}
 use Rattle.command_line.specs.declared.option_name.OptionName.TheVariants.{Map, Top, Tile, Workers, Generate, Pairs, Probe, Regions}
 use Rattle.command_line.specs.declared.task.Task.{Task}
 use Rattle.questions.specs.declared.kind.Kind.{Kind}
-use Rattle.command_line.specs.Cells.{IsCellText}
+use Rattle.command_line.specs.CellTexts.{IsCellText}
 use Rattle.command_line.specs.OptionNames.{Text}
 use Rattle.command_line.specs.RegionTexts.{IsRegionText}
 use Rattle.command_line.specs.Spelling.{Given}

@@ -7,12 +7,12 @@ use Rattle.fault_model.proofs.FaultLaws.{none_at, short_at}
 use Rattle.map_model.specs.MapNames.{LayerMap, MappedLayer}
 use Rattle.net_extract.specs.Cuts.{cuts_of}
 use Rattle.near_index.specs.declared.nearest.Near.{Near}
-use Rattle.map_probe.specs.NearestNets.{AreNearestNets}
-use Rattle.map_probe.specs.Probe.{IsToldOf}
-use Rattle.map_probe.specs.declared.metal_near.MetalNear.{MetalNear}
-use Rattle.map_probe.proofs.laws.ShortLaws.{second_tells}
+use Rattle.layout_probe.specs.NearestNets.{AreNearestNets}
+use Rattle.layout_probe.specs.Probe.{IsToldOf}
+use Rattle.layout_probe.specs.declared.metal_near.MetalNear.{MetalNear}
+use Rattle.layout_probe.proofs.laws.ShortLaws.{second_tells}
 use Rattle.critarea_core.specs.Coverage.{IsCoveredOn}
-use Rattle.critarea_core.specs.Dues.{IsProbeOn}
+use Rattle.critarea_core.specs.Outputs.{IsProbeOn}
 use Rattle.critarea_core.specs.Layout.{Subject}
 
 module _ (layer_map : LayerMap) (covers : ℕ → Cell → Type 0) (c : Cell) where

@@ -22,12 +22,15 @@ use Rattle.layout_gen.specs.Generated.{generated_map}
 use Rattle.map_model.specs.MapNames.{LayerMap}
 use Rattle.critarea_core.specs.Contents.{Contents, bytes_from, layout_source, wanted_top}
 use Rattle.critarea_core.specs.Layout.{Subject, RouteHolds, route_checks, route_fault, RoutesComeTo, LibraryComesTo, IsTerminalOn, terminal_fault, ShapesComeTo, ShortLayoutComesTo, TerminalsComeTo}
-use Rattle.critarea_core.specs.Inquiries.{Asked, AreAsked, AskedComesTo, IsLayerNamed, IsRegionAsked, IsSizeNumbered, RegionComesTo, for_pairs, for_regions}
+use Rattle.critarea_core.specs.Inquiries.{ArePairsAsked, IsLayerNamed, IsRegionAsked, IsSizeNumbered, QueryComesTo, RegionComesTo}
 use Rattle.critarea_core.specs.Refusals.{usage, map_limit, map_too_long, of_map_fault, layout_limit, layout_too_long, no_such_layer, no_such_size}
 use Rattle.critarea_core.specs.Refusals.{of_layout_fault}
 use Rattle.questions.specs.declared.kind.Kind.{Kind}
 use Rattle.critarea_core.specs.Verdict.{IsShortEnough, ShortMapComesTo, MapTextComesTo, MapComesTo, WordsComeTo, LayoutComesTo, InquiryComesTo, IsVerdict}
 use Rattle.critarea_core.specs.declared.layout_fault.LayoutFault.TheVariants.{Place, Syntax}
+use Rattle.critarea_core.specs.declared.query.ListedSize.{ListedSize}
+use Rattle.critarea_core.specs.declared.query.Query.{Query}
+use Rattle.critarea_core.specs.declared.query.Query.TheVariants.{Pairs as for_pairs, Region as for_region}
 
 words_agree : (words : List (List ℕ)) → IsUnique (WordsComeTo words)
 words_agree words = readings_agree (Ask words) usage (requests_agree words)
@@ -52,11 +55,13 @@ map_outcomes_agree (Regions layout map top kind layer size) bytes one other a b 
 -- a map has one size under a number
 sizes_agree : (layer_map : LayerMap) (number : ℕ) → IsUnique (IsSizeNumbered layer_map number)
 sizes_agree layer_map number one other p q =
-    let place : p.place ≡ q.place = omega (arith, p.counted, q.counted) in
+    let place : one.place ≡ other.place = omega (arith, p.counted, q.counted) in
     let sizes : List ℕ = map (λ listed. listed.size) layer_map.sizes in
-    cc (sym p.listed ∙ ap (λ k. slice_get sizes k) place ∙ q.listed)
+    let size : one.size ≡ other.size = cc (sym p.listed ∙ ap (λ k. slice_get sizes k) place ∙ q.listed) in
+    let Size : ℕ → ℕ → ListedSize = λ k n. record { place = k; size = n } in
+    ap (λ k. Size k one.size) place ∙ ap (Size other.place) size
 
-pairs_asked_agree : (layer_map : LayerMap) (number : ℕ) → IsUnique (AreAsked layer_map number)
+pairs_asked_agree : (layer_map : LayerMap) (number : ℕ) → IsUnique (ArePairsAsked layer_map number)
 pairs_asked_agree layer_map number one other a b =
     a.is_asked ∙ ap for_pairs (sizes_agree layer_map number a.size b.size a.numbered b.numbered) ∙ sym b.is_asked
 
@@ -67,9 +72,9 @@ layers_agree layer_map kind name one other a b = elim (cases_lt one other) [
   | inr behind ↦ elim (cases_lt other one) [ inl before ↦ absurd (a.first other before b.has_name) | inr least ↦ omega (arith, behind, least) ]
 ]
 
-regions_asked_agree : (layer_map : LayerMap) (kind : Kind) (name : List ℕ) (size : ℕ) → IsUnique (IsRegionAsked layer_map kind name size)
+regions_asked_agree : (layer_map : LayerMap) (kind : Kind) (name : List ℕ) (size : ListedSize) → IsUnique (IsRegionAsked layer_map kind name size)
 regions_asked_agree layer_map kind name size one other a b =
-    a.is_asked ∙ ap (λ number. for_regions kind number size) (layers_agree layer_map kind name a.number b.number a.is_named b.is_named) ∙ sym b.is_asked
+    a.is_asked ∙ ap (λ number. for_region kind number size) (layers_agree layer_map kind name a.number b.number a.is_named b.is_named) ∙ sym b.is_asked
 
 regions_agree : (layer_map : LayerMap) (kind : Kind) (name : List ℕ) (number : ℕ) → IsUnique (RegionComesTo layer_map kind name number)
 regions_agree layer_map kind name number =
@@ -77,14 +82,14 @@ regions_agree layer_map kind name number =
     (λ size. readings_agree (IsRegionAsked layer_map kind name size) no_such_layer (regions_asked_agree layer_map kind name size))
 
 -- and a task asks one thing of it
-asked_agree : (task : Task) (layer_map : LayerMap) → IsUnique (AskedComesTo task layer_map)
-asked_agree (OneMetal layout layer datatype radius top) layer_map one other a b = a ∙ sym b
-asked_agree (Mapped layout map top) layer_map one other a b = a ∙ sym b
-asked_agree (Generated columns) layer_map one other a b = a ∙ sym b
-asked_agree (Pairs layout map top number) layer_map one other a b =
-    readings_agree (AreAsked layer_map number) (no_such_size (length layer_map.sizes)) (pairs_asked_agree layer_map number) one other a b
-asked_agree (Probe layout map top cell) layer_map one other a b = a ∙ sym b
-asked_agree (Regions layout map top kind layer number) layer_map one other a b = regions_agree layer_map kind layer number one other a b
+queries_agree : (task : Task) (layer_map : LayerMap) → IsUnique (QueryComesTo task layer_map)
+queries_agree (OneMetal layout layer datatype radius top) layer_map one other a b = a ∙ sym b
+queries_agree (Mapped layout map top) layer_map one other a b = a ∙ sym b
+queries_agree (Generated columns) layer_map one other a b = a ∙ sym b
+queries_agree (Pairs layout map top number) layer_map one other a b =
+    readings_agree (ArePairsAsked layer_map number) (no_such_size (length layer_map.sizes)) (pairs_asked_agree layer_map number) one other a b
+queries_agree (Probe layout map top cell) layer_map one other a b = a ∙ sym b
+queries_agree (Regions layout map top kind layer number) layer_map one other a b = regions_agree layer_map kind layer number one other a b
 
 -- the subject with these routes in a library of these units
 abbrev pub subject_of : LayerMap → List ℕ → List Route → Subject
@@ -109,12 +114,12 @@ pub layout_outcomes_agree : (layer_map : LayerMap) (wanted : Option (List ℕ)) 
 layout_outcomes_agree layer_map wanted layout = stages_agree _ _ (readings_agree (IsShortEnough layout_limit layout) layout_too_long (lengths_agree layout_limit layout))
     (λ same. retold_agree of_layout_fault (ShortLayoutComesTo layer_map wanted same) (short_layouts_agree layer_map wanted same))
 
-inquiries_agree : (asked : Asked) (layer_map : LayerMap) (wanted : Option (List ℕ)) (layout : List ℕ) → IsUnique (InquiryComesTo asked layer_map wanted layout)
-inquiries_agree asked layer_map wanted layout =
+inquiries_agree : (query : Query) (layer_map : LayerMap) (wanted : Option (List ℕ)) (layout : List ℕ) → IsUnique (InquiryComesTo query layer_map wanted layout)
+inquiries_agree query layer_map wanted layout =
     stages_agree (LayoutComesTo layer_map wanted layout) _ (layout_outcomes_agree layer_map wanted layout) (λ subject one other a b. a ∙ sym b)
 
 pub verdicts_agree : (words : List (List ℕ)) (contents : Contents) → IsUnique (IsVerdict words contents)
 verdicts_agree words contents = stages_agree (WordsComeTo words) _ (words_agree words)
     (λ request. stages_agree (MapComesTo request.task contents.map) _ (map_outcomes_agree request.task contents.map)
-    (λ layer_map. stages_agree (AskedComesTo request.task layer_map) _ (asked_agree request.task layer_map)
-    (λ asked. inquiries_agree asked layer_map (wanted_top request.task) (bytes_from contents.layout (layout_source request.task)))))
+    (λ layer_map. stages_agree (QueryComesTo request.task layer_map) _ (queries_agree request.task layer_map)
+    (λ query. inquiries_agree query layer_map (wanted_top request.task) (bytes_from contents.layout (layout_source request.task)))))

@@ -1,28 +1,34 @@
 -- inside this crate: what is found before anything is printed, and how the printing ends. No definition above rests on it.
-use Rattle.std.specs.Prelude.{ℕ, List, [], ◌≡◌, ◌≢◌, ◌≤◌, ◌<◌, Option, length, slice_index_or, Result, Ok, Err, Vec}
-use Rattle.lists.specs.Words.{Global}
+use Rattle.std.specs.Prelude.{ℕ, List, [], ◌≡◌, ◌≢◌, Option, length, Result, Ok, Err, Vec}
+use Rattle.lists.specs.Words.{Global, enumerate_from}
 use Rattle.first_refusal.specs.Answers.{Answers}
+use Rattle.first_refusal.specs.Checks.{Checks}
 use Rattle.first_refusal.specs.Outcomes.{Outcome, Reads, value, refused}
 use Rattle.command_line.specs.declared.task.Task.{Task}
 use Rattle.gds_records.specs.RecordSpelling.{spellings}
 use Rattle.gds_write.specs.Written.{written}
+use Rattle.geo_core.specs.Plane.{IsCoveredIn}
 use Rattle.geo_core.specs.declared.plane.Cell.{Cell}
+use Rattle.geo_core.specs.declared.plane.Rect.{Rect}
 use Rattle.map_model.specs.MapNames.{LayerMap, layer_map_of}
 use Rattle.map_model.specs.declared.map.Map.{Map}
 use Rattle.gauges.specs.declared.pair_row.PairRow.{PairRow}
+use Rattle.area_parts.specs.Rows.{AreRows}
+use Rattle.layout_pairs.specs.PairAreas.{ArePairRows}
 use Rattle.pair_report.specs.PairReport.{whole_pair_text}
 use Rattle.pair_report.specs.PairRows.{pair_rows}
-use Rattle.pair_report.specs.declared.tables.PairTables.{PairTables}
-use Rattle.map_probe.specs.ProbeText.{probe_text}
-use Rattle.map_probe.specs.declared.metal_near.MetalNear.{MetalNear}
-use Rattle.map_regions.specs.Regions.{IsNumberFor}
+use Rattle.layout_probe.specs.Probe.{IsProbe}
+use Rattle.layout_probe.specs.ProbeText.{probe_text}
+use Rattle.layout_regions.specs.Regions.{IsRegion}
+use Rattle.net_extract.specs.Extraction.{IsOnItsMetal, off_metal}
+use Rattle.net_extract.specs.declared.fault.NetFault.{NetFault}
 use Rattle.questions.specs.declared.kind.Kind.{Kind}
 use Rattle.questions.specs.declared.row.Row.{Row}
-use Rattle.questions.specs.declared.row.TheConstants.{MOST_ROWS}
-use Rattle.region_out.specs.Regions.{region_library_of}
+use Rattle.region_out.specs.RegionLibraries.{region_library_of}
 use Rattle.critarea_core.specs.Contents.{MayContain, Source, bytes_from}
-use Rattle.critarea_core.specs.Dues.{AreRowsOn, ArePairRowsOn, Due, IsProbeOn, IsRegionOn, region_room, whole_report}
-use Rattle.critarea_core.specs.Inquiries.{Asked, Inquiry, for_report, for_pairs, for_probe, for_regions}
+use Rattle.critarea_core.specs.Coverage.{IsCoveredOn}
+use Rattle.critarea_core.specs.Outputs.{Due, region_room, whole_report}
+use Rattle.critarea_core.specs.Inquiries.{Inquiry}
 use Rattle.critarea_core.specs.Refusals.{layout_limit, layout_too_long, refusal_text}
 use Rattle.critarea_core.specs.Run.{AreToldAll, AreToldSome, AreUnsure, AreUntold, Change, FailsWithin, Gauges, HasRisen}
 use Rattle.critarea_core.specs.Run.{IsCalm, IsIdle, MayComeTo, Output, Takes}
@@ -31,8 +37,8 @@ use Rattle.critarea_core.specs.Verdict.{IsShortEnough, MapComesTo}
 use Rattle.critarea_core.specs.declared.found.CriticalRegion.{CriticalRegion}
 use Rattle.critarea_core.specs.declared.found.Found.{Found}
 use Rattle.critarea_core.specs.declared.found.Found.TheVariants.{Report as Rows, Pairs as Tables, Probe as Probed, Region as Cells}
-use Rattle.critarea_core.specs.declared.wanted.Wanted.{Wanted}
-use Rattle.critarea_core.specs.declared.wanted.Wanted.TheVariants.{Report, Pairs, Probe, Region}
+use Rattle.critarea_core.specs.declared.query.Query.{Query}
+use Rattle.critarea_core.specs.declared.query.Query.TheVariants.{Report as for_report, Pairs as for_pairs, Probe as for_probe, Region as for_region}
 use Rattle.critarea_core.specs.declared.layout_fault.LayoutFault.{LayoutFault}
 use Rattle.critarea_core.specs.declared.layout_fault.LayoutFault.TheVariants.{Memory as LayoutMemory}
 use Rattle.critarea_core.specs.declared.refusal.Refusal.{Refusal}
@@ -95,56 +101,35 @@ pub record MapMayCome (told : List ℕ → Option (List ℕ)) (task : Task) (out
 abbrev pub IsMapOf : LayerMap → Map → Type 0
 IsMapOf layer_map made = layer_map ≡ layer_map_of made
 
--- ---- rows
+-- ---- what is found of a layout
 
--- these are the rows on the subject, as many as a report may have
-pub record HasRows (subject : Subject) (rows : Vec Row Global) : Type 0 where
-  pub are_rows : AreRowsOn subject rows.items
-  pub few : length rows.items ≤ MOST_ROWS
+-- the region has the critical cells of this kind and size on the layer with this number, of what is covered, and these units
+pub record IsRegionIn (layer_map : LayerMap) (covers : ℕ → Cell → Type 0) (layout_units : List ℕ) (kind : Kind) (number size : ℕ) (region : CriticalRegion)
+    : Type 0 where
+  pub is_region : IsRegion layer_map covers kind number size region.rects.items
+  pub units : region.units ≡ layout_units
 
--- these are the pairs of nets of the subject for defects of this size
-abbrev pub HasPairs : ℕ → Subject → PairTables → Type 0
-HasPairs size subject tables = ArePairRowsOn subject size (pair_rows tables)
+-- this was found, as it is asked, of what is covered in a layout of these units: the rows that answer the questions of the layer map,
+-- the pairs of nets, what is told at the cell of each metal, or the critical cells
+abbrev pub IsFoundIn : Query → LayerMap → (ℕ → Cell → Type 0) → List ℕ → Found → Type 0
+IsFoundIn for_report layer_map covers units (Rows report) = AreRows layer_map covers report.rows.items
+IsFoundIn (for_pairs size) layer_map covers units (Tables tables) = ArePairRows layer_map covers size.size (pair_rows tables)
+IsFoundIn (for_probe cell) layer_map covers units (Probed metals) = IsProbe layer_map covers cell metals.items
+IsFoundIn (for_region kind number size) layer_map covers units (Cells region) = IsRegionIn layer_map covers units kind number size.size region
+IsFoundIn query layer_map covers units found = ⊥
 
--- this is told at the cell of each metal of the subject
-abbrev pub HasProbe : Cell → Subject → Vec MetalNear Global → Type 0
-HasProbe cell subject metals = IsProbeOn subject cell metals.items
-
--- these are the critical cells of the subject, of this kind and size on the layer with this number, and its units
-pub record HasRegion (kind : Kind) (number size : ℕ) (subject : Subject) (region : CriticalRegion) : Type 0 where
-  pub is_region : IsRegionOn subject kind number size region.rects.items
-  pub units : region.units ≡ subject.units
-
--- what a task asks, by the place of the size in the map
-abbrev pub asked_by : List ℕ → Wanted → Asked
-asked_by sizes Report = for_report
-asked_by sizes (Pairs place) = for_pairs (slice_index_or sizes place 0)
-asked_by sizes (Probe cell) = for_probe cell
-asked_by sizes (Region kind number place) = for_regions kind number (slice_index_or sizes place 0)
-
--- the map has a size at this place, and a layer with this number
-pub record HasSizeAndLayer (map : Map) (kind : Kind) (number place : ℕ) : Type 0 where
-  pub numbered : IsNumberFor kind (length map.metals) (length map.cuts) number
-  pub below : place < length map.sizes
-
--- the map has the size and the layer that are named, where any are
-abbrev pub IsWantedOf : Map → Wanted → Type 0
-IsWantedOf map Report = Unit {0}
-IsWantedOf map (Pairs place) = place < length map.sizes
-IsWantedOf map (Probe cell) = Unit {0}
-IsWantedOf map (Region kind number place) = HasSizeAndLayer map kind number place
+-- what layers come to: what is asked, where all terminals are on their metals, and else the fault of the first that is not
+abbrev pub ComeToFound : LayerMap → List (List Rect) → List ℕ → Query → Outcome Found NetFault → Type 0
+ComeToFound layer_map lists units query =
+    Checks (IsOnItsMetal lists) (enumerate_from 0 layer_map.terminals) off_metal (IsFoundIn query layer_map (IsCoveredIn lists) units)
 
 -- this was found on the subject, as it is asked
-abbrev pub HasFound : Asked → Subject → Found → Type 0
-HasFound for_report subject (Rows report) = AreRowsOn subject report.rows.items
-HasFound (for_pairs size) subject (Tables tables) = HasPairs size subject tables
-HasFound (for_probe cell) subject (Probed metals) = HasProbe cell subject metals
-HasFound (for_regions kind number size) subject (Cells region) = HasRegion kind number size subject region
-HasFound asked subject found = ⊥
+abbrev pub HasFound : Query → Subject → Found → Type 0
+HasFound query subject = IsFoundIn query subject.layer_map (IsCoveredOn subject.layer_map subject.routes) subject.units
 
 -- this was found for the inquiry
 abbrev pub IsFoundFor : Inquiry → Found → Type 0
-IsFoundFor inquiry = HasFound inquiry.asked inquiry.subject
+IsFoundFor inquiry = HasFound inquiry.query inquiry.subject
 
 -- what is found of the words and the files
 abbrev pub IsFound : List (List ℕ) → (List ℕ → Option (List ℕ)) → (List ℕ → Type 0) → Change ℕ → Result Found Unreported → Type 0

@@ -7,7 +7,7 @@ use Rattle.geo_core.specs.declared.plane.Half.{Half}
 use Rattle.geo_core.specs.declared.plane.Rect.{Rect}
 use Rattle.fault_model.specs.FaultNames.{IsInFootprint, IsIslandOpen, IslandLists, IsOn}
 use Rattle.fault_model.proofs.UnionLaws.{among_union}
-use Rattle.tile_plan.specs.Near.{IsNearTile}
+use Rattle.tile_plan.specs.NearTiles.{IsNearTile}
 use Rattle.tile_plan.proofs.laws.SeamLaws.{hit_is_near}
 use Rattle.critical_areas.specs.RoundPieces.{IsRound}
 

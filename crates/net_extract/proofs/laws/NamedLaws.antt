@@ -18,8 +18,8 @@ use Rattle.net_extract.specs.NetLists.{NetLists}
 use Rattle.net_extract.specs.Standing.{groups_of}
 use Rattle.net_extract.specs.declared.pieces.ContactGroup.{ContactGroup}
 use Rattle.net_extract.specs.declared.pieces.ContactPiece.{ContactPiece}
-use Rattle.net_extract.specs.declared.standing.MetalTerminal.{MetalTerminal}
-use Rattle.net_extract.specs.declared.standing.MetalTerminal.TheVariants.{Named, Group}
+use Rattle.net_extract.specs.declared.metal_terminals.MetalTerminal.{MetalTerminal}
+use Rattle.net_extract.specs.declared.metal_terminals.MetalTerminal.TheVariants.{Named, Group}
 use Rattle.net_extract.proofs.IslandLaws.{got_unmapped}
 use Rattle.net_extract.proofs.WalkLaws.{got_unnumbered}
 use Rattle.net_extract.proofs.laws.BesideLaws.{across_at, back_at}

@@ -16,7 +16,7 @@ use Rattle.net_extract.specs.Cuts.{terminal_cuts_of}
 use Rattle.net_extract.specs.Extraction.{AreNetsOf}
 use Rattle.net_extract.specs.NetLists.{NetLists, IsIslandCell}
 use Rattle.net_extract.specs.Standing.{terminals_on_island}
-use Rattle.net_extract.specs.declared.standing.MetalTerminal.{MetalTerminal}
+use Rattle.net_extract.specs.declared.metal_terminals.MetalTerminal.{MetalTerminal}
 use Rattle.net_extract.proofs.AnchoredLaws.{island_cell, in_rects}
 use Rattle.net_extract.proofs.StandingLaws.{terminals_differ}
 use Rattle.net_extract.proofs.laws.BesideLaws.{across_from, back_from}

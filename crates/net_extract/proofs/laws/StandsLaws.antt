@@ -18,9 +18,9 @@ use Rattle.net_extract.specs.NetLists.{NetLists, IsIslandCell, contacts_of, plac
 use Rattle.net_extract.specs.Standing.{groups_of, island_of_group, terminals_on_island}
 use Rattle.net_extract.specs.declared.pieces.Anchor.{Anchor}
 use Rattle.net_extract.specs.declared.pieces.ContactGroup.{ContactGroup}
-use Rattle.net_extract.specs.declared.standing.MetalTerminal.{MetalTerminal}
-use Rattle.net_extract.specs.declared.standing.MetalTerminal.TheVariants.{Named, Group}
-use Rattle.net_extract.specs.declared.standing.Standing.{Standing}
+use Rattle.net_extract.specs.declared.metal_terminals.MetalTerminal.{MetalTerminal}
+use Rattle.net_extract.specs.declared.metal_terminals.MetalTerminal.TheVariants.{Named, Group}
+use Rattle.net_extract.specs.declared.metal_terminals.Standing.{Standing}
 use Rattle.net_extract.proofs.StandingLaws.{IsCellStanding, IsGroupStanding, standing_cases, cell_stands, group_stands, on_island}
 use Rattle.net_extract.proofs.laws.ClusterLaws.{metals_at}
 use Rattle.net_extract.proofs.laws.GroupSetLaws.{group_has, group_at, group_is_cluster}

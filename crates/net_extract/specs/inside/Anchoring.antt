@@ -12,9 +12,9 @@ use Rattle.net_extract.specs.inside.Numbering.{islands_on}
 use Rattle.net_extract.specs.declared.pieces.Anchor.{Anchor}
 use Rattle.net_extract.specs.declared.pieces.ContactGroup.{ContactGroup}
 use Rattle.net_extract.specs.declared.pieces.ContactPiece.{ContactPiece}
-use Rattle.net_extract.specs.declared.standing.MetalTerminal.{MetalTerminal}
-use Rattle.net_extract.specs.declared.standing.MetalTerminal.TheVariants.{Named, Group}
-use Rattle.net_extract.specs.declared.standing.Standing.{Standing}
+use Rattle.net_extract.specs.declared.metal_terminals.MetalTerminal.{MetalTerminal}
+use Rattle.net_extract.specs.declared.metal_terminals.MetalTerminal.TheVariants.{Named, Group}
+use Rattle.net_extract.specs.declared.metal_terminals.Standing.{Standing}
 
 -- the terminal with this number is the cell, on the metal
 pub record IsTerminalAt (terminals : List Terminal) (metal number : ℕ) (c : Cell) : Type 0 where

@@ -3,7 +3,7 @@ use Rattle.std.specs.Prelude.{ℕ, List, [], ◌∷◌, ◌++◌, All, Contains,
 use Rattle.geo_core.specs.Plane.{Overlap}
 use Rattle.geo_core.specs.declared.plane.Cell.{Cell}
 use Rattle.geo_core.specs.declared.plane.Labelled.{Labelled}
-use Rattle.net_pairs.specs.inside.Gains.{IsInBoth}
+use Rattle.net_pairs.specs.inside.PairGains.{IsInBoth}
 
 -- those of the zones that have a cell of this one have its label
 abbrev pub IsAlone : List Labelled → Labelled → Type 0

@@ -5,9 +5,9 @@ use Rattle.geo_core.specs.declared.plane.Cell.{Cell}
 use Rattle.geo_core.specs.declared.plane.Labelled.{Labelled}
 use Rattle.geo_core.specs.declared.plane.Rect.{Rect}
 use Rattle.fault_model.specs.FaultNames.{cells_of, or_zero}
-use Rattle.net_pairs.specs.inside.Changes.{AreChangesOf, IsChangeIn, below, count_in, weight_at}
+use Rattle.net_pairs.specs.inside.RowChanges.{AreChangesOf, IsChangeIn, below, count_in, weight_at}
 use Rattle.net_pairs.specs.inside.Meetings.{GainsSum}
-use Rattle.net_pairs.specs.inside.Rests.{HaveOneRest}
+use Rattle.net_pairs.specs.inside.SameRests.{HaveOneRest}
 use Rattle.net_pairs.specs.declared.weighted.Weighted.{Weighted}
 
 -- ---- slabs

@@ -6,7 +6,7 @@ use Rattle.geo_core.specs.declared.plane.Labelled.{Labelled}
 use Rattle.geo_core.specs.declared.plane.Rect.{Rect}
 use Rattle.fault_model.specs.FaultNames.{cells_of}
 use Rattle.skyline_runs.specs.Depths.{has_cell}
-use Rattle.net_pairs.specs.inside.Rests.{HaveOneRest}
+use Rattle.net_pairs.specs.inside.SameRests.{HaveOneRest}
 use Rattle.net_pairs.specs.inside.Sums.{cells_for, cells_if}
 use Rattle.net_pairs.specs.declared.weighted.Lesser.{Lesser}
 use Rattle.net_pairs.specs.declared.weighted.Lesser.TheVariants.{Either, Point, Span}

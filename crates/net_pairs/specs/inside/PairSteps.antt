@@ -5,9 +5,9 @@ use Rattle.geo_core.specs.declared.axis.Axis.{Axis}
 use Rattle.geo_core.specs.declared.plane.Labelled.{Labelled}
 use Rattle.geo_core.specs.declared.plane.Rect.{Rect}
 use Rattle.union_area.specs.WindowParts.{IsBetween, IsHalfWay}
-use Rattle.net_pairs.specs.inside.LabelRuns.{AreRunsOf}
-use Rattle.net_pairs.specs.declared.steps.Step.{Step}
-use Rattle.net_pairs.specs.declared.steps.Step.TheVariants.{Nothing, Few, Two, Meet, Halve}
+use Rattle.net_pairs.specs.inside.RunsOfLabels.{AreRunsOf}
+use Rattle.net_pairs.specs.declared.part_case.PartCase.{PartCase}
+use Rattle.net_pairs.specs.declared.part_case.PartCase.TheVariants.{Nothing, Few, Two, Meet, Halve}
 
 -- all zones have one label
 abbrev pub HaveOneLabel : List Labelled → Type 0
@@ -25,7 +25,7 @@ pub record IsMiddleCut (window : Rect) (axis : Axis) (place : ℤ) : Type 0 wher
   pub half_way : IsHalfWay (low_along axis window) (high_along axis window) place
 
 -- there is one label, or there are few zones, or there are these two labels, or these are the runs, or the place is one half way
-abbrev pub IsStepOf : List Labelled → Rect → Step → Type 0
+abbrev pub IsStepOf : List Labelled → Rect → PartCase → Type 0
 IsStepOf zones window Nothing = HaveOneLabel zones
 IsStepOf zones window Few = Unit {0}
 IsStepOf zones window (Two one other) = HaveTwoLabels zones one other

@@ -1,7 +1,7 @@
 -- cells by pairs of labels: a list of items, each with the one label, the other one, and so many cells. Several items of one pair add up.
 use Rattle.std.specs.Prelude.{ℕ, List, [], ◌∷◌, ◌++◌, All, AllPairs, sum_by, if◌then◌else◌, ◌==◌, ◌&&◌, ◌%◌, ◌<◌, ◌≤◌, ◌^◌, ◌≡◌, ◌⊎◌}
 use Rattle.net_pairs.specs.Pairs.{IsBefore}
-use Rattle.net_pairs.specs.inside.Rests.{HaveOneRest}
+use Rattle.net_pairs.specs.inside.SameRests.{HaveOneRest}
 
 -- the cells of the item, where it is one of this pair of labels
 abbrev pub cells_if : ℕ → ℕ → ℕ × ℕ × ℕ → ℕ

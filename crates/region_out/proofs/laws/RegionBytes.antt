@@ -12,7 +12,7 @@ use Rattle.gds_write.specs.Bodies.{bare, date_entry, entry, text_entry, unsigned
 use Rattle.gds_write.specs.SameLibrary.{IsSameButOffsets}
 use Rattle.gds_write.specs.Written.{written, written_element, written_head, written_structure}
 use Rattle.gds_write.proofs.laws.Written.{written_reads}
-use Rattle.region_out.specs.Regions.{AreUnits, region_element, region_library_of, region_structure}
+use Rattle.region_out.specs.RegionLibraries.{AreUnits, region_element, region_library_of, region_structure}
 use Rattle.region_out.proofs.FormLaws.{is_well_formed}
 
 -- ---- how many bytes there are

@@ -11,7 +11,7 @@ use Rattle.flatten.specs.Routes.{routes}
 use Rattle.flatten.specs.Steps.{Step, moved_along}
 use Rattle.rect_cover.specs.Covers.{Covers}
 use Rattle.region_out.specs.RegionCells.{IsCoveredByTop}
-use Rattle.region_out.specs.Regions.{AreUnits, region_boundary, region_library_of}
+use Rattle.region_out.specs.RegionLibraries.{AreUnits, region_boundary, region_library_of}
 use Rattle.region_out.proofs.RouteLaws.{first_is_top, only_first_is_top, route_is, route_there, route_to}
 
 -- a boundary covers its rectangle

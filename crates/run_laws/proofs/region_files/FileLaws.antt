@@ -11,18 +11,18 @@ use Rattle.questions.specs.Questions.{questions}
 use Rattle.questions.specs.declared.kind.Kind.{Kind}
 use Rattle.questions.specs.declared.question.Question.{Question}
 use Rattle.questions.specs.declared.row.Row.{Row}
-use Rattle.map_regions.specs.Regions.{cell_count}
-use Rattle.map_regions.proofs.laws.CountLaws.{tally_is_count}
-use Rattle.map_regions.proofs.laws.RegionLaws.{area_at_place}
+use Rattle.layout_regions.specs.Regions.{cell_count}
+use Rattle.layout_regions.proofs.laws.CountLaws.{tally_is_count}
+use Rattle.layout_regions.proofs.laws.RegionLaws.{area_at_place}
 use Rattle.library_grammar.specs.FirstFault.{BytesComeTo}
 use Rattle.library_grammar.proofs.laws.Libraries.{libraries_agree}
 use Rattle.library_model.specs.declared.library.Library.{Library}
 use Rattle.gds_write.specs.SameLibrary.{IsSameButOffsets}
 use Rattle.region_out.specs.RegionCells.{IsCoveredByTop}
-use Rattle.region_out.specs.Regions.{region_library_of}
+use Rattle.region_out.specs.RegionLibraries.{region_library_of}
 use Rattle.region_out.proofs.laws.RegionBytes.{library_reads}
 use Rattle.critarea_core.specs.Coverage.{IsCoveredOn}
-use Rattle.critarea_core.specs.Dues.{AreRowsOn, Due, IsRegionDue}
+use Rattle.critarea_core.specs.Outputs.{AreRowsOn, Due, IsRegionDue}
 use Rattle.critarea_core.specs.Layout.{Subject}
 use Rattle.critarea_core.proofs.RegionLaws.{region_has_room}
 use Rattle.run_laws.specs.SubjectFaults.{IsFaultOn, IsWindowOn}

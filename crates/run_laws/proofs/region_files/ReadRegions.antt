@@ -28,7 +28,7 @@ use Rattle.flatten.proofs.laws.Routes.{routes_are_listed}
 use Rattle.rect_cover.specs.Covers.{Covers}
 use Rattle.rect_cover.specs.RoutePoints.{route_points}
 use Rattle.region_out.specs.RegionCells.{IsCoveredByTop}
-use Rattle.region_out.specs.Regions.{AreUnits, region_boundary, region_element, region_library_of, region_structure}
+use Rattle.region_out.specs.RegionLibraries.{AreUnits, region_boundary, region_element, region_library_of, region_structure}
 use Rattle.region_out.proofs.laws.RegionCells.{boundary_covers}
 
 -- ---- elements

@@ -7,13 +7,13 @@ use Rattle.geo_core.specs.declared.plane.Rect.{Rect}
 use Rattle.skyline_runs.specs.Runs.{IsInTwo}
 use Rattle.short_area.specs.Zones.{IsInTwoLabels}
 use Rattle.short_area.specs.inside.AreaSteps.{IsCentralCut}
-use Rattle.short_area.specs.inside.Zones.{HaveNoThird}
-use Rattle.short_area.specs.declared.left.Left.{Left}
-use Rattle.short_area.specs.declared.left.Left.TheVariants.{Nothing, All, InOne, InTwo, InBoth, InHalves}
+use Rattle.short_area.specs.inside.ZonesNearCells.{HaveNoThird}
+use Rattle.short_area.specs.declared.part_case.PartCase.{PartCase}
+use Rattle.short_area.specs.declared.part_case.PartCase.TheVariants.{Nothing, All, InOne, InTwo, InBoth, InHalves}
 
 -- none of its cells do, or all of them, or those in the rectangles, or those in two of the rectangles; or there are no labels but
 -- these; or the place at which it is halved is a central one
-abbrev pub IsLeftOf : List Labelled → Rect → Left → Type 0
+abbrev pub IsLeftOf : List Labelled → Rect → PartCase → Type 0
 IsLeftOf zones part Nothing = (c : Cell) → Has part c → IsInTwoLabels zones c → ⊥
 IsLeftOf zones part All = (c : Cell) → Has part c → IsInTwoLabels zones c
 IsLeftOf zones part (InOne rects) = (c : Cell) → Has part c → IsInUnion rects.items c ↔ IsInTwoLabels zones c

@@ -7,7 +7,7 @@ use Rattle.geo_core.specs.declared.plane.Labelled.{Labelled}
 use Rattle.geo_core.specs.declared.plane.Rect.{Rect}
 use Rattle.fault_model.proofs.SizeLaws.{footprint_near}
 use Rattle.fault_model.proofs.UnionLaws.{among_union, in_union}
-use Rattle.tile_plan.specs.Near.{AreNear, HasExactlyNear, HitsLabel, HitsTwoLabels, IsHit, IsNearTile}
+use Rattle.tile_plan.specs.NearTiles.{AreNear, HasExactlyNear, HitsLabel, HitsTwoLabels, IsHit, IsNearTile}
 use Rattle.near_index.proofs.KeptLaws.{is_kept, kept_is}
 
 -- ---- exactly what is near, in any order

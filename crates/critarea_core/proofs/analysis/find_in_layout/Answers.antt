@@ -1,99 +1,53 @@
-use Rattle.std.proofs.Common.{Ok, option_copied, slice_index_or}
-use Rattle.first_refusal.specs.Outcomes.{Then}
-use Rattle.map_model.specs.MapNames.{layer_map_of}
-use Rattle.critarea_core.specs.inside.Finding.{HasFound, HasPairs, HasProbe, HasRegion, HasRows, asked_by}
-use Rattle.critarea_core.specs.Inquiries.{for_report, for_pairs, for_probe, for_regions}
-use Rattle.critarea_core.specs.Layout.{LibraryComesTo, TerminalsComeTo}
-use Rattle.critarea_core.specs.declared.found.Found.TheVariants.{Pairs as Tables, Probe as Probed, Region as Cells}
-use Rattle.critarea_core.proofs.AnalysisLaws.{found_alike, found_few, in_library, no_library, refused_alike}
+use Rattle.std.proofs.Common.{◌∙◌, ap, length, option_copied}
+use Rattle.geo_core.specs.Plane.{IsCoveredIn}
+use Rattle.map_model.specs.MapNames.{LayerMap, layers_of, layer_map_of}
+use Rattle.region_out.specs.RegionLibraries.{units_of}
+use Rattle.critarea_core.specs.inside.Finding.{HasFound, IsFoundIn}
+use Rattle.critarea_core.proofs.AnalysisLaws.{no_layers, no_library, off_metals, on_metals}
+use Rattle.critarea_core.proofs.LayerLaws.{layer_count}
+use Rattle.critarea_core.proofs.ReadingLaws.{found_for}
+use Rattle.critarea_core.proofs.TerminalLaws.{as_found}
 use Rattle.critarea_core.proofs.analysis.find_in_layout.Goals as goal
 
 pub returns-in_err-library : goal.returns-in_err-library
 returns-in_err-library g c =
-    no_library (HasFound (asked_by c.args.map.now.sizes c.args.wanted)) (layer_map_of c.args.map.now) (option_copied c.args.top) c.args.bytes.items c.in_err-library.field-0.0 c.from_residual.result c.from_residual.ensures.1
+    no_library (HasFound c.args.query) (layer_map_of c.args.map.now) (option_copied c.args.top) c.args.bytes.items c.in_err-library.field-0.0 c.from_residual.result c.from_residual.ensures.1
     (rw c.as_slice.ensures.value at c.in_err-library.ensures.answers)
 
-pub returns-in_err-rows-in-Report : goal.returns-in_err-rows-in-Report
-returns-in_err-rows-in-Report g c =
-    let layer_map = layer_map_of c.args.map.now in
-    let top = option_copied c.args.top in
-    let library = c.in_ok-library.library in
-    let asked = asked_by c.args.map.now.sizes c.args.wanted in
-    in_library (HasFound asked) layer_map top c.args.bytes.items library c.from_residual-in_err-rows-in-Report.result (rw c.as_slice.ensures.value at c.in_ok-library.ensures.answers)
-    (refused_alike (Then (LibraryComesTo layer_map top library) TerminalsComeTo) HasRows (HasFound asked) c.in_err-rows-in-Report.field-0.0 c.from_residual-in_err-rows-in-Report.result
-    c.from_residual-in_err-rows-in-Report.ensures.1 c.in_err-rows-in-Report.ensures)
+pub returns-in_err-layers : goal.returns-in_err-layers
+returns-in_err-layers g c =
+    no_layers (HasFound c.args.query) (layer_map_of c.args.map.now) (option_copied c.args.top) c.args.bytes.items c.in_ok-library.library
+    (rw c.as_slice.ensures.value at c.in_ok-library.ensures.answers) c.in_err-layers.field-0.0 c.from_residual-in_err-layers.result c.from_residual-in_err-layers.ensures.1 c.in_err-layers.ensures
 
-pub returns-in_err-tables-in-Pairs : goal.returns-in_err-tables-in-Pairs
-returns-in_err-tables-in-Pairs g c =
-    let layer_map = layer_map_of c.args.map.now in
-    let top = option_copied c.args.top in
-    let library = c.in_ok-library.library in
-    let asked = asked_by c.args.map.now.sizes c.args.wanted in
-    in_library (HasFound asked) layer_map top c.args.bytes.items library c.from_residual-in_err-tables-in-Pairs.result (rw c.as_slice.ensures.value at c.in_ok-library.ensures.answers)
-    (refused_alike (Then (LibraryComesTo layer_map top library) TerminalsComeTo) (HasPairs (slice_index_or c.args.map.now.sizes c.in-Pairs.place 0)) (HasFound asked)
-    c.in_err-tables-in-Pairs.field-0.0 c.from_residual-in_err-tables-in-Pairs.result c.from_residual-in_err-tables-in-Pairs.ensures.1 c.in_err-tables-in-Pairs.ensures)
+pub find_on_layers-requires-clause-one_each : goal.find_on_layers-requires-clause-one_each
+find_on_layers-requires-clause-one_each g c κs within =
+    let given = c.args.map.now in
+    let laid = (found_for _ _ _ _ c.in_ok-layers.layers c.in_ok-layers.ensures).2 in
+    laid.layers.one_each ∙ ap (λ (m : LayerMap). length (layers_of m)) laid.of_map ∙ layer_count given.metals given.cuts
 
-pub returns-in_err-metals-in-Probe : goal.returns-in_err-metals-in-Probe
-returns-in_err-metals-in-Probe g c =
-    let layer_map = layer_map_of c.args.map.now in
-    let top = option_copied c.args.top in
-    let library = c.in_ok-library.library in
-    let asked = asked_by c.args.map.now.sizes c.args.wanted in
-    in_library (HasFound asked) layer_map top c.args.bytes.items library c.from_residual-in_err-metals-in-Probe.result (rw c.as_slice.ensures.value at c.in_ok-library.ensures.answers)
-    (refused_alike (Then (LibraryComesTo layer_map top library) TerminalsComeTo) (HasProbe c.in-Probe.cell) (HasFound asked)
-    c.in_err-metals-in-Probe.field-0.0 c.from_residual-in_err-metals-in-Probe.result c.from_residual-in_err-metals-in-Probe.ensures.1 c.in_err-metals-in-Probe.ensures)
+pub find_on_layers-requires-clause-within : goal.find_on_layers-requires-clause-within
+find_on_layers-requires-clause-within g c κs within = (found_for _ _ _ _ c.in_ok-layers.layers c.in_ok-layers.ensures).2.layers.within
 
-pub returns-in_err-region-in-Region : goal.returns-in_err-region-in-Region
-returns-in_err-region-in-Region g c =
-    let layer_map = layer_map_of c.args.map.now in
-    let top = option_copied c.args.top in
-    let library = c.in_ok-library.library in
-    let asked = asked_by c.args.map.now.sizes c.args.wanted in
-    let wanted = c.in-Region in
-    in_library (HasFound asked) layer_map top c.args.bytes.items library c.from_residual-in_err-region-in-Region.result (rw c.as_slice.ensures.value at c.in_ok-library.ensures.answers)
-    (refused_alike (Then (LibraryComesTo layer_map top library) TerminalsComeTo) (HasRegion wanted.kind wanted.number (slice_index_or c.args.map.now.sizes wanted.place 0)) (HasFound asked)
-    c.in_err-region-in-Region.field-0.0 c.from_residual-in_err-region-in-Region.result c.from_residual-in_err-region-in-Region.ensures.1 c.in_err-region-in-Region.ensures)
+pub find_on_layers-requires-clause-fit : goal.find_on_layers-requires-clause-fit
+find_on_layers-requires-clause-fit g c κs within = units_of c.in_ok-library.library
 
-pub invariant_of-result : goal.invariant_of-result
-invariant_of-result g c = record { few = found_few _ (Ok c.in_ok-rows-in-Report.rows) c.in_ok-rows-in-Report.ensures }
-
-pub returns-in_ok-rows-in-Report : goal.returns-in_ok-rows-in-Report
-returns-in_ok-rows-in-Report g c =
-    let layer_map = layer_map_of c.args.map.now in
-    let top = option_copied c.args.top in
+pub returns-in_err-found : goal.returns-in_err-found
+returns-in_err-found g c =
     let library = c.in_ok-library.library in
-    rw c.in-Report.is (in_library (HasFound for_report) layer_map top c.args.bytes.items library _ (rw c.as_slice.ensures.value at c.in_ok-library.ensures.answers)
-    (found_alike (Then (LibraryComesTo layer_map top library) TerminalsComeTo) HasRows (HasFound for_report) c.in_ok-rows-in-Report.rows _ (λ subject has. has.are_rows)
-    c.in_ok-rows-in-Report.ensures))
+    let layers = c.in_ok-layers.layers in
+    off_metals (HasFound c.args.query) (layer_map_of c.args.map.now) (option_copied c.args.top) c.args.bytes.items library
+    (rw c.as_slice.ensures.value at c.in_ok-library.ensures.answers) layers c.in_ok-layers.ensures
+    (λ m found. IsFoundIn c.args.query m (IsCoveredIn layers.lists.items) library.units found) c.in_err-found.field-0.0 c.from_residual-in_err-found.result
+    c.from_residual-in_err-found.ensures.1 c.in_err-found.ensures
 
-pub returns-in_ok-tables-in-Pairs : goal.returns-in_ok-tables-in-Pairs
-returns-in_ok-tables-in-Pairs g c =
+pub returns : goal.returns
+returns g c =
     let layer_map = layer_map_of c.args.map.now in
-    let top = option_copied c.args.top in
     let library = c.in_ok-library.library in
-    let size = slice_index_or c.args.map.now.sizes c.in-Pairs.place 0 in
-    rw c.in-Pairs.is (in_library (HasFound (for_pairs size)) layer_map top c.args.bytes.items library _ (rw c.as_slice.ensures.value at c.in_ok-library.ensures.answers)
-    (found_alike (Then (LibraryComesTo layer_map top library) TerminalsComeTo) (HasPairs size) (HasFound (for_pairs size)) c.in_ok-tables-in-Pairs.tables
-    (Tables c.in_ok-tables-in-Pairs.tables) (λ subject has. has) c.in_ok-tables-in-Pairs.ensures))
-
-pub returns-in_ok-metals-in-Probe : goal.returns-in_ok-metals-in-Probe
-returns-in_ok-metals-in-Probe g c =
-    let layer_map = layer_map_of c.args.map.now in
-    let top = option_copied c.args.top in
-    let library = c.in_ok-library.library in
-    let cell = c.in-Probe.cell in
-    rw c.in-Probe.is (in_library (HasFound (for_probe cell)) layer_map top c.args.bytes.items library _ (rw c.as_slice.ensures.value at c.in_ok-library.ensures.answers)
-    (found_alike (Then (LibraryComesTo layer_map top library) TerminalsComeTo) (HasProbe cell) (HasFound (for_probe cell)) c.in_ok-metals-in-Probe.metals
-    (Probed c.in_ok-metals-in-Probe.metals) (λ subject has. has) c.in_ok-metals-in-Probe.ensures))
-
-pub returns-in_ok-region-in-Region : goal.returns-in_ok-region-in-Region
-returns-in_ok-region-in-Region g c =
-    let layer_map = layer_map_of c.args.map.now in
-    let top = option_copied c.args.top in
-    let library = c.in_ok-library.library in
-    let wanted = c.in-Region in
-    let size = slice_index_or c.args.map.now.sizes wanted.place 0 in
-    let asked = for_regions wanted.kind wanted.number size in
-    rw c.in-Region.is (in_library (HasFound asked) layer_map top c.args.bytes.items library _ (rw c.as_slice.ensures.value at c.in_ok-library.ensures.answers)
-    (found_alike (Then (LibraryComesTo layer_map top library) TerminalsComeTo) (HasRegion wanted.kind wanted.number size) (HasFound asked) c.in_ok-region-in-Region.region
-    (Cells c.in_ok-region-in-Region.region) (λ subject has. has) c.in_ok-region-in-Region.ensures))
+    let layers = c.in_ok-layers.layers in
+    let query = c.args.query in
+    let found = c.in_ok-found.found in
+    on_metals (HasFound query) layer_map (option_copied c.args.top) c.args.bytes.items library
+    (rw c.as_slice.ensures.value at c.in_ok-library.ensures.answers) layers c.in_ok-layers.ensures
+    (λ m one. IsFoundIn query m (IsCoveredIn layers.lists.items) library.units one) found
+    (λ subject laid is. as_found layer_map layers subject laid query found is) c.in_ok-found.ensures

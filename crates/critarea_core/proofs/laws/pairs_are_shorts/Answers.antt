@@ -1,5 +1,5 @@
 use Rattle.critarea_core.specs.Coverage.{IsCoveredOn}
-use Rattle.map_pairs.proofs.laws.ReportLaws.{no_rows_no_areas, shorts_are_touches}
+use Rattle.layout_pairs.proofs.laws.ReportLaws.{no_rows_no_areas, shorts_are_touches}
 use Rattle.critarea_core.proofs.laws.pairs_are_shorts.Goals as goal
 
 pub returns-clause-shorts : goal.returns-clause-shorts

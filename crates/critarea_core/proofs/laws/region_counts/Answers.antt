@@ -1,5 +1,5 @@
 use Rattle.critarea_core.specs.Coverage.{IsCoveredOn}
-use Rattle.map_regions.proofs.laws.RegionLaws.{area_at_place, area_by_name}
+use Rattle.layout_regions.proofs.laws.RegionLaws.{area_at_place, area_by_name}
 use Rattle.critarea_core.proofs.laws.region_counts.Goals as goal
 
 pub returns-clause-at_its_place : goal.returns-clause-at_its_place

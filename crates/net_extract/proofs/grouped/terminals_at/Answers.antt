@@ -1,7 +1,7 @@
 use Rattle.std.proofs.Common.{◌-◌, ◌≡◌, ◌∙◌, drop, leb, length, ltb, ap, take, rules}
 use Rattle.lists.proofs.Words.{take_rest}
 use Rattle.std.proofs.lemmas.List.Sorted.{IsNonDecreasingBy-drop, IsPartitionPoint-from_clause, IsPartitionedBy-leb, IsPartitionedBy-ltb}
-use Rattle.net_extract.specs.declared.standing.Standing.{Standing}
+use Rattle.net_extract.specs.declared.metal_terminals.Standing.{Standing}
 use Rattle.net_extract.proofs.GroupLaws.{part_is}
 use Rattle.net_extract.proofs.grouped.terminals_at.Goals as goal
 

@@ -1,7 +1,7 @@
 use Rattle.std.proofs.Common.{refl, rules}
 use Rattle.std.proofs.lemmas.List.Sorted.{IsNonDecreasingBy-from_sort_by_key}
-use Rattle.net_extract.specs.declared.standing.MetalTerminal.TheVariants.{Group}
-use Rattle.net_extract.specs.declared.standing.Standing.{Standing}
+use Rattle.net_extract.specs.declared.metal_terminals.MetalTerminal.TheVariants.{Group}
+use Rattle.net_extract.specs.declared.metal_terminals.Standing.{Standing}
 use Rattle.net_extract.proofs.GroupLaws.{kept_by_sort}
 use Rattle.net_extract.proofs.grouped.terminals_by_island.Goals as goal
 

@@ -2,7 +2,7 @@ use Rattle.std.proofs.Common.{◌∙◌, [], length, refl, subst}
 use Rattle.lists.proofs.Words.{get_or_read, slice_get_read}
 use Rattle.net_extract.specs.Standing.{groups_of}
 use Rattle.net_extract.specs.inside.Anchoring.{IsThere}
-use Rattle.net_extract.specs.declared.standing.MetalTerminal.TheVariants.{Group}
+use Rattle.net_extract.specs.declared.metal_terminals.MetalTerminal.TheVariants.{Group}
 use Rattle.net_extract.proofs.spots.spot_of.Goals as goal
 
 pub returns-in_ok-rects-in-Group : goal.returns-in_ok-rects-in-Group

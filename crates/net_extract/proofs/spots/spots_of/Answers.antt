@@ -2,8 +2,8 @@ use Rattle.std.proofs.Common.{map, take, pos}
 use Rattle.lists.proofs.Words.{map_more}
 use Rattle.lists.proofs.Pairing.{AllZip-push}
 use Rattle.net_extract.specs.AnchoredIslands.{IsSpotOfTerminal}
-use Rattle.net_extract.specs.declared.standing.MetalTerminal.TheVariants.{Named}
-use Rattle.net_extract.specs.declared.standing.Standing.{Standing}
+use Rattle.net_extract.specs.declared.metal_terminals.MetalTerminal.TheVariants.{Named}
+use Rattle.net_extract.specs.declared.metal_terminals.Standing.{Standing}
 use Rattle.net_extract.proofs.spots.spots_of.Goals as goal
 
 pub loop-standing-preserved : goal.loop-standing-preserved

@@ -2,7 +2,7 @@ use Rattle.std.proofs.Common.{List, arith, refl, subst, sym}
 use Rattle.lists.proofs.Words.{on_ok_weaker}
 use Rattle.geo_core.specs.declared.plane.Labelled.{Labelled}
 use Rattle.union_area.proofs.laws.PartLaws.{fewer_cells}
-use Rattle.net_pairs.specs.inside.LabelRuns.{AreRunsOf}
+use Rattle.net_pairs.specs.inside.RunsOfLabels.{AreRunsOf}
 use Rattle.net_pairs.specs.inside.PairSteps.{HaveOneLabel, HaveTwoLabels}
 use Rattle.net_pairs.proofs.AreaLaws.{gains_by_runs, gains_of_one, gains_of_parts, gains_of_two}
 use Rattle.net_pairs.proofs.areas.+add_areas.Goals as goal

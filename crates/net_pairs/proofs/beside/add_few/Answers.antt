@@ -1,8 +1,8 @@
 use Rattle.std.proofs.Common.{List, subst, sym}
 use Rattle.lists.proofs.Words.{on_ok_weaker}
 use Rattle.geo_core.specs.declared.plane.Labelled.{Labelled}
-use Rattle.net_pairs.specs.inside.Gains.{IsInBoth}
-use Rattle.net_pairs.specs.inside.LabelRuns.{AreRunsOf}
+use Rattle.net_pairs.specs.inside.PairGains.{IsInBoth}
+use Rattle.net_pairs.specs.inside.RunsOfLabels.{AreRunsOf}
 use Rattle.net_pairs.proofs.AreaLaws.{gains_by_runs}
 use Rattle.net_pairs.proofs.GainLaws.{gains_same}
 use Rattle.net_pairs.proofs.beside.add_few.Goals as goal

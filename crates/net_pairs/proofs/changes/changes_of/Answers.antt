@@ -2,7 +2,7 @@ use Rattle.lists.proofs.Words.{IfOk-weaker}
 use Rattle.std.proofs.Common.{Vec, subst, sym}
 use Rattle.std.specs.Global.{Global}
 use Rattle.net_pairs.specs.declared.weighted.Weighted.{Weighted}
-use Rattle.net_pairs.specs.inside.Corners.{AreCornersOf}
+use Rattle.net_pairs.specs.inside.ChangeCorners.{AreCornersOf}
 use Rattle.net_pairs.proofs.StretchLaws.{changes_are}
 use Rattle.net_pairs.proofs.changes.changes_of.Goals as goal
 

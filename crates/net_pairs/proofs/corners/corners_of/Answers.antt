@@ -2,7 +2,7 @@ use Rattle.lists.proofs.Words.{IfOk-weaker}
 use Rattle.std.proofs.Common.{Vec, subst, sym}
 use Rattle.std.specs.Global.{Global}
 use Rattle.net_pairs.specs.declared.corners.Corner.{Corner}
-use Rattle.net_pairs.specs.inside.Corners.{AreCornersOf}
+use Rattle.net_pairs.specs.inside.ChangeCorners.{AreCornersOf}
 use Rattle.net_pairs.proofs.CornerLaws.{corners_alike, corners_all, corners_begun, corners_more}
 use Rattle.net_pairs.proofs.corners.corners_of.Goals as goal
 

@@ -1,5 +1,5 @@
 use Rattle.std.proofs.Common.{take}
-use Rattle.net_pairs.specs.inside.Corners.{AreCornersOf}
+use Rattle.net_pairs.specs.inside.ChangeCorners.{AreCornersOf}
 use Rattle.net_pairs.proofs.corners.corners_of.Given as goal
 
 abbrev pub invariant-loop-one : goal.invariant-loop-one

@@ -1,7 +1,7 @@
 use Rattle.std.proofs.Common.{Vec}
 use Rattle.lists.proofs.Words.{Global, IfOk-weaker}
 use Rattle.net_pairs.specs.declared.weighted.Weighted.{Weighted}
-use Rattle.net_pairs.specs.inside.Changes.{CoverAlike}
+use Rattle.net_pairs.specs.inside.RowChanges.{CoverAlike}
 use Rattle.net_pairs.proofs.ChangeMoves.{slabs_in_order}
 use Rattle.net_pairs.proofs.dense.slabs_by_row.Goals as goal
 

@@ -1,5 +1,5 @@
 use Rattle.std.proofs.Common.{◌≡◌, ◌++◌, take, map}
-use Rattle.net_pairs.specs.inside.LabelRuns.{with_label}
+use Rattle.net_pairs.specs.inside.RunsOfLabels.{with_label}
 use Rattle.net_pairs.proofs.runs.add_labelled.Given as goal
 
 abbrev pub invariant-loop-rect : goal.invariant-loop-rect

@@ -1,6 +1,6 @@
 use Rattle.std.proofs.Common.{List, ap, map, ◌++◌, ◌∙◌}
 use Rattle.geo_core.specs.declared.plane.Rect.{Rect}
-use Rattle.net_pairs.specs.inside.LabelRuns.{with_label}
+use Rattle.net_pairs.specs.inside.RunsOfLabels.{with_label}
 use Rattle.net_pairs.proofs.runs.add_runs_within.Goals as goal
 
 pub returns : goal.returns

@@ -2,7 +2,7 @@ use Rattle.std.proofs.Common.{List, AllPairs, subst, sym, ◌∙◌, ◌≤◌, 
 use Rattle.lists.proofs.Words.{IsPermutation}
 use Rattle.geo_core.specs.declared.plane.Labelled.{Labelled}
 use Rattle.geo_core.specs.declared.plane.Rect.{Rect}
-use Rattle.net_pairs.specs.inside.LabelRuns.{AreRunsTo, GainsRuns}
+use Rattle.net_pairs.specs.inside.RunsOfLabels.{AreRunsTo, GainsRuns}
 use Rattle.net_pairs.proofs.RunLaws.{runs_all, runs_begun, runs_next, runs_same}
 use Rattle.net_pairs.proofs.runs.label_runs.Goals as goal
 use Rattle.net_pairs.proofs.runs.label_runs.Goals.{then-zone-label+in_ok-add_runs, else-zone-label}

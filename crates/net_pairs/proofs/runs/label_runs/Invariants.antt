@@ -1,4 +1,4 @@
-use Rattle.net_pairs.specs.inside.LabelRuns.{AreRunsTo}
+use Rattle.net_pairs.specs.inside.RunsOfLabels.{AreRunsTo}
 use Rattle.net_pairs.proofs.runs.label_runs.Given as goal
 
 abbrev pub invariant-loop-zone : goal.invariant-loop-zone

@@ -1,7 +1,7 @@
 use Rattle.std.proofs.Common.{List, subst, ◌≡◌}
 use Rattle.lists.proofs.Words.{slice_eq-Decides}
 use Rattle.geo_core.specs.declared.plane.Labelled.{Labelled}
-use Rattle.net_pairs.specs.inside.Corners.{AreCornersOf}
+use Rattle.net_pairs.specs.inside.ChangeCorners.{AreCornersOf}
 use Rattle.net_pairs.proofs.CornerLaws.{corner_decides, cover_alike}
 use Rattle.net_pairs.proofs.slabs.slabs_of.Goals as goal
 

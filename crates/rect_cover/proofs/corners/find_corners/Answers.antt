@@ -1,7 +1,7 @@
 use Rattle.std.proofs.Common.{◌+◌, ◌≡◌, ◌++◌, ◌∷◌, [], drop, get_or, None, pos, sym, ap, ◌∙◌, add-one}
 use Rattle.lists.proofs.Words.{drop-cons, drop_all}
 use Rattle.geo_core.specs.declared.plane.Point.{Point}
-use Rattle.rect_cover.specs.inside.Corners.{corners_ahead}
+use Rattle.rect_cover.specs.inside.PathCorners.{corners_ahead}
 use Rattle.rect_cover.proofs.CornerLaws.{corners_begin}
 use Rattle.rect_cover.proofs.corners.find_corners.Goals as goal
 

@@ -1,5 +1,5 @@
 use Rattle.std.proofs.Common.{[], ◌∷◌, ◌++◌, Some, sym, ap, ◌∙◌, append_assoc}
-use Rattle.rect_cover.specs.inside.Corners.{corners_ahead}
+use Rattle.rect_cover.specs.inside.PathCorners.{corners_ahead}
 use Rattle.rect_cover.proofs.CornerLaws.{ahead_again, ahead_turned, ahead_straight}
 use Rattle.rect_cover.proofs.corners.step.Goals as goal
 

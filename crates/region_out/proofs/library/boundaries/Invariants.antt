@@ -1,5 +1,5 @@
 use Rattle.std.proofs.Common.{◌≡◌, map, take}
-use Rattle.region_out.specs.Regions.{region_element}
+use Rattle.region_out.specs.RegionLibraries.{region_element}
 use Rattle.region_out.proofs.library.boundaries.Given as goal
 
 abbrev pub invariant-loop-rect : goal.invariant-loop-rect

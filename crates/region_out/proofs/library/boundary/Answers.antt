@@ -2,7 +2,7 @@ use Rattle.std.proofs.Common.{refl, subst, sym, ◌∙◌}
 use Rattle.library_model.proofs.laws.SameParts.{same_shape}
 use Rattle.library_model.specs.Ranges.{ArePoints}
 use Rattle.region_out.specs.RegionFits.{outline_fits}
-use Rattle.region_out.specs.Regions.{region_boundary}
+use Rattle.region_out.specs.RegionLibraries.{region_boundary}
 use Rattle.region_out.proofs.library.boundary.Goals as goal
 
 pub invariant_of-result-clause-points_fit : goal.invariant_of-result-clause-points_fit

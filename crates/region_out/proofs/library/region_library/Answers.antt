@@ -3,7 +3,7 @@ use Rattle.lists.specs.ByteLists.{AreBytes}
 use Rattle.library_model.proofs.laws.SameParts.{same_library}
 use Rattle.gds_write.specs.WellFormed.{IsWellFormed}
 use Rattle.region_out.specs.RegionFits.{name_fits}
-use Rattle.region_out.specs.Regions.{AreUnits, region_library_of}
+use Rattle.region_out.specs.RegionLibraries.{AreUnits, region_library_of}
 use Rattle.region_out.proofs.FormLaws.{same_cons, is_well_formed}
 use Rattle.region_out.proofs.library.region_library.Goals as goal
 

@@ -2,7 +2,7 @@ use Rattle.std.proofs.Common.{refl, subst, sym}
 use Rattle.lists.specs.ByteLists.{AreBytes}
 use Rattle.library_model.proofs.laws.SameParts.{same_structure}
 use Rattle.region_out.specs.RegionFits.{name_fits}
-use Rattle.region_out.specs.Regions.{region_structure}
+use Rattle.region_out.specs.RegionLibraries.{region_structure}
 use Rattle.region_out.proofs.library.region_structure.Goals as goal
 
 pub invariant_of-result : goal.invariant_of-result

@@ -1,5 +1,5 @@
 use Rattle.std.proofs.Common.{take}
-use Rattle.short_area.specs.inside.Zones.{AreSplit}
+use Rattle.short_area.specs.inside.ZonesNearCells.{AreSplit}
 use Rattle.short_area.proofs.labels.split.Given as goal
 
 abbrev pub invariant-loop-zone : goal.invariant-loop-zone

@@ -3,7 +3,7 @@ use Rattle.lists.proofs.Words.{IfOk-weaker}
 use Rattle.geo_core.specs.Plane.{IsInUnion}
 use Rattle.fault_model.specs.FaultNames.{Tally, cells_of}
 use Rattle.union_area.specs.PartRects.{AreRectsOf}
-use Rattle.union_area.specs.inside.Rests.{HasCellsIn}
+use Rattle.union_area.specs.inside.PartCases.{HasCellsIn}
 use Rattle.union_area.proofs.RestLaws.{tally_clipped, tally_none}
 use Rattle.union_area.proofs.laws.PartLaws.{few_tallied, fewer_cells, parts_tally, whole_tally}
 use Rattle.union_area.proofs.areas.+union_area.Goals as goal

@@ -5,7 +5,7 @@ use Rattle.net_extract.specs.ContactGroups.{AreGroupsOf}
 use Rattle.net_extract.specs.NetLists.{NetLists}
 use Rattle.net_extract.specs.Standing.{standing_on, terminals_on_island}
 use Rattle.net_extract.specs.inside.Anchoring.{AreDifferentCarried}
-use Rattle.net_extract.specs.declared.standing.Standing.{Standing}
+use Rattle.net_extract.specs.declared.metal_terminals.Standing.{Standing}
 use Rattle.net_extract.proofs.AnchoredLaws.{all_there, as_many, each_island, is_anchored, one_island, island_more, island_left_out, all_islands, terminals_here}
 use Rattle.net_extract.proofs.GroupLaws.{rects_of_part}
 use Rattle.net_extract.proofs.nets.Nets.islands.Goals as goal

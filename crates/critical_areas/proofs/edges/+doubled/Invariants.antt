@@ -1,5 +1,0 @@
-use Rattle.std.proofs.Common.{◌-◌}
-use Rattle.critical_areas.proofs.edges.+doubled.Given as goal
-
-abbrev pub decreases-doubled : goal.decreases-doubled
-decreases-doubled l = 1000000000 - l.edge

@@ -1,9 +1,0 @@
-use Rattle.std.proofs.Common.{◌+◌, ◌/◌}
-use Rattle.via_clusters.specs.Blocks.{CoversSomeBox}
-use Rattle.map_regions.proofs.RectLaws.{found_in}
-use Rattle.map_regions.proofs.kinds.blocks.Goals as goal
-
-pub returns : goal.returns
-returns c =
-    let covered = CoversSomeBox c.args.boxes.now ((c.args.side + 1) / 2) in
-    found_in covered c.args.window covered (λ d has. (λ t. t, λ t. t)) c.via_rects.result c.via_rects.ensures.cells c.via_rects.ensures.apart
