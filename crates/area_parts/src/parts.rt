@@ -14,7 +14,7 @@ pub type MetalPieces = Items<Labelled>;
 pub type MetalIslands = Items<Island>;
 
 /// What all areas of a layout are counted from.
-#[derive(Debug, Drop)]
+#[derive(Drop)]
 pub struct Parts {
     /// What is asked, in the order of the report.
     pub questions: Items<Question>,

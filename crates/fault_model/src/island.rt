@@ -6,7 +6,7 @@ use std::marker::Model;
 
 /// What a terminal has on its island: the cells of at least one rectangle, such as the one cell that a map names, or all
 /// contacts of a via cluster.
-#[derive(Debug, Drop)]
+#[derive(Drop)]
 pub struct Spot {
     pub rects: RectList,
     pub ghost some: { rects ≢ [] },
@@ -17,7 +17,7 @@ pub type Spots = Items<Spot>;
 
 /// An island of a metal: its rectangles, which are connected, and the spots of its anchors, which lie on it. Two spots may
 /// have the same cells.
-#[derive(Debug, Drop)]
+#[derive(Drop)]
 pub struct Island {
     pub pieces: RectList,
     pub anchors: Spots,

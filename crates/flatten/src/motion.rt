@@ -3,7 +3,7 @@ use geo_core::{Turn, after, turn_point};
 use library_model::{Lattice, Reference};
 
 /// A motion of the plane: a turn, and then a shift to the right and up, in database units.
-#[derive(Clone, Copy, Debug, PartialEq, Eq)]
+#[derive(Clone, Copy)]
 pub struct Motion {
     pub turn: Turn,
     pub dx: i64,

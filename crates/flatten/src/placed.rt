@@ -2,7 +2,7 @@ use geo_core::Turn;
 
 /// A shape of a structure, as it is placed in the top. A point of the shape lies where `turn` takes it, shifted by `dx`
 /// and `dy`.
-#[derive(Clone, Copy, Debug, PartialEq, Eq)]
+#[derive(Clone, Copy)]
 pub struct Placed {
     /// The number of the structure that has the shape.
     pub structure: u32,

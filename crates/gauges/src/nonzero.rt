@@ -9,7 +9,7 @@ use std::marker::Model;
 
 /// Tells how many rows have an area other than 0, and how many rows there are: `nonzero 6 of 10` and a newline. Contracts
 /// see it as the list of the rows that it has seen.
-#[derive(Debug, Drop)]
+#[derive(Drop)]
 pub struct Nonzero {
     rows: Vec<Row>,
 }

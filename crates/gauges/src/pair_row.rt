@@ -1,7 +1,7 @@
 use map_model::{LayerName, Measure};
 
 /// The area of shorts between two nets of a metal, for one size of defect.
-#[derive(Clone, Copy, Debug, PartialEq, Eq)]
+#[derive(Clone, Copy)]
 pub struct PairRow {
     /// The name of the metal.
     pub layer: LayerName,

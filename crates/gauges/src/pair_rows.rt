@@ -9,7 +9,7 @@ use std::alloc::Global;
 use std::marker::Model;
 
 /// A row without the name of its layer, but with the place of the name in a list.
-#[derive(Clone, Copy, Debug)]
+#[derive(Clone, Copy)]
 pub struct KeptRow {
     pub layer: usize,
     pub first: usize,
@@ -20,7 +20,7 @@ pub struct KeptRow {
 }
 
 /// A list of rows of pairs that keeps the name of each layer once. Contracts see it as the list of the rows.
-#[derive(Debug, Drop)]
+#[derive(Drop)]
 pub struct PairRows {
     layers: Vec<LayerName>,
     rows: Vec<KeptRow>,

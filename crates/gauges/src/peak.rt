@@ -11,7 +11,7 @@ use std::marker::Model;
 
 /// Tells the first row with the greatest product of area and weight: `peak short m1 r=5 sum=72788` and a newline, or
 /// `peak none` and a newline where it has seen no rows. Contracts see it as the list of the rows that it has seen.
-#[derive(Debug, Drop)]
+#[derive(Drop)]
 pub struct Peak {
     rows: Vec<Row>,
 }

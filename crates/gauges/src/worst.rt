@@ -11,7 +11,7 @@ use std::marker::Model;
 
 /// Tells the first row with the greatest area: `worst m1 0 4 r=5 area=1280` and a newline, or `worst none` and a newline
 /// where it has seen no rows. Contracts see it as the list of the rows that it has seen.
-#[derive(Debug, Drop)]
+#[derive(Drop)]
 pub struct Worst {
     rows: PairRows,
 }

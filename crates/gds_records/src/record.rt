@@ -1,6 +1,6 @@
 /// A record of a stream: a head of four bytes, which are the length of the whole in two bytes, the kind and the form,
 /// and then a body.
-#[derive(Clone, Copy, Debug, PartialEq, Eq)]
+#[derive(Clone, Copy, PartialEq, Eq)]
 pub struct Record<'a> {
     /// The offset of its first byte.
     pub at: u32,

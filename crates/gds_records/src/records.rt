@@ -50,7 +50,7 @@ fn record_at<'a>(rest: &'a [u8], at: u32) -> Result<Record<'a>, RecordFault>
 
 /// A reader of the records of a stream, one after the other up to ENDLIB (GDSII Stream Format Manual, Release 6.0,
 /// 'Record Description'). Contracts see its bytes, the offset of the next record, and whether ENDLIB was given.
-#[derive(Debug, Drop)]
+#[derive(Drop)]
 pub struct Records<'a> {
     bytes: &'a [u8],
     at: u32,

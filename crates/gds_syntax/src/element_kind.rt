@@ -6,7 +6,7 @@ ghost use Rattle.library_grammar.specs.Places.{form_of};
 use gds_records::kinds;
 
 /// An element by the record that opens it.
-#[derive(Clone, Copy, Debug, PartialEq, Eq)]
+#[derive(Clone, Copy, PartialEq, Eq)]
 pub enum ElementKind {
     Boundary,
     Path,

@@ -1,5 +1,5 @@
 /// One of the two directions of the plane. What is so of columns along the one is so of rows along the other.
-#[derive(Clone, Copy, Debug, PartialEq, Eq)]
+#[derive(Clone, Copy)]
 pub enum Axis {
     /// From left to right, where columns are counted.
     X,

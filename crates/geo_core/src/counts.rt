@@ -47,7 +47,7 @@ impl<L: Ledger> Steps<L> {
 
 /// What a node of a counting tree keeps: a count, and the widths of those of its columns that lie under at least one
 /// and under at least two, in database units.
-#[derive(Clone, Copy, Debug, PartialEq, Eq)]
+#[derive(Clone, Copy, PartialEq, Eq)]
 pub struct Node {
     pub count: usize,
     pub once: i64,

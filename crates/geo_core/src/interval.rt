@@ -3,7 +3,7 @@ ghost use Rattle.geo_core.specs.declared.bounds.TheConstants.{FARTHEST_GROWN};
 
 /// The whole numbers from `low` to before `high`, of which there is at least one. Both ends lie within 1,001,000,000 of
 /// 0.
-#[derive(Clone, Copy, Debug, PartialEq, Eq)]
+#[derive(Clone, Copy)]
 pub struct Interval {
     pub low: i32,
     pub high: i32,

@@ -2,7 +2,7 @@ use super::span::HalfSpan;
 use geo_core::Rect;
 
 /// The half squares in these columns and these rows of half units.
-#[derive(Clone, Copy, Debug, PartialEq, Eq)]
+#[derive(Clone, Copy)]
 pub struct HalfBox {
     pub columns: HalfSpan,
     pub rows: HalfSpan,

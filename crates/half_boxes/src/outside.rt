@@ -2,7 +2,7 @@ use super::boxes::HalfBox;
 use super::span::HalfSpan;
 
 /// What a box has outside another one, the hole, in four parts without common half squares, of which some may be missing.
-#[derive(Clone, Copy, Debug, PartialEq, Eq)]
+#[derive(Clone, Copy)]
 pub struct Outside {
     /// What lies in rows below those of the hole.
     pub below: Option<HalfBox>,

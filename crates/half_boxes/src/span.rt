@@ -11,7 +11,7 @@ pub const FARTHEST_HALF: i32 = 2_004_000_001;
 const _: () = prove!(FARTHEST_HALF == 2_004_000_001);
 
 /// The half units from `low` to before `high`, of which there is at least one. Both ends lie within 2,004,000,001 of 0.
-#[derive(Clone, Copy, Debug, PartialEq, Eq)]
+#[derive(Clone, Copy)]
 pub struct HalfSpan {
     pub low: i32,
     pub high: i32,

@@ -15,7 +15,7 @@ use map_model::limits::{GREATEST_WEIGHT, MOST_CUTS, MOST_METALS, MOST_SIZES, MOS
 use toml::{Table, Value};
 
 /// Why a list may not stand where it does. Its values are counted from 0.
-#[derive(Clone, Copy, Debug, PartialEq, Eq)]
+#[derive(Clone, Copy)]
 pub enum Cause {
     /// It has so many values, and so many are the most.
     TooMany { count: usize, most: usize },

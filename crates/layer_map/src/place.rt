@@ -17,7 +17,7 @@ use map_model::Measure;
 use toml::{Table, Value};
 
 /// What the items of a list of a document say.
-#[derive(Clone, Copy, Debug, PartialEq, Eq)]
+#[derive(Clone, Copy, PartialEq, Eq)]
 pub enum ItemKind {
     Metal,
     Cut,
@@ -56,7 +56,7 @@ impl ItemKind {
 }
 
 /// A place of a document.
-#[derive(Clone, Copy, Debug, PartialEq, Eq)]
+#[derive(Clone, Copy, PartialEq, Eq)]
 pub enum Place {
     /// The document.
     Document,

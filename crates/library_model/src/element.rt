@@ -6,7 +6,7 @@ use geo_core::{Point, Points, Turn};
 use lists::{Items, Name};
 
 /// A filled shape, or an open line with a width, on a layer and with a datatype.
-#[derive(Debug, Drop)]
+#[derive(Drop)]
 pub struct Shape {
     /// The offset of its opening record.
     pub at: u32,
@@ -24,7 +24,7 @@ pub struct Shape {
 }
 
 /// What a shape is. Lengths are in database units.
-#[derive(Clone, Copy, Debug, PartialEq, Eq)]
+#[derive(Clone, Copy, Debug)]
 pub enum ShapeKind {
     /// A filled polygon.
     Boundary,
@@ -44,7 +44,7 @@ pub enum ShapeKind {
 }
 
 /// A placement of another structure.
-#[derive(Debug, Drop)]
+#[derive(Drop)]
 pub struct Reference {
     /// The offset of its opening record.
     pub at: u32,
@@ -61,7 +61,7 @@ pub struct Reference {
 }
 
 /// Columns and rows of an array, and how far each is from the one before, across and up, in database units.
-#[derive(Clone, Copy, Debug, PartialEq, Eq)]
+#[derive(Clone, Copy)]
 pub struct Lattice {
     /// From 1 to 32,767.
     pub columns: u16,
@@ -80,7 +80,7 @@ pub struct Lattice {
 }
 
 /// An element that is kept: annotations and nodes are read and let go.
-#[derive(Debug, Drop)]
+#[derive(Drop)]
 pub enum Element {
     Shape(Shape),
     Reference(Reference),

@@ -5,7 +5,7 @@ use super::element::Elements;
 use lists::{Items, Name};
 
 /// A library: what a GDSII stream contains.
-#[derive(Debug, Drop)]
+#[derive(Drop)]
 pub struct Library {
     /// The text of LIBNAME.
     pub name: Name,
@@ -19,7 +19,7 @@ pub struct Library {
 }
 
 /// A structure: a named list of elements, which other structures can place.
-#[derive(Debug, Drop)]
+#[derive(Drop)]
 pub struct Structure {
     /// The offset of its opening record.
     pub at: u32,

@@ -25,7 +25,7 @@ use std::marker::Model;
 
 /// The names of structures, which are found by hashes. Contracts see them as a list, in which no name stands twice. The
 /// names themselves stay where they are: in a stream, or in a library.
-#[derive(Debug, Drop)]
+#[derive(Drop)]
 pub struct NameIndex<'a> {
     names: IndexSet<&'a [u8]>,
 }

@@ -26,7 +26,7 @@ pub struct Cut {
 }
 
 /// A terminal: a cell of a metal, by the number of this.
-#[derive(Clone, Copy, Debug, PartialEq, Eq)]
+#[derive(Clone, Copy)]
 pub struct Terminal {
     pub metal: u32,
     pub cell: Cell,

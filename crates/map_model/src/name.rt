@@ -5,7 +5,7 @@ use super::limits::LONGEST_NAME;
 use std::marker::Model;
 
 /// The name of a metal or a cut: 1 to 32 ASCII letters, digits and `_`. Contracts see it as the list of its bytes.
-#[derive(Clone, Copy, Debug, PartialEq, Eq)]
+#[derive(Clone, Copy, PartialEq, Eq)]
 pub struct LayerName {
     // The bytes of the name, and then zeros.
     bytes: [u8; LONGEST_NAME],

@@ -7,7 +7,7 @@ use lists::NoMemory;
 use std::alloc::Global;
 
 /// A terminal of a metal.
-#[derive(Clone, Copy, Debug, PartialEq, Eq)]
+#[derive(Clone, Copy)]
 pub enum MetalTerminal {
     /// A cell that the map names.
     Named(Cell),
@@ -16,7 +16,7 @@ pub enum MetalTerminal {
 }
 
 /// A terminal of a metal with the number of the island on which it stands.
-#[derive(Clone, Copy, Debug, PartialEq, Eq)]
+#[derive(Clone, Copy)]
 pub struct Standing {
     pub island: usize,
     pub terminal: MetalTerminal,

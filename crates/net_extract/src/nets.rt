@@ -18,7 +18,7 @@ use std::marker::Model;
 /// and upper metal, and no two of a cut are the same; each anchor lies on a piece of its island; and no two anchors of one
 /// metal are the same cell. The number of an island tells it from other islands of its metal, and the number of a net tells
 /// it from all other nets. The groups of contact pieces are kept beside them.
-#[derive(Debug, Drop)]
+#[derive(Drop)]
 pub struct Nets {
     pieces: Items<PieceList>,
     contacts: Items<ContactList>,

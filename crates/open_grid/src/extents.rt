@@ -10,7 +10,7 @@ use half_boxes::HalfSpan;
 /// How far a defect has to reach along an axis, in half units: down to `low` or below it, and up to `high` or above it. It may
 /// be that `high` lies below `low`, as where the first of two spans is to have nothing behind the defect, and the last
 /// nothing before it.
-#[derive(Clone, Copy, Debug)]
+#[derive(Clone, Copy)]
 pub struct Extent {
     pub low: i32,
     pub high: i32,

@@ -19,7 +19,7 @@ use std::alloc::Global;
 /// What a zone of centres needs of an island: what is left of it round the zone's defects, the boxes of the island and of its
 /// spots whose ends an end of a defect may meet in the zone, and one box for each anchor that a defect of the zone may
 /// cover: the hull of its spot, which a defect covers exactly where it covers the spot.
-#[derive(Debug, Drop)]
+#[derive(Drop)]
 pub struct Looked {
     pub remnant: Remnant,
     pub near: Items<HalfBox>,
@@ -27,7 +27,7 @@ pub struct Looked {
 }
 
 /// What an island says of a zone.
-#[derive(Debug, Drop)]
+#[derive(Drop)]
 pub enum Told {
     /// No defect of the zone parts two of its anchors.
     Never,

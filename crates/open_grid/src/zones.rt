@@ -18,7 +18,7 @@ use std::alloc::Global;
 use union_area::{first_line, parts_at};
 
 /// What is left of islands in a zone.
-#[derive(Debug, Drop)]
+#[derive(Drop)]
 pub enum Left {
     /// Each defect of the zone parts two anchors of some island.
     Everywhere {

@@ -3,7 +3,7 @@ use map_model::{LayerName, Measure};
 
 /// Pairs of nets of a metal: the numbers of the two nets, the lesser one first, and at how many cells of the window a defect
 /// touches both.
-#[derive(Debug, Drop)]
+#[derive(Drop)]
 pub struct MetalPairs {
     /// The name of the metal.
     pub layer: LayerName,
@@ -12,7 +12,7 @@ pub struct MetalPairs {
 }
 
 /// The pairs of nets of each metal of a layer map, for one size of defects.
-#[derive(Debug, Drop)]
+#[derive(Drop)]
 pub struct PairTables {
     /// Whether the size is a radius or a side.
     pub measure: Measure,

@@ -4,7 +4,7 @@ ghost use Rattle.questions.specs.KindTexts.{kind_text};
 use std::fmt;
 
 /// What a defect does to the wires and vias under it.
-#[derive(Clone, Copy, Debug, PartialEq, Eq)]
+#[derive(Clone, Copy, PartialEq, Eq)]
 pub enum Kind {
     /// It touches two nets of a metal.
     Short,

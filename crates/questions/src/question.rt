@@ -13,7 +13,7 @@ use map_model::{LayerName, Map, Measure};
 use std::alloc::Global;
 
 /// For how many cells one kind of fault happens, on one metal or at one cut, by defects of one size.
-#[derive(Clone, Copy, Debug, PartialEq, Eq)]
+#[derive(Clone, Copy)]
 pub struct Question {
     /// The kind of fault.
     pub kind: Kind,

@@ -8,7 +8,7 @@ use map_model::{LayerName, Measure};
 pub const MOST_ROWS: usize = 2_000;
 
 /// The area of one kind of fault, on one metal or at one cut, for one size of defect: one line of a report.
-#[derive(Clone, Copy, Debug, PartialEq, Eq)]
+#[derive(Clone, Copy)]
 pub struct Row {
     /// The kind of fault.
     pub kind: Kind,

@@ -7,7 +7,7 @@ use lists::NoMemory;
 use std::alloc::Global;
 
 /// The numbers of the boxes that are kept, in order, and for each box how many kept ones come before it.
-#[derive(Debug, Drop)]
+#[derive(Drop)]
 pub struct Places {
     pub places: Vec<usize>,
     pub numbers: Vec<usize>,

@@ -5,7 +5,7 @@ use std::alloc::Global;
 use std::marker::Model;
 
 /// Marks in the order of their terminals, and those of one terminal in the order of their leaders, each once.
-#[derive(Debug, Drop)]
+#[derive(Drop)]
 pub struct Marks {
     sorted: Vec<Mark>,
 }

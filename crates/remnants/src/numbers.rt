@@ -1,7 +1,7 @@
 use std::marker::Model;
 
 /// A set of numbers.
-#[derive(Debug, Drop)]
+#[derive(Drop)]
 pub struct Numbers {
     sorted: Vec<usize>,
 }

@@ -10,14 +10,14 @@ use std::alloc::Global;
 const MIXING_FACTOR: u64 = 0x9e37_79b9_7f4a_7c15;
 
 /// A terminal that may go, and another one that stays in its place.
-#[derive(Clone, Copy, Debug)]
+#[derive(Clone, Copy)]
 pub struct StandIn {
     pub goes: usize,
     pub stays: usize,
 }
 
 /// What is compared of a terminal with several marks: how many these are, and a number that is made of their leaders.
-#[derive(Clone, Copy, Debug)]
+#[derive(Clone, Copy)]
 struct Fingerprint {
     count: usize,
     made: u64,

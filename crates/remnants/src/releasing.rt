@@ -13,7 +13,7 @@ use std::alloc::Global;
 const CANDIDATES: usize = 8;
 
 /// Boxes of none, in the order of their first columns, and in that of their first rows.
-#[derive(Debug, Drop)]
+#[derive(Drop)]
 pub struct PlainBoxes {
     pub by_columns: Vec<HalfBox>,
     pub by_rows: Vec<HalfBox>,

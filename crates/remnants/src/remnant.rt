@@ -18,7 +18,7 @@ use std::marker::Model;
 /// What is left of an island round some defects: boxes that stay whatever is removed, boxes of which something may be
 /// removed, and where the terminals are. Leaders are numbers of fixed boxes that lead themselves, and fixed boxes that touch
 /// have one leader.
-#[derive(Debug, Drop)]
+#[derive(Drop)]
 pub struct Remnant {
     fixed: Vec<Fixed>,
     loose: Vec<Loose>,

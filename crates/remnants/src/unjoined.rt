@@ -8,7 +8,7 @@ use std::alloc::Global;
 use std::marker::Model;
 
 /// A remnant whose fixed boxes may touch and yet have different leaders.
-#[derive(Debug, Drop)]
+#[derive(Drop)]
 pub struct Unjoined {
     pub fixed: Vec<Fixed>,
     pub loose: Vec<Loose>,

@@ -19,7 +19,7 @@ use severing::defects_sever_islands;
 use std::alloc::Global;
 
 /// What the half squares round a defect tell of an island.
-#[derive(Clone, Copy, Debug, PartialEq, Eq)]
+#[derive(Clone, Copy, PartialEq, Eq)]
 pub enum RingAnswer {
     /// The defect has no half square of the island.
     Untouched,

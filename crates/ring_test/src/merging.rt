@@ -8,7 +8,7 @@ ghost use Rattle.ring_test.specs.inside.NumberRuns.{AreByFirst, IsInRuns, IsMerg
 use super::runs::Run;
 
 /// What runs of numbers come to where those that meet are joined.
-#[derive(Clone, Copy, Debug, PartialEq, Eq)]
+#[derive(Clone, Copy)]
 pub enum Merged {
     /// No number.
     Nothing,

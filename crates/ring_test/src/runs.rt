@@ -1,7 +1,7 @@
 ghost use Rattle.std.specs.Prelude.{◌<ℤ◌};
 
 /// The numbers from `from` to before `to`, of which there is at least one.
-#[derive(Clone, Copy, Debug, PartialEq, Eq)]
+#[derive(Clone, Copy)]
 pub struct Run {
     pub from: i64,
     pub to: i64,

@@ -11,7 +11,7 @@ const _: () = prove!(MOST_SLOTS == 2_000);
 const _: () = prove!(MOST_DRAWS == 4_611_686_018_427_387_904);
 
 /// What a board is made for.
-#[derive(Clone, Copy, Debug, PartialEq, Eq)]
+#[derive(Clone, Copy)]
 pub struct Limits {
     /// How many tickets there are: the numbers below this.
     pub tickets: u64,
@@ -24,7 +24,7 @@ pub struct Limits {
 }
 
 /// An amount that is added to the total of a slot on account of a ticket. Contracts speak of credits; none is kept.
-#[derive(Clone, Copy, Debug, PartialEq, Eq)]
+#[derive(Clone, Copy)]
 pub struct Credit {
     /// The ticket that earned it.
     pub ticket: u64,

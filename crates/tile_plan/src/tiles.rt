@@ -17,7 +17,7 @@ const _: () = prove!(MOST_TILES == 1_000_000);
 
 /// The tiles of a window: squares with this edge, in columns and rows from the window's lower left, of which each has what lies
 /// in the window. Tile `k` stands in column `k % columns` and row `k / columns`.
-#[derive(Clone, Copy, Debug, PartialEq, Eq)]
+#[derive(Clone, Copy)]
 pub struct TilePlan {
     pub window: Rect,
     /// The width and the height of a tile, in database units: from 1 to 1,000,000,000.

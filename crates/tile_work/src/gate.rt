@@ -6,7 +6,7 @@ pub trait Gate {
 }
 
 /// The gate that holds nothing.
-#[derive(Clone, Copy, Debug, PartialEq, Eq)]
+#[derive(Clone, Copy)]
 pub struct NoGate;
 
 impl Gate for NoGate {

@@ -12,7 +12,7 @@ use std::alloc::Global;
 const MANY: usize = 64;
 
 /// How a rectangle lies in a window. Those that may be joined come next to each other in this order.
-#[derive(Clone, Copy, Debug, PartialEq, Eq, PartialOrd, Ord)]
+#[derive(Clone, Copy, PartialEq, Eq, PartialOrd, Ord)]
 enum Span {
     /// It has all rows of the window, from this column on.
     AllRows(i32),
