@@ -2,11 +2,11 @@
 
 ghost use Rattle.std.specs.Prelude.{◌≡◌, ◌<◌};
 
-use crate::case::Case;
 use crate::cells::count_all;
 use crate::labelled::pieces;
 use depth_sweep::{area_once, area_twice};
 use geo_core::Steps;
+use row_tables::Case;
 use short_area::short_area;
 use std::marker::Brand;
 use std::sync::ledger::{Blank, Ledger};

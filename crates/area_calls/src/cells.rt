@@ -1,6 +1,7 @@
 //! The cells of rectangles, looked at one by one.
 
 use geo_core::{Cell, Rect};
+use row_tables::Case;
 use union_area::count_of;
 
 /// Whether the rectangle has the cell.
@@ -54,6 +55,16 @@ fn cover_all(rects: &[Rect], others: &[Rect]) -> bool {
 /// Whether both lists have the same cells.
 pub fn have_same_cells(rects: &[Rect], others: &[Rect]) -> bool {
     cover_all(rects, others) && cover_all(others, rects)
+}
+
+/// Compares the cells of the rectangles that came with those of the rectangles at the key.
+pub fn expect_cells<'a>(case: &mut Case<'a>, key: &'a str, came: &[Rect]) {
+    let wanted = case.rects(key);
+    if have_same_cells(came, wanted.as_slice()) {
+        case.expect_rects(key, wanted.as_slice());
+    } else {
+        case.expect_rects(key, came);
+    }
 }
 
 /// How many cells the rectangles have that have none in common.

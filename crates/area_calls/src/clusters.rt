@@ -2,10 +2,11 @@
 
 ghost use Rattle.std.specs.Prelude.{◌≡◌, length};
 
-use crate::case::Case;
+use crate::cells::expect_cells;
 use crate::names::numbers_at;
 use geo_core::Rect;
 use net_extract::{ContactGroup, ContactPiece, Nets, Piece};
+use row_tables::Case;
 use via_clusters::clusters;
 
 /// Compares the rectangles of via clusters, from the left, or how many there are.
@@ -43,7 +44,7 @@ pub fn groups(case: &mut Case<'_>, groups: &[ContactGroup], lower: &[Piece], upp
     case.expect("count", groups.len());
     match (lower, upper) {
         (Some(lower), Some(upper)) => {
-            case.expect_cells("group", rects_of(groups, lower.0, upper.0));
+            expect_cells(case, "group", rects_of(groups, lower.0, upper.0));
         }
         _ => case.note("from", "the cells are not on the metals"),
     }

@@ -1,10 +1,10 @@
 //! Cells that are critical to shorts or to vias, as rectangles, compared with cells that are looked at one by one.
 
-use crate::case::Case;
-use crate::cells::{count_all, covers};
+use crate::cells::{count_all, covers, expect_cells};
 use crate::labelled::{nearest_by_looks, pieces};
 use geo_core::{Cell, Labelled, Rect};
 use questions::Kind;
+use row_tables::Case;
 use short_area::short_rects;
 use std::alloc::{AllocError, Global};
 use via_clusters::via_rects;
@@ -88,6 +88,6 @@ pub fn cells(case: &mut Case<'_>) {
         agree(vias.as_slice(), Kind::Via, pieces, window, radius),
     );
     if case.has("cells") {
-        case.expect_cells("cells", vias.as_slice());
+        expect_cells(case, "cells", vias.as_slice());
     }
 }

@@ -2,13 +2,12 @@
 
 ghost use Rattle.std.specs.Prelude.{◌≡◌, length};
 
-use crate::case::Case;
 use crate::cells::have_same_cells;
 use crate::names::{expect_letters, numbers_at};
 use fault_model::{Island, Spot};
 use geo_core::{Cell, Rect};
 use net_extract::{Anchor, Nets, Piece};
-use row_tables::rects_of;
+use row_tables::{Case, rects_of};
 use std::alloc::Global;
 
 /// A letter for the net of each of so many metals, on which there is one island each.

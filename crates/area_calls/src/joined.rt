@@ -1,9 +1,9 @@
 //! Rectangles that are joined if they share a whole edge.
 
-use crate::case::Case;
 use crate::cells::{count_all, have_same_cells};
 use geo_core::Rect;
 use joined_rects::{Gathered, joined};
+use row_tables::Case;
 
 /// Whether rectangles without common cells have the same cells as they had before they were joined, each in one rectangle, in fewer
 /// rectangles.

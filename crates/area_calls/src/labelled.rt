@@ -1,13 +1,12 @@
 //! Pieces with labels: areas by pairs of labels, the two labels that are nearest to a cell, and numbers by first cells.
 
-use crate::case::Case;
 use crate::cells::distance;
 use geo_core::{Cell, Labelled};
 use lists::NoMemory;
 use near_index::{Near, NearIndex, Nearest};
 use net_numbers::{first_cells, numbered};
 use net_pairs::pair_areas;
-use row_tables::rect_of;
+use row_tables::{Case, rect_of};
 use std::alloc::Global;
 
 /// The label that a row writes so: a number below 0 is counted back from the greatest label, which is -1.

@@ -3,12 +3,11 @@
 ghost use Rattle.std.specs.Prelude.{◌≡◌, ◌+◌, All, IfSome, length, true};
 ghost use Rattle.geo_core.specs.Cells.{IsInLayout};
 
-use crate::case::Case;
 use crate::{maps, nets};
 use geo_core::RectList;
 use layer_map::read_map;
 use map_model::{Layers, Map};
-use row_tables::rects_of;
+use row_tables::{Case, rects_of};
 use samples::sides::are_near;
 use std::alloc::{AllocError, Global};
 

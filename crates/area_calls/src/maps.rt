@@ -4,8 +4,7 @@ ghost use Rattle.std.specs.Prelude.{◌≡◌, ◌+◌, All, length, true};
 ghost use Rattle.geo_core.specs.Cells.{IsInLayout};
 ghost use Rattle.layout_regions.specs.Regions.{IsNumberFor};
 
-use crate::case::Case;
-use crate::cells::count_all;
+use crate::cells::{count_all, expect_cells};
 use layout_pairs::pair_tables;
 use layout_probe::{MetalNear, probe, write_probe};
 use layout_regions::regions;
@@ -13,6 +12,7 @@ use map_model::{Layers, Map};
 use net_extract::NetFault;
 use pair_report::MetalPairs;
 use questions::Kind;
+use row_tables::Case;
 
 /// Compares the terminal for which something is refused.
 fn expect_refused(case: &mut Case<'_>, fault: NetFault) {
@@ -131,7 +131,7 @@ pub fn region(case: &mut Case<'_>, map: &Map, layers: &Layers)
     }
     match regions(case.alloc, map, layers, kind, number, place) {
         Ok(rects) => {
-            case.expect_cells("cells", rects.as_slice());
+            expect_cells(case, "cells", rects.as_slice());
             case.expect("count", count_all(rects.as_slice()));
         }
         Err(fault) => expect_refused(case, fault),

@@ -1,9 +1,9 @@
 //! The names of islands and nets: letters that are equal where they are the same.
 
-use crate::case::Case;
-use crate::cells::has;
+use crate::cells::{expect_cells, has};
 use geo_core::{Cell, Rect};
 use net_extract::{ContactPiece, Piece};
+use row_tables::Case;
 use std::alloc::{AllocError, Global};
 
 /// The island and the net of the cell, if a piece has it.
@@ -96,7 +96,7 @@ fn expect_pieces<'a>(case: &mut Case<'a>, key: &'a str, pieces: &[Piece]) {
     for piece in pieces {
         case.push(&mut rects, piece.rect);
     }
-    case.expect_cells(key, rects.as_slice());
+    expect_cells(case, key, rects.as_slice());
 }
 
 /// Whether the contact piece carries the islands of both metals on which its lower left cell lies.
@@ -118,7 +118,7 @@ fn expect_contacts(case: &mut Case<'_>, contacts: &[ContactPiece], metals: &[&[P
         }
         case.push(&mut rects, contact.rect);
     }
-    case.expect_cells("contacts", rects.as_slice());
+    expect_cells(case, "contacts", rects.as_slice());
 }
 
 /// The islands, nets and contacts of two metals and a cut. How many pieces and contact pieces there are, in which order they come

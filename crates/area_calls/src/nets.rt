@@ -2,11 +2,11 @@
 
 ghost use Rattle.std.specs.Prelude.{◌≡◌, ◌+◌, length};
 
-use crate::case::Case;
 use crate::{clusters, handed, names, opens, spotted};
 use fault_model::Island;
 use map_model::{Layers, Map};
 use net_extract::{NetFault, Nets, extract};
+use row_tables::Case;
 
 /// The islands of all metals that have two terminals or more, once or as many times as the row says. If the row has spots, the last
 /// island has these in place of its own.

@@ -4,12 +4,12 @@ ghost use Rattle.std.specs.Prelude.{◌≤◌, All};
 ghost use Rattle.geo_core.specs.Cells.{IsInLayout};
 ghost use Rattle.geo_core.specs.declared.bounds.TheConstants.{GREATEST_SIDE};
 
-use crate::case::Case;
 use crate::{handed, spots};
 use fault_model::Island;
 use geo_core::{Cell, Rect};
 use open_grid::{open_area, open_area_counted, open_cells, parted, parted_counted};
 use ring_test::{RingAnswer, ring};
+use row_tables::Case;
 use samples::sides::are_near;
 use union_area::union_area;
 

@@ -1,7 +1,7 @@
 //! What two rectangles have in common, and turns of points.
 
-use crate::case::Case;
 use geo_core::{Rect, Turn, after, clip, overlaps, touches, turn_point};
+use row_tables::Case;
 
 /// Compares the cells that two rectangles have in common, and whether they touch.
 fn expect_common(case: &mut Case<'_>, rect: Rect, other: Rect) {

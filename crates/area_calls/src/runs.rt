@@ -1,8 +1,8 @@
 //! Runs: rectangles without common cells that have the cells of a list, or the cells of two of its rectangles.
 
-use crate::case::Case;
 use crate::cells::{count_all, depth};
 use geo_core::{Cell, Rect};
+use row_tables::Case;
 use skyline_runs::{merge_rects, runs_within, twice_runs, twice_runs_within, union_runs};
 use std::alloc::{AllocError, Global};
 

@@ -3,13 +3,12 @@
 ghost use Rattle.std.specs.Prelude.{All};
 ghost use Rattle.geo_core.specs.Cells.{IsInLayout};
 
-use crate::case::Case;
 use crate::cells::covers;
 use fault_model::Island;
 use geo_core::{Cell, Rect};
 use open_grid::{open_area, open_cells, parted};
 use ring_test::{RingAnswer, ring};
-use row_tables::Report;
+use row_tables::{Case, Text};
 use samples::sides::are_near;
 
 /// The columns, and the rows, of the cells at which the defects are.
@@ -83,7 +82,7 @@ fn digit(least: Option<u32>) -> char {
 }
 
 /// Draws a row of cells: what is parted, and beside it what is touched.
-fn draw_row(picture: &mut Report, row: &[LeastSides]) {
+fn draw_row(picture: &mut Text, row: &[LeastSides]) {
     for least in row {
         picture.print(digit(least.parted));
     }
@@ -96,11 +95,11 @@ fn draw_row(picture: &mut Report, row: &[LeastSides]) {
 
 /// Compares the picture of all cells, row by row.
 fn expect_drawn(case: &mut Case<'_>, cells: &[LeastSides]) {
-    let mut picture = Report::new(case.alloc);
+    let mut picture = Text::new(case.alloc);
     for row in cells.chunks(16) {
         draw_row(&mut picture, row);
     }
-    case.expect_text("least", picture.text().unwrap_or(""));
+    case.expect_text("least", picture.shown());
 }
 
 /// Compares the picture of an island.

@@ -5,10 +5,9 @@ ghost use Rattle.geo_core.specs.Cells.{Has};
 ghost use Rattle.geo_core.specs.declared.plane.Cell.{Cell};
 ghost use Rattle.area_calls.specs.OnPieces.{IsOnPieces, IsSpotOnPieces};
 
-use crate::case::Case;
 use fault_model::{Island, Spot, Spots};
 use geo_core::{Rect, RectList, clip};
-use row_tables::rects_of;
+use row_tables::{Case, rects_of};
 use std::alloc::{AllocError, Global};
 
 /// Adds what the rectangle has in common with each of the pieces.

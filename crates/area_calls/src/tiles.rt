@@ -1,9 +1,8 @@
 //! The tiles of a window, and what is near one.
 
-use crate::case::Case;
 use crate::labelled::expect_labels;
 use geo_core::{Labelled, Rect};
-use row_tables::sides_of;
+use row_tables::{Case, sides_of};
 use std::alloc::{AllocError, Global};
 use tile_plan::{GREATEST_EDGE, NearIndex, TilePlan, near, plan};
 

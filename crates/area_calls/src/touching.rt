@@ -1,8 +1,8 @@
 //! Rectangles that touch: pairs of them, their islands, and pairs of two lists that have a cell in common.
 
-use crate::case::Case;
 use geo_core::{Rect, overlaps, touches};
 use islands::label;
+use row_tables::Case;
 use std::alloc::{AllocError, Global};
 use touch_sweep::{meetings, touch_links, touch_pairs};
 

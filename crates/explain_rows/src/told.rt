@@ -1,24 +1,34 @@
 //! What is told of the words of a row.
+//!
+//! What stands at names is a text with a line for each name: the name, a space, and `folder`, `pipe`, `device`, `forbidden`, `file`, or
+//! `untold` if the system does not tell. At other names nothing stands.
 
 use edge_io::MemFiles;
 use explanation::{Explanation, PathKind, Paths, Word, answer};
-use row_files::{has_layout, layout_of, map_of, push_file};
-use row_tables::{Flaw, Row};
-use std::alloc::{AllocError, Global};
-use toml::Value;
+use row_files::{has_layout, layout_of, map_of, push_file, shared_text};
+use row_tables::Case;
 
-/// What stands at the names in a row. At other names nothing stands.
+/// What stands at the names in a text.
 #[derive(Clone, Copy)]
 struct Stands<'a> {
-    at: Option<Row<'a>>,
+    text: &'a str,
 }
 
-/// What stands at a name with this value.
-fn kind_of(value: Option<&Value>) -> PathKind {
-    let Some(Value::String(kind)) = value else {
-        return PathKind::Missing;
-    };
-    match kind.as_str() {
+impl Paths for Stands<'_> {
+    fn kind(&self, name: &[u8]) -> PathKind {
+        for line in self.text.lines() {
+            let (known, kind) = line.split_once(' ').unwrap_or((line, ""));
+            if known.as_bytes() == name {
+                return kind_named(kind);
+            }
+        }
+        PathKind::Missing
+    }
+}
+
+/// What is called by this word.
+fn kind_named(kind: &str) -> PathKind {
+    match kind {
         "folder" => PathKind::Folder,
         "pipe" => PathKind::Pipe,
         "device" => PathKind::Device,
@@ -29,66 +39,43 @@ fn kind_of(value: Option<&Value>) -> PathKind {
     }
 }
 
-impl Paths for Stands<'_> {
-    fn kind(&self, name: &[u8]) -> PathKind {
-        match (self.at, str::from_utf8(name)) {
-            (Some(at), Ok(name)) => kind_of(at.value(name)),
-            _ => PathKind::Missing,
-        }
-    }
-}
-
-/// What stands at names by the row.
-fn stands_of<'a>(row: Row<'a>) -> Result<Stands<'a>, Flaw<'a>> {
-    let at = if row.has("at") {
-        Some(row.shared("at")?)
-    } else {
-        None
-    };
-    Ok(Stands { at })
-}
-
-/// A word.
-fn word_of(alloc: Global, text: &str) -> Result<Word, AllocError> {
-    Ok(Word::from_string(String::from_str(alloc, text)?))
-}
-
-/// The words that these values are.
-fn words_of(alloc: Global, values: &[Value]) -> Option<Vec<Word>> {
-    let mut words = Vec::new(alloc);
-    for value in values {
-        words.push(word_of(alloc, value.as_str()?).ok()?).ok()?;
-    }
-    Some(words)
-}
-
 /// What is told of the words at the key.
-fn told_of<'a>(row: Row<'a>, key: &'a str, files: &mut MemFiles) -> Result<Explanation, Flaw<'a>> {
-    let stands = stands_of(row)?;
-    let values = row.items(key)?;
-    match words_of(row.alloc, values) {
-        Some(words) => Ok(answer(row.alloc, words.as_slice(), files, &stands)?),
-        None => Err(Flaw::of(key, "not texts")),
+fn told_of<'a>(case: &mut Case<'a>, key: &'a str, files: &mut MemFiles) -> Explanation {
+    let stands = Stands {
+        text: shared_text(case, "at"),
+    };
+    let mut words = Vec::new(case.alloc);
+    for text in case.texts(key).as_slice() {
+        let word = String::from_str(case.alloc, text);
+        let word = case.done(word, String::new(case.alloc));
+        case.push(&mut words, Word::from_string(word));
     }
+    let told = answer(case.alloc, words.as_slice(), files, &stands);
+    let nothing = Explanation {
+        status: 0,
+        text: String::new(case.alloc),
+    };
+    case.done(told, nothing)
 }
 
 /// Adds the row's map, if it has one.
-fn add_map<'a>(row: Row<'a>, files: &mut MemFiles) -> Result<(), Flaw<'a>> {
-    if row.has("map_said") {
-        let said = told_of(row, "map_said", files)?;
-        push_file(&mut files.files, "m", said.text.into_bytes())?;
-    } else if row.has("map") || row.has("map_text") || row.has("map_bytes") {
-        push_file(&mut files.files, "m", map_of(row)?)?;
+fn add_map(case: &mut Case<'_>, files: &mut MemFiles) {
+    if case.has("map_said") {
+        let said = told_of(case, "map_said", files);
+        push_file(case, &mut files.files, "m", said.text.into_bytes());
+    } else if case.has("map") || case.has("map_text") || case.has("map_bytes") {
+        let map = map_of(case);
+        push_file(case, &mut files.files, "m", map);
     }
-    Ok(())
 }
 
 /// What is told of the row's words with its layout and its map.
-pub fn told<'a>(row: Row<'a>) -> Result<Explanation, Flaw<'a>> {
-    let mut files = MemFiles::new(Vec::new(row.alloc), Vec::new(row.alloc));
-    if has_layout(row) {
-        push_file(&mut files.files, "a", layout_of(row)?)?;
+pub fn told(case: &mut Case<'_>) -> Explanation {
+    let mut files = MemFiles::new(Vec::new(case.alloc), Vec::new(case.alloc));
+    if has_layout(case) {
+        let layout = layout_of(case);
+        push_file(case, &mut files.files, "a", layout);
     }
-    add_map(row, &mut files)?;
-    told_of(row, "words", &mut files)
+    add_map(case, &mut files);
+    told_of(case, "words", &mut files)
 }

@@ -5,14 +5,14 @@ ghost use Rattle.lists.specs.Differing.{AreDifferent};
 ghost use Rattle.library_model.specs.Names.{names_of};
 ghost use Rattle.library_model.specs.Points.{AreWellPointed};
 
-use crate::layouts::library_of;
-use crate::texts::{expect_fault, shown};
+use crate::layouts::{read, stream};
+use crate::texts::expect_fault;
 use flatten::place;
 use gds_syntax::Library;
 use geo_core::{Rect, RectList};
 use map_model::{Map, one_metal};
 use rect_cover::{CoverFault, cover_all};
-use row_tables::{Flaw, Report, Row};
+use row_tables::{Case, Text};
 use std::alloc::Global;
 use std::thread::Threads;
 
@@ -34,58 +34,48 @@ fn covers_of(
     }
 }
 
-/// The window that a row looks at.
-fn window_of<'a>(row: Row<'a>) -> Result<Rect, Flaw<'a>> {
-    if row.has("window") {
-        row.rect("window")
+/// `[[cover]]` and `[[covers]]`: the shapes' covers, of which there are so many as `shapes` says, or one. In a row `cover` each covers
+/// just the `cells` of these rectangles, and in a row `covers` those of the rectangle at its place among them, within the `window` or
+/// from -20 to 40. It has so many rectangles as `count` says. Or the covers `give` the number and the place of a fault.
+pub fn covers(rt: &(impl Threads + Sync), case: &mut Case<'_>) {
+    let Ok(library) = read(case.alloc, stream(case).as_slice()) else {
+        return case.note("stream", "not a library");
+    };
+    let Ok(map) = one_metal(case.alloc, 1, 0, 1) else {
+        return case.no_memory();
+    };
+    match covers_of(rt, case.alloc, &library, &map) {
+        Ok(lists) => expect_covers(case, lists.as_slice()),
+        Err(fault) => expect_fault(case, fault.number(), fault.place()),
+    }
+}
+
+/// Compares each of the covers, and how many there are.
+fn expect_covers(case: &mut Case<'_>, lists: &[RectList]) {
+    let mut shapes = Text::new(case.alloc);
+    shapes.print(lists.len());
+    case.expect_or("shapes", "1", shapes.shown());
+    let window = if case.has("window") {
+        case.rect("window")
     } else {
-        Ok(Rect::new(-20, -20, 40, 40))
-    }
-}
-
-/// `[[cover]]`: each of the shapes covers just the `cells` of these rectangles, within the `window` or from -20 to 40, by so many
-/// rectangles as `count` says. Or its cover `gives` the number and the place of a fault.
-pub fn covers<'a>(
-    rt: &(impl Threads + Sync),
-    row: Row<'a>,
-    report: &mut Report,
-) -> Result<(), Flaw<'a>> {
-    let window = window_of(row)?;
-    let map = one_metal(row.alloc, 1, 0, 1)?;
-    let library = library_of(row)?;
-    match covers_of(rt, row.alloc, &library, &map) {
-        Ok(lists) => expect_covers(row, report, lists.as_slice(), window),
-        Err(fault) => expect_fault(row, report, fault.number(), fault.place()),
-    }
-    Ok(())
-}
-
-/// Compares each of the covers.
-fn expect_covers(row: Row<'_>, report: &mut Report, lists: &[RectList], window: Rect) {
-    for list in lists {
-        expect_cover(row, report, list.as_slice(), window);
-    }
-}
-
-/// Compares the number of rectangles and their cells.
-fn expect_cover(row: Row<'_>, report: &mut Report, rects: &[Rect], window: Rect) {
-    if row.has("count") {
-        report.expect(row, "count", rects.len());
-    }
-    match row.rects("cells") {
-        Ok(cells) => {
-            let mut wanted = Report::new(row.alloc);
-            let mut came = Report::new(row.alloc);
-            draw(&mut wanted, cells.as_slice(), window);
-            draw(&mut came, rects, window);
-            report.compare("cells", shown(&wanted), shown(&came));
+        Rect::new(-20, -20, 40, 40)
+    };
+    let cells = case.rects("cells");
+    for (place, list) in lists.iter().enumerate() {
+        case.expect_if_wanted("count", list.as_slice().len());
+        let mut wanted = Text::new(case.alloc);
+        match cells.as_slice().get(place) {
+            Some(rect) if case.kind == "covers" => draw(&mut wanted, &[*rect], window),
+            _ => draw(&mut wanted, cells.as_slice(), window),
         }
-        Err(flaw) => report.note(flaw.at, flaw.what),
+        let mut came = Text::new(case.alloc);
+        draw(&mut came, list.as_slice(), window);
+        case.compare("cells", wanted.shown(), came.shown());
     }
 }
 
 /// Appends a picture of the window, with `#` at each cell that the rectangles cover. The lowest row comes first.
-fn draw(text: &mut Report, rects: &[Rect], window: Rect) {
+fn draw(text: &mut Text, rects: &[Rect], window: Rect) {
     for j in window.y0..window.y1 {
         for i in window.x0..window.x1 {
             text.say(if has(rects, i, j) { "#" } else { "." });
@@ -94,52 +84,12 @@ fn draw(text: &mut Report, rects: &[Rect], window: Rect) {
     }
 }
 
-/// Whether a column or a row is between these sides.
-fn is_between(low: i32, place: i32, high: i32) -> bool {
-    low <= place && place < high
-}
-
-/// Whether one of the rectangles has the cell.
+/// Whether one of the rectangles has the cell in this column and row.
 fn has(rects: &[Rect], i: i32, j: i32) -> bool {
     for rect in rects {
-        if is_between(rect.x0, i, rect.x1) && is_between(rect.y0, j, rect.y1) {
+        if rect.x0 <= i && i < rect.x1 && rect.y0 <= j && j < rect.y1 {
             return true;
         }
     }
     false
-}
-
-/// `[[covers]]`: the covers of all shapes at once. Each covers just the cells of the rectangle at its place among `cells`, or the first
-/// fault is what the row `gives`.
-pub fn all<'a>(
-    rt: &(impl Threads + Sync),
-    row: Row<'a>,
-    report: &mut Report,
-) -> Result<(), Flaw<'a>> {
-    let window = window_of(row)?;
-    let map = one_metal(row.alloc, 1, 0, 1)?;
-    let library = library_of(row)?;
-    match covers_of(rt, row.alloc, &library, &map) {
-        Ok(lists) => expect_lists(row, report, lists.as_slice(), window),
-        Err(fault) => expect_fault(row, report, fault.number(), fault.place()),
-    }
-    Ok(())
-}
-
-/// Compares the cells of each list with those of the rectangle at its place.
-fn expect_lists(row: Row<'_>, report: &mut Report, lists: &[RectList], window: Rect) {
-    let mut came = Report::new(row.alloc);
-    for list in lists {
-        draw(&mut came, list.as_slice(), window);
-    }
-    match row.rects("cells") {
-        Ok(cells) => {
-            let mut wanted = Report::new(row.alloc);
-            for rect in cells.as_slice() {
-                draw(&mut wanted, &[*rect], window);
-            }
-            report.compare("cells", shown(&wanted), shown(&came));
-        }
-        Err(flaw) => report.note(flaw.at, flaw.what),
-    }
 }

@@ -1,6 +1,6 @@
 //! What faults say: their numbers, their places and their texts.
 
-use crate::texts::shown;
+use crate::texts::print_fault;
 use command_line::WordsFault;
 use edge_io::ReadError;
 use flatten::PlaceFault;
@@ -8,7 +8,7 @@ use gds_records::RecordFault;
 use gds_syntax::SyntaxFault;
 use layer_map::MapFault;
 use rect_cover::CoverFault;
-use row_tables::{Flaw, Report, Row};
+use row_tables::{Case, Text};
 use std::fmt::Display;
 
 const WORDS: &[WordsFault] = &[WordsFault::Usage, WordsFault::Memory];
@@ -76,7 +76,7 @@ const COVERS: &[CoverFault] = &[
 const READS: &[ReadError] = &[ReadError::Fault, ReadError::TooLong, ReadError::Memory];
 
 /// Appends what errors of reading files say.
-fn print_reads(text: &mut Report) {
+fn print_reads(text: &mut Text) {
     for error in READS {
         text.print(error);
         text.say("\n");
@@ -84,58 +84,60 @@ fn print_reads(text: &mut Report) {
 }
 
 /// Appends a line on a fault: its number, its place and its text.
-fn print(text: &mut Report, number: u8, place: u64, fault: impl Display + Drop) {
-    text.print(format_args!("{number} at {place}: {fault}\n"));
+fn print(text: &mut Text, number: u8, place: u64, fault: impl Display + Drop) {
+    print_fault(text, number, place);
+    text.say(": ");
+    text.print(fault);
+    text.say("\n");
 }
 
 /// Appends what faults of words say.
-fn print_words(text: &mut Report) {
+fn print_words(text: &mut Text) {
     for fault in WORDS {
         print(text, fault.number(), fault.place(), fault);
     }
 }
 
 /// Appends what faults of layer maps say.
-fn print_maps(text: &mut Report) {
+fn print_maps(text: &mut Text) {
     for fault in MAPS {
         print(text, fault.number(), fault.place(), fault);
     }
 }
 
 /// Appends what faults of records say.
-fn print_records(text: &mut Report) {
+fn print_records(text: &mut Text) {
     for fault in RECORDS {
         print(text, fault.number(), fault.place(), fault);
     }
 }
 
 /// Appends what faults of layouts say.
-fn print_layouts(text: &mut Report) {
+fn print_layouts(text: &mut Text) {
     for fault in LAYOUTS {
         print(text, fault.number(), fault.place(), fault);
     }
 }
 
 /// Appends what faults of placing say.
-fn print_places(text: &mut Report) {
+fn print_places(text: &mut Text) {
     for fault in PLACES {
         print(text, fault.number(), fault.place(), fault);
     }
 }
 
 /// Appends what faults of covers say.
-fn print_covers(text: &mut Report) {
+fn print_covers(text: &mut Text) {
     for fault in COVERS {
         print(text, fault.number(), fault.place(), fault);
     }
 }
 
 /// `[[words_faults]]`, `[[map_faults]]`, `[[record_faults]]`, `[[layout_faults]]`, `[[place_faults]]`, `[[cover_faults]]` and
-/// `[[read_errors]]`: what faults and errors `say`, one a line.
-pub fn said<'a>(row: Row<'a>, report: &mut Report) -> Result<(), Flaw<'a>> {
-    row.only(&["say"])?;
-    let mut text = Report::new(row.alloc);
-    match row.kind {
+/// `[[read_errors]]`: what faults and errors `say`, one a line. The answer is whether the row is of one of these kinds.
+pub fn said(case: &mut Case<'_>) -> bool {
+    let mut text = Text::new(case.alloc);
+    match case.kind {
         "words_faults" => print_words(&mut text),
         "map_faults" => print_maps(&mut text),
         "record_faults" => print_records(&mut text),
@@ -143,8 +145,8 @@ pub fn said<'a>(row: Row<'a>, report: &mut Report) -> Result<(), Flaw<'a>> {
         "place_faults" => print_places(&mut text),
         "cover_faults" => print_covers(&mut text),
         "read_errors" => print_reads(&mut text),
-        _ => return Err(row.unknown_kind()),
+        _ => return false,
     }
-    report.expect_text(row, "say", shown(&text));
-    Ok(())
+    case.expect_text("say", text.shown());
+    true
 }

@@ -1,198 +1,125 @@
 //! Pairs of nets, and what gauges make of them.
 
-use crate::reports::{room_of, size_of};
+use crate::reports::{size_of, words_of};
 use crate::texts::text_of;
 use gauge_samples::{MutePairs, PairAreas, PairGaugeKind, TightPairs};
 use gauges::{PairGauge, PairRow, Worst, append_pair_texts};
-use lists::{Items, NoMemory};
-use map_model::LayerName;
+use lists::Items;
+use map_model::{LayerName, Measure};
 use pair_report::{MetalPairs, PairTables, write_pairs};
-use row_tables::{Flaw, Report, Row};
-use std::alloc::Global;
+use row_tables::Case;
 
 /// The row of a pair that a line says: layer, the two nets, size and area.
 fn pair_of(line: &str) -> Option<PairRow> {
-    let mut words = line.split(' ');
-    let layer = LayerName::new(words.next()?.as_bytes())?;
-    let first = words.next()?.parse().ok()?;
-    let second = words.next()?.parse().ok()?;
-    let (measure, size) = size_of(words.next()?)?;
-    let area = words.next()?.parse().ok()?;
+    let [layer, first, second, size, area] = words_of(line);
+    let (measure, size) = size_of(size)?;
     Some(PairRow {
-        layer,
-        first,
-        second,
+        layer: LayerName::new(layer.as_bytes())?,
+        first: first.parse().ok()?,
+        second: second.parse().ok()?,
         measure,
         size,
-        area,
+        area: area.parse().ok()?,
     })
 }
 
 /// `[[worst]]`: what the gauge prints that has seen these `rows`, behind what stands there, `- `.
-pub fn worst<'a>(row: Row<'a>, report: &mut Report) -> Result<(), Flaw<'a>> {
-    let lines = row.items("rows")?;
-    let mut gauge = Worst::new(row.alloc);
-    for line in lines {
-        match pair_of(line.as_str().unwrap_or_default()) {
-            Some(pair) => gauge.note(&pair)?,
-            None => return Err(Flaw::of("rows", "not rows of pairs")),
+pub fn worst(case: &mut Case<'_>) {
+    let mut gauge = Worst::new(case.alloc);
+    for line in case.texts("rows").as_slice() {
+        match pair_of(line) {
+            Some(pair) => case.kept(gauge.note(&pair)),
+            None => case.note("rows", "not rows of pairs"),
         }
     }
-    let mut into = Vec::from_slice(row.alloc, b"- ")?;
-    gauge.line(&mut into)?;
-    report.expect_text(row, "prints", text_of(into.as_slice()));
-    Ok(())
+    let mut text = case.list(Vec::from_slice(case.alloc, b"- "));
+    case.kept(gauge.line(&mut text));
+    case.expect_text("prints", text_of(text.as_slice()));
 }
 
-/// The kind of gauge of pairs with this name. One that is `tight 4` has room for four rows.
-fn gauge_named(name: &str) -> Option<PairGaugeKind> {
-    match name {
-        "worst" => Some(PairGaugeKind::Worst),
-        "areas" => Some(PairGaugeKind::Areas),
-        "mute" => Some(PairGaugeKind::Mute),
-        _ => Some(PairGaugeKind::Tight(room_of(name)?)),
-    }
-}
-
-/// The kinds of the row's gauges.
-fn gauges_of<'a>(row: Row<'a>) -> Result<Vec<PairGaugeKind>, Flaw<'a>> {
-    let names = row.items("gauges")?;
-    let mut kinds = Vec::new(row.alloc);
-    for name in names {
-        match gauge_named(name.as_str().unwrap_or_default()) {
-            Some(kind) => kinds.push(kind)?,
-            None => return Err(Flaw::of("gauges", "not gauges of pairs")),
-        }
-    }
-    Ok(kinds)
-}
-
-/// The pairs of a metal that a line says: its name, and then two nets and an area for each.
-fn metal_of(alloc: Global, line: &str) -> Option<MetalPairs> {
-    let mut words = line.split(' ');
-    let layer = LayerName::new(words.next()?.as_bytes())?;
-    let mut pairs = Vec::new(alloc);
+/// The pairs that a text says, two nets and an area for each.
+fn pairs_in<'a>(case: &mut Case<'a>, key: &'a str, text: &str) -> Vec<(usize, usize, u64)> {
+    let mut pairs = Vec::new(case.alloc);
+    let mut words = text.split(' ');
     while let Some(first) = words.next() {
-        let first = first.parse().ok()?;
-        let second = words.next()?.parse().ok()?;
-        pairs
-            .push((first, second, words.next()?.parse().ok()?))
-            .ok()?;
-    }
-    Some(MetalPairs {
-        layer,
-        pairs: Items::from_vec(pairs),
-    })
-}
-
-/// The tables of the row's metals, for defects of its size.
-fn tables_of<'a>(row: Row<'a>) -> Result<PairTables, Flaw<'a>> {
-    let Some((measure, size)) = size_of(row.text("size")?) else {
-        return Err(Flaw::of("size", "not a size"));
-    };
-    let lines = row.items("metals")?;
-    let mut metals = Vec::new(row.alloc);
-    for line in lines {
-        match metal_of(row.alloc, line.as_str().unwrap_or_default()) {
-            Some(metal) => metals.push(metal)?,
-            None => return Err(Flaw::of("metals", "not pairs of metals")),
+        let second = words.next().unwrap_or("");
+        let area = words.next().unwrap_or("");
+        match (first.parse(), second.parse(), area.parse()) {
+            (Ok(first), Ok(second), Ok(area)) => case.push(&mut pairs, (first, second, area)),
+            _ => case.note(key, "not two nets and an area for each pair"),
         }
     }
-    Ok(PairTables {
+    pairs
+}
+
+/// The tables of the metals at a key, for defects of the size at another. A metal is its name, and two nets and an area for each of
+/// its pairs.
+fn tables_of<'a>(case: &mut Case<'a>, size_key: &'a str, metals_key: &'a str) -> PairTables {
+    let mut metals = Vec::new(case.alloc);
+    for line in case.texts(metals_key).as_slice() {
+        let (name, pairs) = match line.split_once(' ') {
+            Some((name, text)) => (name, pairs_in(case, metals_key, text)),
+            None => (*line, Vec::new(case.alloc)),
+        };
+        let pairs = Items::from_vec(pairs);
+        match LayerName::new(name.as_bytes()) {
+            Some(layer) => case.push(&mut metals, MetalPairs { layer, pairs }),
+            None => case.note(metals_key, "not a name of a metal"),
+        }
+    }
+    let (measure, size) = match size_of(case.text(size_key)) {
+        Some(size) => size,
+        None => {
+            case.note(size_key, "not a size");
+            (Measure::Radius, 0)
+        }
+    };
+    PairTables {
         measure,
         size,
         metals: Items::from_vec(metals),
-    })
-}
-
-/// What is written of tables, one after the other, with gauges that go on.
-#[derive(Drop)]
-struct PairTexts {
-    /// What is written of the first, and nothing if that is refused.
-    first: Vec<u8>,
-    /// What is written of the second.
-    second: Vec<u8>,
-    /// Whether all gauges print without a refusal at last, and what they print.
-    printed: bool,
-    text: Vec<u8>,
-}
-
-/// What is written of two tables with gauges of these kinds.
-fn written(
-    alloc: Global,
-    kinds: &[PairGaugeKind],
-    tables: &PairTables,
-    more: Option<&PairTables>,
-) -> Result<PairTexts, NoMemory> {
-    let mut gauges: Vec<Box<dyn PairGauge>> = Vec::new(alloc);
-    for kind in kinds {
-        let gauge: Box<dyn PairGauge> = match kind {
-            PairGaugeKind::Worst => Box::new(alloc, Worst::new(alloc))?,
-            PairGaugeKind::Tight(room) => Box::new(alloc, TightPairs::new(alloc, *room))?,
-            PairGaugeKind::Areas => Box::new(alloc, PairAreas::new(alloc))?,
-            PairGaugeKind::Mute => Box::new(alloc, MutePairs::new(alloc))?,
-        };
-        gauges.push(gauge)?;
     }
-    let mut first = Vec::from_slice(alloc, b"- ")?;
-    let mut second = Vec::from_slice(alloc, b"- ")?;
-    let mut text = Vec::new(alloc);
-    if write_pairs(tables, &mut gauges, &mut first).is_err() {
-        first.clear();
-    }
-    if let Some(more) = more {
-        if write_pairs(more, &mut gauges, &mut second).is_err() {
-            second.clear();
-        }
-    }
-    let printed = append_pair_texts(gauges.as_slice(), &mut text).is_ok();
-    Ok(PairTexts {
-        first,
-        second,
-        printed,
-        text,
-    })
 }
 
 /// What is written, or that it is refused.
-fn written_text(written: &[u8]) -> &str {
-    if written.is_empty() {
-        "refused"
-    } else {
-        text_of(written)
-    }
-}
-
-/// Compares what is written of tables with gauges of these kinds.
-fn expect_written<'a>(
-    row: Row<'a>,
-    report: &mut Report,
-    kinds: &[PairGaugeKind],
-    tables: &PairTables,
-) -> Result<(), Flaw<'a>> {
-    let written = if row.has("more") {
-        let more = row.inner("more")?;
-        more.only(&["size", "metals", "writes"])?;
-        let others = tables_of(more)?;
-        let written = written(row.alloc, kinds, tables, Some(&others))?;
-        report.expect_text(more, "writes", written_text(written.second.as_slice()));
-        written
-    } else {
-        written(row.alloc, kinds, tables, None)?
-    };
-    report.expect_text(row, "writes", written_text(written.first.as_slice()));
-    if row.has("prints") {
-        report.expect(row, "printed", written.printed);
-        report.expect_text(row, "prints", text_of(written.text.as_slice()));
-    }
-    Ok(())
+fn written_or_refused(is_written: bool, text: &[u8]) -> &str {
+    if is_written { text_of(text) } else { "refused" }
 }
 
 /// `[[paired]]`: what is written of the pairs of these `metals` for defects of this `size`, behind what stands there, `- `, with the
-/// texts of `gauges`, or that it is refused. With `more` of them the same gauges go on. At last they print what they have seen, and
-/// `printed` is whether they do so without a refusal.
-pub fn paired<'a>(row: Row<'a>, report: &mut Report) -> Result<(), Flaw<'a>> {
-    let tables = tables_of(row)?;
-    let kinds = gauges_of(row)?;
-    expect_written(row, report, kinds.as_slice(), &tables)
+/// texts of `gauges`, or that it is refused. With `more_metals` of a `more_size` the same gauges go on, and `more_writes` is what comes
+/// then. At last they print what they have seen, and `printed` is whether they do so without a refusal.
+pub fn paired(case: &mut Case<'_>) {
+    let alloc = case.alloc;
+    let mut gauges: Vec<Box<dyn PairGauge>> = Vec::new(alloc);
+    for name in case.texts("gauges").as_slice() {
+        match PairGaugeKind::named(name) {
+            Some(PairGaugeKind::Worst) => push_boxed!(case, gauges, Worst::new(alloc)),
+            Some(PairGaugeKind::Tight(room)) => {
+                push_boxed!(case, gauges, TightPairs::new(alloc, room))
+            }
+            Some(PairGaugeKind::Areas) => push_boxed!(case, gauges, PairAreas::new(alloc)),
+            Some(PairGaugeKind::Mute) => push_boxed!(case, gauges, MutePairs::new(alloc)),
+            None => case.note("gauges", "not gauges of pairs"),
+        }
+    }
+    let tables = tables_of(case, "size", "metals");
+    let mut text = case.list(Vec::from_slice(alloc, b"- "));
+    let is_written = write_pairs(&tables, &mut gauges, &mut text).is_ok();
+    case.expect_text("writes", written_or_refused(is_written, text.as_slice()));
+    if case.has("more_metals") {
+        let tables = tables_of(case, "more_size", "more_metals");
+        let mut text = case.list(Vec::from_slice(alloc, b"- "));
+        let is_written = write_pairs(&tables, &mut gauges, &mut text).is_ok();
+        case.expect_text(
+            "more_writes",
+            written_or_refused(is_written, text.as_slice()),
+        );
+    }
+    if case.has("prints") {
+        let mut text = Vec::new(alloc);
+        let printed = append_pair_texts(gauges.as_slice(), &mut text).is_ok();
+        case.expect("printed", printed);
+        case.expect_text("prints", text_of(text.as_slice()));
+    }
 }

@@ -5,8 +5,9 @@ ghost use Rattle.std.specs.Prelude.{◌<◌, ◌≤◌, IfOk, length};
 use edge_io::{Failed, Files, OsFiles, OsSink, ReadError, read_whole, write_all};
 use std::alloc::{AllocError, Global};
 use std::path::PathBuf;
+use std::process::Abort;
 use std::test::Fail;
-use std::{env, fs, process};
+use std::{env, fs, process, rt};
 
 /// Whether a source answers so if the file of this name is read up to the limit.
 pub fn reads(
@@ -77,19 +78,15 @@ fn path_of_a_file(rt: &HostRuntime, test: &str) -> Result<PathBuf, Fail> {
     Ok(env::temp_dir(rt)?.join(rt.alloc(), name.as_str())?)
 }
 
-/// Whether these bytes are written to the file.
-fn is_written(rt: &HostRuntime, path: &str, bytes: &[u8]) -> Result<bool, Fail> {
-    let mut sink = OsSink::new(fs::create(rt, path)?);
-    Ok(write_all(&mut sink, bytes).is_ok())
+/// Writes these bytes to the file.
+fn write(rt: &(impl Abort + rt::Files), path: &str, bytes: &[u8]) {
+    let file = fs::create(rt, path).expect(rt, "the file is not created");
+    write_all(&mut OsSink::new(file), bytes).expect(rt, "the file is not written");
 }
 
-/// Whether what is written to this file is read from it again. Then the file is removed.
-fn is_read_again(rt: &HostRuntime, path: &str, bytes: &[u8]) -> Result<bool, Fail> {
-    let mut files = OsFiles::new(rt);
-    let same = is_written(rt, path, bytes)?
-        && reads(rt.alloc(), &mut files, path.as_bytes(), 10_000, Ok(bytes));
-    fs::remove_file(rt, path)?;
-    Ok(same)
+/// Removes the file.
+fn remove(rt: &(impl Abort + rt::Files), path: &str) {
+    fs::remove_file(rt, path).expect(rt, "the file is not removed");
 }
 
 /// Contents of files: none, a few bytes, a newline at the end of a read of 4,096 bytes and of the file, and 10,000 bytes.
@@ -108,7 +105,16 @@ const CONTENTS: &[&[u8]] = &[
 fn written_files_are_read_again(rt: HostRuntime) -> Result<(), Fail> {
     let path = path_of_a_file(&rt, "whole")?;
     for bytes in CONTENTS {
-        let same = is_read_again(&rt, path.as_str(), bytes)?;
+        write(&rt, path.as_str(), bytes);
+        let mut files = OsFiles::new(&rt);
+        let same = reads(
+            rt.alloc(),
+            &mut files,
+            path.as_str().as_bytes(),
+            10_000,
+            Ok(bytes),
+        );
+        remove(&rt, path.as_str());
         assert!(rt; same, "{} bytes", bytes.len());
     }
     Ok(())
@@ -133,23 +139,18 @@ fn read_once(rt: &HostRuntime, path: &str, buf: &mut [u8]) -> Result<usize, Fail
     files.read(buf)
 }
 
-/// Whether these bytes are written to the file, and one read with room for all of them gives some from their front.
-fn is_read_at_once(rt: &HostRuntime, path: &str, bytes: &[u8]) -> Result<bool, Fail> {
-    let mut buf = vec![in rt.alloc(); 0u8; 70_000]?;
-    let written = is_written(rt, path, bytes)?;
-    let read = read_once(rt, path, buf.as_mut_slice());
-    fs::remove_file(rt, path)?;
-    Ok(match read {
-        Ok(count) => written && count > 0 && bytes.starts_with(&buf.as_slice()[..count]),
-        Err(Failed) => false,
-    })
-}
-
+/// One read with room for all bytes of a file gives some from its front.
 #[test]
 fn large_pieces_are_written_and_read(rt: HostRuntime) -> Result<(), Fail> {
     let path = path_of_a_file(&rt, "large")?;
     let bytes = changing_bytes(rt.alloc(), 70_000)?;
-    let read = is_read_at_once(&rt, path.as_str(), bytes.as_slice())?;
-    assert!(rt; read);
+    write(&rt, path.as_str(), bytes.as_slice());
+    let mut buf = [0; 70_000];
+    let read = read_once(&rt, path.as_str(), &mut buf);
+    remove(&rt, path.as_str());
+    match read {
+        Ok(count) => assert!(rt; count > 0 && bytes.as_slice().starts_with(&buf[..count])),
+        Err(Failed) => panic!(rt; "the read failed"),
+    }
     Ok(())
 }

@@ -6,7 +6,7 @@
 //! keys.
 //!
 //! A map is given as `map`, which names the `text` of a `[map.NAME]`, as `map_text` or as `map_bytes`. `changed = [old, new]` puts a
-//! text in place of a part of the map's text, and `changed = [old, new, times]` puts it there so many times.
+//! text in place of a part of the map's text, and with `times` it puts it there so many times.
 #![tactic(auto)]
 
 mod layouts;
@@ -15,17 +15,18 @@ mod records;
 
 pub use layouts::{has_layout, layout_of};
 use lists::Name;
-pub use maps::map_of;
+pub use maps::{map_of, shared_text};
 pub use records::records_of;
-use std::alloc::AllocError;
+use row_tables::Case;
 
 /// Appends a file.
 pub fn push_file(
+    case: &mut Case<'_>,
     files: &mut Vec<(Name, Vec<u8>)>,
     name: &str,
     bytes: Vec<u8>,
-) -> Result<(), AllocError> {
-    let name = Vec::from_slice(*files.allocator(), name.as_bytes())?;
-    files.push((Name::from_vec(name), bytes))?;
-    Ok(())
+) {
+    let name = Vec::from_slice(case.alloc, name.as_bytes());
+    let name = Name::from_vec(case.list(name));
+    case.push(files, (name, bytes));
 }

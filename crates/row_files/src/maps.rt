@@ -1,69 +1,50 @@
 //! The maps that rows give.
 
-use row_tables::{Flaw, Row};
-use std::alloc::Global;
-use toml::Value;
+use row_tables::Case;
 
-/// A change of a text: a part of it, what stands there in its place, and how many times.
-#[derive(Clone, Copy)]
-struct Change<'a> {
-    old: &'a str,
-    new: &'a str,
-    times: i64,
+/// The text of the table `[kind.NAME]` that the row names at the key of this kind. Without such a key it is empty.
+pub fn shared_text<'a>(case: &mut Case<'a>, kind: &'a str) -> &'a str {
+    if !case.has(kind) {
+        return "";
+    }
+    case.share(kind);
+    case.text("text")
 }
 
-/// The row's change.
-fn change_of<'a>(row: Row<'a>) -> Result<Change<'a>, Flaw<'a>> {
-    let (old, new, times) = match row.items("changed")? {
-        [Value::String(old), Value::String(new)] => (old, new, 1),
-        [
-            Value::String(old),
-            Value::String(new),
-            Value::Integer(times),
-        ] => (old, new, *times),
-        _ => return Err(Flaw::of("changed", "not two texts")),
+/// The text with the row's change. A text that does not have the part that changes stays as it is.
+fn changed(case: &mut Case<'_>, text: &str) -> Vec<u8> {
+    let times = if case.has("times") {
+        case.number("times")
+    } else {
+        1
     };
-    Ok(Change {
-        old: old.as_str(),
-        new: new.as_str(),
-        times,
-    })
-}
-
-/// The text with its change, if it has the part that changes.
-fn changed(alloc: Global, text: &str, change: Change<'_>) -> Option<Vec<u8>> {
-    let (front, back) = text.split_once(change.old)?;
-    let mut bytes = Vec::from_slice(alloc, front.as_bytes()).ok()?;
-    for _ in 0..change.times {
-        bytes.extend_from_slice(change.new.as_bytes()).ok()?;
-    }
-    bytes.extend_from_slice(back.as_bytes()).ok()?;
-    Some(bytes)
-}
-
-/// The text of the row's map. Without one it is empty.
-fn text_of<'a>(row: Row<'a>) -> Result<&'a str, Flaw<'a>> {
-    if row.has("map") {
-        return row.shared("map")?.text("text");
-    }
-    if row.has("map_text") {
-        return row.text("map_text");
-    }
-    Ok("")
+    let change = case.texts("changed");
+    let (old, new) = match change.as_slice() {
+        [old, new] if text.contains(*old) => (*old, *new),
+        _ => {
+            case.note("changed", "not two texts, the first a part of the map");
+            ("", "")
+        }
+    };
+    let new = new.repeat(case.alloc, times);
+    let new = case.done(new, String::new(case.alloc));
+    let text = text.replacen(case.alloc, old, new.as_str(), 1);
+    case.done(text, String::new(case.alloc)).into_bytes()
 }
 
 /// The bytes of the row's map.
-pub fn map_of<'a>(row: Row<'a>) -> Result<Vec<u8>, Flaw<'a>> {
-    if row.has("map_bytes") {
-        return row.bytes("map_bytes");
+pub fn map_of(case: &mut Case<'_>) -> Vec<u8> {
+    if case.has("map_bytes") {
+        return case.bytes("map_bytes");
     }
-    let text = text_of(row)?;
-    if !row.has("changed") {
-        return Ok(Vec::from_slice(row.alloc, text.as_bytes())?);
+    let text = if case.has("map_text") {
+        case.text("map_text")
+    } else {
+        shared_text(case, "map")
+    };
+    if case.has("changed") {
+        return changed(case, text);
     }
-    let change = change_of(row)?;
-    match changed(row.alloc, text, change) {
-        Some(bytes) => Ok(bytes),
-        None => Err(Flaw::of("changed", "the map has no such part")),
-    }
+    let bytes = Vec::from_slice(case.alloc, text.as_bytes());
+    case.list(bytes)
 }

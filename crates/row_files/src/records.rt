@@ -1,133 +1,177 @@
-//! GDSII records by their names and values.
+//! GDSII records as text.
+//!
+//! A record is its name and its values, and stands on a line of its own or is parted from the next by `;`. Numbers have a space or a
+//! comma between them, and a text goes on to the record's end: `LAYER 1; XY 0,0 10,0; STRNAME TOP`. A number may be a sum of
+//! products: `4*3+2`. Reals are whole numbers below 4,096, and a text is filled up to an even number of bytes. Any body can be given
+//! as `hex` with its bytes: `MAG hex 4080000000000000`. A number after a slash is the form of the data: `LAYER/3 1`. Bytes that are
+//! no record are `bytes 00067F`, and `fill 2048 00` is the same bytes so many times.
 
+use gds_records::kind_name;
 use row_tables::bytes_of;
-use samples::layouts::push_record;
 use std::alloc::Global;
 
-/// A record's name, its number, and the form of its values: 0 for none, 1 and 2 for numbers of two bytes, 3 for numbers of four
-/// bytes, 5 for reals and 6 for a text.
-type Kind = (&'static str, u8, u8);
+/// The forms of the data by the number of the kind, as the manual of GDSII lists them.
+const FORMS: &[u8; 60] = b"226502600000022330620021061550066226001000226023330010260262";
 
-/// The records of layouts, by the GDSII Stream Format Manual, Release 6.0.
-const KINDS: &[Kind] = &[
-    ("HEADER", 0x00, 2),
-    ("BGNLIB", 0x01, 2),
-    ("LIBNAME", 0x02, 6),
-    ("UNITS", 0x03, 5),
-    ("ENDLIB", 0x04, 0),
-    ("BGNSTR", 0x05, 2),
-    ("STRNAME", 0x06, 6),
-    ("ENDSTR", 0x07, 0),
-    ("BOUNDARY", 0x08, 0),
-    ("PATH", 0x09, 0),
-    ("SREF", 0x0A, 0),
-    ("AREF", 0x0B, 0),
-    ("TEXT", 0x0C, 0),
-    ("LAYER", 0x0D, 2),
-    ("DATATYPE", 0x0E, 2),
-    ("WIDTH", 0x0F, 3),
-    ("XY", 0x10, 3),
-    ("ENDEL", 0x11, 0),
-    ("SNAME", 0x12, 6),
-    ("COLROW", 0x13, 2),
-    ("NODE", 0x15, 0),
-    ("TEXTTYPE", 0x16, 2),
-    ("PRESENTATION", 0x17, 1),
-    ("STRING", 0x19, 6),
-    ("STRANS", 0x1A, 1),
-    ("MAG", 0x1B, 5),
-    ("ANGLE", 0x1C, 5),
-    ("REFLIBS", 0x1F, 6),
-    ("FONTS", 0x20, 6),
-    ("PATHTYPE", 0x21, 2),
-    ("GENERATIONS", 0x22, 2),
-    ("ATTRTABLE", 0x23, 6),
-    ("ELFLAGS", 0x26, 1),
-    ("NODETYPE", 0x2A, 2),
-    ("PROPATTR", 0x2B, 2),
-    ("PROPVALUE", 0x2C, 6),
-    ("BOX", 0x2D, 0),
-    ("BOXTYPE", 0x2E, 2),
-    ("PLEX", 0x2F, 3),
-    ("BGNEXTN", 0x30, 3),
-    ("ENDEXTN", 0x31, 3),
-    ("STRCLASS", 0x34, 1),
-];
+/// The bytes of these records, of which none is too long.
+pub fn records_of(alloc: Global, text: &str) -> Option<Vec<u8>> {
+    let mut records = Bytes::new(alloc);
+    for record in text.split(['\n', ';']) {
+        records.put_record(record.trim());
+    }
+    if records.is_wrong {
+        None
+    } else {
+        Some(records.bytes)
+    }
+}
 
-/// The number and the form of the record with this name.
-fn kind_of(name: &str) -> Option<(u8, u8)> {
-    for (known, number, form) in KINDS {
-        if *known == name {
-            return Some((*number, *form));
+/// Bytes that are made piece by piece, and whether one of the pieces could not be.
+#[derive(Drop)]
+struct Bytes {
+    bytes: Vec<u8>,
+    is_wrong: bool,
+}
+
+impl Bytes {
+    /// No bytes.
+    fn new(alloc: Global) -> Bytes {
+        Bytes {
+            bytes: Vec::new(alloc),
+            is_wrong: false,
+        }
+    }
+
+    /// Appends bytes.
+    fn put(&mut self, bytes: &[u8]) {
+        if self.bytes.extend_from_slice(bytes).is_err() {
+            self.is_wrong = true;
+        }
+    }
+
+    /// Appends a record, or the bytes that stand in its place.
+    fn put_record(&mut self, record: &str) {
+        let (name, values) = record.split_once(' ').unwrap_or((record, ""));
+        match name {
+            "" => {}
+            "bytes" => self.put_digits(1, values),
+            "fill" => self.put_fill(values),
+            _ => self.put_named(name, values),
+        }
+    }
+
+    /// Appends the bytes with these hexadecimal digits, so many times.
+    fn put_digits(&mut self, times: i64, digits: &str) {
+        match bytes_of(*self.bytes.allocator(), digits) {
+            Some(piece) => {
+                for _ in 0..times {
+                    self.put(piece.as_slice());
+                }
+            }
+            None => self.is_wrong = true,
+        }
+    }
+
+    /// Appends the bytes that the second value says as often as the first one says.
+    fn put_fill(&mut self, values: &str) {
+        let (times, digits) = values.split_once(' ').unwrap_or((values, "-"));
+        let times = self.number_of(times);
+        self.put_digits(times, digits);
+    }
+
+    /// Appends the record with this name and these values.
+    fn put_named(&mut self, name: &str, values: &str) {
+        let Some((kind, form)) = head_of(name) else {
+            self.is_wrong = true;
+            return;
+        };
+        let mut body = Bytes::new(*self.bytes.allocator());
+        body.put_values(form, values);
+        let length = u16::try_from(body.bytes.len().saturating_add(4)).unwrap_or(0);
+        let [high, low] = length.to_be_bytes();
+        self.put(&[high, low, kind, form]);
+        self.put(body.bytes.as_slice());
+        if length == 0 || body.is_wrong {
+            self.is_wrong = true;
+        }
+    }
+
+    /// Appends the body with these values, whose data have this form. A text is followed by a zero byte if its length is odd.
+    fn put_values(&mut self, form: u8, values: &str) {
+        if let Some(digits) = values.strip_prefix("hex") {
+            self.put_digits(1, digits);
+        } else if form == 6 {
+            self.put(values.as_bytes());
+            if values.len() % 2 == 1 {
+                self.put(&[0]);
+            }
+        } else {
+            for number in values.split([' ', ',']) {
+                self.put_number(form, number);
+            }
+        }
+    }
+
+    /// Appends a number in this form, if there is one.
+    fn put_number(&mut self, form: u8, number: &str) {
+        if number.is_empty() {
+            return;
+        }
+        let number = self.number_of(number);
+        let digits = number.to_be_bytes();
+        match form {
+            1 | 2 if (-32_768..65_536).contains(&number) => self.put(&digits[6..]),
+            3 if i32::try_from(number).is_ok() => self.put(&digits[4..]),
+            5 => self.put(&real_of(number)),
+            _ => self.is_wrong = true,
+        }
+    }
+
+    /// The number that a sum of products is.
+    fn number_of(&mut self, sum: &str) -> i64 {
+        let mut number = 0i64;
+        for product in sum.split('+') {
+            number = number.saturating_add(self.product_of(product));
+        }
+        number
+    }
+
+    /// The number that a product is.
+    fn product_of(&mut self, product: &str) -> i64 {
+        let mut number = 1i64;
+        for factor in product.split('*') {
+            match factor.parse::<i64>() {
+                Ok(factor) => number = number.saturating_mul(factor),
+                Err(_) => self.is_wrong = true,
+            }
+        }
+        number
+    }
+}
+
+/// The kind of the record with this name, and the form of its data.
+fn head_of(name: &str) -> Option<(u8, u8)> {
+    let (name, form) = name.split_once('/').unwrap_or((name, ""));
+    for kind in 0u8..60 {
+        if kind_name(kind) == Some(name) {
+            let usual = FORMS[kind as usize] & 7;
+            return Some((kind, form.parse().unwrap_or(usual)));
         }
     }
     None
 }
 
-/// Appends a number of four bytes, or of two with a sign or without one.
-fn push_number(body: &mut Vec<u8>, form: u8, number: i64) -> Option<()> {
-    if form == 3 {
-        let number = i32::try_from(number).ok()?;
-        return body.extend_from_slice(&number.to_be_bytes()).ok();
+/// The eight-byte real that is the whole number: a sign, an exponent of 16 that is counted from 64, and a fraction of 56 bits.
+fn real_of(number: i64) -> [u8; 8] {
+    if number == 0 {
+        return [0; 8];
     }
-    let number = i32::try_from(number).ok()?;
-    if !(-32_768..65_536).contains(&number) {
-        return None;
-    }
-    body.extend_from_slice(&number.to_be_bytes()[2..]).ok()
-}
-
-/// The body of these numbers.
-fn numbers_of(alloc: Global, form: u8, values: &str) -> Option<Vec<u8>> {
-    let mut body = Vec::new(alloc);
-    for word in values.split_ascii_whitespace() {
-        push_number(&mut body, form, word.parse::<i64>().ok()?)?;
-    }
-    Some(body)
-}
-
-/// The body of a text, which is filled up with a zero to an even length.
-fn text_of(alloc: Global, text: &str) -> Option<Vec<u8>> {
-    let mut body = Vec::from_slice(alloc, text.as_bytes()).ok()?;
-    if body.len() % 2 == 1 {
-        body.push(0).ok()?;
-    }
-    Some(body)
-}
-
-/// The body of these values, or of the hexadecimal digits behind `0x`.
-fn body_of(alloc: Global, form: u8, values: &str) -> Option<Vec<u8>> {
-    if let Some(digits) = values.strip_prefix("0x") {
-        return bytes_of(alloc, digits);
-    }
-    if form == 6 {
-        text_of(alloc, values)
-    } else {
-        numbers_of(alloc, form, values)
-    }
-}
-
-/// Appends the record that a text names, with its values behind it.
-fn push_text(bytes: &mut Vec<u8>, record: &str) -> Option<()> {
-    let (name, values) = record.split_once(' ').unwrap_or((record, ""));
-    let (number, form) = kind_of(name)?;
-    let body = body_of(*bytes.allocator(), form, values)?;
-    push_record(bytes, number, form, body.as_slice()).ok()
-}
-
-/// Appends the records of a line, which have `; ` between them.
-fn push_line(bytes: &mut Vec<u8>, line: &str) -> Option<()> {
-    for record in line.split("; ") {
-        push_text(bytes, record)?;
-    }
-    Some(())
-}
-
-/// The bytes of records, line by line. A real and any other body may be written in hexadecimal digits, as `0x4110`.
-pub fn records_of(alloc: Global, text: &str) -> Option<Vec<u8>> {
-    let mut bytes = Vec::new(alloc);
-    for line in text.lines() {
-        push_line(&mut bytes, line)?;
-    }
-    Some(bytes)
+    let size = number.unsigned_abs();
+    let digits = size.leading_zeros().abs_diff(67) / 4;
+    let sign = if number < 0 { 0x80 } else { 0 };
+    let mut bytes = size
+        .rotate_right(digits.wrapping_mul(4).wrapping_add(8))
+        .to_be_bytes();
+    bytes[0] = sign | 0x40 | digits as u8;
+    bytes
 }

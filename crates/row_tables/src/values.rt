@@ -24,6 +24,15 @@ where
     }
 }
 
+/// The texts that these values are.
+pub fn texts_of<'a>(alloc: Global, values: &'a [Value]) -> Option<Vec<&'a str>> {
+    let mut texts = Vec::new(alloc);
+    for value in values {
+        texts.push(value.as_str()?).ok()?;
+    }
+    Some(texts)
+}
+
 /// The whole numbers that these values are.
 pub fn numbers_of<T: TryFrom<i64> + Drop>(alloc: Global, values: &[Value]) -> Option<Vec<T>>
 where

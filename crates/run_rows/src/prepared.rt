@@ -1,6 +1,5 @@
 //! What a run is handed: words, files, outputs and gauges.
 
-use super::gauges_of_runs::{add_gauges, add_pair_gauges};
 use critarea_core::{NoGate, Word, run};
 use edge_io::{MemFiles, MemSink};
 use gauge_samples::{
@@ -10,8 +9,8 @@ use gauges::{Gauge, Nonzero, PairGauge, Peak, Worst, append_pair_texts, append_t
 use layout_gen::generate;
 use lists::NoMemory;
 use row_files::{layout_of, map_of, push_file};
-use row_tables::{Flaw, Row};
-use std::alloc::{AllocError, Global};
+use row_tables::{Case, Text};
+use std::alloc::Global;
 use std::thread::Threads;
 
 /// A run: what it is handed, and what it leaves.
@@ -31,87 +30,117 @@ pub struct Run {
     pub pairs_printed: Vec<u8>,
 }
 
-/// How many bytes the output of the row's run takes.
-pub fn room_of<'a>(row: Row<'a>) -> Result<usize, Flaw<'a>> {
-    if row.has("room") {
-        row.number("room")
+/// The row's words, with those for tiles and workers behind them and one space between two of them. An empty line has none.
+fn words_of(case: &mut Case<'_>, tiling: &str) -> Vec<Word> {
+    let mut line = Text::new(case.alloc);
+    line.say(case.text("words"));
+    line.say(tiling);
+    let mut words = Vec::new(case.alloc);
+    if line.shown().is_empty() {
+        return words;
+    }
+    for word in line.shown().split(' ') {
+        let word = String::from_str(case.alloc, word);
+        let word = case.done(word, String::new(case.alloc));
+        case.push(&mut words, Word::from_string(word));
+    }
+    words
+}
+
+/// The bytes of the row's layout and of its map.
+fn layout_and_map(case: &mut Case<'_>) -> (Vec<u8>, Vec<u8>) {
+    if case.has("generated") {
+        let columns: u32 = case.number("generated");
+        let made = generate(case.alloc, columns.clamp(1, 500));
+        case.done(made, (Vec::new(case.alloc), Vec::new(case.alloc)))
     } else {
-        Ok(20_000)
+        (layout_of(case), map_of(case))
     }
 }
 
-/// Appends a word.
-fn push_word(words: &mut Vec<Word>, word: &str) -> Result<(), AllocError> {
-    let text = String::from_str(*words.allocator(), word)?;
-    words.push(Word::from_string(text))?;
-    Ok(())
+/// The numbers of the calls that fail, which the row lists at the key if there are some.
+fn fails_at<'a>(case: &mut Case<'a>, key: &'a str) -> Vec<u64> {
+    if case.has(key) {
+        case.numbers(key)
+    } else {
+        Vec::new(case.alloc)
+    }
 }
 
-/// Appends the words of a command line, with one space between two of them. An empty line has none.
-fn push_words(words: &mut Vec<Word>, line: &str) -> Result<(), AllocError> {
-    if line.is_empty() {
-        return Ok(());
-    }
-    for word in line.split(' ') {
-        push_word(words, word)?;
-    }
-    Ok(())
+/// The row's layout as the file `a`, and its map as the file `m`.
+fn files_of(case: &mut Case<'_>) -> MemFiles {
+    let (layout, map) = layout_and_map(case);
+    let mut files = MemFiles::new(Vec::new(case.alloc), fails_at(case, "files_fail"));
+    push_file(case, &mut files.files, "a", layout);
+    push_file(case, &mut files.files, "m", map);
+    files
 }
 
-/// Adds the generated layout of so many columns and its map.
-fn add_generated<'a>(row: Row<'a>, files: &mut MemFiles) -> Result<(), Flaw<'a>> {
-    let columns: u32 = row.number("generated")?;
-    let (layout, map) = generate(row.alloc, columns.clamp(1, 500))?;
-    push_file(&mut files.files, "a", layout)?;
-    push_file(&mut files.files, "m", map)?;
-    Ok(())
+/// An output with room for so many bytes, of which the calls fail that the row lists at the key.
+fn output<'a>(case: &mut Case<'a>, room: usize, key: &'a str) -> MemSink {
+    let fails = fails_at(case, key);
+    let none = MemSink {
+        written: Vec::new(case.alloc),
+        room: 0,
+        fails: Vec::new(case.alloc),
+        calls: 0,
+        faults: 0,
+    };
+    case.done(MemSink::with(case.alloc, room, fails), none)
 }
 
-/// Adds the row's layout and its map.
-fn add_files<'a>(row: Row<'a>, files: &mut MemFiles) -> Result<(), Flaw<'a>> {
-    if row.has("generated") {
-        return add_generated(row, files);
+/// The texts at the key, or these if the row has no such key.
+fn texts_or<'a>(case: &mut Case<'a>, key: &'a str, usual: &[&'a str]) -> Vec<&'a str> {
+    if case.has(key) {
+        case.texts(key)
+    } else {
+        let texts = Vec::from_slice(case.alloc, usual);
+        case.list(texts)
     }
-    push_file(&mut files.files, "a", layout_of(row)?)?;
-    push_file(&mut files.files, "m", map_of(row)?)?;
-    Ok(())
 }
 
-/// Makes calls fail whose numbers the row lists at the key.
-fn set_fails<'a>(row: Row<'a>, key: &'a str, fails: &mut Vec<u64>) -> Result<(), Flaw<'a>> {
-    if row.has(key) {
-        *fails = row.numbers(key)?;
+/// The gauges that the row names, or those of the program.
+fn gauges_of(case: &mut Case<'_>) -> Vec<GaugeKind> {
+    let mut kinds = Vec::new(case.alloc);
+    for name in texts_or(case, "gauges", &["peak", "nonzero"]).as_slice() {
+        match GaugeKind::named(name) {
+            Some(kind) => case.push(&mut kinds, kind),
+            None => case.note("gauges", "not names of gauges"),
+        }
     }
-    Ok(())
+    kinds
+}
+
+/// The gauges of pairs that the row names, or that of the program.
+fn pair_gauges_of(case: &mut Case<'_>) -> Vec<PairGaugeKind> {
+    let mut kinds = Vec::new(case.alloc);
+    for name in texts_or(case, "pair_gauges", &["worst"]).as_slice() {
+        match PairGaugeKind::named(name) {
+            Some(kind) => case.push(&mut kinds, kind),
+            None => case.note("pair_gauges", "not names of gauges of pairs"),
+        }
+    }
+    kinds
 }
 
 impl Run {
-    /// A run without words, files and gauges, whose output takes so many bytes.
-    pub fn empty(alloc: Global, room: usize) -> Result<Run, NoMemory> {
-        let out = MemSink::with(alloc, room, Vec::new(alloc))?;
-        let err = MemSink::with(alloc, 1000, Vec::new(alloc))?;
-        Ok(Run {
-            words: Vec::new(alloc),
-            files: MemFiles::new(Vec::new(alloc), Vec::new(alloc)),
-            out,
-            err,
-            gauges: Vec::new(alloc),
-            pair_gauges: Vec::new(alloc),
-            printed: Vec::new(alloc),
-            pairs_printed: Vec::new(alloc),
-        })
-    }
-
-    /// Hands it what the row says, with words for tiles and workers after those of the row.
-    pub fn prepare<'a>(&mut self, row: Row<'a>, tiling: &str) -> Result<(), Flaw<'a>> {
-        push_words(&mut self.words, row.text("words")?)?;
-        push_words(&mut self.words, tiling)?;
-        add_files(row, &mut self.files)?;
-        set_fails(row, "files_fail", &mut self.files.fails)?;
-        set_fails(row, "out_fails", &mut self.out.fails)?;
-        set_fails(row, "err_fails", &mut self.err.fails)?;
-        add_gauges(row, &mut self.gauges)?;
-        add_pair_gauges(row, &mut self.pair_gauges)
+    /// The run that the row says, with words for tiles and workers after those of the row.
+    pub fn of_row(case: &mut Case<'_>, tiling: &str) -> Run {
+        let room = if case.has("room") {
+            case.number("room")
+        } else {
+            20_000
+        };
+        Run {
+            words: words_of(case, tiling),
+            files: files_of(case),
+            out: output(case, room, "out_fails"),
+            err: output(case, 1000, "err_fails"),
+            gauges: gauges_of(case),
+            pair_gauges: pair_gauges_of(case),
+            printed: Vec::new(case.alloc),
+            pairs_printed: Vec::new(case.alloc),
+        }
     }
 
     /// Runs it, and answers its status. A gauge that refuses to print leaves what the others have printed.

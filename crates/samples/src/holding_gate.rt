@@ -11,7 +11,7 @@ pub const USUAL_TURNS: u64 = 1_000_000_000;
 pub const FEW_TURNS: u64 = 100_000_000;
 
 /// How many tickets the gate can tell apart: the numbers below this.
-pub const MOST_TICKETS: usize = 64;
+const MOST_TICKETS: usize = 64;
 
 /// A gate that holds the tickets that come first, whichever they are, until all have come, and counts how often each of them
 /// comes. Of more than `MOST_TICKETS` tickets it counts the others together, and cannot see where one of those comes twice in

@@ -1,11 +1,10 @@
 //! Layouts that end too early, and files as long as may be, and longer.
 
-use super::runs::{Outputs, RADIUS_3, ROOM, expect, files_named, refused, status_on};
-use edge_io::{Failed, Files, MemFiles};
-use lists::NoMemory;
+use super::runs::{MEMORY, Outputs, RADIUS_3, ROOM, files_named, refused, status_on};
+use edge_io::{Failed, Files};
 use samples::TWO_BARS;
 use samples::layouts::spliced;
-use std::alloc::Global;
+use std::process::Abort;
 use std::thread::Threads;
 
 /// Where the records of the two bars' file begin.
@@ -26,34 +25,28 @@ fn cut_at(length: usize) -> usize {
 
 /// Whether a run on these files is refused with this line.
 fn is_refused<F: Files>(
-    rt: &(impl Threads + Sync),
-    alloc: Global,
+    rt: &(impl Abort + AllocGlobal + Threads + Sync),
     files: &mut F,
     line: &[u8],
-) -> Result<bool, NoMemory> {
-    let mut outputs = Outputs::new(alloc, ROOM)?;
+) -> bool {
+    let mut outputs = Outputs::new(rt, ROOM);
     let both = (&mut outputs.out, &mut outputs.err);
-    let status = status_on(rt, alloc, RADIUS_3, files, both)?;
-    Ok(outputs.are_left(status, &refused(4, line)))
+    let status = status_on(rt, RADIUS_3, files, both);
+    outputs.are_left(status, &refused(4, line))
 }
 
 /// Whether the first bytes of the two bars' file, which are less than all, are refused at the record that is cut or missing.
-fn cut_is_refused(
-    rt: &(impl Threads + Sync),
-    alloc: Global,
-    length: usize,
-) -> Result<bool, NoMemory> {
-    let layout = spliced(alloc, length, &[], 230)?;
-    let files = files_named(alloc, layout, Vec::new(alloc))?;
-    let line = format!(in alloc; "error 10 at {}\n", cut_at(length))?;
-    let mut files = MemFiles::new(files, Vec::new(alloc));
-    is_refused(rt, alloc, &mut files, line.as_str().as_bytes())
+fn cut_is_refused(rt: &(impl Abort + AllocGlobal + Threads + Sync), length: usize) -> bool {
+    let layout = spliced(rt.alloc(), length, &[], 230).expect(rt, MEMORY);
+    let mut files = files_named(rt, layout, Vec::new(rt.alloc()));
+    let line = format!(in rt.alloc(); "error 10 at {}\n", cut_at(length)).expect(rt, MEMORY);
+    is_refused(rt, &mut files, line.as_str().as_bytes())
 }
 
 #[test]
 fn cut_layouts_are_refused(rt: HostRuntime) {
     for length in 0..TWO_BARS.len() {
-        expect(&rt, cut_is_refused(&rt, rt.alloc(), length), length);
+        assert!(rt; cut_is_refused(&rt, length), "{length} bytes");
     }
 }
 
@@ -107,6 +100,6 @@ fn long_layouts_are_refused(rt: HostRuntime) {
             size: *size,
             unread: 0,
         };
-        expect(&rt, is_refused(&rt, rt.alloc(), &mut files, line), *size);
+        assert!(rt; is_refused(&rt, &mut files, line), "{size} zeros");
     }
 }

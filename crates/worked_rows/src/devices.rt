@@ -1,10 +1,10 @@
 //! Runs on devices that fail, at each call and behind each byte in turn, and on devices that give and take one byte a call.
 
-use super::runs::{Ending, Outputs, ROOM, expect, files_of, status_on, written};
+use super::runs::{Ending, MEMORY, Outputs, ROOM, files_of, status_on, written};
 use super::trials::{TRIALS, Trial, WIRE};
 use edge_io::{Failed, Files, Sink};
-use lists::NoMemory;
 use std::alloc::Global;
+use std::process::Abort;
 use std::thread::Threads;
 
 /// An output that takes so many bytes a call, and fails once it is full, as a disk does.
@@ -14,6 +14,18 @@ struct Filling {
     step: usize,
     most: usize,
     faults: u64,
+}
+
+impl Filling {
+    /// An output that has taken nothing.
+    fn new(alloc: Global, step: usize, most: usize) -> Filling {
+        Filling {
+            taken: Vec::new(alloc),
+            step,
+            most,
+            faults: 0,
+        }
+    }
 }
 
 impl Sink for Filling {
@@ -102,144 +114,109 @@ impl Trial<'_> {
     /// is not called without need.
     fn fills<F: Files>(
         &self,
-        rt: &(impl Threads + Sync),
-        alloc: Global,
+        rt: &(impl Abort + AllocGlobal + Threads + Sync),
         files: &mut F,
-        (step, most): (usize, usize),
-    ) -> Result<bool, NoMemory> {
-        let taken = Vec::new(alloc);
-        let mut out = Filling {
-            taken,
-            step,
-            most,
-            faults: 0,
-        };
-        let taken = Vec::new(alloc);
-        let mut err = Filling {
-            taken,
-            step,
-            most,
-            faults: 0,
-        };
-        let status = status_on(rt, alloc, self.given.words, files, (&mut out, &mut err))?;
+        step: usize,
+        most: usize,
+    ) -> bool {
+        let mut out = Filling::new(rt.alloc(), step, most);
+        let mut err = Filling::new(rt.alloc(), step, most);
+        let status = status_on(rt, self.given.words, files, (&mut out, &mut err));
         let is_calm = err.faults == 0 || !self.whole.err.is_empty();
         let (out, err) = (out.taken.as_slice(), err.taken.as_slice());
-        Ok(is_calm && self.end_behind(most).is(status, out, err))
+        is_calm && self.end_behind(most).is(status, out, err)
     }
 
     /// Whether the run ends so if its outputs in memory, which take all of a text or nothing, have so much room, and this call of this
     /// device fails. Failures are counted on from `faults`.
     fn ends(
         &self,
-        rt: &(impl Threads + Sync),
-        alloc: Global,
+        rt: &(impl Abort + AllocGlobal + Threads + Sync),
         room: usize,
         (device, call): (usize, u64),
         faults: u64,
         want: &Ending<'_>,
-    ) -> Result<bool, NoMemory> {
-        let mut files = files_of(alloc, &self.given)?;
-        let mut outputs = Outputs::new(alloc, room)?;
+    ) -> bool {
+        let mut files = files_of(rt, &self.given);
+        let mut outputs = Outputs::new(rt, room);
         files.faults = faults;
         outputs.out.faults = faults;
         outputs.err.faults = faults;
         match device {
-            0 => files.fails.push(call)?,
-            1 => outputs.out.fails.push(call)?,
-            _ => outputs.err.fails.push(call)?,
+            0 => files.fails.push(call).expect(rt, MEMORY),
+            1 => outputs.out.fails.push(call).expect(rt, MEMORY),
+            _ => outputs.err.fails.push(call).expect(rt, MEMORY),
         }
         let both = (&mut outputs.out, &mut outputs.err);
-        let status = status_on(rt, alloc, self.given.words, &mut files, both)?;
-        Ok(outputs.are_left(status, want))
+        let status = status_on(rt, self.given.words, &mut files, both);
+        outputs.are_left(status, want)
     }
 
-    /// Whether runs write a first part and fail if their outputs are full, behind each byte in turn, and end whole if there is room; and
-    /// whether they fail with nothing written if outputs in memory have so little room.
-    fn needs_its_room(
-        &self,
-        rt: &(impl Threads + Sync),
-        alloc: Global,
-        step: usize,
-    ) -> Result<bool, NoMemory> {
+    /// Checks that runs write a first part and fail if their outputs are full, behind each byte in turn, and end whole if there is room;
+    /// and that they fail with nothing written if outputs in memory have so little room.
+    fn check_room(&self, rt: &(impl Abort + AllocGlobal + Threads + Sync), step: usize) {
         let need = self.need();
         for most in 0..need.saturating_add(1) {
-            let mut files = files_of(alloc, &self.given)?;
+            let mut files = files_of(rt, &self.given);
             let want = if most < need { &FAILED } else { &self.whole };
-            if !self.fills(rt, alloc, &mut files, (step, most))?
-                || !self.ends(rt, alloc, most, (0, u64::MAX), 0, want)?
-            {
-                return Ok(false);
-            }
+            assert!(rt;
+                self.fills(rt, &mut files, step, most),
+                "room for {most} bytes"
+            );
+            assert!(rt;
+                self.ends(rt, most, (0, u64::MAX), 0, want),
+                "room for {most} bytes"
+            );
         }
-        Ok(true)
     }
 
-    /// Whether the run ends whole if each read gives one byte and each write takes one.
-    fn ends_byte_by_byte(
+    /// Checks that the run fails with nothing written if a call of a device fails, each of these in turn, and ends whole if the call
+    /// behind the last would. Failures are counted on from `faults`.
+    fn check_calls(
         &self,
-        rt: &(impl Threads + Sync),
-        alloc: Global,
-    ) -> Result<bool, NoMemory> {
-        let files = files_of(alloc, &self.given)?;
-        self.fills(rt, alloc, &mut Sipping { files }, (1, self.need()))
-    }
-
-    /// Whether the run fails with nothing written if a call fails, each call of each device in turn, and ends whole if the call behind
-    /// the last would. Failures are counted on from `faults`.
-    fn fails_at_each_call(
-        &self,
-        rt: &(impl Threads + Sync),
-        alloc: Global,
+        rt: &(impl Abort + AllocGlobal + Threads + Sync),
+        device: usize,
+        calls: u64,
         faults: u64,
-    ) -> Result<bool, NoMemory> {
-        for (device, calls) in self.calls.iter().enumerate() {
-            for call in 0..calls.saturating_add(1) {
-                let want = if call < *calls { &FAILED } else { &self.whole };
-                if !self.ends(rt, alloc, ROOM, (device, call), faults, want)? {
-                    return Ok(false);
-                }
-            }
+    ) {
+        for call in 0..calls.saturating_add(1) {
+            let want = if call < calls { &FAILED } else { &self.whole };
+            let holds = self.ends(rt, ROOM, (device, call), faults, want);
+            assert!(rt; holds, "call {call} of device {device}");
         }
-        Ok(true)
     }
 
-    /// Whether all of this holds of the run.
-    fn holds(&self, rt: &(impl Threads + Sync), alloc: Global) -> Result<bool, NoMemory> {
-        Ok(
-            self.needs_its_room(rt, alloc, 1)?
-                && self.needs_its_room(rt, alloc, ROOM)?
-                && self.ends_byte_by_byte(rt, alloc)?
-                && self.fails_at_each_call(rt, alloc, 0)?
-                && self.fails_at_each_call(rt, alloc, u64::MAX)?,
-        )
+    /// Checks all of this, and that the run ends whole if each read gives one byte and each write takes one.
+    fn check(&self, rt: &(impl Abort + AllocGlobal + Threads + Sync)) {
+        self.check_room(rt, 1);
+        self.check_room(rt, ROOM);
+        let files = files_of(rt, &self.given);
+        assert!(rt;
+            self.fills(rt, &mut Sipping { files }, 1, self.need()),
+            "byte by byte"
+        );
+        for (device, calls) in self.calls.iter().enumerate() {
+            self.check_calls(rt, device, *calls, 0);
+            self.check_calls(rt, device, *calls, u64::MAX);
+        }
     }
 }
 
 /// Devices fail at each call and behind each byte in turn. A count of failures that stands still changes nothing.
 #[test]
 fn devices_fail(rt: HostRuntime) {
-    for (number, trial) in TRIALS.iter().enumerate() {
-        expect(&rt, trial.holds(&rt, rt.alloc()), number);
+    for trial in TRIALS {
+        trial.check(&rt);
     }
 }
 
-/// The region file of the wire.
-fn wire_file(rt: &(impl Threads + Sync), alloc: Global) -> Result<Vec<u8>, NoMemory> {
-    let mut files = files_of(alloc, &WIRE.given)?;
-    let mut outputs = Outputs::new(alloc, ROOM)?;
-    let both = (&mut outputs.out, &mut outputs.err);
-    status_on(rt, alloc, WIRE.given.words, &mut files, both)?;
-    Ok(Vec::from_slice(alloc, outputs.out.written.as_slice())?)
-}
-
-/// Whether the same holds of runs that write a region file. All that end whole write the same bytes.
-fn wire_holds(rt: &(impl Threads + Sync), alloc: Global) -> Result<bool, NoMemory> {
-    let file = wire_file(rt, alloc)?;
-    let whole = written(file.as_slice());
-    Trial { whole, ..WIRE }.holds(rt, alloc)
-}
-
+/// The bytes of the region file of the wire. All runs that end whole write the same.
 #[test]
 fn devices_of_region_files_fail(rt: HostRuntime) {
-    assert!(rt; wire_holds(&rt, rt.alloc()) == Ok(true));
+    let mut files = files_of(&rt, &WIRE.given);
+    let mut outputs = Outputs::new(&rt, ROOM);
+    let both = (&mut outputs.out, &mut outputs.err);
+    assert!(rt; status_on(&rt, WIRE.given.words, &mut files, both) == 0);
+    let whole = written(outputs.out.written.as_slice());
+    Trial { whole, ..WIRE }.check(&rt);
 }

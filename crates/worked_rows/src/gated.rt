@@ -3,12 +3,12 @@
 
 ghost use Rattle.std.specs.Prelude.{◌≤◌};
 
-use super::runs::{BARS, Gauges, Given, RADIUS_3, ends_with, expect, written};
+use super::runs::{BARS, Gauges, Given, MEMORY, RADIUS_3, ends_with, written};
 use critarea_core::analyse;
-use lists::NoMemory;
-use map_model::{Map, one_metal};
+use map_model::one_metal;
 use samples::{FEW_TURNS, HoldFirst, TWO_BARS, USUAL_TURNS};
-use std::alloc::{AllocError, Global};
+use std::alloc::AllocError;
+use std::process::Abort;
 use std::thread::Threads;
 
 /// The report on the two bars at the radius 3.
@@ -87,21 +87,20 @@ const ROWS: &[Row] = &[
 
 /// Whether a run on the two bars by this map ends so, and leaves the gate content or not, as is said.
 fn passes(
-    rt: &(impl Threads + Sync),
-    alloc: Global,
+    rt: &(impl Abort + AllocGlobal + Threads + Sync),
     (words, map, report): (&str, &[u8], &[u8]),
     gate: &HoldFirst,
     is_content: bool,
-) -> Result<bool, NoMemory> {
+) -> bool {
     let given = Given {
         words,
         shapes: BARS,
         map,
     };
-    let mut gauges = Gauges::new(alloc);
-    gauges.push_usual(alloc)?;
-    let ended = ends_with(rt, alloc, &given, &mut gauges, gate, &written(report))?;
-    Ok(ended && gate.is_content() == is_content)
+    let mut gauges = Gauges::new(rt.alloc());
+    gauges.push_usual(rt);
+    let ended = ends_with(rt, &given, &mut gauges, gate, &written(report));
+    ended && gate.is_content() == is_content
 }
 
 #[test]
@@ -109,7 +108,7 @@ fn workers_go_on_while_others_are_held_at_their_tiles(rt: HostRuntime) {
     for (number, (words, report, tiles, held)) in ROWS.iter().enumerate() {
         let gate = HoldFirst::holding(*tiles, *held, USUAL_TURNS);
         let run = (*words, b"".as_slice(), *report);
-        expect(&rt, passes(&rt, rt.alloc(), run, &gate, true), number);
+        assert!(rt; passes(&rt, run, &gate, true), "row {number}");
     }
 }
 
@@ -118,26 +117,22 @@ fn workers_go_on_while_others_are_held_at_their_tiles(rt: HostRuntime) {
 fn a_worker_alone_is_held_in_vain(rt: HostRuntime) {
     let (words, report, tiles, held) = ALONE;
     let gate = HoldFirst::holding(tiles, held, FEW_TURNS);
-    let run = (words, b"".as_slice(), report);
-    assert!(rt; passes(&rt, rt.alloc(), run, &gate, false) == Ok(true));
+    assert!(rt; passes(&rt, (words, b"".as_slice(), report), &gate, false));
 }
 
-/// Whether the analysis of the two bars by two workers answers their areas, and leaves a gate for two tiles content.
-fn analysis_passes(rt: &(impl Threads + Sync), alloc: Global, map: &Map) -> bool {
-    let gate = HoldFirst::new(2);
-    match analyse(rt, alloc, map, TWO_BARS, None, 16, 2, &gate) {
-        Ok(rows) => match rows.as_slice() {
-            [shorts, opens] => shorts.area == 32 && opens.area == 0 && gate.is_content(),
-            _ => false,
-        },
-        Err(_) => false,
-    }
-}
-
+/// Two workers analyse the two bars, and leave a gate for two tiles content.
 #[test]
 fn an_analysis_passes_its_gate(rt: HostRuntime) {
-    let map = one_metal(rt.alloc(), 1, 0, 3).expect(&rt, "memory");
-    assert!(rt; analysis_passes(&rt, rt.alloc(), &map));
+    let map = one_metal(rt.alloc(), 1, 0, 3).expect(&rt, MEMORY);
+    let gate = HoldFirst::new(2);
+    match analyse(&rt, rt.alloc(), &map, TWO_BARS, None, 16, 2, &gate) {
+        Ok(rows) => match rows.as_slice() {
+            [shorts, opens] => assert!(rt; shorts.area == 32 && opens.area == 0),
+            _ => panic!(rt; "not two rows"),
+        },
+        Err(_) => panic!(rt; "a fault"),
+    }
+    assert!(rt; gate.is_content());
 }
 
 /// Two metals at the radii 1 to 32, which are 64 rows of shorts and 64 of opens.
@@ -187,21 +182,16 @@ fn push_rows(text: &mut String) -> Result<(), AllocError> {
     text.push_str(TOTALS)
 }
 
-/// Whether two workers write the report of many questions on four tiles, by a gate that holds the first. The window is 88 by 74
-/// cells.
-fn many_are_answered(rt: &(impl Threads + Sync), alloc: Global) -> Result<bool, NoMemory> {
+/// Two workers write the report of many questions on four tiles, by a gate that holds the first. The window is 88 by 74 cells.
+#[test]
+fn workers_share_the_tiles_of_many_questions(rt: HostRuntime) {
     let gate = HoldFirst::new(4);
-    let mut report = String::new(alloc);
-    push_rows(&mut report)?;
+    let mut report = String::new(rt.alloc());
+    push_rows(&mut report).expect(&rt, MEMORY);
     let run = (
         "a --map m --tile 44 --workers 2",
         MANY_QUESTIONS,
         report.as_str().as_bytes(),
     );
-    passes(rt, alloc, run, &gate, true)
-}
-
-#[test]
-fn workers_share_the_tiles_of_many_questions(rt: HostRuntime) {
-    assert!(rt; many_are_answered(&rt, rt.alloc()) == Ok(true));
+    assert!(rt; passes(&rt, run, &gate, true));
 }

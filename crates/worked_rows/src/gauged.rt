@@ -1,12 +1,11 @@
 //! Gauges that go on from run to run, and that a run does not drop.
 
 use super::gated::CELL_REPORT;
-use super::runs::{BARS, Gauges, Given, ONE_METAL, PAIRS, RADIUS_3, ends_with, expect, written};
+use super::runs::{BARS, Gauges, Given, MEMORY, ONE_METAL, PAIRS, RADIUS_3, ends_with, written};
 use critarea_core::NoGate;
 use gauge_samples::{Counted, CountedPairs, TightPairs};
-use lists::NoMemory;
 use samples::layouts::Plate;
-use std::alloc::Global;
+use std::process::Abort;
 use std::sync::Arc;
 use std::sync::atomic::{AtomicU64, Ordering};
 use std::thread::Threads;
@@ -23,19 +22,18 @@ total 32
 
 /// Whether a run with these gauges has these lines behind its report.
 fn is_told(
-    rt: &(impl Threads + Sync),
-    alloc: Global,
+    rt: &(impl Abort + AllocGlobal + Threads + Sync),
     gauges: &mut Gauges,
     lines: &str,
-) -> Result<bool, NoMemory> {
+) -> bool {
     let given = Given {
         words: RADIUS_3,
         shapes: BARS,
         map: b"",
     };
-    let text = [REPORT.as_bytes(), lines.as_bytes()].concat(alloc)?;
-    let want = written(text.as_slice());
-    ends_with(rt, alloc, &given, gauges, &NoGate, &want)
+    let text = [REPORT.as_bytes(), lines.as_bytes()].concat(rt.alloc());
+    let text = text.expect(rt, MEMORY);
+    ends_with(rt, &given, gauges, &NoGate, &written(text.as_slice()))
 }
 
 /// What the program's gauges print after the first run that they are told, and after the second.
@@ -49,11 +47,14 @@ const LINES: [&str; 2] = [
 fn gauges_go_on_from_run_to_run(rt: HostRuntime) {
     let mut gauges = Gauges::new(rt.alloc());
     for number in 0..2 {
-        expect(&rt, is_told(&rt, rt.alloc(), &mut gauges, ""), number);
+        assert!(rt; is_told(&rt, &mut gauges, ""), "run {number}");
     }
-    assert!(rt; gauges.push_usual(rt.alloc()).is_ok());
+    gauges.push_usual(&rt);
     for (number, lines) in LINES.iter().enumerate() {
-        expect(&rt, is_told(&rt, rt.alloc(), &mut gauges, lines), number);
+        assert!(rt;
+            is_told(&rt, &mut gauges, lines),
+            "run {number} with gauges"
+        );
     }
 }
 
@@ -88,83 +89,37 @@ const IN_TURN: &[(&[Plate], &[u8])] = &[
     ),
 ];
 
-/// Whether a run on these shapes with these gauges writes this text.
-fn pairs_are_told(
-    rt: &(impl Threads + Sync),
-    alloc: Global,
-    gauges: &mut Gauges,
-    (shapes, text): &(&'static [Plate], &'static [u8]),
-) -> Result<bool, NoMemory> {
-    let given = Given {
-        words: PAIRS,
-        shapes,
-        map: MAP,
-    };
-    ends_with(rt, alloc, &given, gauges, &NoGate, &written(text))
-}
-
-/// Appends the gauges that the program has, and a pair gauge with room for nine rows.
-fn push_tight(alloc: Global, gauges: &mut Gauges) -> Result<(), NoMemory> {
-    gauges.push_usual(alloc)?;
-    let tight = TightPairs::new(alloc, 9);
-    gauges.pairs.push(Box::new(alloc, tight)?)?;
-    Ok(())
-}
-
+/// Gauges of pairs are told one run after the other: those that the program has, and one with room for nine rows.
 #[test]
 fn pair_gauges_go_on_from_run_to_run(rt: HostRuntime) {
     let mut gauges = Gauges::new(rt.alloc());
-    assert!(rt; push_tight(rt.alloc(), &mut gauges) == Ok(()));
-    for (number, row) in IN_TURN.iter().enumerate() {
-        expect(
-            &rt,
-            pairs_are_told(&rt, rt.alloc(), &mut gauges, row),
-            number,
-        );
+    gauges.push_usual(&rt);
+    let tight = Box::new(rt.alloc(), TightPairs::new(rt.alloc(), 9)).expect(&rt, MEMORY);
+    gauges.pairs.push(tight).expect(&rt, MEMORY);
+    for (number, (shapes, text)) in IN_TURN.iter().enumerate() {
+        let given = Given {
+            words: PAIRS,
+            shapes,
+            map: MAP,
+        };
+        let is_told = ends_with(&rt, &given, &mut gauges, &NoGate, &written(text));
+        assert!(rt; is_told, "run {number}");
     }
 }
 
-/// Appends a gauge and a pair gauge, which count there when they are dropped.
-fn push_counted(
-    alloc: Global,
-    gauges: &mut Gauges,
-    drops: &Arc<AtomicU64>,
-) -> Result<(), NoMemory> {
-    let counted = Counted::new(alloc, Arc::try_clone(drops)?);
-    gauges.rows.push(Box::new(alloc, counted)?)?;
-    let counted = CountedPairs::new(alloc, Arc::try_clone(drops)?);
-    gauges.pairs.push(Box::new(alloc, counted)?)?;
-    Ok(())
+/// Appends a gauge and a gauge of pairs, which count there when they are dropped.
+fn push_counted(rt: &(impl Abort + AllocGlobal), gauges: &mut Gauges, drops: &Arc<AtomicU64>) {
+    let alloc = rt.alloc();
+    let shared = Arc::try_clone(drops).expect(rt, MEMORY);
+    let counted = Box::new(alloc, Counted::new(alloc, shared)).expect(rt, MEMORY);
+    gauges.rows.push(counted).expect(rt, MEMORY);
+    let shared = Arc::try_clone(drops).expect(rt, MEMORY);
+    let counted = Box::new(alloc, CountedPairs::new(alloc, shared)).expect(rt, MEMORY);
+    gauges.pairs.push(counted).expect(rt, MEMORY);
 }
 
 /// A run, and what it writes with the gauges that the program has.
 type Told = (Given<'static>, &'static [u8]);
-
-/// Whether a run drops none of its gauges, four of which count there. Their lists are dropped behind that.
-fn drops_none(
-    rt: &(impl Threads + Sync),
-    alloc: Global,
-    (given, text): &Told,
-    drops: &Arc<AtomicU64>,
-) -> Result<bool, NoMemory> {
-    let mut gauges = Gauges::new(alloc);
-    push_counted(alloc, &mut gauges, drops)?;
-    gauges.push_usual(alloc)?;
-    push_counted(alloc, &mut gauges, drops)?;
-    let ended = ends_with(rt, alloc, given, &mut gauges, &NoGate, &written(text))?;
-    Ok(ended && drops.load(Ordering::SeqCst) == 0)
-}
-
-/// Whether the four are dropped with their lists, and not before.
-fn four_are_dropped(
-    rt: &(impl Threads + Sync),
-    alloc: Global,
-    told: &Told,
-) -> Result<bool, NoMemory> {
-    let drops = Arc::new(alloc, AtomicU64::new(0))?;
-    let holds = drops_none(rt, alloc, told, &drops)?;
-    Ok(holds && drops.load(Ordering::SeqCst) == 4)
-}
 
 /// A run that reports a generated cell, and one that tells the pairs of the two bars.
 const TOLD: &[Told] = &[
@@ -186,9 +141,26 @@ const TOLD: &[Told] = &[
     ),
 ];
 
+/// Checks that a run drops none of its gauges, four of which count there. Their lists are dropped behind that.
+fn check_kept(
+    rt: &(impl Abort + AllocGlobal + Threads + Sync),
+    (given, text): &Told,
+    drops: &Arc<AtomicU64>,
+) {
+    let mut gauges = Gauges::new(rt.alloc());
+    push_counted(rt, &mut gauges, drops);
+    gauges.push_usual(rt);
+    push_counted(rt, &mut gauges, drops);
+    assert!(rt; ends_with(rt, given, &mut gauges, &NoGate, &written(text)));
+    assert!(rt; drops.load(Ordering::SeqCst) == 0);
+}
+
+/// The four gauges are dropped with their lists, and not before.
 #[test]
 fn a_run_drops_no_gauge(rt: HostRuntime) {
-    for (number, told) in TOLD.iter().enumerate() {
-        expect(&rt, four_are_dropped(&rt, rt.alloc(), told), number);
+    for told in TOLD {
+        let drops = Arc::new(rt.alloc(), AtomicU64::new(0)).expect(&rt, MEMORY);
+        check_kept(&rt, told, &drops);
+        assert!(rt; drops.load(Ordering::SeqCst) == 4);
     }
 }

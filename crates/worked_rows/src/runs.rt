@@ -3,11 +3,14 @@
 use critarea_core::{Gate, NoGate, Word, run};
 use edge_io::{Files, MemFiles, MemSink, Sink};
 use gauges::{Gauge, Nonzero, PairGauge, Peak, Worst};
-use lists::{Name, NoMemory};
+use lists::Name;
 use samples::layouts::{Plate, plates};
-use std::alloc::{AllocError, Global};
+use std::alloc::Global;
 use std::process::Abort;
 use std::thread::Threads;
+
+/// What a test says that ends because no memory is left.
+pub const MEMORY: &str = "no memory is left";
 
 /// Words for the areas of one metal at the radius 3.
 pub const RADIUS_3: &str = "a --layer 1 --datatype 0 --radius 3";
@@ -79,30 +82,36 @@ impl Gauges {
     }
 
     /// Appends those that the program has.
-    pub fn push_usual(&mut self, alloc: Global) -> Result<(), AllocError> {
-        self.rows.push(Box::new(alloc, Peak::new(alloc))?)?;
-        self.rows.push(Box::new(alloc, Nonzero::new(alloc))?)?;
-        self.pairs.push(Box::new(alloc, Worst::new(alloc))?)?;
-        Ok(())
+    pub fn push_usual(&mut self, rt: &(impl Abort + AllocGlobal)) {
+        let alloc = rt.alloc();
+        let peak = Box::new(alloc, Peak::new(alloc)).expect(rt, MEMORY);
+        self.rows.push(peak).expect(rt, MEMORY);
+        let nonzero = Box::new(alloc, Nonzero::new(alloc)).expect(rt, MEMORY);
+        self.rows.push(nonzero).expect(rt, MEMORY);
+        let worst = Box::new(alloc, Worst::new(alloc)).expect(rt, MEMORY);
+        self.pairs.push(worst).expect(rt, MEMORY);
     }
 }
 
-/// The files of these bytes, each with a name of one letter.
-pub fn files_named(
-    alloc: Global,
-    layout: Vec<u8>,
-    map: Vec<u8>,
-) -> Result<Vec<(Name, Vec<u8>)>, AllocError> {
-    let layout = (Name::from_vec(Vec::from_slice(alloc, b"a")?), layout);
-    let map = (Name::from_vec(Vec::from_slice(alloc, b"m")?), map);
-    Ok(vec![in alloc; layout, map]?)
+/// The file of these bytes with a name of one letter.
+fn file(rt: &(impl Abort + AllocGlobal), name: &[u8], bytes: Vec<u8>) -> (Name, Vec<u8>) {
+    let name = Vec::from_slice(rt.alloc(), name).expect(rt, MEMORY);
+    (Name::from_vec(name), bytes)
+}
+
+/// The files of a layout and of a map.
+pub fn files_named(rt: &(impl Abort + AllocGlobal), layout: Vec<u8>, map: Vec<u8>) -> MemFiles {
+    let mut files = Vec::new(rt.alloc());
+    files.push(file(rt, b"a", layout)).expect(rt, MEMORY);
+    files.push(file(rt, b"m", map)).expect(rt, MEMORY);
+    MemFiles::new(files, Vec::new(rt.alloc()))
 }
 
 /// The files of a run.
-pub fn files_of(alloc: Global, given: &Given<'_>) -> Result<MemFiles, AllocError> {
-    let layout = plates(alloc, given.shapes)?;
-    let map = Vec::from_slice(alloc, given.map)?;
-    Ok(MemFiles::new(files_named(alloc, layout, map)?, Vec::new(alloc)))
+pub fn files_of(rt: &(impl Abort + AllocGlobal), given: &Given<'_>) -> MemFiles {
+    let layout = plates(rt.alloc(), given.shapes).expect(rt, MEMORY);
+    let map = Vec::from_slice(rt.alloc(), given.map).expect(rt, MEMORY);
+    files_named(rt, layout, map)
 }
 
 /// The outputs of a run, in memory.
@@ -115,12 +124,18 @@ pub struct Outputs {
 /// More room than outputs need.
 pub const ROOM: usize = 10_000;
 
+/// An output with so much room.
+fn output(rt: &(impl Abort + AllocGlobal), room: usize) -> MemSink {
+    MemSink::with(rt.alloc(), room, Vec::new(rt.alloc())).expect(rt, MEMORY)
+}
+
 impl Outputs {
     /// Those with so much room each.
-    pub fn new(alloc: Global, room: usize) -> Result<Outputs, NoMemory> {
-        let out = MemSink::with(alloc, room, Vec::new(alloc))?;
-        let err = MemSink::with(alloc, room, Vec::new(alloc))?;
-        Ok(Outputs { out, err })
+    pub fn new(rt: &(impl Abort + AllocGlobal), room: usize) -> Outputs {
+        Outputs {
+            out: output(rt, room),
+            err: output(rt, room),
+        }
     }
 
     /// Whether a run with this status, which was handed them, ended so.
@@ -131,49 +146,52 @@ impl Outputs {
 }
 
 /// The words of a command line.
-fn words_of(alloc: Global, line: &str) -> Result<Vec<Word>, AllocError> {
-    let mut words = Vec::new(alloc);
+fn words_of(rt: &(impl Abort + AllocGlobal), line: &str) -> Vec<Word> {
+    let mut words = Vec::new(rt.alloc());
     for word in line.split(' ') {
-        let text = String::from_str(alloc, word)?;
-        words.push(Word::from_string(text))?;
+        let text = String::from_str(rt.alloc(), word).expect(rt, MEMORY);
+        words.push(Word::from_string(text)).expect(rt, MEMORY);
     }
-    Ok(words)
+    words
 }
 
 /// The status of a run on these files and outputs, with the gauges that the program has.
 pub fn status_on<F: Files, O: Sink, E: Sink>(
-    rt: &(impl Threads + Sync),
-    alloc: Global,
+    rt: &(impl Abort + AllocGlobal + Threads + Sync),
     line: &str,
     files: &mut F,
     (out, err): (&mut O, &mut E),
-) -> Result<u8, NoMemory> {
-    let words = words_of(alloc, line)?;
-    let mut gauges = Gauges::new(alloc);
-    gauges.push_usual(alloc)?;
+) -> u8 {
+    let words = words_of(rt, line);
+    let mut gauges = Gauges::new(rt.alloc());
+    gauges.push_usual(rt);
     let (words, rows, pairs) = (words.as_slice(), &mut gauges.rows, &mut gauges.pairs);
-    Ok(run(rt, alloc, words, files, out, err, rows, pairs, &NoGate))
+    run(rt, rt.alloc(), words, files, out, err, rows, pairs, &NoGate)
 }
 
 /// Whether a run with these gauges ends so, whose tiles pass this gate.
 pub fn ends_with<G: Gate + Sync>(
-    rt: &(impl Threads + Sync),
-    alloc: Global,
+    rt: &(impl Abort + AllocGlobal + Threads + Sync),
     given: &Given<'_>,
     gauges: &mut Gauges,
     gate: &G,
     want: &Ending<'_>,
-) -> Result<bool, NoMemory> {
-    let words = words_of(alloc, given.words)?;
-    let mut files = files_of(alloc, given)?;
-    let mut outputs = Outputs::new(alloc, ROOM)?;
+) -> bool {
+    let words = words_of(rt, given.words);
+    let mut files = files_of(rt, given);
+    let mut outputs = Outputs::new(rt, ROOM);
     let (out, err) = (&mut outputs.out, &mut outputs.err);
     let (words, rows, pairs) = (words.as_slice(), &mut gauges.rows, &mut gauges.pairs);
-    let status = run(rt, alloc, words, &mut files, out, err, rows, pairs, gate);
-    Ok(outputs.are_left(status, want))
-}
-
-/// Stops the test where this does not hold, and names the row by its number.
-pub fn expect(rt: &impl Abort, holds: Result<bool, NoMemory>, number: usize) {
-    assert!(rt; holds == Ok(true), "row {number}");
+    let status = run(
+        rt,
+        rt.alloc(),
+        words,
+        &mut files,
+        out,
+        err,
+        rows,
+        pairs,
+        gate,
+    );
+    outputs.are_left(status, want)
 }
