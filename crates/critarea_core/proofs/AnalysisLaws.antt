@@ -14,14 +14,14 @@ use Rattle.net_extract.specs.Extraction.{IsOnItsMetal, off_metal}
 use Rattle.net_extract.specs.declared.fault.NetFault.{NetFault}
 use Rattle.net_extract.specs.declared.fault.NetFault.TheVariants as net
 use Rattle.questions.specs.declared.row.Row.{Row}
+use Rattle.run_inputs.specs.Layout.{LibraryComesTo, Subject, ShortLayoutComesTo, TerminalsComeTo}
+use Rattle.run_inputs.specs.declared.layout_fault.LayoutFault.{LayoutFault}
+use Rattle.run_inputs.specs.declared.layout_fault.LayoutFault.TheVariants.{Memory, Net, Syntax}
+use Rattle.run_inputs.specs.StageAnswers.{Analyses, IsToldAs, gives_thing, gives_refusal}
+use Rattle.run_inputs.specs.LayoutReaders.{AreLayersFor}
+use Rattle.run_inputs.proofs.laws.ReadingLaws.{behind, fault_told, found_for, not_read, restaged, thing_told}
 use Rattle.critarea_core.specs.Analysis.{AnalysisComesTo, has_rows, has_fault}
 use Rattle.critarea_core.specs.Outputs.{AreRowsOn}
-use Rattle.critarea_core.specs.Layout.{LibraryComesTo, Subject, ShortLayoutComesTo, TerminalsComeTo}
-use Rattle.critarea_core.specs.declared.layout_fault.LayoutFault.{LayoutFault}
-use Rattle.critarea_core.specs.declared.layout_fault.LayoutFault.TheVariants.{Memory, Net, Syntax}
-use Rattle.critarea_core.specs.inside.Finding.{Analyses, IsToldAs, gives_thing, gives_refusal}
-use Rattle.critarea_core.specs.inside.LayoutReaders.{AreLayersFor}
-use Rattle.critarea_core.proofs.ReadingLaws.{behind, fault_told, found_for, not_read, restaged, thing_told}
 use Rattle.critarea_core.proofs.TerminalLaws.{terminal_off, thing_found}
 
 module _ {T : Type 0} (IsFor : Subject → T → Type 0) (layer_map : LayerMap) (wanted : Option (List ℕ)) (bytes : List ℕ) where

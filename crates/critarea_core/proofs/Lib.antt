@@ -1,11 +1,5 @@
-pub mod CoverReading
-pub mod LayerLaws
-pub mod ReadingLaws
 pub mod TerminalLaws
 pub mod AnalysisLaws
-pub mod StatusLaws
-pub mod NamingLaws
-pub mod AskedLaws
 pub mod PrintLaws
 pub mod RegionLaws
 pub mod RunLaws

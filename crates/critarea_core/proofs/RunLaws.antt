@@ -12,30 +12,33 @@ use Rattle.questions.specs.declared.row.Row.{Row}
 use Rattle.gauges.specs.declared.pair_row.PairRow.{PairRow}
 use Rattle.gauges.specs.GaugeViews.{GaugeView}
 use Rattle.gauges.proofs.laws.Told.{some_told_keep_texts, told_keep_texts}
-use Rattle.critarea_core.specs.Contents.{MayContain, MayHave, names_in, map_names, file_names, bytes_from, layout_source, wanted_top}
+use Rattle.run_inputs.specs.Contents.{MayContain, MayHave, names_in, map_names, file_names, bytes_from, layout_source, wanted_top}
+use Rattle.run_inputs.specs.Inquiries.{Inquiry, QueryComesTo}
+use Rattle.run_inputs.specs.StageAnswers.{Analyses, AreItems, Finds, FindsInFiles, files_serve, files_fail, gives_thing, gives_refusal, IsMapOf}
+use Rattle.run_inputs.specs.StageAnswers.{IsToldAs, LayoutMayCome, MapMayCome}
+use Rattle.run_inputs.specs.Layout.{ShortLayoutComesTo, Subject}
+use Rattle.run_inputs.specs.Refusals.{of_layout_fault, usage}
+use Rattle.run_inputs.specs.Verdict.{InquiryComesTo}
+use Rattle.run_inputs.specs.Failures.{Change, change, HasRisen, IsCalm, IsUnsureOf}
+use Rattle.run_inputs.specs.declared.layout_fault.LayoutFault.{LayoutFault}
+use Rattle.run_inputs.specs.declared.layout_fault.LayoutFault.TheVariants as layout_fault
+use Rattle.run_inputs.specs.declared.query.Query.{Query}
+use Rattle.run_inputs.specs.declared.query.Query.TheVariants.{Report as for_report, Pairs as for_pairs, Probe as for_probe, Region as for_region}
+use Rattle.run_inputs.specs.declared.refusal.Refusal.{Refusal}
+use Rattle.run_inputs.specs.declared.unreported.Unreported.{Unreported}
+use Rattle.run_inputs.specs.declared.unreported.Unreported.TheVariants.{Refused, FilesFailed, Memory}
+use Rattle.run_inputs.proofs.laws.ReadingLaws.{fault_found, found_as, found_bytes, found_for, not_found, not_read, some_contents, some_may_be}
+use Rattle.run_inputs.proofs.laws.StatusLaws.{refused_status}
+use Rattle.run_inputs.proofs.laws.VerdictLaws.{verdicts_agree}
 use Rattle.critarea_core.specs.Outputs.{Due, IsDueAs, IsRegionFile}
-use Rattle.critarea_core.specs.Inquiries.{Inquiry, QueryComesTo}
-use Rattle.critarea_core.specs.inside.Finding.{Analyses, AreItems, Finds, FindsInFiles, files_serve, files_fail, gives_thing, gives_refusal, HasFound, IsFound, IsFoundFor, IsMapOf}
-use Rattle.critarea_core.specs.inside.Finding.{IsPrinted, IsToldAs, LayoutMayCome, MapMayCome, due_out, due_cut, due_to, nothing_out, line_out, line_cut, no_line}
-use Rattle.critarea_core.specs.Layout.{ShortLayoutComesTo, Subject}
-use Rattle.critarea_core.specs.Refusals.{of_layout_fault, usage}
-use Rattle.critarea_core.specs.Verdict.{InquiryComesTo}
-use Rattle.critarea_core.specs.Run.{AreToldAll, AreToldSome, AreUnsure, AreUntold, CannotFail, Change, change, Gauges, IsDueFor, KeepTheirTexts, Surroundings, HasRisen, IsCalm, IsUnsureOf, MapMayServe, MayComeTo, MustComeTo}
+use Rattle.critarea_core.specs.inside.Finding.{HasFound, IsFound, IsFoundFor}
+use Rattle.critarea_core.specs.inside.Finding.{IsPrinted, due_out, due_cut, due_to, nothing_out, line_out, line_cut, no_line}
+use Rattle.critarea_core.specs.Run.{AreToldAll, AreToldSome, AreUnsure, AreUntold, CannotFail, Gauges, IsDueFor, KeepTheirTexts, Surroundings, MapMayServe, MayComeTo, MustComeTo}
 use Rattle.critarea_core.specs.Run.{IsComplete, EndsWith, RunsTo, StartsNamed, no_file, map_file, both_files}
 use Rattle.critarea_core.specs.Run as run
 use Rattle.critarea_core.specs.declared.found.Found.{Found}
 use Rattle.critarea_core.specs.declared.found.Found.TheVariants.{Report as Rows, Pairs as Tables, Probe as Probed, Region as Cells}
-use Rattle.critarea_core.specs.declared.layout_fault.LayoutFault.{LayoutFault}
-use Rattle.critarea_core.specs.declared.layout_fault.LayoutFault.TheVariants as layout_fault
-use Rattle.critarea_core.specs.declared.query.Query.{Query}
-use Rattle.critarea_core.specs.declared.query.Query.TheVariants.{Report as for_report, Pairs as for_pairs, Probe as for_probe, Region as for_region}
-use Rattle.critarea_core.specs.declared.refusal.Refusal.{Refusal}
-use Rattle.critarea_core.specs.declared.unreported.Unreported.{Unreported}
-use Rattle.critarea_core.specs.declared.unreported.Unreported.TheVariants.{Refused, FilesFailed, Memory}
-use Rattle.critarea_core.proofs.ReadingLaws.{fault_found, found_as, found_bytes, found_for, not_found, not_read, some_contents, some_may_be}
 use Rattle.critarea_core.proofs.RegionLaws.{region_has_room}
-use Rattle.critarea_core.proofs.StatusLaws.{refused_status}
-use Rattle.critarea_core.proofs.laws.VerdictLaws.{verdicts_agree}
 
 -- the one list behind the other
 appends_both : {A : Type 0} (before middle after : Option (List A)) (xs ys : List A) → Appends before middle xs → Appends middle after ys → Appends before after (xs ++ ys)

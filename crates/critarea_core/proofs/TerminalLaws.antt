@@ -19,16 +19,17 @@ use Rattle.layout_pairs.proofs.laws.AlikeLaws.{pairs_follow}
 use Rattle.layout_probe.proofs.laws.AlikeLaws.{probes_follow}
 use Rattle.layout_regions.proofs.laws.AlikeLaws.{region_follows}
 use Rattle.pair_report.specs.PairRows.{pair_rows}
-use Rattle.critarea_core.specs.Coverage.{IsCoveredOn}
+use Rattle.run_inputs.specs.Coverage.{IsCoveredOn}
+use Rattle.run_inputs.specs.StageAnswers.{Analyses, gives_thing}
+use Rattle.run_inputs.specs.Layout.{Subject, IsTerminalOn, TerminalsComeTo}
+use Rattle.run_inputs.specs.LayoutReaders.{AreLayersFor}
+use Rattle.run_inputs.specs.declared.layout_fault.LayoutFault.TheVariants.{Net}
+use Rattle.run_inputs.specs.declared.query.Query.{Query}
+use Rattle.run_inputs.specs.declared.query.Query.TheVariants.{Report as for_report, Pairs as for_pairs, Probe as for_probe, Region as for_region}
 use Rattle.critarea_core.specs.Outputs.{AreRowsOn}
-use Rattle.critarea_core.specs.inside.Finding.{Analyses, HasFound, IsFoundIn, gives_thing}
-use Rattle.critarea_core.specs.Layout.{Subject, IsTerminalOn, TerminalsComeTo}
-use Rattle.critarea_core.specs.inside.LayoutReaders.{AreLayersFor}
+use Rattle.critarea_core.specs.inside.Finding.{HasFound, IsFoundIn}
 use Rattle.critarea_core.specs.declared.found.Found.{Found}
 use Rattle.critarea_core.specs.declared.found.Found.TheVariants.{Report as Rows, Pairs as Tables, Probe as Probed, Region as Cells}
-use Rattle.critarea_core.specs.declared.layout_fault.LayoutFault.TheVariants.{Net}
-use Rattle.critarea_core.specs.declared.query.Query.{Query}
-use Rattle.critarea_core.specs.declared.query.Query.TheVariants.{Report as for_report, Pairs as for_pairs, Probe as for_probe, Region as for_region}
 
 -- what was found of layers is found of those that cover alike, in a layout of the same units
 module _ (layer_map : LayerMap) (covers other : ℕ → Cell → Type 0) (same : (number : ℕ) (c : Cell) → covers number c ↔ other number c) (units others : List ℕ) (alike : units ≡ others) where

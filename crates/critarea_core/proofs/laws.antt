@@ -1,5 +1,4 @@
 -- what the proofs of other crates may cite
-pub mod VerdictLaws
 pub mod FreshRuns
 -- odd sides beside even ones
 pub mod OddSideLaws

@@ -4,9 +4,9 @@ use Rattle.lists.specs.Words.{Global}
 use Rattle.first_refusal.specs.Outcomes.{Outcome, value, refused}
 use Rattle.map_model.specs.MapNames.{LayerMap}
 use Rattle.questions.specs.declared.row.Row.{Row}
-use Rattle.critarea_core.specs.Layout.{Subject, ShortLayoutComesTo}
+use Rattle.run_inputs.specs.Layout.{Subject, ShortLayoutComesTo}
+use Rattle.run_inputs.specs.declared.layout_fault.LayoutFault.{LayoutFault}
 use Rattle.critarea_core.specs.Outputs.{AreRowsOn}
-use Rattle.critarea_core.specs.declared.layout_fault.LayoutFault.{LayoutFault}
 
 -- the rows on the subject to which the bytes come, or their first fault
 pub data AnalysisComesTo (layer_map : LayerMap) (wanted : Option (List ℕ)) (bytes : List ℕ)

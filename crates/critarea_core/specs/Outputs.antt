@@ -17,11 +17,11 @@ use Rattle.layout_regions.specs.Regions.{IsRegion, cell_count}
 use Rattle.questions.specs.declared.kind.Kind.{Kind}
 use Rattle.questions.specs.declared.row.Row.{Row}
 use Rattle.region_out.specs.RegionLibraries.{AreUnits, region_library_of}
-use Rattle.critarea_core.specs.Coverage.{IsCoveredOn}
-use Rattle.critarea_core.specs.Inquiries.{Inquiry}
-use Rattle.critarea_core.specs.Layout.{Subject}
-use Rattle.critarea_core.specs.declared.query.Query.{Query}
-use Rattle.critarea_core.specs.declared.query.Query.TheVariants.{Report as for_report, Pairs as for_pairs, Probe as for_probe, Region as for_region}
+use Rattle.run_inputs.specs.Coverage.{IsCoveredOn}
+use Rattle.run_inputs.specs.Inquiries.{Inquiry}
+use Rattle.run_inputs.specs.Layout.{Subject}
+use Rattle.run_inputs.specs.declared.query.Query.{Query}
+use Rattle.run_inputs.specs.declared.query.Query.TheVariants.{Report as for_report, Pairs as for_pairs, Probe as for_probe, Region as for_region}
 
 -- the rows answer the questions of the subject's layer map on what its routes cover
 abbrev pub AreRowsOn : Subject → List Row → Type 0

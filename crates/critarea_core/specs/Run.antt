@@ -2,20 +2,20 @@
 use Rattle.std.specs.Prelude.{ℕ, List, [], length, ◌≡◌, ◌≢◌, ◌<◌, ◌≤◌, ◌⊎◌, Contains, Option, map}
 use Rattle.first_refusal.specs.Outcomes.{Outcome, value, refused}
 use Rattle.edge_io.specs.Bytes.{Appends, AppendsPrefix}
-use Rattle.edge_io.specs.FailureCounts.{Rose}
 use Rattle.command_line.specs.Requests.{Ask}
 use Rattle.command_line.specs.declared.request.Request.{Request}
 use Rattle.map_model.specs.MapNames.{LayerMap}
 use Rattle.questions.specs.declared.row.Row.{Row}
 use Rattle.gauges.specs.declared.pair_row.PairRow.{PairRow}
 use Rattle.gauges.specs.GaugeViews.{GaugeView, AreTold, AreToldPrefixes, views_of}
-use Rattle.critarea_core.specs.Contents.{Contents, AgreeWith, MayContain, map_names, file_names}
-use Rattle.critarea_core.specs.Refusals.{refusal_text}
-use Rattle.critarea_core.specs.Inquiries.{Inquiry, QueryComesTo}
+pub use Rattle.run_inputs.specs.Failures.{Change, change, HasRisen, IsCalm, IsUnsureOf}
+use Rattle.run_inputs.specs.Contents.{Contents, AgreeWith, MayContain, map_names, file_names}
+use Rattle.run_inputs.specs.Refusals.{refusal_text}
+use Rattle.run_inputs.specs.Inquiries.{Inquiry, QueryComesTo}
+use Rattle.run_inputs.specs.Verdict.{MapComesTo, IsVerdict}
+use Rattle.run_inputs.specs.declared.query.Query.{Query}
+use Rattle.run_inputs.specs.declared.refusal.Refusal.{Refusal}
 use Rattle.critarea_core.specs.Outputs.{Due, IsDue}
-use Rattle.critarea_core.specs.Verdict.{MapComesTo, IsVerdict}
-use Rattle.critarea_core.specs.declared.query.Query.{Query}
-use Rattle.critarea_core.specs.declared.refusal.Refusal.{Refusal}
 
 -- ---- the words, and what files tell
 
@@ -41,15 +41,6 @@ pub record MapMayServe (told : List ℕ → Option (List ℕ)) (request : Reques
   pub fits : QueryComesTo request.task layer_map (value query)
 
 -- ---- what a run met and left behind
-
--- a thing before a run, and after it
-pub record Change (A : Type 0) : Type 0 where
-  pub before : A
-  pub after : A
-
--- from both
-abbrev pub change : {A : Type 0} → A → A → Change A
-change before after = record { before = before; after = after }
 
 -- the files: what each holds by its name and which were started, where they tell it, of which names they are sure, whose start
 -- and reads cannot fail, and how many of their calls failed, a count that stands still at its last value
@@ -86,15 +77,6 @@ pub record Surroundings : Type 1 where
   pub err : Output
   pub gauges : Gauges
 
--- Something failed, as far as its count tells: the count rose, or it stood and stands at its last value, where it cannot rise.
--- There this holds whether anything failed or not.
-abbrev pub HasRisen : Change ℕ → Type 0
-HasRisen failures = Rose failures.before failures.after
-
--- the count is as it was
-abbrev pub IsCalm : Change ℕ → Type 0
-IsCalm failures = failures.after ≡ failures.before
-
 -- the output took nothing, and did not fail
 abbrev pub IsIdle : Output → Type 0
 IsIdle out = (out.taken.after ≡ out.taken.before) × IsCalm out.failures
@@ -108,10 +90,6 @@ pub record FailsWithin (out : Output) (text : List ℕ) : Type 0 where
   pub risen : HasRisen out.failures
   pub not_sure : out.sure < length text
   pub prefix : AppendsPrefix out.taken.before out.taken.after text
-
--- there is one of these names of which files that are sure of such names are not sure
-abbrev pub IsUnsureOf : (List ℕ → Type 0) → List (List ℕ) → Type 0
-IsUnsureOf sure names = (name : List ℕ) × Contains names name × (sure name → ⊥)
 
 -- there are as many gauges as before, and the one at each place prints for a list of rows what it printed
 abbrev pub KeepTexts : {Kind : Type 0} → Change (List (GaugeView Kind)) → Type 0

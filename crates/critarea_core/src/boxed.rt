@@ -1,4 +1,5 @@
-ghost use Rattle.critarea_core.specs.Run.{RunsWith, change};
+ghost use Rattle.run_inputs.specs.Failures.{change};
+ghost use Rattle.critarea_core.specs.Run.{RunsWith};
 ghost use Rattle.gauges.specs.GaugeViews.{views_of};
 
 use super::command::run;

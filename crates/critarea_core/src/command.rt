@@ -1,20 +1,19 @@
 ghost use Rattle.std.specs.Prelude.{◌≡◌, ℕ, List, option_copied};
 ghost use Rattle.command_line.specs.Requests.{Ask};
-ghost use Rattle.critarea_core.specs.Contents.{wanted_top};
+ghost use Rattle.run_inputs.specs.Contents.{wanted_top};
+ghost use Rattle.run_inputs.specs.Failures.{change};
 ghost use Rattle.critarea_core.specs.inside.Finding.{IsFound};
-ghost use Rattle.critarea_core.specs.Run.{RunsTo, StartsNamed, change, known_gauges};
+ghost use Rattle.critarea_core.specs.Run.{RunsTo, StartsNamed, known_gauges};
 
 use super::analysis::find_in_layout;
 use super::found::Found;
 use super::printing::print;
-use super::query::query_of;
-use super::sources::{layout_for, map_for};
-use super::unreported::Unreported;
 use command_line::{Request, Task, Word, read_words};
 use critical_areas::{Gate, Sharing};
 use edge_io::{Files, Sink};
 use gauges::{Gauge, PairGauge};
 use lists::Name;
+use run_inputs::{Unreported, layout_for, map_for, query_of};
 use std::alloc::Global;
 use std::thread::Threads;
 

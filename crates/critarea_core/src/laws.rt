@@ -5,9 +5,9 @@
 //! an odd side has each cell wholly or not at all.
 
 ghost use Rattle.std.specs.Prelude.{ℕ, pos, List, [], All, Any, Contains, Some, length, slice_get, ◌+◌, ◌-◌, ◌/◌, ◌<◌, ◌≤◌, ◌≡◌, ◌↔◌};
-ghost use Rattle.critarea_core.specs.Coverage.{IsCoveredOn};
+ghost use Rattle.run_inputs.specs.Coverage.{IsCoveredOn};
+ghost use Rattle.run_inputs.specs.Layout.{Subject};
 ghost use Rattle.critarea_core.specs.Outputs.{ArePairRowsOn, AreRowsOn, IsProbeOn, IsRegionOn};
-ghost use Rattle.critarea_core.specs.Layout.{Subject};
 ghost use Rattle.critarea_core.specs.WholeCells.{IsOfWholeCells};
 ghost use Rattle.area_parts.specs.FaultKinds.{IsFault};
 ghost use Rattle.fault_model.specs.Areas.{Tally};

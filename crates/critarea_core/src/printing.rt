@@ -1,7 +1,8 @@
 ghost use Rattle.std.specs.Prelude.{[], ◌≤◌, ◌≡◌, IfOk, OnErr, OnOk, length};
+ghost use Rattle.run_inputs.specs.Failures.{change};
 ghost use Rattle.critarea_core.specs.Outputs.{whole_report};
 ghost use Rattle.critarea_core.specs.inside.Finding.{DueEnds, IsPrinted, LineEnds, due_to, region_due};
-ghost use Rattle.critarea_core.specs.Run.{AreToldAll, AreToldSome, change, known_gauges};
+ghost use Rattle.critarea_core.specs.Run.{AreToldAll, AreToldSome, known_gauges};
 ghost use Rattle.gauges.specs.GaugeViews.{AreTold, AreToldPrefixes, views_of};
 ghost use Rattle.layout_probe.specs.ProbeText.{probe_text};
 ghost use Rattle.pair_report.specs.PairReport.{whole_pair_text};
@@ -9,8 +10,6 @@ ghost use Rattle.pair_report.specs.PairRows.{pair_rows};
 ghost use Rattle.questions.specs.declared.row.TheConstants.{MOST_ROWS};
 
 use super::found::{CriticalRegion, Found};
-use super::refusal::Refusal;
-use super::unreported::Unreported;
 use edge_io::{Failed, Sink, write_all};
 use gauges::{Gauge, PairGauge, append_texts, tell};
 use gds_write::write_library;
@@ -20,6 +19,7 @@ use pair_report::{PairTables, write_pairs};
 use questions::Row;
 use region_out::region_library;
 use report::write_report;
+use run_inputs::{Refusal, Unreported};
 use std::alloc::Global;
 
 /// The status where what is due went out.

@@ -8,9 +8,9 @@ use Rattle.command_line.specs.declared.task.Task.TheVariants.{OneMetal, Mapped, 
 use Rattle.map_model.specs.MapNames.{LayerMap}
 use Rattle.critarea_core.specs.Contents.{Contents}
 use Rattle.critarea_core.specs.Inquiries.{Inquiry, QueryComesTo}
-use Rattle.critarea_core.specs.declared.query.ListedSize.{ListedSize}
-use Rattle.critarea_core.specs.declared.query.Query.{Query}
-use Rattle.critarea_core.specs.declared.query.Query.TheVariants.{Report as for_report, Pairs as for_pairs, Probe as for_probe}
+use Rattle.run_inputs.specs.declared.query.ListedSize.{ListedSize}
+use Rattle.run_inputs.specs.declared.query.Query.{Query}
+use Rattle.run_inputs.specs.declared.query.Query.TheVariants.{Report as for_report, Pairs as for_pairs, Probe as for_probe}
 use Rattle.critarea_core.specs.Verdict.{IsVerdict}
 use Rattle.run_laws.specs.AlikeDues.{IsForRegions}
 use Rattle.run_laws.specs.TaskRows.{GivesPairs, GivesRegion, GivesReport}

@@ -23,14 +23,14 @@ use Rattle.lists.specs.ByteLists.{AreBytes}
 use Rattle.lists.proofs.Words.{enumerate_from}
 use Rattle.critarea_core.specs.Contents.{Contents, bytes_from, file, layout_source, wanted_top}
 use Rattle.critarea_core.specs.Inquiries.{ArePairsAsked, IsRegionAsked, IsSizeNumbered, QueryComesTo, RegionComesTo}
-use Rattle.critarea_core.specs.declared.query.Query.{Query}
-use Rattle.critarea_core.specs.declared.query.Query.TheVariants.{Probe as for_probe, Report as for_report}
+use Rattle.run_inputs.specs.declared.query.Query.{Query}
+use Rattle.run_inputs.specs.declared.query.Query.TheVariants.{Probe as for_probe, Report as for_report}
 use Rattle.critarea_core.specs.Layout.{Subject, RouteHolds, route_checks, route_fault, RoutesComeTo, LibraryComesTo, IsTerminalOn, terminal_fault, ShapesComeTo, ShortLayoutComesTo, TerminalsComeTo}
 use Rattle.critarea_core.specs.Refusals.{usage, map_limit, map_too_long, of_map_fault, layout_limit, layout_too_long, of_layout_fault}
 use Rattle.critarea_core.specs.Refusals.{no_such_layer, no_such_size}
 use Rattle.critarea_core.specs.Verdict.{IsShortEnough, MapTextComesTo, MapComesTo, WordsComeTo, LayoutComesTo, InquiryComesTo, IsVerdict}
-use Rattle.critarea_core.specs.declared.layout_fault.LayoutFault.TheVariants.{Place, Syntax}
-use Rattle.critarea_core.proofs.laws.VerdictLaws.{subject_of}
+use Rattle.run_inputs.specs.declared.layout_fault.LayoutFault.TheVariants.{Place, Syntax}
+use Rattle.run_inputs.proofs.laws.VerdictLaws.{subject_of}
 
 -- ---- maps
 

@@ -10,10 +10,10 @@ use Rattle.map_model.specs.MapNames.{LayerMap}
 use Rattle.questions.specs.declared.kind.Kind.{Kind}
 use Rattle.critarea_core.specs.Contents.{Contents}
 use Rattle.critarea_core.specs.Inquiries.{IsLayerNamed, IsLayerOfName, RegionComesTo}
-use Rattle.critarea_core.specs.declared.query.Query.TheVariants.{Region as for_region}
+use Rattle.run_inputs.specs.declared.query.Query.TheVariants.{Region as for_region}
 use Rattle.critarea_core.specs.Refusals.{no_such_layer}
 use Rattle.critarea_core.specs.Verdict.{IsVerdict}
-use Rattle.critarea_core.specs.declared.refusal.Refusal.{Refusal}
+use Rattle.run_inputs.specs.declared.refusal.Refusal.{Refusal}
 use Rattle.run_laws.specs.ListedSizes.{LacksLayer}
 use Rattle.run_laws.proofs.NameLaws.{TaskComesTo, task_outcome}
 use Rattle.run_laws.proofs.SizeLaws.{number_within, size_at}

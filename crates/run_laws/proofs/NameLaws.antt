@@ -11,7 +11,7 @@ use Rattle.critarea_core.specs.Contents.{Contents, bytes_from, layout_source, wa
 use Rattle.map_model.specs.MapNames.{LayerMap}
 use Rattle.critarea_core.specs.Inquiries.{Inquiry, QueryComesTo}
 use Rattle.critarea_core.specs.Verdict.{InquiryComesTo, IsVerdict, MapComesTo, MapTextComesTo}
-use Rattle.critarea_core.specs.declared.refusal.Refusal.{Refusal}
+use Rattle.run_inputs.specs.declared.refusal.Refusal.{Refusal}
 use Rattle.run_laws.specs.NamedFiles.{HoldTheSame}
 
 -- what a layout with these bytes comes to, where the task asks of it what it asks of this map

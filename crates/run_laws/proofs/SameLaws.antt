@@ -23,14 +23,14 @@ use Rattle.critarea_core.specs.Coverage.{IsCoveredOn}
 use Rattle.critarea_core.specs.Outputs.{ArePairRowsOn, AreRowsOn, IsProbeOn, whole_report}
 use Rattle.critarea_core.specs.Outputs.{ArePairsDue, Due, IsDue, IsDueAs, IsProbeDue, IsRegionDue, IsReportDue}
 use Rattle.critarea_core.specs.Inquiries.{Inquiry}
-use Rattle.critarea_core.specs.declared.query.ListedSize.{ListedSize}
-use Rattle.critarea_core.specs.declared.query.Query.{Query}
-use Rattle.critarea_core.specs.declared.query.Query.TheVariants.{Report as for_report, Pairs as for_pairs, Probe as for_probe, Region as for_region}
+use Rattle.run_inputs.specs.declared.query.ListedSize.{ListedSize}
+use Rattle.run_inputs.specs.declared.query.Query.{Query}
+use Rattle.run_inputs.specs.declared.query.Query.TheVariants.{Report as for_report, Pairs as for_pairs, Probe as for_probe, Region as for_region}
 use Rattle.critarea_core.specs.Layout.{Subject}
 use Rattle.critarea_core.specs.Verdict.{IsVerdict}
-use Rattle.critarea_core.specs.declared.layout_fault.LayoutFault.{LayoutFault}
-use Rattle.critarea_core.specs.declared.refusal.Refusal.{Refusal}
-use Rattle.critarea_core.proofs.laws.VerdictLaws.{short_layouts_agree, verdicts_agree}
+use Rattle.run_inputs.specs.declared.layout_fault.LayoutFault.{LayoutFault}
+use Rattle.run_inputs.specs.declared.refusal.Refusal.{Refusal}
+use Rattle.run_inputs.proofs.laws.VerdictLaws.{short_layouts_agree, verdicts_agree}
 use Rattle.run_laws.specs.AlikeDues.{AreAlikeDue, AreAlikeTexts, IsForRegions}
 use Rattle.run_laws.specs.NamedFiles.{HoldTheSame}
 use Rattle.run_laws.specs.TaskRows.{GivesRegion}

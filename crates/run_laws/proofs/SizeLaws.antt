@@ -14,11 +14,11 @@ use Rattle.map_model.specs.MapNames.{LayerMap}
 use Rattle.questions.specs.declared.kind.Kind.{Kind}
 use Rattle.critarea_core.specs.Contents.{Contents}
 use Rattle.critarea_core.specs.Inquiries.{IsSizeNumbered, QueryComesTo}
-use Rattle.critarea_core.specs.declared.query.ListedSize.{ListedSize}
-use Rattle.critarea_core.specs.declared.query.Query.TheVariants.{Pairs as for_pairs}
+use Rattle.run_inputs.specs.declared.query.ListedSize.{ListedSize}
+use Rattle.run_inputs.specs.declared.query.Query.TheVariants.{Pairs as for_pairs}
 use Rattle.critarea_core.specs.Refusals.{no_such_size}
 use Rattle.critarea_core.specs.Verdict.{IsVerdict, MapTextComesTo}
-use Rattle.critarea_core.specs.declared.refusal.Refusal.{Refusal}
+use Rattle.run_inputs.specs.declared.refusal.Refusal.{Refusal}
 use Rattle.run_laws.specs.ListedSizes.{ListsFewer}
 use Rattle.run_laws.proofs.NameLaws.{OnMapComesTo, task_outcome}
 use Rattle.run_laws.proofs.StageLaws.{IsOfLack, no_layout_refuses_so, no_map_refuses_so}

@@ -34,12 +34,12 @@ use Rattle.rect_cover.specs.CoverFaults as cover_faults
 use Rattle.rect_cover.specs.ShapeChecks.{ShapeCheck, is_not_round, shape_fault}
 use Rattle.critarea_core.specs.Contents.{Contents}
 use Rattle.critarea_core.specs.Inquiries.{QueryComesTo}
-use Rattle.critarea_core.specs.declared.query.Query.{Query}
+use Rattle.run_inputs.specs.declared.query.Query.{Query}
 use Rattle.critarea_core.specs.Layout.{LibraryComesTo, ShapesComeTo, ShortLayoutComesTo}
 use Rattle.critarea_core.specs.Refusals.{of_layout_fault}
 use Rattle.critarea_core.specs.Verdict.{InquiryComesTo, IsVerdict, LayoutComesTo, MapComesTo, MapTextComesTo, WordsComeTo}
-use Rattle.critarea_core.specs.declared.layout_fault.LayoutFault.{LayoutFault}
-use Rattle.critarea_core.specs.declared.refusal.Refusal.{Refusal}
+use Rattle.run_inputs.specs.declared.layout_fault.LayoutFault.{LayoutFault}
+use Rattle.run_inputs.specs.declared.refusal.Refusal.{Refusal}
 use Rattle.run_laws.specs.RefusalStages.{IsOfStage, of_words, of_map, of_size, of_layer, of_layout, of_terminal}
 use Rattle.run_laws.specs.TaskRows.{GivesRegion, NamesSize}
 use Rattle.run_laws.proofs.NameLaws.{TaskComesTo, task_outcome}

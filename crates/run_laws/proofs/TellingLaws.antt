@@ -9,8 +9,8 @@ use Rattle.gauges.proofs.laws.Told.{untold_same}
 use Rattle.map_model.specs.MapNames.{LayerMap}
 use Rattle.critarea_core.specs.Outputs.{Due, IsDueAs}
 use Rattle.critarea_core.specs.Inquiries.{QueryComesTo}
-use Rattle.critarea_core.specs.declared.query.Query.{Query}
-use Rattle.critarea_core.specs.declared.query.Query.TheVariants.{Report as for_report, Pairs as for_pairs, Probe as for_probe, Region as for_region}
+use Rattle.run_inputs.specs.declared.query.Query.{Query}
+use Rattle.run_inputs.specs.declared.query.Query.TheVariants.{Report as for_report, Pairs as for_pairs, Probe as for_probe, Region as for_region}
 use Rattle.critarea_core.specs.Run.{AreToldAll, AreToldSome, EndsWith, Gauges, IsDueFor, Surroundings}
 use Rattle.critarea_core.specs.Run as run
 use Rattle.run_laws.specs.TaskRows.{GivesPairs, GivesReport}

@@ -5,8 +5,8 @@ use Rattle.geo_core.specs.declared.plane.Cell.{Cell}
 use Rattle.geo_core.specs.declared.plane.Rect.{Rect}
 use Rattle.critarea_core.specs.Outputs.{Due, IsRegionFile}
 use Rattle.critarea_core.specs.Inquiries.{Inquiry}
-use Rattle.critarea_core.specs.declared.query.Query.{Query}
-use Rattle.critarea_core.specs.declared.query.Query.TheVariants.{Report as for_report, Pairs as for_pairs, Probe as for_probe, Region as for_region}
+use Rattle.run_inputs.specs.declared.query.Query.{Query}
+use Rattle.run_inputs.specs.declared.query.Query.TheVariants.{Report as for_report, Pairs as for_pairs, Probe as for_probe, Region as for_region}
 
 -- the critical cells of a row are asked for
 abbrev pub IsForRegions : Query → Type 0

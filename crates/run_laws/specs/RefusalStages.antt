@@ -1,6 +1,6 @@
 -- of which stage a refusal is, by its status and its number
 use Rattle.std.specs.Prelude.{◌≡◌, ◌≤◌}
-use Rattle.critarea_core.specs.declared.refusal.Refusal.{Refusal}
+use Rattle.run_inputs.specs.declared.refusal.Refusal.{Refusal}
 
 -- the refusal is one of the words, of the map, of a size or a layer that the task names and the map lacks, of the layout's bytes and
 -- shapes, or of a terminal that is not on its metal

@@ -1,7 +1,8 @@
-//! Laws of runs: what they come to is no matter of choice, but for the rectangles of a region file; tiles and workers change none of
-//! it; gauges are told what is asked alone; and region files have the cells of their rows for whoever reads them.
+//! Laws of runs.
 //!
-//! They are laws of the definitions of `critarea_core`, each the contract of a function that does nothing else.
+//! What they come to is no matter of choice, but for the rectangles of a region file; tiles and workers change none of it; gauges are
+//! told what is asked alone; and region files have the cells of their rows for whoever reads them. They are laws of the definitions of
+//! `critarea_core`, each the contract of a function that does nothing else.
 #![tactic(auto)]
 
 mod region_files;
@@ -25,9 +26,9 @@ ghost use Rattle.critarea_core.specs.Layout.{Subject};
 ghost use Rattle.critarea_core.specs.Refusals.{no_such_layer, no_such_size};
 ghost use Rattle.critarea_core.specs.Run.{Change, EndsWith, Gauges, Output};
 ghost use Rattle.critarea_core.specs.Verdict.{IsVerdict, LayoutComesTo, MapComesTo};
-ghost use Rattle.critarea_core.specs.declared.layout_fault.LayoutFault.{LayoutFault};
-ghost use Rattle.critarea_core.specs.declared.query.Query.{Query};
-ghost use Rattle.critarea_core.specs.declared.refusal.Refusal.{Refusal};
+ghost use Rattle.run_inputs.specs.declared.layout_fault.LayoutFault.{LayoutFault};
+ghost use Rattle.run_inputs.specs.declared.query.Query.{Query};
+ghost use Rattle.run_inputs.specs.declared.refusal.Refusal.{Refusal};
 ghost use Rattle.map_model.specs.LayerMap.{LayerMap};
 ghost use Rattle.map_model.specs.declared.measure.Measure.TheVariants.{Radius};
 ghost use Rattle.questions.specs.declared.kind.Kind.{Kind};
@@ -45,13 +46,13 @@ use fault_model::Property;
 pub use region_files::region_files_have_their_cells;
 
 /// A layer map, a top that is wanted or not, and the bytes of a layout come to one subject, or to one refusal, at most.
-#[tactic(auto, using(critarea_core::proofs::laws::VerdictLaws::layout_outcomes_agree))]
+#[tactic(auto, using(run_inputs::proofs::laws::VerdictLaws::layout_outcomes_agree))]
 pub fn layouts_agree()
     ensures { (layer_map : LayerMap) (wanted : Option (List ℕ)) (bytes : List ℕ) → IsUnique (LayoutComesTo layer_map wanted bytes) }
 {}
 
 /// Words have one verdict at most, where files contain this.
-#[tactic(auto, using(critarea_core::proofs::laws::VerdictLaws::verdicts_agree))]
+#[tactic(auto, using(run_inputs::proofs::laws::VerdictLaws::verdicts_agree))]
 pub fn verdicts_agree()
     ensures { (words : List (List ℕ)) (contents : Contents) → IsUnique (IsVerdict words contents) }
 {}

@@ -3,7 +3,8 @@ use Rattle.std.proofs.Common.{ℕ, ◌≡◌, List, [], ◌∷◌, refl, ap, sub
 use Rattle.questions.specs.declared.row.Row.{Row}
 use Rattle.gauges.specs.declared.pair_row.PairRow.{PairRow}
 use Rattle.gauges.specs.GaugeViews.{GaugeView, fresh}
-use Rattle.critarea_core.specs.Run.{change, Files, Output, RunsWith}
+use Rattle.run_inputs.specs.Failures.{change}
+use Rattle.critarea_core.specs.Run.{Files, Output, RunsWith}
 use Rattle.critarea_core.specs.Run as run
 use Rattle.critarea_core.proofs.RunLaws.{runs_to, starts_none}
 

@@ -11,9 +11,9 @@ use Rattle.layout_probe.specs.NearestNets.{AreNearestNets}
 use Rattle.layout_probe.specs.Probe.{IsToldOf}
 use Rattle.layout_probe.specs.declared.metal_near.MetalNear.{MetalNear}
 use Rattle.layout_probe.proofs.laws.ShortLaws.{second_tells}
-use Rattle.critarea_core.specs.Coverage.{IsCoveredOn}
+use Rattle.run_inputs.specs.Coverage.{IsCoveredOn}
+use Rattle.run_inputs.specs.Layout.{Subject}
 use Rattle.critarea_core.specs.Outputs.{IsProbeOn}
-use Rattle.critarea_core.specs.Layout.{Subject}
 
 module _ (layer_map : LayerMap) (covers : ℕ → Cell → Type 0) (c : Cell) where
   -- the item at each place is told of the metal with this number

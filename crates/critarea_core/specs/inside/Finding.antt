@@ -1,17 +1,14 @@
 -- inside this crate: what is found before anything is printed, and how the printing ends. No definition above rests on it.
-use Rattle.std.specs.Prelude.{ℕ, List, [], ◌≡◌, ◌≢◌, Option, length, Result, Ok, Err, Vec}
-use Rattle.lists.specs.Words.{Global, enumerate_from}
-use Rattle.first_refusal.specs.Answers.{Answers}
+use Rattle.std.specs.Prelude.{ℕ, List, [], ◌≡◌, Option, length, Result, Ok, Err}
+use Rattle.lists.specs.Words.{enumerate_from}
 use Rattle.first_refusal.specs.Checks.{Checks}
-use Rattle.first_refusal.specs.Outcomes.{Outcome, Reads, value, refused}
-use Rattle.command_line.specs.declared.task.Task.{Task}
+use Rattle.first_refusal.specs.Outcomes.{Outcome}
 use Rattle.gds_records.specs.RecordSpelling.{spellings}
 use Rattle.gds_write.specs.Written.{written}
 use Rattle.geo_core.specs.Plane.{IsCoveredIn}
 use Rattle.geo_core.specs.declared.plane.Cell.{Cell}
 use Rattle.geo_core.specs.declared.plane.Rect.{Rect}
-use Rattle.map_model.specs.MapNames.{LayerMap, layer_map_of}
-use Rattle.map_model.specs.declared.map.Map.{Map}
+use Rattle.map_model.specs.MapNames.{LayerMap}
 use Rattle.gauges.specs.declared.pair_row.PairRow.{PairRow}
 use Rattle.area_parts.specs.Rows.{AreRows}
 use Rattle.layout_pairs.specs.PairAreas.{ArePairRows}
@@ -25,81 +22,23 @@ use Rattle.net_extract.specs.declared.fault.NetFault.{NetFault}
 use Rattle.questions.specs.declared.kind.Kind.{Kind}
 use Rattle.questions.specs.declared.row.Row.{Row}
 use Rattle.region_out.specs.RegionLibraries.{region_library_of}
-use Rattle.critarea_core.specs.Contents.{MayContain, Source, bytes_from}
-use Rattle.critarea_core.specs.Coverage.{IsCoveredOn}
+use Rattle.run_inputs.specs.Coverage.{IsCoveredOn}
+use Rattle.run_inputs.specs.Inquiries.{Inquiry}
+use Rattle.run_inputs.specs.Refusals.{refusal_text}
+use Rattle.run_inputs.specs.Failures.{Change}
+use Rattle.run_inputs.specs.Layout.{Subject}
+use Rattle.run_inputs.specs.StageAnswers.{FindsInFiles}
+use Rattle.run_inputs.specs.declared.query.Query.{Query}
+use Rattle.run_inputs.specs.declared.query.Query.TheVariants.{Report as for_report, Pairs as for_pairs, Probe as for_probe, Region as for_region}
+use Rattle.run_inputs.specs.declared.refusal.Refusal.{Refusal}
+use Rattle.run_inputs.specs.declared.unreported.Unreported.{Unreported}
+use Rattle.run_inputs.specs.declared.unreported.Unreported.TheVariants.{Refused, FilesFailed, Memory}
 use Rattle.critarea_core.specs.Outputs.{Due, region_room, whole_report}
-use Rattle.critarea_core.specs.Inquiries.{Inquiry}
-use Rattle.critarea_core.specs.Refusals.{layout_limit, layout_too_long, refusal_text}
-use Rattle.critarea_core.specs.Run.{AreToldAll, AreToldSome, AreUnsure, AreUntold, Change, FailsWithin, Gauges, HasRisen}
-use Rattle.critarea_core.specs.Run.{IsCalm, IsIdle, MayComeTo, Output, Takes}
-use Rattle.critarea_core.specs.Layout.{Subject}
-use Rattle.critarea_core.specs.Verdict.{IsShortEnough, MapComesTo}
+use Rattle.critarea_core.specs.Run.{AreToldAll, AreToldSome, AreUnsure, AreUntold, FailsWithin, Gauges}
+use Rattle.critarea_core.specs.Run.{IsIdle, MayComeTo, Output, Takes}
 use Rattle.critarea_core.specs.declared.found.CriticalRegion.{CriticalRegion}
 use Rattle.critarea_core.specs.declared.found.Found.{Found}
 use Rattle.critarea_core.specs.declared.found.Found.TheVariants.{Report as Rows, Pairs as Tables, Probe as Probed, Region as Cells}
-use Rattle.critarea_core.specs.declared.query.Query.{Query}
-use Rattle.critarea_core.specs.declared.query.Query.TheVariants.{Report as for_report, Pairs as for_pairs, Probe as for_probe, Region as for_region}
-use Rattle.critarea_core.specs.declared.layout_fault.LayoutFault.{LayoutFault}
-use Rattle.critarea_core.specs.declared.layout_fault.LayoutFault.TheVariants.{Memory as LayoutMemory}
-use Rattle.critarea_core.specs.declared.refusal.Refusal.{Refusal}
-use Rattle.critarea_core.specs.declared.unreported.Unreported.{Unreported}
-use Rattle.critarea_core.specs.declared.unreported.Unreported.TheVariants.{Refused, FilesFailed, Memory}
-
--- ---- faults, as why there is no report
-
--- a fault is told as this error: as its own, or as want of memory, if it is that
-pub data IsToldAs {F E : Type 0} (low : F) (memory : E) (as_error : F → E) (fault : F) (error : E) : Type 0 where
-  as_memory : fault ≡ low → error ≡ memory → IsToldAs low memory as_error fault error
-  as_known : fault ≢ low → error ≡ as_error fault → IsToldAs low memory as_error fault error
-
--- ---- what stages come to
-
--- the outcome of a stage in the code's words: a thing that is so for the stage's value, or the stage's refusal as this error
-pub data Gives {T V F E : Type 0} (as_error : F → E) (Stage : Outcome V F → Type 0) (IsFor : V → T → Type 0) : Outcome T E → Type 0 where
-  gives_thing : {v : V} {thing : T} → Stage (value v) → IsFor v thing → Gives as_error Stage IsFor (value thing)
-  gives_refusal : {refusal : F} → Stage (refused refusal) → Gives as_error Stage IsFor (refused (as_error refusal))
-
--- the answer is that, or that no memory is left
-abbrev pub Finds : {T V : Type 0} → (Outcome V Refusal → Type 0) → (V → T → Type 0) → Result T Unreported → Type 0
-Finds Stage IsFor = Answers Memory (Gives (λ refusal. Refused refusal) Stage IsFor)
-
--- the same of a layout, whose faults are answered as they are
-abbrev pub Analyses : {T V : Type 0} → (Outcome V LayoutFault → Type 0) → (V → T → Type 0) → Result T LayoutFault → Type 0
-Analyses Stage IsFor = Answers LayoutMemory (Gives (λ fault. fault) Stage IsFor)
-
--- where files are read for it: none failed and the answer is so; or they failed, and then this is so of them
-pub data FindsInFiles {T V : Type 0} (failures : Change ℕ) (Unsure : Type 0) (Stage : Outcome V Refusal → Type 0) (IsFor : V → T → Type 0)
-    : Result T Unreported → Type 0 where
-  files_serve : {answer : Result T Unreported} → IsCalm failures → Finds Stage IsFor answer
-      → FindsInFiles failures Unsure Stage IsFor answer
-  files_fail : HasRisen failures → Unsure → FindsInFiles failures Unsure Stage IsFor (Err FilesFailed)
-
--- ---- maps and layouts
-
--- some bytes that the files may have make this of the source: its own bytes, or this refusal where they are more than the limit
-pub record BytesMayCome (told : List ℕ → Option (List ℕ)) (source : Source) (limit : ℕ) (too_long : Refusal)
-    (outcome : Outcome (List ℕ) Refusal) : Type 0 where
-  pub bytes : List ℕ → List ℕ
-  pub may_be : MayContain told bytes
-  pub comes : Reads (IsShortEnough limit (bytes_from bytes source)) too_long outcome
-
--- the same of a layout from there
-abbrev pub LayoutMayCome : (List ℕ → Option (List ℕ)) → Source → Outcome (List ℕ) Refusal → Type 0
-LayoutMayCome told source = BytesMayCome told source layout_limit layout_too_long
-
--- those are the bytes
-abbrev pub AreItems : List ℕ → Vec ℕ Global → Type 0
-AreItems bytes read = bytes ≡ read.items
-
--- some bytes that the files may have where they are read as maps make the task's map come to this
-pub record MapMayCome (told : List ℕ → Option (List ℕ)) (task : Task) (outcome : Outcome LayerMap Refusal) : Type 0 where
-  pub bytes : List ℕ → List ℕ
-  pub may_be : MayContain told bytes
-  pub comes : MapComesTo task bytes outcome
-
--- the map stands for the layer map
-abbrev pub IsMapOf : LayerMap → Map → Type 0
-IsMapOf layer_map made = layer_map ≡ layer_map_of made
 
 -- ---- what is found of a layout
 

@@ -2,9 +2,9 @@ use Rattle.std.proofs.Common.{◌∙◌, ap, length, option_copied}
 use Rattle.geo_core.specs.Plane.{IsCoveredIn}
 use Rattle.map_model.specs.MapNames.{LayerMap, layers_of, layer_map_of}
 use Rattle.area_parts.specs.Rows.{AreRows}
+use Rattle.run_inputs.proofs.laws.LayerCounts.{layer_count}
+use Rattle.run_inputs.proofs.laws.ReadingLaws.{found_for}
 use Rattle.critarea_core.proofs.AnalysisLaws.{HasRows, analysed, no_layers, no_library, off_metals, on_metals}
-use Rattle.critarea_core.proofs.LayerLaws.{layer_count}
-use Rattle.critarea_core.proofs.ReadingLaws.{found_for}
 use Rattle.critarea_core.proofs.TerminalLaws.{as_rows}
 use Rattle.critarea_core.proofs.analysis.analyse.Goals as goal
 

@@ -2,10 +2,10 @@ use Rattle.std.proofs.Common.{◌∙◌, ap, length, option_copied}
 use Rattle.geo_core.specs.Plane.{IsCoveredIn}
 use Rattle.map_model.specs.MapNames.{LayerMap, layers_of, layer_map_of}
 use Rattle.region_out.specs.RegionLibraries.{units_of}
+use Rattle.run_inputs.proofs.laws.LayerCounts.{layer_count}
+use Rattle.run_inputs.proofs.laws.ReadingLaws.{found_for}
 use Rattle.critarea_core.specs.inside.Finding.{HasFound, IsFoundIn}
 use Rattle.critarea_core.proofs.AnalysisLaws.{no_layers, no_library, off_metals, on_metals}
-use Rattle.critarea_core.proofs.LayerLaws.{layer_count}
-use Rattle.critarea_core.proofs.ReadingLaws.{found_for}
 use Rattle.critarea_core.proofs.TerminalLaws.{as_found}
 use Rattle.critarea_core.proofs.analysis.find_in_layout.Goals as goal
 

@@ -11,7 +11,7 @@ use Rattle.pair_report.specs.PairRows.{pair_rows}
 use Rattle.layout_pairs.specs.PairAreas.{ArePairRows}
 use Rattle.layout_probe.specs.Probe.{IsProbe}
 use Rattle.layout_regions.specs.Regions.{IsRegion}
-use Rattle.critarea_core.specs.declared.query.Query.TheVariants.{Report, Pairs, Probe, Region}
+use Rattle.run_inputs.specs.declared.query.Query.TheVariants.{Report, Pairs, Probe, Region}
 use Rattle.critarea_core.specs.inside.Finding.{IsFoundIn}
 use Rattle.critarea_core.proofs.analysis.find_on_layers.Goals as goal
 

@@ -1,9 +1,9 @@
 use Rattle.std.proofs.Common.{◌≡◌, ◌≢◌, Err, ap, refl}
 use Rattle.command_line.specs.declared.fault.WordsFault.{WordsFault}
 use Rattle.command_line.specs.declared.fault.WordsFault.TheVariants.{Memory, Usage}
-use Rattle.critarea_core.specs.inside.Finding.{files_serve}
-use Rattle.critarea_core.specs.Refusals.{usage}
-use Rattle.critarea_core.proofs.ReadingLaws.{not_read}
+use Rattle.run_inputs.specs.StageAnswers.{files_serve}
+use Rattle.run_inputs.specs.Refusals.{usage}
+use Rattle.run_inputs.proofs.laws.ReadingLaws.{not_read}
 use Rattle.critarea_core.proofs.RunLaws.{starts_none, words_refused}
 use Rattle.critarea_core.proofs.command.find.Goals as goal
 

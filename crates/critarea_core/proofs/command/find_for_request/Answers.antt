@@ -1,4 +1,4 @@
-use Rattle.critarea_core.proofs.ReadingLaws.{found_short}
+use Rattle.run_inputs.proofs.laws.ReadingLaws.{found_short}
 use Rattle.critarea_core.proofs.RunLaws.{fault_on_layout, found_on_layout, map_unfit, no_layout, no_map, starts_both, starts_map}
 use Rattle.critarea_core.proofs.command.find_for_request.Goals as goal
 

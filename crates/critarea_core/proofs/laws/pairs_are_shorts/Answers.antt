@@ -1,4 +1,4 @@
-use Rattle.critarea_core.specs.Coverage.{IsCoveredOn}
+use Rattle.run_inputs.specs.Coverage.{IsCoveredOn}
 use Rattle.layout_pairs.proofs.laws.ReportLaws.{no_rows_no_areas, shorts_are_touches}
 use Rattle.critarea_core.proofs.laws.pairs_are_shorts.Goals as goal
 

@@ -1,4 +1,4 @@
-use Rattle.critarea_core.specs.Coverage.{IsCoveredOn}
+use Rattle.run_inputs.specs.Coverage.{IsCoveredOn}
 use Rattle.layout_regions.proofs.laws.RegionLaws.{area_at_place, area_by_name}
 use Rattle.critarea_core.proofs.laws.region_counts.Goals as goal
 

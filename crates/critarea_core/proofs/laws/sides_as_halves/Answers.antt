@@ -1,7 +1,7 @@
 use Rattle.std.proofs.Common.{◌-◌, ◌/◌, arith, refl}
 use Rattle.fault_model.proofs.FaultLaws.{block_at, none_at, short_at}
 use Rattle.fault_model.proofs.SizeLaws.{swallowed, touched}
-use Rattle.critarea_core.specs.Coverage.{IsCoveredOn}
+use Rattle.run_inputs.specs.Coverage.{IsCoveredOn}
 use Rattle.critarea_core.proofs.laws.sides_as_halves.Goals as goal
 
 pub returns-clause-touches : goal.returns-clause-touches

@@ -1,7 +1,0 @@
-use Rattle.std.proofs.Common.{◌≡◌, take}
-use Rattle.lists.proofs.Words.{zip}
-use Rattle.critarea_core.specs.inside.LayoutReaders.{rects_on}
-use Rattle.critarea_core.proofs.layers.rects_on.Given as goal
-
-abbrev pub invariant-loop-k : goal.invariant-loop-k
-invariant-loop-k l = l.rects.items ≡ rects_on l.number (take l.k (zip l.placed l.covers))
