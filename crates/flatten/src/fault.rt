@@ -6,7 +6,7 @@ use std::alloc::{AllocError, AllocFailed};
 use thiserror::Error;
 
 /// Why a library's shapes are not placed. What comes first here comes first where there is more than one reason.
-#[derive(Clone, Copy, Debug, PartialEq, Eq, Error)]
+#[derive(Clone, Copy, Debug, Error)]
 pub enum PlaceFault {
     /// The reference at this offset names no structure of the library: the first such, whether the top reaches it or not.
     #[error("the reference at byte {at} names no structure")]

@@ -16,7 +16,7 @@ use thiserror::Error;
 /// | 100, 110, 120, .. | the first, second, third, .. item of `metal`; its `name` is 1 further, its `pairs` 2 |
 /// | 300, 310, 320, .. | those of `cut`; `name`, `pairs`, `lower` and `upper` are 1, 2, 3 and 4 further |
 /// | 1000, 1010, 1020, .. | those of `terminal`; `metal`, `x` and `y` are 1, 2 and 3 further |
-#[derive(Clone, Copy, Debug, PartialEq, Eq, Error)]
+#[derive(Clone, Copy, Debug, Error)]
 pub enum MapFault {
     /// The bytes are no text in UTF-8, or the text is no TOML document, by TOML 1.1 as the crate `toml` reads it. So
     /// whole numbers beyond 64 bits and values nested more than 80 deep are refused here, too.

@@ -7,7 +7,7 @@ use std::alloc::{AllocError, AllocFailed};
 use thiserror::Error;
 
 /// Why bytes are no library: the first fault in them. Each offset is in bytes from the start of the stream.
-#[derive(Clone, Copy, Debug, PartialEq, Eq, Error)]
+#[derive(Clone, Copy, Debug, Error)]
 pub enum SyntaxFault {
     /// Bytes that do not begin with a record that is taken, where one has to follow.
     #[error("bytes are no record")]

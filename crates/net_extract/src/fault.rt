@@ -6,7 +6,7 @@ use std::alloc::{AllocError, AllocFailed};
 use thiserror::Error;
 
 /// Why layers have no nets with anchors.
-#[derive(Clone, Copy, Debug, PartialEq, Eq, Error)]
+#[derive(Clone, Copy, Debug, Error)]
 pub enum NetFault {
     /// The metal of the terminal with this number, counted from 0, does not cover the terminal's cell.
     #[error("terminal {index} is not on its metal")]

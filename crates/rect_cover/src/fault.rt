@@ -8,7 +8,7 @@ use thiserror::Error;
 /// Why a shape is not cut into rectangles. Each offset is that of the shape. The checks of a path come in this order, but
 /// that `BadExtension` comes twice and `OutOfRange` last: first round ends, then unknown ends, an odd width, equal points,
 /// slanted edges, a way back, a piece that is eaten up, and a piece too far out.
-#[derive(Clone, Copy, Debug, PartialEq, Eq, Error)]
+#[derive(Clone, Copy, Debug, Error)]
 pub enum CoverFault {
     /// The path has round ends, which is PATHTYPE 1.
     #[error("the shape at byte {at} has round ends")]

@@ -18,7 +18,7 @@ use rect_cover::CoverFault;
 use thiserror::Error;
 
 /// Why a layout has no rows: its first fault. What comes first here is looked at first.
-#[derive(Clone, Copy, Debug, PartialEq, Eq, Error)]
+#[derive(Clone, Copy, Debug, Error)]
 pub enum LayoutFault {
     /// Its bytes are no library.
     #[error(transparent)]

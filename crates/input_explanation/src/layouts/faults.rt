@@ -102,7 +102,7 @@ pub fn tell_syntax(told: &mut Telling, layout: &Layout<'_>, fault: SyntaxFault) 
         fault,
         SyntaxFault::Record(_) | SyntaxFault::Unexpected { .. }
     );
-    if fault == SyntaxFault::Memory {
+    if matches!(fault, SyntaxFault::Memory) {
         told.lose();
     } else if is_of_record && !is_gdsii(layout.bytes) {
         tell_no_gdsii(told, layout, fault);

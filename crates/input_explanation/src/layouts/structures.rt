@@ -221,12 +221,12 @@ pub fn tell_place_fault(
     requires differ { AreDifferent (names_of library.now.structures) }
     requires few { length library.now.structures < 2 ^ 32 }
 {
-    if fault == PlaceFault::Memory {
+    if matches!(fault, PlaceFault::Memory) {
         told.lose();
         return;
     }
     let structures = library.structures.as_slice();
-    if fault == PlaceFault::NoTop {
+    if matches!(fault, PlaceFault::NoTop) {
         let tops = found_tops(told, library);
         tell_no_top(told, layout, structures, tops.as_slice());
         return;

@@ -322,7 +322,7 @@ fn tell_document(told: &mut Telling, name: &[u8], bytes: &[u8], document: &Table
 
 /// Tells why these bytes of the map of this name are no layer map.
 pub fn tell_map_fault(told: &mut Telling, name: &[u8], bytes: &[u8], fault: MapFault) {
-    if fault == MapFault::Memory {
+    if matches!(fault, MapFault::Memory) {
         told.lose();
         return;
     }
