@@ -1,5 +1,6 @@
 pub mod MatchLaws
 pub mod SpellingLaws
+pub mod OptionLaws
 pub mod ReadingLaws
 pub mod CheckLaws
 pub mod AloneLaws

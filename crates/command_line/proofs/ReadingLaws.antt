@@ -1,5 +1,5 @@
 -- what readers of texts and of words answer
-use Rattle.std.proofs.Common.{Bor, List, [], ◌∷◌, ◌++◌, ◌≡◌, ◌≢◌, ◌∙◌, sym, ap, refl, arith, Option, Some, None, subst, true, false, codes, append_assoc, length, ◌<◌}
+use Rattle.std.proofs.Common.{Bor, List, [], ◌∷◌, ◌++◌, ◌≡◌, ◌≢◌, ◌∙◌, sym, ap, refl, arith, Option, Some, None, subst, true, codes, append_assoc, length, ◌<◌}
 use Rattle.lists.proofs.Words.{flat_map, bytes_eq, bytes_eq-Decides, append-nil, All-append, All-cons, All-nil, flat_map-append}
 use Rattle.command_line.specs.declared.argument.ReadArgument.{ReadArgument}
 use Rattle.command_line.specs.declared.argument.ReadArgument.TheVariants.{Setting, Position}
@@ -41,12 +41,12 @@ fewer words rest read first = go first.argument first.words_are where
 pub dashes_are_last : (words rest : List Text) (word : Text) → words ≡ word ∷ rest → true ≡ bytes_eq word (codes "--") → AreLast words
 dashes_are_last words rest word e is = (Some rest, e ∙ ap (λ w. w ∷ rest) ((bytes_eq-Decides word (codes "--")).0 (sym is)))
 
-pub no_option_first : (words rest : List Text) (word told : Text) → words ≡ word ∷ rest → (IsPlain word → ⊥) → false ≡ bytes_eq word (codes "--")
+pub no_option_first : (words rest : List Text) (word told : Text) → words ≡ word ∷ rest → (IsPlain word → ⊥) → word ≢ codes "--"
     → ((name : OptionName) (value : Option Text) → word ≢ option_word name value) → told ≡ word → BeginWithNone words (NoOption told)
 no_option_first words rest word told e not_plain not_dashes none same =
     let no : IsNoOption word = record {
       not_plain = not_plain;
-      not_last = λ dashes. let s : false ≡ true = not_dashes ∙ (bytes_eq-Decides word (codes "--")).1 dashes in cc s;
+      not_last = not_dashes;
       no_name = λ name. none name None;
       no_setting = λ name value. none name (Some value);
     } in

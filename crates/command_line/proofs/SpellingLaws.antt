@@ -38,16 +38,16 @@ named name =
 pub same_name : (n m : OptionName) → name_of n ≡ name_of m → n ≡ m
 same_name n m e = let s : Some n ≡ Some m = sym (named n) ∙ ap option_named e ∙ named m in cc s
 
-abbrev is_equals : ℕ → Bool
+abbrev pub is_equals : ℕ → Bool
 is_equals c = c == 61
 
-abbrev name_in : Text → Text
+abbrev pub name_in : Text → Text
 name_in word = before_first is_equals (drop 2 word)
 
 abbrev value_in : Text → Text
 value_in word = after_first is_equals (drop 2 word)
 
-name_is_in : (n : OptionName) (v : Text) → name_in (whole_word n v) ≡ name_of n
+pub name_is_in : (n : OptionName) (v : Text) → name_in (whole_word n v) ≡ name_of n
 name_is_in name v =
     elim name as (λ n. name_in (whole_word n v) ≡ name_of n) [
       | Map ↦ refl
@@ -95,7 +95,7 @@ has_equals name v =
       | Regions ↦ refl
     ]
 
-has_no_equals : (n : OptionName) → list_any is_equals (name_word n) ≡ false
+pub has_no_equals : (n : OptionName) → list_any is_equals (name_word n) ≡ false
 has_no_equals name =
     elim name as (λ n. list_any is_equals (name_word n) ≡ false) [
       | Map ↦ refl

@@ -1,4 +1,4 @@
-ghost use Rattle.std.specs.Prelude.{◌≡◌, ◌≢◌, ◌↔◌, Option, IsTrue, IfSome, IfNone, IfOk, IfErr, MatchOption, option_map};
+ghost use Rattle.std.specs.Prelude.{◌≡◌, ◌≢◌, ◌∷◌, ◌↔◌, Option, codes, IsTrue, IfSome, IfNone, IfOk, IfErr, MatchOption, option_map};
 ghost use Rattle.command_line.specs.inside.Arguments.{AreLast, BeginWith, option_word};
 ghost use Rattle.command_line.specs.inside.WordsRefusals.{HasCause};
 ghost use Rattle.command_line.specs.OptionNames.{Text};
@@ -40,6 +40,36 @@ fn option_in(word: &str) -> Option<(OptionName, Option<&str>)>
     }
 }
 
+/// The option in the word that is the first of some, with the value in that word or in the one after it, and the words after the
+/// value.
+fn setting_of<'a>(
+    alloc: Global,
+    word: &'a str,
+    rest: &'a [Word],
+) -> Result<Option<(ReadArgument<'a>, &'a [Word])>, Refusal>
+    requires not_plain { IsPlain word.now → ⊥ }
+    requires not_last { word.now ≢ codes "--" }
+    ensures argument { let words = word.now ∷ rest.now in IfOk result (λ first.
+        MatchOption first (AreLast words) (λ found. BeginWith words found.0 found.1.now)) }
+    ensures cause { IfErr result (HasCause (BeginWithNone (word.now ∷ rest.now))) }
+{
+    let Some((name, value)) = option_in(word) else {
+        return Err(Refusal::Words(WordsCause::NoOption(name_from(alloc, word)?)));
+    };
+    if let Some(value) = value {
+        return Ok(Some((ReadArgument::Setting(name, value), rest)));
+    }
+    let Some((value, rest)) = rest.split_first() else {
+        return Err(Refusal::Words(WordsCause::NoValue(name)));
+    };
+    let value = value.as_str();
+    if !is_plain(value) {
+        let value = name_from(alloc, value)?;
+        return Err(Refusal::Words(WordsCause::DashedValue(name, value)));
+    }
+    Ok(Some((ReadArgument::Setting(name, value), rest)))
+}
+
 /// The argument with which the words begin, and the words after it. There is none at the end of the arguments: where no words
 /// are left, or the first is two dashes.
 pub fn first_argument(
@@ -60,19 +90,5 @@ pub fn first_argument(
     if word == "--" {
         return Ok(None);
     }
-    let Some((name, value)) = option_in(word) else {
-        return Err(Refusal::Words(WordsCause::NoOption(name_from(alloc, word)?)));
-    };
-    if let Some(value) = value {
-        return Ok(Some((ReadArgument::Setting(name, value), rest)));
-    }
-    let Some((value, rest)) = rest.split_first() else {
-        return Err(Refusal::Words(WordsCause::NoValue(name)));
-    };
-    let value = value.as_str();
-    if !is_plain(value) {
-        let value = name_from(alloc, value)?;
-        return Err(Refusal::Words(WordsCause::DashedValue(name, value)));
-    }
-    Ok(Some((ReadArgument::Setting(name, value), rest)))
+    setting_of(alloc, word, rest)
 }

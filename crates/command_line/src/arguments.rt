@@ -18,11 +18,10 @@ pub struct Arguments<'a> {
 }
 
 impl<'a> Arguments<'a> {
-    ghost use Rattle.std.specs.Prelude.{ℕ, ◌≤◌, ◌<◌, ◌==◌, [], All, Contains, IfErr, IfNone, IfSome, count_by, length};
-    ghost use Rattle.std.specs.List.{list_any};
+    ghost use Rattle.std.specs.Prelude.{◌≤◌, ◌<◌, [], All, Contains, IfErr, IfNone, IfSome, MatchBool, count_by, length};
     ghost use Rattle.std.specs.Str.{bytes_eq};
     ghost use Rattle.command_line.specs.OptionNames.{name_of};
-    ghost use Rattle.command_line.specs.inside.Arguments.{AreSingle, given_by, one_form, words_of_options};
+    ghost use Rattle.command_line.specs.inside.Arguments.{AreSingle, given_by, one_form, position_words, words_of_options};
     ghost use Rattle.command_line.specs.inside.Arguments.{options_read, positions_read};
     ghost use Rattle.command_line.specs.inside.WordsRefusals.{HasCause, IsFirstCause};
     ghost use Rattle.command_line.specs.Requests.{HasNoEmptyText, IsNotEmpty, values_of};
@@ -94,19 +93,27 @@ impl<'a> Arguments<'a> {
 
     /// Whether a positional word is empty.
     fn has_empty_position(&self) -> bool
-        ensures { result ≡ list_any (λ word. length word.now == 0) self.now.positions.items }
+        ensures { MatchBool result (Contains (given_by self.now).positions []) (All IsNotEmpty (given_by self.now).positions) }
     {
-        self.positions.iter().any(|word| word.is_empty())
+        for word in &self.positions {
+            if word.is_empty() {
+                return true;
+            }
+        }
+        false
     }
 
     /// How often the option is given.
     fn count(&self, name: OptionName) -> usize
         ensures { result ≡ count_by (λ option. bytes_eq (name_of option.0) (name_of name)) self.now.options.items }
     {
-        self.options
-            .iter()
-            .filter(|option| option.0.text() == name.text())
-            .count()
+        let mut count = 0;
+        for option in &self.options {
+            if option.0.text() == name.text() {
+                count += 1;
+            }
+        }
+        count
     }
 
     /// The first of all options that is given more than once.
@@ -146,28 +153,37 @@ impl<'a> Arguments<'a> {
         Ok(())
     }
 
-    /// The options, each in one word.
-    fn option_words(&self, alloc: Global) -> Result<Vec<String>, AllocError>
-        ensures { IfOk result (λ words. map string_bytes words.items ≡ words_of_options (given_by self.now).options) }
+    /// The words with the options more, each in one word.
+    fn push_options(&self, alloc: Global, words: &mut Vec<String>) -> Result<(), AllocError>
+        ensures { OnOk result (map string_bytes words.new.items ≡ map string_bytes words.old.items ++ words_of_options (given_by self.now).options) }
     {
-        let mut words = Vec::new(alloc);
         for &(name, value) in &self.options {
             words.push(whole_word(alloc, name, value)?)?;
         }
-        Ok(words)
+        Ok(())
+    }
+
+    /// The words with the positional words more, behind two dashes where there are any.
+    fn push_behind_dashes(&self, alloc: Global, words: &mut Vec<String>) -> Result<(), AllocError>
+        ensures { OnOk result (map string_bytes words.new.items ≡ map string_bytes words.old.items ++ position_words (given_by self.now).positions) }
+    {
+        if self.positions.is_empty() {
+            return Ok(());
+        }
+        push_text(alloc, words, "--")?;
+        for position in &self.positions {
+            push_text(alloc, words, position)?;
+        }
+        Ok(())
     }
 
     /// The words in which the same is said for `clap`: each option in one word, and then the positional words.
     pub fn in_one_form(&self, alloc: Global) -> Result<Vec<String>, AllocError>
         ensures { IfOk result (λ words. map string_bytes words.items ≡ one_form (given_by self.now)) }
     {
-        let mut words = self.option_words(alloc)?;
-        if !self.positions.is_empty() {
-            push_text(alloc, &mut words, "--")?;
-        }
-        for position in &self.positions {
-            push_text(alloc, &mut words, position)?;
-        }
+        let mut words = Vec::new(alloc);
+        self.push_options(alloc, &mut words)?;
+        self.push_behind_dashes(alloc, &mut words)?;
         Ok(words)
     }
 }

@@ -8,7 +8,6 @@ use std::alloc::{AllocError, AllocFailed};
 
 /// Why words ask for nothing. The kinds of causes stand in the order in which they are told; of the first four words have one
 /// at most, and the last seven are one kind: a value that is not of its option's form.
-#[derive(Drop)]
 pub enum WordsCause {
     /// There are no words.
     NoWords,
@@ -61,6 +60,38 @@ pub enum WordsCause {
     /// The first two parts of the value of `regions` are a kind's word and a layer's name, and this third part is no number of a
     /// size.
     BadSizeNumber(Name),
+}
+
+// A derived `Drop` would be written out at each exit at which a cause is alive. This one is a call there.
+impl Drop for WordsCause {
+    fn drop(self) {
+        match self {
+            WordsCause::NoWords
+            | WordsCause::NoValue(_)
+            | WordsCause::EmptyValue(_)
+            | WordsCause::EmptyLayout
+            | WordsCause::Twice(_)
+            | WordsCause::NoLayout
+            | WordsCause::BesideGenerate(_)
+            | WordsCause::BesideMap(_)
+            | WordsCause::NoMap(_)
+            | WordsCause::TwoTasks(_, _)
+            | WordsCause::BesideTask(_, _)
+            | WordsCause::NoMetals
+            | WordsCause::Missing(_) => {}
+            WordsCause::NoOption(_text)
+            | WordsCause::DashedValue(_, _text)
+            | WordsCause::LayoutBesideGenerate(_text)
+            | WordsCause::BadNumber(_, _text)
+            | WordsCause::NoCell(_text)
+            | WordsCause::BadCoordinate(_, _text)
+            | WordsCause::NoRegion(_text)
+            | WordsCause::BadKind(_text)
+            | WordsCause::BadLayerName(_text)
+            | WordsCause::BadSizeNumber(_text) => {}
+            WordsCause::TwoLayouts(_one, _other) => {}
+        }
+    }
 }
 
 /// Why words are answered with no request, as the reader of words knows it.

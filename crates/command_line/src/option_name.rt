@@ -116,19 +116,12 @@ impl OptionName {
         ensures some { IfSome result (λ option. name.now ≡ name_of option) }
         ensures none { IfNone result ((option : OptionName) → name.now ≢ name_of option) }
     {
-        match name {
-            "map" => Some(OptionName::Map),
-            "top" => Some(OptionName::Top),
-            "tile" => Some(OptionName::Tile),
-            "workers" => Some(OptionName::Workers),
-            "layer" => Some(OptionName::Layer),
-            "datatype" => Some(OptionName::Datatype),
-            "radius" => Some(OptionName::Radius),
-            "generate" => Some(OptionName::Generate),
-            "pairs" => Some(OptionName::Pairs),
-            "probe" => Some(OptionName::Probe),
-            "regions" => Some(OptionName::Regions),
-            _ => None,
+        let options: &[OptionName] = &OPTIONS;
+        for option in options {
+            if name == option.text() {
+                return Some(*option);
+            }
         }
+        None
     }
 }

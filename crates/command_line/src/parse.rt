@@ -13,18 +13,6 @@ use std::alloc::{AllocError, Global};
 /// The name by which the positional word is asked for.
 pub const LAYOUT: &str = "layout";
 
-/// The command with one option more, which takes one text.
-fn with_option<'a>(
-    alloc: Global,
-    command: Command<'a>,
-    name: OptionName,
-) -> Result<Command<'a>, AllocError>
-    ensures { IfOk result (λ more. app_of more ≡ with_rule (app_of command.entry) (rule_of_option name)) }
-{
-    let text: &'a str = name.text();
-    command.arg(Arg::new(alloc, text).long(text))
-}
-
 /// The command as `clap` sees it: options that take one text each, and a positional word.
 fn command<'a>(alloc: Global) -> Result<Command<'a>, AllocError>
     ensures { IfOk result (λ command. app_of command ≡ whole_command) }
@@ -32,7 +20,8 @@ fn command<'a>(alloc: Global) -> Result<Command<'a>, AllocError>
     let mut command = Command::new(alloc, "critarea").no_binary_name(true);
     let options: &[OptionName] = &OPTIONS;
     for name in options {
-        command = with_option(alloc, command, *name)?;
+        let text: &'a str = name.text();
+        command = command.arg(Arg::new(alloc, text).long(text))?;
     }
     command.arg(Arg::new(alloc, LAYOUT))
 }

@@ -3,7 +3,6 @@ use lists::Name;
 use questions::Kind;
 
 /// What a command is to do.
-#[derive(Drop)]
 pub enum Task {
     /// The areas of one metal, which is all shapes of one layer and datatype, for defects of one radius.
     OneMetal {
@@ -69,4 +68,45 @@ pub enum Task {
         /// How many columns the layout has, and how many rows: from 1 to 500.
         n: u32,
     },
+}
+
+// A derived `Drop` would be written out at each exit at which a task is alive. This one is a call there.
+impl Drop for Task {
+    fn drop(self) {
+        match self {
+            Task::OneMetal {
+                layout: _layout,
+                layer: _,
+                datatype: _,
+                radius: _,
+                top: _top,
+            } => {}
+            Task::Mapped {
+                layout: _layout,
+                map: _map,
+                top: _top,
+            }
+            | Task::Pairs {
+                layout: _layout,
+                map: _map,
+                top: _top,
+                size: _,
+            }
+            | Task::Probe {
+                layout: _layout,
+                map: _map,
+                top: _top,
+                cell: _,
+            } => {}
+            Task::Regions {
+                layout: _layout,
+                map: _map,
+                top: _top,
+                kind: _,
+                layer: _layer,
+                size: _,
+            } => {}
+            Task::Generated { n: _ } => {}
+        }
+    }
 }

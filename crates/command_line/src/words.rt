@@ -254,23 +254,42 @@ fn regions_given(alloc: Global, matches: &ArgMatches<'_>) -> Result<(Kind, Name,
     Ok((kind, name, size))
 }
 
+/// The names of a layout and a map, and that of the structure where one is wanted.
+fn names_given(
+    alloc: Global,
+    matches: &ArgMatches<'_>,
+    layout: &str,
+    map: &str,
+) -> Result<(Name, Name, Option<Name>), AllocError>
+    requires layout { positions_found matches.now ≡ layout.now ∷ [] }
+    requires map { values_found matches.now OptionName.Map ≡ map.now ∷ [] }
+    ensures layout { IfOk result (λ names. positions_found matches.now ≡ names.0 ∷ []) }
+    ensures map { IfOk result (λ names. values_found matches.now OptionName.Map ≡ names.1 ∷ []) }
+    ensures top { IfOk result (λ names. IsTextIfGiven (values_found matches.now OptionName.Top) names.2) }
+{
+    let layout = name_from(alloc, layout)?;
+    let map = name_from(alloc, map)?;
+    let top = name_if_given(alloc, text_of(matches, OptionName::Top))?;
+    Ok((layout, map, top))
+}
+
 /// The task of this option, which alone asks for something other than a report, on a layout and a map of these names.
 fn asked_task(
     alloc: Global,
     matches: &ArgMatches<'_>,
     asked: OptionName,
-    layout: Name,
-    map: Name,
-    top: Option<Name>,
+    layout: &str,
+    map: &str,
 ) -> Result<Task, Refusal>
-    requires layout { positions_found matches.now ≡ layout ∷ [] }
-    requires map { values_found matches.now OptionName.Map ≡ map ∷ [] }
-    requires top { IsTextIfGiven (values_found matches.now OptionName.Top) top }
+    requires layout { positions_found matches.now ≡ layout.now ∷ [] }
+    requires map { values_found matches.now OptionName.Map ≡ map.now ∷ [] }
     requires one { AskOne (values_found matches.now) asked }
     ensures task { IfOk result (IsTask (values_found matches.now) (positions_found matches.now)) }
     ensures no_other { IfOk result (λ task. GiveNoOther (values_found matches.now) (options_for task)) }
     ensures cause { IfErr result (HasCause (IsFirstCause (IsCauseOf (values_found matches.now) (positions_found matches.now)))) }
 {
+    let names = names_given(alloc, matches, layout, map)?;
+    let (layout, map, top) = names;
     match asked {
         OptionName::Pairs => {
             let size = number_of_given(alloc, matches, OptionName::Pairs, SIZES)?;
@@ -306,17 +325,15 @@ fn asked_task(
     }
 }
 
-/// The task of these matches on a layout and a map of these names, for the structure of this name where one is wanted.
+/// The task of these matches on a layout and a map of these names.
 fn task_on_map(
     alloc: Global,
     matches: &ArgMatches<'_>,
-    layout: Name,
-    map: Name,
-    top: Option<Name>,
+    layout: &str,
+    map: &str,
 ) -> Result<Task, Refusal>
-    requires layout { positions_found matches.now ≡ layout ∷ [] }
-    requires map { values_found matches.now OptionName.Map ≡ map ∷ [] }
-    requires top { IsTextIfGiven (values_found matches.now OptionName.Top) top }
+    requires layout { positions_found matches.now ≡ layout.now ∷ [] }
+    requires map { values_found matches.now OptionName.Map ≡ map.now ∷ [] }
     requires no_columns { values_found matches.now OptionName.Generate ≡ [] }
     ensures task { IfOk result (IsTask (values_found matches.now) (positions_found matches.now)) }
     ensures no_other { IfOk result (λ task. GiveNoOther (values_found matches.now) (options_for task)) }
@@ -326,6 +343,7 @@ fn task_on_map(
         return Err(Refusal::Words(WordsCause::BesideMap(name)));
     }
     let Some((asked, behind)) = first_and_behind(matches, &TASK_OPTIONS) else {
+        let (layout, map, top) = names_given(alloc, matches, layout, map)?;
         return Ok(Task::Mapped { layout, map, top });
     };
     if let Some(also) = first_given(matches, behind) {
@@ -334,7 +352,32 @@ fn task_on_map(
     if let Some(name) = first_given(matches, &WORK_OPTIONS) {
         return Err(Refusal::Words(WordsCause::BesideTask(asked, name)));
     }
-    asked_task(alloc, matches, asked, layout, map, top)
+    asked_task(alloc, matches, asked, layout, map)
+}
+
+/// The task of these matches, in which the layout of this name is named, and no map.
+fn metal_task(alloc: Global, matches: &ArgMatches<'_>, layout: &str) -> Result<Task, Refusal>
+    requires layout { positions_found matches.now ≡ layout.now ∷ [] }
+    requires no_map { values_found matches.now OptionName.Map ≡ [] }
+    requires no_columns { values_found matches.now OptionName.Generate ≡ [] }
+    ensures task { IfOk result (IsTask (values_found matches.now) (positions_found matches.now)) }
+    ensures no_other { IfOk result (λ task. GiveNoOther (values_found matches.now) (options_for task)) }
+    ensures cause { IfErr result (HasCause (IsFirstCause (IsCauseOf (values_found matches.now) (positions_found matches.now)))) }
+{
+    if let Some(name) = first_given(matches, &TASK_OPTIONS) {
+        return Err(Refusal::Words(WordsCause::NoMap(name)));
+    }
+    let numbers = metal_numbers(alloc, matches)?;
+    let layout = name_from(alloc, layout)?;
+    let top = name_if_given(alloc, text_of(matches, OptionName::Top))?;
+    let (layer, datatype, radius) = numbers;
+    Ok(Task::OneMetal {
+        layout,
+        layer,
+        datatype,
+        radius,
+        top,
+    })
 }
 
 /// The task of these matches, in which the layout of this name is named.
@@ -344,28 +387,14 @@ fn task_on(alloc: Global, matches: &ArgMatches<'_>, layout: &str) -> Result<Task
     ensures no_other { IfOk result (λ task. GiveNoOther (values_found matches.now) (options_for task)) }
     ensures cause { IfErr result (HasCause (IsFirstCause (IsCauseOf (values_found matches.now) (positions_found matches.now)))) }
 {
-    let layout = name_from(alloc, layout)?;
     if is_given(matches, OptionName::Generate) {
+        let layout = name_from(alloc, layout)?;
         return Err(Refusal::Words(WordsCause::LayoutBesideGenerate(layout)));
     }
-    let wanted = text_of(matches, OptionName::Top);
-    let top = name_if_given(alloc, wanted)?;
-    let Some(map) = text_of(matches, OptionName::Map) else {
-        if let Some(name) = first_given(matches, &TASK_OPTIONS) {
-            return Err(Refusal::Words(WordsCause::NoMap(name)));
-        }
-        let numbers = metal_numbers(alloc, matches)?;
-        let (layer, datatype, radius) = numbers;
-        return Ok(Task::OneMetal {
-            layout,
-            layer,
-            datatype,
-            radius,
-            top,
-        });
-    };
-    let map = name_from(alloc, map)?;
-    task_on_map(alloc, matches, layout, map, top)
+    match text_of(matches, OptionName::Map) {
+        Some(map) => task_on_map(alloc, matches, layout, map),
+        None => metal_task(alloc, matches, layout),
+    }
 }
 
 /// The task of these matches.

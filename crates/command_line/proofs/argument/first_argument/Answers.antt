@@ -1,5 +1,10 @@
-use Rattle.std.proofs.Common.{◌∷◌, ◌∙◌, sym, ap}
-use Rattle.command_line.proofs.ReadingLaws.{dashed_first, dashes_are_last, name_first, no_option_first, no_value_first, position_first, whole_first}
+use Rattle.std.proofs.Common.{List, IfErr, IfOk, MatchOption, ◌∷◌, ◌∙◌, sym, ap, subst, codes}
+use Rattle.lists.proofs.Words.{bytes_eq-Decides}
+use Rattle.command_line.specs.inside.Arguments.{AreLast, BeginWith}
+use Rattle.command_line.specs.inside.WordsRefusals.{HasCause}
+use Rattle.command_line.specs.OptionNames.{Text}
+use Rattle.command_line.specs.WordsCauses.{BeginWithNone}
+use Rattle.command_line.proofs.ReadingLaws.{dashes_are_last, position_first}
 use Rattle.command_line.proofs.argument.first_argument.Goals as goal
 
 pub returns-then-is_plain-clause-argument : goal.returns-then-is_plain-clause-argument
@@ -8,26 +13,18 @@ returns-then-is_plain-clause-argument c = position_first c.args.words.now c.in-S
 pub returns-then-eq-clause-argument : goal.returns-then-eq-clause-argument
 returns-then-eq-clause-argument c = dashes_are_last c.args.words.now c.in-Some.rest.now c.as_str-word.result.now (c.in-Some.ensures.cases.0 ∙ ap (λ w. w ∷ c.in-Some.rest.now) (sym c.as_str-word.ensures)) c.if-eq.ensures
 
-pub returns-in_default-option_in-clause-cause : goal.returns-in_default-option_in-clause-cause
-returns-in_default-option_in-clause-cause c =
-    no_option_first c.args.words.now c.in-Some.rest.now c.as_str-word.result.now _ (c.in-Some.ensures.cases.0 ∙ ap (λ w. w ∷ c.in-Some.rest.now) (sym c.as_str-word.ensures)) (λ plain. let s = sym (c.is_plain.ensures.1 plain) ∙ c.if-is_plain.false in cc s)
-    c.if-eq.ensures c.in_default-option_in.ensures.none c.in_ok-name_from.ensures
+pub setting_of-requires-clause-not_plain : goal.setting_of-requires-clause-not_plain
+setting_of-requires-clause-not_plain c plain = let s = sym (c.is_plain.ensures.1 plain) ∙ c.if-is_plain.false in cc s
 
-pub returns-in-Some-value-clause-argument : goal.returns-in-Some-value-clause-argument
-returns-in-Some-value-clause-argument c =
-    whole_first c.args.words.now c.in-Some.rest.now c.as_str-word.result.now c.in-Some-option_in.name c.in-Some-value.value (c.in-Some.ensures.cases.0 ∙ ap (λ w. w ∷ c.in-Some.rest.now) (sym c.as_str-word.ensures)) (rw c.in-Some-value.is at c.in-Some-option_in.ensures.some)
-
-pub returns-in_default-split_first-clause-cause : goal.returns-in_default-split_first-clause-cause
-returns-in_default-split_first-clause-cause c =
-    no_value_first c.args.words.now c.in-Some.rest.now c.as_str-word.result.now c.in-Some-option_in.name (c.in-Some.ensures.cases.0 ∙ ap (λ w. w ∷ c.in-Some.rest.now) (sym c.as_str-word.ensures)) c.in_default-split_first.ensures.cases
-    (rw c.in_default-value.is at c.in-Some-option_in.ensures.some)
-
-pub returns-then-not-is_plain-clause-cause : goal.returns-then-not-is_plain-clause-cause
-returns-then-not-is_plain-clause-cause c =
-    dashed_first c.args.words.now c.in-Some.rest.now c.in-Some-split_first.rest.now c.as_str-word.result.now c.as_str-value.result.now _ c.in-Some-option_in.name (c.in-Some.ensures.cases.0 ∙ ap (λ w. w ∷ c.in-Some.rest.now) (sym c.as_str-word.ensures)) (c.in-Some-split_first.ensures.cases.0 ∙ ap (λ v. v ∷ c.in-Some-split_first.rest.now) (sym c.as_str-value.ensures))
-    (rw c.in_default-value.is at c.in-Some-option_in.ensures.some) (λ plain. let s = sym (c.is_plain-2.ensures.1 plain) ∙ c.if-not-is_plain.true in cc s) c.in_ok-value.ensures
+pub setting_of-requires-clause-not_last : goal.setting_of-requires-clause-not_last
+setting_of-requires-clause-not_last c dashes = let s = c.if-eq.ensures ∙ (bytes_eq-Decides c.as_str-word.result.now (codes "--")).1 dashes in cc s
 
 pub returns-clause-argument : goal.returns-clause-argument
 returns-clause-argument c =
-    name_first c.args.words.now c.in-Some.rest.now c.in-Some-split_first.rest.now c.as_str-word.result.now c.in-Some-option_in.name c.as_str-value.result (c.in-Some.ensures.cases.0 ∙ ap (λ w. w ∷ c.in-Some.rest.now) (sym c.as_str-word.ensures)) (c.in-Some-split_first.ensures.cases.0 ∙ ap (λ v. v ∷ c.in-Some-split_first.rest.now) (sym c.as_str-value.ensures))
-    (rw c.in_default-value.is at c.in-Some-option_in.ensures.some) (c.is_plain-2.ensures.0 c.if-not-is_plain.false)
+    subst (λ (words : List Text). IfOk c.setting_of.result (λ first. MatchOption first (AreLast words) (λ found. BeginWith words found.0 found.1.now)))
+    (ap (λ w. w ∷ c.in-Some.rest.now) c.as_str-word.ensures ∙ sym c.in-Some.ensures.cases.0) c.setting_of.ensures.argument
+
+pub returns-clause-cause : goal.returns-clause-cause
+returns-clause-cause c =
+    subst (λ (words : List Text). IfErr c.setting_of.result (HasCause (BeginWithNone words)))
+    (ap (λ w. w ∷ c.in-Some.rest.now) c.as_str-word.ensures ∙ sym c.in-Some.ensures.cases.0) c.setting_of.ensures.cause

@@ -23,3 +23,10 @@ number_of_given-requires-2-clause-form c =
 pub number_of_given-requires-3-clause-form : goal.number_of_given-requires-3-clause-form
 number_of_given-requires-3-clause-form c =
     metal_form (values_found c.args.matches.now) (positions_found c.args.matches.now) c.requires.layout c.requires.no_columns c.requires.no_map c.requires.no_task c.in_default-first_missing.ensures.none
+
+pub returns-clause-numbers : goal.returns-clause-numbers
+returns-clause-numbers c = record {
+  layer = c.in_ok-layer.ensures.number;
+  datatype = c.in_ok-datatype.ensures.number;
+  radius = c.in_ok-radius.ensures.number;
+}

@@ -6,11 +6,11 @@ use Rattle.command_line.proofs.words.task_on_map.Goals as goal
 
 pub returns-in-Some-clause-cause : goal.returns-in-Some-clause-cause
 returns-in-Some-clause-cause c =
-    beside_map_told (values_found c.args.matches.now) (positions_found c.args.matches.now) (one_is_some _ c.args.layout c.requires.layout) c.requires.no_columns
-    c.in-Some.name (one_is_some _ c.args.map c.requires.map) c.in-Some.ensures.listed c.in-Some.ensures.some
+    beside_map_told (values_found c.args.matches.now) (positions_found c.args.matches.now) (one_is_some _ c.args.layout.now c.requires.layout) c.requires.no_columns
+    c.in-Some.name (one_is_some _ c.args.map.now c.requires.map) c.in-Some.ensures.listed c.in-Some.ensures.some
 
 pub returns-in_default-first_and_behind-clause-task : goal.returns-in_default-first_and_behind-clause-task
-returns-in_default-first_and_behind-clause-task c = of_map c.requires.layout c.requires.map c.requires.top
+returns-in_default-first_and_behind-clause-task c = of_map c.in_ok-layout.ensures.layout c.in_ok-layout.ensures.map c.in_ok-layout.ensures.top
 
 pub returns-in_default-first_and_behind-clause-no_other : goal.returns-in_default-first_and_behind-clause-no_other
 returns-in_default-first_and_behind-clause-no_other c =
@@ -18,15 +18,15 @@ returns-in_default-first_and_behind-clause-no_other c =
 
 pub returns-in-Some-first_given-clause-cause : goal.returns-in-Some-first_given-clause-cause
 returns-in-Some-first_given-clause-cause c =
-    two_tasks_told (values_found c.args.matches.now) (positions_found c.args.matches.now) (one_is_some _ c.args.layout c.requires.layout) c.requires.no_columns
-    (one_is_some _ c.args.map c.requires.map) c.in_default.ensures.none c.in-Some-first_and_behind.asked c.in-Some-first_given.also
+    two_tasks_told (values_found c.args.matches.now) (positions_found c.args.matches.now) (one_is_some _ c.args.layout.now c.requires.layout) c.requires.no_columns
+    (one_is_some _ c.args.map.now c.requires.map) c.in_default.ensures.none c.in-Some-first_and_behind.asked c.in-Some-first_given.also
     c.in-Some-first_and_behind.behind.now
     c.in-Some-first_and_behind.ensures.some c.in-Some-first_given.ensures.listed c.in-Some-first_given.ensures.some
 
 pub returns-in-Some-first_given-2-clause-cause : goal.returns-in-Some-first_given-2-clause-cause
 returns-in-Some-first_given-2-clause-cause c =
-    beside_task_told (values_found c.args.matches.now) (positions_found c.args.matches.now) (one_is_some _ c.args.layout c.requires.layout) c.requires.no_columns
-    (one_is_some _ c.args.map c.requires.map) c.in_default.ensures.none c.in-Some-first_and_behind.asked (record {
+    beside_task_told (values_found c.args.matches.now) (positions_found c.args.matches.now) (one_is_some _ c.args.layout.now c.requires.layout) c.requires.no_columns
+    (one_is_some _ c.args.map.now c.requires.map) c.in_default.ensures.none c.in-Some-first_and_behind.asked (record {
       behind = c.in-Some-first_and_behind.behind.now;
       first = c.in-Some-first_and_behind.ensures.some;
       none_behind = c.in_default-first_given.ensures.none;

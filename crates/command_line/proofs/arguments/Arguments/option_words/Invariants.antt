@@ -1,6 +1,0 @@
-use Rattle.std.proofs.Common.{◌≡◌, map, string_bytes, take}
-use Rattle.command_line.specs.inside.Arguments.{words_of_options}
-use Rattle.command_line.proofs.arguments.Arguments.option_words.Given as goal
-
-abbrev pub invariant-loop-name : goal.invariant-loop-name
-invariant-loop-name l = map string_bytes l.words.items ≡ words_of_options (map (λ option. (option.0, option.1.now)) (take l.name-index l.self.options.items))
