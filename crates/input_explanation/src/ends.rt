@@ -39,14 +39,16 @@ pub struct Ended<'a> {
 }
 
 impl Ended<'_> {
-    /// The number and the place in the line, where the line is a refusal.
-    fn refusal(&self) -> Option<(u64, u64)> {
-        let body = self.line.strip_prefix("error ")?.strip_suffix('\n')?;
-        let (number, place) = body.split_once(" at ")?;
-        match (number.parse::<u64>(), place.parse::<u64>()) {
-            (Ok(number), Ok(place)) => Some((number, place)),
-            _ => None,
+    /// The number and the place in the line, and 0 for both where the line is no refusal.
+    fn refusal(&self) -> (u64, u64) {
+        if let Some(rest) = self.line.strip_prefix("error ")
+            && let Some(rest) = rest.strip_suffix('\n')
+            && let Some((number, place)) = rest.split_once(" at ")
+            && let (Ok(number), Ok(place)) = (number.parse::<u64>(), place.parse::<u64>())
+        {
+            return (number, place);
         }
+        (0, 0)
     }
 
     /// Whether files and words are worth a second look.
@@ -67,9 +69,9 @@ fn tell_map_place(told: &mut Telling, place: u64) {
     tell_place(told, None, of_sides);
 }
 
-/// Tells what a row is about, where its place is this and the meaning does not name it.
-fn tell_subject(told: &mut Telling, row: Remedy, place: u64) {
-    match (row.status, row.number) {
+/// Tells what the row of a status and a number is about, where its place is this and the meaning does not name it.
+fn tell_subject(told: &mut Telling, status: u8, number: u64, row: Remedy, place: u64) {
+    match (status, number) {
         (3, 39) | (3, 40) | (3, 49) | (4, 9) | (4, 27) => {}
         (3, 48) => {
             told.say("the map, which lists ");
@@ -95,10 +97,10 @@ fn tell_subject(told: &mut Telling, row: Remedy, place: u64) {
 
 /// Tells what a status and a line mean by themselves.
 fn tell_meaning(told: &mut Telling, ended: &Ended<'_>) {
-    let (number, place) = ended.refusal().unwrap_or((0, 0));
+    let (number, place) = ended.refusal();
     match known_remedy(ended.status, number) {
         Some(row) => {
-            tell_subject(told, row, place);
+            tell_subject(told, ended.status, number, row, place);
             told.word("", row.meaning, "; ");
             told.word("", row.remedy, "\n");
         }
@@ -157,12 +159,15 @@ fn tell_other_end(told: &mut Telling, ended: &Ended<'_>, found: &Explanation) {
 
 /// How a run ended, if the first three words tell it: `--ended`, the status, and the line that the program wrote.
 pub fn ended_in(words: &[Word]) -> Option<Ended<'_>> {
-    if words.first()?.as_str() != ENDED {
+    let [first, status, line, words @ ..] = words else {
         return None;
+    };
+    match status.as_str().parse::<u8>() {
+        Ok(status) if first.as_str() == ENDED => Some(Ended {
+            status,
+            line: line.as_str(),
+            words,
+        }),
+        _ => None,
     }
-    Some(Ended {
-        status: words.get(1)?.as_str().parse::<u8>().ok()?,
-        line: words.get(2)?.as_str(),
-        words: words.get(3..)?,
-    })
 }

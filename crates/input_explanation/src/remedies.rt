@@ -4,10 +4,6 @@
 /// What a status with a number means of the place that is told, and what to do.
 #[derive(Clone, Copy)]
 pub struct Remedy {
-    /// The status with which the run ends.
-    pub status: u64,
-    /// The number that is told, and 0 where none is.
-    pub number: u64,
     /// What is wrong. Here means the place.
     pub meaning: &'static str,
     /// What stands at the place, or the place itself where it is always the same.
@@ -16,7 +12,8 @@ pub struct Remedy {
     pub remedy: &'static str,
 }
 
-/// The rows, each in a line: the fields of a `Remedy` with bars between them.
+/// The rows, each in a line: a status, a number, which is 0 where none is told, and the fields of their `Remedy`, with bars
+/// between them.
 const ROWS: &str = "\
 2|2|the arguments fit no form of the command|0|compare them with `critarea --help`
 3|39|the map has more than 1,048,576 bytes|1048576|see whether it is the file that you mean, or shorten its comments: a map at all limits fits
@@ -64,34 +61,25 @@ const ROWS: &str = "\
 7|0|the system does not tell the arguments as texts||write names of files in UTF-8
 ";
 
-/// What a row says.
-fn remedy_in(row: &'static str) -> Option<Remedy> {
-    if let Some((status, rest)) = row.split_once('|')
-        && let Some((number, rest)) = rest.split_once('|')
-        && let Some((meaning, rest)) = rest.split_once('|')
-        && let Some((place, remedy)) = rest.split_once('|')
-        && let (Ok(status), Ok(number)) = (status.parse::<u64>(), number.parse::<u64>())
-    {
-        return Some(Remedy {
-            status,
-            number,
-            meaning,
-            place,
-            remedy,
-        });
-    }
-    None
-}
-
 /// What a status with a number means, where a run ends so.
 pub fn known_remedy(status: u8, number: u64) -> Option<Remedy> {
-    let status = u64::from(status);
     for row in ROWS.split('\n') {
-        match remedy_in(row) {
-            Some(remedy) if remedy.status == status && remedy.number == number => {
-                return Some(remedy);
-            }
-            _ => {}
+        if let Some((of_status, rest)) = row.split_once('|')
+            && let Some((of_number, rest)) = rest.split_once('|')
+            && let Some((meaning, rest)) = rest.split_once('|')
+            && let Some((place, remedy)) = rest.split_once('|')
+            && let (Ok(of_status), Ok(of_number)) = (
+                of_status.parse::<u8>(),
+                of_number.parse::<u64>(),
+            )
+            && of_status == status
+            && of_number == number
+        {
+            return Some(Remedy {
+                meaning,
+                place,
+                remedy,
+            });
         }
     }
     None
@@ -100,8 +88,6 @@ pub fn known_remedy(status: u8, number: u64) -> Option<Remedy> {
 /// What a status with a number means, with which runs end.
 pub fn remedy_of(status: u8, number: u8) -> Remedy {
     known_remedy(status, u64::from(number)).unwrap_or(Remedy {
-        status: u64::from(status),
-        number: u64::from(number),
         meaning: "the layout is refused",
         place: "",
         remedy: "see docs/REFUSALS.md",

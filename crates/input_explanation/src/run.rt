@@ -10,7 +10,7 @@ use crate::layouts::shapes::Held;
 use crate::maps::faults::tell_map_fault;
 use crate::maps::good_map::GoodMap;
 use crate::maps::named::has_what_is_named;
-use crate::maps::parting::{Parted, parted_of, tell_parted};
+use crate::maps::parting::{parted_of, tell_parted};
 use crate::path_kinds::Paths;
 use crate::telling::Telling;
 use crate::words::asked::asked_of;
@@ -21,7 +21,7 @@ use edge_io::Files;
 use layer_map::read_map;
 use layout_gen::{generate, layer_map};
 use lists::Name;
-use map_model::{Map, one_metal};
+use map_model::one_metal;
 
 /// The files that a task names, and the top.
 #[derive(Clone, Copy)]
@@ -88,37 +88,8 @@ pub fn request_of(told: &mut Telling, words: &[Word]) -> Option<Request> {
     None
 }
 
-/// The map that the bytes say, if it is good. Otherwise it is told why not.
-fn map_of(told: &mut Telling, name: &[u8], bytes: &[u8]) -> Option<Map> {
-    match read_map(told.alloc, bytes) {
-        Ok(map) => Some(map),
-        Err(fault) => {
-            tell_map_fault(told, name, bytes, fault);
-            None
-        }
-    }
-}
-
-/// Tells the terminals of a map that has too many by their islands, if the layout in the file of this name is good. What may be
-/// wrong with that file is not told, since the map is refused.
-fn tell_many<F: Files, P: Paths>(
-    told: &mut Telling,
-    parted: &Parted,
-    layout: &[u8],
-    top: Option<&[u8]>,
-    files: &mut F,
-    paths: &P,
-) {
-    let mut untold = Telling::new(told.alloc, told.is_behind_run);
-    if let Some(bytes) = read_input(&mut untold, files, paths, Input::Layout, layout) {
-        tell_parted(told, parted, bytes.as_slice(), top);
-    }
-    if untold.is_cut() {
-        told.lose();
-    }
-}
-
-/// Tells which terminals of a map that is refused are on one island of the layout, where it has too many.
+/// Tells which terminals of a map that is refused are on one island of the layout, where it has too many and the layout is good.
+/// What may be wrong with the layout is not told, since the map is refused.
 fn tell_bad_map<F: Files, P: Paths>(
     told: &mut Telling,
     bytes: &[u8],
@@ -126,10 +97,16 @@ fn tell_bad_map<F: Files, P: Paths>(
     files: &mut F,
     paths: &P,
 ) {
-    if let Some(layout) = named.layout
+    if let Some(name) = named.layout
         && let Some(parted) = parted_of(told, bytes)
     {
-        tell_many(told, &parted, layout, named.top, files, paths);
+        let mut untold = Telling::new(told.alloc, told.is_behind_run);
+        if let Some(layout) = read_input(&mut untold, files, paths, Input::Layout, name) {
+            tell_parted(told, &parted, layout.as_slice(), named.top);
+        }
+        if untold.is_cut() {
+            told.lose();
+        }
     }
 }
 
@@ -143,9 +120,10 @@ fn map_in_file<'a, F: Files, P: Paths>(
     paths: &P,
 ) -> Option<GoodMap<'a>> {
     let bytes = read_input(told, files, paths, Input::Map, name)?;
-    match map_of(told, name, bytes.as_slice()) {
-        Some(map) => Some(GoodMap { map, name, bytes }),
-        None => {
+    match read_map(told.alloc, bytes.as_slice()) {
+        Ok(map) => Some(GoodMap { map, name, bytes }),
+        Err(fault) => {
+            tell_map_fault(told, name, bytes.as_slice(), fault);
             tell_bad_map(told, bytes.as_slice(), named, files, paths);
             None
         }
@@ -154,7 +132,6 @@ fn map_in_file<'a, F: Files, P: Paths>(
 
 /// The map that comes from no file: that of one metal, or that of a generated layout.
 fn map_of_no_file<'a>(told: &mut Telling, request: &Request) -> Option<GoodMap<'a>> {
-    let bytes = Vec::new(told.alloc);
     let map = match &request.task {
         Task::OneMetal {
             layer,
@@ -168,7 +145,7 @@ fn map_of_no_file<'a>(told: &mut Telling, request: &Request) -> Option<GoodMap<'
         Some(map) => Some(GoodMap {
             map,
             name: b"",
-            bytes,
+            bytes: Vec::new(told.alloc),
         }),
         None => {
             told.lose();

@@ -68,6 +68,18 @@ impl Telling {
         self.say(after);
     }
 
+    /// Puts a text behind it, with a number in each of its gaps, which are written `{}`.
+    pub fn numbers(&mut self, text: &str, numbers: &[u64]) {
+        let mut rest = text;
+        for number in numbers {
+            if let Some((before, behind)) = rest.split_once("{}") {
+                self.number(before, *number, "");
+                rest = behind;
+            }
+        }
+        self.say(rest);
+    }
+
     /// Puts a number with its sign behind it.
     pub fn signed(&mut self, before: &str, number: i64, after: &str) {
         self.say(before);
@@ -143,8 +155,7 @@ impl Telling {
     /// Says the line of a refusal, and keeps its status.
     pub fn refuse(&mut self, status: u8, number: u8, place: u64) {
         self.status = status;
-        self.number("error ", u64::from(number), " at ");
-        self.number("", place, "\n");
+        self.numbers("error {} at {}\n", &[u64::from(number), place]);
     }
 
     /// The explanation, if memory was left for all of it.

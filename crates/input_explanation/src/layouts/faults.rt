@@ -104,13 +104,16 @@ pub fn tell_syntax(told: &mut Telling, layout: &Layout<'_>, fault: SyntaxFault) 
     );
     if matches!(fault, SyntaxFault::Memory) {
         told.lose();
-    } else if is_of_record && !is_gdsii(layout.bytes) {
+        return;
+    }
+    if is_of_record && !is_gdsii(layout.bytes) {
         tell_no_gdsii(told, layout, fault);
-    } else if is_of_record {
-        tell_number(told, layout, fault.number(), fault.place());
+        return;
+    }
+    tell_number(told, layout, fault.number(), fault.place());
+    if is_of_record {
         tell_record(told, layout, fault);
     } else {
-        tell_number(told, layout, fault.number(), fault.place());
         tell_place_at(told, "  ", layout.bytes, fault.place() as u32, "");
         if let SyntaxFault::Missing { kind, .. } = fault {
             told.word("; it lacks ", record_name(kind), "");

@@ -90,14 +90,11 @@ fn tell_island_counts(told: &mut Telling, all: &[MetalIslands<'_>], contacts: bo
         }
         let carrying = islands.with_one.saturating_add(islands.with_more);
         islands.held.tell_layer(told, "  ");
-        told.number(": ", islands.count, " islands: ");
-        told.number(
-            "",
-            islands.count.saturating_sub(carrying),
-            " with no terminal, ",
+        let bare = islands.count.saturating_sub(carrying);
+        told.numbers(
+            ": {} islands: {} with no terminal, {} with one, {} with more",
+            &[islands.count, bare, islands.with_one, islands.with_more],
         );
-        told.number("", islands.with_one, " with one, ");
-        told.number("", islands.with_more, " with more");
         if contacts && islands.is_joined {
             told.say(
                 ", by the terminals that the map names; via clusters, which are terminals too, are not counted",

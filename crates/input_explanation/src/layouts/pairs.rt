@@ -181,12 +181,17 @@ fn tell_reasons(told: &mut Telling, before: &str, held: &PairHeld) {
 pub fn tell_pair(told: &mut Telling, before: &str, held: &PairHeld, has_top: bool) {
     let (layer, datatype) = held.pair;
     told.say(before);
-    told.number("layer ", u64::from(layer), ", datatype ");
-    told.number("", u64::from(datatype), ": boundaries ");
-    told.number("", held.boundaries, ", boxes ");
-    told.number("", held.boxes, ", paths ");
-    told.number("", held.paths, ", texts ");
-    told.number("", held.texts, "");
+    told.numbers(
+        "layer {}, datatype {}: boundaries {}, boxes {}, paths {}, texts {}",
+        &[
+            u64::from(layer),
+            u64::from(datatype),
+            held.boundaries,
+            held.boxes,
+            held.paths,
+            held.texts,
+        ],
+    );
     if let Some(bounds) = held.bounds {
         tell_bounds(told, ", points from ", bounds);
     }
@@ -214,8 +219,7 @@ fn note_pairs(told: &mut Telling, pairs: &mut Pairs, structure: &Structure) {
 /// Tells a pair as a map has it.
 pub fn tell_as_in_map(told: &mut Telling, before: &str, (layer, datatype): (u16, u16)) {
     told.say(before);
-    told.number("[", u64::from(layer), ", ");
-    told.number("", u64::from(datatype), "]");
+    told.numbers("[{}, {}]", &[u64::from(layer), u64::from(datatype)]);
 }
 
 /// Tells that the layout has shapes of these pairs, as a map has them.
@@ -229,8 +233,8 @@ fn tell_all_as_in_map(told: &mut Telling, pairs: &[PairHeld]) {
         tell_as_in_map(told, " ", held.pair);
     }
     if pairs.len() > MOST_NAMED {
-        told.number(", the first ", MOST_NAMED as u64, " of ");
-        told.number("", pairs.len() as u64, "");
+        let counts = [MOST_NAMED as u64, pairs.len() as u64];
+        told.numbers(", the first {} of {}", &counts);
     }
     told.say("\n");
 }

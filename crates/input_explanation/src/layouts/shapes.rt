@@ -74,8 +74,7 @@ impl Held {
     /// Tells how many shapes and points are placed on it.
     pub fn tell_counts(&self, told: &mut Telling) {
         self.tell_layer(told, "  ");
-        told.number(": ", self.shapes, " shapes with ");
-        told.number("", self.points, " points");
+        told.numbers(": {} shapes with {} points", &[self.shapes, self.points]);
     }
 }
 

@@ -37,8 +37,8 @@ fn tell_metal(told: &mut Telling, before: &str, held: &PairHeld, has_top: bool) 
     told.say("\n");
     tell_pair(told, comment, held, has_top);
     told.word(before, "[[metal]]\n", before);
-    told.number("name = \"layer", u64::from(layer), "_");
-    told.number("", u64::from(datatype), "\"\n");
+    let pair = [u64::from(layer), u64::from(datatype)];
+    told.numbers("name = \"layer{}_{}\"\n", &pair);
     told.say(before);
     tell_as_in_map(told, "pairs = [", held.pair);
     told.say("]\n");
@@ -183,9 +183,10 @@ fn tell_terminals(
         Ok(shapes) => tell_covered(told, texts, &shapes),
         Err(PlaceFault::Memory) => told.lose(),
         Err(fault) => {
-            told.say("\n# no terminals are told, since a run is refused: ");
-            told.number("", u64::from(fault.number()), " at ");
-            told.number("", fault.place(), "\n");
+            told.numbers(
+                "\n# no terminals are told, since a run is refused: {} at {}\n",
+                &[u64::from(fault.number()), fault.place()],
+            );
         }
     }
 }

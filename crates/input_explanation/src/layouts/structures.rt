@@ -121,8 +121,7 @@ fn tell_some_tops(
         count = count.saturating_add(1);
     }
     if count > MOST_NAMED {
-        told.number(", the first ", MOST_NAMED as u64, " of ");
-        told.number("", count as u64, "");
+        told.numbers(", the first {} of {}", &[MOST_NAMED as u64, count as u64]);
     }
     if count > 0 {
         told.say("\n");

@@ -109,21 +109,30 @@ fn tell_bad_key(told: &mut Telling, document: &Table, place: Place) {
     }
 }
 
+/// Keys that version 1 alone has, and what is said of each in a map of version 2.
+const OF_RADII: &[(&str, &str)] = &[("radii", "  version 2 has `sides` in place of `radii`\n")];
+
+/// Keys that version 2 alone has, and what is said of each in a map of version 1.
+const OF_SIDES: &[(&str, &str)] = &[
+    (
+        "sides",
+        "  version 1 has `radii` in place of `sides`, which stand in version 2\n",
+    ),
+    (
+        "contacts",
+        "  `contacts` stands in version 2, with `sides`\n",
+    ),
+];
+
 /// Tells of the keys that one version alone has, where the document has those of the other one.
 fn tell_other_version(told: &mut Telling, document: &Table, measure: Measure) {
-    match measure {
-        Measure::Side => {
-            if document.get("radii").is_some() {
-                told.say("  version 2 has `sides` in place of `radii`\n");
-            }
-        }
-        Measure::Radius => {
-            if document.get("sides").is_some() {
-                told.say("  version 1 has `radii` in place of `sides`, which stand in version 2\n");
-            }
-            if document.get("contacts").is_some() {
-                told.say("  `contacts` stands in version 2, with `sides`\n");
-            }
+    let others = match measure {
+        Measure::Side => OF_RADII,
+        Measure::Radius => OF_SIDES,
+    };
+    for (key, words) in others {
+        if document.get(*key).is_some() {
+            told.say(*words);
         }
     }
 }
@@ -150,8 +159,8 @@ fn tell_one_of(told: &mut Telling, values: &[Value], number: usize, before: &str
 fn tell_there(told: &mut Telling, value: &Value, cause: Option<Cause>, measure: Measure) {
     match (cause, value) {
         (Some(Cause::Uneven { weights, sizes }), Value::Array(_)) => {
-            told.number("  there stand ", weights as u64, " weights, and there are ");
-            told.number("", sizes as u64, " ");
+            let counts = [weights as u64, sizes as u64];
+            told.numbers("  there stand {} weights, and there are {} ", &counts);
             told.say(match measure {
                 Measure::Radius => "radii\n",
                 Measure::Side => "sides\n",
@@ -212,8 +221,8 @@ fn tell_repeated_pair(told: &mut Telling, document: &Table, place: Place) {
     for (at, pair) in pairs.iter().enumerate() {
         if let Some((layer, datatype)) = pair_of(pair) {
             if first_pair(document, layer, datatype) != Some((kind, number, at)) {
-                told.number("  twice: layer ", u64::from(layer), ", datatype ");
-                told.number("", u64::from(datatype), "\n");
+                let pair = [u64::from(layer), u64::from(datatype)];
+                told.numbers("  twice: layer {}, datatype {}\n", &pair);
             }
         }
     }
@@ -276,8 +285,8 @@ fn tell_unknown_metal(told: &mut Telling, document: &Table, place: Place) {
 /// Tells how long a list is that is too long.
 fn tell_limit(told: &mut Telling, document: &Table, place: Place) {
     if let Some(Cause::TooMany { count, most }) = cause_of(document, place) {
-        told.number("it has ", count as u64, " items, and at most ");
-        told.number("", most as u64, " are taken; ");
+        let counts = [count as u64, most as u64];
+        told.numbers("it has {} items, and at most {} are taken; ", &counts);
     }
     told.word("", remedy_of(3, 47).remedy, "\n");
 }

@@ -90,8 +90,8 @@ fn tell_wanted(told: &mut Telling, option: OptionName, what: &str) {
     told.word("; --", option.text(), " takes ");
     match (option.range(), option) {
         (Some(range), _) => {
-            told.number("a whole number from ", u64::from(range.least), " to ");
-            told.number("", u64::from(range.most), "");
+            let ends = [u64::from(range.least), u64::from(range.most)];
+            told.numbers("a whole number from {} to {}", &ends);
         }
         (None, OptionName::Top) => told.say("the name of a structure"),
         (None, OptionName::Probe) => told.say(CELL),
